@@ -1,0 +1,4 @@
+pub mod Bits
+pub mod Fmmu
+pub mod SyncMan
+pub mod Pairs

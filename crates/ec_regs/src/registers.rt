@@ -1,0 +1,41 @@
+//! The addresses and sizes of the registers that this project uses (IEC 61158-4-12, registers of the
+//! data link layer; AL control and AL status are used as in IEC 61158-6-12).
+
+/// Station address, 2 bytes: the address by which FP commands name the slave.
+pub const STATION_ADDRESS: u16 = 0x0010;
+
+/// AL control, 2 bytes: bits 0 to 3 are the state asked for, bit 4 acknowledges an error.
+pub const AL_CONTROL: u16 = 0x0120;
+
+/// AL status, 2 bytes: bits 0 to 3 are the state, bit 4 tells that an error stands.
+pub const AL_STATUS: u16 = 0x0130;
+
+/// AL status code, 2 bytes: why the last request was refused.
+pub const AL_STATUS_CODE: u16 = 0x0134;
+
+/// The first FMMU record.
+pub const FMMU_BASE: u16 = 0x0600;
+
+/// The length of an FMMU record, in bytes.
+pub const FMMU_SIZE: u16 = 16;
+
+/// How many FMMUs a controller has.
+pub const FMMU_COUNT: u16 = 8;
+
+/// The first sync manager record.
+pub const SYNC_MANAGER_BASE: u16 = 0x0800;
+
+/// The length of a sync manager record, in bytes.
+pub const SYNC_MANAGER_SIZE: u16 = 8;
+
+/// How many sync managers a controller has.
+pub const SYNC_MANAGER_COUNT: u16 = 8;
+
+/// The first byte of process memory; the bytes below it are registers.
+pub const PROCESS_MEMORY: u16 = 0x1000;
+
+/// How many bytes of process memory there are.
+pub const PROCESS_MEMORY_SIZE: u16 = 0x2000;
+
+/// How many bytes a controller has, registers and process memory together; an address is below it.
+pub const MEMORY_SIZE: u16 = 0x3000;
