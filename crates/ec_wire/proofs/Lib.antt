@@ -1,0 +1,9 @@
+pub mod DatagramLemmas
+pub mod SpellingLemmas
+pub mod FrameLemmas
+pub mod FieldLemmas
+pub mod CellsLists
+pub mod CellsMemory
+pub mod WriteLemmas
+pub mod ReadLemmas
+pub mod LawLemmas

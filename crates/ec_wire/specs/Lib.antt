@@ -1,0 +1,7 @@
+pub mod Cells
+pub mod Datagram
+pub mod Decoding
+pub mod Fault
+pub mod Frame
+pub mod Spelling
+pub mod Lending

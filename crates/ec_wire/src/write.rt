@@ -1,0 +1,84 @@
+ghost use Rattle.std.specs.Prelude.{◌≡◌, ℕ, ◌+◌, ◌*◌, ◌<◌, ◌≤◌, ◌↔◌, [], ◌∷◌, ◌++◌, length, take, drop, IsErr, OnOk, OnErr};
+ghost use Rattle.ec_wire.specs.Datagram.{record_of, datagram_length};
+ghost use Rattle.ec_wire.specs.Spelling.{datagram, bit_of, body_length};
+
+use crate::cells::Cells;
+use crate::datagram::Datagram;
+use crate::frame::{FrameBuf, HEAD, MAX_FRAME};
+use arrayvec::ArrayVec;
+
+/// The frame has no room for one more datagram.
+#[derive(Clone, Copy, PartialEq, Eq, Debug)]
+pub struct Full;
+
+/// The field of a datagram that has its data length, the circulating bit 14 and the more bit 15.
+pub(crate) fn length_field(length: usize, circulating: bool, more: bool) -> u16
+    requires { length < 2048 }
+    ensures { result ≡ length + 16384 * bit_of circulating + 32768 * bit_of more }
+{
+    length as u16 + 16384 * u16::from(circulating) + 32768 * u16::from(more)
+}
+
+/// The frame's header: the length of all datagrams, and type 1.
+fn header_field(length: usize) -> u16
+    requires { length < 2048 }
+    ensures { result ≡ length + 4096 }
+{
+    length as u16 + 4096
+}
+
+/// Writes a datagram's bytes from `at` on; `more` says that another one follows it.
+fn write_datagram(cells: &mut Cells<MAX_FRAME>, at: usize, written: &Datagram, more: bool)
+    requires { at + 12 + length written.now.payload.items ≤ 1500 }
+    ensures { cells.new.bytes ≡ take at cells.old.bytes ++ (datagram more (record_of written.now) ++ drop (at + datagram_length (record_of written.now)) cells.old.bytes) }
+{
+    let length = written.payload.len();
+    let field = length_field(length, written.circulating, more);
+    cells.put(at, &[written.command.code(), written.index]);
+    cells.put(at + 2, &written.address.to_le_bytes());
+    cells.put(at + 6, &field.to_le_bytes());
+    cells.put(at + 8, &written.irq.to_le_bytes());
+    cells.put(at + HEAD, written.payload.as_slice());
+    cells.put(at + HEAD + length, &written.counter.to_le_bytes());
+}
+
+impl FrameBuf {
+    /// The frame of one datagram.
+    pub fn of(datagram: &Datagram) -> FrameBuf
+        ensures { result ≡ record_of datagram.now ∷ [] }
+    {
+        let length = datagram.wire_length();
+        let mut cells = Cells::new();
+        cells.put(0, &header_field(length).to_le_bytes());
+        write_datagram(&mut cells, 2, datagram, false);
+        let mut starts = ArrayVec::new();
+        starts.push(2);
+        FrameBuf {
+            cells,
+            size: 2 + length,
+            starts,
+        }
+    }
+
+    /// Puts a datagram at the end, unless the datagrams would pass 1,498 bytes.
+    pub fn push(&mut self, datagram: &Datagram) -> Result<(), Full>
+        ensures ok { OnOk result (self.new ≡ self.old ++ record_of datagram.now ∷ []) }
+        ensures err { OnErr result (self.new ≡ self.old) }
+        ensures full { IsErr result ↔ (1498 < body_length self.old + datagram_length (record_of datagram.now)) }
+    {
+        let at = self.size;
+        let end = at + datagram.wire_length();
+        if end > MAX_FRAME {
+            return Err(Full);
+        }
+        let last = self.count() - 1;
+        let field_at = self.start(last) + 6;
+        let field = length_field(self.data_len(last), self.circulating(last), true);
+        self.cells.put(field_at, &field.to_le_bytes());
+        write_datagram(&mut self.cells, at, datagram, false);
+        self.cells.put(0, &header_field(end - 2).to_le_bytes());
+        self.starts.push(at as u16);
+        self.size = end;
+        Ok(())
+    }
+}
