@@ -1,0 +1,5 @@
+pub mod CompleteLemmas
+pub mod GivenLemmas
+pub mod LineLemmas
+pub mod NumberLemmas
+pub mod ReadLemmas

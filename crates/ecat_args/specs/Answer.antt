@@ -1,0 +1,59 @@
+-- What the arguments say of the command that clap reads from the words, and why words are refused.
+use Rattle.std.specs.Prelude.{◌≡◌, ◌≢◌, ◌⊎◌, List, [], Some, None, codes, false}
+use Rattle.clap.specs.Words.{IsAmong, Text, fault_of, kind_of, subcommand_of, takes}
+use Rattle.clap.specs.declared.error.Error.{Error}
+use Rattle.clap.specs.declared.error.kind.ErrorKind.TheVariants.{OutOfMemory}
+use Rattle.ecat_args.specs.Given.{Given, IsComplete, index_in, port_in, station_in, sub_in}
+use Rattle.ecat_args.specs.Given.{value_in, word_in}
+use Rattle.ecat_args.specs.Line.{line}
+use Rattle.ecat_args.specs.declared.args.Args.{Args}
+use Rattle.ecat_args.specs.declared.args.Args.TheVariants.{Show, Check, Run, Sdo, Udp, Vectors}
+use Rattle.ecat_args.specs.declared.args.ArgsFault.{ArgsFault}
+use Rattle.ecat_args.specs.declared.args.ArgsFault.TheVariants.{Line, BadNumber, NoMemory}
+
+-- the arguments are this command, its texts as they stand and the numbers that its words write
+abbrev pub Says : Args → Given → Type 0
+Says (Show file) given =
+    (given.0 ≡ codes "show") × (word_in given (codes "FILE") ≡ Some file.now)
+Says (Check scene) given =
+    (given.0 ≡ codes "check") × (word_in given (codes "SCENE") ≡ Some scene.now)
+Says (Run scene) given =
+    (given.0 ≡ codes "run") × (word_in given (codes "SCENE") ≡ Some scene.now)
+Says (Sdo scene station index sub value) given =
+    (given.0 ≡ codes "sdo") × (word_in given (codes "SCENE") ≡ Some scene.now)
+    × (station_in given ≡ Some station) × (index_in given ≡ Some index)
+    × (sub_in given ≡ Some sub) × (value_in given ≡ Some value)
+Says (Udp scene port) given =
+    (given.0 ≡ codes "udp") × (word_in given (codes "SCENE") ≡ Some scene.now)
+    × (port_in given ≡ Some port)
+Says Vectors given = given.0 ≡ codes "vectors"
+
+-- a word of the command that has to be a number or a value is none in its range
+abbrev pub HasBadNumber : Given → Type 0
+HasBadNumber given =
+    ((given.0 ≡ codes "sdo") × ((station_in given ≡ None) ⊎ (index_in given ≡ None)
+    ⊎ (sub_in given ≡ None) ⊎ (value_in given ≡ None)))
+    ⊎ ((given.0 ≡ codes "udp") × (port_in given ≡ None))
+
+-- clap's definition of the line takes the words, and what it gives of them is complete and
+-- satisfies P
+pub record Takes (words : List Text) (P : Given → Type 0) : Type 0 where
+  pub given : Given
+  pub faultless : fault_of line words ≡ []
+  pub parsed : subcommand_of line words ≡ Some given
+  pub complete : IsComplete given
+  pub says : P given
+
+-- the fault says why the words are refused: the definition does not take them, and the error is one
+-- that it gives for them; it takes them and a number is bad; or memory ran out
+abbrev pub Explains : List Text → ArgsFault → Type 0
+Explains words (Line error) =
+    (takes line words ≡ false) × IsAmong (kind_of error) (fault_of line words)
+Explains words BadNumber = Takes words HasBadNumber
+Explains words NoMemory = Unit {0}
+
+-- the fault that an error of clap becomes: want of memory, or else the error itself
+abbrev pub Becomes : Error → ArgsFault → Type 0
+Becomes error (Line same) = (same ≡ error) × (kind_of error ≢ OutOfMemory)
+Becomes error BadNumber = ⊥
+Becomes error NoMemory = kind_of error ≡ OutOfMemory

@@ -1,0 +1,69 @@
+-- A command that clap gives: its name, and the words that were given for it, each under the name
+-- that it has in the definition of the line.
+use Rattle.std.specs.Prelude.{◌≡◌, ◌∷◌, ℕ, List, [], Option, Some, None, true, codes, is_some}
+use Rattle.std.specs.Prelude.{if◌then◌else◌, option_and_then, option_map}
+use Rattle.std.specs.List.{list_all, list_any}
+use Rattle.std.specs.Str.{bytes_eq}
+use Rattle.clap.specs.Words.{Row, Text, first_of}
+use Rattle.ecat_args.specs.Number.{number_within, value_of}
+use Rattle.ecat_args.specs.declared.number.Value.{Value}
+
+abbrev pub Given : Type 0
+Given = Text × List Row
+
+-- the word that was given under this name
+abbrev pub word_in : Given → Text → Option Text
+word_in given name = first_of name given.1
+
+-- the number that this word writes, where it is from `least` to `most`
+abbrev pub number_in : Given → Text → ℕ → ℕ → Option ℕ
+number_in given name least most = option_and_then (number_within least most) (word_in given name)
+
+-- the station address, the index and the subindex of `sdo`
+abbrev pub station_in : Given → Option ℕ
+station_in given = number_in given (codes "STATION") 0 65535
+
+abbrev pub index_in : Given → Option ℕ
+index_in given = number_in given (codes "INDEX") 0 65535
+
+abbrev pub sub_in : Given → Option ℕ
+sub_in given = number_in given (codes "SUB") 0 255
+
+-- the value of `sdo`: where no word was given there is none, and `None` says that the word is no
+-- value
+abbrev pub value_by : Option Text → Option (Option Value)
+value_by None = Some None
+value_by (Some word) = option_map (λ value. Some value) (value_of word)
+
+abbrev pub value_in : Given → Option (Option Value)
+value_in given = value_by (word_in given (codes "VALUE"))
+
+-- the port of `udp`: where no word was given it is EtherCAT's own, 0x88a4, and `None` says that
+-- the word is no port
+abbrev pub port_by : Option Text → Option ℕ
+port_by None = Some 0x88a4
+port_by (Some word) = number_within 1024 65534 word
+
+abbrev pub port_in : Given → Option ℕ
+port_in given = port_by (word_in given (codes "P"))
+
+-- the names of the commands
+abbrev pub command_names : List Text
+command_names = codes "show" ∷ codes "check" ∷ codes "run" ∷ codes "sdo" ∷ codes "udp"
+    ∷ codes "vectors" ∷ []
+
+-- the names of the words that a command needs
+abbrev pub needed_words : Text → List Text
+needed_words command =
+    if bytes_eq command (codes "show") then codes "FILE" ∷ []
+    else if bytes_eq command (codes "check") then codes "SCENE" ∷ []
+    else if bytes_eq command (codes "run") then codes "SCENE" ∷ []
+    else if bytes_eq command (codes "sdo")
+    then codes "SCENE" ∷ codes "STATION" ∷ codes "INDEX" ∷ codes "SUB" ∷ []
+    else if bytes_eq command (codes "udp") then codes "SCENE" ∷ []
+    else []
+
+-- the command is one of the six, and the words that it needs were given
+abbrev pub IsComplete : Given → Type 0
+IsComplete given = (list_any (bytes_eq given.0) command_names ≡ true)
+    × (list_all (λ name. is_some (word_in given name)) (needed_words given.0) ≡ true)

@@ -1,0 +1,4 @@
+pub mod Answer
+pub mod Given
+pub mod Line
+pub mod Number

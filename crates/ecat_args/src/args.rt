@@ -1,0 +1,212 @@
+//! What the words of the command line ask for.
+ghost use Rattle.std.specs.Prelude.{◌≡◌, IfErr, IfOk, IsSome, MatchOption, Some, codes};
+ghost use Rattle.std.specs.Prelude.{option_map};
+ghost use Rattle.clap.specs.Words.{first_of, found_of, rows_of};
+ghost use Rattle.clap.specs.Walk.{texts};
+ghost use Rattle.ecat_args.specs.Answer.{Explains, HasBadNumber, Says, Takes};
+ghost use Rattle.ecat_args.specs.Given.{IsComplete, port_by, value_by};
+
+use crate::line::line;
+use crate::number::{Value, number, value_of};
+use clap::ArgMatches;
+use clap::error::ErrorKind;
+use std::alloc::{AllocError, Global};
+
+/// The port of the line's end A where the words name none: EtherCAT's own, 34980.
+const DEFAULT_PORT: u16 = 0x88a4;
+
+/// The least port of the end A.
+const LEAST_PORT: u32 = 1024;
+
+/// The greatest port of the end A: the end B has the port after it.
+const GREATEST_PORT: u32 = 65534;
+
+/// A command of the program, with its texts and numbers.
+#[derive(Clone, Copy, Debug, PartialEq, Eq)]
+pub enum Args<'a> {
+    /// `show FILE`: prints the frames of a capture.
+    Show {
+        /// The path of the capture.
+        file: &'a str,
+    },
+    /// `check SCENE`: says whether the line of a scene is fit.
+    Check {
+        /// The path of the scene.
+        scene: &'a str,
+    },
+    /// `run SCENE`: does the actions of a scene, and then its work.
+    Run {
+        /// The path of the scene.
+        scene: &'a str,
+    },
+    /// `sdo SCENE STATION INDEX SUB [VALUE]`: one upload, or a download of the value.
+    Sdo {
+        /// The path of the scene.
+        scene: &'a str,
+        /// The configured station address of the slave.
+        station: u16,
+        /// The index of the object.
+        index: u16,
+        /// The subindex of the object.
+        sub: u8,
+        /// What to write; without it the object is read.
+        value: Option<Value>,
+    },
+    /// `udp SCENE [--port P]`: does the work of a scene through UDP sockets.
+    Udp {
+        /// The path of the scene.
+        scene: &'a str,
+        /// The port of the line's end A, 1024 to 65534. The end B has the next one.
+        port: u16,
+    },
+    /// `vectors`: runs the worked rows.
+    Vectors,
+}
+
+/// Why the words of the command line are refused.
+#[derive(Debug, Drop)]
+pub enum ArgsFault {
+    /// The words are no command line of the program, or ask for help. The error has the text.
+    Line(clap::Error),
+    /// A word that is to be a number is not one, or is out of its range.
+    BadNumber,
+    /// Memory ran out.
+    NoMemory,
+}
+
+impl From<AllocError> for ArgsFault {
+    ghost use Rattle.ecat_args.specs.declared.args.ArgsFault.TheVariants.{NoMemory};
+
+    ghost from_gives = { λ _ fault. fault ≡ NoMemory };
+
+    fn from(_error: AllocError) -> ArgsFault {
+        ArgsFault::NoMemory
+    }
+}
+
+impl From<clap::Error> for ArgsFault {
+    ghost use Rattle.ecat_args.specs.Answer.{Becomes};
+
+    ghost from_gives = { Becomes };
+
+    fn from(error: clap::Error) -> ArgsFault {
+        match error.kind() {
+            ErrorKind::OutOfMemory => ArgsFault::NoMemory,
+            _ => ArgsFault::Line(error),
+        }
+    }
+}
+
+impl<'a> Args<'a> {
+    /// Reads `words`, of which the first is the program's name, as in `env::args`.
+    ///
+    /// The answer is the command that clap's definition of the line gives for the words, with its
+    /// texts as they stand and the numbers that they write. The fault is `Line` where that
+    /// definition does not take the words, a call for help included; `BadNumber` where it takes
+    /// them and a number is none in its range; and `NoMemory` where memory ran out.
+    pub fn read(alloc: Global, words: &'a [&'a str]) -> Result<Args<'a>, ArgsFault>
+        ensures taken { IfOk result (λ args. Takes (texts words.entry.now) (Says args)) }
+        ensures refused { IfErr result (Explains (texts words.entry.now)) }
+    {
+        let matches = line(alloc)?.try_get_matches_from(words)?;
+        let Some((name, given)) = matches.subcommand() else {
+            unreachable!()
+        };
+        match command(name, given) {
+            Some(args) => Ok(args),
+            None => Err(ArgsFault::BadNumber),
+        }
+    }
+}
+
+// What a command says, unless a number is bad. After the names of the other five it is `vectors`.
+fn command<'a>(name: &str, given: &ArgMatches<'a>) -> Option<Args<'a>>
+    requires { IsComplete (name.now, rows_of (found_of given.now)) }
+    ensures { MatchOption result (HasBadNumber (name.now, rows_of (found_of given.now)))
+        (λ args. Says args (name.now, rows_of (found_of given.now))) }
+{
+    match name {
+        "show" => Some(Args::Show {
+            file: text(given, "FILE"),
+        }),
+        "check" => Some(Args::Check {
+            scene: text(given, "SCENE"),
+        }),
+        "run" => Some(Args::Run {
+            scene: text(given, "SCENE"),
+        }),
+        "sdo" => sdo(given),
+        "udp" => udp(given),
+        _ => Some(Args::Vectors),
+    }
+}
+
+// The word that was given under this name, if one was.
+fn word<'a>(given: &ArgMatches<'a>, name: &str) -> Option<&'a str>
+    ensures { option_map (λ w. w.now) result ≡ first_of name.now (rows_of (found_of given.now)) }
+{
+    given.get_str(name)
+}
+
+// The same of a word that has to be given.
+fn text<'a>(given: &ArgMatches<'a>, name: &str) -> &'a str
+    requires { IsSome (first_of name.now (rows_of (found_of given.now))) }
+    ensures { first_of name.now (rows_of (found_of given.now)) ≡ Some result.now }
+{
+    match word(given, name) {
+        Some(text) => text,
+        None => unreachable!(),
+    }
+}
+
+// What `sdo` says, unless a number is bad.
+fn sdo<'a>(given: &ArgMatches<'a>) -> Option<Args<'a>>
+    requires { IsComplete (codes "sdo", rows_of (found_of given.now)) }
+    ensures { MatchOption result (HasBadNumber (codes "sdo", rows_of (found_of given.now)))
+        (λ args. Says args (codes "sdo", rows_of (found_of given.now))) }
+{
+    let station = number(text(given, "STATION"), 0, u16::MAX as u32)?;
+    let index = number(text(given, "INDEX"), 0, u16::MAX as u32)?;
+    let sub = number(text(given, "SUB"), 0, u8::MAX as u32)?;
+    let value = value_given(given)?;
+    Some(Args::Sdo {
+        scene: text(given, "SCENE"),
+        station: station as u16,
+        index: index as u16,
+        sub: sub as u8,
+        value,
+    })
+}
+
+// The value of `sdo`, if one was given, unless it is bad.
+fn value_given(given: &ArgMatches<'_>) -> Option<Option<Value>>
+    ensures { result ≡ value_by (first_of (codes "VALUE") (rows_of (found_of given.now))) }
+{
+    match word(given, "VALUE") {
+        Some(text) => Some(Some(value_of(text)?)),
+        None => Some(None),
+    }
+}
+
+// What `udp` says, unless the port is bad.
+fn udp<'a>(given: &ArgMatches<'a>) -> Option<Args<'a>>
+    requires { IsComplete (codes "udp", rows_of (found_of given.now)) }
+    ensures { MatchOption result (HasBadNumber (codes "udp", rows_of (found_of given.now)))
+        (λ args. Says args (codes "udp", rows_of (found_of given.now))) }
+{
+    let port = port_given(given)?;
+    Some(Args::Udp {
+        scene: text(given, "SCENE"),
+        port,
+    })
+}
+
+// The port of `udp`, or EtherCAT's own, unless it is bad.
+fn port_given(given: &ArgMatches<'_>) -> Option<u16>
+    ensures { result ≡ port_by (first_of (codes "P") (rows_of (found_of given.now))) }
+{
+    match word(given, "P") {
+        Some(text) => Some(number(text, LEAST_PORT, GREATEST_PORT)? as u16),
+        None => Some(DEFAULT_PORT),
+    }
+}

@@ -1,0 +1,28 @@
+//! Rows of command lines, and what they give.
+mod lines;
+mod memory;
+mod numbers;
+
+use crate::{Args, ArgsFault};
+use clap::error::ErrorKind;
+use std::alloc::Global;
+
+/// A fault, with the kind alone of clap's error.
+#[derive(Clone, Copy, Debug, PartialEq, Eq)]
+enum Refusal {
+    Line(ErrorKind),
+    BadNumber,
+    NoMemory,
+    /// The words gave another command.
+    Other,
+}
+
+/// What the words give.
+fn read<'a>(alloc: Global, words: &'a [&'a str]) -> Result<Args<'a>, Refusal> {
+    match Args::read(alloc, words) {
+        Ok(args) => Ok(args),
+        Err(ArgsFault::Line(error)) => Err(Refusal::Line(error.kind())),
+        Err(ArgsFault::BadNumber) => Err(Refusal::BadNumber),
+        Err(ArgsFault::NoMemory) => Err(Refusal::NoMemory),
+    }
+}

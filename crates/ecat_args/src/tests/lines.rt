@@ -1,0 +1,148 @@
+//! The six commands, and lines that are none of them.
+use super::{Refusal, read};
+use crate::{Args, ArgsFault, Value};
+use clap::error::ErrorKind;
+
+#[test]
+fn each_command_reads_its_words(rt: HostRuntime) {
+    let alloc = rt.alloc();
+    assert_eq!(rt;
+        read(alloc, &["ecat", "show", "a.pcap"]),
+        Ok(Args::Show { file: "a.pcap" })
+    );
+    assert_eq!(rt;
+        read(alloc, &["ecat", "check", "a.scene"]),
+        Ok(Args::Check { scene: "a.scene" })
+    );
+    assert_eq!(rt;
+        read(alloc, &["ecat", "run", "a.scene"]),
+        Ok(Args::Run { scene: "a.scene" })
+    );
+    assert_eq!(rt; read(alloc, &["ecat", "vectors"]), Ok(Args::Vectors));
+}
+
+#[test]
+fn sdo_takes_a_value_or_none(rt: HostRuntime) {
+    let alloc = rt.alloc();
+    let upload = Args::Sdo {
+        scene: "a.scene",
+        station: 0x1001,
+        index: 0x1018,
+        sub: 1,
+        value: None,
+    };
+    assert_eq!(rt;
+        read(alloc, &["ecat", "sdo", "a.scene", "0x1001", "0x1018", "1"]),
+        Ok(upload)
+    );
+    let download = Args::Sdo {
+        scene: "a.scene",
+        station: 1,
+        index: 2,
+        sub: 3,
+        value: Some(Value::Two(0x0405)),
+    };
+    assert_eq!(rt;
+        read(alloc, &["ecat", "sdo", "a.scene", "1", "2", "3", "0x0405"]),
+        Ok(download)
+    );
+}
+
+#[test]
+fn udp_takes_a_port_or_uses_34980(rt: HostRuntime) {
+    let alloc = rt.alloc();
+    let own = Args::Udp {
+        scene: "a.scene",
+        port: 34980,
+    };
+    assert_eq!(rt; read(alloc, &["ecat", "udp", "a.scene"]), Ok(own));
+    let other = Args::Udp {
+        scene: "a.scene",
+        port: 4000,
+    };
+    assert_eq!(rt;
+        read(alloc, &["ecat", "udp", "a.scene", "--port", "4000"]),
+        Ok(other)
+    );
+    assert_eq!(rt;
+        read(alloc, &["ecat", "udp", "--port=4000", "a.scene"]),
+        Ok(other)
+    );
+}
+
+#[test]
+fn words_after_two_hyphens_are_texts(rt: HostRuntime) {
+    let alloc = rt.alloc();
+    assert_eq!(rt;
+        read(alloc, &["ecat", "show", "--", "--help"]),
+        Ok(Args::Show { file: "--help" })
+    );
+}
+
+#[test]
+fn a_line_with_no_command_is_refused(rt: HostRuntime) {
+    let alloc = rt.alloc();
+    let missing = Err(Refusal::Line(ErrorKind::MissingSubcommand));
+    assert_eq!(rt; read(alloc, &[]), missing);
+    assert_eq!(rt; read(alloc, &["ecat"]), missing);
+    let unknown = Err(Refusal::Line(ErrorKind::InvalidSubcommand));
+    assert_eq!(rt; read(alloc, &["ecat", "scan"]), unknown);
+    assert_eq!(rt; read(alloc, &["ecat", "Show", "a.pcap"]), unknown);
+}
+
+#[test]
+fn a_missing_word_is_refused(rt: HostRuntime) {
+    let alloc = rt.alloc();
+    let missing = Err(Refusal::Line(ErrorKind::MissingRequiredArgument));
+    assert_eq!(rt; read(alloc, &["ecat", "show"]), missing);
+    assert_eq!(rt; read(alloc, &["ecat", "check"]), missing);
+    assert_eq!(rt; read(alloc, &["ecat", "run"]), missing);
+    assert_eq!(rt; read(alloc, &["ecat", "sdo", "a.scene", "1", "2"]), missing);
+    assert_eq!(rt; read(alloc, &["ecat", "udp", "--port", "4000"]), missing);
+    let no_port = Err(Refusal::Line(ErrorKind::InvalidValue));
+    assert_eq!(rt; read(alloc, &["ecat", "udp", "a.scene", "--port"]), no_port);
+}
+
+#[test]
+fn a_word_too_many_is_refused(rt: HostRuntime) {
+    let alloc = rt.alloc();
+    let unexpected = Err(Refusal::Line(ErrorKind::UnknownArgument));
+    assert_eq!(rt;
+        read(alloc, &["ecat", "show", "a.pcap", "b.pcap"]),
+        unexpected
+    );
+    assert_eq!(rt; read(alloc, &["ecat", "vectors", "a.scene"]), unexpected);
+    assert_eq!(rt;
+        read(alloc, &["ecat", "sdo", "s", "1", "2", "3", "0x04", "5"]),
+        unexpected
+    );
+    assert_eq!(rt;
+        read(alloc, &["ecat", "run", "a.scene", "--port", "4000"]),
+        unexpected
+    );
+    let twice = Err(Refusal::Line(ErrorKind::ArgumentConflict));
+    assert_eq!(rt;
+        read(
+            alloc,
+            &["ecat", "udp", "s", "--port", "4000", "--port", "4001"]
+        ),
+        twice
+    );
+}
+
+#[test]
+fn a_call_for_help_is_a_refusal_with_the_text(rt: HostRuntime) {
+    let alloc = rt.alloc();
+    let help = Err(Refusal::Line(ErrorKind::DisplayHelp));
+    assert_eq!(rt; read(alloc, &["ecat", "--help"]), help);
+    assert_eq!(rt; read(alloc, &["ecat", "-h"]), help);
+    assert_eq!(rt; read(alloc, &["ecat", "help"]), help);
+    assert_eq!(rt; read(alloc, &["ecat", "sdo", "--help"]), help);
+    match Args::read(alloc, &["ecat", "help", "sdo"]) {
+        Err(ArgsFault::Line(error)) => {
+            let text = format!(in alloc; "{error}").expect(&rt, "memory");
+            assert!(rt; text.contains("Usage: ecat sdo <SCENE> <STATION> <INDEX> <SUB> [VALUE]"));
+        }
+        _ => panic!(rt; "help is no command"),
+    }
+}

@@ -1,0 +1,174 @@
+//! Texts that write numbers and values, and texts that do not.
+use super::{Refusal, read};
+use crate::{Args, Value};
+use std::alloc::Global;
+
+/// What `sdo` reads as its three numbers.
+fn numbers(
+    alloc: Global,
+    station: &str,
+    index: &str,
+    sub: &str,
+) -> Result<(u16, u16, u8), Refusal> {
+    match read(alloc, &["ecat", "sdo", "a.scene", station, index, sub])? {
+        Args::Sdo {
+            station,
+            index,
+            sub,
+            ..
+        } => Ok((station, index, sub)),
+        _ => Err(Refusal::Other),
+    }
+}
+
+/// What `sdo` reads as its value.
+fn value(alloc: Global, text: &str) -> Result<Option<Value>, Refusal> {
+    match read(alloc, &["ecat", "sdo", "a.scene", "1", "1", "1", text])? {
+        Args::Sdo { value, .. } => Ok(value),
+        _ => Err(Refusal::Other),
+    }
+}
+
+/// What `udp` reads as its port.
+fn port(alloc: Global, text: &str) -> Result<u16, Refusal> {
+    match read(alloc, &["ecat", "udp", "a.scene", "--port", text])? {
+        Args::Udp { port, .. } => Ok(port),
+        _ => Err(Refusal::Other),
+    }
+}
+
+#[test]
+fn station_and_index_end_at_65535(rt: HostRuntime) {
+    let alloc = rt.alloc();
+    assert_eq!(rt; numbers(alloc, "0", "0", "0"), Ok((0, 0, 0)));
+    assert_eq!(rt;
+        numbers(alloc, "65535", "65534", "0"),
+        Ok((65535, 65534, 0))
+    );
+    assert_eq!(rt;
+        numbers(alloc, "65534", "65535", "0"),
+        Ok((65534, 65535, 0))
+    );
+    assert_eq!(rt; numbers(alloc, "65536", "0", "0"), Err(Refusal::BadNumber));
+    assert_eq!(rt; numbers(alloc, "0", "65536", "0"), Err(Refusal::BadNumber));
+    assert_eq!(rt;
+        numbers(alloc, "0x10000", "0", "0"),
+        Err(Refusal::BadNumber)
+    );
+    assert_eq!(rt;
+        numbers(alloc, "4294967296", "0", "0"),
+        Err(Refusal::BadNumber)
+    );
+}
+
+#[test]
+fn subindex_ends_at_255(rt: HostRuntime) {
+    let alloc = rt.alloc();
+    assert_eq!(rt; numbers(alloc, "1", "2", "255"), Ok((1, 2, 255)));
+    assert_eq!(rt; numbers(alloc, "1", "2", "0xff"), Ok((1, 2, 255)));
+    assert_eq!(rt; numbers(alloc, "1", "2", "256"), Err(Refusal::BadNumber));
+    assert_eq!(rt; numbers(alloc, "1", "2", "0x100"), Err(Refusal::BadNumber));
+}
+
+#[test]
+fn port_is_from_1024_to_65534(rt: HostRuntime) {
+    let alloc = rt.alloc();
+    assert_eq!(rt; port(alloc, "1023"), Err(Refusal::BadNumber));
+    assert_eq!(rt; port(alloc, "1024"), Ok(1024));
+    assert_eq!(rt; port(alloc, "65534"), Ok(65534));
+    assert_eq!(rt; port(alloc, "0xfffe"), Ok(65534));
+    assert_eq!(rt; port(alloc, "65535"), Err(Refusal::BadNumber));
+    assert_eq!(rt; port(alloc, "x"), Err(Refusal::BadNumber));
+}
+
+#[test]
+fn hexadecimal_digits_have_either_case(rt: HostRuntime) {
+    let alloc = rt.alloc();
+    assert_eq!(rt;
+        numbers(alloc, "0xabcd", "0xABCD", "0xeF"),
+        Ok((43981, 43981, 239))
+    );
+    assert_eq!(rt; numbers(alloc, "0x9", "0xa", "0xF"), Ok((9, 10, 15)));
+}
+
+#[test]
+fn any_number_of_digits_is_read(rt: HostRuntime) {
+    let alloc = rt.alloc();
+    assert_eq!(rt;
+        numbers(
+            alloc,
+            "000000000000000000000000065535",
+            "0x00000000000000000000000000ffff",
+            "007"
+        ),
+        Ok((65535, 65535, 7))
+    );
+    assert_eq!(rt;
+        numbers(alloc, "999999999999999999999999999999", "0", "0"),
+        Err(Refusal::BadNumber)
+    );
+    assert_eq!(rt;
+        numbers(alloc, "0xffffffffffffffffffffffffffffff", "0", "0"),
+        Err(Refusal::BadNumber)
+    );
+}
+
+#[test]
+fn other_forms_are_no_numbers(rt: HostRuntime) {
+    let alloc = rt.alloc();
+    for text in [
+        "", "+1", "0x", "0X1", "0x+1", " 1", "1 ", "1_0", "1.0", "a", "0xg", "x1", "0x0x1", "one",
+    ] {
+        assert_eq!(rt;
+            numbers(alloc, text, "0", "0"),
+            Err(Refusal::BadNumber),
+            "{text:?}"
+        );
+        assert_eq!(rt;
+            numbers(alloc, "0", text, "0"),
+            Err(Refusal::BadNumber),
+            "{text:?}"
+        );
+        assert_eq!(rt;
+            numbers(alloc, "0", "0", text),
+            Err(Refusal::BadNumber),
+            "{text:?}"
+        );
+    }
+}
+
+#[test]
+fn digits_of_a_value_give_its_size(rt: HostRuntime) {
+    let alloc = rt.alloc();
+    assert_eq!(rt; value(alloc, "0x02"), Ok(Some(Value::One(2))));
+    assert_eq!(rt; value(alloc, "0xFf"), Ok(Some(Value::One(255))));
+    assert_eq!(rt; value(alloc, "0x0002"), Ok(Some(Value::Two(2))));
+    assert_eq!(rt; value(alloc, "0xABcd"), Ok(Some(Value::Two(43981))));
+    assert_eq!(rt; value(alloc, "0x00000002"), Ok(Some(Value::Four(2))));
+    assert_eq!(rt;
+        value(alloc, "0xffffffff"),
+        Ok(Some(Value::Four(4294967295)))
+    );
+}
+
+#[test]
+fn other_forms_are_no_values(rt: HostRuntime) {
+    let alloc = rt.alloc();
+    for text in [
+        "",
+        "0x",
+        "0x1",
+        "0x123",
+        "0x12345",
+        "0x123456",
+        "0x1234567",
+        "0x123456789",
+        "12",
+        "0X12",
+        "0x+1",
+        "+0x12",
+        "0xg1",
+    ] {
+        assert_eq!(rt; value(alloc, text), Err(Refusal::BadNumber), "{text:?}");
+    }
+}

@@ -1,0 +1,83 @@
+//! Numbers and rows of bytes as a scene writes them.
+ghost use Rattle.std.specs.Prelude.{◌<◌, IfSome};
+
+use crate::fault::LineFault;
+use std::alloc::{AllocError, Global};
+
+/// The value of a hexadecimal digit of either case.
+fn hex_digit(digit: u8) -> Option<u8>
+    ensures { IfSome result (λ value. value < 16) }
+{
+    match digit {
+        b'0'..=b'9' => Some(digit - b'0'),
+        b'a'..=b'f' => Some(digit - b'a' + 10),
+        b'A'..=b'F' => Some(digit - b'A' + 10),
+        _ => None,
+    }
+}
+
+/// The value of a row of digits in a base; one past 64 bits is the greatest.
+fn digits(row: &[u8], base: u8) -> Result<u64, LineFault> {
+    if row.is_empty() {
+        return Err(LineFault::BadNumber);
+    }
+    let mut value = 0u64;
+    for byte in row {
+        match hex_digit(*byte) {
+            Some(digit) if digit < base => {
+                value = value
+                    .saturating_mul(u64::from(base))
+                    .saturating_add(u64::from(digit));
+            }
+            _ => return Err(LineFault::BadNumber),
+        }
+    }
+    Ok(value)
+}
+
+/// A number: decimal digits, or `0x` and hexadecimal digits. One past 64 bits is the greatest.
+pub(crate) fn number(word: &[u8]) -> Result<u64, LineFault> {
+    match word {
+        [b'0', b'x', row @ ..] => digits(row, 16),
+        row => digits(row, 10),
+    }
+}
+
+/// The number as a byte.
+pub(crate) fn byte(number: u64) -> Result<u8, LineFault> {
+    u8::try_from(number).map_err(|_| LineFault::OutOfRange)
+}
+
+/// The number as 16 bits.
+pub(crate) fn word(number: u64) -> Result<u16, LineFault> {
+    u16::try_from(number).map_err(|_| LineFault::OutOfRange)
+}
+
+/// The number as 32 bits.
+pub(crate) fn double_word(number: u64) -> Result<u32, LineFault> {
+    u32::try_from(number).map_err(|_| LineFault::OutOfRange)
+}
+
+/// Tests that a word is an even, non-zero number of hexadecimal digits.
+pub(crate) fn test_bytes(word: &[u8]) -> Result<(), LineFault> {
+    let whole = !word.is_empty() && word.len() % 2 == 0;
+    if whole && word.iter().all(|digit| hex_digit(*digit).is_some()) {
+        Ok(())
+    } else {
+        Err(LineFault::BadNumber)
+    }
+}
+
+/// The bytes of a row of hexadecimal digits; a pair with another character is left out.
+pub(crate) fn bytes(alloc: Global, word: &[u8]) -> Result<Vec<u8>, AllocError> {
+    let mut row = Vec::with_capacity(alloc, word.len() / 2)?;
+    for pair in word.chunks_exact(2) {
+        if let [high, low] = pair
+            && let Some(high) = hex_digit(*high)
+            && let Some(low) = hex_digit(*low)
+        {
+            row.push(16 * high + low)?;
+        }
+    }
+    Ok(row)
+}
