@@ -1,0 +1,96 @@
+//! The commands over a source and two writers.
+
+use crate::run::run;
+use crate::show::show;
+use crate::vectors::vectors;
+use ecat_args::Args;
+use ecat_scene::SceneFault;
+use ecat_source::{PcapFault, Source};
+use std::alloc::Global;
+use std::io::{self, Write};
+
+/// All is well.
+pub const GOOD: u8 = 0;
+
+/// The content was refused.
+pub const REFUSED: u8 = 1;
+
+/// The command is not there yet.
+const UNUSABLE: u8 = 2;
+
+/// The source, the output or memory failed.
+const FAILED: u8 = 3;
+
+/// Why a command ends before its output does.
+#[derive(Drop)]
+pub enum Failure {
+    /// A read of the source failed.
+    Read,
+    /// Memory ran out.
+    NoMemory,
+    /// The scene is refused.
+    Scene(SceneFault),
+    /// The capture is damaged, or its source or memory failed.
+    Capture(PcapFault),
+    /// The output failed.
+    Output,
+}
+
+impl From<io::Error> for Failure {
+    fn from(_error: io::Error) -> Failure {
+        Failure::Output
+    }
+}
+
+/// Does a command, whose file is open as `source`, and answers the exit status.
+pub fn act<S, W, V>(alloc: Global, args: &Args<'_>, source: &mut S, out: &mut W, err: &mut V) -> u8
+where
+    S: Source,
+    W: Write,
+    V: Write,
+{
+    let done = match args {
+        Args::Run { .. } => run(alloc, source, out),
+        Args::Show { .. } => show(alloc, source, out),
+        Args::Vectors => vectors(alloc, out),
+        Args::Check { .. } | Args::Sdo { .. } | Args::Udp { .. } => {
+            let _ = err.write_all(b"this command is not there yet\n");
+            return UNUSABLE;
+        }
+    };
+    match done {
+        Ok(status) => status,
+        Err(failure) => report(&failure, out, err),
+    }
+}
+
+/// Writes the line of a failure, to the output where the content was refused and to `err` else, and
+/// answers the exit status.
+fn report<W: Write, V: Write>(failure: &Failure, out: &mut W, err: &mut V) -> u8 {
+    match failure {
+        Failure::Scene(SceneFault::NoMemory) | Failure::NoMemory => failed(
+            err,
+            b"scene: NoMemory\n",
+        ),
+        Failure::Read => failed(err, b"file: Read\n"),
+        Failure::Output => failed(err, b"output: Write\n"),
+        Failure::Capture(PcapFault::Read) => failed(err, b"capture: Read\n"),
+        Failure::Capture(PcapFault::NoMemory) => failed(err, b"capture: NoMemory\n"),
+        Failure::Scene(fault) => refused(writeln!(out, "scene: {fault}"), err),
+        Failure::Capture(fault) => refused(writeln!(out, "capture: {fault}"), err),
+    }
+}
+
+/// Writes a line to `err`; a fault of that is passed over.
+fn failed<V: Write>(err: &mut V, line: &[u8]) -> u8 {
+    let _ = err.write_all(line);
+    FAILED
+}
+
+/// The status once the line of a refusal was written.
+fn refused<V: Write>(written: io::Result<()>, err: &mut V) -> u8 {
+    match written {
+        Ok(()) => REFUSED,
+        Err(_) => failed(err, b"output: Write\n"),
+    }
+}

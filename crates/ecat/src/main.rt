@@ -1,0 +1,99 @@
+//! `ecat`: EtherCAT frames, scenes and captures from the command line.
+#![tactic(auto)]
+
+mod act;
+mod pass;
+mod print;
+mod run;
+mod show;
+mod vectors;
+
+use act::act;
+use ecat_args::{Args, ArgsFault};
+use ecat_source::{Bytes, Counted};
+use std::process::ExitCode;
+use std::rt::{Env, Files};
+use std::{env, fs, io};
+
+/// The words of the command line are no command.
+const BAD_ARGUMENTS: u8 = 2;
+
+/// A file, the output or memory failed.
+const FAILED: u8 = 3;
+
+fn main(rt: HostRuntime) -> ExitCode {
+    ExitCode::from(start(&rt, &mut rt.stdout(), &mut rt.stderr()))
+}
+
+/// Reads the command line, opens the file that it names, and does the command.
+fn start<R, W, V>(rt: &R, out: &mut W, err: &mut V) -> u8
+where
+    R: Env + Files + AllocGlobal,
+    W: io::Write,
+    V: io::Write,
+{
+    let mut words = Vec::new(rt.alloc());
+    match env::args(rt) {
+        Ok(all) => {
+            for word in all {
+                if words.push(word).is_err() {
+                    return no_memory(err);
+                }
+            }
+        }
+        Err(error) if error.kind() == io::ErrorKind::OutOfMemory => return no_memory(err),
+        Err(_) => return bad_arguments(err),
+    }
+    let mut texts = Vec::new(rt.alloc());
+    for word in &words {
+        if texts.push(word.as_str()).is_err() {
+            return no_memory(err);
+        }
+    }
+    match Args::read(rt.alloc(), texts.as_slice()) {
+        Ok(args) => open(rt, &args, out, err),
+        Err(ArgsFault::NoMemory) => no_memory(err),
+        Err(ArgsFault::BadNumber) => bad_arguments(err),
+        Err(ArgsFault::Line(error)) => {
+            let _ = write!(err, "{error}");
+            BAD_ARGUMENTS
+        }
+    }
+}
+
+/// Opens the file of a command, if it has one, and does the command.
+fn open<R, W, V>(rt: &R, args: &Args<'_>, out: &mut W, err: &mut V) -> u8
+where
+    R: Files + AllocGlobal,
+    W: io::Write,
+    V: io::Write,
+{
+    let path = match args {
+        Args::Show { file } => *file,
+        Args::Check { scene }
+        | Args::Run { scene }
+        | Args::Sdo { scene, .. }
+        | Args::Udp { scene, .. } => *scene,
+        Args::Vectors => return act(rt.alloc(), args, &mut Bytes::new(b""), out, err),
+    };
+    match fs::open(rt, path) {
+        Ok(file) => act(rt.alloc(), args, &mut Counted::new(file), out, err),
+        Err(_) => {
+            let _ = err.write_all(b"file: Open\n");
+            FAILED
+        }
+    }
+}
+
+fn no_memory<V: io::Write>(err: &mut V) -> u8 {
+    let _ = err.write_all(b"arguments: NoMemory\n");
+    FAILED
+}
+
+fn bad_arguments<V: io::Write>(err: &mut V) -> u8 {
+    let _ = err.write_all(b"argument: BadNumber\n");
+    BAD_ARGUMENTS
+}
+
+#[cfg(test)]
+mod tests;

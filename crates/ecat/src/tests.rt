@@ -1,0 +1,86 @@
+//! What the commands print and answer, over bytes in place. A test accepts want of memory as an answer, so
+//! that each allocation can be made to fail in turn.
+
+mod running;
+mod showing;
+mod worked;
+
+use crate::act::act;
+use ecat_args::Args;
+use ecat_source::{Bytes, Source};
+use std::io::{Cursor, Write};
+use std::process::Abort;
+
+/// Room for what a command of a test prints.
+const ROOM: usize = 4096;
+
+/// What was written to a cursor over an array.
+fn written(cursor: &Cursor<[u8; ROOM]>) -> &[u8] {
+    let count = cursor.position().min(ROOM as u64) as usize;
+    &cursor.get_ref()[..count]
+}
+
+/// Does a command over a source, and asserts what it prints and answers, or that memory ran out.
+fn answers<S: Source>(
+    rt: &(impl AllocGlobal + Abort),
+    args: &Args<'_>,
+    source: &mut S,
+    status: u8,
+    out: &[u8],
+    err: &[u8],
+) {
+    let mut printed = Cursor::new([0u8; ROOM]);
+    let mut complained = Cursor::new([0u8; ROOM]);
+    let answer = act(rt.alloc(), args, source, &mut printed, &mut complained);
+    let failed = written(&complained);
+    if failed == b"scene: NoMemory\n".as_slice() || failed == b"capture: NoMemory\n".as_slice() {
+        assert_eq!(rt; answer, 3);
+        return;
+    }
+    assert_eq!(rt; written(&printed), out);
+    assert_eq!(rt; failed, err);
+    assert_eq!(rt; answer, status);
+}
+
+/// `run` over a text.
+fn runs(rt: &(impl AllocGlobal + Abort), scene: &[u8], status: u8, out: &[u8]) {
+    answers(
+        rt,
+        &Args::Run { scene: "s" },
+        &mut Bytes::new(scene),
+        status,
+        out,
+        b"",
+    );
+}
+
+/// `show` over a capture.
+fn shows(rt: &(impl AllocGlobal + Abort), capture: &[u8], status: u8, out: &[u8]) {
+    answers(
+        rt,
+        &Args::Show { file: "f" },
+        &mut Bytes::new(capture),
+        status,
+        out,
+        b"",
+    );
+}
+
+/// An output with no room.
+struct NoRoom;
+
+impl Drop for NoRoom {
+    fn drop(self) {
+        let NoRoom = self;
+    }
+}
+
+impl Write for NoRoom {
+    fn write(&mut self, _bytes: &[u8]) -> std::io::Result<usize> {
+        Ok(0)
+    }
+
+    fn flush(&mut self) -> std::io::Result<()> {
+        Ok(())
+    }
+}
