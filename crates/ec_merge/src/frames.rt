@@ -1,0 +1,383 @@
+//! Whole frames, joined in place.
+
+ghost use Rattle.std.specs.Prelude.{◌≡◌, ℕ, List, ◌<◌, ◌≤◌, ◌%◌, length, slice_set, OnOk, IfOk, IfErr, MatchOption, true, All};
+ghost use Rattle.ec_wire.specs.Datagram.{DatagramRecord, nth, Fits};
+ghost use Rattle.ec_merge.specs.declared.frames.JoinFault.{JoinFault};
+ghost use Rattle.ec_merge.specs.Bytes.{joined_bytes};
+ghost use Rattle.ec_merge.specs.Frames.{copy_or, counts_adp, fixed_address, belongs, IsOwn, IsStranger, IsFault, joined_record, joined_part, joined_frame};
+
+use crate::bytes::join_bytes;
+use crate::merge::{Counter, Flag, Irq, Merge};
+use ec_wire::{Command, FrameBuf};
+
+/// One more ADO in an address: the ADP has the 16 bits below it.
+const ONE_ADO: u32 = 0x0001_0000;
+
+/// Why two copies are not joined: one of them cannot have come of the sent frame. It names the first
+/// datagram that differs.
+#[derive(Clone, Copy, PartialEq, Eq, Debug)]
+pub enum JoinFault {
+    /// Copy a differs at this datagram.
+    StrangerA(usize),
+    /// Copy a may have come of the sent frame, and copy b differs at this datagram.
+    StrangerB(usize),
+}
+
+/// Whether slaves count up the ADP under this command.
+fn counts_adp(command: Command) -> bool
+    ensures { result ≡ counts_adp command }
+{
+    match command {
+        Command::Aprd | Command::Apwr | Command::Aprw | Command::Brd | Command::Bwr => true,
+        _ => false,
+    }
+}
+
+/// The part of an address that slaves leave as it is.
+fn fixed_address(command: Command, address: u32) -> u32
+    ensures { result ≡ fixed_address command address }
+{
+    if counts_adp(command) {
+        address / ONE_ADO
+    } else {
+        address
+    }
+}
+
+/// Whether the datagram at `k` of a copy may have come of the sent one.
+fn belongs(sent: &FrameBuf, copy: &FrameBuf, k: usize) -> bool
+    requires sent { k < length sent.now }
+    requires copy { k < length copy.now }
+    ensures { result ≡ belongs (nth sent.now k) (nth copy.now k) }
+{
+    let command = sent.command(k);
+    copy.command(k).code() == command.code()
+        && copy.index(k) == sent.index(k)
+        && copy.data(k).len() == sent.data(k).len()
+        && fixed_address(command, copy.address(k)) == fixed_address(command, sent.address(k))
+}
+
+/// The first datagram from `from` on at which a copy differs, if it is a stranger; all before may have come of the
+/// sent ones.
+fn first_difference(sent: &FrameBuf, copy: &FrameBuf, from: usize) -> Option<usize>
+    requires in_sent { from ≤ length sent.now }
+    requires in_copy { from ≤ length copy.now }
+    requires before { (i : ℕ) → i < from → belongs (nth sent.now i) (nth copy.now i) ≡ true }
+    ensures { MatchOption result (IsOwn sent.now copy.now) (IsStranger sent.now copy.now) }
+{
+    let shared = sent.count().min(copy.count());
+    for k in from..shared {
+        if !belongs(sent, copy, k) {
+            return Some(k);
+        }
+    }
+    if sent.count() == copy.count() {
+        None
+    } else {
+        Some(shared)
+    }
+}
+
+/// The low half of the address of the datagram at `k`.
+fn adp(frame: &FrameBuf, k: usize) -> Counter
+    requires { k < length frame.now }
+    ensures { result.0 ≡ (nth frame.now k).address % 65536 }
+{
+    Counter((frame.address(k) % ONE_ADO) as u16)
+}
+
+/// Joins the data of the datagram at `k` of another copy in; all else stays.
+fn join_data(sent: &FrameBuf, into: &mut FrameBuf, other: &FrameBuf, k: usize)
+    requires sent { k < length sent.now }
+    requires into { k < length into.old }
+    requires other { k < length other.now }
+    requires into_size { length (nth into.old k).payload ≡ length (nth sent.now k).payload }
+    requires other_size { length (nth other.now k).payload ≡ length (nth sent.now k).payload }
+    ensures { into.new ≡ slice_set into.old k (record (nth into.old k) { payload = joined_bytes (nth sent.now k).payload (nth into.old k).payload (nth other.now k).payload }) }
+{
+    join_bytes(sent.data(k), into.data_mut(k), other.data(k));
+}
+
+/// Joins the datagram at `k` of another copy in; all others stay.
+fn join_datagram(sent: &FrameBuf, into: &mut FrameBuf, other: &FrameBuf, k: usize)
+    requires sent { k < length sent.now }
+    requires into { k < length into.old }
+    requires other { k < length other.now }
+    requires into_belongs { belongs (nth sent.now k) (nth into.old k) ≡ true }
+    requires other_belongs { belongs (nth sent.now k) (nth other.now k) ≡ true }
+    ensures { into.new ≡ slice_set into.old k (joined_record (nth sent.now k) (nth into.old k) (nth other.now k)) }
+{
+    let circulating = Flag::join(
+        Flag(sent.circulating(k)),
+        Flag(into.circulating(k)),
+        Flag(other.circulating(k)),
+    );
+    let irq = Irq::join(Irq(sent.irq(k)), Irq(into.irq(k)), Irq(other.irq(k)));
+    let counter = Counter::join(
+        Counter(sent.counter(k)),
+        Counter(into.counter(k)),
+        Counter(other.counter(k)),
+    );
+    let place = Counter::join(adp(sent, k), adp(into, k), adp(other, k));
+    join_data(sent, into, other, k);
+    into.set_circulating(k, circulating.0);
+    into.set_irq(k, irq.0);
+    into.set_counter(k, counter.0);
+    if counts_adp(sent.command(k)) {
+        into.set_adp(k, place.0);
+    }
+}
+
+/// Joins another copy in, as far as every datagram of both may have come of the sent one, and says how many are joined.
+fn join_front(sent: &FrameBuf, into: &mut FrameBuf, other: &FrameBuf) -> usize
+    ensures in_sent { result ≤ length sent.now }
+    ensures in_into { result ≤ length into.old }
+    ensures in_other { result ≤ length other.now }
+    ensures into_before { (i : ℕ) → i < result → belongs (nth sent.now i) (nth into.old i) ≡ true }
+    ensures other_before { (i : ℕ) → i < result → belongs (nth sent.now i) (nth other.now i) ≡ true }
+    ensures joined { into.new ≡ joined_part result sent.now into.old other.now }
+    ensures whole { IsOwn sent.now into.old → IsOwn sent.now other.now → result ≡ length sent.now }
+{
+    let shared = sent.count().min(into.count()).min(other.count());
+    for k in 0..shared {
+        if !belongs(sent, into, k) || !belongs(sent, other, k) {
+            return k;
+        }
+        join_datagram(sent, into, other, k);
+    }
+    shared
+}
+
+/// Joins two copies of a sent frame, of which a missing one stands for the sent frame. Data, circulating bits and
+/// event requests are joined bit by bit; working counters, and the ADP where slaves count it up, have moved as
+/// far as in both copies together. A stranger is named with its first datagram that differs, copy a before b.
+pub fn join_frames(
+    sent: &FrameBuf,
+    a: Option<&FrameBuf>,
+    b: Option<&FrameBuf>,
+) -> Result<FrameBuf, JoinFault>
+    ensures own_a { OnOk result (IsOwn sent.now (copy_or a.entry sent.now)) }
+    ensures own_b { OnOk result (IsOwn sent.now (copy_or b.entry sent.now)) }
+    ensures joined { IfOk result (λ frame. frame ≡ joined_frame sent.now (copy_or a.entry sent.now) (copy_or b.entry sent.now)) }
+    ensures fault { IfErr result (IsFault sent.now (copy_or a.entry sent.now) (copy_or b.entry sent.now)) }
+    ensures only_joined { IsOwn sent.now (copy_or a.entry sent.now) → IsOwn sent.now (copy_or b.entry sent.now) → result ≡ Ok (joined_frame sent.now (copy_or a.entry sent.now) (copy_or b.entry sent.now)) }
+    ensures only_fault { (f : JoinFault) → IsFault sent.now (copy_or a.entry sent.now) (copy_or b.entry sent.now) f → result ≡ Err f }
+{
+    let a = a.unwrap_or(sent);
+    let b = b.unwrap_or(sent);
+    let mut joined = a.copy();
+    let front = join_front(sent, &mut joined, b);
+    if let Some(k) = first_difference(sent, a, front) {
+        return Err(JoinFault::StrangerA(k));
+    }
+    if let Some(k) = first_difference(sent, b, front) {
+        return Err(JoinFault::StrangerB(k));
+    }
+    Ok(joined)
+}
+
+/// The order of two copies does not matter, and a copy that is as it was sent adds nothing.
+pub fn frame_laws()
+    ensures symmetric { (s a b : List DatagramRecord) → joined_frame s a b ≡ joined_frame s b a }
+    ensures unit { (s a : List DatagramRecord) → All Fits s → All Fits a → IsOwn s a → joined_frame s a s ≡ a }
+{}
+
+/// A frame is no stranger or one with one first difference, and never both.
+pub fn one_stranger()
+    ensures one { (s c : List DatagramRecord) (j k : ℕ) → IsStranger s c j → IsStranger s c k → j ≡ k }
+    ensures not_own { (s c : List DatagramRecord) (k : ℕ) → IsOwn s c → IsStranger s c k → ⊥ }
+{}
+
+#[cfg(test)]
+mod tests {
+    use super::*;
+    use ec_wire::{Form, WireFault};
+
+    /// A BRD of the two bytes at 0x0130, with index 1: ADP 0, counter 0, data 0000.
+    const BRD: [u8; 16] = [
+        0x0E, 0x10, 0x07, 0x01, 0x00, 0x00, 0x30, 0x01, 0x02, 0x00, 0x00, 0x00, 0x00, 0x00, 0x00,
+        0x00,
+    ];
+
+    /// That BRD, and a second one with index 2.
+    const TWO: [u8; 30] = [
+        0x1C, 0x10, 0x07, 0x01, 0x00, 0x00, 0x30, 0x01, 0x02, 0x80, 0x00, 0x00, 0x00, 0x00, 0x00,
+        0x00, 0x07, 0x02, 0x00, 0x00, 0x30, 0x01, 0x02, 0x00, 0x00, 0x00, 0x00, 0x00, 0x00, 0x00,
+    ];
+
+    /// An LRW of one byte F0 at 0x00010000, with index 7, event requests 0004 and counter 65535.
+    const LRW: [u8; 15] = [
+        0x0D, 0x10, 0x0C, 0x07, 0x00, 0x00, 0x01, 0x00, 0x01, 0x00, 0x04, 0x00, 0xF0, 0xFF, 0xFF,
+    ];
+
+    /// The bytes with one of them replaced.
+    fn with_byte<const N: usize>(bytes: &[u8; N], at: usize, byte: u8) -> [u8; N]
+        requires { at < N }
+    {
+        let mut changed = *bytes;
+        changed[at] = byte;
+        changed
+    }
+
+    fn frame(bytes: &[u8]) -> Result<FrameBuf, WireFault> {
+        FrameBuf::read(bytes, Form::Udp)
+    }
+
+    /// The fault of these two copies of a sent frame.
+    fn fault(sent: &[u8], a: &[u8], b: &[u8]) -> Result<Option<JoinFault>, WireFault> {
+        Ok(join_frames(&frame(sent)?, Some(&frame(a)?), Some(&frame(b)?)).err())
+    }
+
+    #[test]
+    fn three_slaves_answer_a_broadcast_on_one_copy(rt: HostRuntime) {
+        let sent = frame(&BRD).expect(&rt, "spelt");
+        let a = frame(&[
+            0x0E, 0x10, 0x07, 0x01, 0x03, 0x00, 0x30, 0x01, 0x02, 0x00, 0x00, 0x00, 0x0C, 0x00,
+            0x03, 0x00,
+        ])
+        .expect(&rt, "spelt");
+        let joined = join_frames(&sent, Some(&a), None).expect(&rt, "no stranger");
+        assert_eq!(rt;
+            joined.bytes(),
+            [
+                0x0E, 0x10, 0x07, 0x01, 0x03, 0x00, 0x30, 0x01, 0x02, 0x00, 0x00, 0x00, 0x0C, 0x00,
+                0x03, 0x00,
+            ]
+            .as_slice()
+        );
+    }
+
+    #[test]
+    fn two_copies_of_a_broadcast_add_up(rt: HostRuntime) {
+        let sent = frame(&BRD).expect(&rt, "spelt");
+        let a = frame(&[
+            0x0E, 0x10, 0x07, 0x01, 0x02, 0x00, 0x30, 0x01, 0x02, 0x00, 0x00, 0x00, 0x08, 0x00,
+            0x02, 0x00,
+        ])
+        .expect(&rt, "spelt");
+        let b = frame(&[
+            0x0E, 0x10, 0x07, 0x01, 0x01, 0x00, 0x30, 0x01, 0x02, 0x40, 0x00, 0x00, 0x04, 0x00,
+            0x01, 0x00,
+        ])
+        .expect(&rt, "spelt");
+        let joined = join_frames(&sent, Some(&a), Some(&b)).expect(&rt, "no stranger");
+        assert_eq!(rt;
+            joined.bytes(),
+            [
+                0x0E, 0x10, 0x07, 0x01, 0x03, 0x00, 0x30, 0x01, 0x02, 0x40, 0x00, 0x00, 0x0C, 0x00,
+                0x03, 0x00,
+            ]
+            .as_slice()
+        );
+    }
+
+    #[test]
+    fn a_logical_exchange_is_joined_bit_by_bit(rt: HostRuntime) {
+        let sent = frame(&LRW).expect(&rt, "spelt");
+        let a = frame(&[
+            0x0D, 0x10, 0x0C, 0x07, 0x00, 0x00, 0x01, 0x00, 0x01, 0x00, 0x06, 0x00, 0xF1, 0x01,
+            0x00,
+        ])
+        .expect(&rt, "spelt");
+        let b = frame(&[
+            0x0D, 0x10, 0x0C, 0x07, 0x00, 0x00, 0x01, 0x00, 0x01, 0x00, 0x14, 0x00, 0x70, 0x00,
+            0x00,
+        ])
+        .expect(&rt, "spelt");
+        let joined = join_frames(&sent, Some(&a), Some(&b)).expect(&rt, "no stranger");
+        assert_eq!(rt;
+            joined.bytes(),
+            [
+                0x0D, 0x10, 0x0C, 0x07, 0x00, 0x00, 0x01, 0x00, 0x01, 0x00, 0x16, 0x00, 0x71, 0x02,
+                0x00,
+            ]
+            .as_slice()
+        );
+    }
+
+    #[test]
+    fn two_missing_copies_are_the_sent_frame(rt: HostRuntime) {
+        let sent = frame(&LRW).expect(&rt, "spelt");
+        let joined = join_frames(&sent, None, None).expect(&rt, "no stranger");
+        assert_eq!(rt; joined.bytes(), LRW.as_slice());
+    }
+
+    #[test]
+    fn another_index_is_a_stranger(rt: HostRuntime) {
+        let a = with_byte(&LRW, 3, 0x08);
+        let found = fault(&LRW, &a, &LRW).expect(&rt, "spelt");
+        assert_eq!(rt; found, Some(JoinFault::StrangerA(0)));
+    }
+
+    #[test]
+    fn another_number_of_datagrams_is_named_at_the_smaller(rt: HostRuntime) {
+        let longer = fault(&BRD, &BRD, &TWO).expect(&rt, "spelt");
+        assert_eq!(rt; longer, Some(JoinFault::StrangerB(1)));
+        let shorter = fault(&TWO, &TWO, &BRD).expect(&rt, "spelt");
+        assert_eq!(rt; shorter, Some(JoinFault::StrangerB(1)));
+        let a = fault(&BRD, &TWO, &BRD).expect(&rt, "spelt");
+        assert_eq!(rt; a, Some(JoinFault::StrangerA(1)));
+    }
+
+    #[test]
+    fn copy_a_is_named_before_an_earlier_difference_of_copy_b(rt: HostRuntime) {
+        let a = with_byte(&TWO, 17, 0x09);
+        let b = with_byte(&TWO, 3, 0x09);
+        let found = fault(&TWO, &a, &b).expect(&rt, "spelt");
+        assert_eq!(rt; found, Some(JoinFault::StrangerA(1)));
+        let alone = fault(&TWO, &TWO, &b).expect(&rt, "spelt");
+        assert_eq!(rt; alone, Some(JoinFault::StrangerB(0)));
+    }
+
+    #[test]
+    fn the_ado_of_a_broadcast_is_never_joined(rt: HostRuntime) {
+        let b = with_byte(&BRD, 6, 0x31);
+        let found = fault(&BRD, &BRD, &b).expect(&rt, "spelt");
+        assert_eq!(rt; found, Some(JoinFault::StrangerB(0)));
+    }
+
+    #[test]
+    fn a_station_address_is_never_joined(rt: HostRuntime) {
+        let sent = with_byte(&BRD, 2, 0x04);
+        let b = with_byte(&sent, 4, 0x01);
+        let found = fault(&sent, &sent, &b).expect(&rt, "spelt");
+        assert_eq!(rt; found, Some(JoinFault::StrangerB(0)));
+    }
+
+    /// How the 255 changes of one byte of the BRD fare as copy a: how many are spelt, strangers and joined.
+    fn changes_at(at: usize) -> (u32, u32, u32)
+        requires { at < 16 }
+    {
+        let mut spelt = 0u32;
+        let mut strangers = 0u32;
+        let mut joined = 0u32;
+        for change in 1..=255u8 {
+            let changed = with_byte(&BRD, at, BRD[at] ^ change);
+            let Ok(sent) = frame(&BRD) else { continue };
+            let Ok(a) = frame(&changed) else { continue };
+            spelt = spelt.wrapping_add(1);
+            match join_frames(&sent, Some(&a), None) {
+                Err(JoinFault::StrangerA(0)) => strangers = strangers.wrapping_add(1),
+                Err(_) => {}
+                Ok(_) => joined = joined.wrapping_add(1),
+            }
+        }
+        (spelt, strangers, joined)
+    }
+
+    #[test]
+    fn changes_of_one_byte_are_strangers_or_joined(rt: HostRuntime) {
+        let mut spelt = 0u32;
+        let mut strangers = 0u32;
+        let mut joined = 0u32;
+        for at in 0..16usize {
+            let (x, y, z) = changes_at(at);
+            spelt = spelt.wrapping_add(x);
+            strangers = strangers.wrapping_add(y);
+            joined = joined.wrapping_add(z);
+        }
+        assert_eq!(rt; spelt, 2820);
+        assert_eq!(rt; strangers, 779);
+        assert_eq!(rt; joined, 2041);
+    }
+}
