@@ -11,7 +11,7 @@ use Rattle.ec_merge.specs.declared.frames.JoinFault.TheVariants.{StrangerA, Stra
 use Rattle.ec_merge.specs.Rule.{joined_count, joined_bits, joined_flag}
 use Rattle.ec_merge.specs.Laws.{joined_count_symmetric, joined_count_unit, joined_bits_symmetric, joined_bits_unit, joined_flag_symmetric, joined_flag_unit}
 use Rattle.ec_merge.specs.Bytes.{joined_bytes}
-use Rattle.ec_merge.specs.Frames.{counts_adp, fixed_address, belongs, IsOwn, IsStranger, IsFault, joined_address, joined_record, joined_part, joined_frame}
+use Rattle.ec_merge.specs.Frames.{counts_adp, fixed_address, belongs, IsOwn, IsStranger, IsFault, joined_address, with_joined_address, with_joined_fields, joined_record, joined_part, joined_frame}
 
 -- ---- datagrams that belong together
 
@@ -41,19 +41,12 @@ Shares-from_belongs s c h =
       address = eqb-true _ _ last.1;
     }
 
--- the record that the joined fields make of copy a is the joined one
-pub joined_over : (s a b : DatagramRecord) (place : ℕ) → Shares s a → place ≡ joined_address s.command s.address a.address b.address
-    → record a {
-      address = place;
-      circulating = joined_flag s.circulating a.circulating b.circulating;
-      irq = joined_bits s.irq a.irq b.irq;
-      payload = joined_bytes s.payload a.payload b.payload;
-      counter = joined_count s.counter a.counter b.counter;
-    } ≡ joined_record s a b
-joined_over s a b place shared e = λ t. record {
+-- both make the joined datagram
+pub joined_fields_over : (s a b : DatagramRecord) → Shares s a → with_joined_fields s (with_joined_address s a b) b ≡ joined_record s a b
+joined_fields_over s a b shared = λ t. record {
   command = shared.command t;
   index = shared.index t;
-  address = e t;
+  address = joined_address s.command s.address a.address b.address;
   circulating = joined_flag s.circulating a.circulating b.circulating;
   irq = joined_bits s.irq a.irq b.irq;
   payload = joined_bytes s.payload a.payload b.payload;
@@ -87,12 +80,7 @@ pub fields_joined : (rs f1 f2 f3 f4 : List DatagramRecord) (k : ℕ) (s b : Data
     → flag ≡ joined_flag s.circulating (nth rs k).circulating b.circulating → irq ≡ joined_bits s.irq (nth rs k).irq b.irq → count ≡ joined_count s.counter (nth rs k).counter b.counter
     → f1 ≡ set rs k (record (nth rs k) { payload = joined_bytes s.payload (nth rs k).payload b.payload }) → f2 ≡ set f1 k (record (nth f1 k) { circulating = flag })
     → f3 ≡ set f2 k (record (nth f2 k) { irq = irq }) → f4 ≡ set f3 k (record (nth f3 k) { counter = count })
-    → f4 ≡ set rs k (record (nth rs k) {
-      circulating = joined_flag s.circulating (nth rs k).circulating b.circulating;
-      irq = joined_bits s.irq (nth rs k).irq b.irq;
-      payload = joined_bytes s.payload (nth rs k).payload b.payload;
-      counter = joined_count s.counter (nth rs k).counter b.counter;
-    })
+    → f4 ≡ set rs k (with_joined_fields s (nth rs k) b)
 fields_joined rs f1 f2 f3 f4 k s b flag irq count inside flag_is irq_is count_is e1 e2 e3 e4 =
     let a = nth rs k in
     let bytes = joined_bytes s.payload a.payload b.payload in

@@ -62,6 +62,19 @@ abbrev pub joined_address : Command → ℕ → ℕ → ℕ → ℕ
 joined_address command sent a b =
     if counts_adp command then joined_count (sent % 65536) (a % 65536) (b % 65536) + 65536 * (sent / 65536) else sent
 
+-- copy a with its address joined
+abbrev pub with_joined_address : DatagramRecord → DatagramRecord → DatagramRecord → DatagramRecord
+with_joined_address sent a b = record a { address = joined_address sent.command sent.address a.address b.address }
+
+-- copy a with all else joined that slaves change
+abbrev pub with_joined_fields : DatagramRecord → DatagramRecord → DatagramRecord → DatagramRecord
+with_joined_fields sent a b = record a {
+  circulating = joined_flag sent.circulating a.circulating b.circulating;
+  irq = joined_bits sent.irq a.irq b.irq;
+  payload = joined_bytes sent.payload a.payload b.payload;
+  counter = joined_count sent.counter a.counter b.counter;
+}
+
 -- a datagram of two copies
 abbrev pub joined_record : DatagramRecord → DatagramRecord → DatagramRecord → DatagramRecord
 joined_record sent a b = record {

@@ -22,7 +22,8 @@ fn join_block(sent: &[u8], into: &mut [u8], other: &[u8], at: usize)
     requires sent { at + LANES ≤ length sent.now }
     requires into { at + LANES ≤ length into.old }
     requires other { at + LANES ≤ length other.now }
-    ensures { into.new ≡ put_chunk at into.old (joined_bytes (chunk at LANES sent.now) (chunk at LANES into.old) (chunk at LANES other.now)) }
+    ensures { into.new ≡ put_chunk at into.old
+        (joined_bytes (chunk at LANES sent.now) (chunk at LANES into.old) (chunk at LANES other.now)) }
 {
     let s = u8x32::from_slice(&sent[at..]);
     let a = u8x32::from_slice(&into[at..]);
@@ -50,7 +51,8 @@ fn join_rest(sent: &[u8], into: &mut [u8], other: &[u8], from: usize)
     requires room { from ≤ length sent.now }
     ensures count { length into.new ≡ length into.old }
     ensures before { (k : ℕ) → k < from → slice_index into.new k ≡ slice_index into.old k }
-    ensures joined { (k : ℕ) → from ≤ k → k < length sent.now → slice_index into.new k ≡ joined_bits (slice_index sent.now k) (slice_index into.old k) (slice_index other.now k) }
+    ensures joined { (k : ℕ) → from ≤ k → k < length sent.now → slice_index into.new k
+        ≡ joined_bits (slice_index sent.now k) (slice_index into.old k) (slice_index other.now k) }
 {
     for at in from..sent.len() {
         into[at] = joined_byte(sent[at], into[at], other[at]);

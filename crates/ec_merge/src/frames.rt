@@ -4,7 +4,7 @@ ghost use Rattle.std.specs.Prelude.{◌≡◌, ℕ, List, ◌<◌, ◌≤◌, �
 ghost use Rattle.ec_wire.specs.Datagram.{DatagramRecord, nth, Fits};
 ghost use Rattle.ec_merge.specs.declared.frames.JoinFault.{JoinFault};
 ghost use Rattle.ec_merge.specs.Bytes.{joined_bytes};
-ghost use Rattle.ec_merge.specs.Frames.{copy_or, counts_adp, fixed_address, belongs, IsOwn, IsStranger, IsFault, joined_record, joined_part, joined_frame};
+ghost use Rattle.ec_merge.specs.Frames.{copy_or, counts_adp, fixed_address, belongs, IsOwn, IsStranger, IsFault, with_joined_address, with_joined_fields, joined_record, joined_part, joined_frame};
 
 use crate::bytes::join_bytes;
 use crate::merge::{Counter, Flag, Irq, Merge};
@@ -93,19 +93,37 @@ fn join_data(sent: &FrameBuf, into: &mut FrameBuf, other: &FrameBuf, k: usize)
     requires other { k < length other.now }
     requires into_size { length (nth into.old k).payload ≡ length (nth sent.now k).payload }
     requires other_size { length (nth other.now k).payload ≡ length (nth sent.now k).payload }
-    ensures { into.new ≡ slice_set into.old k (record (nth into.old k) { payload = joined_bytes (nth sent.now k).payload (nth into.old k).payload (nth other.now k).payload }) }
+    ensures { let sent = nth sent.now k in let came = nth into.old k in let other = nth other.now k
+        in into.new ≡ slice_set into.old k
+        (record came { payload = joined_bytes sent.payload came.payload other.payload }) }
 {
     join_bytes(sent.data(k), into.data_mut(k), other.data(k));
 }
 
-/// Joins the datagram at `k` of another copy in; all others stay.
-fn join_datagram(sent: &FrameBuf, into: &mut FrameBuf, other: &FrameBuf, k: usize)
+/// Joins the ADP of the datagram at `k` of another copy in where slaves count it up; all else stays.
+fn join_adp(sent: &FrameBuf, into: &mut FrameBuf, other: &FrameBuf, k: usize)
     requires sent { k < length sent.now }
     requires into { k < length into.old }
     requires other { k < length other.now }
     requires into_belongs { belongs (nth sent.now k) (nth into.old k) ≡ true }
-    requires other_belongs { belongs (nth sent.now k) (nth other.now k) ≡ true }
-    ensures { into.new ≡ slice_set into.old k (joined_record (nth sent.now k) (nth into.old k) (nth other.now k)) }
+    ensures { into.new ≡ slice_set into.old k
+        (with_joined_address (nth sent.now k) (nth into.old k) (nth other.now k)) }
+{
+    if counts_adp(sent.command(k)) {
+        let joined = Counter::join(adp(sent, k), adp(into, k), adp(other, k));
+        into.set_adp(k, joined.0);
+    }
+}
+
+/// Joins all of the datagram at `k` of another copy in but the address; all others stay.
+fn join_fields(sent: &FrameBuf, into: &mut FrameBuf, other: &FrameBuf, k: usize)
+    requires sent { k < length sent.now }
+    requires into { k < length into.old }
+    requires other { k < length other.now }
+    requires into_size { length (nth into.old k).payload ≡ length (nth sent.now k).payload }
+    requires other_size { length (nth other.now k).payload ≡ length (nth sent.now k).payload }
+    ensures { into.new ≡ slice_set into.old k
+        (with_joined_fields (nth sent.now k) (nth into.old k) (nth other.now k)) }
 {
     let circulating = Flag::join(
         Flag(sent.circulating(k)),
@@ -118,14 +136,24 @@ fn join_datagram(sent: &FrameBuf, into: &mut FrameBuf, other: &FrameBuf, k: usiz
         Counter(into.counter(k)),
         Counter(other.counter(k)),
     );
-    let place = Counter::join(adp(sent, k), adp(into, k), adp(other, k));
     join_data(sent, into, other, k);
     into.set_circulating(k, circulating.0);
     into.set_irq(k, irq.0);
     into.set_counter(k, counter.0);
-    if counts_adp(sent.command(k)) {
-        into.set_adp(k, place.0);
-    }
+}
+
+/// Joins the datagram at `k` of another copy in; all others stay.
+fn join_datagram(sent: &FrameBuf, into: &mut FrameBuf, other: &FrameBuf, k: usize)
+    requires sent { k < length sent.now }
+    requires into { k < length into.old }
+    requires other { k < length other.now }
+    requires into_belongs { belongs (nth sent.now k) (nth into.old k) ≡ true }
+    requires other_belongs { belongs (nth sent.now k) (nth other.now k) ≡ true }
+    ensures { into.new ≡ slice_set into.old k
+        (joined_record (nth sent.now k) (nth into.old k) (nth other.now k)) }
+{
+    join_adp(sent, into, other, k);
+    join_fields(sent, into, other, k);
 }
 
 /// Joins another copy in, as far as every datagram of both may have come of the sent one, and says how many are joined.
@@ -158,10 +186,13 @@ pub fn join_frames(
 ) -> Result<FrameBuf, JoinFault>
     ensures own_a { OnOk result (IsOwn sent.now (copy_or a.entry sent.now)) }
     ensures own_b { OnOk result (IsOwn sent.now (copy_or b.entry sent.now)) }
-    ensures joined { IfOk result (λ frame. frame ≡ joined_frame sent.now (copy_or a.entry sent.now) (copy_or b.entry sent.now)) }
+    ensures joined { IfOk result (λ frame.
+        frame ≡ joined_frame sent.now (copy_or a.entry sent.now) (copy_or b.entry sent.now)) }
     ensures fault { IfErr result (IsFault sent.now (copy_or a.entry sent.now) (copy_or b.entry sent.now)) }
-    ensures only_joined { IsOwn sent.now (copy_or a.entry sent.now) → IsOwn sent.now (copy_or b.entry sent.now) → result ≡ Ok (joined_frame sent.now (copy_or a.entry sent.now) (copy_or b.entry sent.now)) }
-    ensures only_fault { (f : JoinFault) → IsFault sent.now (copy_or a.entry sent.now) (copy_or b.entry sent.now) f → result ≡ Err f }
+    ensures only_joined { IsOwn sent.now (copy_or a.entry sent.now) → IsOwn sent.now (copy_or b.entry sent.now)
+        → result ≡ Ok (joined_frame sent.now (copy_or a.entry sent.now) (copy_or b.entry sent.now)) }
+    ensures only_fault { (f : JoinFault) → IsFault sent.now (copy_or a.entry sent.now) (copy_or b.entry sent.now) f
+        → result ≡ Err f }
 {
     let a = a.unwrap_or(sent);
     let b = b.unwrap_or(sent);
@@ -182,7 +213,7 @@ pub fn frame_laws()
     ensures unit { (s a : List DatagramRecord) → All Fits s → All Fits a → IsOwn s a → joined_frame s a s ≡ a }
 {}
 
-/// A frame is no stranger or one with one first difference, and never both.
+/// A stranger has one first difference, and a frame that is no stranger has none.
 pub fn one_stranger()
     ensures one { (s c : List DatagramRecord) (j k : ℕ) → IsStranger s c j → IsStranger s c k → j ≡ k }
     ensures not_own { (s c : List DatagramRecord) (k : ℕ) → IsOwn s c → IsStranger s c k → ⊥ }

@@ -7,6 +7,7 @@ ghost use Rattle.ec_merge.specs.Rule.{distance, joined_count, joined_bits, joine
 /// A value that a redundant master sends twice, and of which two copies come back. The join takes what each copy
 /// has gained over the sent value.
 pub trait Merge {
+    /// What `join` gives, of the sent value and two copies.
     ghost joined: { Self → Self → Self → Self };
 
     /// Which values of the logic are values of the type.
@@ -20,10 +21,13 @@ pub trait Merge {
     fn known(&self)
         ensures { is_value self.now };
 
-    ghost symmetric: { (s a b : Self) → is_value s → is_value a → is_value b → joined s a b ≡ joined s b a };
+    /// The order of the copies does not matter.
+    ghost symmetric: { (s a b : Self) → joined s a b ≡ joined s b a };
 
-    ghost grouped: { (s a b c : Self) → is_value s → is_value a → is_value b → is_value c → joined s (joined s a b) c ≡ joined s a (joined s b c) };
+    /// Three copies may be joined from either side.
+    ghost grouped: { (s a b c : Self) → joined s (joined s a b) c ≡ joined s a (joined s b c) };
 
+    /// A copy that is as it was sent adds nothing.
     ghost unit: { (s a : Self) → is_value s → is_value a → joined s a s ≡ a };
 }
 
@@ -51,9 +55,9 @@ impl Merge for Counter {
 
     ghost is_value = { λ v. v.0 < 65536 };
 
-    ghost symmetric = { λ s a b _ _ _. ap (λ n. record { 0 = n }) (joined_count_symmetric s.0 a.0 b.0) };
+    ghost symmetric = { λ s a b. ap (λ n. record { 0 = n }) (joined_count_symmetric s.0 a.0 b.0) };
 
-    ghost grouped = { λ s a b c _ _ _ _. ap (λ n. record { 0 = n }) (joined_count_grouped s.0 a.0 b.0 c.0) };
+    ghost grouped = { λ s a b c. ap (λ n. record { 0 = n }) (joined_count_grouped s.0 a.0 b.0 c.0) };
 
     ghost unit = { λ s a hs ha. ap (λ n. record { 0 = n }) (joined_count_unit s.0 a.0 hs ha) };
 
@@ -74,9 +78,9 @@ impl Merge for Byte {
 
     ghost is_value = { λ v. v.0 < 256 };
 
-    ghost symmetric = { λ s a b _ _ _. ap (λ n. record { 0 = n }) (joined_bits_symmetric s.0 a.0 b.0) };
+    ghost symmetric = { λ s a b. ap (λ n. record { 0 = n }) (joined_bits_symmetric s.0 a.0 b.0) };
 
-    ghost grouped = { λ s a b c _ _ _ _. ap (λ n. record { 0 = n }) (joined_bits_grouped s.0 a.0 b.0 c.0) };
+    ghost grouped = { λ s a b c. ap (λ n. record { 0 = n }) (joined_bits_grouped s.0 a.0 b.0 c.0) };
 
     ghost unit = { λ s a _ _. ap (λ n. record { 0 = n }) (joined_bits_unit s.0 a.0) };
 
@@ -97,9 +101,9 @@ impl Merge for Irq {
 
     ghost is_value = { λ v. v.0 < 65536 };
 
-    ghost symmetric = { λ s a b _ _ _. ap (λ n. record { 0 = n }) (joined_bits_symmetric s.0 a.0 b.0) };
+    ghost symmetric = { λ s a b. ap (λ n. record { 0 = n }) (joined_bits_symmetric s.0 a.0 b.0) };
 
-    ghost grouped = { λ s a b c _ _ _ _. ap (λ n. record { 0 = n }) (joined_bits_grouped s.0 a.0 b.0 c.0) };
+    ghost grouped = { λ s a b c. ap (λ n. record { 0 = n }) (joined_bits_grouped s.0 a.0 b.0 c.0) };
 
     ghost unit = { λ s a _ _. ap (λ n. record { 0 = n }) (joined_bits_unit s.0 a.0) };
 
@@ -120,9 +124,9 @@ impl Merge for Flag {
 
     ghost is_value = { λ _. Unit {0} };
 
-    ghost symmetric = { λ s a b _ _ _. ap (λ n. record { 0 = n }) (joined_flag_symmetric s.0 a.0 b.0) };
+    ghost symmetric = { λ s a b. ap (λ n. record { 0 = n }) (joined_flag_symmetric s.0 a.0 b.0) };
 
-    ghost grouped = { λ s a b c _ _ _ _. ap (λ n. record { 0 = n }) (joined_flag_grouped s.0 a.0 b.0 c.0) };
+    ghost grouped = { λ s a b c. ap (λ n. record { 0 = n }) (joined_flag_grouped s.0 a.0 b.0 c.0) };
 
     ghost unit = { λ s a _ _. ap (λ n. record { 0 = n }) (joined_flag_unit s.0 a.0) };
 
@@ -136,9 +140,11 @@ impl Merge for Flag {
 /// What joined values are in plain words: a bit differs from the sent one exactly if it does in some copy, and a
 /// counter has moved from the sent one as far as in both copies together.
 pub fn value_rule()
-    ensures bits { (s a b i : ℕ) → IsJoinedBit (bit_at s i) (bit_at a i) (bit_at b i) (bit_at (joined_bits s a b) i) }
+    ensures bits { (s a b i : ℕ)
+        → IsJoinedBit (bit_at s i) (bit_at a i) (bit_at b i) (bit_at (joined_bits s a b) i) }
     ensures flag { (s a b : Bool) → IsJoinedBit s a b (joined_flag s a b) }
-    ensures counter { (s a b : ℕ) → s < 65536 → distance s (joined_count s a b) ≡ (distance s a + distance s b) % 65536 }
+    ensures counter { (s a b : ℕ) → s < 65536
+        → distance s (joined_count s a b) ≡ (distance s a + distance s b) % 65536 }
     ensures one_counter { (s x y : ℕ) → s < 65536 → x < 65536 → y < 65536 → distance s x ≡ distance s y → x ≡ y }
 {}
 
@@ -150,9 +156,6 @@ mod tests {
     fn either_way<M: Merge + Copy>(sent: M, a: M, b: M) -> (M, M)
         ensures { result.0 ≡ result.1 }
     {
-        sent.known();
-        a.known();
-        b.known();
         (M::join(sent, a, b), M::join(sent, b, a))
     }
 
@@ -160,10 +163,6 @@ mod tests {
     fn in_either_group<M: Merge + Copy>(sent: M, a: M, b: M, c: M) -> (M, M)
         ensures { result.0 ≡ result.1 }
     {
-        sent.known();
-        a.known();
-        b.known();
-        c.known();
         let left = M::join(sent, M::join(sent, a, b), c);
         let right = M::join(sent, a, M::join(sent, b, c));
         (left, right)

@@ -1,38 +1,29 @@
-use Rattle.std.proofs.Common.{◌≡◌, ◌+◌, ◌*◌, ◌/◌, ◌%◌, ◌∙◌, sym, ap, refl, set}
-use Rattle.ec_wire.specs.Datagram.{DatagramRecord, nth}
-use Rattle.ec_merge.specs.Rule.{joined_flag, joined_bits, joined_count}
-use Rattle.ec_merge.specs.Frames.{counts_adp}
-use Rattle.ec_merge.proofs.FrameLemmas.{Shares-from_belongs, joined_over, joined_address-counted, joined_address-other, set_again, fields_joined}
+use Rattle.std.proofs.Common.{◌∙◌, List, length, ap, set}
+use Rattle.std.proofs.lemmas.List.{get_or-set_same}
+use Rattle.ec_wire.specs.Datagram.{DatagramRecord, nth, blank}
+use Rattle.ec_merge.specs.Frames.{with_joined_address, with_joined_fields}
+use Rattle.ec_merge.proofs.FrameLemmas.{Shares-from_belongs, joined_fields_over, set_again}
 use Rattle.ec_merge.proofs.frames.join_datagram.Goals as goal
 
-pub returns-then-counts_adp : goal.returns-then-counts_adp
-returns-then-counts_adp c =
-    let rs = c.args.into.now in
-    let k = c.args.k in
-    let s : DatagramRecord = nth c.args.sent.now k in
-    let a : DatagramRecord = nth rs k in
-    let b : DatagramRecord = nth c.args.other.now k in
-    let shared = Shares-from_belongs s a c.requires.into_belongs in
-    let flag : c.join-circulating.result.0 ≡ joined_flag s.circulating a.circulating b.circulating = ap (λ x. x.0) c.join-circulating.ensures ∙ rw (c.circulating.ensures, c.circulating-2.ensures, c.circulating-3.ensures) refl in
-    let irq : c.join-irq.result.0 ≡ joined_bits s.irq a.irq b.irq = ap (λ x. x.0) c.join-irq.ensures ∙ rw (c.irq.ensures, c.irq-2.ensures, c.irq-3.ensures) refl in
-    let count : c.join-counter.result.0 ≡ joined_count s.counter a.counter b.counter = ap (λ x. x.0) c.join-counter.ensures ∙ rw (c.counter.ensures, c.counter-2.ensures, c.counter-3.ensures) refl in
-    let fields = fields_joined rs _ _ _ _ k s b _ _ _ c.requires.into flag irq count c.join_data.ensures c.set_circulating.ensures c.set_irq.ensures c.set_counter.ensures in
-    let known : counts_adp s.command ≡ c.counts_adp.result = ap counts_adp (sym c.command.ensures) ∙ sym c.counts_adp.ensures in
-    let place : c.join-place.result.0 ≡ joined_count (s.address % 65536) (a.address % 65536) (b.address % 65536) = ap (λ x. x.0) c.join-place.ensures ∙ rw (c.adp.ensures, c.adp-2.ensures, c.adp-3.ensures) refl in
-    set_again (λ r. record r { address = c.join-place.result.0 + 65536 * (r.address / 65536) }) rs _ _ k _ c.requires.into fields c.set_adp.ensures
-    ∙ ap (λ (r : DatagramRecord). set rs k r) (joined_over s a b _ shared (joined_address-counted s a b _ shared (known ∙ c.if-counts_adp.true) place))
+pub join_fields-requires-clause-into_size : goal.join_fields-requires-clause-into_size
+join_fields-requires-clause-into_size c =
+    let s = nth c.args.sent.now c.args.k in
+    let a = nth c.args.into.now c.args.k in
+    let b = nth c.args.other.now c.args.k in
+    ap (λ (f : List DatagramRecord). length (nth f c.args.k).payload) c.join_adp.ensures
+    ∙ ap (λ (r : DatagramRecord). length r.payload) (get_or-set_same c.args.into.now c.args.k (with_joined_address s a b) blank c.requires.into)
+    ∙ (Shares-from_belongs s a c.requires.into_belongs).size
 
-pub returns-else-counts_adp : goal.returns-else-counts_adp
-returns-else-counts_adp c =
+pub join_fields-requires-clause-other_size : goal.join_fields-requires-clause-other_size
+join_fields-requires-clause-other_size c =
+    (Shares-from_belongs (nth c.args.sent.now c.args.k) (nth c.args.other.now c.args.k) c.requires.other_belongs).size
+
+pub returns : goal.returns
+returns c =
     let rs = c.args.into.now in
     let k = c.args.k in
-    let s : DatagramRecord = nth c.args.sent.now k in
-    let a : DatagramRecord = nth rs k in
-    let b : DatagramRecord = nth c.args.other.now k in
-    let shared = Shares-from_belongs s a c.requires.into_belongs in
-    let flag : c.join-circulating.result.0 ≡ joined_flag s.circulating a.circulating b.circulating = ap (λ x. x.0) c.join-circulating.ensures ∙ rw (c.circulating.ensures, c.circulating-2.ensures, c.circulating-3.ensures) refl in
-    let irq : c.join-irq.result.0 ≡ joined_bits s.irq a.irq b.irq = ap (λ x. x.0) c.join-irq.ensures ∙ rw (c.irq.ensures, c.irq-2.ensures, c.irq-3.ensures) refl in
-    let count : c.join-counter.result.0 ≡ joined_count s.counter a.counter b.counter = ap (λ x. x.0) c.join-counter.ensures ∙ rw (c.counter.ensures, c.counter-2.ensures, c.counter-3.ensures) refl in
-    let fields = fields_joined rs _ _ _ _ k s b _ _ _ c.requires.into flag irq count c.join_data.ensures c.set_circulating.ensures c.set_irq.ensures c.set_counter.ensures in
-    let known : counts_adp s.command ≡ c.counts_adp.result = ap counts_adp (sym c.command.ensures) ∙ sym c.counts_adp.ensures in
-    fields ∙ ap (λ (r : DatagramRecord). set rs k r) (joined_over s a b _ shared (joined_address-other s a b shared (known ∙ c.if-counts_adp.false)))
+    let s = nth c.args.sent.now k in
+    let a = nth rs k in
+    let b = nth c.args.other.now k in
+    set_again (λ r. with_joined_fields s r b) rs _ _ k (with_joined_address s a b) c.requires.into c.join_adp.ensures c.join_fields.ensures
+    ∙ ap (λ (r : DatagramRecord). set rs k r) (joined_fields_over s a b (Shares-from_belongs s a c.requires.into_belongs))
