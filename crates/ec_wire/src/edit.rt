@@ -3,7 +3,7 @@ ghost use Rattle.std.specs.Borrow.{sem};
 ghost use Rattle.ec_wire.specs.Datagram.{nth};
 ghost use Rattle.ec_wire.specs.Lending.{LendsData};
 
-use crate::frame::{FrameBuf, HEAD};
+use crate::frame::{ADDRESS, FrameBuf, HEAD, IRQ, LENGTH};
 use crate::write::length_field;
 
 impl FrameBuf {
@@ -33,7 +33,7 @@ impl FrameBuf {
         requires { k < length self.old }
         ensures { self.new ≡ slice_set self.old k (record (nth self.old k) { address = adp + 65536 * ((nth self.old k).address / 65536) }) }
     {
-        let at = self.start(k) + 2;
+        let at = self.start(k) + ADDRESS;
         self.cells.put(at, &adp.to_le_bytes());
     }
 
@@ -42,7 +42,7 @@ impl FrameBuf {
         requires { k < length self.old }
         ensures { self.new ≡ slice_set self.old k (record (nth self.old k) { irq = irq }) }
     {
-        let at = self.start(k) + 8;
+        let at = self.start(k) + IRQ;
         self.cells.put(at, &irq.to_le_bytes());
     }
 
@@ -51,7 +51,7 @@ impl FrameBuf {
         requires { k < length self.old }
         ensures { self.new ≡ slice_set self.old k (record (nth self.old k) { circulating = circulating }) }
     {
-        let at = self.start(k) + 6;
+        let at = self.start(k) + LENGTH;
         let field = length_field(self.data_len(k), circulating, k + 1 < self.count());
         self.cells.put(at, &field.to_le_bytes());
     }

@@ -1,11 +1,11 @@
 ghost use Rattle.std.specs.Prelude.{◌≡◌, ℕ, ◌+◌, ◌*◌, ◌%◌, ◌/◌, ◌<◌, ◌≤◌, List, length, take, slice_set, slice_index_or};
 ghost use Rattle.ec_wire.specs.Datagram.{nth, record_of};
-ghost use Rattle.ec_wire.specs.Spelling.{spelling};
+ghost use Rattle.ec_wire.specs.Spelling.{spelling, IsFrameValue};
 ghost use Rattle.ec_wire.specs.Frame.{start_of};
 
 use crate::cells::Cells;
 use crate::command::Command;
-use crate::datagram::Datagram;
+use crate::datagram::{Datagram, MAX_DATA};
 use arrayvec::ArrayVec;
 use std::marker::Model;
 
@@ -15,8 +15,29 @@ pub const MAX_FRAME: usize = 1500;
 /// The most datagrams of a frame: each takes at least twelve bytes.
 pub const MAX_DATAGRAMS: usize = 124;
 
+/// Where the fields of a datagram begin, in bytes from its command.
+const INDEX: usize = 1;
+
+pub(crate) const ADDRESS: usize = 2;
+
+pub(crate) const LENGTH: usize = 6;
+
+pub(crate) const IRQ: usize = 8;
+
 /// The bytes of a datagram before its data.
 pub(crate) const HEAD: usize = 10;
+
+/// What a datagram takes beside its data: its head, and two bytes of the working counter.
+pub(crate) const OVERHEAD: usize = HEAD + 2;
+
+/// The length field: the data length is what is below this,
+pub(crate) const LENGTHS: u16 = 1 << 11;
+
+/// then come three reserved bits, the circulating bit
+pub(crate) const CIRCULATING: u16 = 1 << 14;
+
+/// and the more bit.
+pub(crate) const MORE: u16 = 1 << 15;
 
 /// A frame in place: at least one datagram, at most 1,500 bytes, always spelt as IEC 61158-4-12
 /// says. Contracts see it as the list of its datagrams' records.
@@ -41,9 +62,10 @@ impl Model for FrameBuf {
 }
 
 impl FrameBuf {
-    /// The number of datagrams, 1 to 124.
+    /// The number of datagrams, 1 to 124. (Its clause `value` is what a proof knows of every frame.)
     pub fn count(&self) -> usize
-        ensures { result ≡ length self.now }
+        ensures count { result ≡ length self.now }
+        ensures value { IsFrameValue self.now }
     {
         self.starts.len()
     }
@@ -70,8 +92,8 @@ impl FrameBuf {
         requires { k < length self.now }
         ensures { result ≡ length (nth self.now k).payload }
     {
-        let at = self.start(k) + 6;
-        usize::from(self.cells.word(at) % 2048)
+        let at = self.start(k) + LENGTH;
+        usize::from(self.cells.word(at) % LENGTHS)
     }
 
     /// The command of the datagram at `k`.
@@ -88,7 +110,7 @@ impl FrameBuf {
         requires { k < length self.now }
         ensures { result ≡ (nth self.now k).index }
     {
-        let at = self.start(k) + 1;
+        let at = self.start(k) + INDEX;
         self.cells.as_slice()[at]
     }
 
@@ -97,7 +119,7 @@ impl FrameBuf {
         requires { k < length self.now }
         ensures { result ≡ (nth self.now k).address }
     {
-        let at = self.start(k) + 2;
+        let at = self.start(k) + ADDRESS;
         self.cells.double_word(at)
     }
 
@@ -106,8 +128,8 @@ impl FrameBuf {
         requires { k < length self.now }
         ensures { result ≡ (nth self.now k).circulating }
     {
-        let at = self.start(k) + 6;
-        self.cells.word(at) / 16384 % 2 == 1
+        let at = self.start(k) + LENGTH;
+        self.cells.word(at) / CIRCULATING % 2 == 1
     }
 
     /// The event requests of the datagram at `k`.
@@ -115,14 +137,15 @@ impl FrameBuf {
         requires { k < length self.now }
         ensures { result ≡ (nth self.now k).irq }
     {
-        let at = self.start(k) + 8;
+        let at = self.start(k) + IRQ;
         self.cells.word(at)
     }
 
-    /// The data of the datagram at `k`.
+    /// The data of the datagram at `k`, at most 1,486 bytes.
     pub fn data(&self, k: usize) -> &[u8]
         requires { k < length self.now }
-        ensures { result.now ≡ (nth self.now k).payload }
+        ensures value { result.now ≡ (nth self.now k).payload }
+        ensures room { length result.now ≤ MAX_DATA }
     {
         let at = self.start(k) + HEAD;
         &self.cells.as_slice()[at..at + self.data_len(k)]

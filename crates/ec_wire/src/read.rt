@@ -8,7 +8,7 @@ ghost use Rattle.ec_wire.specs.Fault.{header_fault, frame_end, datagram_fault, F
 
 use crate::cells::Cells;
 use crate::fault::{FaultKind, Form, WireFault};
-use crate::frame::{FrameBuf, MAX_DATAGRAMS};
+use crate::frame::{FrameBuf, LENGTH, LENGTHS, MAX_DATAGRAMS, MORE, OVERHEAD};
 use arrayvec::ArrayVec;
 use byteorder::{ByteOrder, LittleEndian};
 
@@ -63,26 +63,26 @@ fn datagram_ahead(rest: &[u8], at: usize) -> Result<Ahead, WireFault>
     ensures fault { IfErr result (λ f. datagram_fault at rest.now ≡ Some f) }
 {
     let fault = |kind, at| Err(WireFault { at, kind });
-    if rest.len() < 12 {
+    if rest.len() < OVERHEAD {
         return fault(FaultKind::LeftOver, at);
     }
     if rest[0] > 14 {
         return fault(FaultKind::BadCommand, at);
     }
-    let field = LittleEndian::read_u16(&rest[6..]);
-    let length = usize::from(field % 2048);
-    let more = field / 32768 == 1;
-    if field / 2048 % 8 != 0 {
-        return fault(FaultKind::Reserved, at + 7);
+    let field = LittleEndian::read_u16(&rest[LENGTH..]);
+    let length = usize::from(field % LENGTHS);
+    let more = field / MORE == 1;
+    if field / LENGTHS % 8 != 0 {
+        return fault(FaultKind::Reserved, at + LENGTH + 1);
     }
-    if rest.len() < 12 + length {
-        return fault(FaultKind::Overrun, at + 6);
+    if rest.len() < OVERHEAD + length {
+        return fault(FaultKind::Overrun, at + LENGTH);
     }
-    if more && 12 + length == rest.len() {
-        return fault(FaultKind::MoreAtEnd, at + 7);
+    if more && OVERHEAD + length == rest.len() {
+        return fault(FaultKind::MoreAtEnd, at + LENGTH + 1);
     }
-    if !more && 12 + length < rest.len() {
-        return fault(FaultKind::LeftOver, at + 12 + length);
+    if !more && OVERHEAD + length < rest.len() {
+        return fault(FaultKind::LeftOver, at + OVERHEAD + length);
     }
     Ok(Ahead { length, more })
 }
@@ -102,7 +102,7 @@ fn datagram_starts(frame: &[u8]) -> Result<ArrayVec<u16, MAX_DATAGRAMS>, WireFau
         if !ahead.more {
             return Ok(starts);
         }
-        at += 12 + ahead.length;
+        at += OVERHEAD + ahead.length;
     }
 }
 

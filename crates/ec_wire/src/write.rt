@@ -4,7 +4,7 @@ ghost use Rattle.ec_wire.specs.Spelling.{datagram, bit_of, body_length};
 
 use crate::cells::Cells;
 use crate::datagram::Datagram;
-use crate::frame::{FrameBuf, HEAD, MAX_FRAME};
+use crate::frame::{ADDRESS, CIRCULATING, FrameBuf, HEAD, IRQ, LENGTH, MAX_FRAME, MORE};
 use arrayvec::ArrayVec;
 
 /// The frame has no room for one more datagram.
@@ -16,15 +16,18 @@ pub(crate) fn length_field(length: usize, circulating: bool, more: bool) -> u16
     requires { length < 2048 }
     ensures { result ≡ length + 16384 * bit_of circulating + 32768 * bit_of more }
 {
-    length as u16 + 16384 * u16::from(circulating) + 32768 * u16::from(more)
+    length as u16 + CIRCULATING * u16::from(circulating) + MORE * u16::from(more)
 }
+
+/// Type 1, EtherCAT commands, in the frame's header.
+const TYPE_1: u16 = 1 << 12;
 
 /// The frame's header: the length of all datagrams, and type 1.
 fn header_field(length: usize) -> u16
     requires { length < 2048 }
     ensures { result ≡ length + 4096 }
 {
-    length as u16 + 4096
+    length as u16 + TYPE_1
 }
 
 /// Writes a datagram's bytes from `at` on; `more` says that another one follows it.
@@ -35,9 +38,9 @@ fn write_datagram(cells: &mut Cells<MAX_FRAME>, at: usize, written: &Datagram, m
     let length = written.payload.len();
     let field = length_field(length, written.circulating, more);
     cells.put(at, &[written.command.code(), written.index]);
-    cells.put(at + 2, &written.address.to_le_bytes());
-    cells.put(at + 6, &field.to_le_bytes());
-    cells.put(at + 8, &written.irq.to_le_bytes());
+    cells.put(at + ADDRESS, &written.address.to_le_bytes());
+    cells.put(at + LENGTH, &field.to_le_bytes());
+    cells.put(at + IRQ, &written.irq.to_le_bytes());
     cells.put(at + HEAD, written.payload.as_slice());
     cells.put(at + HEAD + length, &written.counter.to_le_bytes());
 }
@@ -72,7 +75,7 @@ impl FrameBuf {
             return Err(Full);
         }
         let last = self.count() - 1;
-        let field_at = self.start(last) + 6;
+        let field_at = self.start(last) + LENGTH;
         let field = length_field(self.data_len(last), self.circulating(last), true);
         self.cells.put(field_at, &field.to_le_bytes());
         write_datagram(&mut self.cells, at, datagram, false);

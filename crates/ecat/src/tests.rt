@@ -20,7 +20,8 @@ fn written(cursor: &Cursor<[u8; ROOM]>) -> &[u8] {
     &cursor.get_ref()[..count]
 }
 
-/// Does a command over a source, and asserts what it prints and answers, or that memory ran out.
+/// Does a command over a source, and asserts what it prints and answers, or that memory ran out, which a scene's
+/// run meets before it prints anything.
 fn answers<S: Source>(
     rt: &(impl AllocGlobal + Abort),
     args: &Args<'_>,
@@ -35,6 +36,7 @@ fn answers<S: Source>(
     let failed = written(&complained);
     if failed == b"scene: NoMemory\n".as_slice() || failed == b"capture: NoMemory\n".as_slice() {
         assert_eq!(rt; answer, 3);
+        assert!(rt; !matches!(args, Args::Run { .. }) || written(&printed).is_empty());
         return;
     }
     assert_eq!(rt; written(&printed), out);

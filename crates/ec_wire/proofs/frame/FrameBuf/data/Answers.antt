@@ -4,8 +4,8 @@ use Rattle.ec_wire.specs.Frame.{start_of}
 use Rattle.ec_wire.proofs.FrameLemmas.{Keeps-view, data-part}
 use Rattle.ec_wire.proofs.frame.FrameBuf.data.Goals as goal
 
-pub returns : goal.returns
-returns c =
+pub returns-clause-value : goal.returns-clause-value
+returns-clause-value c =
     let kept = Keeps-view c.self.invariant c.self.view_is in
     let place : c.start-at.result + 10 ≡ start_of c.args.self.now c.args.k + 10 = cc in
     let till : c.start-at.result + 10 + c.data_len.result ≡ c.start-at.result + 10 + length (nth c.args.self.now c.args.k).payload = cc in

@@ -17,7 +17,7 @@ kept_new c =
     let size = c.self.inside.size in
     let k = c.count-last.result - 1 in
     let long : c.wire_length.result ≡ datagram_length r = c.wire_length.ensures.value in
-    let last : k + 1 ≡ length rs = omega (arith, c.count-last.ensures, some-kept _ _ _ _ kept) in
+    let last : k + 1 ≡ length rs = omega (arith, c.count-last.ensures.count, some-kept _ _ _ _ kept) in
     let room : size + datagram_length r ≤ 1500 = omega (arith, c.if-end-gt-MAX_FRAME.false) in
     let place : c.start-field_at.result + 6 ≡ start_of rs k + 6 = ap (λ n. n + 6) c.start-field_at.ensures.value in
     let word : c.to_le_bytes.result ≡ to_le_bytes w16 (length_word true (nth rs k)) = c.to_le_bytes.ensures ∙ ap (to_le_bytes w16) (let field : c.length_field-field.result ≡ length_word true (nth rs k) = cc in field) in
