@@ -1,3 +1,4 @@
 pub mod BitLemmas
 pub mod RecordLemmas
 pub mod PairLemmas
+pub mod AlLemmas

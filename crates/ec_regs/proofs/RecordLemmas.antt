@@ -99,6 +99,15 @@ flag_test n k =
     (⊎_elim (λ (clear : bit_at n k ≡ 0). rw clear (grind (arith, nat_tests))) (λ (one : bit_at n k ≡ 1). rw one (grind (arith, nat_tests, pow_pos k)))
     (zero_or_one (bit_at n k) (bit_at-lt n k)))
 
+-- and so does the test for the flag of bit k, `n & (1 << k) == 1 << k`
+pub has_flag : (n k : ℕ) → eqb (bit_and n (2 ^ k)) (2 ^ k) ≡ eqb (bit_at n k) 1
+has_flag n k =
+    rw (and_pow n k)
+    (⊎_elim
+    (λ (clear : bit_at n k ≡ 0). rw clear (grind (arith, nat_tests, pow_pos k)))
+    (λ (one : bit_at n k ≡ 1). rw one (grind (arith, nat_tests)))
+    (zero_or_one (bit_at n k) (bit_at-lt n k)))
+
 -- the record that a record's bytes spell is that record, where its fields fit their types
 pub fmmu_of-fmmu_bytes : (f : Fmmu) → f.logical < 2 ^ 32 → f.length < 2 ^ 16 → f.physical < 2 ^ 16 → length f.reserved ≡ 3
     → fmmu_of (fmmu_bytes f) ≡ f

@@ -2,3 +2,4 @@ pub mod Bits
 pub mod Fmmu
 pub mod SyncMan
 pub mod Pairs
+pub mod Al

@@ -1,15 +1,45 @@
 //! The record of a fieldbus memory management unit (FMMU), which maps a run of logical bits onto physical
 //! ones (IEC 61158-4-12, FMMU entity).
 
-ghost use Rattle.std.specs.Prelude.{◌≡◌, ◌↔◌, ◌^◌, ◌<◌, ℕ};
+ghost use Rattle.std.specs.Prelude.{⊤, ◌≡◌, ◌↔◌, ◌^◌, ◌<◌, ℕ, [], ◌∷◌, codes};
 
+use bitflags::{Flag, Flags, bitflag_items};
 use byteorder::{ByteOrder, LittleEndian};
 
-/// Bit 0 of the type byte: the master reads through this FMMU.
-pub const READS: u8 = 0x01;
+/// The type byte of an FMMU: what the master does through it (IEC 61158-4-12, FMMU entity).
+#[derive(Clone, Copy, PartialEq, Eq, Debug)]
+pub struct FmmuType(u8);
 
-/// Bit 1 of the type byte: the master writes through this FMMU.
-pub const WRITES: u8 = 0x02;
+bitflag_items! {
+    impl FmmuType: u8 {
+        /// The master reads through the FMMU.
+        const READ = 0x01;
+        /// The master writes through the FMMU.
+        const WRITE = 0x02;
+    }
+}
+
+impl Flags for FmmuType {
+    type Bits = u8;
+
+    ghost exact = { ⊤ };
+
+    ghost table = { (codes "READ", 0x01) ∷ (codes "WRITE", 0x02) ∷ [] };
+
+    ghost set_of = { λ flags. flags.0 };
+
+    fn flags<'a>() -> &'a [Flag<FmmuType>] {
+        FmmuType::FLAGS
+    }
+
+    fn bits(&self) -> u8 {
+        self.0
+    }
+
+    fn from_bits_retain(bits: u8) -> FmmuType {
+        FmmuType(bits)
+    }
+}
 
 /// Bit 0 of the activate byte: the FMMU maps.
 pub const ACTIVE: u8 = 0x01;
@@ -51,7 +81,7 @@ pub struct Fmmu {
     pub physical: u16,
     /// The bit of the first physical byte that the first mapped bit stands for, 0 to 7 where the FMMU maps.
     pub bit: u8,
-    /// The type: bit 0 (`READS`) and bit 1 (`WRITES`).
+    /// The type, the bits of an `FmmuType`.
     pub kind: u8,
     /// Bit 0 (`ACTIVE`) tells whether the FMMU maps.
     pub activate: u8,
@@ -122,14 +152,14 @@ impl Fmmu {
     pub fn reads(&self) -> bool
         ensures { result ≡ reads self.now }
     {
-        self.kind & READS != 0
+        FmmuType::from_bits_retain(self.kind).contains(FmmuType::READ)
     }
 
     /// Does the master write through this FMMU?
     pub fn writes(&self) -> bool
         ensures { result ≡ writes self.now }
     {
-        self.kind & WRITES != 0
+        FmmuType::from_bits_retain(self.kind).contains(FmmuType::WRITE)
     }
 
     /// The number of the first logical bit, 8 * byte + bit; below 2^36.
@@ -215,6 +245,12 @@ mod tests {
         activate: 1,
         reserved: [0; 3],
     };
+
+    #[test]
+    fn flags_are_the_bits_of_the_standard(rt: HostRuntime) {
+        assert_eq!(rt; FmmuType::READ.bits(), 0x01);
+        assert_eq!(rt; FmmuType::WRITE.bits(), 0x02);
+    }
 
     #[test]
     fn record_is_spelt_field_by_field(rt: HostRuntime) {

@@ -1,8 +1,45 @@
 //! The record of a sync manager, which guards one area of process memory (IEC 61158-4-12, sync manager entity).
 
-ghost use Rattle.std.specs.Prelude.{◌≡◌};
+ghost use Rattle.std.specs.Prelude.{⊤, ◌≡◌, [], ◌∷◌, codes};
 
+use bitflags::{Flag, Flags, bitflag_items};
 use byteorder::{ByteOrder, LittleEndian};
+
+/// The control byte of a sync manager: the kind and the direction of its area (IEC 61158-4-12, sync manager
+/// entity). With neither flag the area is buffered, and the master reads it.
+#[derive(Clone, Copy, PartialEq, Eq, Debug)]
+pub struct SyncManControl(u8);
+
+bitflag_items! {
+    impl SyncManControl: u8 {
+        /// The area is a mailbox.
+        const MAILBOX = 0x02;
+        /// The master writes the area.
+        const WRITE = 0x04;
+    }
+}
+
+impl Flags for SyncManControl {
+    type Bits = u8;
+
+    ghost exact = { ⊤ };
+
+    ghost table = { (codes "MAILBOX", 0x02) ∷ (codes "WRITE", 0x04) ∷ [] };
+
+    ghost set_of = { λ flags. flags.0 };
+
+    fn flags<'a>() -> &'a [Flag<SyncManControl>] {
+        SyncManControl::FLAGS
+    }
+
+    fn bits(&self) -> u8 {
+        self.0
+    }
+
+    fn from_bits_retain(bits: u8) -> SyncManControl {
+        SyncManControl(bits)
+    }
+}
 
 // Where the fields stand in the record, in bytes.
 const START_AT: usize = 0;
@@ -24,7 +61,8 @@ pub struct SyncMan {
     pub start: u16,
     /// The length of the area, in bytes.
     pub length: u16,
-    /// Bits 0 and 1: 00 buffered, 10 mailbox. Bits 2 and 3: 00 the master reads, 01 the master writes.
+    /// Bits 0 and 1: 00 buffered, 10 mailbox. Bits 2 and 3: 00 the master reads, 01 the master writes. The two
+    /// bits that tell these apart are those of a `SyncManControl`.
     pub control: u8,
     /// Bit 3: the mailbox is full.
     pub status: u8,
@@ -72,6 +110,12 @@ impl SyncMan {
 #[cfg(test)]
 mod tests {
     use super::*;
+
+    #[test]
+    fn flags_are_the_bits_of_the_standard(rt: HostRuntime) {
+        assert_eq!(rt; SyncManControl::MAILBOX.bits(), 0x02);
+        assert_eq!(rt; SyncManControl::WRITE.bits(), 0x04);
+    }
 
     #[test]
     fn record_is_spelt_field_by_field(rt: HostRuntime) {
