@@ -5,7 +5,8 @@ use Rattle.ec_regs.specs.declared.fmmu.Fmmu.{Fmmu}
 use Rattle.ec_regs.specs.declared.sync_man.SyncMan.{SyncMan}
 use Rattle.ec_esc.specs.Areas.{is_active, guards, hides, locks, is_readable, is_writable}
 use Rattle.ec_esc.specs.Logical.{read_place, write_place, write_target, read_map, write_map, target_map, read_places, target_places, names}
-use Rattle.ec_esc.specs.Pass.{shown_after}
+use Rattle.ec_esc.specs.Ranges.{meets, emptied_by, filled_by, gives_mail, takes_mail, takes_writes, some_address, serves_physical_read, serves_physical_write}
+use Rattle.ec_esc.specs.Writing.{shown_after, is_shown_anew}
 
 -- a buffered area with this control byte
 abbrev area : ℕ → ℕ → ℕ → SyncMan
@@ -93,10 +94,75 @@ later_writer_out_of_range = refl
 abbrev memory : List ℕ
 memory = replicate 4096 0 ++ 170 ∷ 187 ∷ []
 
-first_byte_shows_nothing : shown_after (area 4096 2 4 ∷ []) (λ address. eqb address 4096) memory (0 ∷ 0 ∷ []) ≡ 0 ∷ 0 ∷ []
-unfolding shown_after is_active
+abbrev outputs : List SyncMan
+outputs = area 4096 2 4 ∷ []
+
+first_byte_shows_nothing : shown_after (λ address. eqb address 4096) outputs outputs memory (0 ∷ 0 ∷ []) ≡ 0 ∷ 0 ∷ []
+unfolding shown_after is_shown_anew guards is_active
 first_byte_shows_nothing = refl
 
-last_byte_shows_all : shown_after (area 4096 2 4 ∷ []) (λ address. eqb address 4097) memory (0 ∷ 0 ∷ []) ≡ 170 ∷ 187 ∷ []
-unfolding shown_after is_active
+last_byte_shows_all : shown_after (λ address. eqb address 4097) outputs outputs memory (0 ∷ 0 ∷ []) ≡ 170 ∷ 187 ∷ []
+unfolding shown_after is_shown_anew guards is_active
 last_byte_shows_all = refl
+
+-- an area that a write makes active is shown, whatever was written
+abbrev switched_off : List SyncMan
+switched_off = record (area 4096 2 4) { activate = 0 } ∷ []
+
+new_area_is_shown : shown_after (λ address. false) switched_off outputs memory (0 ∷ 0 ∷ []) ≡ 170 ∷ 187 ∷ []
+unfolding shown_after is_shown_anew guards is_active
+new_area_is_shown = refl
+
+-- a mailbox of 16 bytes at 0x1800 that the master writes, and one at 0x1880 that it reads, empty and full
+abbrev mailboxes : ℕ → List SyncMan
+mailboxes status = record (area 6144 16 6) { status = status } ∷ record (area 6272 16 2) { status = status } ∷ []
+
+a_part_fills_nothing : serves_physical_write [] (mailboxes 0) 6144 15 ≡ false
+unfolding filled_by takes_mail meets is_active some_address
+a_part_fills_nothing = refl
+
+the_whole_fills_it : filled_by (mailboxes 0) 6144 16 ≡ Some 0
+unfolding filled_by takes_mail meets is_active
+the_whole_fills_it = refl
+
+a_full_one_takes_nothing : serves_physical_write [] (mailboxes 8) 6144 16 ≡ false
+unfolding filled_by takes_mail meets is_active some_address
+a_full_one_takes_nothing = refl
+
+an_empty_one_gives_nothing : serves_physical_read (mailboxes 0) 6272 16 ≡ false
+unfolding emptied_by gives_mail meets is_active
+an_empty_one_gives_nothing = refl
+
+a_full_one_is_emptied : emptied_by (mailboxes 8) 6272 16 ≡ Some 1
+unfolding emptied_by gives_mail meets is_active
+a_full_one_is_emptied = refl
+
+-- AL status is read and not written; of four bytes from 0x0011 on the first is written
+al_status_is_read : serves_physical_read [] 304 2 ≡ true
+unfolding emptied_by
+al_status_is_read = refl
+
+al_status_is_not_written : serves_physical_write [] [] 304 2 ≡ false
+unfolding filled_by takes_writes some_address
+al_status_is_not_written = refl
+
+one_byte_of_four_is_written : serves_physical_write [] [] 17 4 ≡ true
+unfolding filled_by takes_writes some_address
+one_byte_of_four_is_written = refl
+
+and_it_is_the_first : takes_writes [] 17 ≡ true
+unfolding takes_writes
+and_it_is_the_first = refl
+
+and_no_other : takes_writes [] 18 ≡ false
+unfolding takes_writes
+and_no_other = refl
+
+-- the range ends with the memory
+the_last_byte_is_read : serves_physical_read [] 12287 1 ≡ true
+unfolding emptied_by
+the_last_byte_is_read = refl
+
+past_the_memory_nothing_is_read : serves_physical_read [] 12287 2 ≡ false
+unfolding emptied_by
+past_the_memory_nothing_is_read = refl

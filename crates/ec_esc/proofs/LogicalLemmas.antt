@@ -18,7 +18,7 @@ use Rattle.ec_esc.specs.Logical.{IsReadablePair, IsReadable, place_if, read_plac
 -- ---- one FMMU: the set and the partial function
 
 -- a place that was kept is a place that passes
-place_if-some : (test : ℕ → Bool) (o : Option ℕ) (p : ℕ) → place_if test o ≡ Some p → (o ≡ Some p) × (test p ≡ true)
+pub place_if-some : (test : ℕ → Bool) (o : Option ℕ) (p : ℕ) → place_if test o ≡ Some p → (o ≡ Some p) × (test p ≡ true)
 place_if-some test None p e = absurd (cc)
 place_if-some test (Some x) p e =
     ⊎_elim
@@ -30,12 +30,12 @@ place_if-some test (Some x) p e =
     (cases_Bool (test x))
 
 -- what is there under a condition shows the condition
-if_some : (b : Bool) (o : Option ℕ) (p : ℕ) → cond b o None ≡ Some p → (b ≡ true) × (o ≡ Some p)
+pub if_some : (b : Bool) (o : Option ℕ) (p : ℕ) → cond b o None ≡ Some p → (b ≡ true) × (o ≡ Some p)
 if_some true o p e = (refl, e)
 if_some false o p e = absurd (cc)
 
 -- both parts of a conjunction
-both : (a b : Bool) → (a && b) ≡ true → (a ≡ true) × (b ≡ true)
+pub both : (a b : Bool) → (a && b) ≡ true → (a ≡ true) × (b ≡ true)
 both true b e = (refl, e)
 both false b e = absurd (cc)
 

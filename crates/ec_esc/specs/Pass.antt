@@ -1,15 +1,16 @@
 -- The pass of a frame through a controller: each datagram in turn reads and writes what its command says, and the
--- next one finds the memory as it was left (IEC 61158-4-12, processing of datagrams and the FMMU).
-use Rattle.std.specs.Prelude.{ℕ, ◌+◌, ◌-◌, ◌*◌, ◌%◌, Bool, true, false, ◌&&◌, if◌then◌else◌, Option, List, [], ◌∷◌, length}
-use Rattle.ec_regs.specs.Bits.{with_bits}
-use Rattle.ec_regs.specs.declared.sync_man.SyncMan.{SyncMan}
+-- next one finds the memory as it was left (IEC 61158-4-12, processing of datagrams, physical access and the FMMU).
+use Rattle.std.specs.Prelude.{ℕ, ◌+◌, ◌-◌, ◌*◌, ◌/◌, ◌%◌, Bool, ◌==◌, ◌&&◌, ◌||◌, if◌then◌else◌, Option, None, Some, List, [], ◌∷◌, length, slice_index, slice_set}
+use Rattle.ec_regs.specs.Bits.{bit, with_bits}
+use Rattle.ec_regs.specs.declared.registers.TheConstants.{STATION_ADDRESS, AL_CONTROL}
 use Rattle.ec_wire.specs.Datagram.{DatagramRecord}
 use Rattle.ec_wire.specs.declared.command.Command.{Command}
-use Rattle.ec_wire.specs.declared.command.Command.TheVariants.{Lrd, Lwr, Lrw}
-use Rattle.ec_esc.specs.Areas.{is_active, is_buffered, master_writes}
+use Rattle.ec_wire.specs.declared.command.Command.TheVariants.{Aprd, Apwr, Aprw, Fprd, Fpwr, Fprw, Brd, Bwr, Lrd, Lwr, Lrw}
 use Rattle.ec_esc.specs.Records.{fmmus_of, sync_managers_of}
 use Rattle.ec_esc.specs.Logical.{read_places, target_places, write_map, names}
-use Rattle.ec_esc.specs.State.{ControllerState, with_area_shown}
+use Rattle.ec_esc.specs.Ranges.{within, takes_writes, serves_physical_read, serves_physical_write, emptied_by, filled_by}
+use Rattle.ec_esc.specs.State.{ControllerState}
+use Rattle.ec_esc.specs.Writing.{settled, shown_after, status_address}
 
 -- a datagram as it leaves a controller, and the controller then
 pub record Passed : Type 0 where
@@ -62,23 +63,12 @@ serves_write c d = names (target_places (sync_managers_of c.memory) (fmmus_of c.
 abbrev pub writes_byte : ControllerState → DatagramRecord → ℕ → Bool
 writes_byte c d address = names (λ b. write_sources c d (8 * address + b)) 8
 
--- ---- shown bytes, after a write of whatever command
-
--- is the area handed to the application: it is active and buffered, the master writes it, and its last byte was written
-abbrev pub hands_over : (ℕ → Bool) → SyncMan → Bool
-hands_over is_written s = is_active s && is_buffered s && master_writes s && is_written (s.start + s.length - 1)
-
--- the shown bytes after a write: each area that is handed over is shown as it stands in the memory
-unfoldable pub shown_after : List SyncMan → (ℕ → Bool) → List ℕ → List ℕ → List ℕ
-shown_after [] is_written memory shown = shown
-shown_after (s ∷ ss) is_written memory shown =
-    shown_after ss is_written memory (if hands_over is_written s then with_area_shown s memory shown else shown)
-
 -- the controller after a logical write; it reaches process memory alone, so no area becomes active or inactive
 abbrev pub written_state : ControllerState → DatagramRecord → ControllerState
 written_state c d =
+    let managers = sync_managers_of c.memory in
     let memory = written_memory c d
-    in record c { memory = memory; shown = shown_after (sync_managers_of c.memory) (writes_byte c d) memory c.shown }
+    in record c { memory = memory; shown = shown_after (writes_byte c d) managers managers memory c.shown }
 
 -- ---- the logical commands
 
@@ -100,11 +90,127 @@ logical_exchange c d = record {
   state = written_state c d;
 }
 
+-- ---- reads of a physical command: from the address ADO on, they see the memory on arrival
+
+-- the two halves of a physical command's address
+abbrev pub adp : DatagramRecord → ℕ
+adp d = d.address % 65536
+
+abbrev pub ado : DatagramRecord → ℕ
+ado d = d.address / 65536
+
+-- is a read of the range served
+abbrev pub serves_range_read : ControllerState → DatagramRecord → Bool
+serves_range_read c d = serves_physical_read (sync_managers_of c.memory) (ado d) (length d.payload)
+
+-- a read takes each bit of the range
+abbrev pub range_sources : DatagramRecord → ℕ → Option ℕ
+range_sources d i = Some (8 * ado d + i)
+
+-- a broadcast read takes those that are 1, so that each data bit becomes the or of itself and the memory's
+abbrev pub broadcast_sources : ControllerState → DatagramRecord → ℕ → Option ℕ
+broadcast_sources c d i = if bit c.memory (8 * ado d + i) == 1 then Some (8 * ado d + i) else None
+
+-- the memory once a mailbox has been read out: bit 3 of its status was 1 and is 0
+abbrev pub with_emptied : Option ℕ → List ℕ → List ℕ
+with_emptied None memory = memory
+with_emptied (Some i) memory = slice_set memory (status_address i) (slice_index memory (status_address i) - 8)
+
+-- the controller after a read of the range
+abbrev pub read_out : ControllerState → DatagramRecord → ControllerState
+read_out c d = record c { memory = with_emptied (emptied_by (sync_managers_of c.memory) (ado d) (length d.payload)) c.memory }
+
+-- ---- writes of a physical command: they take the data on arrival
+
+-- is a write of the range served
+abbrev pub serves_range_write : ControllerState → DatagramRecord → Bool
+serves_range_write c d = serves_physical_write c.memory (sync_managers_of c.memory) (ado d) (length d.payload)
+
+-- is the byte at an address written
+abbrev pub writes_range_byte : ControllerState → DatagramRecord → ℕ → Bool
+writes_range_byte c d address = within (ado d) (length d.payload) address && takes_writes c.memory address
+
+-- the data bit that each physical bit takes, where its byte is written
+abbrev pub range_targets : ControllerState → DatagramRecord → ℕ → Option ℕ
+range_targets c d p = if writes_range_byte c d (p / 8) then Some (p - 8 * ado d) else None
+
+-- the memory once a mailbox has been filled: bit 3 of its status was 0 and is 1
+abbrev pub with_filled : Option ℕ → List ℕ → List ℕ
+with_filled None memory = memory
+with_filled (Some i) memory = slice_set memory (status_address i) (slice_index memory (status_address i) + 8)
+
+-- the controller after a write of the range
+abbrev pub range_written : ControllerState → DatagramRecord → ControllerState
+range_written c d =
+    let before = sync_managers_of c.memory in
+    let memory = settled c.memory (with_bits c.memory d.payload (range_targets c d)) in
+    record {
+      memory = with_filled (filled_by before (ado d) (length d.payload)) memory;
+      shown = shown_after (writes_range_byte c d) before (sync_managers_of memory) memory c.shown;
+      written = c.written || within (ado d) (length d.payload) AL_CONTROL;
+    }
+
+-- ---- the physical commands, where they address the controller
+
+-- a read: where it is served the data take the bits from these places, and 1 is counted
+abbrev pub physical_read : (ℕ → Option ℕ) → ControllerState → DatagramRecord → Passed
+physical_read sources c d =
+    if serves_range_read c d
+    then record { datagram = record d { payload = with_bits d.payload c.memory sources; counter = counter_after d 1 }; state = read_out c d }
+    else no_change c d
+
+-- a write: where it is served the memory takes the data, and 1 is counted
+abbrev pub physical_write : ControllerState → DatagramRecord → Passed
+physical_write c d =
+    if serves_range_write c d
+    then record { datagram = record d { counter = counter_after d 1 }; state = range_written c d }
+    else no_change c d
+
+-- both: the read sees the memory before the write, and a served write counts 2
+abbrev pub physical_exchange : ControllerState → DatagramRecord → Passed
+physical_exchange c d =
+    if serves_range_write c d
+    then record {
+      datagram = record d {
+        payload = if serves_range_read c d then with_bits d.payload c.memory (range_sources d) else d.payload;
+        counter = counter_after d (if_served (serves_range_read c d) 1 + 2);
+      };
+      state = range_written c d;
+    }
+    else physical_read (range_sources d) c d
+
+-- ---- which controllers a physical command addresses
+
+-- by its place on the line: every controller counts the ADP up, and the one that finds 0 is addressed
+abbrev pub is_first : DatagramRecord → Bool
+is_first d = adp d == 0
+
+-- by its station address
+abbrev pub is_station : ControllerState → DatagramRecord → Bool
+is_station c d = adp d == slice_index c.memory STATION_ADDRESS + 256 * slice_index c.memory (STATION_ADDRESS + 1)
+
+-- what is done where the controller is addressed; else nothing
+abbrev pub if_addressed : Bool → Passed → ControllerState → DatagramRecord → Passed
+if_addressed is_addressed done c d = if is_addressed then done else no_change c d
+
+-- the same with the ADP one higher, modulo 65536
+abbrev pub counted_up : Passed → Passed
+counted_up p = record p {
+  datagram = record p.datagram { address = (adp p.datagram + 1) % 65536 + 65536 * ado p.datagram };
+}
+
 -- ---- every command
 
--- what a command does. NOP, BRW, ARMW and FRMW do nothing here. The other physical commands are not defined yet:
--- each gets a case of its own, and until then stands with those.
+-- what a command does; NOP, BRW, ARMW and FRMW do nothing here
 unfoldable pub pass_by : Command → ControllerState → DatagramRecord → Passed
+pass_by Aprd c d = counted_up (if_addressed (is_first d) (physical_read (range_sources d) c d) c d)
+pass_by Apwr c d = counted_up (if_addressed (is_first d) (physical_write c d) c d)
+pass_by Aprw c d = counted_up (if_addressed (is_first d) (physical_exchange c d) c d)
+pass_by Fprd c d = if_addressed (is_station c d) (physical_read (range_sources d) c d) c d
+pass_by Fpwr c d = if_addressed (is_station c d) (physical_write c d) c d
+pass_by Fprw c d = if_addressed (is_station c d) (physical_exchange c d) c d
+pass_by Brd c d = counted_up (physical_read (broadcast_sources c d) c d)
+pass_by Bwr c d = counted_up (physical_write c d)
 pass_by Lrd c d = record { datagram = logical_read c d; state = c }
 pass_by Lwr c d = logical_write c d
 pass_by Lrw c d = logical_exchange c d
@@ -114,15 +220,6 @@ pass_by _ c d = no_change c d
 abbrev pub pass : ControllerState → DatagramRecord → Passed
 pass c d = pass_by d.command c d
 
--- the commands that the controller carries out so far: logical reads alone
-abbrev pub is_carried_out : Command → Bool
-is_carried_out Lrd = true
-is_carried_out _ = false
-
--- the pass as far as it is carried out: datagrams of all other commands go through and change nothing
-unfoldable pub pass_so_far : ControllerState → DatagramRecord → Passed
-pass_so_far c d = if is_carried_out d.command then pass c d else no_change c d
-
 -- ---- frames
 
 -- a frame as it leaves a controller, and the controller then
@@ -131,9 +228,9 @@ pub record PassedFrame : Type 0 where
   pub state : ControllerState
 
 -- the datagrams pass from left to right, each on what the one before left
-unfoldable pub frame_pass : (ControllerState → DatagramRecord → Passed) → ControllerState → List DatagramRecord → PassedFrame
-frame_pass step c [] = record { frame = []; state = c }
-frame_pass step c (d ∷ ds) =
-    let first = step c d in
-    let rest = frame_pass step first.state ds
+unfoldable pub frame_pass : ControllerState → List DatagramRecord → PassedFrame
+frame_pass c [] = record { frame = []; state = c }
+frame_pass c (d ∷ ds) =
+    let first = pass c d in
+    let rest = frame_pass first.state ds
     in record { frame = first.datagram ∷ rest.frame; state = rest.state }

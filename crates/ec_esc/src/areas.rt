@@ -1,7 +1,7 @@
 //! The areas that sync managers guard (IEC 61158-4-12, sync manager).
 
 ghost use Rattle.std.specs.Prelude.{◌≡◌, ◌+◌, ◌≤◌, IsTrue};
-ghost use Rattle.ec_esc.specs.Areas.{is_enabled, is_buffered, is_mailbox, master_reads, master_writes, has_area_length, is_in_process_memory, is_active, guards, hides, is_hidden, is_readable};
+ghost use Rattle.ec_esc.specs.Areas.{is_enabled, is_buffered, is_mailbox, master_reads, master_writes, has_area_length, is_in_process_memory, is_active, guards, hides, locks, is_hidden, is_locked, is_readable, is_writable};
 
 use ec_regs::SyncMan;
 use ec_regs::registers::{MEMORY_SIZE, PROCESS_MEMORY};
@@ -31,7 +31,7 @@ const MASTER_WRITES: u8 = 0x01;
 const SHORTEST_MAILBOX: u16 = 16;
 
 /// The longest mailbox, in bytes.
-const LONGEST_MAILBOX: u16 = 128;
+pub(crate) const LONGEST_MAILBOX: u16 = 128;
 
 /// Is the sync manager switched on (bit 0 of the activate byte)?
 fn is_enabled(manager: &SyncMan) -> bool
@@ -119,6 +119,14 @@ fn hides(manager: &SyncMan, address: u32) -> bool
     guards(manager, address) && (is_mailbox(manager) || master_writes(manager))
 }
 
+/// Is the byte kept from writes through FMMUs?
+#[tactic(auto, unfolding(crate::specs::Areas::locks))]
+fn locks(manager: &SyncMan, address: u32) -> bool
+    ensures { result ≡ locks manager.now address }
+{
+    guards(manager, address) && (is_mailbox(manager) || master_reads(manager))
+}
+
 /// Is the byte at an address kept from reads by one of these sync managers?
 fn is_hidden(managers: &[SyncMan], address: u32) -> bool
     ensures { result ≡ is_hidden managers.now address }
@@ -132,4 +140,21 @@ pub(crate) fn is_readable(managers: &[SyncMan], address: u32) -> bool
     ensures { result ≡ is_readable managers.now address }
 {
     address < u32::from(MEMORY_SIZE) && !is_hidden(managers, address)
+}
+
+/// Is the byte at an address kept from writes by one of these sync managers?
+fn is_locked(managers: &[SyncMan], address: u32) -> bool
+    ensures { result ≡ is_locked managers.now address }
+{
+    managers.iter().any(|manager| locks(manager, address))
+}
+
+/// May an FMMU write the byte at an address?
+#[tactic(auto, unfolding(crate::specs::Areas::is_writable))]
+pub(crate) fn is_writable(managers: &[SyncMan], address: u32) -> bool
+    ensures { result ≡ is_writable managers.now address }
+{
+    u32::from(PROCESS_MEMORY) <= address
+        && address < u32::from(MEMORY_SIZE)
+        && !is_locked(managers, address)
 }

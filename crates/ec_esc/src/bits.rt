@@ -5,7 +5,7 @@ ghost use Rattle.ec_regs.specs.Bits.{AreBytes, bit, with_bits};
 ghost use Rattle.ec_esc.specs.Copying.{only};
 
 /// Bit `at` of the bytes.
-fn bit(bytes: &[u8], at: usize) -> bool
+pub(crate) fn bit(bytes: &[u8], at: usize) -> bool
     requires { at < 8 * length bytes.now }
     ensures { result ≡ (bit bytes.now at == 1) }
 {

@@ -21,7 +21,7 @@ const INIT: u8 = 0x01;
 pub struct Controller {
     pub(crate) memory: Memory,
     pub(crate) shown: Vec<u8>,
-    written: bool,
+    pub(crate) written: bool,
 }
 
 impl Model for Controller {
@@ -90,7 +90,7 @@ impl Controller {
     }
 
     /// Shows the area of a sync manager as it stands in the memory; all else stays.
-    fn show_area(&mut self, manager: &SyncMan)
+    pub(crate) fn show_area(&mut self, manager: &SyncMan)
         requires from { PROCESS_MEMORY ≤ manager.now.start }
         requires to { manager.now.start + manager.now.length ≤ MEMORY_SIZE }
         ensures { self.new ≡ record self.old { shown = with_area_shown manager.now self.old.memory self.old.shown } }

@@ -5,22 +5,34 @@
 //!
 //! - `Controller::new` makes one with a station address, in Init.
 //! - `process` is one pass of a frame: its datagrams from left to right, each on the memory that the one before left.
-//!   So far logical reads (LRD) are carried out; datagrams of all other commands go through unchanged.
 //! - `set_fmmu`, `set_syncman` and `load` set records and process memory from the application's side.
-//! - `byte`, `bytes`, `shown`, `shown_bytes` and `syncman` read the memory, the shown bytes and a record.
+//! - `byte`, `bytes`, `shown`, `shown_bytes`, `station`, `syncman` and `fmmu` read the memory, the shown bytes and
+//!   the records.
+//! - `take_control`, `set_al` and `al` are the application's AL control and AL status; `outputs`, `put_inputs`,
+//!   `take_mail` and `put_mail` are its process data and its mail.
 //!
 //! What the contracts speak of stands in specs/: what a controller holds (`State`), the areas of its sync managers
-//! (`Areas`), its records (`Records`), which bits the master may reach through FMMUs (`Logical`), and the pass of a
-//! datagram and of a frame (`Pass`), which defines logical writes and exchanges too.
+//! (`Areas`), its records (`Records`), which bits the master may reach through FMMUs (`Logical`), what a physical
+//! command may reach (`Ranges`), the pass of a datagram and of a frame (`Pass`), what a write leaves beside the bytes
+//! that it wrote (`Writing`, `Showing`), and the application's side (`Application`).
 
+mod application;
 mod areas;
 mod bits;
 mod controller;
 mod logical;
+mod logical_write;
+mod physical;
+mod physical_write;
 mod process;
+mod ranges;
 mod reading;
 mod records;
+mod runs;
+mod showing;
+mod writing;
 
+pub use application::{AreaFault, LONGEST_MAIL};
 pub use areas::{is_active, is_buffered, is_mailbox, master_reads, master_writes};
 pub use controller::Controller;
 pub use ec_regs::NoMemory;

@@ -2,19 +2,20 @@
 
 ghost use Rattle.std.specs.Prelude.{◌≡◌, ◌<◌, length, slice_set};
 ghost use Rattle.ec_wire.specs.Datagram.{nth};
-ghost use Rattle.ec_esc.specs.Pass.{read_data, serves_read, logical_read, pass_so_far, frame_pass};
+ghost use Rattle.ec_esc.specs.Pass.{read_data, serves_read, logical_read, pass, frame_pass};
 
 use crate::controller::Controller;
 use crate::logical::read_mapped;
+use crate::physical::Access;
 use crate::records::{fmmus_of, sync_managers_of};
 use ec_wire::{Command, FrameBuf};
 
 impl Controller {
     /// One pass of a frame: its datagrams are processed from left to right, and each finds the memory as the one
-    /// before left it. Logical reads (LRD) are carried out; datagrams of other commands go through unchanged.
+    /// before left it. NOP, BRW, ARMW and FRMW go through unchanged.
     pub fn process(&mut self, frame: &mut FrameBuf)
-        ensures frame { frame.new ≡ (frame_pass pass_so_far self.old frame.old).frame }
-        ensures state { self.new ≡ (frame_pass pass_so_far self.old frame.old).state }
+        ensures frame { frame.new ≡ (frame_pass self.old frame.old).frame }
+        ensures state { self.new ≡ (frame_pass self.old frame.old).state }
     {
         for k in 0..frame.count() {
             self.pass_datagram(frame, k);
@@ -24,12 +25,22 @@ impl Controller {
     /// The pass of the datagram at `k`; all others stay.
     fn pass_datagram(&mut self, frame: &mut FrameBuf, k: usize)
         requires { k < length frame.old }
-        ensures frame { frame.new ≡ slice_set frame.old k (pass_so_far self.old (nth frame.old k)).datagram }
-        ensures state { self.new ≡ (pass_so_far self.old (nth frame.old k)).state }
+        ensures frame { frame.new ≡ slice_set frame.old k (pass self.old (nth frame.old k)).datagram }
+        ensures state { self.new ≡ (pass self.old (nth frame.old k)).state }
     {
         match frame.command(k) {
+            Command::Aprd => self.by_position(frame, k, Access::Read),
+            Command::Apwr => self.by_position(frame, k, Access::Write),
+            Command::Aprw => self.by_position(frame, k, Access::Exchange),
+            Command::Fprd => self.by_station(frame, k, Access::Read),
+            Command::Fpwr => self.by_station(frame, k, Access::Write),
+            Command::Fprw => self.by_station(frame, k, Access::Exchange),
+            Command::Brd => self.by_all(frame, k, Access::Merge),
+            Command::Bwr => self.by_all(frame, k, Access::Write),
             Command::Lrd => self.logical_read(frame, k),
-            _ => {}
+            Command::Lwr => self.logical_write(frame, k),
+            Command::Lrw => self.logical_exchange(frame, k),
+            Command::Nop | Command::Brw | Command::Armw | Command::Frmw => {}
         }
     }
 
@@ -46,7 +57,7 @@ impl Controller {
 
     /// Fills the data of the datagram at `k` from the memory where its logical address is readable, and says
     /// whether there is such a bit; all else stays.
-    fn fill_data(&self, frame: &mut FrameBuf, k: usize) -> bool
+    pub(crate) fn fill_data(&self, frame: &mut FrameBuf, k: usize) -> bool
         requires { k < length frame.old }
         ensures frame { frame.new ≡ slice_set frame.old k (record (nth frame.old k) { payload = read_data self.now (nth frame.old k) }) }
         ensures served { result ≡ serves_read self.now (nth frame.old k) }
@@ -346,9 +357,7 @@ mod tests {
     #[test]
     fn other_commands_go_through_unchanged(rt: HostRuntime) {
         let mut slave = controller(rt.alloc(), &INPUTS, &ONE_BYTE).expect(&rt, "memory");
-        for command in [
-            0x00, 0x01, 0x02, 0x03, 0x04, 0x05, 0x06, 0x07, 0x08, 0x09, 0x0B, 0x0C, 0x0D, 0x0E,
-        ] {
+        for command in [0x00, 0x09, 0x0D, 0x0E] {
             let mut sent = LRD_OF_ONE_BYTE;
             sent[2] = command;
             let frame = passed(&mut slave, &sent).expect(&rt, "a frame");

@@ -1,15 +1,31 @@
 //! What the application's side reads of a controller.
 
 ghost use Rattle.std.specs.Prelude.{◌≡◌, ◌+◌, ◌-◌, ◌<◌, ◌≤◌, slice_range};
-ghost use Rattle.ec_regs.specs.declared.registers.TheConstants.{PROCESS_MEMORY, MEMORY_SIZE};
-ghost use Rattle.ec_esc.specs.Records.{sync_manager_at};
+ghost use Rattle.ec_regs.specs.declared.registers.TheConstants.{STATION_ADDRESS, PROCESS_MEMORY, MEMORY_SIZE};
+ghost use Rattle.ec_esc.specs.Application.{word_at};
+ghost use Rattle.ec_esc.specs.Records.{fmmu_at, sync_manager_at};
 
 use crate::controller::Controller;
-use crate::records::sync_manager_at;
-use ec_regs::SyncMan;
-use ec_regs::registers::PROCESS_MEMORY;
+use crate::records::{fmmu_at, sync_manager_at};
+use ec_regs::registers::{PROCESS_MEMORY, STATION_ADDRESS};
+use ec_regs::{Fmmu, SyncMan};
 
 impl Controller {
+    /// The station address, by which FP commands name the slave (IEC 61158-4-12, station address).
+    pub fn station(&self) -> u16
+        ensures { result ≡ word_at self.now.memory STATION_ADDRESS }
+    {
+        self.word(STATION_ADDRESS)
+    }
+
+    /// The record of an FMMU, 0 to 7, as it stands in the memory.
+    pub fn fmmu(&self, i: usize) -> Fmmu
+        requires { i < 8 }
+        ensures { result ≡ fmmu_at self.now.memory i }
+    {
+        fmmu_at(self.memory.bytes(), i)
+    }
+
     /// The record of a sync manager as it stands in the memory.
     pub fn syncman(&self, i: usize) -> SyncMan
         requires { i < 8 }

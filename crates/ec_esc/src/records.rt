@@ -9,7 +9,7 @@ use ec_regs::{Fmmu, SyncMan};
 
 /// The FMMU with a number.
 #[tactic(auto, unfolding(crate::specs::Records::fmmu_at))]
-fn fmmu_at(memory: &[u8], number: usize) -> Fmmu
+pub(crate) fn fmmu_at(memory: &[u8], number: usize) -> Fmmu
     requires size { length memory.now ≡ MEMORY_SIZE }
     requires number { number < 8 }
     ensures { result ≡ fmmu_at memory.now number }

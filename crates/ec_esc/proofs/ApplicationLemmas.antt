@@ -1,0 +1,138 @@
+-- What the application finds after it wrote: runs of the memory, AL status, and the status byte of a mailbox.
+use Rattle.std.proofs.Common.{◌≡◌, ℕ, ◌+◌, ◌-◌, ◌*◌, ◌/◌, ◌%◌, ◌^◌, ◌<◌, ◌≤◌, true, false, List, [], ◌∷◌, ◌++◌, length, get_or, set, Some, take, drop, sym, ◌∙◌, ap, arith, length-append}
+use Rattle.std.specs.Prelude.{bit_and, bit_or, replicate}
+use Rattle.std.specs.Int.{bit_at, w16, to_le_bytes}
+use Rattle.std.proofs.Math.ListN.{get_or-append}
+use Rattle.std.proofs.Math.Seq.{take-append-add}
+use Rattle.std.proofs.lemmas.Bool.Decides.{nat_tests}
+use Rattle.std.proofs.lemmas.List.{get_or-take, get_or-drop, get_or-append_right, length-take-le, length-drop, take-replicate}
+use Rattle.std.proofs.lemmas.Nat.{and_comm, and-not, or_disjoint}
+use Rattle.std.proofs.lemmas.Nat.Bits.{and_pow, bit_at-lt}
+use Rattle.ec_regs.specs.Al.{status_byte, status_of}
+use Rattle.ec_regs.specs.declared.al.AlStatus.{AlStatus}
+use Rattle.ec_regs.specs.declared.registers.TheConstants.{AL_STATUS, AL_STATUS_CODE, MEMORY_SIZE}
+use Rattle.ec_regs.specs.declared.sync_man.SyncMan.{SyncMan}
+use Rattle.ec_regs.proofs.AlLemmas.{status_of-status_byte}
+use Rattle.ec_esc.specs.Application.{with_al, al_status, al_status_code, mail_area}
+use Rattle.ec_esc.specs.Areas.{is_active, is_mailbox}
+use Rattle.ec_esc.specs.Pass.{with_emptied, with_filled}
+use Rattle.ec_esc.specs.Ranges.{is_full}
+use Rattle.ec_esc.specs.Records.{sync_manager_at}
+use Rattle.ec_esc.specs.State.{ControllerState, with_run}
+use Rattle.ec_esc.specs.Writing.{status_address}
+
+-- ---- a run of a list replaced
+
+-- its length stays
+length-with_run : (xs ys : List ℕ) (at : ℕ) → at + length ys ≤ length xs → length (with_run xs at ys) ≡ length xs
+length-with_run xs ys at inside =
+    omega
+    (arith, length-append (take at xs ++ ys) (drop (at + length ys) xs), length-append (take at xs) ys, length-take-le at xs (omega arith), length-drop (at + length ys) xs)
+
+-- the elements before the run stay
+pub get_or-with_run_before : (xs ys : List ℕ) (at k : ℕ) → k < at → at ≤ length xs → get_or (with_run xs at ys) k 0 ≡ get_or xs k 0
+get_or-with_run_before xs ys at k before inside =
+    let front : length (take at xs) ≡ at = length-take-le at xs inside in
+    get_or-append (take at xs ++ ys) (drop (at + length ys) xs) 0 k (omega (arith, length-append (take at xs) ys))
+    ∙ get_or-append (take at xs) ys 0 k (omega arith)
+    ∙ get_or-take at xs k 0 before
+
+-- those of the run are the new ones
+get_or-with_run_inside : (xs ys : List ℕ) (at k : ℕ) → at ≤ length xs → k < length ys → get_or (with_run xs at ys) (at + k) 0 ≡ get_or ys k 0
+get_or-with_run_inside xs ys at k inside within =
+    let front : length (take at xs) ≡ at = length-take-le at xs inside in
+    let place : at + k - at ≡ k = omega arith in
+    get_or-append (take at xs ++ ys) (drop (at + length ys) xs) 0 (at + k) (omega (arith, length-append (take at xs) ys))
+    ∙ get_or-append_right (take at xs) ys at (at + k) 0 front (omega arith)
+    ∙ ap (λ j. get_or ys j 0) place
+
+-- ---- AL status
+
+-- AL status is what was set
+pub al_status-with_al : (c : ControllerState) (status : AlStatus) (code : ℕ) → length c.memory ≡ MEMORY_SIZE
+    → al_status (with_al c status code) ≡ status
+al_status-with_al c status code size =
+    let bytes : List ℕ = status_byte status ∷ 0 ∷ [] in
+    let first : List ℕ = with_run c.memory AL_STATUS bytes in
+    let first_size : length first ≡ length c.memory = length-with_run c.memory bytes AL_STATUS (omega arith) in
+    ap status_of
+    (get_or-with_run_before first (to_le_bytes w16 code) AL_STATUS_CODE AL_STATUS (omega arith) (omega arith)
+    ∙ get_or-with_run_inside c.memory bytes AL_STATUS 0 (omega arith) (omega arith))
+    ∙ status_of-status_byte status
+
+-- and so is the AL status code
+pub al_status_code-with_al : (c : ControllerState) (status : AlStatus) (code : ℕ) → length c.memory ≡ MEMORY_SIZE → code < 2 ^ 16
+    → al_status_code (with_al c status code) ≡ code
+al_status_code-with_al c status code size small =
+    let bytes : List ℕ = status_byte status ∷ 0 ∷ [] in
+    let first : List ℕ = with_run c.memory AL_STATUS bytes in
+    let first_size : length first ≡ length c.memory = length-with_run c.memory bytes AL_STATUS (omega arith) in
+    let spelt : List ℕ = to_le_bytes w16 code in
+    let low : get_or (with_run first AL_STATUS_CODE spelt) AL_STATUS_CODE 0 ≡ code % 256 =
+    get_or-with_run_inside first spelt AL_STATUS_CODE 0 (omega arith) (omega arith) in
+    let high : get_or (with_run first AL_STATUS_CODE spelt) (AL_STATUS_CODE + 1) 0 ≡ code / 256 % 256 =
+    get_or-with_run_inside first spelt AL_STATUS_CODE 1 (omega arith) (omega arith) in
+    omega (arith, low, high)
+
+-- ---- mailboxes
+
+-- an active mailbox has at most 128 bytes
+pub mailbox_length-le : (s : SyncMan) → is_active s ≡ true → is_mailbox s ≡ true → s.length ≤ 128
+unfolding is_active
+mailbox_length-le s active mailbox = grind (arith, nat_tests)
+
+-- the status of a sync manager stands in the memory
+sync_manager_at-status : (m : List ℕ) (i : ℕ) → (sync_manager_at m i).status ≡ get_or m (status_address i) 0
+unfolding sync_manager_at
+sync_manager_at-status m i = get_or-take 8 (drop (2048 + 8 * i) m) 5 0 (omega arith) ∙ get_or-drop (2048 + 8 * i) m 5 0
+
+-- where a mailbox is full, bit 3 of that byte is 1
+pub full_bit : (m : List ℕ) (i : ℕ) → is_full (sync_manager_at m i) ≡ true → bit_at (get_or m (status_address i) 0) 3 ≡ 1
+full_bit m i full =
+    ap (λ n. bit_at n 3) (sym (sync_manager_at-status m i)) ∙ grind (arith, nat_tests)
+
+-- where it is empty, it is 0
+pub empty_bit : (m : List ℕ) (i : ℕ) → is_full (sync_manager_at m i) ≡ false → bit_at (get_or m (status_address i) 0) 3 ≡ 0
+empty_bit m i empty =
+    ap (λ n. bit_at n 3) (sym (sync_manager_at-status m i))
+    ∙ (let below = bit_at-lt (sync_manager_at m i).status 3 in grind (arith, nat_tests))
+
+-- to set bit 3 where it is 0 adds 8
+bit_or-empty : (n : ℕ) → bit_at n 3 ≡ 0 → bit_or n 8 ≡ n + 8
+bit_or-empty n empty = or_disjoint n 8 (and_pow n 3 ∙ ap (λ b. b * 8) empty)
+
+-- to clear it where it is 1 takes 8 away
+bit_and-full : (n : ℕ) → n < 256 → bit_at n 3 ≡ 1 → bit_and n 247 ≡ n - 8
+bit_and-full n small full =
+    let rest : bit_and 247 n + bit_and 8 n ≡ n = and-not 8 8 n (omega arith) small in
+    let eight : bit_and 8 n ≡ 8 = and_comm 8 n ∙ and_pow n 3 ∙ ap (λ b. b * 8) full in
+    let same : bit_and n 247 ≡ bit_and 247 n = and_comm n 247 in
+    omega arith
+
+-- so a full status byte with bit 3 cleared is that of the mailbox once it was emptied
+pub set-emptied : (m : List ℕ) (i at status : ℕ) → at ≡ status_address i → status ≡ get_or m at 0 → status < 256
+    → bit_at (get_or m (status_address i) 0) 3 ≡ 1 → set m at (bit_and status 247) ≡ with_emptied (Some i) m
+set-emptied m i at status at_is status_is small full =
+    let here : status ≡ get_or m (status_address i) 0 = status_is ∙ ap (λ a. get_or m a 0) at_is in
+    ap (λ a. set m a (bit_and status 247)) at_is
+    ∙ ap (λ n. set m (status_address i) n)
+    (bit_and-full status small (ap (λ n. bit_at n 3) here ∙ full) ∙ ap (λ n. n - 8) here)
+
+-- and an empty one with bit 3 set is that of the mailbox once it was filled
+pub set-filled : (m : List ℕ) (i at status : ℕ) → at ≡ status_address i → status ≡ get_or m at 0
+    → bit_at (get_or m (status_address i) 0) 3 ≡ 0 → set m at (bit_or status 8) ≡ with_filled (Some i) m
+set-filled m i at status at_is status_is empty =
+    let here : status ≡ get_or m (status_address i) 0 = status_is ∙ ap (λ a. get_or m a 0) at_is in
+    ap (λ a. set m a (bit_or status 8)) at_is
+    ∙ ap (λ n. set m (status_address i) n)
+    (bit_or-empty status (ap (λ n. bit_at n 3) here ∙ empty) ∙ ap (λ n. n + 8) here)
+
+-- a mail and zeros up to the longest length begin with the mail as it fills its area
+pub take-padded : (s : SyncMan) (mail : List ℕ) → length mail ≤ s.length → s.length ≤ 128
+    → take s.length (mail ++ replicate (128 - length mail) 0) ≡ mail_area s mail
+take-padded s mail room bound =
+    let rest : ℕ = s.length - length mail in
+    let whole : s.length ≡ length mail + rest = omega arith in
+    ap (λ n. take n (mail ++ replicate (128 - length mail) 0)) whole
+    ∙ take-append-add mail (replicate (128 - length mail) 0) rest
+    ∙ ap (λ (zeros : List ℕ). mail ++ zeros) (take-replicate rest (128 - length mail) 0 (omega arith))

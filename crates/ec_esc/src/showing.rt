@@ -1,0 +1,42 @@
+//! What the application is shown after a write (IEC 61158-4-12, sync manager, buffered mode).
+
+ghost use Rattle.std.specs.Prelude.{◌≡◌, ◌+◌, ◌≤◌, ℕ, Bool, IsTrue};
+ghost use Rattle.ec_regs.specs.declared.registers.TheConstants.{PROCESS_MEMORY, MEMORY_SIZE};
+ghost use Rattle.ec_esc.specs.Showing.{SaysOfLastBytes};
+ghost use Rattle.ec_esc.specs.Writing.{hands_over, shown_after};
+
+use crate::areas::{is_active, is_buffered, master_writes};
+use crate::controller::Controller;
+use ec_regs::SyncMan;
+
+/// Is an area shown anew after a write: it became active, or it is buffered, the master writes it, and its last
+/// byte was written?
+fn hands_over(before: &SyncMan, after: &SyncMan, is_last_written: bool) -> bool
+    ensures value { result ≡ hands_over (λ _. is_last_written) before.now after.now }
+    ensures from { IsTrue result → PROCESS_MEMORY ≤ after.now.start }
+    ensures to { IsTrue result → after.now.start + after.now.length ≤ MEMORY_SIZE }
+{
+    is_active(after)
+        && (!is_active(before) || is_buffered(after) && master_writes(after) && is_last_written)
+}
+
+impl Controller {
+    /// Shows each area that is handed over after a write, as it stands in the memory: the sync managers as they
+    /// were, as they are now, and whether the last byte of each area was written, by number.
+    pub(crate) fn show_written(
+        &mut self,
+        before: &[SyncMan; 8],
+        after: &[SyncMan; 8],
+        last_written: &[bool; 8],
+    )
+        ensures { (is_written : ℕ → Bool) → SaysOfLastBytes is_written after.now last_written.now → self.new ≡ record self.old { shown = shown_after is_written before.now after.now self.old.memory self.old.shown } }
+    {
+        // The sizes of memory and shown bytes are known of a controller of which a field is read.
+        let _memory = &self.memory;
+        for i in 0..8usize {
+            if hands_over(&before[i], &after[i], last_written[i]) {
+                self.show_area(&after[i]);
+            }
+        }
+    }
+}
