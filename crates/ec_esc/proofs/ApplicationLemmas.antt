@@ -14,12 +14,12 @@ use Rattle.ec_regs.specs.declared.registers.TheConstants.{AL_STATUS, AL_STATUS_C
 use Rattle.ec_regs.specs.declared.sync_man.SyncMan.{SyncMan}
 use Rattle.ec_regs.proofs.AlLemmas.{status_of-status_byte}
 use Rattle.ec_esc.specs.Application.{with_al, al_status, al_status_code, mail_area}
-use Rattle.ec_esc.specs.Areas.{is_active, is_mailbox}
+use Rattle.ec_areas.specs.Areas.{is_active, is_mailbox}
 use Rattle.ec_esc.specs.Pass.{with_emptied, with_filled}
-use Rattle.ec_esc.specs.Ranges.{is_full}
-use Rattle.ec_esc.specs.Records.{sync_manager_at}
+use Rattle.ec_areas.specs.Ranges.{is_full}
+use Rattle.ec_areas.specs.Records.{sync_manager_at}
 use Rattle.ec_esc.specs.State.{ControllerState, with_run}
-use Rattle.ec_esc.specs.Writing.{status_address}
+use Rattle.ec_areas.specs.Ranges.{status_address}
 
 -- ---- a run of a list replaced
 

@@ -1,14 +1,9 @@
-pub mod CopyLemmas
-pub mod LogicalLemmas
-pub mod WriteLemmas
 pub mod ShowLemmas
 pub mod WritingLemmas
 pub mod StateLemmas
 pub mod PassLemmas
 pub mod ApplicationLemmas
 pub mod Examples
-pub mod RangeLemmas
-pub mod RunLemmas
 pub mod WrittenLemmas
 pub mod SettledLemmas
 pub mod MailLemmas

@@ -11,13 +11,14 @@ use Rattle.std.proofs.lemmas.List.{ext_get_or, length-take-le, length-drop}
 use Rattle.std.proofs.lemmas.List.Quantifiers.{position-Some}
 use Rattle.ec_regs.specs.declared.sync_man.SyncMan.{SyncMan}
 use Rattle.ec_regs.specs.SyncMan.{sync_man_of}
-use Rattle.ec_esc.specs.Areas.{is_enabled, is_buffered, is_mailbox, master_reads, master_writes, has_area_length, is_in_process_memory, is_active}
-use Rattle.ec_esc.specs.Records.{sync_manager_at, sync_managers_of}
-use Rattle.ec_esc.specs.Ranges.{meets_one, is_area, is_full, gives_mail, takes_mail, emptied_by, filled_by}
-use Rattle.ec_esc.specs.Writing.{is_switched, settled, status_address}
-use Rattle.ec_esc.proofs.LogicalLemmas.{if_some, both}
-use Rattle.ec_esc.proofs.RangeLemmas.{get_or-sync_managers_of}
-use Rattle.ec_esc.proofs.RunLemmas.{get_or-run}
+use Rattle.ec_areas.specs.Areas.{is_enabled, is_buffered, is_mailbox, master_reads, master_writes, has_area_length, is_in_process_memory, is_active}
+use Rattle.ec_areas.specs.Records.{sync_manager_at, sync_managers_of}
+use Rattle.ec_areas.specs.Ranges.{meets_one, is_area, is_full, gives_mail, takes_mail, emptied_by, filled_by}
+use Rattle.ec_esc.specs.Writing.{is_switched, settled}
+use Rattle.ec_areas.specs.Ranges.{status_address}
+use Rattle.ec_areas.proofs.LogicalLemmas.{if_some, both}
+use Rattle.ec_areas.proofs.RangeLemmas.{get_or-sync_managers_of}
+use Rattle.ec_areas.proofs.RunLemmas.{get_or-run}
 use Rattle.ec_esc.proofs.SettledLemmas.{get_or-settled_steady}
 
 -- some sync manager
@@ -43,7 +44,7 @@ passes_at test memory i found =
 
 -- it was full
 pub emptied_is_full : (memory : List ℕ) (from n i : ℕ) → emptied_by (sync_managers_of memory) from n ≡ Some i
-    → (i < 8) × (8 ≤ get_or memory (status_address i) 0)
+    → (i < 8) × (bit_at (get_or memory (status_address i) 0) 3 ≡ 1)
 unfolding emptied_by gives_mail
 emptied_is_full memory from n i emptied =
     let managers = sync_managers_of memory in

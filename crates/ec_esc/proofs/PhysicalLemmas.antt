@@ -7,12 +7,13 @@ use Rattle.ec_regs.specs.declared.sync_man.SyncMan.{SyncMan}
 use Rattle.ec_regs.specs.Bits.{AreBytes, with_bits}
 use Rattle.ec_regs.proofs.BitLemmas.{length-with_bits}
 use Rattle.ec_wire.specs.Datagram.{DatagramRecord, nth, blank}
-use Rattle.ec_esc.specs.Records.{sync_managers_of}
-use Rattle.ec_esc.specs.Ranges.{takes_writes, emptied_by, filled_by}
+use Rattle.ec_areas.specs.Records.{sync_managers_of}
+use Rattle.ec_areas.specs.Ranges.{takes_writes, emptied_by, filled_by}
 use Rattle.ec_esc.specs.State.{ControllerState}
 use Rattle.ec_esc.specs.Pass.{Passed, no_change, counter_after, if_served, adp, ado, range_sources, serves_range_read, serves_range_write, physical_exchange, counted_up, with_emptied, read_out, physical_read, range_written}
 use Rattle.ec_esc.specs.Finished.{IsStillEmpty, finished}
-use Rattle.ec_esc.specs.Writing.{settled, status_address}
+use Rattle.ec_esc.specs.Writing.{settled}
+use Rattle.ec_areas.specs.Ranges.{status_address}
 use Rattle.ec_esc.proofs.MailLemmas.{filled_is_empty}
 use Rattle.ec_esc.proofs.WrittenLemmas.{places_from, among, written_front}
 

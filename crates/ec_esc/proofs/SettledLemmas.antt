@@ -6,12 +6,13 @@ use Rattle.std.proofs.lemmas.List.{ext_get_or}
 use Rattle.std.proofs.lemmas.List.FromFn.{length-map-range_with_len, get_or-map-range_with_len}
 use Rattle.std.specs.Prelude.{not}
 use Rattle.ec_regs.specs.declared.sync_man.SyncMan.{SyncMan}
-use Rattle.ec_esc.specs.Areas.{is_active}
-use Rattle.ec_esc.specs.Records.{sync_manager_at, sync_managers_of}
-use Rattle.ec_esc.specs.Ranges.{is_in_sync_manager, sync_manager_number, sync_manager_offset}
-use Rattle.ec_esc.specs.Writing.{is_switched, settled_byte, settled, status_address}
-use Rattle.ec_esc.proofs.LogicalLemmas.{both}
-use Rattle.ec_esc.proofs.RangeLemmas.{get_or-sync_managers_of}
+use Rattle.ec_areas.specs.Areas.{is_active}
+use Rattle.ec_areas.specs.Records.{sync_manager_at, sync_managers_of}
+use Rattle.ec_areas.specs.Ranges.{is_in_sync_manager, sync_manager_number, sync_manager_offset}
+use Rattle.ec_esc.specs.Writing.{is_switched, settled_byte, settled}
+use Rattle.ec_areas.specs.Ranges.{status_address}
+use Rattle.ec_areas.proofs.LogicalLemmas.{both}
+use Rattle.ec_areas.proofs.RangeLemmas.{get_or-sync_managers_of}
 
 -- is the byte at an address a status byte
 abbrev pub is_status : ℕ → Bool

@@ -7,9 +7,9 @@ use Rattle.std.proofs.lemmas.List.FromFn.{length-map-range_with_len, get_or-map-
 use Rattle.std.proofs.lemmas.Option.{slice_get-get_or, get_or_from_slice_get}
 use Rattle.ec_regs.specs.declared.sync_man.SyncMan.{SyncMan}
 use Rattle.ec_regs.specs.declared.registers.TheConstants.{PROCESS_MEMORY, PROCESS_MEMORY_SIZE, MEMORY_SIZE}
-use Rattle.ec_esc.specs.Areas.{is_active, is_buffered, master_writes, guards}
+use Rattle.ec_areas.specs.Areas.{is_active, is_buffered, master_writes, guards}
 use Rattle.ec_esc.specs.State.{with_run, with_area_shown}
-use Rattle.ec_esc.specs.Showing.{last_byte, SaysOfLastBytes}
+use Rattle.ec_areas.specs.Showing.{last_byte, SaysOfLastBytes}
 use Rattle.ec_esc.specs.Writing.{hands_over, is_shown_anew, shown_byte, shown_after}
 
 -- ---- a run that replaces a part of a list

@@ -5,9 +5,9 @@ use Rattle.std.proofs.lemmas.Bool.{cases_eq, cases_Bool}
 use Rattle.std.proofs.lemmas.Bool.Decides.{nat_tests}
 use Rattle.std.proofs.lemmas.List.{length-set}
 use Rattle.ec_regs.specs.Bits.{AreBytes, with_bits}
-use Rattle.ec_esc.specs.Ranges.{within}
-use Rattle.ec_esc.proofs.LogicalLemmas.{both}
-use Rattle.ec_esc.proofs.RunLemmas.{with_bits_by_bytes, taken_byte, kept_byte, get_or-with_bits_kept}
+use Rattle.ec_areas.specs.Ranges.{within}
+use Rattle.ec_areas.proofs.LogicalLemmas.{both}
+use Rattle.ec_areas.proofs.RunLemmas.{with_bits_by_bytes, taken_byte, kept_byte, get_or-with_bits_kept}
 
 -- the byte at an address once the data were written from `from` on to the bytes that pass a test
 abbrev pub written_byte : (ℕ → Bool) → List ℕ → List ℕ → ℕ → ℕ → ℕ

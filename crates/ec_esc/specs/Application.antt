@@ -9,10 +9,10 @@ use Rattle.ec_regs.specs.declared.sync_man.SyncMan.{SyncMan}
 use Rattle.ec_regs.specs.declared.registers.TheConstants.{AL_CONTROL, AL_STATUS, AL_STATUS_CODE, PROCESS_MEMORY}
 use Rattle.ec_esc.specs.declared.application.AreaFault.{AreaFault}
 use Rattle.ec_esc.specs.declared.application.AreaFault.TheVariants.{NotActive, WrongKind, WrongLength, Busy}
-use Rattle.ec_esc.specs.Areas.{is_active, is_buffered, is_mailbox, master_reads, master_writes}
+use Rattle.ec_areas.specs.Areas.{is_active, is_buffered, is_mailbox, master_reads, master_writes}
 use Rattle.ec_esc.specs.Pass.{with_emptied, with_filled}
-use Rattle.ec_esc.specs.Ranges.{is_full}
-use Rattle.ec_esc.specs.Records.{sync_manager_at}
+use Rattle.ec_areas.specs.Ranges.{is_full}
+use Rattle.ec_areas.specs.Records.{sync_manager_at}
 use Rattle.ec_esc.specs.State.{ControllerState, with_run}
 
 -- the word at an address, its low byte first

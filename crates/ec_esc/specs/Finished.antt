@@ -4,10 +4,11 @@ use Rattle.std.specs.Prelude.{◌≡◌, ℕ, Bool, ◌&&◌, ◌||◌, Some, Li
 use Rattle.std.specs.Int.{bit_at}
 use Rattle.ec_regs.specs.declared.sync_man.SyncMan.{SyncMan}
 use Rattle.ec_regs.specs.declared.registers.TheConstants.{AL_CONTROL}
-use Rattle.ec_esc.specs.Records.{sync_managers_of}
-use Rattle.ec_esc.specs.Ranges.{within, takes_writes, filled_by}
+use Rattle.ec_areas.specs.Records.{sync_managers_of}
+use Rattle.ec_areas.specs.Ranges.{within, takes_writes, filled_by}
 use Rattle.ec_esc.specs.State.{ControllerState}
-use Rattle.ec_esc.specs.Writing.{settled, shown_after, status_address}
+use Rattle.ec_esc.specs.Writing.{settled, shown_after}
+use Rattle.ec_areas.specs.Ranges.{status_address}
 use Rattle.ec_esc.specs.Pass.{with_filled}
 
 -- is an address among the n from one on, and does its byte take writes by the memory on arrival

@@ -1,11 +1,5 @@
-pub mod Areas
-pub mod Records
-pub mod Ranges
-pub mod Logical
-pub mod Copying
 pub mod State
 pub mod Writing
-pub mod Showing
 pub mod Pass
 pub mod Application
 pub mod Finished

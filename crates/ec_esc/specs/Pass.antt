@@ -6,11 +6,12 @@ use Rattle.ec_regs.specs.declared.registers.TheConstants.{STATION_ADDRESS, AL_CO
 use Rattle.ec_wire.specs.Datagram.{DatagramRecord}
 use Rattle.ec_wire.specs.declared.command.Command.{Command}
 use Rattle.ec_wire.specs.declared.command.Command.TheVariants.{Aprd, Apwr, Aprw, Fprd, Fpwr, Fprw, Brd, Bwr, Lrd, Lwr, Lrw}
-use Rattle.ec_esc.specs.Records.{fmmus_of, sync_managers_of}
-use Rattle.ec_esc.specs.Logical.{read_places, target_places, write_map, names}
-use Rattle.ec_esc.specs.Ranges.{within, takes_writes, serves_physical_read, serves_physical_write, emptied_by, filled_by}
+use Rattle.ec_areas.specs.Records.{fmmus_of, sync_managers_of}
+use Rattle.ec_areas.specs.Logical.{read_places, target_places, write_map, names}
+use Rattle.ec_areas.specs.Ranges.{within, takes_writes, serves_physical_read, serves_physical_write, emptied_by, filled_by}
 use Rattle.ec_esc.specs.State.{ControllerState}
-use Rattle.ec_esc.specs.Writing.{settled, shown_after, status_address}
+use Rattle.ec_esc.specs.Writing.{settled, shown_after}
+use Rattle.ec_areas.specs.Ranges.{status_address}
 
 -- a datagram as it leaves a controller, and the controller then
 pub record Passed : Type 0 where

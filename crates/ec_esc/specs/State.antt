@@ -6,7 +6,7 @@ use Rattle.ec_regs.specs.SyncMan.{sync_man_bytes}
 use Rattle.ec_regs.specs.declared.fmmu.Fmmu.{Fmmu}
 use Rattle.ec_regs.specs.declared.sync_man.SyncMan.{SyncMan}
 use Rattle.ec_regs.specs.declared.registers.TheConstants.{STATION_ADDRESS, AL_STATUS, FMMU_BASE, FMMU_SIZE, SYNC_MANAGER_BASE, SYNC_MANAGER_SIZE, PROCESS_MEMORY, PROCESS_MEMORY_SIZE, MEMORY_SIZE}
-use Rattle.ec_esc.specs.Areas.{is_active}
+use Rattle.ec_areas.specs.Areas.{is_active}
 
 -- memory by address; the shown bytes of process memory, the first one for address 0x1000; and whether AL control
 -- was written since the application last looked

@@ -1,12 +1,12 @@
 -- What a write leaves beside the bytes that it wrote: the status of sync managers that it switched on or off, and
 -- what the application is shown (IEC 61158-4-12, sync manager, buffered mode).
-use Rattle.std.specs.Prelude.{ℕ, ◌+◌, ◌-◌, ◌*◌, Bool, false, ◌==◌, ◌&&◌, ◌||◌, not, if◌then◌else◌, List, ◌∷◌, length, map, slice_index}
+use Rattle.std.specs.Prelude.{ℕ, ◌+◌, ◌-◌, Bool, false, ◌==◌, ◌&&◌, ◌||◌, not, if◌then◌else◌, List, ◌∷◌, length, map, slice_index}
 use Rattle.std.specs.List.{range_with_len}
 use Rattle.ec_regs.specs.declared.sync_man.SyncMan.{SyncMan}
-use Rattle.ec_regs.specs.declared.registers.TheConstants.{PROCESS_MEMORY, SYNC_MANAGER_BASE, SYNC_MANAGER_SIZE}
-use Rattle.ec_esc.specs.Areas.{is_active, is_buffered, master_writes, guards}
-use Rattle.ec_esc.specs.Records.{sync_manager_at}
-use Rattle.ec_esc.specs.Ranges.{is_in_sync_manager, sync_manager_number, sync_manager_offset, STATUS_OFFSET}
+use Rattle.ec_regs.specs.declared.registers.TheConstants.{PROCESS_MEMORY}
+use Rattle.ec_areas.specs.Areas.{is_active, is_buffered, master_writes, guards}
+use Rattle.ec_areas.specs.Records.{sync_manager_at}
+use Rattle.ec_areas.specs.Ranges.{is_in_sync_manager, sync_manager_number, sync_manager_offset, STATUS_OFFSET}
 
 -- ---- status bytes
 
@@ -24,10 +24,6 @@ settled_byte before after address =
 -- the memory after a write, once those statuses are 0
 unfoldable pub settled : List ℕ → List ℕ → List ℕ
 settled before after = map (settled_byte before after) (range_with_len 0 (length after))
-
--- where the status byte of a sync manager stands
-abbrev pub status_address : ℕ → ℕ
-status_address i = SYNC_MANAGER_BASE + SYNC_MANAGER_SIZE * i + STATUS_OFFSET
 
 -- ---- shown bytes
 

@@ -3,33 +3,22 @@
 //! where the wire reads it; the bytes that it is shown stay.
 
 ghost use Rattle.std.specs.Prelude.{true, false, ◌≡◌, ◌+◌, ◌-◌, ◌<◌, ◌≤◌, IfOk, OnOk, OnErr, Some, ◌++◌, length, slice_index, option_map, replicate};
-ghost use Rattle.std.specs.Int.{bit_at};
 ghost use Rattle.std.specs.Result.{result_err};
 ghost use Rattle.ec_regs.specs.declared.registers.TheConstants.{PROCESS_MEMORY, MEMORY_SIZE};
-ghost use Rattle.ec_esc.specs.Pass.{with_emptied, with_filled};
-ghost use Rattle.ec_esc.specs.Ranges.{is_full};
-ghost use Rattle.ec_esc.specs.Records.{sync_manager_at};
-ghost use Rattle.ec_esc.specs.Writing.{status_address};
+ghost use Rattle.ec_areas.specs.Ranges.{is_full};
+ghost use Rattle.ec_areas.specs.Records.{sync_manager_at};
 ghost use Rattle.ec_esc.specs.Application.{word_at, new_control, with_control_taken, with_al, al_status, al_status_code, outputs_of, put_inputs_fault, with_inputs, take_mail_fault, mail_of, with_mail_taken, put_mail_fault, with_mail_put};
 
-use crate::areas::{
-    LONGEST_MAILBOX, is_active, is_buffered, is_mailbox, master_reads, master_writes,
-};
 use crate::controller::Controller;
 use arrayvec::ArrayVec;
-use ec_regs::registers::{
-    AL_CONTROL, AL_STATUS, AL_STATUS_CODE, SYNC_MANAGER_BASE, SYNC_MANAGER_SIZE,
+use ec_areas::{
+    LONGEST_MAILBOX, is_active, is_buffered, is_full, is_mailbox, master_reads, master_writes,
 };
+use ec_regs::registers::{AL_CONTROL, AL_STATUS, AL_STATUS_CODE};
 use ec_regs::{AlStatus, SyncMan};
 
 /// The longest mail, in bytes: the whole of the longest mailbox.
 pub const LONGEST_MAIL: usize = LONGEST_MAILBOX as usize;
-
-/// Where the status byte stands in a sync manager's record.
-const STATUS_AT: u16 = 5;
-
-/// Bit 3 of the status byte of a sync manager: its mailbox is full.
-const MAILBOX_FULL: u8 = 0x08;
 
 /// Why the application may not use an area as it asked to (IEC 61158-4-12, sync manager, buffered mode and mailbox
 /// mode). Where several hold, the first of them in this order is told.
@@ -43,13 +32,6 @@ pub enum AreaFault {
     WrongLength,
     /// The mailbox is full where a mail is put, or empty where one is taken.
     Busy,
-}
-
-/// Is the mailbox of the sync manager full (bit 3 of its status byte)?
-fn is_full(manager: &SyncMan) -> bool
-    ensures { result ≡ is_full manager.now }
-{
-    manager.status & MAILBOX_FULL != 0
 }
 
 /// Are these bytes inputs of the sync manager?
@@ -116,15 +98,6 @@ fn padded(mail: &[u8]) -> [u8; LONGEST_MAIL]
     let mut area = [0; LONGEST_MAIL];
     area[..mail.len()].copy_from_slice(mail);
     area
-}
-
-/// Where the status byte of a sync manager stands.
-fn status_address(sm: usize) -> u16
-    requires { sm < 8 }
-    ensures value { result ≡ status_address sm }
-    ensures bound { result < PROCESS_MEMORY }
-{
-    SYNC_MANAGER_BASE + SYNC_MANAGER_SIZE * sm as u16 + STATUS_AT
 }
 
 impl Controller {
@@ -231,28 +204,6 @@ impl Controller {
             .load(manager.start, &area[..manager.length as usize]);
         self.mark_full(sm);
         Ok(())
-    }
-
-    /// Marks the mailbox of a sync manager empty, which was full; all else stays.
-    pub(crate) fn mark_empty(&mut self, sm: usize)
-        requires number { sm < 8 }
-        requires full { bit_at (slice_index self.old.memory (status_address sm)) 3 ≡ 1 }
-        ensures { self.new ≡ record self.old { memory = with_emptied (Some sm) self.old.memory } }
-    {
-        let at = status_address(sm);
-        let status = self.byte(at);
-        self.memory.set_byte(at, status & !MAILBOX_FULL);
-    }
-
-    /// Marks the mailbox of a sync manager full, which was empty; all else stays.
-    pub(crate) fn mark_full(&mut self, sm: usize)
-        requires number { sm < 8 }
-        requires empty { bit_at (slice_index self.old.memory (status_address sm)) 3 ≡ 0 }
-        ensures { self.new ≡ record self.old { memory = with_filled (Some sm) self.old.memory } }
-    {
-        let at = status_address(sm);
-        let status = self.byte(at);
-        self.memory.set_byte(at, status | MAILBOX_FULL);
     }
 }
 

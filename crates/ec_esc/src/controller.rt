@@ -3,7 +3,7 @@
 ghost use Rattle.std.specs.Prelude.{◌≡◌, ◌+◌, ◌-◌, ◌<◌, ◌≤◌, ℕ, IfOk, length, slice_index};
 ghost use Rattle.ec_regs.specs.declared.registers.TheConstants.{PROCESS_MEMORY, MEMORY_SIZE};
 
-use crate::areas::is_active;
+use ec_areas::is_active;
 use ec_regs::registers::{
     AL_STATUS, FMMU_BASE, FMMU_SIZE, PROCESS_MEMORY, PROCESS_MEMORY_SIZE, STATION_ADDRESS,
     SYNC_MANAGER_BASE, SYNC_MANAGER_SIZE,

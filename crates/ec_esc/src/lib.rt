@@ -11,28 +11,21 @@
 //! - `take_control`, `set_al` and `al` are the application's AL control and AL status; `outputs`, `put_inputs`,
 //!   `take_mail` and `put_mail` are its process data and its mail.
 //!
-//! What the contracts speak of stands in specs/: what a controller holds (`State`), the areas of its sync managers
-//! (`Areas`), its records (`Records`), which bits the master may reach through FMMUs (`Logical`), what a physical
-//! command may reach (`Ranges`), the pass of a datagram and of a frame (`Pass`), what a write leaves beside the bytes
-//! that it wrote (`Writing`, `Showing`), and the application's side (`Application`).
+//! What the contracts speak of stands in specs/: what a controller holds (`State`), the pass of a datagram and of a
+//! frame (`Pass`), what a write leaves beside the bytes that it wrote (`Writing`), and the application's side
+//! (`Application`); and below, in `ec_areas`, what of a memory the master may reach.
 
 mod application;
-mod areas;
-mod bits;
 mod controller;
-mod logical;
-mod logical_write;
+mod mailbox;
 mod physical;
 mod physical_write;
 mod process;
-mod ranges;
 mod reading;
-mod records;
-mod runs;
 mod showing;
 mod writing;
 
 pub use application::{AreaFault, LONGEST_MAIL};
-pub use areas::{is_active, is_buffered, is_mailbox, master_reads, master_writes};
 pub use controller::Controller;
+pub use ec_areas::{is_active, is_buffered, is_mailbox, master_reads, master_writes};
 pub use ec_regs::NoMemory;

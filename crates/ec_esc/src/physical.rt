@@ -5,18 +5,16 @@ ghost use Rattle.std.specs.Prelude.{◌≡◌, ◌+◌, ◌*◌, ◌/◌, ◌%�
 ghost use Rattle.ec_regs.specs.Bits.{with_bits};
 ghost use Rattle.ec_regs.specs.declared.registers.TheConstants.{MEMORY_SIZE};
 ghost use Rattle.ec_wire.specs.Datagram.{nth};
-ghost use Rattle.ec_esc.specs.Records.{sync_managers_of};
-ghost use Rattle.ec_esc.specs.Ranges.{emptied_by};
-ghost use Rattle.ec_esc.specs.Writing.{status_address};
+ghost use Rattle.ec_areas.specs.Records.{sync_managers_of};
+ghost use Rattle.ec_areas.specs.Ranges.{emptied_by};
+ghost use Rattle.ec_areas.specs.Ranges.{status_address};
 ghost use Rattle.ec_esc.specs.Pass.{adp, ado, counter_after, serves_range_read, range_sources, broadcast_sources, read_out, with_emptied, physical_read, serves_range_write, range_written, physical_write, physical_exchange, is_first, is_station, if_addressed, counted_up};
 ghost use Rattle.ec_esc.specs.Access.{access as access_of};
 
 use crate::controller::Controller;
-use crate::ranges::{
-    FULL, emptied_by, serves_physical_read, serves_physical_write, status_address,
+use ec_areas::{
+    copy_run, emptied_by, merge_run, serves_physical_read, serves_physical_write, sync_managers_of,
 };
-use crate::records::sync_managers_of;
-use crate::runs::{copy_run, merge_run};
 use ec_wire::FrameBuf;
 
 /// How many values each half of a physical command's address has.
@@ -114,17 +112,6 @@ impl Controller {
         merge_run(self.memory.bytes(), from, frame.data_mut(k));
     }
 
-    /// Empties the mailbox of the sync manager with a number, which is full; all else stays.
-    fn empty_mailbox(&mut self, number: usize)
-        requires number { number < 8 }
-        requires full { 8 ≤ slice_index self.old.memory (status_address number) }
-        ensures { self.new ≡ record self.old { memory = with_emptied (Some number) self.old.memory } }
-    {
-        let at = status_address(number);
-        let full = self.memory.byte(at);
-        self.memory.set_byte(at, full - FULL);
-    }
-
     /// Empties the mailbox that a read of the datagram at `k` takes, if it takes one; all else stays.
     fn read_out(&mut self, frame: &FrameBuf, k: usize)
         requires at { k < length frame.now }
@@ -133,7 +120,7 @@ impl Controller {
     {
         let managers = sync_managers_of(self.memory.bytes());
         match emptied_by(&managers, ado(frame, k), count(frame, k)) {
-            Some(number) => self.empty_mailbox(number),
+            Some(number) => self.mark_empty(number),
             None => {}
         }
     }
@@ -306,7 +293,7 @@ impl Controller {
 #[cfg(test)]
 mod tests {
     use super::*;
-    use crate::areas::is_active;
+    use ec_areas::is_active;
     use ec_regs::{NoMemory, SyncMan};
     use ec_wire::{Form, WireFault};
     use std::alloc::Global;

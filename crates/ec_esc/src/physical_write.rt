@@ -6,19 +6,19 @@ ghost use Rattle.std.specs.Prelude.{◌≡◌, ◌+◌, ◌-◌, ◌*◌, ◌/�
 ghost use Rattle.std.specs.Int.{bit_at};
 ghost use Rattle.ec_regs.specs.Bits.{AreBytes, with_bits};
 ghost use Rattle.ec_regs.specs.declared.registers.TheConstants.{MEMORY_SIZE, AL_CONTROL};
-ghost use Rattle.ec_esc.specs.Records.{sync_managers_of};
-ghost use Rattle.ec_esc.specs.Areas.{is_active};
-ghost use Rattle.ec_esc.specs.Ranges.{within, takes_writes, filled_by};
-ghost use Rattle.ec_esc.specs.Showing.{last_byte, SaysOfLastBytes};
-ghost use Rattle.ec_esc.specs.Writing.{settled, shown_after, status_address};
+ghost use Rattle.ec_areas.specs.Records.{sync_managers_of};
+ghost use Rattle.ec_areas.specs.Areas.{is_active};
+ghost use Rattle.ec_areas.specs.Ranges.{within, takes_writes, filled_by};
+ghost use Rattle.ec_areas.specs.Showing.{last_byte, SaysOfLastBytes};
+ghost use Rattle.ec_esc.specs.Writing.{settled, shown_after};
+ghost use Rattle.ec_areas.specs.Ranges.{status_address};
 ghost use Rattle.ec_esc.specs.Pass.{ado, with_filled, range_written};
 ghost use Rattle.ec_esc.specs.Finished.{is_written, IsStillEmpty, finished};
 ghost use Rattle.ec_wire.specs.Datagram.{DatagramRecord};
 
-use crate::areas::is_active;
 use crate::controller::Controller;
-use crate::ranges::{FULL, filled_by, status_address, takes_writes, within};
-use crate::records::sync_managers_of;
+use crate::mailbox::fill_mailbox;
+use ec_areas::{filled_by, is_active, status_address, sync_managers_of, takes_writes, within};
 use ec_regs::registers::AL_CONTROL;
 use ec_regs::{Memory, SyncMan};
 
@@ -95,17 +95,6 @@ fn settle(memory: &mut Memory, before: &[SyncMan; 8])
             memory.set_byte(status_address(number), EMPTY);
         }
     }
-}
-
-/// Fills the mailbox of the sync manager with a number, which is empty; all else stays.
-fn fill_mailbox(memory: &mut Memory, number: usize)
-    requires { number < 8 }
-    ensures value { bit_at (slice_index memory.old (status_address number)) 3 ≡ 0 → memory.new ≡ with_filled (Some number) memory.old }
-    ensures size { length memory.new ≡ MEMORY_SIZE }
-{
-    let at = status_address(number);
-    let empty = memory.byte(at);
-    memory.set_byte(at, empty | FULL);
 }
 
 /// Is the last byte of an area among the written ones of the range? The records are those on arrival.

@@ -5,9 +5,8 @@ ghost use Rattle.ec_wire.specs.Datagram.{nth};
 ghost use Rattle.ec_esc.specs.Pass.{read_data, serves_read, logical_read, pass, frame_pass};
 
 use crate::controller::Controller;
-use crate::logical::read_mapped;
 use crate::physical::Access;
-use crate::records::{fmmus_of, sync_managers_of};
+use ec_areas::{fmmus_of, read_mapped, sync_managers_of};
 use ec_wire::{Command, FrameBuf};
 
 impl Controller {

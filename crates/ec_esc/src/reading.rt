@@ -3,10 +3,10 @@
 ghost use Rattle.std.specs.Prelude.{◌≡◌, ◌+◌, ◌-◌, ◌<◌, ◌≤◌, slice_range};
 ghost use Rattle.ec_regs.specs.declared.registers.TheConstants.{STATION_ADDRESS, PROCESS_MEMORY, MEMORY_SIZE};
 ghost use Rattle.ec_esc.specs.Application.{word_at};
-ghost use Rattle.ec_esc.specs.Records.{fmmu_at, sync_manager_at};
+ghost use Rattle.ec_areas.specs.Records.{fmmu_at, sync_manager_at};
 
 use crate::controller::Controller;
-use crate::records::{fmmu_at, sync_manager_at};
+use ec_areas::{fmmu_at, sync_manager_at};
 use ec_regs::registers::{PROCESS_MEMORY, STATION_ADDRESS};
 use ec_regs::{Fmmu, SyncMan};
 

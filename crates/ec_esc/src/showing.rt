@@ -2,11 +2,11 @@
 
 ghost use Rattle.std.specs.Prelude.{◌≡◌, ◌+◌, ◌≤◌, ℕ, Bool, IsTrue};
 ghost use Rattle.ec_regs.specs.declared.registers.TheConstants.{PROCESS_MEMORY, MEMORY_SIZE};
-ghost use Rattle.ec_esc.specs.Showing.{SaysOfLastBytes};
+ghost use Rattle.ec_areas.specs.Showing.{SaysOfLastBytes};
 ghost use Rattle.ec_esc.specs.Writing.{hands_over, shown_after};
 
-use crate::areas::{is_active, is_buffered, master_writes};
 use crate::controller::Controller;
+use ec_areas::{is_active, is_buffered, master_writes};
 use ec_regs::SyncMan;
 
 /// Is an area shown anew after a write: it became active, or it is buffered, the master writes it, and its last

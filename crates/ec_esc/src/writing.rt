@@ -3,12 +3,11 @@
 ghost use Rattle.std.specs.Prelude.{◌≡◌, ◌+◌, ◌<◌, length, slice_set};
 ghost use Rattle.ec_regs.specs.Bits.{AreBytes};
 ghost use Rattle.ec_wire.specs.Datagram.{blank, nth};
-ghost use Rattle.ec_esc.specs.Records.{sync_managers_of};
+ghost use Rattle.ec_areas.specs.Records.{sync_managers_of};
 ghost use Rattle.ec_esc.specs.Pass.{if_served, serves_write, written_state, logical_write, logical_exchange};
 
 use crate::controller::Controller;
-use crate::logical_write::{last_bytes_written, write_mapped};
-use crate::records::{fmmus_of, sync_managers_of};
+use ec_areas::{fmmus_of, last_bytes_written, sync_managers_of, write_mapped};
 use ec_regs::SyncMan;
 use ec_wire::FrameBuf;
 

@@ -2,9 +2,9 @@ use Rattle.std.proofs.Common.{◌≡◌, ◌<◌, ◌&&◌, ℕ, List, false, le
 use Rattle.ec_regs.specs.declared.sync_man.SyncMan.{SyncMan}
 use Rattle.std.specs.List.{slice_get}
 use Rattle.std.proofs.Common.{Some}
-use Rattle.ec_esc.specs.Records.{sync_managers_of}
-use Rattle.ec_esc.specs.Ranges.{within, takes_writes}
-use Rattle.ec_esc.specs.Showing.{last_byte}
+use Rattle.ec_areas.specs.Records.{sync_managers_of}
+use Rattle.ec_areas.specs.Ranges.{within, takes_writes}
+use Rattle.ec_areas.specs.Showing.{last_byte}
 use Rattle.ec_esc.proofs.physical_write.last_bytes_written.Given as goal
 
 -- of the areas before this one it is known whether their last byte is written

@@ -1,8 +1,9 @@
 use Rattle.std.proofs.Common.{◌≡◌, ℕ, ◌<◌, List, length, set, refl, sym, ◌∙◌, ap, arith}
 use Rattle.std.proofs.lemmas.List.{length-set}
 use Rattle.ec_regs.specs.declared.registers.TheConstants.{MEMORY_SIZE}
-use Rattle.ec_esc.specs.Records.{sync_managers_of}
-use Rattle.ec_esc.specs.Writing.{is_switched, status_address}
+use Rattle.ec_areas.specs.Records.{sync_managers_of}
+use Rattle.ec_esc.specs.Writing.{is_switched}
+use Rattle.ec_areas.specs.Ranges.{status_address}
 use Rattle.ec_esc.proofs.SettledLemmas.{settled_to, settled_none, settled_more, settled_skip, settled_all, switched_by_records}
 use Rattle.ec_esc.proofs.physical_write.settle.Goals as goal
 use Rattle.ec_esc.proofs.physical_write.settle.Goals.{then-is_switched, else-is_switched}

@@ -1,5 +1,5 @@
 use Rattle.std.proofs.Common.{◌≡◌, ℕ, List, length, get_or}
-use Rattle.ec_esc.specs.Records.{sync_managers_of}
+use Rattle.ec_areas.specs.Records.{sync_managers_of}
 use Rattle.ec_esc.proofs.SettledLemmas.{settled_to}
 use Rattle.ec_esc.proofs.physical_write.settle.Given as goal
 

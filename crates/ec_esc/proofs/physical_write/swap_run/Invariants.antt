@@ -1,6 +1,6 @@
 use Rattle.std.proofs.Common.{◌≡◌, ◌+◌, ◌<◌, ◌≤◌, ℕ, length, get_or}
 use Rattle.ec_regs.specs.Bits.{AreBytes}
-use Rattle.ec_esc.specs.Ranges.{takes_writes}
+use Rattle.ec_areas.specs.Ranges.{takes_writes}
 use Rattle.ec_esc.proofs.WrittenLemmas.{written_byte, among}
 use Rattle.ec_esc.proofs.physical_write.swap_run.Given as goal
 

@@ -1,5 +1,5 @@
 use Rattle.std.proofs.Common.{◌≡◌, ℕ, ◌+◌, ◌<◌, length, get_or, refl, ◌∙◌, ap, arith}
-use Rattle.ec_esc.specs.Ranges.{takes_writes}
+use Rattle.ec_areas.specs.Ranges.{takes_writes}
 use Rattle.ec_esc.proofs.WrittenLemmas.{written_byte, written_none, written_more, written_length, written_run, among, among_behind}
 use Rattle.ec_esc.proofs.physical_write.write_run.Goals as goal
 

@@ -1,5 +1,5 @@
 use Rattle.std.proofs.Common.{◌≡◌, ℕ, length, get_or}
-use Rattle.ec_esc.specs.Ranges.{takes_writes}
+use Rattle.ec_areas.specs.Ranges.{takes_writes}
 use Rattle.ec_esc.proofs.WrittenLemmas.{written_byte, among}
 use Rattle.ec_esc.proofs.physical_write.write_run.Given as goal
 

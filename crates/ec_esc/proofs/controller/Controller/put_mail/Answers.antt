@@ -3,10 +3,10 @@ use Rattle.std.specs.Int.{bit_at}
 use Rattle.ec_regs.specs.declared.sync_man.SyncMan.{SyncMan}
 use Rattle.ec_esc.specs.Application.{mail_area}
 use Rattle.ec_esc.specs.Pass.{with_filled}
-use Rattle.ec_esc.specs.Ranges.{is_full}
-use Rattle.ec_esc.specs.Records.{sync_manager_at}
+use Rattle.ec_areas.specs.Ranges.{is_full}
+use Rattle.ec_areas.specs.Records.{sync_manager_at}
 use Rattle.ec_esc.specs.State.{ControllerState, with_run}
-use Rattle.ec_esc.specs.Writing.{status_address}
+use Rattle.ec_areas.specs.Ranges.{status_address}
 use Rattle.ec_esc.proofs.ApplicationLemmas.{get_or-with_run_before, empty_bit, take-padded}
 use Rattle.ec_esc.proofs.controller.Controller.put_mail.Goals as goal
 

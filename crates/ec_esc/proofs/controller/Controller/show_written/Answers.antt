@@ -1,11 +1,11 @@
 use Rattle.std.proofs.Common.{◌≡◌, ◌≤◌, ◌+◌, ℕ, Bool, true, List, length, get_or, sym, ◌∙◌, ap, refl, arith}
 use Rattle.ec_regs.specs.declared.sync_man.SyncMan.{SyncMan}
 use Rattle.ec_regs.specs.declared.registers.TheConstants.{PROCESS_MEMORY, MEMORY_SIZE}
-use Rattle.ec_esc.specs.Areas.{is_active}
+use Rattle.ec_areas.specs.Areas.{is_active}
 use Rattle.ec_esc.specs.State.{ControllerState, with_area_shown}
-use Rattle.ec_esc.specs.Showing.{SaysOfLastBytes}
+use Rattle.ec_areas.specs.Showing.{SaysOfLastBytes}
 use Rattle.ec_esc.specs.Writing.{hands_over}
-use Rattle.ec_esc.proofs.LogicalLemmas.{both}
+use Rattle.ec_areas.proofs.LogicalLemmas.{both}
 use Rattle.ec_esc.proofs.ShowLemmas.{length-with_area_shown, hands_over_at, shown_after_more, shown_after_skip, shown_after_done}
 use Rattle.ec_esc.proofs.controller.Controller.show_written.Goals as goal
 use Rattle.ec_esc.proofs.controller.Controller.show_written.Goals.{then-hands_over, else-hands_over}

@@ -1,6 +1,6 @@
 use Rattle.std.proofs.Common.{◌≡◌, ℕ, Bool, length, drop}
 use Rattle.ec_regs.specs.declared.registers.TheConstants.{PROCESS_MEMORY_SIZE}
-use Rattle.ec_esc.specs.Showing.{SaysOfLastBytes}
+use Rattle.ec_areas.specs.Showing.{SaysOfLastBytes}
 use Rattle.ec_esc.specs.Writing.{shown_after}
 use Rattle.ec_esc.proofs.controller.Controller.show_written.Given as goal
 

@@ -1,7 +1,7 @@
 use Rattle.std.proofs.Common.{◌≡◌, ℕ, List, length, sym, ◌∙◌, ap, arith}
 use Rattle.ec_regs.specs.Bits.{AreBytes}
 use Rattle.ec_regs.specs.declared.registers.TheConstants.{MEMORY_SIZE}
-use Rattle.ec_esc.specs.Records.{sync_managers_of}
+use Rattle.ec_areas.specs.Records.{sync_managers_of}
 use Rattle.ec_esc.specs.State.{ControllerState}
 use Rattle.ec_esc.proofs.PhysicalLemmas.{with_written, range_written_by}
 use Rattle.ec_esc.proofs.controller.Controller.swap_range.Goals as goal

@@ -1,7 +1,7 @@
 use Rattle.std.proofs.Common.{◌≡◌, true, sym, ◌∙◌, ap}
 use Rattle.ec_regs.specs.declared.sync_man.SyncMan.{SyncMan}
-use Rattle.ec_esc.specs.Ranges.{is_full}
-use Rattle.ec_esc.specs.Records.{sync_manager_at}
+use Rattle.ec_areas.specs.Ranges.{is_full}
+use Rattle.ec_areas.specs.Records.{sync_manager_at}
 use Rattle.ec_esc.proofs.ApplicationLemmas.{full_bit}
 use Rattle.ec_esc.proofs.controller.Controller.take_mail.Goals as goal
 

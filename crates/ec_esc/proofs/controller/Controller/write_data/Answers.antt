@@ -1,9 +1,9 @@
 use Rattle.std.proofs.Common.{◌≡◌, ◌+◌, ◌*◌, length, sym, ◌∙◌, ap}
 use Rattle.ec_regs.proofs.BitLemmas.{length-with_bits}
 use Rattle.ec_wire.specs.Datagram.{DatagramRecord, blank}
-use Rattle.ec_esc.specs.Logical.{write_map, names}
+use Rattle.ec_areas.specs.Logical.{write_map, names}
 use Rattle.ec_esc.specs.Pass.{written_state}
-use Rattle.ec_esc.specs.Records.{fmmus_of, sync_managers_of}
+use Rattle.ec_areas.specs.Records.{fmmus_of, sync_managers_of}
 use Rattle.ec_esc.specs.State.{ControllerState}
 use Rattle.ec_esc.proofs.WritingLemmas.{shown_state-written}
 use Rattle.ec_esc.proofs.controller.Controller.write_data.Goals as goal

@@ -1,0 +1,49 @@
+use Rattle.std.proofs.Common.{◌≡◌, ◌+◌, ◌*◌, ◌<◌, ◌||◌, Bool, length, sym, ◌∙◌, ap}
+use Rattle.ec_regs.proofs.BitLemmas.{AreBytes-with_bits}
+use Rattle.ec_areas.specs.Logical.{names}
+use Rattle.ec_areas.proofs.CopyLemmas.{or_true, or_false}
+use Rattle.ec_areas.proofs.WriteLemmas.{targets_from, write_map_more, write_map_done, names_more_fmmu, names_no_fmmu}
+use Rattle.ec_areas.proofs.logical_write.write_mapped.Goals as goal
+use Rattle.ec_areas.proofs.logical_write.write_mapped.Goals.{then-write_through, else-write_through}
+
+pub loop-fmmu-preserved : goal.loop-fmmu-preserved
+loop-fmmu-preserved c =
+    let managers = c.args.managers.now in
+    let fmmus = c.args.fmmus.now in
+    let payload = c.args.payload.now in
+    let from = 8 * c.args.address in
+    let bits = 8 * length payload in
+    let k = c.loop-fmmu.fmmu-index in
+    let inside : k < length fmmus = c.loop-fmmu-test.true in
+    let here : Bool = c.write_through.result in
+    let behind : Bool = names (targets_from managers fmmus (k + 1) from) bits in
+    let more : names (targets_from managers fmmus k from) bits ≡ (here || behind) =
+    names_more_fmmu managers fmmus k from bits _ inside ∙ ap (λ b. b || behind) (sym c.write_through.ensures.served)
+    in record {
+      bytes = λ j. rw c.write_through.ensures.bits (AreBytes-with_bits c.loop-fmmu.memory payload _ j);
+      bits =
+          write_map_more managers fmmus k from bits _ c.loop-fmmu.memory payload c.write_through.new.memory inside c.write_through.ensures.bits
+          ∙ c.loop-fmmu.invariant.bits;
+      served = elim c.if-write_through.branch [
+        | then-write_through w ↦
+            ap (λ b. b || behind) w.served-is ∙ sym (or_true c.loop-fmmu.served)
+            ∙ ap (λ b. c.loop-fmmu.served || b) (sym (more ∙ ap (λ b. b || behind) w.if-write_through.true))
+            ∙ c.loop-fmmu.invariant.served
+        | else-write_through w ↦
+            ap (λ b. b || behind) w.served-is
+            ∙ ap (λ b. c.loop-fmmu.served || b) (sym (more ∙ ap (λ b. b || behind) w.if-write_through.false))
+            ∙ c.loop-fmmu.invariant.served
+      ];
+    }
+
+pub returns-clause-bits : goal.returns-clause-bits
+returns-clause-bits c =
+    sym (write_map_done c.args.managers.now c.args.fmmus.now c.loop-fmmu.fmmu-index (8 * c.args.address) (8 * length c.args.payload.now) c.loop-fmmu.memory c.args.payload.now
+    c.loop-fmmu-test.false c.loop-fmmu.invariant.bytes)
+    ∙ c.loop-fmmu.invariant.bits
+
+pub returns-clause-served : goal.returns-clause-served
+returns-clause-served c =
+    sym (ap (λ b. c.loop-fmmu.served || b) (names_no_fmmu c.args.managers.now c.args.fmmus.now c.loop-fmmu.fmmu-index (8 * c.args.address) (8 * length c.args.payload.now) c.loop-fmmu-test.false)
+    ∙ or_false c.loop-fmmu.served)
+    ∙ c.loop-fmmu.invariant.served

@@ -1,0 +1,6 @@
+pub mod Areas
+pub mod Records
+pub mod Ranges
+pub mod Logical
+pub mod Copying
+pub mod Showing

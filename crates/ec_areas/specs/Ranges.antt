@@ -1,0 +1,118 @@
+-- A physical command reaches a range of addresses, as far as the areas of the sync managers let it
+-- (IEC 61158-4-12, physical memory access, sync manager and mailbox).
+use Rattle.std.specs.Prelude.{ℕ, ◌+◌, ◌-◌, ◌*◌, ◌/◌, ◌%◌, Bool, ◌==◌, ◌&&◌, ◌||◌, not, nat_le, nat_lt, if◌then◌else◌, Option, None, List, length}
+use Rattle.std.specs.Int.{bit_at}
+use Rattle.std.specs.List.{list_any, position, filter, range_with_len}
+use Rattle.std.specs.Option.{is_some}
+use Rattle.ec_regs.specs.declared.sync_man.SyncMan.{SyncMan}
+use Rattle.ec_regs.specs.declared.registers.TheConstants.{STATION_ADDRESS, AL_CONTROL, FMMU_BASE, FMMU_SIZE, FMMU_COUNT, SYNC_MANAGER_BASE, SYNC_MANAGER_SIZE, SYNC_MANAGER_COUNT, PROCESS_MEMORY, MEMORY_SIZE}
+use Rattle.ec_areas.specs.Areas.{is_active, is_mailbox, master_reads, master_writes}
+use Rattle.ec_areas.specs.Records.{sync_manager_at}
+
+-- is an address one of the n from another one on
+abbrev pub within : ℕ → ℕ → ℕ → Bool
+within from n address = nat_le from address && nat_lt address (from + n)
+
+-- are there bytes in the range, and do all of them lie in the memory
+abbrev pub is_range : ℕ → ℕ → Bool
+is_range from n = nat_le 1 n && nat_le (from + n) MEMORY_SIZE
+
+-- ---- the areas that a range meets
+
+-- does the range share a byte with the area
+unfoldable pub meets : SyncMan → ℕ → ℕ → Bool
+meets s from n = is_active s && nat_lt s.start (from + n) && nat_lt from (s.start + s.length)
+
+-- does it share one with an area that is kept from reads: a mailbox, or an area that the master writes
+abbrev pub meets_hidden : List SyncMan → ℕ → ℕ → Bool
+meets_hidden managers from n = list_any (λ s. meets s from n && (is_mailbox s || master_writes s)) managers
+
+-- does it share one with an area that is kept from writes: a mailbox, or an area that the master reads
+abbrev pub meets_locked : List SyncMan → ℕ → ℕ → Bool
+meets_locked managers from n = list_any (λ s. meets s from n && (is_mailbox s || master_reads s)) managers
+
+-- does it meet one area alone
+abbrev pub meets_one : List SyncMan → ℕ → ℕ → Bool
+meets_one managers from n = length (filter (λ s. meets s from n) managers) == 1
+
+-- ---- mailboxes, which are read and written whole
+
+-- bit 3 of the status byte of a sync manager: its mailbox is full
+abbrev pub is_full : SyncMan → Bool
+is_full s = bit_at s.status 3 == 1
+
+-- is the range the whole area of the sync manager
+abbrev pub is_area : SyncMan → ℕ → ℕ → Bool
+is_area s from n = is_active s && s.start == from && s.length == n
+
+-- does a read of the range take the mail of this sync manager: its mailbox is full, and the master reads it
+unfoldable pub gives_mail : ℕ → ℕ → SyncMan → Bool
+gives_mail from n s = is_area s from n && is_mailbox s && master_reads s && is_full s
+
+-- does a write of the range put mail there: its mailbox is empty, and the master writes it
+unfoldable pub takes_mail : ℕ → ℕ → SyncMan → Bool
+takes_mail from n s = is_area s from n && is_mailbox s && master_writes s && not (is_full s)
+
+-- the number of the sync manager whose mailbox a read of the range empties
+unfoldable pub emptied_by : List SyncMan → ℕ → ℕ → Option ℕ
+emptied_by managers from n = if meets_one managers from n then position (gives_mail from n) managers else None
+
+-- the number of the sync manager whose mailbox a write of the range fills
+unfoldable pub filled_by : List SyncMan → ℕ → ℕ → Option ℕ
+filled_by managers from n = if meets_one managers from n then position (takes_mail from n) managers else None
+
+-- ---- registers that the master may write
+
+-- is an address one of the eight bytes of a sync manager's record, and which of them
+abbrev pub is_in_sync_manager : ℕ → Bool
+is_in_sync_manager address = within SYNC_MANAGER_BASE (SYNC_MANAGER_SIZE * SYNC_MANAGER_COUNT) address
+
+abbrev pub sync_manager_number : ℕ → ℕ
+sync_manager_number address = (address - SYNC_MANAGER_BASE) / SYNC_MANAGER_SIZE
+
+abbrev pub sync_manager_offset : ℕ → ℕ
+sync_manager_offset address = (address - SYNC_MANAGER_BASE) % SYNC_MANAGER_SIZE
+
+-- where its status byte stands, which the master does not write, and its activate byte, which it always may
+abbrev pub STATUS_OFFSET : ℕ
+STATUS_OFFSET = 5
+
+abbrev pub ACTIVATE_OFFSET : ℕ
+ACTIVATE_OFFSET = 6
+
+-- the address of the status byte of the sync manager with a number
+abbrev pub status_address : ℕ → ℕ
+status_address i = SYNC_MANAGER_BASE + SYNC_MANAGER_SIZE * i + STATUS_OFFSET
+
+-- start, length and control may be written while the sync manager is not active
+abbrev pub is_writable_field : List ℕ → ℕ → Bool
+is_writable_field memory address =
+    sync_manager_offset address == ACTIVATE_OFFSET
+    || (nat_lt (sync_manager_offset address) STATUS_OFFSET && not (is_active (sync_manager_at memory (sync_manager_number address))))
+
+-- does a byte of the memory take what a physical command writes: the station address, AL control, the FMMUs, the
+-- fields of sync managers, and process memory
+unfoldable pub takes_writes : List ℕ → ℕ → Bool
+takes_writes memory address =
+    within STATION_ADDRESS 2 address
+    || within AL_CONTROL 2 address
+    || within FMMU_BASE (FMMU_SIZE * FMMU_COUNT) address
+    || (is_in_sync_manager address && is_writable_field memory address)
+    || within PROCESS_MEMORY (MEMORY_SIZE - PROCESS_MEMORY) address
+
+-- is a test true of one of the n addresses from one on
+unfoldable pub some_address : (ℕ → Bool) → ℕ → ℕ → Bool
+some_address test from n = list_any test (range_with_len from n)
+
+-- ---- what is served, by the records on arrival
+
+-- a read: of bytes that no area keeps from reads, or of a whole mailbox
+abbrev pub serves_physical_read : List SyncMan → ℕ → ℕ → Bool
+serves_physical_read managers from n =
+    is_range from n && (not (meets_hidden managers from n) || is_some (emptied_by managers from n))
+
+-- a write: of bytes that no area keeps from writes and of which one takes it, or of a whole mailbox
+abbrev pub serves_physical_write : List ℕ → List SyncMan → ℕ → ℕ → Bool
+serves_physical_write memory managers from n =
+    is_range from n
+    && ((not (meets_locked managers from n) && some_address (takes_writes memory) from n) || is_some (filled_by managers from n))

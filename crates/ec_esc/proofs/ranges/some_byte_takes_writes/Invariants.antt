@@ -1,8 +1,0 @@
-use Rattle.std.proofs.Common.{◌≡◌, ℕ, false, List}
-use Rattle.ec_esc.specs.Records.{sync_managers_of}
-use Rattle.ec_esc.specs.Ranges.{takes_writes, some_address}
-use Rattle.ec_esc.proofs.ranges.some_byte_takes_writes.Given as goal
-
--- none of the bytes before takes a write
-abbrev pub invariant-loop-place : goal.invariant-loop-place
-invariant-loop-place l = (memory : List ℕ) → l.managers ≡ sync_managers_of memory → some_address (takes_writes memory) l.from l.place ≡ false

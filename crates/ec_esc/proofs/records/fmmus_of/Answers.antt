@@ -1,6 +1,0 @@
-use Rattle.ec_esc.specs.Records.{fmmus_of}
-use Rattle.ec_esc.proofs.records.fmmus_of.Goals as goal
-
-pub returns : goal.returns
-unfolding fmmus_of
-returns c = cc

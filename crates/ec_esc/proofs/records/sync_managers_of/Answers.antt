@@ -1,6 +1,0 @@
-use Rattle.ec_esc.specs.Records.{sync_managers_of}
-use Rattle.ec_esc.proofs.records.sync_managers_of.Goals as goal
-
-pub returns : goal.returns
-unfolding sync_managers_of
-returns c = cc
