@@ -1,0 +1,3 @@
+pub mod SdoLemmas
+pub mod MailLemmas
+pub mod ObjectLemmas

@@ -1,0 +1,4 @@
+pub mod Value
+pub mod Sdo
+pub mod Mail
+pub mod Objects

@@ -1,0 +1,300 @@
+//! Service data objects of CoE, expedited (IEC 61158-6-12, SDO services).
+
+ghost use Rattle.std.specs.Prelude.{◌≡◌};
+ghost use Rattle.ec_app.specs.Sdo.{are_zero, spelt, uploaded, download};
+
+use crate::value::Value;
+use byteorder::{ByteOrder, LittleEndian};
+
+// The commands, by what they do and how many bytes of data they use.
+const UPLOAD: u8 = 0x40;
+
+const UPLOADED_FOUR: u8 = 0x43;
+
+const UPLOADED_TWO: u8 = 0x4B;
+
+const UPLOADED_ONE: u8 = 0x4F;
+
+const DOWNLOAD_FOUR: u8 = 0x23;
+
+const DOWNLOAD_TWO: u8 = 0x2B;
+
+const DOWNLOAD_ONE: u8 = 0x2F;
+
+const DOWNLOADED: u8 = 0x60;
+
+const ABORT: u8 = 0x80;
+
+/// The data of an SDO that uses none.
+const NO_DATA: [u8; 4] = [0; 4];
+
+/// One expedited SDO of eight bytes (IEC 61158-6-12, SDO services): every eight bytes are exactly one.
+#[derive(Clone, Copy, Debug, PartialEq, Eq)]
+pub enum Sdo {
+    /// Asks for a value.
+    Upload {
+        /// The object's index.
+        index: u16,
+        /// Its subindex.
+        sub: u8,
+    },
+    /// Answers an upload.
+    UploadAnswer {
+        /// The object's index.
+        index: u16,
+        /// Its subindex.
+        sub: u8,
+        /// Its value.
+        value: Value,
+    },
+    /// Asks that a value be taken.
+    Download {
+        /// The object's index.
+        index: u16,
+        /// Its subindex.
+        sub: u8,
+        /// The value to be taken.
+        value: Value,
+    },
+    /// Answers a download.
+    DownloadAnswer {
+        /// The object's index.
+        index: u16,
+        /// Its subindex.
+        sub: u8,
+    },
+    /// Refuses a request, or ends it.
+    Abort {
+        /// The object's index.
+        index: u16,
+        /// Its subindex.
+        sub: u8,
+        /// Why.
+        code: u32,
+    },
+    /// Any other eight bytes.
+    Other([u8; 8]),
+}
+
+/// Are these bytes 0?
+fn are_zero(bytes: &[u8]) -> bool
+    ensures { result ≡ are_zero bytes.now }
+{
+    bytes.iter().all(|byte| *byte == 0)
+}
+
+/// The command of an upload's answer with this value.
+fn uploaded(value: Value) -> u8
+    ensures { result ≡ uploaded value }
+{
+    match value {
+        Value::One(_) => UPLOADED_ONE,
+        Value::Two(_) => UPLOADED_TWO,
+        Value::Four(_) => UPLOADED_FOUR,
+    }
+}
+
+/// The command of a download of this value.
+fn download(value: Value) -> u8
+    ensures { result ≡ download value }
+{
+    match value {
+        Value::One(_) => DOWNLOAD_ONE,
+        Value::Two(_) => DOWNLOAD_TWO,
+        Value::Four(_) => DOWNLOAD_FOUR,
+    }
+}
+
+/// The eight bytes of an SDO with these fields.
+fn spelt(command: u8, index: u16, sub: u8, payload: [u8; 4]) -> [u8; 8]
+    ensures { result ≡ spelt command index sub payload }
+{
+    let [index_low, index_high] = index.to_le_bytes();
+    let [first, second, third, fourth] = payload;
+    [
+        command, index_low, index_high, sub, first, second, third, fourth,
+    ]
+}
+
+impl Sdo {
+    ghost use Rattle.ec_app.specs.Sdo.{sdo_of, sdo_bytes, IsProper};
+
+    /// The SDO that these bytes spell. Bytes that fit no row of the table of expedited SDOs are kept
+    /// as `Other`, also a known command with a data byte that it does not use and that is not 0.
+    pub fn read(bytes: &[u8; 8]) -> Sdo
+        ensures value { result ≡ sdo_of bytes.now }
+        ensures written_back { sdo_bytes result ≡ bytes.now }
+        ensures proper { IsProper result }
+    {
+        Sdo::decoded(bytes)
+    }
+
+    /// The bytes that spell this SDO.
+    pub fn write(&self) -> [u8; 8]
+        ensures value { result ≡ sdo_bytes self.now }
+        ensures read_back { IsProper self.now → sdo_of result ≡ self.now }
+    {
+        match *self {
+            Sdo::Upload { index, sub } => spelt(UPLOAD, index, sub, NO_DATA),
+            Sdo::UploadAnswer { index, sub, value } => {
+                spelt(uploaded(value), index, sub, value.bytes())
+            }
+            Sdo::Download { index, sub, value } => {
+                spelt(download(value), index, sub, value.bytes())
+            }
+            Sdo::DownloadAnswer { index, sub } => spelt(DOWNLOADED, index, sub, NO_DATA),
+            Sdo::Abort { index, sub, code } => spelt(ABORT, index, sub, code.to_le_bytes()),
+            Sdo::Other(bytes) => bytes,
+        }
+    }
+
+    /// The SDO that these bytes spell.
+    #[tactic(auto, unfolding(crate::specs::Sdo::sdo_of))]
+    fn decoded(bytes: &[u8; 8]) -> Sdo
+        ensures { result ≡ sdo_of bytes.now }
+    {
+        let index = LittleEndian::read_u16(&bytes[1..]);
+        let sub = bytes[3];
+        let one = Value::One(bytes[4]);
+        let two = Value::Two(LittleEndian::read_u16(&bytes[4..]));
+        let code = LittleEndian::read_u32(&bytes[4..]);
+        let four = Value::Four(code);
+        match bytes[0] {
+            UPLOAD if are_zero(&bytes[4..]) => Sdo::Upload { index, sub },
+            UPLOADED_FOUR => Sdo::UploadAnswer {
+                index,
+                sub,
+                value: four,
+            },
+            UPLOADED_TWO if are_zero(&bytes[6..]) => Sdo::UploadAnswer {
+                index,
+                sub,
+                value: two,
+            },
+            UPLOADED_ONE if are_zero(&bytes[5..]) => Sdo::UploadAnswer {
+                index,
+                sub,
+                value: one,
+            },
+            DOWNLOAD_FOUR => Sdo::Download {
+                index,
+                sub,
+                value: four,
+            },
+            DOWNLOAD_TWO if are_zero(&bytes[6..]) => Sdo::Download {
+                index,
+                sub,
+                value: two,
+            },
+            DOWNLOAD_ONE if are_zero(&bytes[5..]) => Sdo::Download {
+                index,
+                sub,
+                value: one,
+            },
+            DOWNLOADED if are_zero(&bytes[4..]) => Sdo::DownloadAnswer { index, sub },
+            ABORT => Sdo::Abort { index, sub, code },
+            _ => Sdo::Other(*bytes),
+        }
+    }
+}
+
+#[cfg(test)]
+mod tests {
+    use super::*;
+
+    /// The nine rows of commands, each with the SDO that it spells.
+    const ROWS: [([u8; 8], Sdo); 9] = [
+        (
+            [0x40, 0x18, 0x10, 0x01, 0x00, 0x00, 0x00, 0x00],
+            Sdo::Upload {
+                index: 0x1018,
+                sub: 1,
+            },
+        ),
+        (
+            [0x43, 0x18, 0x10, 0x01, 0x02, 0x03, 0x04, 0x05],
+            Sdo::UploadAnswer {
+                index: 0x1018,
+                sub: 1,
+                value: Value::Four(0x0504_0302),
+            },
+        ),
+        (
+            [0x4B, 0x00, 0x20, 0x00, 0x34, 0x12, 0x00, 0x00],
+            Sdo::UploadAnswer {
+                index: 0x2000,
+                sub: 0,
+                value: Value::Two(0x1234),
+            },
+        ),
+        (
+            [0x4F, 0x00, 0x20, 0xFF, 0x7F, 0x00, 0x00, 0x00],
+            Sdo::UploadAnswer {
+                index: 0x2000,
+                sub: 255,
+                value: Value::One(0x7F),
+            },
+        ),
+        (
+            [0x23, 0x00, 0x20, 0x01, 0xEF, 0xBE, 0xAD, 0xDE],
+            Sdo::Download {
+                index: 0x2000,
+                sub: 1,
+                value: Value::Four(0xDEAD_BEEF),
+            },
+        ),
+        (
+            [0x2B, 0x00, 0x20, 0x00, 0x34, 0x12, 0x00, 0x00],
+            Sdo::Download {
+                index: 0x2000,
+                sub: 0,
+                value: Value::Two(0x1234),
+            },
+        ),
+        (
+            [0x2F, 0x12, 0x34, 0x56, 0x78, 0x00, 0x00, 0x00],
+            Sdo::Download {
+                index: 0x3412,
+                sub: 0x56,
+                value: Value::One(0x78),
+            },
+        ),
+        (
+            [0x60, 0x00, 0x20, 0x00, 0x00, 0x00, 0x00, 0x00],
+            Sdo::DownloadAnswer {
+                index: 0x2000,
+                sub: 0,
+            },
+        ),
+        (
+            [0x80, 0x00, 0x20, 0x00, 0x00, 0x00, 0x02, 0x06],
+            Sdo::Abort {
+                index: 0x2000,
+                sub: 0,
+                code: 0x0602_0000,
+            },
+        ),
+    ];
+
+    #[test]
+    fn each_row_is_read_and_written(rt: HostRuntime) {
+        for (bytes, sdo) in ROWS {
+            assert_eq!(rt; Sdo::read(&bytes), sdo);
+            assert_eq!(rt; sdo.write(), bytes);
+        }
+    }
+
+    #[test]
+    fn unused_data_that_is_not_zero_makes_another_sdo(rt: HostRuntime) {
+        for bytes in [
+            [0x40, 0x18, 0x10, 0x01, 0x01, 0x00, 0x00, 0x00],
+            [0x4B, 0x00, 0x20, 0x00, 0x34, 0x12, 0x01, 0x00],
+            [0x2F, 0x00, 0x20, 0x00, 0x34, 0x12, 0x00, 0x00],
+            [0x60, 0x00, 0x20, 0x00, 0x00, 0x00, 0x00, 0x01],
+            [0x21, 0x00, 0x20, 0x00, 0x08, 0x00, 0x00, 0x00],
+        ] {
+            assert_eq!(rt; Sdo::read(&bytes), Sdo::Other(bytes));
+            assert_eq!(rt; Sdo::Other(bytes).write(), bytes);
+        }
+    }
+}

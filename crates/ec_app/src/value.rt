@@ -1,0 +1,71 @@
+//! What an object holds, and who may read and write it (IEC 61158-6-12, object dictionary).
+
+ghost use Rattle.std.specs.Prelude.{◌≡◌};
+
+use byteorder::{ByteOrder, LittleEndian};
+
+/// The value of an object: a number of one, two or four bytes, its lowest byte first.
+#[derive(Clone, Copy, Debug, PartialEq, Eq)]
+pub enum Value {
+    /// One byte.
+    One(u8),
+    /// Two bytes.
+    Two(u16),
+    /// Four bytes.
+    Four(u32),
+}
+
+impl Value {
+    ghost use Rattle.ec_app.specs.Sdo.{value_bytes};
+    ghost use Rattle.ec_app.specs.Value.{size_of, FitsValue};
+
+    /// How many bytes the value has: 1, 2 or 4.
+    pub fn size(&self) -> usize
+        ensures { result ≡ size_of self.now }
+    {
+        match self {
+            Value::One(_) => 1,
+            Value::Two(_) => 2,
+            Value::Four(_) => 4,
+        }
+    }
+
+    /// The value's bytes, and zeros up to four. (Its clause `fits` is what a proof knows of every value.)
+    pub(crate) fn bytes(&self) -> [u8; 4]
+        ensures value { result ≡ value_bytes self.now }
+        ensures fits { FitsValue self.now }
+    {
+        match self {
+            Value::One(number) => [*number, 0, 0, 0],
+            Value::Two(number) => {
+                let mut bytes = [0; 4];
+                LittleEndian::write_u16(&mut bytes, *number);
+                bytes
+            }
+            Value::Four(number) => number.to_le_bytes(),
+        }
+    }
+}
+
+/// What the master may do with an object.
+#[derive(Clone, Copy, Debug, PartialEq, Eq)]
+pub enum Rights {
+    /// It may be uploaded alone.
+    ReadOnly,
+    /// It may be downloaded alone.
+    WriteOnly,
+    /// It may be uploaded and downloaded.
+    Both,
+}
+
+#[cfg(test)]
+mod tests {
+    use super::*;
+
+    #[test]
+    fn value_has_one_two_or_four_bytes(rt: HostRuntime) {
+        for (value, size) in [(Value::One(0), 1), (Value::Two(0), 2), (Value::Four(0), 4)] {
+            assert_eq!(rt; value.size(), size);
+        }
+    }
+}
