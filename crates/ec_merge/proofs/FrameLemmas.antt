@@ -11,7 +11,8 @@ use Rattle.ec_merge.specs.declared.frames.JoinFault.TheVariants.{StrangerA, Stra
 use Rattle.ec_merge.specs.Rule.{joined_count, joined_bits, joined_flag}
 use Rattle.ec_merge.specs.Laws.{joined_count_symmetric, joined_count_unit, joined_bits_symmetric, joined_bits_unit, joined_flag_symmetric, joined_flag_unit}
 use Rattle.ec_merge.specs.Bytes.{joined_bytes}
-use Rattle.ec_merge.specs.Frames.{counts_adp, fixed_address, belongs, IsOwn, IsStranger, IsFault, joined_address, with_joined_address, with_joined_fields, joined_record, joined_part, joined_frame}
+use Rattle.ec_wire.specs.Command.{counts_adp}
+use Rattle.ec_merge.specs.Frames.{fixed_address, belongs, IsOwn, IsStranger, IsFault, joined_address, with_joined_address, with_joined_fields, joined_record, joined_part, joined_frame}
 
 -- ---- datagrams that belong together
 

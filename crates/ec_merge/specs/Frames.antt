@@ -1,24 +1,16 @@
--- Two copies of a frame are joined datagram by datagram (IEC 61158-4-12, the datagram structure), unless one of them
--- is a stranger: a frame that cannot have come of the sent one.
-use Rattle.std.specs.Prelude.{◌≡◌, ◌≢◌, ◌==◌, ℕ, zero, suc, ◌+◌, ◌*◌, ◌/◌, ◌%◌, ◌<◌, ◌≤◌, Bool, true, false, ◌&&◌, if◌then◌else◌, List, [], ◌∷◌, length, Option, unwrap_or}
+-- Two copies of a frame are joined datagram by datagram (IEC 61158-4-12, the datagram structure), unless one
+-- of them is a stranger: a frame that cannot have come of the sent one.
+use Rattle.std.specs.Prelude.{◌≡◌, ◌≢◌, ◌==◌, ℕ, zero, suc, ◌+◌, ◌*◌, ◌/◌, ◌%◌, ◌<◌, ◌≤◌, Bool, true, false}
+use Rattle.std.specs.Prelude.{◌&&◌, if◌then◌else◌, List, [], ◌∷◌, length, Option, unwrap_or}
 use Rattle.std.specs.Option.{option_copied}
 use Rattle.std.specs.Borrow.{Bor}
+use Rattle.ec_wire.specs.Command.{counts_adp}
 use Rattle.ec_wire.specs.Datagram.{DatagramRecord, nth, code_of}
 use Rattle.ec_wire.specs.declared.command.Command.{Command}
-use Rattle.ec_wire.specs.declared.command.Command.TheVariants.{Aprd, Apwr, Aprw, Brd, Bwr}
 use Rattle.ec_merge.specs.declared.frames.JoinFault.{JoinFault}
 use Rattle.ec_merge.specs.declared.frames.JoinFault.TheVariants.{StrangerA, StrangerB}
 use Rattle.ec_merge.specs.Rule.{joined_count, joined_bits, joined_flag}
 use Rattle.ec_merge.specs.Bytes.{joined_bytes}
-
--- the commands whose auto-increment address each slave counts up
-abbrev pub counts_adp : Command → Bool
-counts_adp Aprd = true
-counts_adp Apwr = true
-counts_adp Aprw = true
-counts_adp Brd = true
-counts_adp Bwr = true
-counts_adp _ = false
 
 -- a copy, for which the sent frame stands where it is missing
 abbrev pub copy_or : {T : Type 0} → Option (Bor T) → T → T
@@ -26,7 +18,8 @@ copy_or copy sent = unwrap_or (option_copied copy) sent
 
 -- ---- strangers
 
--- the part of an address that slaves leave as it is: the ADO alone where they count up the ADP, else all of it
+-- the part of an address that slaves leave as it is: the ADO alone where they count up the ADP, else all of
+-- it
 abbrev pub fixed_address : Command → ℕ → ℕ
 fixed_address command address = if counts_adp command then address / 65536 else address
 
@@ -41,8 +34,8 @@ pub record IsOwn (sent copy : List DatagramRecord) : Type 0 where
   pub count : length copy ≡ length sent
   pub each : (k : ℕ) → k < length sent → belongs (nth sent k) (nth copy k) ≡ true
 
--- a stranger, whose datagram k is the first that differs: all before it may have come of the sent ones, it may not, and
--- where one frame ends at k the other does not
+-- a stranger, whose datagram k is the first that differs: all before it may have come of the sent ones, it
+-- may not, and where one frame ends at k the other does not
 pub record IsStranger (sent copy : List DatagramRecord) (k : ℕ) : Type 0 where
   pub in_sent : k ≤ length sent
   pub in_copy : k ≤ length copy

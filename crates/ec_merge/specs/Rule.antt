@@ -1,5 +1,5 @@
--- What a redundant master makes of two copies of one value that it sent: a working counter has moved as far as in both
--- copies together, and a bit has changed exactly if it has in some copy.
+-- What a redundant master makes of two copies of one value that it sent: a working counter has moved as far
+-- as in both copies together, and a bit has changed exactly if it has in some copy.
 use Rattle.std.specs.Prelude.{◌≢◌, ◌↔◌, ◌⊎◌, ℕ, ◌+◌, ◌-◌, ◌%◌, Bool, true, false, ◌&&◌, ◌||◌}
 use Rattle.std.specs.Int.Bits.{bit_or, bit_xor}
 

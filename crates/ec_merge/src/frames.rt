@@ -1,10 +1,14 @@
 //! Whole frames, joined in place.
 
-ghost use Rattle.std.specs.Prelude.{◌≡◌, ℕ, List, ◌<◌, ◌≤◌, ◌%◌, length, slice_set, OnOk, IfOk, IfErr, MatchOption, true, All};
+ghost use Rattle.std.specs.Prelude.{◌≡◌, ℕ, List, ◌<◌, ◌≤◌, ◌%◌, length, slice_set, OnOk, IfOk, IfErr};
+ghost use Rattle.std.specs.Prelude.{MatchOption, true, All};
 ghost use Rattle.ec_wire.specs.Datagram.{DatagramRecord, nth, Fits};
 ghost use Rattle.ec_merge.specs.declared.frames.JoinFault.{JoinFault};
 ghost use Rattle.ec_merge.specs.Bytes.{joined_bytes};
-ghost use Rattle.ec_merge.specs.Frames.{copy_or, counts_adp, fixed_address, belongs, IsOwn, IsStranger, IsFault, with_joined_address, with_joined_fields, joined_record, joined_part, joined_frame};
+ghost use Rattle.ec_wire.specs.Command.{counts_adp};
+ghost use Rattle.ec_merge.specs.Frames.{copy_or, fixed_address, belongs, IsOwn, IsStranger, IsFault};
+ghost use Rattle.ec_merge.specs.Frames.{with_joined_address, with_joined_fields, joined_record, joined_part};
+ghost use Rattle.ec_merge.specs.Frames.{joined_frame};
 
 use crate::bytes::join_bytes;
 use crate::merge::{Counter, Flag, Irq, Merge};
@@ -23,21 +27,11 @@ pub enum JoinFault {
     StrangerB(usize),
 }
 
-/// Whether slaves count up the ADP under this command.
-fn counts_adp(command: Command) -> bool
-    ensures { result ≡ counts_adp command }
-{
-    match command {
-        Command::Aprd | Command::Apwr | Command::Aprw | Command::Brd | Command::Bwr => true,
-        _ => false,
-    }
-}
-
 /// The part of an address that slaves leave as it is.
 fn fixed_address(command: Command, address: u32) -> u32
     ensures { result ≡ fixed_address command address }
 {
-    if counts_adp(command) {
+    if command.counts_adp() {
         address / ONE_ADO
     } else {
         address
@@ -57,8 +51,8 @@ fn belongs(sent: &FrameBuf, copy: &FrameBuf, k: usize) -> bool
         && fixed_address(command, copy.address(k)) == fixed_address(command, sent.address(k))
 }
 
-/// The first datagram from `from` on at which a copy differs, if it is a stranger; all before may have come of the
-/// sent ones.
+/// The first datagram from `from` on at which a copy differs, if it is a stranger; all before may have come
+/// of the sent ones.
 fn first_difference(sent: &FrameBuf, copy: &FrameBuf, from: usize) -> Option<usize>
     requires in_sent { from ≤ length sent.now }
     requires in_copy { from ≤ length copy.now }
@@ -76,14 +70,6 @@ fn first_difference(sent: &FrameBuf, copy: &FrameBuf, from: usize) -> Option<usi
     } else {
         Some(shared)
     }
-}
-
-/// The low half of the address of the datagram at `k`.
-fn adp(frame: &FrameBuf, k: usize) -> Counter
-    requires { k < length frame.now }
-    ensures { result.0 ≡ (nth frame.now k).address % 65536 }
-{
-    Counter((frame.address(k) % ONE_ADO) as u16)
 }
 
 /// Joins the data of the datagram at `k` of another copy in; all else stays.
@@ -109,8 +95,12 @@ fn join_adp(sent: &FrameBuf, into: &mut FrameBuf, other: &FrameBuf, k: usize)
     ensures { into.new ≡ slice_set into.old k
         (with_joined_address (nth sent.now k) (nth into.old k) (nth other.now k)) }
 {
-    if counts_adp(sent.command(k)) {
-        let joined = Counter::join(adp(sent, k), adp(into, k), adp(other, k));
+    if sent.command(k).counts_adp() {
+        let joined = Counter::join(
+            Counter(sent.adp(k)),
+            Counter(into.adp(k)),
+            Counter(other.adp(k)),
+        );
         into.set_adp(k, joined.0);
     }
 }
@@ -156,7 +146,8 @@ fn join_datagram(sent: &FrameBuf, into: &mut FrameBuf, other: &FrameBuf, k: usiz
     join_fields(sent, into, other, k);
 }
 
-/// Joins another copy in, as far as every datagram of both may have come of the sent one, and says how many are joined.
+/// Joins another copy in, as far as every datagram of both may have come of the sent one, and says how many
+/// are joined.
 fn join_front(sent: &FrameBuf, into: &mut FrameBuf, other: &FrameBuf) -> usize
     ensures in_sent { result ≤ length sent.now }
     ensures in_into { result ≤ length into.old }
@@ -176,9 +167,10 @@ fn join_front(sent: &FrameBuf, into: &mut FrameBuf, other: &FrameBuf) -> usize
     shared
 }
 
-/// Joins two copies of a sent frame, of which a missing one stands for the sent frame. Data, circulating bits and
-/// event requests are joined bit by bit; working counters, and the ADP where slaves count it up, have moved as
-/// far as in both copies together. A stranger is named with its first datagram that differs, copy a before b.
+/// Joins two copies of a sent frame, of which a missing one stands for the sent frame. Data, circulating bits
+/// and event requests are joined bit by bit; working counters, and the ADP where slaves count it up, have
+/// moved as far as in both copies together. A stranger is named with its first datagram that differs, copy a
+/// before b.
 pub fn join_frames(
     sent: &FrameBuf,
     a: Option<&FrameBuf>,

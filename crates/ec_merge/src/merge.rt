@@ -4,8 +4,8 @@ ghost use Rattle.std.specs.Prelude.{◌≡◌, ℕ, ◌+◌, ◌%◌, ◌<◌, B
 ghost use Rattle.std.specs.Int.{bit_at};
 ghost use Rattle.ec_merge.specs.Rule.{distance, joined_count, joined_bits, joined_flag, IsJoinedBit};
 
-/// A value that a redundant master sends twice, and of which two copies come back. The join takes what each copy
-/// has gained over the sent value.
+/// A value that a redundant master sends twice, and of which two copies come back. The join takes what each
+/// copy has gained over the sent value.
 pub trait Merge {
     /// What `join` gives, of the sent value and two copies.
     ghost joined: { Self → Self → Self → Self };
@@ -137,8 +137,8 @@ impl Merge for Flag {
     fn known(&self) {}
 }
 
-/// What joined values are in plain words: a bit differs from the sent one exactly if it does in some copy, and a
-/// counter has moved from the sent one as far as in both copies together.
+/// What joined values are in plain words: a bit differs from the sent one exactly if it does in some copy,
+/// and a counter has moved from the sent one as far as in both copies together.
 pub fn value_rule()
     ensures bits { (s a b i : ℕ)
         → IsJoinedBit (bit_at s i) (bit_at a i) (bit_at b i) (bit_at (joined_bits s a b) i) }

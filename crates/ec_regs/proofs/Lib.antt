@@ -1,4 +1,6 @@
 pub mod BitLemmas
 pub mod RecordLemmas
 pub mod PairLemmas
+pub mod BitRunLemmas
+pub mod PlanLemmas
 pub mod AlLemmas

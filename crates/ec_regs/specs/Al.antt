@@ -1,5 +1,5 @@
--- AL status is the state of the application layer, a code in the four lowest bits of a byte, and above it the bit that tells
--- of an error (IEC 61158-6-12, AL management, AL status).
+-- AL status is the state of the application layer, a code in the four lowest bits of a byte, and above it the
+-- bit that tells of an error (IEC 61158-6-12, AL management, AL status).
 use Rattle.std.specs.Prelude.{◌==◌, ℕ, ◌+◌, ◌%◌, if◌then◌else◌, Option, None, Some}
 use Rattle.std.specs.Int.{bit_at}
 use Rattle.std.specs.Option.{unwrap_or}
@@ -24,6 +24,7 @@ state_of code =
 abbrev pub status_byte : AlStatus → ℕ
 status_byte s = code_of s.state + (if s.error then 16 else 0)
 
--- the status that a byte spells: the state of bits 0 to 3, Init where they are no code, and the error of bit 4
+-- the status that a byte spells: the state of bits 0 to 3, Init where they are no code, and the error of bit
+-- 4
 abbrev pub status_of : ℕ → AlStatus
 status_of byte = record { state = unwrap_or (state_of (byte % 16)) Init; error = bit_at byte 4 == 1 }

@@ -1,6 +1,7 @@
 -- Bits of byte lists: the bits of each byte are numbered from its least significant one, so that bit i of a
 -- list is bit i mod 8 of byte i div 8 (IEC 61158-4-12, bit numbering of the FMMU).
-use Rattle.std.specs.Prelude.{◌≡◌, ◌≢◌, ℕ, ◌+◌, ◌*◌, ◌/◌, ◌%◌, ◌<◌, List, length, map, slice_index, Option, None, Some}
+use Rattle.std.specs.Prelude.{◌≡◌, ◌≢◌, ℕ, ◌+◌, ◌*◌, ◌/◌, ◌%◌, ◌^◌, ◌<◌, List, length, map, slice_index}
+use Rattle.std.specs.Prelude.{Option, None, Some}
 use Rattle.std.specs.Int.{bit_at}
 use Rattle.std.specs.List.{range_with_len}
 use Rattle.std.specs.Option.{option_map_or}
@@ -17,7 +18,12 @@ bit bs i = bit_at (slice_index bs (i / 8)) (i % 8)
 abbrev pub byte_of_bits : (ℕ → ℕ) → ℕ
 byte_of_bits b = b 0 + 2 * b 1 + 4 * b 2 + 8 * b 3 + 16 * b 4 + 32 * b 5 + 64 * b 6 + 128 * b 7
 
--- what stands at bit i once each bit j with `place j` some p has taken bit p of ys: that bit, or else the bit of xs
+-- the eight bits of two neighbouring bytes from bit `shift` of the lower one on, as a byte
+abbrev pub eight_bits : ℕ → ℕ → ℕ → ℕ
+eight_bits low high shift = (high * 2 ^ 8 + low) / 2 ^ shift % 2 ^ 8
+
+-- what stands at bit i once each bit j with `place j` some p has taken bit p of ys: that bit, or else the bit
+-- of xs
 unfoldable pub placed_bit : List ℕ → List ℕ → (ℕ → Option ℕ) → ℕ → ℕ
 placed_bit xs ys place i = option_map_or (bit ys) (place i) (bit xs i)
 

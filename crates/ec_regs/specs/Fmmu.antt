@@ -1,8 +1,10 @@
--- The FMMU record: sixteen bytes, field after field, the lowest byte of a number first (IEC 61158-4-12, FMMU entity).
+-- The FMMU record: sixteen bytes, field after field, the lowest byte of a number first (IEC 61158-4-12, FMMU
+-- entity).
 use Rattle.std.specs.Prelude.{ℕ, List, [], ◌∷◌, ◌++◌, take, drop, slice_index}
 use Rattle.std.specs.Int.{w16, w32, to_le_bytes, from_le_bytes}
 use Rattle.ec_regs.specs.declared.fmmu.Fmmu.{Fmmu}
-use Rattle.ec_regs.specs.declared.fmmu.TheConstants.{LOGICAL_AT, LENGTH_AT, START_AT, STOP_AT, PHYSICAL_AT, BIT_AT, KIND_AT, ACTIVATE_AT, RESERVED_AT}
+use Rattle.ec_regs.specs.declared.fmmu.TheConstants.{LOGICAL_AT, LENGTH_AT, START_AT, STOP_AT, PHYSICAL_AT}
+use Rattle.ec_regs.specs.declared.fmmu.TheConstants.{BIT_AT, KIND_AT, ACTIVATE_AT, RESERVED_AT}
 
 -- the bytes that spell a record
 abbrev pub fmmu_bytes : Fmmu → List ℕ

@@ -1,13 +1,14 @@
--- The pairs of an FMMU: it lays a run of logical bits onto a run of physical bits of the same length, bit for bit
--- (IEC 61158-4-12, FMMU entity). Bit numbers are 8 * byte address + bit.
-use Rattle.std.specs.Prelude.{◌≡◌, ◌==◌, ◌&&◌, ℕ, Bool, ◌+◌, ◌-◌, ◌*◌, ◌<◌, nat_le, nat_lt, if◌then◌else◌, Option, None, Some}
+-- The pairs of an FMMU: it lays a run of logical bits onto a run of physical bits of the same length, bit for
+-- bit (IEC 61158-4-12, FMMU entity). Bit numbers are 8 * byte address + bit.
+use Rattle.std.specs.Prelude.{◌≡◌, ◌==◌, ◌&&◌, ℕ, Bool, ◌+◌, ◌-◌, ◌*◌, ◌<◌, nat_le, nat_lt, if◌then◌else◌}
+use Rattle.std.specs.Prelude.{Option, None, Some}
 use Rattle.std.specs.Int.{bit_at}
 use Rattle.ec_regs.specs.declared.fmmu.Fmmu.{Fmmu}
 use Rattle.ec_regs.specs.declared.fmmu.TheConstants.{LAST_BIT}
 
 -- is the FMMU switched on
-abbrev pub is_active : Fmmu → Bool
-is_active f = bit_at f.activate 0 == 1
+abbrev pub is_switched_on : Fmmu → Bool
+is_switched_on f = bit_at f.activate 0 == 1
 
 -- does the master read through it
 abbrev pub reads : Fmmu → Bool
@@ -26,9 +27,10 @@ first_physical f = 8 * f.physical + f.bit
 
 -- may the FMMU map at all: it is active, has a byte, and its three bit fields name bits of a byte
 abbrev pub can_map : Fmmu → Bool
-can_map f = is_active f && nat_le 1 f.length && nat_le f.start LAST_BIT && nat_le f.stop LAST_BIT && nat_le f.bit LAST_BIT
+can_map f = is_switched_on f && nat_le 1 f.length && nat_le f.start LAST_BIT && nat_le f.stop LAST_BIT && nat_le f.bit LAST_BIT
 
--- how many pairs it has: from the start bit of the first byte to the stop bit of the last one, and none where that is below one
+-- how many pairs it has: from the start bit of the first byte to the stop bit of the last one, and none where
+-- that is below one
 unfoldable pub pair_count : Fmmu → ℕ
 pair_count f = if can_map f then 8 * (f.length - 1) + f.stop + 1 - f.start else 0
 

@@ -1,8 +1,14 @@
--- The sync manager record: eight bytes, field after field, the lowest byte of a number first (IEC 61158-4-12, sync manager entity).
-use Rattle.std.specs.Prelude.{ℕ, List, [], ◌∷◌, ◌++◌, take, drop, slice_index}
-use Rattle.std.specs.Int.{w16, to_le_bytes, from_le_bytes}
+-- The sync manager record: eight bytes, field after field, the lowest byte of a number first; and what its
+-- fields say: an active sync manager guards an area, a run of process memory that is buffered or a mailbox,
+-- and that the master either reads or writes (IEC 61158-4-12, sync manager entity).
+use Rattle.std.specs.Prelude.{ℕ, ◌+◌, ◌/◌, ◌%◌, Bool, ◌==◌, ◌&&◌, ◌||◌, nat_le, if◌then◌else◌, List, [], ◌∷◌}
+use Rattle.std.specs.Prelude.{◌++◌}
+use Rattle.std.specs.Prelude.{take, drop, slice_index}
+use Rattle.std.specs.Int.{bit_at, w16, to_le_bytes, from_le_bytes}
 use Rattle.ec_regs.specs.declared.sync_man.SyncMan.{SyncMan}
-use Rattle.ec_regs.specs.declared.sync_man.TheConstants.{START_AT, LENGTH_AT, CONTROL_AT, STATUS_AT, ACTIVATE_AT, PDI_AT}
+use Rattle.ec_regs.specs.declared.registers.TheConstants.{PROCESS_MEMORY, MEMORY_SIZE}
+use Rattle.ec_regs.specs.declared.sync_man.TheConstants.{START_AT, LENGTH_AT, CONTROL_AT, STATUS_AT}
+use Rattle.ec_regs.specs.declared.sync_man.TheConstants.{ACTIVATE_AT, PDI_AT}
 
 -- the bytes that spell a record
 abbrev pub sync_man_bytes : SyncMan → List ℕ
@@ -19,3 +25,50 @@ sync_man_of bs = record {
   activate = slice_index bs ACTIVATE_AT;
   pdi = slice_index bs PDI_AT;
 }
+
+-- ---- what its fields say
+
+-- bit 0 of its activate byte
+abbrev pub is_enabled : SyncMan → Bool
+is_enabled s = bit_at s.activate 0 == 1
+
+-- bits 0 and 1 of its control byte are 00
+abbrev pub is_buffered : SyncMan → Bool
+is_buffered s = s.control % 4 == 0
+
+-- bits 0 and 1 of its control byte are 10
+abbrev pub is_mailbox : SyncMan → Bool
+is_mailbox s = s.control % 4 == 2
+
+-- bits 2 and 3 of its control byte are 00
+abbrev pub master_reads : SyncMan → Bool
+master_reads s = s.control / 4 % 4 == 0
+
+-- bits 2 and 3 of its control byte are 01
+abbrev pub master_writes : SyncMan → Bool
+master_writes s = s.control / 4 % 4 == 1
+
+-- bit 3 of its status byte: its mailbox is full
+abbrev pub is_full : SyncMan → Bool
+is_full s = bit_at s.status 3 == 1
+
+-- ---- the area that it guards
+
+-- a mailbox has 16 to 128 bytes, a buffered area at least one
+abbrev pub has_area_length : SyncMan → Bool
+has_area_length s =
+    if is_mailbox s then nat_le 16 s.length && nat_le s.length 128 else nat_le 1 s.length
+
+-- the area lies in process memory
+abbrev pub is_in_process_memory : SyncMan → Bool
+is_in_process_memory s = nat_le PROCESS_MEMORY s.start && nat_le (s.start + s.length) MEMORY_SIZE
+
+-- does the sync manager guard an area
+unfoldable pub is_active : SyncMan → Bool
+is_active s =
+    is_enabled s && (is_buffered s || is_mailbox s) && (master_reads s || master_writes s)
+    && has_area_length s && is_in_process_memory s
+
+-- does it guard outputs: a buffered area that the master writes
+abbrev pub guards_outputs : SyncMan → Bool
+guards_outputs s = is_active s && is_buffered s && master_writes s

@@ -1,4 +1,5 @@
-//! The state of the application layer, and the byte of AL status that tells it (IEC 61158-6-12, AL management).
+//! The state of the application layer, and the byte of AL status that tells it (IEC 61158-6-12, AL
+//! management).
 
 ghost use Rattle.std.specs.Prelude.{⊤, ◌≡◌, [], ◌∷◌, codes};
 ghost use Rattle.ec_regs.specs.Al.{code_of, state_of, status_byte, status_of};
@@ -102,8 +103,8 @@ impl AlStatus {
         byte.bits()
     }
 
-    /// The status that a low byte of AL status tells. Bits 0 to 3 that are no state's code read as Init, though
-    /// the AL status of a controller never holds such; bits 5 to 7 have no meaning.
+    /// The status that a low byte of AL status tells. Bits 0 to 3 that are no state's code read as Init,
+    /// though the AL status of a controller never holds such; bits 5 to 7 have no meaning.
     pub fn of_byte(byte: u8) -> AlStatus
         ensures { result ≡ status_of byte }
     {

@@ -139,11 +139,12 @@ impl Fmmu {
         bytes
     }
 
-    ghost use Rattle.ec_regs.specs.Pairs.{is_active, reads, writes, first_logical, first_physical, can_map, pair_count, IsPair, physical_of, logical_of};
+    ghost use Rattle.ec_regs.specs.Pairs.{is_switched_on, reads, writes, first_logical, first_physical};
+    ghost use Rattle.ec_regs.specs.Pairs.{can_map, pair_count, IsPair, physical_of, logical_of};
 
     /// Is the FMMU switched on?
-    pub fn is_active(&self) -> bool
-        ensures { result ≡ is_active self.now }
+    pub fn is_switched_on(&self) -> bool
+        ensures { result ≡ is_switched_on self.now }
     {
         self.activate & ACTIVE != 0
     }
@@ -182,7 +183,7 @@ impl Fmmu {
     fn can_map(&self) -> bool
         ensures { result ≡ can_map self.now }
     {
-        self.is_active()
+        self.is_switched_on()
             && self.length >= 1
             && self.start <= LAST_BIT
             && self.stop <= LAST_BIT
@@ -233,7 +234,8 @@ impl Fmmu {
 mod tests {
     use super::*;
 
-    /// Logical byte 0x00010000, 2 bytes from bit 6 to bit 1, onto physical byte 0x1100 from bit 0; read, active.
+    /// Logical byte 0x00010000, 2 bytes from bit 6 to bit 1, onto physical byte 0x1100 from bit 0; read,
+    /// active.
     const ACROSS_A_BYTE: Fmmu = Fmmu {
         logical: 0x0001_0000,
         length: 2,
@@ -303,7 +305,7 @@ mod tests {
                 activate,
                 ..ACROSS_A_BYTE
             };
-            assert_eq!(rt; record.is_active(), active, "activate {activate}");
+            assert_eq!(rt; record.is_switched_on(), active, "activate {activate}");
         }
     }
 

@@ -1,7 +1,9 @@
 //! The memory of one controller: 12,288 bytes, registers first and then process memory.
 
-ghost use Rattle.std.specs.Prelude.{◌≡◌, ◌+◌, ◌<◌, ◌≤◌, ℕ, IfOk, ◌++◌, length, take, drop, slice_index, slice_set};
+ghost use Rattle.std.specs.Prelude.{◌≡◌, ◌+◌, ◌<◌, ◌≤◌, ℕ, IfOk, ◌++◌, length, take, drop, slice_index};
+ghost use Rattle.std.specs.Prelude.{slice_set};
 
+use crate::bits::copy_bits;
 use crate::registers::MEMORY_SIZE;
 use std::alloc::{AllocError, Global};
 use std::marker::Model;
@@ -78,6 +80,24 @@ impl Memory {
     {
         let from = address as usize;
         self.bytes[from..from + bytes.len()].copy_from_slice(bytes);
+    }
+}
+
+impl Memory {
+    ghost use Rattle.std.specs.Prelude.{◌*◌, ◌^◌};
+    ghost use Rattle.ec_regs.specs.Bits.{with_bits};
+    ghost use Rattle.ec_regs.specs.Pairs.{partner};
+
+    /// Copies `count` bits: those from bit `source` of the bytes on, to those from bit `at` on. All others
+    /// stay. Bit numbers are 8 * byte + bit.
+    pub fn copy_bits(&mut self, at: usize, bytes: &[u8], source: usize, count: usize)
+        requires at_inside { at + count ≤ 8 * MEMORY_SIZE }
+        requires source_inside { source + count ≤ 8 * length bytes.now }
+        requires source_fits { source + count < 2 ^ 64 }
+        ensures value { self.new ≡ with_bits self.old bytes.now (partner at source count) }
+        ensures size { length self.new ≡ MEMORY_SIZE }
+    {
+        copy_bits(self.bytes.as_mut_slice(), at, bytes, source, count);
     }
 }
 

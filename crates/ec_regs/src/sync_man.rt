@@ -1,7 +1,10 @@
-//! The record of a sync manager, which guards one area of process memory (IEC 61158-4-12, sync manager entity).
+//! The record of a sync manager, which guards one area of process memory (IEC 61158-4-12, sync manager
+//! entity).
 
-ghost use Rattle.std.specs.Prelude.{⊤, ◌≡◌, [], ◌∷◌, codes};
+ghost use Rattle.std.specs.Prelude.{⊤, ◌≡◌, ◌+◌, ◌≤◌, [], ◌∷◌, codes, IsTrue};
+ghost use Rattle.ec_regs.specs.declared.registers.TheConstants.{PROCESS_MEMORY, MEMORY_SIZE};
 
+use crate::registers::{MEMORY_SIZE, PROCESS_MEMORY};
 use bitflags::{Flag, Flags, bitflag_items};
 use byteorder::{ByteOrder, LittleEndian};
 
@@ -54,6 +57,39 @@ const ACTIVATE_AT: usize = 6;
 
 const PDI_AT: usize = 7;
 
+/// Bit 0 of the activate byte: the sync manager is enabled.
+const ENABLED: u8 = 0x01;
+
+/// A field of two bits.
+const TWO_BITS: u8 = 0x03;
+
+/// Bits 0 and 1 of the control byte for a buffered area, which may be accessed at any time.
+const BUFFERED: u8 = 0x00;
+
+/// Bits 0 and 1 of the control byte for a mailbox, which is full or empty.
+const MAILBOX: u8 = 0x02;
+
+/// Where the direction stands in the control byte, in bits.
+const DIRECTION_AT: u8 = 2;
+
+/// The direction, bits 2 and 3 of the control byte, of an area that the master reads.
+const MASTER_READS: u8 = 0x00;
+
+/// The direction of an area that the master writes.
+const MASTER_WRITES: u8 = 0x01;
+
+/// Where bit 3 of the status byte stands: the mailbox is full.
+const FULL_AT: u8 = 3;
+
+/// The bit of the status byte that tells that the mailbox is full.
+pub const MAILBOX_FULL: u8 = 0x08;
+
+/// The shortest mailbox, in bytes.
+pub const SHORTEST_MAILBOX: u16 = 16;
+
+/// The longest mailbox, in bytes.
+pub const LONGEST_MAILBOX: u16 = 128;
+
 /// One sync manager record, field by field; every 8 bytes are exactly one record.
 #[derive(Clone, Copy, Debug, PartialEq, Eq)]
 pub struct SyncMan {
@@ -61,8 +97,8 @@ pub struct SyncMan {
     pub start: u16,
     /// The length of the area, in bytes.
     pub length: u16,
-    /// Bits 0 and 1: 00 buffered, 10 mailbox. Bits 2 and 3: 00 the master reads, 01 the master writes. The two
-    /// bits that tell these apart are those of a `SyncManControl`.
+    /// Bits 0 and 1: 00 buffered, 10 mailbox. Bits 2 and 3: 00 the master reads, 01 the master writes. The
+    /// two bits that tell these apart are those of a `SyncManControl`.
     pub control: u8,
     /// Bit 3: the mailbox is full.
     pub status: u8,
@@ -104,6 +140,95 @@ impl SyncMan {
         bytes[ACTIVATE_AT] = self.activate;
         bytes[PDI_AT] = self.pdi;
         bytes
+    }
+
+    ghost use Rattle.ec_regs.specs.SyncMan.{is_enabled, is_buffered, is_mailbox, master_reads, master_writes};
+    ghost use Rattle.ec_regs.specs.SyncMan.{is_full};
+    ghost use Rattle.ec_regs.specs.SyncMan.{has_area_length, is_in_process_memory, is_active, guards_outputs};
+
+    /// Is the sync manager switched on (bit 0 of the activate byte)?
+    fn is_enabled(&self) -> bool
+        ensures { result ≡ is_enabled self.now }
+    {
+        self.activate & ENABLED != 0
+    }
+
+    /// Is its area buffered (bits 0 and 1 of the control byte are 00)?
+    pub fn is_buffered(&self) -> bool
+        ensures { result ≡ is_buffered self.now }
+    {
+        self.control & TWO_BITS == BUFFERED
+    }
+
+    /// Is its area a mailbox (bits 0 and 1 of the control byte are 10)?
+    pub fn is_mailbox(&self) -> bool
+        ensures { result ≡ is_mailbox self.now }
+    {
+        self.control & TWO_BITS == MAILBOX
+    }
+
+    /// Does the master read its area (bits 2 and 3 of the control byte are 00)?
+    pub fn master_reads(&self) -> bool
+        ensures { result ≡ master_reads self.now }
+    {
+        self.control >> DIRECTION_AT & TWO_BITS == MASTER_READS
+    }
+
+    /// Does the master write its area (bits 2 and 3 of the control byte are 01)?
+    pub fn master_writes(&self) -> bool
+        ensures { result ≡ master_writes self.now }
+    {
+        self.control >> DIRECTION_AT & TWO_BITS == MASTER_WRITES
+    }
+
+    /// Is its mailbox full (bit 3 of the status byte)?
+    pub fn is_full(&self) -> bool
+        ensures { result ≡ is_full self.now }
+    {
+        self.status >> FULL_AT & 1 == 1
+    }
+
+    /// May an area of its kind have its length?
+    fn has_area_length(&self) -> bool
+        ensures { result ≡ has_area_length self.now }
+    {
+        if self.is_mailbox() {
+            SHORTEST_MAILBOX <= self.length && self.length <= LONGEST_MAILBOX
+        } else {
+            self.length >= 1
+        }
+    }
+
+    /// Does its area lie in process memory?
+    fn is_in_process_memory(&self) -> bool
+        ensures { result ≡ is_in_process_memory self.now }
+    {
+        let end = u32::from(self.start) + u32::from(self.length);
+        PROCESS_MEMORY <= self.start && end <= u32::from(MEMORY_SIZE)
+    }
+
+    /// Does the sync manager guard an area: is it enabled, of a known kind and direction, and does its area
+    /// have a length of its kind and lie in process memory (IEC 61158-4-12, sync manager)?
+    #[tactic(auto, unfolding(crate::specs::SyncMan::is_active))]
+    pub fn is_active(&self) -> bool
+        ensures value { result ≡ is_active self.now }
+        ensures from { IsTrue result → PROCESS_MEMORY ≤ self.now.start }
+        ensures to { IsTrue result → self.now.start + self.now.length ≤ MEMORY_SIZE }
+    {
+        self.is_enabled()
+            && (self.is_buffered() || self.is_mailbox())
+            && (self.master_reads() || self.master_writes())
+            && self.has_area_length()
+            && self.is_in_process_memory()
+    }
+
+    /// Does it guard outputs, a buffered area that the master writes?
+    pub fn guards_outputs(&self) -> bool
+        ensures value { result ≡ guards_outputs self.now }
+        ensures from { IsTrue result → PROCESS_MEMORY ≤ self.now.start }
+        ensures to { IsTrue result → self.now.start + self.now.length ≤ MEMORY_SIZE }
+    {
+        self.is_active() && self.is_buffered() && self.master_writes()
     }
 }
 

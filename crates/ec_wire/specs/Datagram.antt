@@ -1,8 +1,10 @@
 -- A frame's value is a list of datagram records, one for each datagram, in their order
 -- (IEC 61158-4-12, the datagram structure).
-use Rattle.std.specs.Prelude.{ℕ, ◌+◌, ◌<◌, ◌^◌, Bool, false, List, [], ◌∷◌, length, slice_index_or}
+use Rattle.std.specs.Prelude.{ℕ, ◌+◌, ◌*◌, ◌/◌, ◌%◌, ◌<◌, ◌^◌, Bool, false, List, [], ◌∷◌, length}
+use Rattle.std.specs.Prelude.{slice_index_or}
 use Rattle.ec_wire.specs.declared.command.Command.{Command}
-use Rattle.ec_wire.specs.declared.command.Command.TheVariants.{Nop, Aprd, Apwr, Aprw, Fprd, Fpwr, Fprw, Brd, Bwr, Brw, Lrd, Lwr, Lrw, Armw, Frmw}
+use Rattle.ec_wire.specs.declared.command.Command.TheVariants.{Nop, Aprd, Apwr, Aprw, Fprd, Fpwr, Fprw, Brd}
+use Rattle.ec_wire.specs.declared.command.Command.TheVariants.{Bwr, Brw, Lrd, Lwr, Lrw, Armw, Frmw}
 use Rattle.ec_wire.specs.declared.datagram.Datagram.{Datagram}
 
 -- one datagram without where it lies in the frame
@@ -44,6 +46,29 @@ code_of Lwr = 11
 code_of Lrw = 12
 code_of Armw = 13
 code_of Frmw = 14
+
+-- ---- the two halves of a physical command's address (IEC 61158-4-12, physical addressing)
+
+-- the auto-increment or station address: the low half
+abbrev pub adp_of : ℕ → ℕ
+adp_of address = address % 65536
+
+-- the address in the slave's memory: the high half
+abbrev pub ado_of : ℕ → ℕ
+ado_of address = address / 65536
+
+-- those of a datagram
+abbrev pub adp : DatagramRecord → ℕ
+adp r = adp_of r.address
+
+abbrev pub ado : DatagramRecord → ℕ
+ado r = ado_of r.address
+
+-- the same datagram with another ADP
+abbrev pub with_adp : ℕ → DatagramRecord → DatagramRecord
+with_adp n r = record r { address = n + 65536 * ado r }
+
+-- ---- its size
 
 -- the bytes that a datagram takes: ten of its head, the data, and two of the working counter
 abbrev pub datagram_length : DatagramRecord → ℕ

@@ -1,6 +1,8 @@
 -- Bytes that are no frame have one first fault from the left: the header's tests come first, then
 -- those of each datagram, then the one for what follows the frame.
-use Rattle.std.specs.Prelude.{◌≡◌, ℕ, ◌+◌, ◌/◌, ◌%◌, ◌<◌, ◌⊎◌, Bool, false, not, ◌&&◌, ◌==◌, nat_lt, Option, Some, None, List, [], ◌∷◌, ◌++◌, length, take, drop, slice_index, All, if◌then◌else◌}
+use Rattle.std.specs.Prelude.{◌≡◌, ℕ, ◌+◌, ◌/◌, ◌%◌, ◌<◌, ◌⊎◌, Bool, false, not, ◌&&◌, ◌==◌, nat_lt, Option}
+use Rattle.std.specs.Prelude.{Some, None, List, [], ◌∷◌, ◌++◌, length, take, drop, slice_index, All}
+use Rattle.std.specs.Prelude.{if◌then◌else◌}
 use Rattle.std.specs.Int.{w16, from_le_bytes}
 use Rattle.ec_wire.specs.Datagram.{DatagramRecord, Fits}
 use Rattle.ec_wire.specs.Spelling.{is_nil, front, body, spelling, IsFrameValue}
@@ -9,7 +11,9 @@ use Rattle.ec_wire.specs.Decoding.{length_field, data_length, says_more}
 use Rattle.ec_wire.specs.declared.fault.Form.{Form}
 use Rattle.ec_wire.specs.declared.fault.Form.TheVariants.{Ethernet, Udp}
 use Rattle.ec_wire.specs.declared.fault.FaultKind.{FaultKind}
-use Rattle.ec_wire.specs.declared.fault.FaultKind.TheVariants.{Short, BadType, Reserved, Empty, TooLong, BadCommand, Overrun, MoreAtEnd, LeftOver, Trailing}
+use Rattle.ec_wire.specs.declared.fault.FaultKind.TheVariants.{Short, BadType, Reserved, Empty, TooLong}
+use Rattle.ec_wire.specs.declared.fault.FaultKind.TheVariants.{BadCommand, Overrun, MoreAtEnd, LeftOver}
+use Rattle.ec_wire.specs.declared.fault.FaultKind.TheVariants.{Trailing}
 use Rattle.ec_wire.specs.declared.fault.WireFault.{WireFault}
 
 -- a fault of this kind at this place

@@ -1,4 +1,5 @@
 pub mod Cells
+pub mod Command
 pub mod Datagram
 pub mod Decoding
 pub mod Fault

@@ -1,7 +1,8 @@
 -- The spelling of a frame's value is its bytes on the wire (IEC 61158-4-12, the EtherCAT frame and
 -- datagram structures): a header of two bytes with type 1 and the length of all datagrams, then the
 -- datagrams end to end.
-use Rattle.std.specs.Prelude.{◌≡◌, ℕ, ◌+◌, ◌*◌, ◌≤◌, Bool, true, false, not, List, [], ◌∷◌, ◌++◌, length, sum_by, All, if◌then◌else◌}
+use Rattle.std.specs.Prelude.{◌≡◌, ℕ, ◌+◌, ◌*◌, ◌≤◌, Bool, true, false, not, List, [], ◌∷◌, ◌++◌, length}
+use Rattle.std.specs.Prelude.{sum_by, All, if◌then◌else◌}
 use Rattle.std.specs.Int.{w16, w32, to_le_bytes}
 use Rattle.std.specs.List.{flat_map}
 use Rattle.ec_wire.specs.Datagram.{DatagramRecord, code_of, datagram_length, Fits}

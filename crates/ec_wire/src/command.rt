@@ -1,5 +1,21 @@
 ghost use Rattle.std.specs.Prelude.{◌≡◌, ◌<◌, ◌≤◌};
+ghost use Rattle.ec_wire.specs.Command.{addressing, reads, writes, counts_adp, name_of};
 ghost use Rattle.ec_wire.specs.Datagram.{code_of, command_of};
+
+/// Which slaves a command addresses (IEC 61158-4-12, addressing).
+#[derive(Clone, Copy, PartialEq, Eq, Debug)]
+pub enum Addressing {
+    /// None: these slaves pass the datagram on.
+    Nobody,
+    /// The one at a place on the line: the ADP is 0 where it comes to it, and each slave counts it up.
+    Place,
+    /// The one whose station address is the ADP.
+    Station,
+    /// Each of them, and each counts up the ADP.
+    All,
+    /// Those whose FMMUs map a part of the logical range.
+    Logical,
+}
 
 /// What a datagram asks of the slaves (IEC 61158-4-12, the command field of a datagram). The names
 /// are the standard's: `Ap` addresses a slave by its place, `Fp` by its station address, `B` all of
@@ -71,5 +87,80 @@ impl Command {
         ensures { result ≡ code_of self }
     {
         self as u8
+    }
+
+    /// Which slaves it addresses. NOP addresses none; BRW, ARMW and FRMW address none of these slaves.
+    pub fn addressing(self) -> Addressing
+        ensures { result ≡ addressing self }
+    {
+        match self {
+            Command::Aprd | Command::Apwr | Command::Aprw => Addressing::Place,
+            Command::Fprd | Command::Fpwr | Command::Fprw => Addressing::Station,
+            Command::Brd | Command::Bwr => Addressing::All,
+            Command::Lrd | Command::Lwr | Command::Lrw => Addressing::Logical,
+            Command::Nop | Command::Brw | Command::Armw | Command::Frmw => Addressing::Nobody,
+        }
+    }
+
+    /// Does a slave that it addresses fill its data?
+    pub fn reads(self) -> bool
+        ensures { result ≡ reads self }
+    {
+        matches!(
+            self,
+            Command::Aprd
+                | Command::Aprw
+                | Command::Fprd
+                | Command::Fprw
+                | Command::Brd
+                | Command::Lrd
+                | Command::Lrw
+        )
+    }
+
+    /// Does a slave that it addresses take its data?
+    pub fn writes(self) -> bool
+        ensures { result ≡ writes self }
+    {
+        matches!(
+            self,
+            Command::Apwr
+                | Command::Aprw
+                | Command::Fpwr
+                | Command::Fprw
+                | Command::Bwr
+                | Command::Lwr
+                | Command::Lrw
+        )
+    }
+
+    /// Does each slave count up its ADP?
+    pub fn counts_adp(self) -> bool
+        ensures { result ≡ counts_adp self }
+    {
+        matches!(self.addressing(), Addressing::Place | Addressing::All)
+    }
+
+    /// Its name in the standard, in capitals.
+    pub fn name(self) -> &'static str
+        ensures { result.now ≡ name_of self }
+    {
+        match self {
+            Command::Nop => "NOP",
+            Command::Aprd => "APRD",
+            Command::Apwr => "APWR",
+            Command::Aprw => "APRW",
+            Command::Fprd => "FPRD",
+            Command::Fpwr => "FPWR",
+            Command::Fprw => "FPRW",
+            Command::Brd => "BRD",
+            Command::Bwr => "BWR",
+            Command::Brw => "BRW",
+            Command::Lrd => "LRD",
+            Command::Lwr => "LWR",
+            Command::Lrw => "LRW",
+            Command::Armw => "ARMW",
+            Command::Frmw => "FRMW",
+        }
     }
 }

@@ -1,6 +1,6 @@
 ghost use Rattle.std.specs.Prelude.{◌≡◌, ℕ, ◌+◌, ◌*◌, ◌/◌, ◌<◌, length, slice_set};
 ghost use Rattle.std.specs.Borrow.{sem};
-ghost use Rattle.ec_wire.specs.Datagram.{nth};
+ghost use Rattle.ec_wire.specs.Datagram.{nth, with_adp};
 ghost use Rattle.ec_wire.specs.Lending.{LendsData};
 
 use crate::frame::{ADDRESS, FrameBuf, HEAD, IRQ, LENGTH};
@@ -31,7 +31,7 @@ impl FrameBuf {
     /// all else: for a physical command they are the ADP.
     pub fn set_adp(&mut self, k: usize, adp: u16)
         requires { k < length self.old }
-        ensures { self.new ≡ slice_set self.old k (record (nth self.old k) { address = adp + 65536 * ((nth self.old k).address / 65536) }) }
+        ensures { self.new ≡ slice_set self.old k (with_adp adp (nth self.old k)) }
     {
         let at = self.start(k) + ADDRESS;
         self.cells.put(at, &adp.to_le_bytes());

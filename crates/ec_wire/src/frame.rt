@@ -1,5 +1,6 @@
-ghost use Rattle.std.specs.Prelude.{◌≡◌, ℕ, ◌+◌, ◌*◌, ◌%◌, ◌/◌, ◌<◌, ◌≤◌, List, length, take, slice_set, slice_index_or};
-ghost use Rattle.ec_wire.specs.Datagram.{nth, record_of};
+ghost use Rattle.std.specs.Prelude.{◌≡◌, ℕ, ◌+◌, ◌*◌, ◌%◌, ◌/◌, ◌<◌, ◌≤◌, List, length, take, slice_set};
+ghost use Rattle.std.specs.Prelude.{slice_index_or};
+ghost use Rattle.ec_wire.specs.Datagram.{nth, record_of, adp, ado};
 ghost use Rattle.ec_wire.specs.Spelling.{spelling, IsFrameValue};
 ghost use Rattle.ec_wire.specs.Frame.{start_of};
 
@@ -23,6 +24,9 @@ pub(crate) const ADDRESS: usize = 2;
 pub(crate) const LENGTH: usize = 6;
 
 pub(crate) const IRQ: usize = 8;
+
+/// How many values each half of an address has.
+const HALF: u32 = 0x1_0000;
 
 /// The bytes of a datagram before its data.
 pub(crate) const HEAD: usize = 10;
@@ -121,6 +125,24 @@ impl FrameBuf {
     {
         let at = self.start(k) + ADDRESS;
         self.cells.double_word(at)
+    }
+
+    /// The low half of the address of the datagram at `k`: of a physical command the ADP, which names the
+    /// slave.
+    pub fn adp(&self, k: usize) -> u16
+        requires { k < length self.now }
+        ensures { result ≡ adp (nth self.now k) }
+    {
+        (self.address(k) % HALF) as u16
+    }
+
+    /// The high half of the address of the datagram at `k`: of a physical command the ADO, the first address
+    /// in the slave's memory.
+    pub fn ado(&self, k: usize) -> u16
+        requires { k < length self.now }
+        ensures { result ≡ ado (nth self.now k) }
+    {
+        (self.address(k) / HALF) as u16
     }
 
     /// The circulating bit of the datagram at `k`.

@@ -16,7 +16,7 @@ mod frame;
 mod read;
 mod write;
 
-pub use command::Command;
+pub use command::{Addressing, Command};
 pub use datagram::{Datagram, MAX_DATA};
 pub use fault::{FaultKind, Form, WireFault};
 pub use frame::{FrameBuf, MAX_DATAGRAMS, MAX_FRAME};

@@ -1,10 +1,12 @@
-ghost use Rattle.std.specs.Prelude.{◌≡◌, ℕ, ◌+◌, ◌++◌, ◌<◌, ◌≤◌, Some, None, List, length, take, drop, IfOk, IfErr};
+ghost use Rattle.std.specs.Prelude.{◌≡◌, ℕ, ◌+◌, ◌++◌, ◌<◌, ◌≤◌, Some, None, List, length, take, drop, IfOk};
+ghost use Rattle.std.specs.Prelude.{IfErr};
 ghost use Rattle.ec_wire.specs.Datagram.{DatagramRecord};
 ghost use Rattle.ec_wire.specs.Decoding.{data_length, says_more};
 ghost use Rattle.ec_wire.specs.Frame.{records_at};
 ghost use Rattle.ec_wire.specs.Spelling.{spelling, IsFrameValue};
 ghost use Rattle.ec_wire.specs.declared.fault.WireFault.{WireFault};
-ghost use Rattle.ec_wire.specs.Fault.{header_fault, frame_end, datagram_fault, FailsWithin, AreSpelt, IsSpelt, IsFirstFault};
+ghost use Rattle.ec_wire.specs.Fault.{header_fault, frame_end, datagram_fault, FailsWithin, AreSpelt};
+ghost use Rattle.ec_wire.specs.Fault.{IsSpelt, IsFirstFault};
 
 use crate::cells::Cells;
 use crate::fault::{FaultKind, Form, WireFault};

@@ -2,7 +2,7 @@ use Rattle.std.proofs.Common.{◌≡◌, ◌%◌, ◌∙◌, ap, refl, set, sym}
 use Rattle.std.proofs.lemmas.List.{set-get_or}
 use Rattle.ec_wire.specs.Datagram.{DatagramRecord, nth, blank}
 use Rattle.ec_merge.specs.Rule.{joined_count}
-use Rattle.ec_merge.specs.Frames.{counts_adp}
+use Rattle.ec_wire.specs.Command.{counts_adp}
 use Rattle.ec_merge.proofs.FrameLemmas.{Shares-from_belongs, joined_address-counted, joined_address-other}
 use Rattle.ec_merge.proofs.frames.join_adp.Goals as goal
 

@@ -1,0 +1,267 @@
+//! The plan of an FMMU: its record read once, in the form that datagrams use (IEC 61158-4-12, FMMU entity).
+
+ghost use Rattle.std.specs.Prelude.{◌≡◌, ◌↔◌, ◌^◌, ◌<◌, ℕ};
+
+use crate::fmmu::{Fmmu, LAST_BIT};
+use std::marker::Model;
+
+/// The run of bits that an FMMU maps, told by bytes: a logical byte of the run lies on one physical byte, or
+/// on two neighbours. All fields are 0 where the FMMU maps nothing.
+#[derive(Clone, Copy, Debug, PartialEq, Eq)]
+pub struct Plan {
+    /// Is any bit mapped?
+    pub is_mapped: bool,
+    /// The first logical byte.
+    pub logical: u32,
+    /// The first physical byte.
+    pub physical: u16,
+    /// How many logical bytes the run touches.
+    pub length: u16,
+    /// The mapped bits of the first logical byte.
+    pub first_mask: u8,
+    /// The mapped bits of the last logical byte, the same as the first mask where there is one byte alone.
+    pub last_mask: u8,
+    /// How many bits further on in its byte a physical bit stands than its logical bit, -7 to 7.
+    pub distance: i8,
+}
+
+/// The plan of an FMMU that maps nothing.
+const UNMAPPED: Plan = Plan {
+    is_mapped: false,
+    logical: 0,
+    physical: 0,
+    length: 0,
+    first_mask: 0,
+    last_mask: 0,
+    distance: 0,
+};
+
+/// How many bits a byte has.
+const BYTE: u32 = 8;
+
+/// All bits of a byte.
+const ALL_BITS: u8 = 0xFF;
+
+impl Fmmu {
+    ghost use Rattle.ec_regs.specs.Pairs.{IsPair};
+    ghost use Rattle.ec_regs.specs.Plan.{plan_of, Pairs};
+
+    /// What the record maps, told by bytes.
+    pub fn plan(&self) -> Plan
+        ensures value { result ≡ plan_of self.now }
+        ensures pairs { (l p : ℕ) → Pairs result l p ↔ IsPair self.now l p }
+    {
+        if self.mapped_bits() == 0 {
+            return UNMAPPED;
+        }
+        let first = ALL_BITS << self.start;
+        let last = ALL_BITS >> (LAST_BIT - self.stop);
+        let both = first & last;
+        let is_one_byte = self.length == 1;
+        Plan {
+            is_mapped: true,
+            logical: self.logical,
+            physical: self.physical,
+            length: self.length,
+            first_mask: if is_one_byte { both } else { first },
+            last_mask: if is_one_byte { both } else { last },
+            distance: self.bit as i8 - self.start as i8,
+        }
+    }
+}
+
+/// An FMMU with its plan, made when the record is written and used by each datagram that comes by. Contracts
+/// see the record.
+#[derive(Clone, Copy, Debug)]
+pub struct PlannedFmmu {
+    fmmu: Fmmu,
+    plan: Plan,
+}
+
+impl Model for PlannedFmmu {
+    ghost use Rattle.std.specs.Prelude.{◌≡◌};
+    ghost use Rattle.ec_regs.specs.declared.fmmu.Fmmu.{Fmmu};
+    ghost use Rattle.ec_regs.specs.Plan.{plan_of};
+
+    ghost Value = { Fmmu };
+
+    ghost view = { λ planned. planned.fmmu };
+
+    ghost invariant = { λ planned. planned.plan ≡ plan_of planned.fmmu };
+
+    ghost inverse = { λ f. record { fmmu = f; plan = plan_of f } };
+
+    ghost use Rattle.std.proofs.Common.{ap, sym};
+
+    ghost inverse_ok = { λ planned is. ap (λ plan. record { fmmu = planned.fmmu; plan = plan }) (sym is) };
+}
+
+impl PlannedFmmu {
+    ghost use Rattle.ec_regs.specs.Pairs.{reads, writes, first_logical, first_physical, pair_count};
+    ghost use Rattle.ec_regs.specs.Plan.{plan_of};
+
+    /// The record with its plan.
+    pub fn new(fmmu: Fmmu) -> PlannedFmmu
+        ensures { result ≡ fmmu }
+    {
+        PlannedFmmu {
+            fmmu,
+            plan: fmmu.plan(),
+        }
+    }
+
+    /// The record.
+    pub fn fmmu(&self) -> Fmmu
+        ensures { result ≡ self.now }
+    {
+        self.fmmu
+    }
+
+    /// Its plan.
+    pub fn plan(&self) -> Plan
+        ensures { result ≡ plan_of self.now }
+    {
+        self.plan
+    }
+
+    /// Does the master read through this FMMU?
+    pub fn reads(&self) -> bool
+        ensures { result ≡ reads self.now }
+    {
+        self.fmmu.reads()
+    }
+
+    /// Does the master write through this FMMU?
+    pub fn writes(&self) -> bool
+        ensures { result ≡ writes self.now }
+    {
+        self.fmmu.writes()
+    }
+
+    /// The number of the first logical bit, 8 * byte + bit; below 2^36.
+    pub fn first_logical(&self) -> u64
+        ensures value { result ≡ first_logical self.now }
+        ensures bound { result < 2 ^ 36 }
+    {
+        self.fmmu.first_logical()
+    }
+
+    /// The number of the first physical bit, 8 * byte + bit; below 2^20.
+    pub fn first_physical(&self) -> u32
+        ensures value { result ≡ first_physical self.now }
+        ensures bound { result < 2 ^ 20 }
+    {
+        self.fmmu.first_physical()
+    }
+
+    /// How many bits the FMMU maps, below 2^20.
+    pub fn mapped_bits(&self) -> u32
+        ensures value { result ≡ pair_count self.now }
+        ensures bound { result < 2 ^ 20 }
+    {
+        if !self.plan.is_mapped {
+            return 0;
+        }
+        let end = BYTE * u32::from(self.fmmu.length - 1) + u32::from(self.fmmu.stop) + 1;
+        end - u32::from(self.fmmu.start)
+    }
+}
+
+#[cfg(test)]
+mod tests {
+    use super::*;
+
+    /// From bit 3 of logical byte 0x00010000 to bit 4 of the next, onto byte 0x1100 from bit 6 on; active.
+    const TEN_BITS: Fmmu = Fmmu {
+        logical: 0x0001_0000,
+        length: 2,
+        start: 3,
+        stop: 4,
+        physical: 0x1100,
+        bit: 6,
+        kind: 1,
+        activate: 1,
+        reserved: [0; 3],
+    };
+
+    #[test]
+    fn a_run_over_two_bytes_has_a_mask_for_each(rt: HostRuntime) {
+        let plan = Plan {
+            is_mapped: true,
+            logical: 0x0001_0000,
+            physical: 0x1100,
+            length: 2,
+            first_mask: 0xF8,
+            last_mask: 0x1F,
+            distance: 3,
+        };
+        assert_eq!(rt; TEN_BITS.plan(), plan);
+        let back = Fmmu {
+            start: 6,
+            stop: 1,
+            bit: 3,
+            ..TEN_BITS
+        };
+        let moved_back = Plan {
+            first_mask: 0xC0,
+            last_mask: 0x03,
+            distance: -3,
+            ..plan
+        };
+        assert_eq!(rt; back.plan(), moved_back);
+    }
+
+    #[test]
+    fn a_run_in_one_byte_has_one_mask(rt: HostRuntime) {
+        let four_bits = Fmmu {
+            length: 1,
+            start: 2,
+            stop: 5,
+            ..TEN_BITS
+        };
+        let plan = four_bits.plan();
+        assert_eq!(rt; (plan.first_mask, plan.last_mask), (0x3C, 0x3C));
+    }
+
+    #[test]
+    fn bits_move_by_seven_at_most(rt: HostRuntime) {
+        for (start, bit, distance) in [(0, 7, 7), (7, 0, -7), (5, 5, 0)] {
+            let fmmu = Fmmu {
+                start,
+                bit,
+                ..TEN_BITS
+            };
+            assert_eq!(rt; fmmu.plan().distance, distance);
+        }
+    }
+
+    #[test]
+    fn an_fmmu_that_maps_nothing_has_the_empty_plan(rt: HostRuntime) {
+        let backwards = Fmmu {
+            length: 1,
+            start: 5,
+            stop: 3,
+            ..TEN_BITS
+        };
+        let off = Fmmu {
+            activate: 0,
+            ..TEN_BITS
+        };
+        for fmmu in [backwards, off] {
+            let planned = PlannedFmmu::new(fmmu);
+            assert_eq!(rt; planned.plan(), UNMAPPED);
+            assert_eq!(rt; planned.mapped_bits(), 0);
+        }
+    }
+
+    #[test]
+    fn a_planned_fmmu_tells_what_its_record_tells(rt: HostRuntime) {
+        let planned = PlannedFmmu::new(TEN_BITS);
+        assert_eq!(rt; planned.fmmu(), TEN_BITS);
+        assert_eq!(rt; planned.plan(), TEN_BITS.plan());
+        assert_eq!(rt; planned.mapped_bits(), 10);
+        assert_eq!(rt; (planned.reads(), planned.writes()), (true, false));
+        assert_eq!(rt; planned.first_logical(), 524_291);
+        assert_eq!(rt; planned.first_physical(), 34_822);
+    }
+}
