@@ -1,5 +1,13 @@
-pub mod CopyLemmas
 pub mod LogicalLemmas
 pub mod WriteLemmas
 pub mod RangeLemmas
 pub mod RunLemmas
+pub mod RecordLemmas
+pub mod MapLemmas
+pub mod MailboxLemmas
+pub mod MeetLemmas
+pub mod MetLemmas
+pub mod NamesLemmas
+pub mod WholeLemmas
+pub mod ShowingLemmas
+pub mod ReachLemmas

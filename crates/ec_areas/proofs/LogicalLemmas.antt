@@ -1,19 +1,22 @@
 -- Where reads through FMMUs go: the partial functions and the sets of pairs, and one FMMU more.
-use Rattle.std.proofs.Common.{◌≡◌, ℕ, zero, suc, ◌+◌, ◌*◌, ◌/◌, ◌<◌, ◌≤◌, Bool, true, false, cond, ltb, ◌&&◌, List, [], ◌∷◌, length, get_or, drop, Option, None, Some, sym, ◌∙◌, ap, refl, arith, add-one, drop-cons, ⊎_elim}
+use Rattle.std.proofs.Common.{◌≡◌, ℕ, zero, suc, ◌+◌, ◌/◌, ◌<◌, ◌≤◌, Bool, true, false, cond, ltb, ◌&&◌, ◌||◌, List, [], ◌∷◌, length, get_or, drop, Option, None, Some, sym, ◌∙◌, ap, refl, arith, add-one, drop-cons, ⊎_elim}
 use Rattle.std.specs.Option.{IsSome}
 use Rattle.std.proofs.lemmas.Bool.{cases_Bool}
 use Rattle.std.proofs.lemmas.Bool.Decides.{nat_tests}
 use Rattle.std.proofs.lemmas.List.{drop_all}
-use Rattle.ec_regs.specs.Bits.{later}
+use Rattle.ec_regs.specs.Bits.{AreBytes, with_bits, later}
 use Rattle.ec_regs.specs.Pairs.{reads, physical_of}
 use Rattle.ec_regs.specs.declared.fmmu.Fmmu.{Fmmu}
 use Rattle.ec_regs.specs.declared.sync_man.SyncMan.{SyncMan}
 use Rattle.ec_regs.specs.declared.registers.TheConstants.{MEMORY_SIZE}
-use Rattle.ec_regs.proofs.BitLemmas.{later_assoc}
+use Rattle.ec_regs.proofs.BitLemmas.{with_bits_none, with_bits_same_places, with_bits-with_bits}
 use Rattle.ec_regs.proofs.PairLemmas.{physical_of-IsPair, IsPair-physical_of}
 use Rattle.ec_areas.specs.declared.logical.TheConstants.{LOGICAL_BITS}
 use Rattle.ec_areas.specs.Areas.{is_readable}
-use Rattle.ec_areas.specs.Logical.{IsReadablePair, IsReadable, place_if, read_place, read_map}
+use Rattle.ec_areas.specs.Logical.{IsReadablePair, IsReadable, place_if, read_place, read_map, read_places, names, NamesPairs}
+use Rattle.ec_areas.specs.declared.met.Run.{Run}
+use Rattle.ec_areas.specs.Met.{physical_in}
+use Rattle.ec_areas.proofs.NamesLemmas.{names_same, names_nowhere, names-later}
 
 -- ---- one FMMU: the set and the partial function
 
@@ -81,12 +84,12 @@ IsReadable-read_map managers (f ∷ fs) l p e =
     ] refl e
 
 -- a place is found where the earlier of two is one
-later_some_left : (p : ℕ) (o : Option ℕ) → IsSome (later (Some p) o)
+pub later_some_left : (p : ℕ) (o : Option ℕ) → IsSome (later (Some p) o)
 later_some_left p None = refl
 later_some_left p (Some q) = refl
 
 -- or where the later one is
-later_some_right : (o later_one : Option ℕ) → IsSome later_one → IsSome (later o later_one)
+pub later_some_right : (o later_one : Option ℕ) → IsSome later_one → IsSome (later o later_one)
 later_some_right o None none = absurd (cc)
 later_some_right o (Some q) some = refl
 
@@ -106,46 +109,84 @@ pub read_map-IsReadable : (managers : List SyncMan) (fmmus : List Fmmu) (l p : �
     → IsSome (read_map managers fmmus l)
 read_map-IsReadable managers fmmus l p h = read_map_some_at managers fmmus l p h.0 h.1 h.2 h.3 h.4
 
--- a physical bit that a read takes is a bit of the memory
-pub read_map-lt : (managers : List SyncMan) (fmmus : List Fmmu) (l p : ℕ) → read_map managers fmmus l ≡ Some p → p < 8 * MEMORY_SIZE
-unfolding is_readable
-read_map-lt managers fmmus l p e =
-    let found = IsReadable-read_map managers fmmus l p e in
-    let pair : IsReadablePair managers found.1 l p = found.4 in
-    let inside : ltb (p / 8) MEMORY_SIZE ≡ true = (both (ltb (p / 8) MEMORY_SIZE) _ pair.allowed).0 in
-    let below : p / 8 < MEMORY_SIZE = grind (arith, nat_tests) in
-    omega arith
-
--- past the logical range there is nothing to take
-pub read_map_past : (managers : List SyncMan) (fmmus : List Fmmu) (l : ℕ) → LOGICAL_BITS ≤ l → read_map managers fmmus l ≡ None
-read_map_past managers fmmus l past =
-    let P : Option ℕ → Type 0 = λ o. read_map managers fmmus l ≡ o → o ≡ None in
-    elim (read_map managers fmmus l) as P [
-      | None ↦ λ _. refl
-      | Some p ↦ λ e.
-          let found = IsReadable-read_map managers fmmus l p e in
-          let below : l < LOGICAL_BITS = found.4.exists in
-          absurd (omega arith)
-    ] refl
+-- so the map has the readable pairs
+pub NamesPairs-read_map : (managers : List SyncMan) (fmmus : List Fmmu) → NamesPairs (read_map managers fmmus) (IsReadable managers fmmus)
+NamesPairs-read_map managers fmmus = record {
+  is_paired = λ l p e. IsReadable-read_map managers fmmus l p e;
+  is_found = λ l p paired. read_map-IsReadable managers fmmus l p paired;
+}
 
 -- ---- a loop over the FMMUs
 
 -- the FMMUs from one on: that one, and then those behind it
-read_map-drop : (managers : List SyncMan) (fmmus : List Fmmu) (i l : ℕ) (d : Fmmu) → i < length fmmus
-    → read_map managers (drop i fmmus) l ≡ later (read_place managers (get_or fmmus i d) l) (read_map managers (drop (i + 1) fmmus) l)
+read_map-drop : (managers : List SyncMan) (fmmus : List Fmmu) (k l : ℕ) (f : Fmmu) → k < length fmmus → f ≡ get_or fmmus k f
+    → read_map managers (drop k fmmus) l ≡ later (read_place managers f l) (read_map managers (drop (k + 1) fmmus) l)
 unfolding read_map
-read_map-drop managers fmmus i l d inside = rw (add-one, drop-cons fmmus i d inside) refl
+read_map-drop managers fmmus k l f inside is =
+    rw (add-one, drop-cons fmmus k f inside)
+    (ap (λ g. later (read_place managers g l) (read_map managers (drop (suc k) fmmus) l)) (sym is))
 
--- one FMMU more: its place prevails over what was found before it
-pub read_map_more : (managers : List SyncMan) (fmmus : List Fmmu) (i l : ℕ) (d : Fmmu) (found place : Option ℕ) → i < length fmmus
-    → place ≡ read_place managers (get_or fmmus i d) l
-    → later (later found place) (read_map managers (drop (i + 1) fmmus) l) ≡ later found (read_map managers (drop i fmmus) l)
-read_map_more managers fmmus i l d found place inside is =
-    later_assoc found place (read_map managers (drop (i + 1) fmmus) l)
-    ∙ ap (later found) (ap (λ o. later o (read_map managers (drop (i + 1) fmmus) l)) is ∙ sym (read_map-drop managers fmmus i l d inside))
+-- one FMMU more has been read through: those behind it are left to do
+pub read_map_more : (managers : List SyncMan) (fmmus : List Fmmu) (k from : ℕ) (f : Fmmu) (xs ys zs : List ℕ) → k < length fmmus
+    → f ≡ get_or fmmus k f → zs ≡ with_bits xs ys (λ i. read_place managers f (from + i))
+    → with_bits zs ys (read_places managers (drop (k + 1) fmmus) from) ≡ with_bits xs ys (read_places managers (drop k fmmus) from)
+read_map_more managers fmmus k from f xs ys zs inside is read =
+    rw read
+    (with_bits-with_bits xs ys (λ i. read_place managers f (from + i)) (read_places managers (drop (k + 1) fmmus) from)
+    ∙ with_bits_same_places xs ys (λ i. later (read_place managers f (from + i)) (read_places managers (drop (k + 1) fmmus) from i))
+    (read_places managers (drop k fmmus) from)
+    (λ i _. sym (read_map-drop managers fmmus k (from + i) f inside is)))
 
--- behind the last FMMU nothing more is found
-pub read_map_done : (managers : List SyncMan) (fmmus : List Fmmu) (i l : ℕ) (found : Option ℕ) → length fmmus ≤ i
-    → later found (read_map managers (drop i fmmus) l) ≡ found
+-- behind the last FMMU nothing is left to do
+pub read_map_done : (managers : List SyncMan) (fmmus : List Fmmu) (k from : ℕ) (xs ys : List ℕ) → length fmmus ≤ k → AreBytes xs
+    → with_bits xs ys (read_places managers (drop k fmmus) from) ≡ xs
 unfolding read_map
-read_map_done managers fmmus i l found past = rw (drop_all i fmmus past) refl
+read_map_done managers fmmus k from xs ys past are =
+    with_bits_none xs ys (read_places managers (drop k fmmus) from) are (λ i _. rw (drop_all k fmmus past) refl)
+
+-- is a bit mapped by the FMMUs from one on: by that one, or by those behind it
+pub names_more_fmmu : (managers : List SyncMan) (fmmus : List Fmmu) (k from n : ℕ) (f : Fmmu) → k < length fmmus → f ≡ get_or fmmus k f
+    → names (read_places managers (drop k fmmus) from) n
+    ≡ (names (λ i. read_place managers f (from + i)) n || names (read_places managers (drop (k + 1) fmmus) from) n)
+names_more_fmmu managers fmmus k from n f inside is =
+    names_same (read_places managers (drop k fmmus) from)
+    (λ i. later (read_place managers f (from + i)) (read_places managers (drop (k + 1) fmmus) from i)) n
+    (λ i _. read_map-drop managers fmmus k (from + i) f inside is)
+    ∙ names-later (λ i. read_place managers f (from + i)) (read_places managers (drop (k + 1) fmmus) from) n
+
+-- behind the last FMMU nothing is mapped
+pub names_no_fmmu : (managers : List SyncMan) (fmmus : List Fmmu) (k from n : ℕ) → length fmmus ≤ k
+    → names (read_places managers (drop k fmmus) from) n ≡ false
+unfolding read_map
+names_no_fmmu managers fmmus k from n past =
+    names_nowhere (read_places managers (drop k fmmus) from) n (λ i _. rw (drop_all k fmmus past) refl)
+
+-- ---- one FMMU and its run
+
+-- through an FMMU that is not for reading nothing is read
+pub read_place_not_for_reading : (managers : List SyncMan) (f : Fmmu) (l : ℕ) → reads f ≡ false → read_place managers f l ≡ None
+unfolding read_place
+read_place_not_for_reading managers f l not_reads = rw not_reads refl
+
+-- through any other it is the physical bit, if there is one and its byte may be read
+pub read_place_for_reading : (managers : List SyncMan) (f : Fmmu) (l : ℕ) → reads f ≡ true
+    → place_if (λ p. is_readable managers (p / 8)) (cond (ltb l LOGICAL_BITS) (physical_of f l) None) ≡ read_place managers f l
+unfolding read_place
+read_place_for_reading managers f l for_reading =
+    ⊎_elim
+    (λ (exists : ltb l LOGICAL_BITS ≡ true). rw (for_reading, exists) refl)
+    (λ (past : ltb l LOGICAL_BITS ≡ false). rw (for_reading, past) refl)
+    (cases_Bool (ltb l LOGICAL_BITS))
+
+-- so what a run has for data bit i is what a read takes, where the run is that of the FMMU
+pub read_place-run : (managers : List SyncMan) (f : Fmmu) (run : Option Run) (from i : ℕ) → reads f ≡ true
+    → physical_in run i ≡ cond (ltb (from + i) LOGICAL_BITS) (physical_of f (from + i)) None
+    → place_if (λ p. is_readable managers (p / 8)) (physical_in run i) ≡ read_place managers f (from + i)
+read_place-run managers f run from i for_reading is =
+    ap (place_if (λ p. is_readable managers (p / 8))) is ∙ read_place_for_reading managers f (from + i) for_reading
+
+-- a byte that may be read is in the memory
+pub is_readable-lt : (managers : List SyncMan) (address : ℕ) → is_readable managers address ≡ true → address < MEMORY_SIZE
+unfolding is_readable
+is_readable-lt managers address readable =
+    let inside : ltb address MEMORY_SIZE ≡ true = (both (ltb address MEMORY_SIZE) _ readable).0 in grind (arith, nat_tests)

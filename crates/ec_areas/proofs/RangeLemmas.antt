@@ -6,10 +6,10 @@ use Rattle.std.proofs.lemmas.Bool.Decides.{nat_tests}
 use Rattle.std.proofs.lemmas.List.Folds.{list_any-append, list_any_at}
 use Rattle.std.proofs.lemmas.List.FromFn.{length-range_with_len, get_or-range_with_len, map-range_with_len_more}
 use Rattle.ec_regs.specs.declared.sync_man.SyncMan.{SyncMan}
-use Rattle.ec_areas.specs.Areas.{is_active}
+use Rattle.ec_regs.specs.SyncMan.{is_active}
 use Rattle.ec_areas.specs.Records.{sync_manager_at, sync_managers_of}
 use Rattle.ec_areas.specs.Ranges.{is_in_sync_manager, is_writable_field, some_address}
-use Rattle.ec_areas.proofs.CopyLemmas.{or_false}
+use Rattle.ec_areas.proofs.NamesLemmas.{or_false}
 
 -- ---- records by number
 

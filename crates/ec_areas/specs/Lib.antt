@@ -2,5 +2,5 @@ pub mod Areas
 pub mod Records
 pub mod Ranges
 pub mod Logical
-pub mod Copying
 pub mod Showing
+pub mod Met

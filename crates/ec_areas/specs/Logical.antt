@@ -1,8 +1,9 @@
 -- A logical command reaches the bits of a controller that its FMMUs map, where the areas of its sync managers
 -- allow it (IEC 61158-4-12, FMMU). Bit numbers are 8 * byte address + bit.
-use Rattle.std.specs.Prelude.{◌≡◌, ◌&&◌, ◌||◌, ℕ, zero, suc, ◌+◌, ◌-◌, ◌/◌, ◌<◌, Bool, true, false, nat_le, nat_lt, if◌then◌else◌, Option, None, Some, List, [], ◌∷◌}
+use Rattle.std.specs.Prelude.{◌≡◌, ◌&&◌, ◌||◌, ℕ, zero, suc, ◌+◌, ◌-◌, ◌/◌, ◌<◌, Bool, true, false, nat_le}
+use Rattle.std.specs.Prelude.{nat_lt, if◌then◌else◌, Option, None, Some, List, [], ◌∷◌}
 use Rattle.std.specs.List.{Any}
-use Rattle.std.specs.Option.{is_some}
+use Rattle.std.specs.Option.{is_some, IsSome}
 use Rattle.ec_regs.specs.Bits.{later}
 use Rattle.ec_regs.specs.Pairs.{reads, writes, IsPair, physical_of, logical_of}
 use Rattle.ec_regs.specs.declared.fmmu.Fmmu.{Fmmu}
@@ -43,17 +44,20 @@ place_if test (Some place) = if test place then Some place else None
 -- the physical bit of the FMMU's readable pair with logical bit l
 unfoldable pub read_place : List SyncMan → Fmmu → ℕ → Option ℕ
 read_place managers f l =
-    if reads f && nat_lt l LOGICAL_BITS then place_if (λ p. is_readable managers (p / 8)) (physical_of f l) else None
+    if reads f && nat_lt l LOGICAL_BITS
+    then place_if (λ p. is_readable managers (p / 8)) (physical_of f l) else None
 
 -- the physical bit of the FMMU's writable pair with logical bit l
 unfoldable pub write_target : List SyncMan → Fmmu → ℕ → Option ℕ
 write_target managers f l =
-    if writes f && nat_lt l LOGICAL_BITS then place_if (λ p. is_writable managers (p / 8)) (physical_of f l) else None
+    if writes f && nat_lt l LOGICAL_BITS
+    then place_if (λ p. is_writable managers (p / 8)) (physical_of f l) else None
 
 -- the logical bit of the FMMU's writable pair with physical bit p
 unfoldable pub write_place : List SyncMan → Fmmu → ℕ → Option ℕ
 write_place managers f p =
-    if writes f && is_writable managers (p / 8) then place_if (λ l. nat_lt l LOGICAL_BITS) (logical_of f p) else None
+    if writes f && is_writable managers (p / 8)
+    then place_if (λ l. nat_lt l LOGICAL_BITS) (logical_of f p) else None
 
 -- ---- all FMMUs of a controller: where pairs meet, the later FMMU prevails
 
@@ -83,7 +87,13 @@ number_within from n (Some l) = if nat_le from l && nat_lt (l - from) n then Som
 -- which of the n bits from logical bit `from` on a write of them puts into physical bit p
 unfoldable pub write_map : List SyncMan → List Fmmu → ℕ → ℕ → ℕ → Option ℕ
 write_map managers [] from n p = None
-write_map managers (f ∷ fs) from n p = later (number_within from n (write_place managers f p)) (write_map managers fs from n p)
+write_map managers (f ∷ fs) from n p =
+    later (number_within from n (write_place managers f p)) (write_map managers fs from n p)
+
+-- the map has a place for a bit exactly where the bit is paired, and the place is one with which it is paired
+pub record NamesPairs (map : ℕ → Option ℕ) (paired : ℕ → ℕ → Type 0) : Type 0 where
+  pub is_paired : (l p : ℕ) → map l ≡ Some p → paired l p
+  pub is_found : (l p : ℕ) → paired l p → IsSome (map l)
 
 -- ---- ranges
 

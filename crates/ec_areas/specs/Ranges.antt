@@ -1,12 +1,14 @@
 -- A physical command reaches a range of addresses, as far as the areas of the sync managers let it
 -- (IEC 61158-4-12, physical memory access, sync manager and mailbox).
-use Rattle.std.specs.Prelude.{ℕ, ◌+◌, ◌-◌, ◌*◌, ◌/◌, ◌%◌, Bool, ◌==◌, ◌&&◌, ◌||◌, not, nat_le, nat_lt, if◌then◌else◌, Option, None, List, length}
-use Rattle.std.specs.Int.{bit_at}
+use Rattle.std.specs.Prelude.{ℕ, ◌+◌, ◌-◌, ◌*◌, ◌/◌, ◌%◌, Bool, ◌==◌, ◌&&◌, ◌||◌, not, nat_le, nat_lt}
+use Rattle.std.specs.Prelude.{if◌then◌else◌, Option, None, List, length}
 use Rattle.std.specs.List.{list_any, position, filter, range_with_len}
 use Rattle.std.specs.Option.{is_some}
 use Rattle.ec_regs.specs.declared.sync_man.SyncMan.{SyncMan}
-use Rattle.ec_regs.specs.declared.registers.TheConstants.{STATION_ADDRESS, AL_CONTROL, FMMU_BASE, FMMU_SIZE, FMMU_COUNT, SYNC_MANAGER_BASE, SYNC_MANAGER_SIZE, SYNC_MANAGER_COUNT, PROCESS_MEMORY, MEMORY_SIZE}
-use Rattle.ec_areas.specs.Areas.{is_active, is_mailbox, master_reads, master_writes}
+use Rattle.ec_regs.specs.declared.registers.TheConstants.{STATION_ADDRESS, AL_CONTROL, FMMU_BASE, FMMU_SIZE}
+use Rattle.ec_regs.specs.declared.registers.TheConstants.{FMMU_COUNT, SYNC_MANAGER_BASE, SYNC_MANAGER_SIZE}
+use Rattle.ec_regs.specs.declared.registers.TheConstants.{SYNC_MANAGER_COUNT, PROCESS_MEMORY, MEMORY_SIZE}
+use Rattle.ec_regs.specs.SyncMan.{is_active, is_mailbox, is_full, master_reads, master_writes}
 use Rattle.ec_areas.specs.Records.{sync_manager_at}
 
 -- is an address one of the n from another one on
@@ -36,10 +38,6 @@ abbrev pub meets_one : List SyncMan → ℕ → ℕ → Bool
 meets_one managers from n = length (filter (λ s. meets s from n) managers) == 1
 
 -- ---- mailboxes, which are read and written whole
-
--- bit 3 of the status byte of a sync manager: its mailbox is full
-abbrev pub is_full : SyncMan → Bool
-is_full s = bit_at s.status 3 == 1
 
 -- is the range the whole area of the sync manager
 abbrev pub is_area : SyncMan → ℕ → ℕ → Bool
@@ -90,8 +88,8 @@ is_writable_field memory address =
     sync_manager_offset address == ACTIVATE_OFFSET
     || (nat_lt (sync_manager_offset address) STATUS_OFFSET && not (is_active (sync_manager_at memory (sync_manager_number address))))
 
--- does a byte of the memory take what a physical command writes: the station address, AL control, the FMMUs, the
--- fields of sync managers, and process memory
+-- does a byte of the memory take what a physical command writes: the station address, AL control, the FMMUs,
+-- the fields of sync managers, and process memory
 unfoldable pub takes_writes : List ℕ → ℕ → Bool
 takes_writes memory address =
     within STATION_ADDRESS 2 address

@@ -1,9 +1,10 @@
--- The eight FMMU records and the eight sync manager records of a controller stand in its memory (IEC 61158-4-12,
--- register layout).
+-- The eight FMMU records and the eight sync manager records of a controller stand in its memory (IEC
+-- 61158-4-12, register layout).
 use Rattle.std.specs.Prelude.{ℕ, ◌+◌, ◌*◌, List, [], ◌∷◌, take, drop}
 use Rattle.ec_regs.specs.declared.fmmu.Fmmu.{Fmmu}
 use Rattle.ec_regs.specs.declared.sync_man.SyncMan.{SyncMan}
-use Rattle.ec_regs.specs.declared.registers.TheConstants.{FMMU_BASE, FMMU_SIZE, SYNC_MANAGER_BASE, SYNC_MANAGER_SIZE}
+use Rattle.ec_regs.specs.declared.registers.TheConstants.{FMMU_BASE, FMMU_SIZE, SYNC_MANAGER_BASE}
+use Rattle.ec_regs.specs.declared.registers.TheConstants.{SYNC_MANAGER_SIZE}
 use Rattle.ec_regs.specs.Fmmu.{fmmu_of}
 use Rattle.ec_regs.specs.SyncMan.{sync_man_of}
 

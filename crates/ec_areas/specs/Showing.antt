@@ -1,8 +1,12 @@
--- Whether an area that a write found active is shown anew hangs on its last byte (IEC 61158-4-12, sync manager,
--- buffered mode).
-use Rattle.std.specs.Prelude.{◌≡◌, ℕ, ◌+◌, ◌-◌, Bool, Some, List, slice_get, IsTrue}
+-- Whether an area that a write found active is shown anew hangs on its last byte (IEC 61158-4-12, sync
+-- manager, buffered mode).
+use Rattle.std.specs.Prelude.{◌≡◌, ℕ, ◌+◌, ◌-◌, Bool, false, ◌||◌, if◌then◌else◌, Option, None, Some, List}
+use Rattle.std.specs.Prelude.{slice_get, slice_index_or, IsTrue}
+use Rattle.ec_regs.specs.Pairs.{writes}
+use Rattle.ec_regs.specs.declared.fmmu.Fmmu.{Fmmu}
+use Rattle.ec_areas.specs.Met.{number_at}
 use Rattle.ec_regs.specs.declared.sync_man.SyncMan.{SyncMan}
-use Rattle.ec_areas.specs.Areas.{is_active}
+use Rattle.ec_regs.specs.SyncMan.{is_active}
 
 -- the address of the last byte of the area
 abbrev pub last_byte : SyncMan → ℕ
@@ -11,4 +15,16 @@ last_byte s = s.start + s.length - 1
 -- the list says of each active area, by number, whether its last byte passes the test
 abbrev pub SaysOfLastBytes : (ℕ → Bool) → List SyncMan → List Bool → Type 0
 SaysOfLastBytes test managers said =
-    (i : ℕ) (s : SyncMan) → slice_get managers i ≡ Some s → IsTrue (is_active s) → slice_get said i ≡ Some (test (last_byte s))
+    (i : ℕ) (s : SyncMan) → slice_get managers i ≡ Some s → IsTrue (is_active s)
+    → slice_get said i ≡ Some (test (last_byte s))
+
+-- which of the n data bits from logical bit `from` on a write through an FMMU puts into physical bit p, if no
+-- area locks its byte
+abbrev pub written_number : ℕ → ℕ → Fmmu → ℕ → Option ℕ
+written_number from n f p = if writes f then number_at from n f p else None
+
+-- the areas whose last byte passes the test are marked, by number; the other marks stay
+abbrev pub MarksMet : (ℕ → Bool) → List SyncMan → List Bool → List Bool → Type 0
+MarksMet test managers old new =
+    (i : ℕ) (s : SyncMan) → slice_get managers i ≡ Some s
+    → slice_index_or new i false ≡ (slice_index_or old i false || test (last_byte s))

@@ -1,13 +1,19 @@
-//! What FMMUs let the master reach.
+//! What FMMUs let the master read (IEC 61158-4-12, FMMU).
 
-ghost use Rattle.std.specs.Prelude.{◌≡◌, ◌+◌, ◌*◌, ◌<◌, length, ℕ, IfSome, IsSome};
+ghost use Rattle.std.specs.Prelude.{◌≡◌, ◌+◌, ◌*◌, ◌/◌, ◌<◌, length};
 ghost use Rattle.ec_regs.specs.Bits.{with_bits};
 ghost use Rattle.ec_regs.specs.declared.registers.TheConstants.{MEMORY_SIZE};
-ghost use Rattle.ec_areas.specs.Logical.{read_place, read_map, read_places, names, IsReadable};
+ghost use Rattle.ec_areas.specs.Logical.{read_place, read_map, read_places, names, IsReadable, NamesPairs};
+ghost use Rattle.ec_areas.specs.Met.{IsRunOf, readable_in};
 
 use crate::areas::is_readable;
-use crate::bits::copy_bit;
-use ec_regs::{Fmmu, SyncMan};
+use crate::met::{Run, run_met};
+use crate::reach::are_readable;
+use ec_regs::bits::copy_bits;
+use ec_regs::{PlannedFmmu, SyncMan};
+
+/// How many bits a byte has.
+const BYTE: usize = 8;
 
 /// How many logical bytes there are: one for each 32-bit address.
 pub(crate) const LOGICAL_BYTES: u64 = 0x1_0000_0000;
@@ -15,53 +21,86 @@ pub(crate) const LOGICAL_BYTES: u64 = 0x1_0000_0000;
 /// How many logical bits there are.
 pub(crate) const LOGICAL_BITS: u64 = 8 * LOGICAL_BYTES;
 
-/// The physical bit that a read through one FMMU takes for a logical bit, or `None`.
-#[tactic(auto, unfolding(crate::specs::Logical::read_place))]
-fn read_place(managers: &[SyncMan], fmmu: &Fmmu, logical: u64) -> Option<u32>
-    ensures { result ≡ read_place managers.now fmmu.now logical }
+/// Copies what may be read of a run to the data, byte by byte of the memory, and says whether there is such a
+/// byte.
+fn read_cut_run(managers: &[SyncMan], run: Run, memory: &[u8], into: &mut [u8]) -> bool
+    requires size { length memory.now ≡ MEMORY_SIZE }
+    requires run { IsRunOf (8 * length into.old) run }
+    ensures bits { into.new ≡ with_bits into.old memory.now (readable_in managers.now run) }
+    ensures served { result ≡ names (readable_in managers.now run) (8 * length into.old) }
 {
-    if !fmmu.reads() || logical >= LOGICAL_BITS {
-        return None;
+    let mut served = false;
+    let mut done = 0;
+    while done < run.count {
+        let physical = run.physical + done;
+        let bits = (BYTE - physical % BYTE).min(run.count - done);
+        if is_readable(managers, (physical / BYTE) as u32) {
+            copy_bits(into, run.at + done, memory, physical, bits);
+            served = true;
+        }
+        done += bits;
     }
-    let physical = fmmu.physical_of(logical)?;
-    is_readable(managers, physical / 8).then_some(physical)
+    served
 }
 
-/// The physical bit that a read takes for a logical bit, or `None`; a later FMMU prevails.
-fn read_bit(managers: &[SyncMan], fmmus: &[Fmmu], logical: u64) -> Option<u32>
-    ensures value { result ≡ read_map managers.now fmmus.now logical }
-    ensures pair { IfSome result (IsReadable managers.now fmmus.now logical) }
-    ensures inside { IfSome result (λ physical. physical < 8 * MEMORY_SIZE) }
-    ensures none { (physical : ℕ) → IsReadable managers.now fmmus.now logical physical → IsSome result }
+/// Copies what may be read of a run to the data, and says whether there is any.
+fn read_run(managers: &[SyncMan], run: Run, memory: &[u8], into: &mut [u8]) -> bool
+    requires size { length memory.now ≡ MEMORY_SIZE }
+    requires run { IsRunOf (8 * length into.old) run }
+    ensures bits { into.new ≡ with_bits into.old memory.now (readable_in managers.now run) }
+    ensures served { result ≡ names (readable_in managers.now run) (8 * length into.old) }
 {
-    let mut found = None;
-    for fmmu in fmmus {
-        if let Some(physical) = read_place(managers, fmmu, logical) {
-            found = Some(physical);
-        }
+    let last = (run.physical + run.count - 1) / BYTE;
+    if !are_readable(managers, (run.physical / BYTE) as u32, last as u32) {
+        return read_cut_run(managers, run, memory, into);
     }
-    found
+    copy_bits(into, run.at, memory, run.physical, run.count);
+    true
+}
+
+/// Fills the bits of the data that a read through one FMMU reaches, and says whether there is one.
+fn read_through(
+    managers: &[SyncMan],
+    fmmu: &PlannedFmmu,
+    memory: &[u8],
+    address: u32,
+    into: &mut [u8],
+) -> bool
+    requires { length memory.now ≡ MEMORY_SIZE }
+    ensures bits { into.new
+        ≡ with_bits into.old memory.now (λ i. read_place managers.now fmmu.now (8 * address + i)) }
+    ensures served { result
+        ≡ names (λ i. read_place managers.now fmmu.now (8 * address + i)) (8 * length into.old) }
+{
+    if !fmmu.reads() {
+        return false;
+    }
+    match run_met(fmmu, address, into.len()) {
+        Some(run) => read_run(managers, run, memory, into),
+        None => false,
+    }
 }
 
 /// Fills the bits of the data that a read reaches from the memory, and says whether there is one.
 /// The first data byte stands at the logical byte `address`.
 pub fn read_mapped(
     managers: &[SyncMan],
-    fmmus: &[Fmmu],
+    fmmus: &[PlannedFmmu],
     memory: &[u8],
     address: u32,
     into: &mut [u8],
 ) -> bool
     requires { length memory.now ≡ MEMORY_SIZE }
-    ensures bits { into.new ≡ with_bits into.old memory.now (read_places managers.now fmmus.now (8 * address)) }
+    ensures bits { into.new
+        ≡ with_bits into.old memory.now (read_places managers.now fmmus.now (8 * address)) }
     ensures served { result ≡ names (read_places managers.now fmmus.now (8 * address)) (8 * length into.old) }
+
+    // A bit has a place exactly where an FMMU has a readable pair with it: the place of such a pair.
+    ensures pair { NamesPairs (read_map managers.now fmmus.now) (IsReadable managers.now fmmus.now) }
 {
-    // Bits past the logical range have no place, so data that reach further are done there.
-    let bits = 8 * LOGICAL_BYTES.min(into.len() as u64);
     let mut served = false;
-    for i in 0..bits {
-        if let Some(physical) = read_bit(managers, fmmus, 8 * u64::from(address) + i) {
-            copy_bit(into, i as usize, memory, physical as usize);
+    for fmmu in fmmus {
+        if read_through(managers, fmmu, memory, address, into) {
             served = true;
         }
     }

@@ -1,31 +1,27 @@
-//! The range of addresses that a physical command reaches, and what of it the sync managers let it read and write
-//! (IEC 61158-4-12, physical memory access, sync manager and mailbox).
+//! The range of addresses that a physical command reaches, and what of it the sync managers let it read and
+//! write (IEC 61158-4-12, physical memory access, sync manager and mailbox).
 
 ghost use Rattle.std.specs.Prelude.{◌≡◌, ◌+◌, ◌≤◌, ◌<◌, ◌&&◌, not, ℕ, List, IsTrue, count_by, position};
 ghost use Rattle.std.specs.Option.{IfSome};
 ghost use Rattle.ec_regs.specs.declared.registers.TheConstants.{MEMORY_SIZE};
 ghost use Rattle.ec_areas.specs.Records.{sync_managers_of};
 ghost use Rattle.ec_areas.specs.Ranges.{status_address};
-ghost use Rattle.ec_areas.specs.Ranges.{within, is_range, meets, meets_hidden, meets_locked, meets_one, is_full, is_area, gives_mail, takes_mail, emptied_by, filled_by, serves_physical_read, serves_physical_write, is_in_sync_manager, is_writable_field, takes_writes, some_address};
+ghost use Rattle.ec_areas.specs.Ranges.{within, is_range, meets, meets_hidden, meets_locked, meets_one};
+ghost use Rattle.ec_areas.specs.Ranges.{is_area, gives_mail, takes_mail, emptied_by, filled_by};
+ghost use Rattle.ec_areas.specs.Ranges.{serves_physical_read, serves_physical_write, is_in_sync_manager};
+ghost use Rattle.ec_areas.specs.Ranges.{is_writable_field, takes_writes, some_address};
 
-use crate::areas::{is_active, is_mailbox, master_reads, master_writes};
 use ec_regs::SyncMan;
 use ec_regs::registers::{
     AL_CONTROL, FMMU_BASE, FMMU_COUNT, FMMU_SIZE, MEMORY_SIZE, PROCESS_MEMORY, PROCESS_MEMORY_SIZE,
     STATION_ADDRESS, SYNC_MANAGER_BASE, SYNC_MANAGER_COUNT, SYNC_MANAGER_SIZE,
 };
 
-/// Where bit 3 of the status byte stands: the mailbox is full.
-const FULL_AT: u8 = 3;
-
 /// Where the status byte stands in a sync manager's record; the master does not write it.
 const STATUS_OFFSET: u32 = 5;
 
 /// Where the activate byte stands in it; the master may always write it.
 const ACTIVATE_OFFSET: u32 = 6;
-
-/// The bit of a sync manager's status byte that tells that its mailbox is full.
-pub const MAILBOX_FULL: u8 = 0x08;
 
 /// How many bytes the station address and AL control have each.
 const WORD: u16 = 2;
@@ -63,24 +59,24 @@ fn meets(manager: &SyncMan, from: u16, count: u16) -> bool
     let start = u32::from(manager.start);
     let end = start + u32::from(manager.length);
     let from = u32::from(from);
-    is_active(manager) && start < from + u32::from(count) && from < end
+    start < from + u32::from(count) && from < end && manager.is_active()
 }
 
 /// Does it share one with an area that is kept from reads?
-fn meets_hidden(managers: &[SyncMan], from: u16, count: u16) -> bool
+pub(crate) fn meets_hidden(managers: &[SyncMan], from: u16, count: u16) -> bool
     ensures { result ≡ meets_hidden managers.now from count }
 {
     managers.iter().any(|manager| {
-        meets(manager, from, count) && (is_mailbox(manager) || master_writes(manager))
+        meets(manager, from, count) && (manager.is_mailbox() || manager.master_writes())
     })
 }
 
 /// Does it share one with an area that is kept from writes?
-fn meets_locked(managers: &[SyncMan], from: u16, count: u16) -> bool
+pub(crate) fn meets_locked(managers: &[SyncMan], from: u16, count: u16) -> bool
     ensures { result ≡ meets_locked managers.now from count }
 {
     managers.iter().any(|manager| {
-        meets(manager, from, count) && (is_mailbox(manager) || master_reads(manager))
+        meets(manager, from, count) && (manager.is_mailbox() || manager.master_reads())
     })
 }
 
@@ -101,18 +97,11 @@ fn meets_one(managers: &[SyncMan], from: u16, count: u16) -> bool
     areas_met(managers, from, count) == 1
 }
 
-/// Is the mailbox of the sync manager full (bit 3 of its status byte)?
-pub fn is_full(manager: &SyncMan) -> bool
-    ensures { result ≡ is_full manager.now }
-{
-    manager.status >> FULL_AT & 1 == 1
-}
-
 /// Is the range the whole area of the sync manager?
 fn is_area(manager: &SyncMan, from: u16, count: u16) -> bool
     ensures { result ≡ is_area manager.now from count }
 {
-    is_active(manager) && manager.start == from && manager.length == count
+    manager.is_active() && manager.start == from && manager.length == count
 }
 
 /// Does a read of the range take the mail of this sync manager?
@@ -121,9 +110,9 @@ fn gives_mail(manager: &SyncMan, from: u16, count: u16) -> bool
     ensures { result ≡ gives_mail from count manager.now }
 {
     is_area(manager, from, count)
-        && is_mailbox(manager)
-        && master_reads(manager)
-        && is_full(manager)
+        && manager.is_mailbox()
+        && manager.master_reads()
+        && manager.is_full()
 }
 
 /// Does a write of the range put mail there?
@@ -132,9 +121,9 @@ fn takes_mail(manager: &SyncMan, from: u16, count: u16) -> bool
     ensures { result ≡ takes_mail from count manager.now }
 {
     is_area(manager, from, count)
-        && is_mailbox(manager)
-        && master_writes(manager)
-        && !is_full(manager)
+        && manager.is_mailbox()
+        && manager.master_writes()
+        && !manager.is_full()
 }
 
 /// The number of the first sync manager that gives its mail to a read of the range.
@@ -188,8 +177,8 @@ pub fn serves_physical_read(managers: &[SyncMan], from: u16, count: u16) -> bool
         && (!meets_hidden(managers, from, count) || emptied_by(managers, from, count).is_some())
 }
 
-/// May the master write the byte of a sync manager's record at an address: its activate byte, or its start, length
-/// and control bytes while it is not active? The records are those on arrival.
+/// May the master write the byte of a sync manager's record at an address: its activate byte, or its start,
+/// length and control bytes while it is not active? The records are those on arrival.
 fn sync_manager_takes(managers: &[SyncMan; 8], address: u32) -> bool
     ensures { (memory : List ℕ) → managers.now ≡ sync_managers_of memory → result ≡ (is_in_sync_manager address && is_writable_field memory address) }
 {
@@ -203,7 +192,7 @@ fn sync_manager_takes(managers: &[SyncMan; 8], address: u32) -> bool
     let place = address - u32::from(SYNC_MANAGER_BASE);
     let manager = &managers[(place / u32::from(SYNC_MANAGER_SIZE)) as usize];
     let offset = place % u32::from(SYNC_MANAGER_SIZE);
-    offset == ACTIVATE_OFFSET || offset < STATUS_OFFSET && !is_active(manager)
+    offset == ACTIVATE_OFFSET || offset < STATUS_OFFSET && !manager.is_active()
 }
 
 /// Does the byte at an address take what a physical command writes? The records are those on arrival.
@@ -230,15 +219,16 @@ fn some_byte_takes_writes(managers: &[SyncMan; 8], from: u16, count: u16) -> boo
     false
 }
 
-/// Has the range bytes that take a write, and no area that is kept from writes? The records are those on arrival.
+/// Has the range bytes that take a write, and no area that is kept from writes? The records are those on
+/// arrival.
 fn is_open_to_writes(managers: &[SyncMan; 8], from: u16, count: u16) -> bool
     ensures { (memory : List ℕ) → managers.now ≡ sync_managers_of memory → result ≡ (not (meets_locked managers.now from count) && some_address (takes_writes memory) from count) }
 {
     !meets_locked(managers, from, count) && some_byte_takes_writes(managers, from, count)
 }
 
-/// Is a write of the range served: of bytes that no area keeps from writes and of which one takes it, or of a whole
-/// mailbox? The records are those on arrival.
+/// Is a write of the range served: of bytes that no area keeps from writes and of which one takes it, or of a
+/// whole mailbox? The records are those on arrival.
 pub fn serves_physical_write(managers: &[SyncMan; 8], from: u16, count: u16) -> bool
     ensures value { (memory : List ℕ) → managers.now ≡ sync_managers_of memory → result ≡ serves_physical_write memory managers.now from count }
     ensures inside { IsTrue result → from + count ≤ MEMORY_SIZE }

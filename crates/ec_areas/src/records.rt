@@ -5,7 +5,7 @@ ghost use Rattle.ec_regs.specs.declared.registers.TheConstants.{MEMORY_SIZE};
 ghost use Rattle.ec_areas.specs.Records.{fmmu_at, fmmus_of, sync_manager_at, sync_managers_of};
 
 use ec_regs::registers::{FMMU_BASE, FMMU_SIZE, SYNC_MANAGER_BASE, SYNC_MANAGER_SIZE};
-use ec_regs::{Fmmu, SyncMan};
+use ec_regs::{Fmmu, PlannedFmmu, SyncMan};
 
 /// The FMMU with a number.
 #[tactic(auto, unfolding(crate::specs::Records::fmmu_at))]
@@ -18,21 +18,21 @@ pub fn fmmu_at(memory: &[u8], number: usize) -> Fmmu
     Fmmu::read(memory[at..at + FMMU_SIZE as usize].try_into().unwrap())
 }
 
-/// All FMMUs, by number.
+/// All FMMUs, by number, with their plans.
 #[tactic(auto, unfolding(crate::specs::Records::fmmus_of))]
-pub fn fmmus_of(memory: &[u8]) -> [Fmmu; 8]
+pub fn fmmus_of(memory: &[u8]) -> [PlannedFmmu; 8]
     requires { length memory.now ≡ MEMORY_SIZE }
     ensures { result ≡ fmmus_of memory.now }
 {
     [
-        fmmu_at(memory, 0),
-        fmmu_at(memory, 1),
-        fmmu_at(memory, 2),
-        fmmu_at(memory, 3),
-        fmmu_at(memory, 4),
-        fmmu_at(memory, 5),
-        fmmu_at(memory, 6),
-        fmmu_at(memory, 7),
+        PlannedFmmu::new(fmmu_at(memory, 0)),
+        PlannedFmmu::new(fmmu_at(memory, 1)),
+        PlannedFmmu::new(fmmu_at(memory, 2)),
+        PlannedFmmu::new(fmmu_at(memory, 3)),
+        PlannedFmmu::new(fmmu_at(memory, 4)),
+        PlannedFmmu::new(fmmu_at(memory, 5)),
+        PlannedFmmu::new(fmmu_at(memory, 6)),
+        PlannedFmmu::new(fmmu_at(memory, 7)),
     ]
 }
 

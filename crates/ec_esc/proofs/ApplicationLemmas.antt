@@ -14,9 +14,9 @@ use Rattle.ec_regs.specs.declared.registers.TheConstants.{AL_STATUS, AL_STATUS_C
 use Rattle.ec_regs.specs.declared.sync_man.SyncMan.{SyncMan}
 use Rattle.ec_regs.proofs.AlLemmas.{status_of-status_byte}
 use Rattle.ec_esc.specs.Application.{with_al, al_status, al_status_code, mail_area}
-use Rattle.ec_areas.specs.Areas.{is_active, is_mailbox}
-use Rattle.ec_esc.specs.Pass.{with_emptied, with_filled}
-use Rattle.ec_areas.specs.Ranges.{is_full}
+use Rattle.ec_regs.specs.SyncMan.{is_active, is_mailbox}
+use Rattle.ec_esc.specs.Writing.{with_emptied, with_filled}
+use Rattle.ec_regs.specs.SyncMan.{is_full}
 use Rattle.ec_areas.specs.Records.{sync_manager_at}
 use Rattle.ec_esc.specs.State.{ControllerState, with_run}
 use Rattle.ec_areas.specs.Ranges.{status_address}
@@ -85,47 +85,6 @@ mailbox_length-le s active mailbox = grind (arith, nat_tests)
 sync_manager_at-status : (m : List ℕ) (i : ℕ) → (sync_manager_at m i).status ≡ get_or m (status_address i) 0
 unfolding sync_manager_at
 sync_manager_at-status m i = get_or-take 8 (drop (2048 + 8 * i) m) 5 0 (omega arith) ∙ get_or-drop (2048 + 8 * i) m 5 0
-
--- where a mailbox is full, bit 3 of that byte is 1
-pub full_bit : (m : List ℕ) (i : ℕ) → is_full (sync_manager_at m i) ≡ true → bit_at (get_or m (status_address i) 0) 3 ≡ 1
-full_bit m i full =
-    ap (λ n. bit_at n 3) (sym (sync_manager_at-status m i)) ∙ grind (arith, nat_tests)
-
--- where it is empty, it is 0
-pub empty_bit : (m : List ℕ) (i : ℕ) → is_full (sync_manager_at m i) ≡ false → bit_at (get_or m (status_address i) 0) 3 ≡ 0
-empty_bit m i empty =
-    ap (λ n. bit_at n 3) (sym (sync_manager_at-status m i))
-    ∙ (let below = bit_at-lt (sync_manager_at m i).status 3 in grind (arith, nat_tests))
-
--- to set bit 3 where it is 0 adds 8
-bit_or-empty : (n : ℕ) → bit_at n 3 ≡ 0 → bit_or n 8 ≡ n + 8
-bit_or-empty n empty = or_disjoint n 8 (and_pow n 3 ∙ ap (λ b. b * 8) empty)
-
--- to clear it where it is 1 takes 8 away
-bit_and-full : (n : ℕ) → n < 256 → bit_at n 3 ≡ 1 → bit_and n 247 ≡ n - 8
-bit_and-full n small full =
-    let rest : bit_and 247 n + bit_and 8 n ≡ n = and-not 8 8 n (omega arith) small in
-    let eight : bit_and 8 n ≡ 8 = and_comm 8 n ∙ and_pow n 3 ∙ ap (λ b. b * 8) full in
-    let same : bit_and n 247 ≡ bit_and 247 n = and_comm n 247 in
-    omega arith
-
--- so a full status byte with bit 3 cleared is that of the mailbox once it was emptied
-pub set-emptied : (m : List ℕ) (i at status : ℕ) → at ≡ status_address i → status ≡ get_or m at 0 → status < 256
-    → bit_at (get_or m (status_address i) 0) 3 ≡ 1 → set m at (bit_and status 247) ≡ with_emptied (Some i) m
-set-emptied m i at status at_is status_is small full =
-    let here : status ≡ get_or m (status_address i) 0 = status_is ∙ ap (λ a. get_or m a 0) at_is in
-    ap (λ a. set m a (bit_and status 247)) at_is
-    ∙ ap (λ n. set m (status_address i) n)
-    (bit_and-full status small (ap (λ n. bit_at n 3) here ∙ full) ∙ ap (λ n. n - 8) here)
-
--- and an empty one with bit 3 set is that of the mailbox once it was filled
-pub set-filled : (m : List ℕ) (i at status : ℕ) → at ≡ status_address i → status ≡ get_or m at 0
-    → bit_at (get_or m (status_address i) 0) 3 ≡ 0 → set m at (bit_or status 8) ≡ with_filled (Some i) m
-set-filled m i at status at_is status_is empty =
-    let here : status ≡ get_or m (status_address i) 0 = status_is ∙ ap (λ a. get_or m a 0) at_is in
-    ap (λ a. set m a (bit_or status 8)) at_is
-    ∙ ap (λ n. set m (status_address i) n)
-    (bit_or-empty status (ap (λ n. bit_at n 3) here ∙ empty) ∙ ap (λ n. n + 8) here)
 
 -- a mail and zeros up to the longest length begin with the mail as it fills its area
 pub take-padded : (s : SyncMan) (mail : List ℕ) → length mail ≤ s.length → s.length ≤ 128

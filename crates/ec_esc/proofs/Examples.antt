@@ -3,7 +3,8 @@ use Rattle.std.proofs.Common.{◌≡◌, ℕ, true, false, eqb, List, [], ◌∷
 use Rattle.ec_regs.specs.Pairs.{partner, pair_count}
 use Rattle.ec_regs.specs.declared.fmmu.Fmmu.{Fmmu}
 use Rattle.ec_regs.specs.declared.sync_man.SyncMan.{SyncMan}
-use Rattle.ec_areas.specs.Areas.{is_active, guards, hides, locks, is_readable, is_writable}
+use Rattle.ec_regs.specs.SyncMan.{is_active}
+use Rattle.ec_areas.specs.Areas.{guards, hides, locks, is_readable, is_writable}
 use Rattle.ec_areas.specs.Logical.{read_place, write_place, write_target, read_map, write_map, target_map, read_places, target_places, names}
 use Rattle.ec_areas.specs.Ranges.{meets, emptied_by, filled_by, gives_mail, takes_mail, takes_writes, some_address, serves_physical_read, serves_physical_write}
 use Rattle.ec_esc.specs.Writing.{shown_after, is_shown_anew}

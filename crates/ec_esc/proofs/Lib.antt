@@ -6,5 +6,6 @@ pub mod ApplicationLemmas
 pub mod Examples
 pub mod WrittenLemmas
 pub mod SettledLemmas
-pub mod MailLemmas
 pub mod PhysicalLemmas
+pub mod IdleLemmas
+pub mod EffectLemmas

@@ -6,7 +6,11 @@ use Rattle.ec_wire.specs.Datagram.{DatagramRecord, nth, blank}
 use Rattle.ec_wire.specs.declared.command.Command.{Command}
 use Rattle.ec_wire.specs.declared.command.Command.TheVariants.{Nop, Brw, Armw, Frmw}
 use Rattle.ec_esc.specs.State.{ControllerState}
-use Rattle.ec_esc.specs.Pass.{Passed, PassedFrame, no_change, read_data, serves_read, if_served, counter_after, logical_read, pass_by, pass, frame_pass}
+use Rattle.ec_esc.specs.Stages.{Arrives}
+use Rattle.ec_esc.proofs.EffectLemmas.{pass_staged}
+use Rattle.ec_esc.specs.Stages.{no_change, read_data, if_served, logical_read, pass_by}
+use Rattle.ec_esc.specs.Stages.{serves_read}
+use Rattle.ec_esc.specs.Pass.{Passed, PassedFrame, counter_after, pass, frame_pass}
 
 -- ---- one datagram
 
@@ -37,14 +41,14 @@ pub counted_nothing : (d : DatagramRecord) → d.counter < 65536 → record d { 
 counted_nothing d fits = let same : (d.counter + 0) % 65536 ≡ d.counter = omega arith in ap (λ n. record d { counter = n }) same
 
 -- what does as the command at k says is its pass: the frame, and the controller
-pub passed-frame : (c : ControllerState) (rs after : List DatagramRecord) (k : ℕ) (x : Command) → (nth rs k).command ≡ x
+pub passed-frame : (c : ControllerState) (rs after : List DatagramRecord) (k : ℕ) (x : Command) → Arrives c (nth rs k) → (nth rs k).command ≡ x
     → after ≡ set rs k (pass_by x c (nth rs k)).datagram → after ≡ set rs k (pass c (nth rs k)).datagram
-passed-frame c rs after k x is after_is =
-    after_is ∙ ap (λ (y : Command). set rs k (pass_by y c (nth rs k)).datagram) (sym is)
+passed-frame c rs after k x fits is after_is =
+    after_is ∙ ap (λ (p : Passed). set rs k p.datagram) (pass_staged x c (nth rs k) fits is)
 
-pub passed-state : (c after : ControllerState) (d : DatagramRecord) (x : Command) → d.command ≡ x
+pub passed-state : (c after : ControllerState) (d : DatagramRecord) (x : Command) → Arrives c d → d.command ≡ x
     → after ≡ (pass_by x c d).state → after ≡ (pass c d).state
-passed-state c after d x is after_is = after_is ∙ ap (λ (y : Command). (pass_by y c d).state) (sym is)
+passed-state c after d x fits is after_is = after_is ∙ ap (λ (p : Passed). p.state) (pass_staged x c d fits is)
 
 -- four commands do nothing
 pass_nothing : (c : ControllerState) (d : DatagramRecord) (x : Command) → (x ≡ Nop) ⊎ ((x ≡ Brw) ⊎ ((x ≡ Armw) ⊎ (x ≡ Frmw)))
@@ -60,14 +64,14 @@ pub set_nth : (rs : List DatagramRecord) (k : ℕ) → set rs k (nth rs k) ≡ r
 set_nth rs k = set-get_or rs k blank
 
 -- a datagram of one of those four has passed as it stands: the frame, and the controller
-pub unpassed-frame : (c : ControllerState) (rs : List DatagramRecord) (k : ℕ) (x : Command) → (nth rs k).command ≡ x
+pub unpassed-frame : (c : ControllerState) (rs : List DatagramRecord) (k : ℕ) (x : Command) → Arrives c (nth rs k) → (nth rs k).command ≡ x
     → (x ≡ Nop) ⊎ ((x ≡ Brw) ⊎ ((x ≡ Armw) ⊎ (x ≡ Frmw))) → rs ≡ set rs k (pass c (nth rs k)).datagram
-unpassed-frame c rs k x is idle =
-    passed-frame c rs rs k x is (sym (ap (λ (p : Passed). set rs k p.datagram) (pass_nothing c (nth rs k) x idle) ∙ set_nth rs k))
+unpassed-frame c rs k x fits is idle =
+    passed-frame c rs rs k x fits is (sym (ap (λ (p : Passed). set rs k p.datagram) (pass_nothing c (nth rs k) x idle) ∙ set_nth rs k))
 
-pub unpassed-state : (c : ControllerState) (d : DatagramRecord) (x : Command) → d.command ≡ x
+pub unpassed-state : (c : ControllerState) (d : DatagramRecord) (x : Command) → Arrives c d → d.command ≡ x
     → (x ≡ Nop) ⊎ ((x ≡ Brw) ⊎ ((x ≡ Armw) ⊎ (x ≡ Frmw))) → c ≡ (pass c d).state
-unpassed-state c d x is idle = passed-state c c d x is (sym (ap (λ (p : Passed). p.state) (pass_nothing c d x idle)))
+unpassed-state c d x fits is idle = passed-state c c d x fits is (sym (ap (λ (p : Passed). p.state) (pass_nothing c d x idle)))
 
 -- ---- frames
 

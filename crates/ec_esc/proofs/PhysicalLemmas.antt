@@ -10,11 +10,14 @@ use Rattle.ec_wire.specs.Datagram.{DatagramRecord, nth, blank}
 use Rattle.ec_areas.specs.Records.{sync_managers_of}
 use Rattle.ec_areas.specs.Ranges.{takes_writes, emptied_by, filled_by}
 use Rattle.ec_esc.specs.State.{ControllerState}
-use Rattle.ec_esc.specs.Pass.{Passed, no_change, counter_after, if_served, adp, ado, range_sources, serves_range_read, serves_range_write, physical_exchange, counted_up, with_emptied, read_out, physical_read, range_written}
-use Rattle.ec_esc.specs.Finished.{IsStillEmpty, finished}
+use Rattle.ec_esc.specs.Stages.{no_change, if_served, physical_exchange, counted_up, read_out, physical_read, range_written}
+use Rattle.ec_wire.specs.Datagram.{adp, ado}
+use Rattle.ec_esc.specs.Writing.{with_emptied}
+use Rattle.ec_esc.specs.Stages.{range_sources, serves_range_read, serves_range_write}
+use Rattle.ec_esc.specs.Pass.{Passed, counter_after}
+use Rattle.ec_esc.specs.Stages.{finished}
 use Rattle.ec_esc.specs.Writing.{settled}
 use Rattle.ec_areas.specs.Ranges.{status_address}
-use Rattle.ec_esc.proofs.MailLemmas.{filled_is_empty}
 use Rattle.ec_esc.proofs.WrittenLemmas.{places_from, among, written_front}
 
 -- ---- one datagram of a frame
@@ -90,22 +93,12 @@ with_written memory from payload =
 
 -- the controller is as the write leaves it once the bytes were written and all else was done
 pub range_written_by : (c start new : ControllerState) (before : List SyncMan) (from n : ℕ) (payload : List ℕ) (d : DatagramRecord)
-    → length c.memory ≡ MEMORY_SIZE → AreBytes c.memory → before ≡ sync_managers_of c.memory
-    → start ≡ record c { memory = with_written c.memory from payload } → n ≡ length payload
-    → (IsStillEmpty before from n (settled c.memory start.memory) → new ≡ finished c.memory before from n start)
-    → ado d ≡ from → d.payload ≡ payload → new ≡ range_written c d
-range_written_by c start new before from n payload d room are before_is start_is n_is told from_is payload_is =
-    let test = takes_writes c.memory in
-    let after = with_written c.memory from payload in
-    let size : length after ≡ length c.memory = length-with_bits c.memory payload (places_from (among test from (length payload)) from) in
-    let empty : IsStillEmpty before from n (settled c.memory start.memory) =
-    λ i filled.
-    ap (λ (s : ControllerState). bit_at (get_or (settled c.memory s.memory) (status_address i) 0) 3) start_is
-    ∙ filled_is_empty c.memory after from n i size (omega arith) (λ a front. written_front test c.memory payload from (length payload) a are front)
-    (ap (λ (ms : List SyncMan). filled_by ms from n) (sym before_is) ∙ filled) in
+    → before ≡ sync_managers_of c.memory → start ≡ record c { memory = with_written c.memory from payload } → n ≡ length payload
+    → new ≡ finished c.memory before from n start → ado d ≡ from → d.payload ≡ payload → new ≡ range_written c d
+range_written_by c start new before from n payload d before_is start_is n_is told from_is payload_is =
     let F : List SyncMan → ℕ → ℕ → List ℕ → ControllerState =
     λ ms f m p. finished c.memory ms f m (record c { memory = with_written c.memory f p }) in
-    told empty
+    told
     ∙ ap (finished c.memory before from n) start_is
     ∙ ap (λ (ms : List SyncMan). F ms from n payload) before_is
     ∙ ap (λ (m : ℕ). F (sync_managers_of c.memory) from m payload) n_is

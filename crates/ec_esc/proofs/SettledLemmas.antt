@@ -6,7 +6,7 @@ use Rattle.std.proofs.lemmas.List.{ext_get_or}
 use Rattle.std.proofs.lemmas.List.FromFn.{length-map-range_with_len, get_or-map-range_with_len}
 use Rattle.std.specs.Prelude.{not}
 use Rattle.ec_regs.specs.declared.sync_man.SyncMan.{SyncMan}
-use Rattle.ec_areas.specs.Areas.{is_active}
+use Rattle.ec_regs.specs.SyncMan.{is_active}
 use Rattle.ec_areas.specs.Records.{sync_manager_at, sync_managers_of}
 use Rattle.ec_areas.specs.Ranges.{is_in_sync_manager, sync_manager_number, sync_manager_offset}
 use Rattle.ec_esc.specs.Writing.{is_switched, settled_byte, settled}
@@ -24,12 +24,12 @@ settled_to before after n a =
     cond ((is_status a && is_switched before after (sync_manager_number a)) && ltb (sync_manager_number a) n) 0 (get_or after a 0)
 
 -- what is so and false is false
-and_false : (b : Bool) → (b && false) ≡ false
+pub and_false : (b : Bool) → (b && false) ≡ false
 and_false true = refl
 and_false false = refl
 
 -- what is so and true is so
-and_true : (b : Bool) → (b && true) ≡ b
+pub and_true : (b : Bool) → (b && true) ≡ b
 and_true true = refl
 and_true false = refl
 

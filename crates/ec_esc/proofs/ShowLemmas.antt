@@ -7,7 +7,8 @@ use Rattle.std.proofs.lemmas.List.FromFn.{length-map-range_with_len, get_or-map-
 use Rattle.std.proofs.lemmas.Option.{slice_get-get_or, get_or_from_slice_get}
 use Rattle.ec_regs.specs.declared.sync_man.SyncMan.{SyncMan}
 use Rattle.ec_regs.specs.declared.registers.TheConstants.{PROCESS_MEMORY, PROCESS_MEMORY_SIZE, MEMORY_SIZE}
-use Rattle.ec_areas.specs.Areas.{is_active, is_buffered, master_writes, guards}
+use Rattle.ec_regs.specs.SyncMan.{is_active, is_buffered, master_writes}
+use Rattle.ec_areas.specs.Areas.{guards}
 use Rattle.ec_esc.specs.State.{with_run, with_area_shown}
 use Rattle.ec_areas.specs.Showing.{last_byte, SaysOfLastBytes}
 use Rattle.ec_esc.specs.Writing.{hands_over, is_shown_anew, shown_byte, shown_after}
@@ -133,14 +134,14 @@ cond_or true false x y = refl
 cond_or false b x y = refl
 
 -- the bytes that are shown after a write, one by one
-get_or-shown_after : (is_written : ℕ → Bool) (befores afters : List SyncMan) (memory shown : List ℕ) (k : ℕ) → k < length shown
+pub get_or-shown_after : (is_written : ℕ → Bool) (befores afters : List SyncMan) (memory shown : List ℕ) (k : ℕ) → k < length shown
     → get_or (shown_after is_written befores afters memory shown) k 0 ≡ shown_byte is_written befores afters memory shown k
 unfolding shown_after
 get_or-shown_after is_written befores afters memory shown k inside =
     get_or-map-range_with_len (shown_byte is_written befores afters memory shown) 0 (length shown) k k 0 inside (omega arith)
 
 -- there are as many as before
-length-shown_after : (is_written : ℕ → Bool) (befores afters : List SyncMan) (memory shown : List ℕ)
+pub length-shown_after : (is_written : ℕ → Bool) (befores afters : List SyncMan) (memory shown : List ℕ)
     → length (shown_after is_written befores afters memory shown) ≡ length shown
 unfolding shown_after
 length-shown_after is_written befores afters memory shown =

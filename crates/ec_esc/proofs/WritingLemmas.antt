@@ -5,7 +5,7 @@ use Rattle.ec_regs.specs.declared.fmmu.Fmmu.{Fmmu}
 use Rattle.ec_regs.specs.declared.sync_man.SyncMan.{SyncMan}
 use Rattle.ec_wire.specs.Datagram.{DatagramRecord}
 use Rattle.ec_areas.specs.Logical.{write_map, names}
-use Rattle.ec_esc.specs.Pass.{written_state}
+use Rattle.ec_esc.specs.Stages.{written_state}
 use Rattle.ec_areas.specs.Records.{fmmus_of, sync_managers_of}
 use Rattle.ec_esc.specs.State.{ControllerState}
 use Rattle.ec_esc.specs.Writing.{shown_after}

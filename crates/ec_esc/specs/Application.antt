@@ -9,15 +9,11 @@ use Rattle.ec_regs.specs.declared.sync_man.SyncMan.{SyncMan}
 use Rattle.ec_regs.specs.declared.registers.TheConstants.{AL_CONTROL, AL_STATUS, AL_STATUS_CODE, PROCESS_MEMORY}
 use Rattle.ec_esc.specs.declared.application.AreaFault.{AreaFault}
 use Rattle.ec_esc.specs.declared.application.AreaFault.TheVariants.{NotActive, WrongKind, WrongLength, Busy}
-use Rattle.ec_areas.specs.Areas.{is_active, is_buffered, is_mailbox, master_reads, master_writes}
-use Rattle.ec_esc.specs.Pass.{with_emptied, with_filled}
-use Rattle.ec_areas.specs.Ranges.{is_full}
+use Rattle.ec_regs.specs.SyncMan.{guards_outputs, is_active, is_buffered, is_mailbox, master_reads, master_writes}
+use Rattle.ec_esc.specs.Writing.{with_emptied, with_filled}
+use Rattle.ec_regs.specs.SyncMan.{is_full}
 use Rattle.ec_areas.specs.Records.{sync_manager_at}
-use Rattle.ec_esc.specs.State.{ControllerState, with_run}
-
--- the word at an address, its low byte first
-abbrev pub word_at : List ℕ → ℕ → ℕ
-word_at memory address = slice_index memory address + 256 * slice_index memory (address + 1)
+use Rattle.ec_esc.specs.State.{ControllerState, with_run, word_at}
 
 -- ---- AL control and AL status
 
@@ -43,10 +39,6 @@ abbrev pub al_status_code : ControllerState → ℕ
 al_status_code c = word_at c.memory AL_STATUS_CODE
 
 -- ---- process data
-
--- does the sync manager guard outputs: a buffered area that the master writes
-abbrev pub guards_outputs : SyncMan → Bool
-guards_outputs s = is_active s && is_buffered s && master_writes s
 
 -- the shown bytes of an area
 abbrev pub shown_area : SyncMan → List ℕ → List ℕ

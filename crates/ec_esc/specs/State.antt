@@ -1,12 +1,13 @@
 -- A controller is its memory, what its application sees of process memory, and a mark that AL control was
 -- written (IEC 61158-4-12, slave controller; the mark stands for the AL event of IEC 61158-6-12).
 use Rattle.std.specs.Prelude.{◌≡◌, ◌==◌, ℕ, ◌+◌, ◌-◌, ◌*◌, ◌/◌, ◌%◌, Bool, false, if◌then◌else◌, List, ◌++◌, length, take, drop, slice_index}
+use Rattle.ec_regs.specs.Bits.{AreBytes}
 use Rattle.ec_regs.specs.Fmmu.{fmmu_bytes}
 use Rattle.ec_regs.specs.SyncMan.{sync_man_bytes}
 use Rattle.ec_regs.specs.declared.fmmu.Fmmu.{Fmmu}
 use Rattle.ec_regs.specs.declared.sync_man.SyncMan.{SyncMan}
 use Rattle.ec_regs.specs.declared.registers.TheConstants.{STATION_ADDRESS, AL_STATUS, FMMU_BASE, FMMU_SIZE, SYNC_MANAGER_BASE, SYNC_MANAGER_SIZE, PROCESS_MEMORY, PROCESS_MEMORY_SIZE, MEMORY_SIZE}
-use Rattle.ec_areas.specs.Areas.{is_active}
+use Rattle.ec_regs.specs.SyncMan.{is_active}
 
 -- memory by address; the shown bytes of process memory, the first one for address 0x1000; and whether AL control
 -- was written since the application last looked
@@ -14,6 +15,17 @@ pub record ControllerState : Type 0 where
   pub memory : List ℕ
   pub shown : List ℕ
   pub written : Bool
+
+-- what every controller is: its memory and its shown bytes have their sizes, and are bytes
+pub record IsController (c : ControllerState) : Type 0 where
+  pub memory_size : length c.memory ≡ MEMORY_SIZE
+  pub memory : AreBytes c.memory
+  pub shown_size : length c.shown ≡ PROCESS_MEMORY_SIZE
+  pub shown : AreBytes c.shown
+
+-- the word at an address of a memory, its low byte first
+abbrev pub word_at : List ℕ → ℕ → ℕ
+word_at memory address = slice_index memory address + 256 * slice_index memory (address + 1)
 
 -- ---- the state at first
 

@@ -1,12 +1,15 @@
 -- What a write leaves beside the bytes that it wrote: the status of sync managers that it switched on or off, and
 -- what the application is shown (IEC 61158-4-12, sync manager, buffered mode).
-use Rattle.std.specs.Prelude.{ℕ, ◌+◌, ◌-◌, Bool, false, ◌==◌, ◌&&◌, ◌||◌, not, if◌then◌else◌, List, ◌∷◌, length, map, slice_index}
+use Rattle.std.specs.Prelude.{ℕ, ◌+◌, ◌-◌, Bool, false, ◌==◌, ◌&&◌, ◌||◌, not, if◌then◌else◌, Option, None, Some, List, ◌∷◌, length, map}
+use Rattle.std.specs.Prelude.{slice_index, slice_set, bit_and, bit_or}
 use Rattle.std.specs.List.{range_with_len}
 use Rattle.ec_regs.specs.declared.sync_man.SyncMan.{SyncMan}
 use Rattle.ec_regs.specs.declared.registers.TheConstants.{PROCESS_MEMORY}
-use Rattle.ec_areas.specs.Areas.{is_active, is_buffered, master_writes, guards}
+use Rattle.ec_regs.specs.SyncMan.{is_active, is_buffered, master_writes}
+use Rattle.ec_areas.specs.Areas.{guards}
 use Rattle.ec_areas.specs.Records.{sync_manager_at}
-use Rattle.ec_areas.specs.Ranges.{is_in_sync_manager, sync_manager_number, sync_manager_offset, STATUS_OFFSET}
+use Rattle.ec_areas.specs.Ranges.{is_in_sync_manager, sync_manager_number, sync_manager_offset, status_address, STATUS_OFFSET}
+use Rattle.ec_regs.specs.declared.sync_man.TheConstants.{MAILBOX_FULL}
 
 -- ---- status bytes
 
@@ -24,6 +27,17 @@ settled_byte before after address =
 -- the memory after a write, once those statuses are 0
 unfoldable pub settled : List ℕ → List ℕ → List ℕ
 settled before after = map (settled_byte before after) (range_with_len 0 (length after))
+
+-- the memory once the mailbox of a sync manager, if any, has been filled: bit 3 of its status becomes 1
+abbrev pub with_filled : Option ℕ → List ℕ → List ℕ
+with_filled None memory = memory
+with_filled (Some i) memory = slice_set memory (status_address i) (bit_or (slice_index memory (status_address i)) MAILBOX_FULL)
+
+-- the memory once it has been read out: bit 3 of its status becomes 0
+abbrev pub with_emptied : Option ℕ → List ℕ → List ℕ
+with_emptied None memory = memory
+with_emptied (Some i) memory =
+    slice_set memory (status_address i) (bit_and (slice_index memory (status_address i)) (255 - MAILBOX_FULL))
 
 -- ---- shown bytes
 

@@ -5,17 +5,15 @@
 ghost use Rattle.std.specs.Prelude.{true, false, ◌≡◌, ◌+◌, ◌-◌, ◌<◌, ◌≤◌, IfOk, OnOk, OnErr, Some, ◌++◌, length, slice_index, option_map, replicate};
 ghost use Rattle.std.specs.Result.{result_err};
 ghost use Rattle.ec_regs.specs.declared.registers.TheConstants.{PROCESS_MEMORY, MEMORY_SIZE};
-ghost use Rattle.ec_areas.specs.Ranges.{is_full};
+ghost use Rattle.ec_regs.specs.SyncMan.{is_full};
 ghost use Rattle.ec_areas.specs.Records.{sync_manager_at};
-ghost use Rattle.ec_esc.specs.Application.{word_at, new_control, with_control_taken, with_al, al_status, al_status_code, outputs_of, put_inputs_fault, with_inputs, take_mail_fault, mail_of, with_mail_taken, put_mail_fault, with_mail_put};
+ghost use Rattle.ec_esc.specs.State.{word_at};
+ghost use Rattle.ec_esc.specs.Application.{new_control, with_control_taken, with_al, al_status, al_status_code, outputs_of, put_inputs_fault, with_inputs, take_mail_fault, mail_of, with_mail_taken, put_mail_fault, with_mail_put};
 
 use crate::controller::Controller;
 use arrayvec::ArrayVec;
-use ec_areas::{
-    LONGEST_MAILBOX, is_active, is_buffered, is_full, is_mailbox, master_reads, master_writes,
-};
 use ec_regs::registers::{AL_CONTROL, AL_STATUS, AL_STATUS_CODE};
-use ec_regs::{AlStatus, SyncMan};
+use ec_regs::{AlStatus, LONGEST_MAILBOX, SyncMan};
 
 /// The longest mail, in bytes: the whole of the longest mailbox.
 pub const LONGEST_MAIL: usize = LONGEST_MAILBOX as usize;
@@ -39,9 +37,9 @@ fn check_inputs(manager: &SyncMan, bytes: &[u8]) -> Result<(), AreaFault>
     ensures err { result_err result ≡ put_inputs_fault manager.now bytes.now }
     ensures to { OnOk result (manager.now.start + length bytes.now ≤ MEMORY_SIZE) }
 {
-    if !is_active(manager) {
+    if !manager.is_active() {
         Err(AreaFault::NotActive)
-    } else if !(is_buffered(manager) && master_reads(manager)) {
+    } else if !(manager.is_buffered() && manager.master_reads()) {
         Err(AreaFault::WrongKind)
     } else if bytes.len() != manager.length as usize {
         Err(AreaFault::WrongLength)
@@ -57,11 +55,11 @@ fn check_mail_is_there(manager: &SyncMan) -> Result<(), AreaFault>
     ensures to { OnOk result (manager.now.start + manager.now.length ≤ MEMORY_SIZE) }
     ensures bound { OnOk result (manager.now.length ≤ LONGEST_MAIL) }
 {
-    if !is_active(manager) {
+    if !manager.is_active() {
         Err(AreaFault::NotActive)
-    } else if !(is_mailbox(manager) && master_writes(manager)) {
+    } else if !(manager.is_mailbox() && manager.master_writes()) {
         Err(AreaFault::WrongKind)
-    } else if !is_full(manager) {
+    } else if !manager.is_full() {
         Err(AreaFault::Busy)
     } else {
         Ok(())
@@ -77,13 +75,13 @@ fn check_mail_fits(manager: &SyncMan, mail: &[u8]) -> Result<(), AreaFault>
     ensures room { OnOk result (length mail.now ≤ manager.now.length) }
     ensures bound { OnOk result (manager.now.length ≤ LONGEST_MAIL) }
 {
-    if !is_active(manager) {
+    if !manager.is_active() {
         Err(AreaFault::NotActive)
-    } else if !(is_mailbox(manager) && master_reads(manager)) {
+    } else if !(manager.is_mailbox() && manager.master_reads()) {
         Err(AreaFault::WrongKind)
     } else if mail.len() > manager.length as usize {
         Err(AreaFault::WrongLength)
-    } else if is_full(manager) {
+    } else if manager.is_full() {
         Err(AreaFault::Busy)
     } else {
         Ok(())
@@ -149,7 +147,7 @@ impl Controller {
         ensures { option_map (λ bytes. bytes.now) result ≡ outputs_of self.now sm }
     {
         let manager = self.syncman(sm);
-        if is_active(&manager) && is_buffered(&manager) && master_writes(&manager) {
+        if manager.guards_outputs() {
             Some(self.shown_bytes(manager.start, manager.length))
         } else {
             None

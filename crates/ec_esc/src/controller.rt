@@ -3,7 +3,6 @@
 ghost use Rattle.std.specs.Prelude.{◌≡◌, ◌+◌, ◌-◌, ◌<◌, ◌≤◌, ℕ, IfOk, length, slice_index};
 ghost use Rattle.ec_regs.specs.declared.registers.TheConstants.{PROCESS_MEMORY, MEMORY_SIZE};
 
-use ec_areas::is_active;
 use ec_regs::registers::{
     AL_STATUS, FMMU_BASE, FMMU_SIZE, PROCESS_MEMORY, PROCESS_MEMORY_SIZE, STATION_ADDRESS,
     SYNC_MANAGER_BASE, SYNC_MANAGER_SIZE,
@@ -114,7 +113,7 @@ impl Controller {
         };
         let at = SYNC_MANAGER_BASE + SYNC_MANAGER_SIZE * i as u16;
         self.memory.load(at, &empty.write());
-        if is_active(&empty) {
+        if empty.is_active() {
             self.show_area(&empty);
         }
     }

@@ -27,5 +27,4 @@ mod writing;
 
 pub use application::{AreaFault, LONGEST_MAIL};
 pub use controller::Controller;
-pub use ec_areas::{is_active, is_buffered, is_mailbox, master_reads, master_writes};
 pub use ec_regs::NoMemory;

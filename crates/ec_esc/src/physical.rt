@@ -8,8 +8,12 @@ ghost use Rattle.ec_wire.specs.Datagram.{nth};
 ghost use Rattle.ec_areas.specs.Records.{sync_managers_of};
 ghost use Rattle.ec_areas.specs.Ranges.{emptied_by};
 ghost use Rattle.ec_areas.specs.Ranges.{status_address};
-ghost use Rattle.ec_esc.specs.Pass.{adp, ado, counter_after, serves_range_read, range_sources, broadcast_sources, read_out, with_emptied, physical_read, serves_range_write, range_written, physical_write, physical_exchange, is_first, is_station, if_addressed, counted_up};
-ghost use Rattle.ec_esc.specs.Access.{access as access_of};
+ghost use Rattle.ec_esc.specs.Stages.{is_first, is_station, read_out, physical_read, range_written, physical_write, physical_exchange, if_addressed, counted_up};
+ghost use Rattle.ec_wire.specs.Datagram.{adp, ado};
+ghost use Rattle.ec_esc.specs.Writing.{with_emptied};
+ghost use Rattle.ec_esc.specs.Stages.{serves_range_read, range_sources, broadcast_sources, serves_range_write};
+ghost use Rattle.ec_esc.specs.Pass.{counter_after};
+ghost use Rattle.ec_esc.specs.Stages.{access as access_of};
 
 use crate::controller::Controller;
 use ec_areas::{
@@ -293,7 +297,6 @@ impl Controller {
 #[cfg(test)]
 mod tests {
     use super::*;
-    use ec_areas::is_active;
     use ec_regs::{NoMemory, SyncMan};
     use ec_wire::{Form, WireFault};
     use std::alloc::Global;
@@ -483,7 +486,7 @@ mod tests {
         ];
         let frame = passed(&mut slave, &sent).expect(&rt, "a frame");
         assert_eq!(rt; frame.counter(0), 1);
-        assert!(rt; is_active(&slave.syncman(2)));
+        assert!(rt; slave.syncman(2).is_active());
         assert_eq!(rt; slave.shown(0x1000), 0x12);
     }
 

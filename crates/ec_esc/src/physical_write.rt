@@ -7,18 +7,20 @@ ghost use Rattle.std.specs.Int.{bit_at};
 ghost use Rattle.ec_regs.specs.Bits.{AreBytes, with_bits};
 ghost use Rattle.ec_regs.specs.declared.registers.TheConstants.{MEMORY_SIZE, AL_CONTROL};
 ghost use Rattle.ec_areas.specs.Records.{sync_managers_of};
-ghost use Rattle.ec_areas.specs.Areas.{is_active};
+ghost use Rattle.ec_regs.specs.SyncMan.{is_active};
 ghost use Rattle.ec_areas.specs.Ranges.{within, takes_writes, filled_by};
 ghost use Rattle.ec_areas.specs.Showing.{last_byte, SaysOfLastBytes};
 ghost use Rattle.ec_esc.specs.Writing.{settled, shown_after};
 ghost use Rattle.ec_areas.specs.Ranges.{status_address};
-ghost use Rattle.ec_esc.specs.Pass.{ado, with_filled, range_written};
-ghost use Rattle.ec_esc.specs.Finished.{is_written, IsStillEmpty, finished};
+ghost use Rattle.ec_esc.specs.Stages.{range_written};
+ghost use Rattle.ec_wire.specs.Datagram.{ado};
+ghost use Rattle.ec_esc.specs.Writing.{with_filled};
+ghost use Rattle.ec_esc.specs.Stages.{is_written, finished};
 ghost use Rattle.ec_wire.specs.Datagram.{DatagramRecord};
 
 use crate::controller::Controller;
 use crate::mailbox::fill_mailbox;
-use ec_areas::{filled_by, is_active, status_address, sync_managers_of, takes_writes, within};
+use ec_areas::{filled_by, status_address, sync_managers_of, takes_writes, within};
 use ec_regs::registers::AL_CONTROL;
 use ec_regs::{Memory, SyncMan};
 
@@ -80,7 +82,7 @@ fn swap_run(memory: &mut Memory, managers: &[SyncMan; 8], from: u16, payload: &m
 fn is_switched(before: &SyncMan, after: &SyncMan) -> bool
     ensures { result ≡ (if is_active before.now then not (is_active after.now) else is_active after.now) }
 {
-    is_active(before) != is_active(after)
+    before.is_active() != after.is_active()
 }
 
 /// Clears the status of each sync manager that a write switched on or off; all else stays. The records are those on
@@ -133,9 +135,10 @@ impl Controller {
     }
 
     /// Fills the mailbox that a write of the range fills, if it fills one; all else stays. The records are those on
-    /// arrival, and the mailbox is still empty.
+    /// arrival.
     fn fill_range(&mut self, before: &[SyncMan; 8], from: u16, count: u16)
-        ensures { IsStillEmpty before.now from count self.old.memory → self.new ≡ record self.old { memory = with_filled (filled_by before.now from count) self.old.memory } }
+        ensures { self.new ≡ record self.old
+            { memory = with_filled (filled_by before.now from count) self.old.memory } }
     {
         match filled_by(before, from, count) {
             Some(number) => fill_mailbox(&mut self.memory, number),
@@ -155,7 +158,8 @@ impl Controller {
     /// What is left to do once the bytes of the range were written: statuses, shown bytes, mail and mark. The records
     /// are those on arrival.
     fn finish_write(&mut self, before: &[SyncMan; 8], from: u16, count: u16)
-        ensures { (arrived : List ℕ) → before.now ≡ sync_managers_of arrived → IsStillEmpty before.now from count (settled arrived self.old.memory) → self.new ≡ finished arrived before.now from count self.old }
+        ensures { (arrived : List ℕ) → before.now ≡ sync_managers_of arrived
+            → self.new ≡ finished arrived before.now from count self.old }
     {
         settle(&mut self.memory, before);
         self.show_range(before, from, count);

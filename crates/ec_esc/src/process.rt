@@ -1,13 +1,24 @@
 //! What a controller does with a frame (IEC 61158-4-12, processing of datagrams).
 
 ghost use Rattle.std.specs.Prelude.{◌≡◌, ◌<◌, length, slice_set};
+ghost use Rattle.ec_regs.specs.Bits.{AreBytes};
+ghost use Rattle.ec_esc.specs.Stages.{Arrives};
 ghost use Rattle.ec_wire.specs.Datagram.{nth};
-ghost use Rattle.ec_esc.specs.Pass.{read_data, serves_read, logical_read, pass, frame_pass};
+ghost use Rattle.ec_esc.specs.Stages.{read_data, logical_read};
+ghost use Rattle.ec_esc.specs.Stages.{serves_read};
+ghost use Rattle.ec_esc.specs.Pass.{pass, frame_pass};
 
 use crate::controller::Controller;
 use crate::physical::Access;
 use ec_areas::{fmmus_of, read_mapped, sync_managers_of};
 use ec_wire::{Command, FrameBuf};
+
+/// What the type of a slice says of it: each element is a byte.
+pub(crate) fn are_bytes(bytes: &[u8])
+    ensures { AreBytes bytes.now }
+{
+    let _length = bytes.len();
+}
 
 impl Controller {
     /// One pass of a frame: its datagrams are processed from left to right, and each finds the memory as the one
@@ -21,12 +32,24 @@ impl Controller {
         }
     }
 
+    /// What the types say of a controller and of a datagram that comes to it.
+    fn arrival(&self, frame: &FrameBuf, k: usize)
+        requires { k < length frame.now }
+        ensures { Arrives self.now (nth frame.now k) }
+    {
+        are_bytes(self.memory.bytes());
+        are_bytes(self.shown.as_slice());
+        are_bytes(frame.data(k));
+        let _counter = frame.counter(k);
+    }
+
     /// The pass of the datagram at `k`; all others stay.
     fn pass_datagram(&mut self, frame: &mut FrameBuf, k: usize)
         requires { k < length frame.old }
         ensures frame { frame.new ≡ slice_set frame.old k (pass self.old (nth frame.old k)).datagram }
         ensures state { self.new ≡ (pass self.old (nth frame.old k)).state }
     {
+        self.arrival(frame, k);
         match frame.command(k) {
             Command::Aprd => self.by_position(frame, k, Access::Read),
             Command::Apwr => self.by_position(frame, k, Access::Write),

@@ -1,20 +1,25 @@
 //! What the application's side reads of a controller.
 
-ghost use Rattle.std.specs.Prelude.{◌≡◌, ◌+◌, ◌-◌, ◌<◌, ◌≤◌, slice_range};
+ghost use Rattle.std.specs.Prelude.{◌≡◌, ◌+◌, ◌-◌, ◌<◌, ◌≤◌, length, slice_range};
 ghost use Rattle.ec_regs.specs.declared.registers.TheConstants.{STATION_ADDRESS, PROCESS_MEMORY, MEMORY_SIZE};
-ghost use Rattle.ec_esc.specs.Application.{word_at};
+ghost use Rattle.ec_esc.specs.State.{IsController, word_at};
 ghost use Rattle.ec_areas.specs.Records.{fmmu_at, sync_manager_at};
 
 use crate::controller::Controller;
+use crate::process::are_bytes;
 use ec_areas::{fmmu_at, sync_manager_at};
 use ec_regs::registers::{PROCESS_MEMORY, STATION_ADDRESS};
 use ec_regs::{Fmmu, SyncMan};
 
 impl Controller {
-    /// The station address, by which FP commands name the slave (IEC 61158-4-12, station address).
+    /// The station address, by which FP commands name the slave (IEC 61158-4-12, station address). (Its clause
+    /// `controller` is what a proof knows of every controller.)
     pub fn station(&self) -> u16
-        ensures { result ≡ word_at self.now.memory STATION_ADDRESS }
+        ensures value { result ≡ word_at self.now.memory STATION_ADDRESS }
+        ensures controller { IsController self.now }
     {
+        are_bytes(self.memory.bytes());
+        are_bytes(self.shown.as_slice());
         self.word(STATION_ADDRESS)
     }
 
@@ -37,7 +42,8 @@ impl Controller {
     /// The memory's bytes from an address on.
     pub fn bytes(&self, address: u16, count: u16) -> &[u8]
         requires { address + count ≤ MEMORY_SIZE }
-        ensures { result.now ≡ slice_range self.now.memory address (address + count) }
+        ensures value { result.now ≡ slice_range self.now.memory address (address + count) }
+        ensures count { length result.now ≡ count }
     {
         let from = address as usize;
         &self.memory.bytes()[from..from + count as usize]
@@ -47,7 +53,9 @@ impl Controller {
     pub fn shown_bytes(&self, address: u16, count: u16) -> &[u8]
         requires from { PROCESS_MEMORY ≤ address }
         requires to { address + count ≤ MEMORY_SIZE }
-        ensures { result.now ≡ slice_range self.now.shown (address - PROCESS_MEMORY) (address - PROCESS_MEMORY + count) }
+        ensures value { result.now ≡ slice_range self.now.shown
+            (address - PROCESS_MEMORY) (address - PROCESS_MEMORY + count) }
+        ensures count { length result.now ≡ count }
     {
         let from = (address - PROCESS_MEMORY) as usize;
         &self.shown[from..from + count as usize]

@@ -6,7 +6,6 @@ ghost use Rattle.ec_areas.specs.Showing.{SaysOfLastBytes};
 ghost use Rattle.ec_esc.specs.Writing.{hands_over, shown_after};
 
 use crate::controller::Controller;
-use ec_areas::{is_active, is_buffered, master_writes};
 use ec_regs::SyncMan;
 
 /// Is an area shown anew after a write: it became active, or it is buffered, the master writes it, and its last
@@ -16,8 +15,8 @@ fn hands_over(before: &SyncMan, after: &SyncMan, is_last_written: bool) -> bool
     ensures from { IsTrue result → PROCESS_MEMORY ≤ after.now.start }
     ensures to { IsTrue result → after.now.start + after.now.length ≤ MEMORY_SIZE }
 {
-    is_active(after)
-        && (!is_active(before) || is_buffered(after) && master_writes(after) && is_last_written)
+    after.is_active()
+        && (!before.is_active() || after.is_buffered() && after.master_writes() && is_last_written)
 }
 
 impl Controller {

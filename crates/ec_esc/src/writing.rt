@@ -4,7 +4,8 @@ ghost use Rattle.std.specs.Prelude.{◌≡◌, ◌+◌, ◌<◌, length, slice_s
 ghost use Rattle.ec_regs.specs.Bits.{AreBytes};
 ghost use Rattle.ec_wire.specs.Datagram.{blank, nth};
 ghost use Rattle.ec_areas.specs.Records.{sync_managers_of};
-ghost use Rattle.ec_esc.specs.Pass.{if_served, serves_write, written_state, logical_write, logical_exchange};
+ghost use Rattle.ec_esc.specs.Stages.{if_served, written_state, logical_write, logical_exchange};
+ghost use Rattle.ec_esc.specs.Stages.{serves_write};
 
 use crate::controller::Controller;
 use ec_areas::{fmmus_of, last_bytes_written, sync_managers_of, write_mapped};

@@ -1,70 +1,57 @@
-use Rattle.std.proofs.Common.{◌≡◌, ◌+◌, ◌*◌, ◌||◌, true, length, Some, None, sym, ◌∙◌, ap, arith}
-use Rattle.std.specs.Option.{is_some}
+use Rattle.std.proofs.Common.{◌≡◌, ◌+◌, ◌*◌, ◌<◌, ◌||◌, ℕ, Bool, length, drop, refl, sym, ◌∙◌, ap, subst, arith}
 use Rattle.ec_regs.proofs.BitLemmas.{AreBytes-with_bits}
-use Rattle.ec_areas.specs.Copying.{first_places}
-use Rattle.ec_areas.specs.Logical.{read_map, read_places, names}
-use Rattle.ec_areas.proofs.CopyLemmas.{first_places_none, first_places_more, first_places_skip, first_places_all, names_zero, names_more, names_past, or_false, or_true}
-use Rattle.ec_areas.proofs.LogicalLemmas.{read_map_past}
+use Rattle.ec_areas.specs.Logical.{read_places, names}
+use Rattle.ec_areas.proofs.LogicalLemmas.{read_map_more, read_map_done, names_more_fmmu, names_no_fmmu, NamesPairs-read_map}
+use Rattle.ec_areas.proofs.NamesLemmas.{or_true, or_false}
 use Rattle.ec_areas.proofs.logical.read_mapped.Goals as goal
-use Rattle.ec_areas.proofs.logical.read_mapped.Goals.{in-Some, in_default}
+use Rattle.ec_areas.proofs.logical.read_mapped.Goals.{then-read_through, else-read_through}
 
-pub loop-i-init : goal.loop-i-init
-loop-i-init c =
-    let place = read_places c.args.managers.now c.args.fmmus.now (8 * c.args.address) in
-    record {
-      bits = first_places_none c.args.into.now c.args.memory.now place (λ k. omega (arith, c.type_inv.into k));
-      served = sym (names_zero place);
-    }
+pub loop-fmmu-init : goal.loop-fmmu-init
+loop-fmmu-init c = record { bytes = λ k. omega (arith, c.type_inv.into k); bits = refl; served = refl }
 
-pub copy_bit-requires : goal.copy_bit-requires
-copy_bit-requires c =
-    let place = first_places c.loop-i.i (read_places c.args.managers.now c.args.fmmus.now (8 * c.args.address)) in
-    record {
-      bytes = λ k. rw c.loop-i.invariant.bits (AreBytes-with_bits c.args.into.now c.args.memory.now place k);
-      at_inside = omega arith;
-      source_inside = omega (arith, c.in-Some.ensures.inside);
-    }
-
--- what `read_bit` answered is the place of bit i
-place_is : (c : goal.Joined-read_bit) → c.read_bit.result ≡ read_places c.args.managers.now c.args.fmmus.now (8 * c.args.address) c.loop-i.i
-place_is c =
-    c.read_bit.ensures.value
-    ∙ ap (λ from. read_map c.args.managers.now c.args.fmmus.now (8 * from + c.loop-i.i)) c.from.ensures
-
-pub loop-i-preserved : goal.loop-i-preserved
-loop-i-preserved c =
-    let into = c.args.into.now in
+pub loop-fmmu-preserved : goal.loop-fmmu-preserved
+loop-fmmu-preserved c =
+    let managers = c.args.managers.now in
+    let fmmus = c.args.fmmus.now in
     let memory = c.args.memory.now in
-    let place = read_places c.args.managers.now c.args.fmmus.now (8 * c.args.address) in
-    elim c.match-read_bit.branch [
-      | in-Some w ↦
-          let taken : place c.loop-i.i ≡ Some w.in-Some.physical = sym (place_is c) ∙ w.in-Some.is in
-          let more : names place (c.loop-i.i + 1) ≡ true =
-          names_more place c.loop-i.i ∙ ap (λ o. names place c.loop-i.i || is_some o) taken ∙ or_true (names place c.loop-i.i)
-          in record {
-            bits = rw w.into-is (rw w.copy_bit.ensures (first_places_more into memory c.loop-i.into place c.loop-i.i w.in-Some.physical c.loop-i.invariant.bits taken));
-            served = w.served-is ∙ sym more;
-          }
-      | in_default w ↦
-          let none : place c.loop-i.i ≡ None = sym (place_is c) ∙ w.in_default.is in
-          let more : names place (c.loop-i.i + 1) ≡ names place c.loop-i.i =
-          names_more place c.loop-i.i ∙ ap (λ o. names place c.loop-i.i || is_some o) none ∙ or_false (names place c.loop-i.i)
-          in record {
-            bits = rw w.into-is (first_places_skip into memory c.loop-i.into place c.loop-i.i c.loop-i.invariant.bits none);
-            served = w.served-is ∙ c.loop-i.invariant.served ∙ sym more;
-          }
-    ]
+    let from = 8 * c.args.address in
+    let bits = 8 * length c.args.into.now in
+    let k = c.loop-fmmu.fmmu-index in
+    let inside : k < length fmmus = c.loop-fmmu-test.true in
+    let same : 8 * length c.loop-fmmu.into ≡ bits = ap (λ n. 8 * n) c.loop-fmmu.auto.into in
+    let here : Bool = c.read_through.result in
+    let behind : Bool = names (read_places managers (drop (k + 1) fmmus) from) bits in
+    let P : ℕ → Type 0 = λ n. names (read_places managers (drop k fmmus) from) n ≡ (here || names (read_places managers (drop (k + 1) fmmus) from) n) in
+    let more : P bits =
+    subst P same
+    (names_more_fmmu managers fmmus k from (8 * length c.loop-fmmu.into) c.fmmu-item.result inside c.fmmu-item.is
+    ∙ ap (λ b. b || names (read_places managers (drop (k + 1) fmmus) from) (8 * length c.loop-fmmu.into)) (sym c.read_through.ensures.served))
+    in record {
+      bytes = λ j. rw c.read_through.ensures.bits (AreBytes-with_bits c.loop-fmmu.into memory _ j);
+      bits = read_map_more managers fmmus k from c.fmmu-item.result c.loop-fmmu.into memory c.read_through.new.into inside c.fmmu-item.is c.read_through.ensures.bits ∙ c.loop-fmmu.invariant.bits;
+      served = elim c.if-read_through.branch [
+        | then-read_through w ↦
+            ap (λ b. b || behind) w.served-is ∙ sym (or_true c.loop-fmmu.served)
+            ∙ ap (λ b. c.loop-fmmu.served || b) (sym (more ∙ ap (λ b. b || behind) w.if-read_through.true))
+            ∙ c.loop-fmmu.invariant.served
+        | else-read_through w ↦
+            ap (λ b. b || behind) w.served-is
+            ∙ ap (λ b. c.loop-fmmu.served || b) (sym (more ∙ ap (λ b. b || behind) w.if-read_through.false))
+            ∙ c.loop-fmmu.invariant.served
+      ];
+    }
 
 pub returns-clause-bits : goal.returns-clause-bits
 returns-clause-bits c =
-    let place = read_places c.args.managers.now c.args.fmmus.now (8 * c.args.address) in
-    c.loop-i.invariant.bits
-    ∙ first_places_all c.args.into.now c.args.memory.now place c.loop-i.i
-    (λ i inside behind. read_map_past c.args.managers.now c.args.fmmus.now (8 * c.args.address + i) (omega arith))
+    sym (read_map_done c.args.managers.now c.args.fmmus.now c.loop-fmmu.fmmu-index (8 * c.args.address) c.loop-fmmu.into c.args.memory.now
+    c.loop-fmmu-test.false c.loop-fmmu.invariant.bytes)
+    ∙ c.loop-fmmu.invariant.bits
 
 pub returns-clause-served : goal.returns-clause-served
 returns-clause-served c =
-    let place = read_places c.args.managers.now c.args.fmmus.now (8 * c.args.address) in
-    c.loop-i.invariant.served
-    ∙ sym (names_past place c.loop-i.i (8 * length c.args.into.now) (omega arith)
-    (λ i inside behind. read_map_past c.args.managers.now c.args.fmmus.now (8 * c.args.address + i) (omega arith)))
+    sym (ap (λ b. c.loop-fmmu.served || b) (names_no_fmmu c.args.managers.now c.args.fmmus.now c.loop-fmmu.fmmu-index (8 * c.args.address) (8 * length c.args.into.now) c.loop-fmmu-test.false)
+    ∙ or_false c.loop-fmmu.served)
+    ∙ c.loop-fmmu.invariant.served
+
+pub returns-clause-pair : goal.returns-clause-pair
+returns-clause-pair c = NamesPairs-read_map c.args.managers.now c.args.fmmus.now

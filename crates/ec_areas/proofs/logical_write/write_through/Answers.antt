@@ -1,67 +1,61 @@
-use Rattle.std.proofs.Common.{◌≡◌, ◌+◌, ◌*◌, ◌||◌, true, length, Some, None, sym, ◌∙◌, ap, arith}
-use Rattle.std.specs.Option.{is_some}
-use Rattle.ec_regs.proofs.BitLemmas.{AreBytes-with_bits}
-use Rattle.ec_areas.specs.Logical.{write_target, names}
-use Rattle.ec_areas.proofs.CopyLemmas.{names_zero, names_more, names_past, or_false, or_true}
-use Rattle.ec_areas.proofs.WriteLemmas.{targets, sources_none, sources_more, sources_skip, sources_past, write_target_past}
+use Rattle.std.proofs.Common.{◌≡◌, ◌*◌, ◌/◌, ℕ, Bool, true, false, cond, Option, None, Some, length, sym, ◌∙◌, refl}
+use Rattle.ec_areas.specs.Areas.{is_writable}
+use Rattle.ec_regs.proofs.BitLemmas.{with_bits_none, with_bits_same_places}
+use Rattle.ec_areas.specs.Met.{target_in, writable_in}
+use Rattle.ec_areas.proofs.WriteLemmas.{targets, sources, targets_not_for_writing, sources_not_for_writing, targets-run, sources-run}
+use Rattle.ec_areas.proofs.NamesLemmas.{names_same, names_nowhere}
 use Rattle.ec_areas.proofs.logical_write.write_through.Goals as goal
-use Rattle.ec_areas.proofs.logical_write.write_through.Goals.{in-Some, in_default}
 
-pub loop-i-init : goal.loop-i-init
-loop-i-init c = record {
-  bits = sources_none c.args.managers.now c.args.fmmu.now (8 * c.args.address) c.args.memory.now c.args.payload.now c.requires;
-  served = sym (names_zero (targets c.args.managers.now c.args.fmmu.now (8 * c.args.address)));
-}
-
-pub write_bit-requires : goal.write_bit-requires
-write_bit-requires c = record {
-  bytes = λ k. rw c.loop-i.invariant.bits (AreBytes-with_bits c.args.memory.now c.args.payload.now _ k);
-  inside = c.in-Some.ensures.inside;
-  source_inside = omega arith;
-}
-
--- what `write_target` answered is where bit i goes
-target_is : (c : goal.Joined-write_target)
-    → c.write_target.result ≡ targets c.args.managers.now c.args.fmmu.now (8 * c.args.address) c.loop-i.i
-target_is c =
-    c.write_target.ensures.value
-    ∙ ap (λ from. write_target c.args.managers.now c.args.fmmu.now (8 * from + c.loop-i.i)) c.from.ensures
-
-pub loop-i-preserved : goal.loop-i-preserved
-loop-i-preserved c =
-    let managers = c.args.managers.now in
-    let fmmu = c.args.fmmu.now in
+pub returns-then-not-writes-clause-bits : goal.returns-then-not-writes-clause-bits
+returns-then-not-writes-clause-bits c =
     let from = 8 * c.args.address in
-    let i = c.loop-i.i in
-    let place = targets managers fmmu from in
-    elim c.match-write_target.branch [
-      | in-Some w ↦
-          let taken : place i ≡ Some w.in-Some.physical = sym (target_is c) ∙ w.in-Some.is in
-          let more : names place (i + 1) ≡ true =
-          names_more place i ∙ ap (λ o. names place i || is_some o) taken ∙ or_true (names place i)
-          in record {
-            bits = rw w.memory-is (rw w.write_bit.ensures (sources_more managers fmmu from i w.in-Some.physical c.args.memory.now c.args.payload.now c.loop-i.memory c.loop-i.invariant.bits taken));
-            served = w.served-is ∙ sym more;
-          }
-      | in_default w ↦
-          let none : place i ≡ None = sym (target_is c) ∙ w.in_default.is in
-          let more : names place (i + 1) ≡ names place i =
-          names_more place i ∙ ap (λ o. names place i || is_some o) none ∙ or_false (names place i)
-          in record {
-            bits = rw w.memory-is (sources_skip managers fmmu from i c.args.memory.now c.args.payload.now c.loop-i.memory c.loop-i.invariant.bits none);
-            served = w.served-is ∙ c.loop-i.invariant.served ∙ sym more;
-          }
-    ]
+    let bits = 8 * length c.args.payload.now in
+    sym (with_bits_none c.args.memory.now c.args.payload.now (sources c.args.managers.now c.args.fmmu.now from bits) c.requires
+    (λ p _. sources_not_for_writing c.args.managers.now c.args.fmmu.now from bits p (sym c.writes.ensures ∙ c.if-not-writes.true)))
 
-pub returns-clause-bits : goal.returns-clause-bits
-returns-clause-bits c =
-    c.loop-i.invariant.bits
-    ∙ sources_past c.args.managers.now c.args.fmmu.now (8 * c.args.address) c.loop-i.i (8 * length c.args.payload.now) c.args.memory.now c.args.payload.now
-    (omega arith) (λ more. omega arith)
+pub returns-then-not-writes-clause-served : goal.returns-then-not-writes-clause-served
+returns-then-not-writes-clause-served c =
+    let from = 8 * c.args.address in
+    sym (names_nowhere (targets c.args.managers.now c.args.fmmu.now from) (8 * length c.args.payload.now)
+    (λ i _. targets_not_for_writing c.args.managers.now c.args.fmmu.now from i (sym c.writes.ensures ∙ c.if-not-writes.true)))
 
-pub returns-clause-served : goal.returns-clause-served
-returns-clause-served c =
-    let place = targets c.args.managers.now c.args.fmmu.now (8 * c.args.address) in
-    c.loop-i.invariant.served
-    ∙ sym (names_past place c.loop-i.i (8 * length c.args.payload.now) (omega arith)
-    (λ i inside behind. write_target_past c.args.managers.now c.args.fmmu.now (8 * c.args.address + i) (omega arith)))
+pub returns-in-Some-clause-bits : goal.returns-in-Some-clause-bits
+returns-in-Some-clause-bits c =
+    let managers = c.args.managers.now in
+    let f = c.args.fmmu.now in
+    let from = 8 * c.args.address in
+    let bits = 8 * length c.args.payload.now in
+    c.write_run.ensures.bits
+    ∙ with_bits_same_places c.args.memory.now c.args.payload.now (writable_in managers c.in-Some.run') (sources managers f from bits)
+    (λ p _. sources-run managers f (Some c.in-Some.run') from bits p (sym c.writes.ensures ∙ c.if-not-writes.false) (c.in-Some.ensures.data p))
+
+pub returns-in-Some-clause-served : goal.returns-in-Some-clause-served
+returns-in-Some-clause-served c =
+    let managers = c.args.managers.now in
+    let f = c.args.fmmu.now in
+    let from = 8 * c.args.address in
+    c.write_run.ensures.served
+    ∙ names_same (target_in managers c.in-Some.run') (targets managers f from) (8 * length c.args.payload.now)
+    (λ i inside. targets-run managers f (Some c.in-Some.run') from i (sym c.writes.ensures ∙ c.if-not-writes.false) (c.in-Some.ensures.physical i inside))
+
+-- nothing is nothing under any condition
+none_either : (b : Bool) → cond b None None ≡ (let none : Option ℕ = None in none)
+none_either true = refl
+none_either false = refl
+
+pub returns-in-None-clause-bits : goal.returns-in-None-clause-bits
+returns-in-None-clause-bits c =
+    let managers = c.args.managers.now in
+    let f = c.args.fmmu.now in
+    let from = 8 * c.args.address in
+    let bits = 8 * length c.args.payload.now in
+    sym (with_bits_none c.args.memory.now c.args.payload.now (sources managers f from bits) c.requires
+    (λ p _. sym (sources-run managers f None from bits p (sym c.writes.ensures ∙ c.if-not-writes.false) (c.in-None.ensures.data p)) ∙ none_either (is_writable managers (p / 8))))
+
+pub returns-in-None-clause-served : goal.returns-in-None-clause-served
+returns-in-None-clause-served c =
+    let managers = c.args.managers.now in
+    let f = c.args.fmmu.now in
+    let from = 8 * c.args.address in
+    sym (names_nowhere (targets managers f from) (8 * length c.args.payload.now)
+    (λ i inside. sym (targets-run managers f None from i (sym c.writes.ensures ∙ c.if-not-writes.false) (c.in-None.ensures.physical i inside))))

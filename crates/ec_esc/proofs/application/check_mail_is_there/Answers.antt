@@ -1,5 +1,5 @@
 use Rattle.std.proofs.Common.{◌≡◌, true, false, sym}
-use Rattle.ec_areas.specs.Areas.{is_active}
+use Rattle.ec_regs.specs.SyncMan.{is_active}
 use Rattle.ec_esc.proofs.ApplicationLemmas.{mailbox_length-le}
 use Rattle.ec_esc.proofs.application.check_mail_is_there.Goals as goal
 use Rattle.ec_esc.proofs.application.check_mail_is_there.Goals.{then-is_mailbox, else-is_mailbox}

@@ -1,6 +1,6 @@
 use Rattle.std.proofs.Common.{◌≡◌, true, sym, ◌∙◌}
 use Rattle.ec_wire.specs.Datagram.{nth}
-use Rattle.ec_esc.specs.Pass.{broadcast_sources, serves_range_read}
+use Rattle.ec_esc.specs.Stages.{broadcast_sources, serves_range_read}
 use Rattle.ec_esc.proofs.PhysicalLemmas.{filled_inside, physical_read-frame, physical_read-state}
 use Rattle.ec_esc.proofs.controller.Controller.broadcast_read.Goals as goal
 

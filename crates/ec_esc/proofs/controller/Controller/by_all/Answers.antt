@@ -1,5 +1,5 @@
 use Rattle.ec_wire.specs.Datagram.{nth}
-use Rattle.ec_esc.specs.Access.{access}
+use Rattle.ec_esc.specs.Stages.{access}
 use Rattle.ec_esc.proofs.PhysicalLemmas.{counted_up-frame}
 use Rattle.ec_esc.proofs.controller.Controller.by_all.Goals as goal
 

@@ -1,6 +1,6 @@
 use Rattle.ec_wire.specs.Datagram.{nth}
-use Rattle.ec_esc.specs.Access.{access}
-use Rattle.ec_esc.specs.Pass.{is_first, if_addressed}
+use Rattle.ec_esc.specs.Stages.{is_first, access}
+use Rattle.ec_esc.specs.Stages.{if_addressed}
 use Rattle.ec_esc.proofs.PhysicalLemmas.{counted_up-frame}
 use Rattle.ec_esc.proofs.controller.Controller.by_position.Goals as goal
 

@@ -1,6 +1,8 @@
 use Rattle.std.proofs.Common.{◌≡◌, ◌+◌, ◌%◌, set, ◌∙◌, ap}
 use Rattle.ec_wire.specs.Datagram.{DatagramRecord, blank, nth}
-use Rattle.ec_esc.specs.Pass.{serves_read, serves_write, read_data, if_served, counter_after}
+use Rattle.ec_esc.specs.Stages.{read_data, if_served}
+use Rattle.ec_esc.specs.Stages.{serves_read, serves_write}
+use Rattle.ec_esc.specs.Pass.{counter_after}
 use Rattle.ec_esc.proofs.PassLemmas.{filled_and_counted}
 use Rattle.ec_esc.proofs.controller.Controller.logical_exchange.Goals as goal
 

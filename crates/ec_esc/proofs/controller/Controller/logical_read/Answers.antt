@@ -1,6 +1,6 @@
 use Rattle.std.proofs.Common.{◌≡◌, ◌+◌, ◌%◌, true, sym, ◌∙◌, ap}
 use Rattle.ec_wire.specs.Datagram.{nth}
-use Rattle.ec_esc.specs.Pass.{serves_read}
+use Rattle.ec_esc.specs.Stages.{serves_read}
 use Rattle.ec_esc.proofs.PassLemmas.{counted_read}
 use Rattle.ec_esc.proofs.controller.Controller.logical_read.Goals as goal
 

@@ -1,6 +1,8 @@
 use Rattle.std.proofs.Common.{◌≡◌, ◌<◌, false, set, sym, ◌∙◌, ap, arith}
 use Rattle.ec_wire.specs.Datagram.{DatagramRecord, blank, nth}
-use Rattle.ec_esc.specs.Pass.{serves_write, if_served, counter_after}
+use Rattle.ec_esc.specs.Stages.{if_served}
+use Rattle.ec_esc.specs.Stages.{serves_write}
+use Rattle.ec_esc.specs.Pass.{counter_after}
 use Rattle.ec_esc.proofs.PassLemmas.{counted_nothing, set_nth}
 use Rattle.ec_esc.proofs.controller.Controller.logical_write.Goals as goal
 

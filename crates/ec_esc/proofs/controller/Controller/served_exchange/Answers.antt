@@ -1,6 +1,6 @@
 use Rattle.std.proofs.Common.{◌≡◌, true, sym, ◌∙◌}
 use Rattle.ec_wire.specs.Datagram.{nth}
-use Rattle.ec_esc.specs.Pass.{serves_range_read}
+use Rattle.ec_esc.specs.Stages.{serves_range_read}
 use Rattle.ec_esc.proofs.PhysicalLemmas.{physical_exchange-frame}
 use Rattle.ec_esc.proofs.controller.Controller.served_exchange.Goals as goal
 

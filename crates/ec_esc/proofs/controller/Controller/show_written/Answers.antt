@@ -1,7 +1,7 @@
 use Rattle.std.proofs.Common.{◌≡◌, ◌≤◌, ◌+◌, ℕ, Bool, true, List, length, get_or, sym, ◌∙◌, ap, refl, arith}
 use Rattle.ec_regs.specs.declared.sync_man.SyncMan.{SyncMan}
 use Rattle.ec_regs.specs.declared.registers.TheConstants.{PROCESS_MEMORY, MEMORY_SIZE}
-use Rattle.ec_areas.specs.Areas.{is_active}
+use Rattle.ec_regs.specs.SyncMan.{is_active}
 use Rattle.ec_esc.specs.State.{ControllerState, with_area_shown}
 use Rattle.ec_areas.specs.Showing.{SaysOfLastBytes}
 use Rattle.ec_esc.specs.Writing.{hands_over}

@@ -2,7 +2,7 @@ use Rattle.std.proofs.Common.{◌≡◌, ◌+◌, ◌*◌, length, sym, ◌∙�
 use Rattle.ec_regs.proofs.BitLemmas.{length-with_bits}
 use Rattle.ec_wire.specs.Datagram.{DatagramRecord, blank}
 use Rattle.ec_areas.specs.Logical.{write_map, names}
-use Rattle.ec_esc.specs.Pass.{written_state}
+use Rattle.ec_esc.specs.Stages.{written_state}
 use Rattle.ec_areas.specs.Records.{fmmus_of, sync_managers_of}
 use Rattle.ec_esc.specs.State.{ControllerState}
 use Rattle.ec_esc.proofs.WritingLemmas.{shown_state-written}

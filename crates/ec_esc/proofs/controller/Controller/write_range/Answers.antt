@@ -10,9 +10,7 @@ pub returns : goal.returns
 returns c d from_is payload_is =
     let entry = c.args.self.now in
     let memory_is : c.self.inside.memory ≡ entry.memory = ap (λ (s : ControllerState). s.memory) c.self.view_is in
-    let room : length entry.memory ≡ MEMORY_SIZE = ap length (sym memory_is) ∙ c.bytes.ensures.size in
     let bytes_is : c.bytes.result.now ≡ entry.memory = c.bytes.ensures.value ∙ memory_is in
-    let are : AreBytes entry.memory = λ k. rw (sym bytes_is) (c.arrived_records-before.ensures.bytes k) in
     let before_is : c.arrived_records-before.result ≡ sync_managers_of entry.memory =
     c.arrived_records-before.ensures.value ∙ ap (λ (m : List ℕ). sync_managers_of m) bytes_is in
     let after_is : c.write_run.new.memory ≡ with_written entry.memory c.args.from c.args.payload.now =
@@ -21,4 +19,4 @@ returns c d from_is payload_is =
     let start_is : start c.write_run.new.memory ≡ record entry { memory = with_written entry.memory c.args.from c.args.payload.now } =
     ap start after_is ∙ ap (λ (s : ControllerState). record s { memory = with_written entry.memory c.args.from c.args.payload.now }) c.self.view_is in
     range_written_by entry (start c.write_run.new.memory) c.finish_write.new.self c.arrived_records-before.result c.args.from (length c.args.payload.now)
-    c.args.payload.now d room are before_is start_is refl (c.finish_write.ensures entry.memory before_is) from_is payload_is
+    c.args.payload.now d before_is start_is refl (c.finish_write.ensures entry.memory before_is) from_is payload_is
