@@ -1,0 +1,14 @@
+pub mod AnswersLemmas
+pub mod StepLemmas
+pub mod AcceptedLemmas
+pub mod CalmLemmas
+pub mod FitLemmas
+pub mod FrameLemmas
+pub mod JoinLemmas
+pub mod CoreLemmas
+pub mod MemoryLemmas
+pub mod CertificateLemmas
+pub mod RunLemmas
+pub mod ShownLemmas
+pub mod ShownRunLemmas
+pub mod SetLemmas

@@ -1,0 +1,12 @@
+pub mod Answers
+pub mod Request
+pub mod Claims
+pub mod Calm
+pub mod Accepted
+pub mod Fit
+pub mod After
+pub mod Answered
+pub mod Trip
+pub mod Memory
+pub mod Run
+pub mod Shown
