@@ -1,3 +1,4 @@
 pub mod SdoLemmas
 pub mod MailLemmas
+pub mod MailStepLemmas
 pub mod ObjectLemmas

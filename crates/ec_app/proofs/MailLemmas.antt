@@ -1,4 +1,5 @@
--- Mails and their bytes: bytes without a fault are a mail's, and a mail's bytes have no fault and give it back.
+-- Mails and their bytes: bytes without a fault are a mail's, and a mail's bytes have no fault and give it
+-- back.
 use Rattle.std.proofs.Common.{◌≡◌, ◌⊎◌, ℕ, ◌+◌, ◌*◌, ◌/◌, ◌%◌, ◌^◌, ◌<◌, ◌≤◌, Bool, true, false, not, eqb, ltb, ◌||◌, cond, Option, None, Some, Result, Ok, Err, IfOk, IfErr, List, [], ◌∷◌, ◌++◌, length, get_or, take, drop, map, sym, ◌∙◌, ap, subst, refl, arith, inl, inr, ⊎_elim}
 use Rattle.std.specs.Int.{w16, to_le_bytes, from_le_bytes}
 use Rattle.std.specs.List.{range_with_len}
@@ -7,8 +8,8 @@ use Rattle.std.proofs.lemmas.List.{take_at, drop_at, take-append-drop, length-ta
 use Rattle.std.proofs.lemmas.List.FromFn.{fill_by_all}
 use Rattle.std.proofs.lemmas.Bool.{cases_lt}
 use Rattle.std.proofs.lemmas.Nat.{le_bytes_2, from_le_bytes-to_le_bytes_2}
-use Rattle.ec_app.specs.Sdo.{sdo_of, sdo_bytes}
-use Rattle.ec_app.specs.Mail.{mail_bytes, mail_of, mail_fault, type_byte, counter_of, stated_length, coe_word, service_of, IsMail, BeginsWith}
+use Rattle.ec_app.specs.Sdo.{sdo_of, sdo_bytes, FitsSdo, IsProper}
+use Rattle.ec_app.specs.Mail.{mail_bytes, mail_of, mail_fault, type_byte, counter_of, stated_length, coe_word, service_of, sent, IsMail, BeginsWith}
 use Rattle.ec_app.specs.declared.mail.Mail.{Mail}
 use Rattle.ec_app.specs.declared.mail.MailFault.{MailFault}
 use Rattle.ec_app.proofs.SdoLemmas.{two_bytes, sdo_of-sdo_bytes, sdo_bytes-sdo_of, IsProper-sdo_of, FitsSdo-sdo_of, length-sdo_bytes}
@@ -219,6 +220,23 @@ IsFaultless-mail_bytes m rest is =
 -- so they have no fault
 pub mail_fault-mail_bytes : (m : Mail) (rest : List ℕ) → IsMail m → mail_fault (mail_bytes m ++ rest) ≡ None
 mail_fault-mail_bytes m rest is = mail_fault-IsFaultless (mail_bytes m ++ rest) (IsFaultless-mail_bytes m rest is)
+
+-- a mail as it is sent begins its bytes, whatever follows them
+pub BeginsWith-sent : (m : Mail) (rest : List ℕ) → 1 ≤ m.counter → m.counter ≤ 7 → (m.service ≡ 2) ⊎ (m.service ≡ 3) → FitsSdo m.sdo
+    → IsProper m.sdo → BeginsWith (mail_bytes (sent m) ++ rest) (sent m)
+BeginsWith-sent m rest first last service fits proper =
+    let is : IsMail (sent m) = record {
+      address = omega arith;
+      channel = omega arith;
+      priority = omega arith;
+      first_counter = first;
+      last_counter = last;
+      number = omega arith;
+      service = service;
+      sdo_fits = fits;
+      sdo_proper = proper;
+    } in
+    record { spelling = take_at (mail_bytes (sent m)) rest 16 (length-mail_bytes (sent m) is); mail = is }
 
 -- ---- one spelling
 

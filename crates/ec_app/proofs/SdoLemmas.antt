@@ -7,7 +7,7 @@ use Rattle.std.proofs.lemmas.Bool.{and_parts}
 use Rattle.std.proofs.lemmas.Bool.Decides.{nat_tests}
 use Rattle.std.proofs.lemmas.List.FromFn.{fill_by_all}
 use Rattle.std.proofs.lemmas.Nat.{le_bytes_2, le_bytes_4, from_le_bytes-to_le_bytes_2, from_le_bytes-to_le_bytes_4}
-use Rattle.ec_app.specs.Sdo.{spelt, no_data, value_bytes, index_of, one_of, two_of, are_zero, has_command, sdo_of, sdo_bytes, IsProper, FitsSdo}
+use Rattle.ec_app.specs.Sdo.{spelt, no_data, value_bytes, index_of, one_of, two_of, are_zero, has_command, sdo_of, sdo_bytes, IsProper, FitsSdo, FitsNumbers}
 use Rattle.ec_app.specs.declared.value.Value.TheVariants.{One, Two, Four}
 use Rattle.ec_app.specs.declared.sdo.Sdo.{Sdo}
 use Rattle.ec_app.specs.declared.sdo.Sdo.TheVariants.{Upload, UploadAnswer, Download, DownloadAnswer, Abort, Other}
@@ -178,3 +178,12 @@ length-sdo_bytes (Download index sub (Four x)) fits = refl
 length-sdo_bytes (DownloadAnswer index sub) fits = refl
 length-sdo_bytes (Abort index sub code) fits = refl
 length-sdo_bytes (Other bytes) fits = fits
+
+-- numbers that fit, and as many bytes as an SDO has
+pub FitsSdo-FitsNumbers : (sdo : Sdo) → FitsNumbers sdo → length (sdo_bytes sdo) ≡ 8 → FitsSdo sdo
+FitsSdo-FitsNumbers (Upload i j) fits size = fits
+FitsSdo-FitsNumbers (UploadAnswer i j v) fits size = fits
+FitsSdo-FitsNumbers (Download i j v) fits size = fits
+FitsSdo-FitsNumbers (DownloadAnswer i j) fits size = fits
+FitsSdo-FitsNumbers (Abort i j code) fits size = fits
+FitsSdo-FitsNumbers (Other bytes) fits size = size

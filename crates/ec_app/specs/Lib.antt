@@ -1,4 +1,11 @@
+pub mod Table
 pub mod Value
 pub mod Sdo
 pub mod Mail
 pub mod Objects
+pub mod State
+pub mod Lending
+pub mod Roles
+pub mod AlStep
+pub mod MailStep
+pub mod Slave

@@ -1,12 +1,17 @@
--- A mail is sixteen bytes: the mailbox header of six, the CoE header of two and the SDO's eight; what follows is padding
--- (IEC 61158-4-12, mailbox; IEC 61158-6-12, CoE header).
-use Rattle.std.specs.Prelude.{◌≡◌, ℕ, ◌+◌, ◌*◌, ◌/◌, ◌%◌, ◌^◌, ◌<◌, ◌≤◌, ◌⊎◌, Bool, not, ◌||◌, ◌==◌, nat_lt, if◌then◌else◌, Option, Some, None, List, [], ◌∷◌, ◌++◌, length, take, drop, slice_index}
+-- A mail is sixteen bytes: the mailbox header of six, the CoE header of two and the SDO's eight; what follows
+-- is padding (IEC 61158-4-12, mailbox; IEC 61158-6-12, CoE header).
+use Rattle.std.specs.Prelude.{◌≡◌, ℕ, ◌+◌, ◌*◌, ◌/◌, ◌%◌, ◌^◌, ◌<◌, ◌≤◌, ◌⊎◌, Bool, not, ◌||◌, ◌==◌, nat_lt}
+use Rattle.std.specs.Prelude.{Option, Some, None, List, [], ◌∷◌, ◌++◌, length, take, drop, slice_index}
 use Rattle.std.specs.Int.{w16, to_le_bytes, from_le_bytes}
 use Rattle.ec_app.specs.Sdo.{sdo_bytes, sdo_of, FitsSdo, IsProper}
+use Rattle.ec_app.specs.Table.{first_fitting}
 use Rattle.ec_app.specs.declared.mail.Mail.{Mail}
 use Rattle.ec_app.specs.declared.mail.MailFault.{MailFault}
-use Rattle.ec_app.specs.declared.mail.MailFault.TheVariants.{Short, WrongType, BadCounter, Reserved, WrongLength}
-use Rattle.ec_app.specs.declared.mail.TheConstants.{HEADER_SIZE, MAIL_SIZE, LENGTH, ADDRESS_AT, CHANNEL_AT, TYPE_AT, COE_AT, SDO_AT, CHANNELS, COE, TYPES, COUNTERS, NUMBERS, RESERVED, SERVICES, REQUEST, RESPONSE}
+use Rattle.ec_app.specs.declared.mail.MailFault.TheVariants.{Short, WrongType, BadCounter, Reserved}
+use Rattle.ec_app.specs.declared.mail.MailFault.TheVariants.{WrongLength}
+use Rattle.ec_app.specs.declared.mail.TheConstants.{HEADER_SIZE, MAIL_SIZE, LENGTH, ADDRESS_AT, CHANNEL_AT}
+use Rattle.ec_app.specs.declared.mail.TheConstants.{TYPE_AT, COE_AT, SDO_AT, CHANNELS, COE, TYPES, COUNTERS}
+use Rattle.ec_app.specs.declared.mail.TheConstants.{NUMBERS, RESERVED, SERVICES, REQUEST, RESPONSE}
 
 -- ---- from the mail to its bytes
 
@@ -18,6 +23,10 @@ mail_bytes m =
     ++ (m.channel + CHANNELS * m.priority) ∷ (COE + TYPES * m.counter) ∷ []
     ++ to_le_bytes w16 (m.number + SERVICES * m.service)
     ++ sdo_bytes m.sdo
+
+-- a mail as it is sent: the fields that tell nothing here are 0
+abbrev pub sent : Mail → Mail
+sent m = record m { address = 0; channel = 0; priority = 0; number = 0 }
 
 -- a mail whose fields are in their ranges
 pub record IsMail (m : Mail) : Type 0 where
@@ -72,24 +81,19 @@ mail_of bytes = record {
 
 -- ---- the first fault
 
--- the fault of the first test that holds
-abbrev pub first_of : List (Bool × MailFault) → Option MailFault
-first_of [] = None
-first_of (t ∷ ts) = if t.0 then Some t.1 else first_of ts
-
--- the tests of a mail, in their order
-abbrev pub mail_tests : List ℕ → List (Bool × MailFault)
+-- the tests of a mail, in their order, each with its fault
+abbrev pub mail_tests : List ℕ → List (Bool × Option MailFault)
 mail_tests bytes =
-    (nat_lt (length bytes) HEADER_SIZE, Short)
-    ∷ (not (type_byte bytes / TYPES / COUNTERS == 0), Reserved)
-    ∷ (not (type_byte bytes % TYPES == COE), WrongType)
-    ∷ (counter_of bytes == 0, BadCounter)
-    ∷ (not (stated_length bytes == LENGTH), WrongLength)
-    ∷ (nat_lt (length bytes) MAIL_SIZE, Short)
-    ∷ (not (coe_word bytes / NUMBERS % RESERVED == 0), Reserved)
-    ∷ (not (service_of bytes == REQUEST || service_of bytes == RESPONSE), WrongType)
+    (nat_lt (length bytes) HEADER_SIZE, Some Short)
+    ∷ (not (type_byte bytes / TYPES / COUNTERS == 0), Some Reserved)
+    ∷ (not (type_byte bytes % TYPES == COE), Some WrongType)
+    ∷ (counter_of bytes == 0, Some BadCounter)
+    ∷ (not (stated_length bytes == LENGTH), Some WrongLength)
+    ∷ (nat_lt (length bytes) MAIL_SIZE, Some Short)
+    ∷ (not (coe_word bytes / NUMBERS % RESERVED == 0), Some Reserved)
+    ∷ (not (service_of bytes == REQUEST || service_of bytes == RESPONSE), Some WrongType)
     ∷ []
 
 -- the first fault of a mail's bytes, if they have one
 unfoldable pub mail_fault : List ℕ → Option MailFault
-mail_fault bytes = first_of (mail_tests bytes)
+mail_fault bytes = first_fitting (mail_tests bytes) None

@@ -2,7 +2,8 @@
 
 ghost use Rattle.std.specs.Prelude.{◌≡◌, ◌≤◌, ◌⊎◌, ◌++◌, ℕ, List, IfOk, IfErr, IfNone, OnOk, length};
 ghost use Rattle.ec_app.specs.declared.mail.Mail.{Mail};
-ghost use Rattle.ec_app.specs.Mail.{mail_bytes, mail_of, mail_fault, IsMail, BeginsWith};
+ghost use Rattle.ec_app.specs.Mail.{mail_bytes, mail_of, mail_fault, sent, IsMail, BeginsWith};
+ghost use Rattle.ec_app.specs.Sdo.{IsProper};
 
 use crate::sdo::Sdo;
 use byteorder::{ByteOrder, LittleEndian};
@@ -171,12 +172,14 @@ impl Mail {
         decode(bytes)
     }
 
-    /// The bytes of this mail as it is sent: address, channel, priority and number are written as 0.
+    /// The bytes of this mail as it is sent: address, channel, priority and number are written as 0. They are
+    /// read again as that mail, whatever follows them.
     pub fn write(&self) -> [u8; 16]
         requires counter { (1 ≤ self.now.counter) × (self.now.counter ≤ 7) }
         requires service { (self.now.service ≡ REQUEST) ⊎ (self.now.service ≡ RESPONSE) }
-        ensures { result
-            ≡ mail_bytes (record self.now { address = 0; channel = 0; priority = 0; number = 0 }) }
+        ensures value { result ≡ mail_bytes (sent self.now) }
+        ensures read_back { IsProper self.now.sdo
+            → (rest : List ℕ) → BeginsWith (result ++ rest) (sent self.now) }
     {
         let mut bytes = [0; MAIL_SIZE];
         LittleEndian::write_u16(&mut bytes[LENGTH_AT..], LENGTH);
@@ -194,181 +197,3 @@ pub fn one_mail()
         → mail_bytes m ++ x ≡ mail_bytes n ++ y
         → (m ≡ n) × (x ≡ y) }
 {}
-
-#[cfg(test)]
-mod tests {
-    use super::*;
-    use crate::value::Value;
-    use std::test::Fail;
-
-    /// Uploads 0x1018:01, counter 1.
-    const UPLOAD: [u8; 16] = [
-        0x0A, 0x00, 0x00, 0x00, 0x00, 0x13, 0x00, 0x20, 0x40, 0x18, 0x10, 0x01, 0x00, 0x00, 0x00,
-        0x00,
-    ];
-
-    /// A mail of this service and counter, with 0 in the other fields of its headers.
-    fn mail(service: u8, counter: u8, sdo: Sdo) -> Mail
-        ensures service { result.service ≡ service }
-        ensures counter { result.counter ≡ counter }
-    {
-        Mail {
-            address: 0,
-            channel: 0,
-            priority: 0,
-            counter,
-            number: 0,
-            service,
-            sdo,
-        }
-    }
-
-    #[test]
-    fn request_is_spelt_header_by_header(rt: HostRuntime) -> Result<(), Fail> {
-        let upload = mail(
-            REQUEST,
-            1,
-            Sdo::Upload {
-                index: 0x1018,
-                sub: 1,
-            },
-        );
-        assert_eq!(rt; upload.write(), UPLOAD);
-        assert_eq!(rt; Mail::read(&UPLOAD)?, upload);
-        Ok(())
-    }
-
-    #[test]
-    fn response_differs_by_its_service(rt: HostRuntime) -> Result<(), Fail> {
-        let answer = mail(
-            RESPONSE,
-            1,
-            Sdo::UploadAnswer {
-                index: 0x1018,
-                sub: 1,
-                value: Value::Four(2),
-            },
-        );
-        let answered = [
-            0x0A, 0x00, 0x00, 0x00, 0x00, 0x13, 0x00, 0x30, 0x43, 0x18, 0x10, 0x01, 0x02, 0x00,
-            0x00, 0x00,
-        ];
-        assert_eq!(rt; answer.write(), answered);
-        assert_eq!(rt; Mail::read(&answered)?, answer);
-        Ok(())
-    }
-
-    #[test]
-    fn abort_carries_its_counter(rt: HostRuntime) -> Result<(), Fail> {
-        let abort = mail(
-            REQUEST,
-            2,
-            Sdo::Abort {
-                index: 0x2000,
-                sub: 0,
-                code: 0x0602_0000,
-            },
-        );
-        let aborted = [
-            0x0A, 0x00, 0x00, 0x00, 0x00, 0x23, 0x00, 0x20, 0x80, 0x00, 0x20, 0x00, 0x00, 0x00,
-            0x02, 0x06,
-        ];
-        assert_eq!(rt; abort.write(), aborted);
-        assert_eq!(rt; Mail::read(&aborted)?, abort);
-        Ok(())
-    }
-
-    #[test]
-    fn bytes_after_a_mail_are_padding(rt: HostRuntime) -> Result<(), Fail> {
-        let padded = [
-            0x0A, 0x00, 0x00, 0x00, 0x00, 0x13, 0x00, 0x20, 0x2B, 0x00, 0x20, 0x00, 0x34, 0x12,
-            0x00, 0x00, 0xFF, 0x01, 0x02,
-        ];
-        let download = mail(
-            REQUEST,
-            1,
-            Sdo::Download {
-                index: 0x2000,
-                sub: 0,
-                value: Value::Two(0x1234),
-            },
-        );
-        assert_eq!(rt; Mail::read(&padded)?, download);
-        assert_eq!(rt; download.write().as_slice(), &padded[..16]);
-        Ok(())
-    }
-
-    #[test]
-    fn mail_of_another_sender_is_written_without_its_address(rt: HostRuntime) -> Result<(), Fail> {
-        let sent = [
-            0x0A, 0x00, 0x34, 0x12, 0x85, 0x13, 0x67, 0x21, 0x40, 0x18, 0x10, 0x01, 0x00, 0x00,
-            0x00, 0x00,
-        ];
-        let read = Mail::read(&sent)?;
-        assert_eq!(rt; read.address, 0x1234);
-        assert_eq!(rt; read.channel, 5);
-        assert_eq!(rt; read.priority, 2);
-        assert_eq!(rt; read.number, 0x167);
-        assert_eq!(rt; read.service, REQUEST);
-        assert_eq!(rt; read.counter, 1);
-        assert_eq!(rt; read.write(), UPLOAD);
-        Ok(())
-    }
-
-    #[test]
-    fn mail_cut_short_is_short(rt: HostRuntime) {
-        for cut in 0..16 {
-            assert_eq!(rt;
-                Mail::read(&UPLOAD[..cut]),
-                Err(MailFault::Short),
-                "cut to {cut}"
-            );
-        }
-    }
-
-    /// How often each answer came.
-    #[derive(Clone, Copy, PartialEq, Eq, Debug, Default)]
-    struct Answers {
-        good: u32,
-        short: u32,
-        wrong_type: u32,
-        bad_counter: u32,
-        reserved: u32,
-        wrong_length: u32,
-    }
-
-    impl Answers {
-        fn count(&mut self, bytes: &[u8]) {
-            let answer = match Mail::read(bytes) {
-                Ok(_) => &mut self.good,
-                Err(MailFault::Short) => &mut self.short,
-                Err(MailFault::WrongType) => &mut self.wrong_type,
-                Err(MailFault::BadCounter) => &mut self.bad_counter,
-                Err(MailFault::Reserved) => &mut self.reserved,
-                Err(MailFault::WrongLength) => &mut self.wrong_length,
-            };
-            *answer = answer.wrapping_add(1);
-        }
-    }
-
-    #[test]
-    fn each_changed_byte_is_taken_or_refused_by_name(rt: HostRuntime) {
-        let mut answers = Answers::default();
-        for place in 0..16usize {
-            for change in 1..=255u8 {
-                let mut bytes = UPLOAD;
-                bytes[place] ^= change;
-                answers.count(&bytes);
-            }
-        }
-        let wanted = Answers {
-            good: 3069,
-            short: 0,
-            wrong_type: 148,
-            bad_counter: 1,
-            reserved: 352,
-            wrong_length: 510,
-        };
-        assert_eq!(rt; answers, wanted);
-    }
-}

@@ -1,7 +1,6 @@
 //! The object dictionary of a slave (IEC 61158-6-12, object dictionary).
 
-ghost use Rattle.std.specs.Prelude.{◌≡◌, ◌==◌, ◌++◌, ◌∷◌, [], IsSome, OnOk, OnErr, IfErr, length, map};
-ghost use Rattle.std.specs.List.{list_any};
+ghost use Rattle.std.specs.Prelude.{◌≡◌, ◌++◌, ◌∷◌, [], IsSome, OnOk, OnErr, IfErr, length, map};
 ghost use Rattle.ec_app.specs.Objects.{with_value};
 
 use crate::value::{Rights, Value};
@@ -97,7 +96,7 @@ impl Model for Objects {
 }
 
 impl Objects {
-    ghost use Rattle.ec_app.specs.Objects.{IsDictionary, stands_at, object_at, add_fault};
+    ghost use Rattle.ec_app.specs.Objects.{IsDictionary, has_index, stands_at, object_at, add_fault};
 
     /// A dictionary with no objects.
     pub fn new() -> Objects
@@ -129,7 +128,7 @@ impl Objects {
 
     /// Is there an object of this index, whatever its subindex?
     pub fn has_index(&self, index: u16) -> bool
-        ensures { result ≡ list_any (λ entry. entry.index == index) self.now }
+        ensures { result ≡ has_index index self.now }
     {
         self.entries.iter().any(|entry| entry.index == index)
     }
@@ -151,7 +150,8 @@ impl Objects {
         value: Value,
     ) -> Result<(), ObjectFault>
         ensures added { OnOk result
-            (self.new ≡ self.old ++ record { index = index; sub = sub; rights = rights; value = value } ∷ []) }
+            (self.new
+            ≡ self.old ++ record { index = index; sub = sub; rights = rights; value = value } ∷ []) }
         ensures unchanged { OnErr result (self.new ≡ self.old) }
         ensures good { OnOk result (add_fault index sub self.old ≡ None) }
         ensures fault { IfErr result (λ fault. add_fault index sub self.old ≡ Some fault) }

@@ -1,10 +1,17 @@
 //! Service data objects of CoE, expedited (IEC 61158-6-12, SDO services).
 
 ghost use Rattle.std.specs.Prelude.{◌≡◌};
-ghost use Rattle.ec_app.specs.Sdo.{are_zero, spelt, uploaded, download};
+ghost use Rattle.ec_app.specs.Sdo.{index_of, are_zero, spelt, uploaded, download};
 
 use crate::value::Value;
 use byteorder::{ByteOrder, LittleEndian};
+
+// Where the fields stand, in bytes.
+const INDEX_AT: usize = 1;
+
+const SUB_AT: usize = 3;
+
+const DATA_AT: usize = 4;
 
 // The commands, by what they do and how many bytes of data they use.
 const UPLOAD: u8 = 0x40;
@@ -76,6 +83,13 @@ pub enum Sdo {
     Other([u8; 8]),
 }
 
+/// The index in eight bytes.
+fn index_of(bytes: &[u8; 8]) -> u16
+    ensures { result ≡ index_of bytes.now }
+{
+    LittleEndian::read_u16(&bytes[INDEX_AT..])
+}
+
 /// Are these bytes 0?
 fn are_zero(bytes: &[u8]) -> bool
     ensures { result ≡ are_zero bytes.now }
@@ -117,7 +131,7 @@ fn spelt(command: u8, index: u16, sub: u8, payload: [u8; 4]) -> [u8; 8]
 }
 
 impl Sdo {
-    ghost use Rattle.ec_app.specs.Sdo.{sdo_of, sdo_bytes, IsProper};
+    ghost use Rattle.ec_app.specs.Sdo.{index, sub, sdo_of, sdo_bytes, FitsNumbers, IsProper};
 
     /// The SDO that these bytes spell. Bytes that fit no row of the table of expedited SDOs are kept
     /// as `Other`, also a known command with a data byte that it does not use and that is not 0.
@@ -129,9 +143,10 @@ impl Sdo {
         Sdo::decoded(bytes)
     }
 
-    /// The bytes that spell this SDO.
+    /// The bytes that spell this SDO. (Its clause `fits` is what a proof knows of every SDO.)
     pub fn write(&self) -> [u8; 8]
         ensures value { result ≡ sdo_bytes self.now }
+        ensures fits { FitsNumbers self.now }
         ensures read_back { IsProper self.now → sdo_of result ≡ self.now }
     {
         match *self {
@@ -148,30 +163,58 @@ impl Sdo {
         }
     }
 
+    /// The index that it names; that of an `Other` is what its bytes have at the index's place.
+    pub fn index(&self) -> u16
+        ensures { result ≡ index self.now }
+    {
+        match *self {
+            Sdo::Upload { index, .. }
+            | Sdo::UploadAnswer { index, .. }
+            | Sdo::Download { index, .. }
+            | Sdo::DownloadAnswer { index, .. }
+            | Sdo::Abort { index, .. } => index,
+            Sdo::Other(bytes) => index_of(&bytes),
+        }
+    }
+
+    /// The subindex that it names; that of an `Other` is what its bytes have at the subindex's place.
+    pub fn sub(&self) -> u8
+        ensures { result ≡ sub self.now }
+    {
+        match *self {
+            Sdo::Upload { sub, .. }
+            | Sdo::UploadAnswer { sub, .. }
+            | Sdo::Download { sub, .. }
+            | Sdo::DownloadAnswer { sub, .. }
+            | Sdo::Abort { sub, .. } => sub,
+            Sdo::Other(bytes) => bytes[SUB_AT],
+        }
+    }
+
     /// The SDO that these bytes spell.
     #[tactic(auto, unfolding(crate::specs::Sdo::sdo_of))]
     fn decoded(bytes: &[u8; 8]) -> Sdo
         ensures { result ≡ sdo_of bytes.now }
     {
-        let index = LittleEndian::read_u16(&bytes[1..]);
-        let sub = bytes[3];
-        let one = Value::One(bytes[4]);
-        let two = Value::Two(LittleEndian::read_u16(&bytes[4..]));
-        let code = LittleEndian::read_u32(&bytes[4..]);
+        let index = index_of(bytes);
+        let sub = bytes[SUB_AT];
+        let one = Value::One(bytes[DATA_AT]);
+        let two = Value::Two(LittleEndian::read_u16(&bytes[DATA_AT..]));
+        let code = LittleEndian::read_u32(&bytes[DATA_AT..]);
         let four = Value::Four(code);
         match bytes[0] {
-            UPLOAD if are_zero(&bytes[4..]) => Sdo::Upload { index, sub },
+            UPLOAD if are_zero(&bytes[DATA_AT..]) => Sdo::Upload { index, sub },
             UPLOADED_FOUR => Sdo::UploadAnswer {
                 index,
                 sub,
                 value: four,
             },
-            UPLOADED_TWO if are_zero(&bytes[6..]) => Sdo::UploadAnswer {
+            UPLOADED_TWO if are_zero(&bytes[DATA_AT + 2..]) => Sdo::UploadAnswer {
                 index,
                 sub,
                 value: two,
             },
-            UPLOADED_ONE if are_zero(&bytes[5..]) => Sdo::UploadAnswer {
+            UPLOADED_ONE if are_zero(&bytes[DATA_AT + 1..]) => Sdo::UploadAnswer {
                 index,
                 sub,
                 value: one,
@@ -181,120 +224,19 @@ impl Sdo {
                 sub,
                 value: four,
             },
-            DOWNLOAD_TWO if are_zero(&bytes[6..]) => Sdo::Download {
+            DOWNLOAD_TWO if are_zero(&bytes[DATA_AT + 2..]) => Sdo::Download {
                 index,
                 sub,
                 value: two,
             },
-            DOWNLOAD_ONE if are_zero(&bytes[5..]) => Sdo::Download {
+            DOWNLOAD_ONE if are_zero(&bytes[DATA_AT + 1..]) => Sdo::Download {
                 index,
                 sub,
                 value: one,
             },
-            DOWNLOADED if are_zero(&bytes[4..]) => Sdo::DownloadAnswer { index, sub },
+            DOWNLOADED if are_zero(&bytes[DATA_AT..]) => Sdo::DownloadAnswer { index, sub },
             ABORT => Sdo::Abort { index, sub, code },
             _ => Sdo::Other(*bytes),
-        }
-    }
-}
-
-#[cfg(test)]
-mod tests {
-    use super::*;
-
-    /// The nine rows of commands, each with the SDO that it spells.
-    const ROWS: [([u8; 8], Sdo); 9] = [
-        (
-            [0x40, 0x18, 0x10, 0x01, 0x00, 0x00, 0x00, 0x00],
-            Sdo::Upload {
-                index: 0x1018,
-                sub: 1,
-            },
-        ),
-        (
-            [0x43, 0x18, 0x10, 0x01, 0x02, 0x03, 0x04, 0x05],
-            Sdo::UploadAnswer {
-                index: 0x1018,
-                sub: 1,
-                value: Value::Four(0x0504_0302),
-            },
-        ),
-        (
-            [0x4B, 0x00, 0x20, 0x00, 0x34, 0x12, 0x00, 0x00],
-            Sdo::UploadAnswer {
-                index: 0x2000,
-                sub: 0,
-                value: Value::Two(0x1234),
-            },
-        ),
-        (
-            [0x4F, 0x00, 0x20, 0xFF, 0x7F, 0x00, 0x00, 0x00],
-            Sdo::UploadAnswer {
-                index: 0x2000,
-                sub: 255,
-                value: Value::One(0x7F),
-            },
-        ),
-        (
-            [0x23, 0x00, 0x20, 0x01, 0xEF, 0xBE, 0xAD, 0xDE],
-            Sdo::Download {
-                index: 0x2000,
-                sub: 1,
-                value: Value::Four(0xDEAD_BEEF),
-            },
-        ),
-        (
-            [0x2B, 0x00, 0x20, 0x00, 0x34, 0x12, 0x00, 0x00],
-            Sdo::Download {
-                index: 0x2000,
-                sub: 0,
-                value: Value::Two(0x1234),
-            },
-        ),
-        (
-            [0x2F, 0x12, 0x34, 0x56, 0x78, 0x00, 0x00, 0x00],
-            Sdo::Download {
-                index: 0x3412,
-                sub: 0x56,
-                value: Value::One(0x78),
-            },
-        ),
-        (
-            [0x60, 0x00, 0x20, 0x00, 0x00, 0x00, 0x00, 0x00],
-            Sdo::DownloadAnswer {
-                index: 0x2000,
-                sub: 0,
-            },
-        ),
-        (
-            [0x80, 0x00, 0x20, 0x00, 0x00, 0x00, 0x02, 0x06],
-            Sdo::Abort {
-                index: 0x2000,
-                sub: 0,
-                code: 0x0602_0000,
-            },
-        ),
-    ];
-
-    #[test]
-    fn each_row_is_read_and_written(rt: HostRuntime) {
-        for (bytes, sdo) in ROWS {
-            assert_eq!(rt; Sdo::read(&bytes), sdo);
-            assert_eq!(rt; sdo.write(), bytes);
-        }
-    }
-
-    #[test]
-    fn unused_data_that_is_not_zero_makes_another_sdo(rt: HostRuntime) {
-        for bytes in [
-            [0x40, 0x18, 0x10, 0x01, 0x01, 0x00, 0x00, 0x00],
-            [0x4B, 0x00, 0x20, 0x00, 0x34, 0x12, 0x01, 0x00],
-            [0x2F, 0x00, 0x20, 0x00, 0x34, 0x12, 0x00, 0x00],
-            [0x60, 0x00, 0x20, 0x00, 0x00, 0x00, 0x00, 0x01],
-            [0x21, 0x00, 0x20, 0x00, 0x08, 0x00, 0x00, 0x00],
-        ] {
-            assert_eq!(rt; Sdo::read(&bytes), Sdo::Other(bytes));
-            assert_eq!(rt; Sdo::Other(bytes).write(), bytes);
         }
     }
 }

@@ -58,6 +58,30 @@ pub enum Rights {
     Both,
 }
 
+impl Rights {
+    ghost use Rattle.ec_app.specs.Value.{may_read, may_write};
+
+    /// May a master upload the value?
+    pub fn may_read(self) -> bool
+        ensures { result ≡ may_read self }
+    {
+        match self {
+            Rights::ReadOnly | Rights::Both => true,
+            Rights::WriteOnly => false,
+        }
+    }
+
+    /// May a master download another?
+    pub fn may_write(self) -> bool
+        ensures { result ≡ may_write self }
+    {
+        match self {
+            Rights::WriteOnly | Rights::Both => true,
+            Rights::ReadOnly => false,
+        }
+    }
+}
+
 #[cfg(test)]
 mod tests {
     use super::*;

@@ -1,0 +1,8 @@
+//! The worked rows of objects' mails and of states, with the bytes written out by hand.
+
+mod al_requests;
+mod mail_answers;
+mod mail_layout;
+mod mailboxes;
+mod master;
+mod sdo_layout;
