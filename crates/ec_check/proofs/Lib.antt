@@ -1,0 +1,13 @@
+pub mod OrderLemmas
+pub mod SearchLemmas
+pub mod LineLemmas
+pub mod StationLemmas
+pub mod RunLemmas
+pub mod WrittenLemmas
+pub mod ReadLemmas
+pub mod CrossedLemmas
+pub mod AreaLemmas
+pub mod FmmuLemmas
+pub mod OutsideLemmas
+pub mod FitLemmas
+pub mod FactLemmas

@@ -1,0 +1,7 @@
+pub mod Order
+pub mod Runs
+pub mod Line
+pub mod Rules
+pub mod Fit
+pub mod Search
+pub mod Facts

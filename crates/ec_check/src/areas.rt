@@ -1,0 +1,83 @@
+//! No two active areas of a slave share a byte.
+
+ghost use Rattle.std.specs.Prelude.{◌≡◌, ◌<◌, ◌≤◌, [], ◌∷◌, IsTrue, length};
+ghost use Rattle.ec_regs.specs.declared.registers.TheConstants.{MEMORY_SIZE};
+ghost use Rattle.ec_check.specs.Line.{controllers};
+ghost use Rattle.ec_check.specs.Order.{IsLowest};
+ghost use Rattle.ec_check.specs.Rules.{IsInArea};
+ghost use Rattle.ec_check.specs.Search.{Answers};
+
+use crate::fault::MapFault;
+use crate::line::{SYNC_MANAGERS, sync_manager_of};
+use ec_app::Slave;
+use ec_regs::SyncMan;
+
+/// Areas of all slaves.
+pub(crate) fn meeting_areas(line: &[Slave]) -> Result<(), MapFault>
+    ensures { Answers (3 ∷ []) (controllers line.now) result }
+{
+    for slave in 0..line.len() {
+        areas_of(line, slave)?;
+    }
+    Ok(())
+}
+
+/// Areas of one slave.
+fn areas_of(line: &[Slave], slave: usize) -> Result<(), MapFault>
+    requires { slave < length line.now }
+    ensures { Answers (3 ∷ slave ∷ []) (controllers line.now) result }
+{
+    for number in 0..SYNC_MANAGERS {
+        areas_met_by(line, slave, number)?;
+    }
+    Ok(())
+}
+
+/// One area and the later ones of its slave.
+fn areas_met_by(line: &[Slave], slave: usize, number: usize) -> Result<(), MapFault>
+    requires slave { slave < length line.now }
+    requires number { number < 8 }
+    ensures { Answers (3 ∷ slave ∷ number ∷ []) (controllers line.now) result }
+{
+    for later_number in number + 1..SYNC_MANAGERS {
+        compare_areas(line, slave, number, later_number)?;
+    }
+    Ok(())
+}
+
+/// Do these two areas of a slave share a byte?
+fn compare_areas(
+    line: &[Slave],
+    slave: usize,
+    number: usize,
+    later_number: usize,
+) -> Result<(), MapFault>
+    requires slave { slave < length line.now }
+    requires order { number < later_number }
+    requires number { later_number < 8 }
+    ensures { Answers (3 ∷ slave ∷ number ∷ later_number ∷ []) (controllers line.now) result }
+{
+    let first = sync_manager_of(line, slave, number);
+    let second = sync_manager_of(line, slave, later_number);
+    match lowest_shared_address(&first, &second) {
+        None => Ok(()),
+        Some(address) => Err(MapFault::AreasMeet {
+            slave,
+            sync_manager: number,
+            later_sync_manager: later_number,
+            address,
+        }),
+    }
+}
+
+/// The lowest address of both areas.
+fn lowest_shared_address(first: &SyncMan, second: &SyncMan) -> Option<u16>
+    ensures { IsLowest (λ a. IsInArea first.now a × IsInArea second.now a) result }
+{
+    if !first.is_active() || !second.is_active() {
+        return None;
+    }
+    let lowest = first.start.max(second.start);
+    let shared = lowest < first.start + first.length && lowest < second.start + second.length;
+    shared.then_some(lowest)
+}

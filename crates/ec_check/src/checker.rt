@@ -1,0 +1,31 @@
+//! All rules, one after the other.
+
+ghost use Rattle.std.specs.Prelude.{OnOk, IfErr};
+ghost use Rattle.ec_check.specs.Line.{controllers};
+ghost use Rattle.ec_check.specs.Fit.{IsFit, IsFirstFault};
+
+use crate::areas::meeting_areas;
+use crate::crossed::bits_read_and_written;
+use crate::fault::MapFault;
+use crate::fmmus::bad_fmmus;
+use crate::outside::fmmus_outside;
+use crate::stations::twin_stations;
+use crate::twice_read::bits_read_twice;
+use crate::twice_written::bits_written_twice;
+use ec_app::Slave;
+
+/// Is the line mapped as a cycle needs it? If not, the first fault: that of the first rule that is broken, of
+/// the smallest numbers from left to right, and of the lowest address or bit. Only active FMMUs and active
+/// areas count.
+pub fn check(line: &[Slave]) -> Result<(), MapFault>
+    ensures accepted { OnOk result (IsFit (controllers line.now)) }
+    ensures refused { IfErr result (IsFirstFault (controllers line.now)) }
+{
+    twin_stations(line)?;
+    bad_fmmus(line)?;
+    meeting_areas(line)?;
+    fmmus_outside(line)?;
+    bits_written_twice(line)?;
+    bits_read_twice(line)?;
+    bits_read_and_written(line)
+}

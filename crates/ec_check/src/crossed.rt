@@ -1,0 +1,93 @@
+//! No logical bit is read from one slave and written to another.
+
+ghost use Rattle.std.specs.Prelude.{◌≡◌, ◌≢◌, ◌<◌, [], ◌∷◌, true, length};
+ghost use Rattle.ec_regs.specs.Pairs.{reads};
+ghost use Rattle.ec_check.specs.Line.{controllers, HasFmmu, StandsOn};
+ghost use Rattle.ec_check.specs.Search.{Answers};
+
+use crate::fault::MapFault;
+use crate::line::{FMMUS, Standing, fmmu_of, standing_at};
+use crate::runs::lowest_shared_logical;
+use ec_app::Slave;
+
+/// FMMUs that read, of all slaves.
+pub(crate) fn bits_read_and_written(line: &[Slave]) -> Result<(), MapFault>
+    ensures { Answers (7 ∷ []) (controllers line.now) result }
+{
+    for reader in 0..line.len() {
+        written_elsewhere(line, reader)?;
+    }
+    Ok(())
+}
+
+/// FMMUs that read, of one slave.
+fn written_elsewhere(line: &[Slave], reader: usize) -> Result<(), MapFault>
+    requires { reader < length line.now }
+    ensures { Answers (7 ∷ reader ∷ []) (controllers line.now) result }
+{
+    for reader_fmmu in 0..FMMUS {
+        written_by_others(line, &standing_at(line, reader, reader_fmmu))?;
+    }
+    Ok(())
+}
+
+/// One FMMU that reads, and those of the other slaves that write.
+fn written_by_others(line: &[Slave], reader: &Standing) -> Result<(), MapFault>
+    requires { StandsOn (controllers line.now) reader.now }
+    ensures { Answers (7 ∷ reader.now.slave ∷ reader.now.number ∷ []) (controllers line.now) result }
+{
+    if !reader.record.reads() {
+        return Ok(());
+    }
+    for writer in 0..line.len() {
+        written_by(line, reader, writer)?;
+    }
+    Ok(())
+}
+
+/// One FMMU that reads, and those of one slave that write. A slave may read and write the same bit.
+fn written_by(line: &[Slave], reader: &Standing, writer: usize) -> Result<(), MapFault>
+    requires reader { StandsOn (controllers line.now) reader.now }
+    requires there { writer < length line.now }
+    requires for_reading { reads reader.now.record ≡ true }
+    ensures { Answers (7 ∷ reader.now.slave ∷ reader.now.number ∷ writer ∷ [])
+        (controllers line.now) result }
+{
+    if writer == reader.slave {
+        return Ok(());
+    }
+    for writer_fmmu in 0..FMMUS {
+        compare_crossed(line, reader, writer, writer_fmmu)?;
+    }
+    Ok(())
+}
+
+/// Does the one FMMU read a logical bit that the other writes?
+fn compare_crossed(
+    line: &[Slave],
+    reader: &Standing,
+    writer: usize,
+    writer_fmmu: usize,
+) -> Result<(), MapFault>
+    requires reader { StandsOn (controllers line.now) reader.now }
+    requires apart { reader.now.slave ≢ writer }
+    requires writer { HasFmmu (controllers line.now) writer writer_fmmu }
+    requires for_reading { reads reader.now.record ≡ true }
+    ensures { Answers (7 ∷ reader.now.slave ∷ reader.now.number ∷ writer ∷ writer_fmmu ∷ [])
+        (controllers line.now) result }
+{
+    let second = fmmu_of(line, writer, writer_fmmu);
+    if !second.writes() {
+        return Ok(());
+    }
+    match lowest_shared_logical(reader, &second) {
+        None => Ok(()),
+        Some(bit) => Err(MapFault::ReadAndWritten {
+            reader: reader.slave,
+            reader_fmmu: reader.number,
+            writer,
+            writer_fmmu,
+            bit,
+        }),
+    }
+}

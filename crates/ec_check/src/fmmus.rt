@@ -1,0 +1,73 @@
+//! Each active FMMU reads or writes, and maps bits that exist.
+
+ghost use Rattle.std.specs.Prelude.{◌≡◌, ◌<◌, [], ◌∷◌, length};
+ghost use Rattle.ec_check.specs.Line.{controllers};
+ghost use Rattle.ec_check.specs.Search.{Answers};
+ghost use Rattle.ec_check.specs.Runs.{is_good};
+
+use crate::fault::MapFault;
+use crate::line::{FMMUS, fmmu_of};
+use ec_app::Slave;
+use ec_regs::registers::MEMORY_SIZE;
+use ec_regs::{Fmmu, FmmuType};
+
+/// How many logical bits there are: eight for each 32-bit address.
+const LOGICAL_BITS: u64 = 8 * 0x1_0000_0000;
+
+/// How many bits the memory has.
+const MEMORY_BITS: u32 = 8 * MEMORY_SIZE as u32;
+
+/// The type of an FMMU for reading.
+const READ: u8 = 1;
+
+/// The type of an FMMU for writing.
+const WRITE: u8 = 2;
+
+/// Bad FMMUs of all slaves.
+pub(crate) fn bad_fmmus(line: &[Slave]) -> Result<(), MapFault>
+    ensures { Answers (2 ∷ []) (controllers line.now) result }
+{
+    for slave in 0..line.len() {
+        bad_fmmus_of(line, slave)?;
+    }
+    Ok(())
+}
+
+/// Bad FMMUs of one slave.
+fn bad_fmmus_of(line: &[Slave], slave: usize) -> Result<(), MapFault>
+    requires { slave < length line.now }
+    ensures { Answers (2 ∷ slave ∷ []) (controllers line.now) result }
+{
+    for fmmu in 0..FMMUS {
+        test_fmmu(line, slave, fmmu)?;
+    }
+    Ok(())
+}
+
+/// Is this FMMU bad?
+fn test_fmmu(line: &[Slave], slave: usize, fmmu: usize) -> Result<(), MapFault>
+    requires slave { slave < length line.now }
+    requires fmmu { fmmu < 8 }
+    ensures { Answers (2 ∷ slave ∷ fmmu ∷ []) (controllers line.now) result }
+{
+    let record = fmmu_of(line, slave, fmmu);
+    if !record.is_switched_on() {
+        return Ok(());
+    }
+    if !is_good(&record) {
+        return Err(MapFault::BadFmmu { slave, fmmu });
+    }
+    Ok(())
+}
+
+/// Does the FMMU read or write and not both, does it map a bit, and do all of its bits exist? One with a bit
+/// field above 7 maps none.
+fn is_good(fmmu: &Fmmu) -> bool
+    ensures { result ≡ is_good fmmu.now }
+{
+    let bits = fmmu.mapped_bits();
+    (fmmu.kind == READ || fmmu.kind == WRITE)
+        && bits >= 1
+        && fmmu.first_logical() + u64::from(bits) <= LOGICAL_BITS
+        && fmmu.first_physical() + bits <= MEMORY_BITS
+}

@@ -1,0 +1,36 @@
+#![tactic(auto)]
+//! The mapping checker: is a line of slaves mapped so that a master's cycle reads each bit of the process
+//! image from one place, and writes it without reading it elsewhere (IEC 61158-4-12, FMMU and sync manager)?
+//!
+//! [`check`] tests seven rules in their order, and answers the first that the line breaks, with the smallest
+//! numbers and the lowest address or bit. It works on runs of bits, never bit by bit, and takes no memory.
+//! [`fit_line`] is the law that says what an accepted line gives a cycle.
+//!
+//! - `fault`: why a line is refused.
+//! - `stations`, `fmmus`, `areas`, `outside`, `twice_written`, `twice_read`, `crossed`: the rules, in this
+//!   order.
+//! - `line`: the records that stand on the line; `runs`: the lowest number that two runs share.
+//!
+//! What the contracts speak of stands in specs/: the records of a line (`Line`), the rules as what breaks
+//! them (`Rules`), a line's faults and their order (`Fit`, `Order`), what a part of the checker answers
+//! (`Search`), and what follows for a cycle (`Facts`).
+
+mod areas;
+mod checker;
+mod crossed;
+mod facts;
+mod fault;
+mod fmmus;
+mod line;
+mod outside;
+mod runs;
+mod stations;
+#[cfg(test)]
+mod tests;
+mod twice_read;
+mod twice_written;
+
+pub use checker::check;
+pub use facts::fit_line;
+pub use fault::MapFault;
+pub use outside::MAIL_STATUS;

@@ -1,0 +1,7 @@
+//! Lines that are mapped as a cycle needs it, and lines that break a rule.
+
+mod fit;
+mod line;
+mod order;
+mod refused;
+mod size;

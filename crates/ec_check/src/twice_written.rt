@@ -1,0 +1,74 @@
+//! No two FMMUs of a slave write one physical bit.
+
+ghost use Rattle.std.specs.Prelude.{◌≡◌, ◌<◌, [], ◌∷◌, length};
+ghost use Rattle.ec_check.specs.Line.{controllers};
+ghost use Rattle.ec_check.specs.Search.{Answers};
+
+use crate::fault::MapFault;
+use crate::line::{FMMUS, fmmu_of};
+use crate::runs::lowest_shared_physical;
+use ec_app::Slave;
+
+/// FMMUs of all slaves.
+pub(crate) fn bits_written_twice(line: &[Slave]) -> Result<(), MapFault>
+    ensures { Answers (5 ∷ []) (controllers line.now) result }
+{
+    for slave in 0..line.len() {
+        written_twice_in(line, slave)?;
+    }
+    Ok(())
+}
+
+/// FMMUs of one slave.
+fn written_twice_in(line: &[Slave], slave: usize) -> Result<(), MapFault>
+    requires { slave < length line.now }
+    ensures { Answers (5 ∷ slave ∷ []) (controllers line.now) result }
+{
+    for fmmu in 0..FMMUS {
+        written_again(line, slave, fmmu)?;
+    }
+    Ok(())
+}
+
+/// One FMMU and the later ones of its slave.
+fn written_again(line: &[Slave], slave: usize, fmmu: usize) -> Result<(), MapFault>
+    requires slave { slave < length line.now }
+    requires fmmu { fmmu < 8 }
+    ensures { Answers (5 ∷ slave ∷ fmmu ∷ []) (controllers line.now) result }
+{
+    for later_fmmu in fmmu + 1..FMMUS {
+        compare_written(line, slave, fmmu, later_fmmu)?;
+    }
+    Ok(())
+}
+
+/// Do these two FMMUs of a slave write one physical bit?
+fn compare_written(
+    line: &[Slave],
+    slave: usize,
+    fmmu: usize,
+    later_fmmu: usize,
+) -> Result<(), MapFault>
+    requires slave { slave < length line.now }
+    requires order { fmmu < later_fmmu }
+    requires fmmu { later_fmmu < 8 }
+    ensures { Answers (5 ∷ slave ∷ fmmu ∷ later_fmmu ∷ []) (controllers line.now) result }
+{
+    let first = fmmu_of(line, slave, fmmu);
+    let second = fmmu_of(line, slave, later_fmmu);
+    if !first.writes() {
+        return Ok(());
+    }
+    if !second.writes() {
+        return Ok(());
+    }
+    match lowest_shared_physical(&first, &second) {
+        None => Ok(()),
+        Some(bit) => Err(MapFault::TwiceWritten {
+            slave,
+            fmmu,
+            later_fmmu,
+            bit,
+        }),
+    }
+}

@@ -1,0 +1,4 @@
+pub mod Item
+pub mod Place
+pub mod Reach
+pub mod Share

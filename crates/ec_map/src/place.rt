@@ -1,0 +1,207 @@
+//! Where an addressed item may go.
+
+ghost use Rattle.std.specs.Prelude.{◌≡◌, ◌≤◌, ◌<◌, ℕ, true, List, OnOk, IfErr, MatchOption, length};
+ghost use Rattle.std.specs.List.{list_any};
+ghost use Rattle.ec_areas.specs.Records.{sync_managers_of};
+ghost use Rattle.ec_wire.specs.declared.datagram.TheConstants.{MAX_DATA};
+ghost use Rattle.ec_esc.specs.State.{ControllerState};
+ghost use Rattle.ec_check.specs.Fit.{IsFit};
+ghost use Rattle.ec_check.specs.Line.{controllers, controller_of, station_of};
+ghost use Rattle.ec_map.specs.Item.{ItemRecord};
+ghost use Rattle.ec_map.specs.Place.{station_named, ado_named, holds_run, is_input_run, is_output_run};
+ghost use Rattle.ec_map.specs.Place.{may_read, may_write, HasNoStation, IsFirstOfStation, IsPlaceFault};
+ghost use Rattle.ec_map.specs.Place.{IsPlaced};
+
+use crate::item::Item;
+use crate::kind::HALF;
+use ec_app::Slave;
+use ec_esc::Controller;
+use ec_line::Kind;
+use ec_regs::SyncMan;
+use ec_regs::registers::PROCESS_MEMORY;
+
+/// An addressed item that goes where a cycle may not. It names the slave, the first one of the item's
+/// station, and the item's ADO.
+#[derive(Clone, Copy, PartialEq, Eq, Debug)]
+pub enum PlaceFault {
+    /// A read lies neither in the registers nor in one active buffered area that the master reads.
+    OutsideRead {
+        /// The slave.
+        slave: usize,
+        /// The first address that is read.
+        address: u16,
+    },
+    /// A write does not lie in one active buffered area that the master writes.
+    OutsideWrite {
+        /// The slave.
+        slave: usize,
+        /// The first address that is written.
+        address: u16,
+    },
+}
+
+/// Does the item go where a cycle may? Logical items and broadcast reads always do, and so does one that is
+/// addressed to a station that is not on the line.
+pub fn check_item(line: &[Slave], item: &Item) -> Result<(), PlaceFault>
+    ensures accepted { OnOk result (IsPlaced (controllers line.now) item.now) }
+    ensures refused { IfErr result (IsPlaceFault (controllers line.now) item.now) }
+{
+    match item.kind() {
+        Kind::Fprd => check_read(line, item),
+        Kind::Fpwr => check_write(line, item),
+        Kind::Lrd | Kind::Lwr | Kind::Lrw | Kind::Brd => Ok(()),
+    }
+}
+
+/// May the addressed read go where it goes?
+fn check_read(line: &[Slave], item: &Item) -> Result<(), PlaceFault>
+    requires { item.now.kind ≡ Kind.Fprd }
+    ensures accepted { OnOk result (IsPlaced (controllers line.now) item.now) }
+    ensures refused { IfErr result (IsPlaceFault (controllers line.now) item.now) }
+{
+    let Some(slave) = first_of_station(line, station_named(item)) else {
+        return Ok(());
+    };
+    let address = ado_named(item);
+    if may_read(line[slave].controller(), address, item.len()) {
+        return Ok(());
+    }
+    Err(PlaceFault::OutsideRead { slave, address })
+}
+
+/// May the addressed write go where it goes?
+fn check_write(line: &[Slave], item: &Item) -> Result<(), PlaceFault>
+    requires { item.now.kind ≡ Kind.Fpwr }
+    ensures accepted { OnOk result (IsPlaced (controllers line.now) item.now) }
+    ensures refused { IfErr result (IsPlaceFault (controllers line.now) item.now) }
+{
+    let Some(slave) = first_of_station(line, station_named(item)) else {
+        return Ok(());
+    };
+    let address = ado_named(item);
+    if may_write(line[slave].controller(), address, item.len()) {
+        return Ok(());
+    }
+    Err(PlaceFault::OutsideWrite { slave, address })
+}
+
+/// The station that an addressed item names.
+pub(crate) fn station_named(item: &Item) -> u16
+    ensures { result ≡ station_named item.now }
+{
+    (item.address() % HALF) as u16
+}
+
+/// The first byte of the memory that it names.
+pub(crate) fn ado_named(item: &Item) -> u16
+    ensures { result ≡ ado_named item.now }
+{
+    (item.address() / HALF) as u16
+}
+
+/// The first slave with a station address.
+fn first_of_station(line: &[Slave], station: u16) -> Option<usize>
+    ensures { MatchOption result (HasNoStation (controllers line.now) station)
+        (IsFirstOfStation (controllers line.now) station) }
+{
+    for slave in 0..line.len() {
+        if line[slave].controller().station() == station {
+            return Some(slave);
+        }
+    }
+    None
+}
+
+/// All sync managers of a controller, by number.
+pub(crate) fn managers_of(controller: &Controller) -> [SyncMan; 8]
+    ensures { result ≡ sync_managers_of controller.now.memory }
+{
+    [
+        controller.syncman(0),
+        controller.syncman(1),
+        controller.syncman(2),
+        controller.syncman(3),
+        controller.syncman(4),
+        controller.syncman(5),
+        controller.syncman(6),
+        controller.syncman(7),
+    ]
+}
+
+/// May a cycle read that many bytes from an address on?
+fn may_read(controller: &Controller, from: u16, count: usize) -> bool
+    requires { count ≤ MAX_DATA }
+    ensures { result ≡ may_read controller.now from count }
+{
+    let to = usize::from(from) + count;
+    to <= usize::from(PROCESS_MEMORY) || lies_in_inputs(&managers_of(controller), from, count)
+}
+
+/// May it write them?
+fn may_write(controller: &Controller, from: u16, count: usize) -> bool
+    requires { count ≤ MAX_DATA }
+    ensures { result ≡ may_write controller.now from count }
+{
+    lies_in_outputs(&managers_of(controller), from, count)
+}
+
+/// Do they lie in one active buffered area that the master reads?
+fn lies_in_inputs(managers: &[SyncMan], from: u16, count: usize) -> bool
+    requires { count ≤ MAX_DATA }
+    ensures { result ≡ list_any (is_input_run from count) managers.now }
+{
+    managers
+        .iter()
+        .any(|manager| is_input_run(manager, from, count))
+}
+
+/// Do they lie in one active buffered area that the master writes?
+fn lies_in_outputs(managers: &[SyncMan], from: u16, count: usize) -> bool
+    requires { count ≤ MAX_DATA }
+    ensures { result ≡ list_any (is_output_run from count) managers.now }
+{
+    managers
+        .iter()
+        .any(|manager| is_output_run(manager, from, count))
+}
+
+/// Does the sync manager guard such an area that the master reads?
+fn is_input_run(manager: &SyncMan, from: u16, count: usize) -> bool
+    requires { count ≤ MAX_DATA }
+    ensures { result ≡ is_input_run from count manager.now }
+{
+    manager.is_active()
+        && manager.is_buffered()
+        && manager.master_reads()
+        && holds_run(manager, from, count)
+}
+
+/// Does it guard one that the master writes?
+fn is_output_run(manager: &SyncMan, from: u16, count: usize) -> bool
+    requires { count ≤ MAX_DATA }
+    ensures { result ≡ is_output_run from count manager.now }
+{
+    manager.is_active()
+        && manager.is_buffered()
+        && manager.master_writes()
+        && holds_run(manager, from, count)
+}
+
+/// Does its area hold that many bytes from an address on?
+fn holds_run(manager: &SyncMan, from: u16, count: usize) -> bool
+    requires { count ≤ MAX_DATA }
+    ensures { result ≡ holds_run manager.now from count }
+{
+    let end = usize::from(manager.start) + usize::from(manager.length);
+    manager.start <= from && usize::from(from) + count <= end
+}
+
+/// On a fit line an item that is accepted goes where a cycle may, at the slave of its station.
+pub fn placed_item()
+    ensures reads { (line : List ControllerState) (r : ItemRecord) (slave : ℕ) → IsFit line → IsPlaced line r
+        → r.kind ≡ Kind.Fprd → slave < length line → station_of line slave ≡ station_named r
+        → may_read (controller_of line slave) (ado_named r) (length r.payload) ≡ true }
+    ensures writes { (line : List ControllerState) (r : ItemRecord) (slave : ℕ) → IsFit line → IsPlaced line r
+        → r.kind ≡ Kind.Fpwr → slave < length line → station_of line slave ≡ station_named r
+        → may_write (controller_of line slave) (ado_named r) (length r.payload) ≡ true }
+{}

@@ -1,0 +1,6 @@
+//! Items, where they may go, and what a line adds to their counters.
+
+mod expected;
+mod items;
+mod line;
+mod places;
