@@ -1,0 +1,6 @@
+pub mod Links
+pub mod Reach
+pub mod Walk
+pub mod Ring
+pub mod Travel
+pub mod Lending

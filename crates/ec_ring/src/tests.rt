@@ -1,0 +1,8 @@
+//! Frames over lines of slaves with broken links, with the bytes written out by hand.
+
+mod breaks;
+mod by_hand;
+mod circulating;
+mod limit;
+mod line;
+mod weather;
