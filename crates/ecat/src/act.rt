@@ -1,5 +1,6 @@
 //! The commands over a source and two writers.
 
+use crate::check::check;
 use crate::run::run;
 use crate::show::show;
 use crate::vectors::vectors;
@@ -15,7 +16,7 @@ pub const GOOD: u8 = 0;
 /// The content was refused.
 pub const REFUSED: u8 = 1;
 
-/// The command is not there yet.
+/// The command, or what the scene asks of it, is not there yet.
 const UNUSABLE: u8 = 2;
 
 /// The source, the output or memory failed.
@@ -34,6 +35,12 @@ pub enum Failure {
     Capture(PcapFault),
     /// The output failed.
     Output,
+    /// A line has more slaves than a ring may; no scene does.
+    TooManySlaves,
+    /// A frame came back that is none of those sent; no ring makes one.
+    Stranger,
+    /// What is asked is not there yet.
+    NotThere,
 }
 
 impl From<io::Error> for Failure {
@@ -50,13 +57,11 @@ where
     V: Write,
 {
     let done = match args {
+        Args::Check { .. } => check(alloc, source, out),
         Args::Run { .. } => run(alloc, source, out),
         Args::Show { .. } => show(alloc, source, out),
         Args::Vectors => vectors(alloc, out),
-        Args::Check { .. } | Args::Sdo { .. } | Args::Udp { .. } => {
-            let _ = err.write_all(b"this command is not there yet\n");
-            return UNUSABLE;
-        }
+        Args::Sdo { .. } | Args::Udp { .. } => Err(Failure::NotThere),
     };
     match done {
         Ok(status) => status,
@@ -72,11 +77,17 @@ fn report<W: Write, V: Write>(failure: &Failure, out: &mut W, err: &mut V) -> u8
             err,
             b"scene: NoMemory\n",
         ),
+        Failure::NotThere => {
+            let _ = err.write_all(b"this command is not there yet\n");
+            UNUSABLE
+        }
         Failure::Read => failed(err, b"file: Read\n"),
         Failure::Output => failed(err, b"output: Write\n"),
         Failure::Capture(PcapFault::Read) => failed(err, b"capture: Read\n"),
         Failure::Capture(PcapFault::NoMemory) => failed(err, b"capture: NoMemory\n"),
         Failure::Scene(fault) => refused(writeln!(out, "scene: {fault}"), err),
+        Failure::TooManySlaves => refused(writeln!(out, "scene: TooMany"), err),
+        Failure::Stranger => refused(writeln!(out, "cycle: Stranger"), err),
         Failure::Capture(fault) => refused(writeln!(out, "capture: {fault}"), err),
     }
 }

@@ -2,7 +2,9 @@
 #![tactic(auto)]
 
 mod act;
-mod pass;
+mod carry;
+mod check;
+mod line;
 mod print;
 mod run;
 mod show;

@@ -1,70 +1,61 @@
-//! `ecat run`: the actions of a scene, and what its slave shows then.
+//! `ecat run`: the actions of a scene, and what its slaves show then.
 
 use crate::act::{Failure, GOOD};
+use crate::carry::carry;
+use crate::line::{ring_of, scene_of};
 use crate::print::Lines;
-use ec_esc::{Controller, is_active, is_buffered, master_writes};
-use ecat_scene::{MAX_TEXT, Scene, SceneFault, SceneSlave, Setting};
-use ecat_source::{ReadAllFault, Source, read_all};
+use ec_app::Slave;
+use ec_ring::Ring;
+use ecat_scene::Action;
+use ecat_source::Source;
 use std::alloc::Global;
 use std::io::{self, Write};
 
-/// Reads the scene of a source.
-fn scene_of<S: Source>(alloc: Global, source: &mut S) -> Result<Scene, Failure> {
-    let text = match read_all(alloc, source, MAX_TEXT) {
-        Ok(text) => text,
-        Err(ReadAllFault::TooLong) => return Err(Failure::Scene(SceneFault::TooLong)),
-        Err(ReadAllFault::Read) => return Err(Failure::Read),
-        Err(ReadAllFault::NoMemory) => return Err(Failure::NoMemory),
-    };
-    match Scene::read(alloc, text.as_slice()) {
-        Ok(scene) => Ok(scene),
-        Err(fault) => Err(Failure::Scene(fault)),
-    }
-}
-
-/// The controller that a slave of the scene describes.
-fn controller_of(alloc: Global, slave: &SceneSlave) -> Result<Controller, Failure> {
-    let Ok(mut controller) = Controller::new(alloc, slave.station) else {
-        return Err(Failure::NoMemory);
-    };
-    for setting in &slave.settings {
-        match setting {
-            Setting::SyncMan(manager) => controller.set_syncman(manager.index, &manager.record),
-            Setting::Fmmu(fmmu) => controller.set_fmmu(fmmu.index, &fmmu.record),
-            Setting::Load(load) => controller.load(load.address, load.bytes.as_slice()),
-        }
-    }
-    Ok(controller)
-}
-
-/// Runs the scene that the source holds.
+/// Runs the scene that the source holds: its frames and steps in their order, then a line for each active buffered area
+/// that the master writes. A scene with items wants a cycle, which is not there yet.
 pub fn run<S: Source, W: Write>(alloc: Global, source: &mut S, out: &mut W) -> Result<u8, Failure> {
-    let mut scene = scene_of(alloc, source)?;
-    let mut controller = match scene.slaves.first() {
-        Some(slave) => Some(controller_of(alloc, slave)?),
-        None => None,
-    };
-    let mut lines = Lines::new(out);
-    for frame in scene.frames.iter_mut() {
-        if let Some(controller) = &mut controller {
-            controller.process(frame);
-        }
-        lines.bytes(b"frame ")?;
-        lines.hex(frame.bytes())?;
-        lines.end()?;
+    let scene = scene_of(alloc, source)?;
+    if !scene.items.is_empty() {
+        return Err(Failure::NotThere);
     }
-    if let Some(controller) = &controller {
-        areas(controller, &mut lines)?;
+    let mut ring = ring_of(alloc, scene.slaves, scene.links_down.as_slice())?;
+    let mut lines = Lines::new(out);
+    for action in &scene.actions {
+        act_on(&mut ring, action, &mut lines)?;
+    }
+    for (number, slave) in ring.slaves().iter().enumerate() {
+        areas(number, slave, &mut lines)?;
     }
     Ok(GOOD)
 }
 
-/// The line of each active buffered area that the master writes.
-fn areas<W: Write>(controller: &Controller, lines: &mut Lines<'_, W>) -> io::Result<()> {
-    for number in 0..8usize {
-        let manager = controller.syncman(number);
-        if is_active(&manager) && is_buffered(&manager) && master_writes(&manager) {
-            lines.text(format_args!("slave 0 sm {number} open "))?;
+/// Does one action, and prints the frame that it carries.
+fn act_on<W: Write>(
+    ring: &mut Ring,
+    action: &Action,
+    lines: &mut Lines<'_, W>,
+) -> Result<(), Failure> {
+    match action {
+        Action::Step => ring.step_all(),
+        Action::Frame(sent) => {
+            let Ok(joined) = carry(ring, sent) else {
+                return Err(Failure::Stranger);
+            };
+            lines.bytes(b"frame ")?;
+            lines.hex(joined.bytes())?;
+            lines.end()?;
+        }
+    }
+    Ok(())
+}
+
+/// The line of each active buffered area of a slave that the master writes.
+fn areas<W: Write>(number: usize, slave: &Slave, lines: &mut Lines<'_, W>) -> io::Result<()> {
+    let controller = slave.controller();
+    for index in 0..8usize {
+        let manager = controller.syncman(index);
+        if manager.guards_outputs() {
+            lines.text(format_args!("slave {number} sm {index} open "))?;
             lines.hex(controller.bytes(manager.start, manager.length))?;
             lines.text(" shown ")?;
             lines.hex(controller.shown_bytes(manager.start, manager.length))?;

@@ -3,7 +3,7 @@ ghost use Rattle.std.specs.Prelude.{◌<◌, length};
 
 use crate::act::{Failure, GOOD, REFUSED};
 use crate::print::Lines;
-use ec_wire::{Command, FaultKind, Form, FrameBuf};
+use ec_wire::{Addressing, FaultKind, Form, FrameBuf};
 use ecat_source::{Pcap, Source};
 use std::alloc::Global;
 use std::fmt;
@@ -81,7 +81,7 @@ fn frame_lines<W: Write>(frame: &FrameBuf, lines: &mut Lines<'_, W>) -> io::Resu
 fn datagram_line<W: Write>(frame: &FrameBuf, k: usize, lines: &mut Lines<'_, W>) -> io::Result<()>
     requires { k < length frame.now }
 {
-    let name = Name(frame.command(k));
+    let name = frame.command(k).name();
     let index = frame.index(k);
     let address = frame.address(k);
     let data = frame.data(k);
@@ -89,11 +89,11 @@ fn datagram_line<W: Write>(frame: &FrameBuf, k: usize, lines: &mut Lines<'_, W>)
     let irq = frame.irq(k);
     let counter = frame.counter(k);
     lines.text(format_args!("  {name} index {index} "))?;
-    if is_logical(frame.command(k)) {
+    if frame.command(k).addressing() == Addressing::Logical {
         lines.text(format_args!("log {address:08x}"))?;
     } else {
-        let adp = address % 0x1_0000;
-        let ado = address / 0x1_0000;
+        let adp = frame.adp(k);
+        let ado = frame.ado(k);
         lines.text(format_args!("adp {adp:04x} ado {ado:04x}"))?;
     }
     lines.text(format_args!(" length {length} irq {irq:04x} counter {counter} data "))?;
@@ -105,37 +105,6 @@ fn datagram_line<W: Write>(frame: &FrameBuf, k: usize, lines: &mut Lines<'_, W>)
         lines.bytes(b" circulating")?;
     }
     lines.line()
-}
-
-/// Whether a command has a logical address.
-fn is_logical(command: Command) -> bool {
-    matches!(command, Command::Lrd | Command::Lwr | Command::Lrw)
-}
-
-/// A command by its name in the standard.
-#[derive(Drop)]
-struct Name(Command);
-
-impl fmt::Display for Name {
-    fn fmt<W: fmt::Write>(&self, f: &mut fmt::Formatter<W>) -> fmt::Result {
-        f.write_str(match self.0 {
-            Command::Nop => "NOP",
-            Command::Aprd => "APRD",
-            Command::Apwr => "APWR",
-            Command::Aprw => "APRW",
-            Command::Fprd => "FPRD",
-            Command::Fpwr => "FPWR",
-            Command::Fprw => "FPRW",
-            Command::Brd => "BRD",
-            Command::Bwr => "BWR",
-            Command::Brw => "BRW",
-            Command::Lrd => "LRD",
-            Command::Lwr => "LWR",
-            Command::Lrw => "LRW",
-            Command::Armw => "ARMW",
-            Command::Frmw => "FRMW",
-        })
-    }
 }
 
 /// The kind of a fault by its name.

@@ -1,6 +1,8 @@
 //! What the commands print and answer, over bytes in place. A test accepts want of memory as an answer, so
 //! that each allocation can be made to fail in turn.
 
+mod checking;
+mod rings;
 mod running;
 mod showing;
 mod worked;
@@ -20,8 +22,8 @@ fn written(cursor: &Cursor<[u8; ROOM]>) -> &[u8] {
     &cursor.get_ref()[..count]
 }
 
-/// Does a command over a source, and asserts what it prints and answers, or that memory ran out, which a scene's
-/// run meets before it prints anything.
+/// Does a command over a source, and asserts what it prints and answers, or that memory ran out, which a
+/// scene's run meets before it prints anything.
 fn answers<S: Source>(
     rt: &(impl AllocGlobal + Abort),
     args: &Args<'_>,

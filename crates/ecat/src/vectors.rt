@@ -1,10 +1,11 @@
 //! `ecat vectors`: the worked rows of the frame format, really run.
 
 use crate::act::{Failure, GOOD, REFUSED};
-use crate::pass::pass_bytes;
+use crate::carry::carry;
 use crate::print::Lines;
 use arrayvec::ArrayVec;
-use ec_esc::Controller;
+use ec_app::{Objects, Slave};
+use ec_ring::Ring;
 use ec_wire::{Command, Datagram, FaultKind, Form, FrameBuf, MAX_DATA, MAX_DATAGRAMS, WireFault};
 use std::alloc::Global;
 use std::io::Write;
@@ -50,12 +51,22 @@ pub fn vectors<W: Write>(alloc: Global, out: &mut W) -> Result<u8, Failure> {
     Ok(status)
 }
 
-/// A controller that maps nothing leaves a logical read as it is.
+/// A slave that maps nothing leaves a logical read as it is.
 fn unmapped_read_is_unchanged(alloc: Global) -> Result<bool, Failure> {
-    let Ok(mut controller) = Controller::new(alloc, 0x1001) else {
+    let Ok(slave) = Slave::new(alloc, 0x1001, Objects::new(), 0, 0) else {
         return Err(Failure::NoMemory);
     };
-    match pass_bytes(&mut controller, &UNMAPPED_READ) {
+    let mut slaves = Vec::new(alloc);
+    if slaves.push(slave).is_err() {
+        return Err(Failure::NoMemory);
+    }
+    let Ok(mut ring) = Ring::new(slaves) else {
+        return Err(Failure::TooManySlaves);
+    };
+    let Ok(sent) = FrameBuf::read(&UNMAPPED_READ, Form::Ethernet) else {
+        return Ok(false);
+    };
+    match carry(&mut ring, &sent) {
         Ok(frame) => Ok(frame.bytes() == UNMAPPED_READ.as_slice()),
         Err(_) => Ok(false),
     }

@@ -2,8 +2,10 @@
 ghost use Rattle.std.specs.Prelude.{◌+◌, ◌<◌, ◌≤◌, ◌↔◌, ◌≡◌, length, vec_len, Err};
 
 use crate::fault::SceneFault;
-use crate::line::Reader;
-use ec_regs::{Fmmu, SyncMan};
+use crate::reader::Reader;
+use ec_app::Objects;
+use ec_map::Item;
+use ec_regs::{AlState, Fmmu, SyncMan};
 use ec_wire::FrameBuf;
 use std::alloc::Global;
 
@@ -11,10 +13,16 @@ use std::alloc::Global;
 pub const MAX_TEXT: usize = 65_536;
 
 /// The most slaves of a scene.
-pub const MAX_SLAVES: usize = 1;
+pub const MAX_SLAVES: usize = 256;
 
 /// The most actions of a scene.
-pub const MAX_FRAMES: usize = 32;
+pub const MAX_ACTIONS: usize = 32;
+
+/// The most items of a scene.
+pub const MAX_ITEMS: usize = 32;
+
+/// The most weathers of a scene.
+pub const MAX_WEATHERS: usize = 32;
 
 /// The record of one sync manager.
 #[derive(Debug, Drop)]
@@ -47,7 +55,7 @@ pub struct Load {
     ghost to: { address + vec_len bytes ≤ 0x3000 },
 }
 
-/// One line that sets up a slave.
+/// One line that sets up a slave's controller.
 #[derive(Debug, Drop)]
 pub enum Setting {
     /// `sm`: a sync manager.
@@ -58,13 +66,46 @@ pub enum Setting {
     Load(Load),
 }
 
-/// One slave of the line, with its settings in the order of their lines.
-#[derive(Debug, Drop)]
+/// One slave of the line.
+#[derive(Drop)]
 pub struct SceneSlave {
     /// The station address.
     pub station: u16,
-    /// What is set up, in order; a later setting of the same sync manager or FMMU replaces the earlier.
+    /// The state that it is in; Init where no line says another.
+    pub state: AlState,
+    /// How many bytes of outputs its application takes.
+    pub output_length: u16,
+    /// How many bytes of inputs its application gives.
+    pub input_length: u16,
+    /// What is set up in its controller, in the order of the lines; a later setting of the same sync
+    /// manager or FMMU replaces the earlier.
     pub settings: Vec<Setting>,
+    /// Its objects, in the order of their lines.
+    pub objects: Objects,
+}
+
+/// What is done with the line before its cycle.
+#[derive(Drop)]
+pub enum Action {
+    /// `frame`: a frame makes a trip.
+    Frame(FrameBuf),
+    /// `step`: every slave steps once.
+    Step,
+}
+
+/// What the two copies of one frame meet on their way.
+#[derive(Drop)]
+pub struct SceneWeather {
+    /// The links that are down for the copy of master port A, each at most the number of slaves.
+    pub down_for_a: Vec<u64>,
+    /// The links that are down for the copy of master port B, each at most the number of slaves.
+    pub down_for_b: Vec<u64>,
+    /// Is the copy of port A lost?
+    pub lost_a: bool,
+    /// Is the copy of port B lost?
+    pub lost_b: bool,
+    /// Does each slave take the copy of port B first?
+    pub b_first: bool,
 }
 
 /// A line of slaves and what is done with it.
@@ -72,15 +113,22 @@ pub struct SceneSlave {
 pub struct Scene {
     /// The slaves, from master port A to port B.
     pub slaves: Vec<SceneSlave>,
-    /// The frames that make a trip each, in order.
-    pub frames: Vec<FrameBuf>,
+    /// The links that are down, each at most the number of slaves: link 0 leads to port A.
+    pub links_down: Vec<u64>,
+    /// The frames and steps, in their order.
+    pub actions: Vec<Action>,
+    /// What the master asks in its cycle.
+    pub items: Vec<Item>,
+    /// What the frames of the cycle meet, in their order; where there is none, only `links_down`.
+    pub weathers: Vec<SceneWeather>,
 }
 
 impl Scene {
     ghost use Rattle.ecat_scene.specs.declared.fault.SceneFault.TheVariants.{TooLong};
 
     /// The scene that the text describes, or its first fault from the top. Lines are what LF
-    /// separates; an empty one and one that begins with `#` are skipped.
+    /// separates; an empty one and one that begins with `#` are skipped. The numbers of links are
+    /// judged when all lines stand.
     pub fn read(alloc: Global, text: &[u8]) -> Result<Scene, SceneFault>
         ensures { (result ≡ Err TooLong) ↔ (MAX_TEXT < length text.now) }
     {

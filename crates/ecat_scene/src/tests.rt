@@ -1,9 +1,13 @@
 //! Scenes that are taken, and each fault with its line. A test accepts want of memory as an answer, so
 //! that each allocation can be made to fail in turn.
 
-use crate::{LineFault, MAX_TEXT, Scene, SceneFault, Setting};
+use crate::{Action, LineFault, MAX_TEXT, Scene, SceneFault, Setting};
 use ec_regs::{Fmmu, SyncMan};
 use std::process::Abort;
+
+mod faults;
+mod slaves;
+mod works;
 
 const FIRST: &[u8] =
     b"slave 0x1001\nsm 3 0x1100 1 read\nfmmu 0 0x10000 1 0 7 0x1100 0 read\nmem 0x1100 12\nframe 0d100a000000010001000000000000";
@@ -68,11 +72,13 @@ fn the_first_scene_is_taken_as_it_stands(rt: HostRuntime) {
     assert_eq!(rt; fmmu.record, read);
     assert_eq!(rt; load.address, 0x1100);
     assert_eq!(rt; load.bytes.as_slice(), [0x12].as_slice());
-    assert_eq!(rt; scene.frames.len(), 1);
     let wanted = [
         0x0d, 0x10, 0x0a, 0x00, 0x00, 0x00, 0x01, 0x00, 0x01, 0x00, 0x00, 0x00, 0x00, 0x00, 0x00,
     ];
-    assert_eq!(rt; scene.frames[0].bytes(), wanted.as_slice());
+    let [Action::Frame(frame)] = scene.actions.as_slice() else {
+        panic!(rt; "one frame");
+    };
+    assert_eq!(rt; frame.bytes(), wanted.as_slice());
 }
 
 #[test]
@@ -84,7 +90,7 @@ fn comments_blank_lines_and_spaces_are_nothing(rt: HostRuntime) {
     }
     if let Some(scene) = taken(&rt, b"") {
         assert_eq!(rt; scene.slaves.len(), 0);
-        assert_eq!(rt; scene.frames.len(), 0);
+        assert_eq!(rt; scene.actions.len(), 0);
     }
 }
 
@@ -123,7 +129,7 @@ fn bytes_that_are_no_text_come_first(rt: HostRuntime) {
 #[test]
 fn unknown_words_are_refused(rt: HostRuntime) {
     assert!(rt; refused(&rt, b"\nslaves 1 2 3", 2, LineFault::UnknownWord));
-    assert!(rt; refused(&rt, b"link 0 down", 1, LineFault::UnknownWord));
+    assert!(rt; refused(&rt, b"links 0 down", 1, LineFault::UnknownWord));
     assert!(rt; refused(&rt, b"SLAVE 1", 1, LineFault::UnknownWord));
 }
 
@@ -234,22 +240,22 @@ fn values_lie_in_their_range(rt: HostRuntime) {
 }
 
 #[test]
-fn a_second_slave_is_too_many(rt: HostRuntime) {
-    assert!(rt; refused(&rt, b"slave 1\nslave 2", 2, LineFault::TooMany));
-    assert!(rt; refused(&rt, b"slave 1\nslave 65536", 2, LineFault::OutOfRange));
-}
-
-#[test]
 fn actions_are_32_at_most(rt: HostRuntime) {
     let mut text = [b'\n'; 32 * 44 + 8];
     for k in 0..32usize {
         text[44 * k..44 * k + 39].copy_from_slice(b"frame 0e100701000030010200000000000000\n");
     }
     if let Some(scene) = taken(&rt, &text) {
-        assert_eq!(rt; scene.frames.len(), 32);
+        assert_eq!(rt; scene.actions.len(), 32);
     }
     text[32 * 44..].copy_from_slice(b"frame 00");
     assert!(rt; refused(&rt, &text, 193, LineFault::TooMany));
+    text[32 * 44..].copy_from_slice(b"frame 0g");
+    assert!(rt; refused(&rt, &text, 193, LineFault::BadNumber));
+    text[32 * 44..].copy_from_slice(b"step\n\n\n\n");
+    assert!(rt; refused(&rt, &text, 193, LineFault::TooMany));
+    text[32 * 44..].copy_from_slice(b"step 1\n\n");
+    assert!(rt; refused(&rt, &text, 193, LineFault::WrongCount));
 }
 
 #[test]
@@ -259,8 +265,10 @@ fn a_frame_line_is_a_frame(rt: HostRuntime) {
         b"slave 0x1001\nsm 3 0x1100 1 read\nfmmu 0 0x10000 1 0 7 0x1100 0 read\nmem 0x1100 12\nframe 0d10";
     assert!(rt; refused(&rt, text, 5, LineFault::BadFrame));
     if let Some(scene) = taken(&rt, b"frame 0E100701000030010200000000000000ffff") {
-        assert_eq!(rt; scene.frames.len(), 1);
-        assert_eq!(rt; scene.frames[0].bytes().len(), 16);
+        let [Action::Frame(frame)] = scene.actions.as_slice() else {
+            panic!(rt; "one frame");
+        };
+        assert_eq!(rt; frame.bytes().len(), 16);
     }
 }
 

@@ -3,11 +3,13 @@ use Rattle.std.specs.Prelude.{ℕ, ◌+◌, ◌<◌, ◌≤◌, ◌⊎◌, List,
 use Rattle.std.specs.Io.KnownBytes.{Consumes, IsAtEnd}
 use Rattle.ecat_source.specs.Source.{CanFail}
 use Rattle.ecat_source.specs.Input.{Input}
-use Rattle.ecat_source.specs.Capture.{HasMagic, HasVersion, HasLinkType, stored_length, header_length, head_length, greatest_packet}
+use Rattle.ecat_source.specs.Capture.{HasMagic, HasVersion, HasLinkType, stored_length, header_length}
+use Rattle.ecat_source.specs.Capture.{head_length, greatest_packet}
 use Rattle.ecat_source.specs.declared.buffer.InputFault.{InputFault}
 use Rattle.ecat_source.specs.declared.buffer.InputFault.TheVariants as input
 use Rattle.ecat_source.specs.declared.capture.PcapFault.{PcapFault}
-use Rattle.ecat_source.specs.declared.capture.PcapFault.TheVariants.{Short, NotPcap, Version, LinkType, TooLong, Read, NoMemory, Failed}
+use Rattle.ecat_source.specs.declared.capture.PcapFault.TheVariants.{Short, NotPcap, Version, LinkType}
+use Rattle.ecat_source.specs.declared.capture.PcapFault.TheVariants.{TooLong, Read, NoMemory, Failed}
 
 -- The bytes don't begin with a header: they end inside it, or else the first of the tests fails.
 abbrev pub HeaderIsRefused : List ℕ → PcapFault → Type 0

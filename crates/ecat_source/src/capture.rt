@@ -2,7 +2,8 @@
 ghost use Rattle.std.specs.Prelude.{◌≡◌, ◌≤◌, List, ℕ, Err, IfErr, IfOk, IfSome, None, Ok, OnOk, length};
 ghost use Rattle.std.specs.Io.KnownBytes.{Consumes};
 ghost use Rattle.ecat_source.specs.Capture.{IsHeader, IsRecord, header_length};
-ghost use Rattle.ecat_source.specs.Faults.{EndsWithin, Ends, Explains, HeaderIsRefused, RecordIsRefused, Takes};
+ghost use Rattle.ecat_source.specs.Faults.{EndsWithin, Ends, Explains, HeaderIsRefused, RecordIsRefused};
+ghost use Rattle.ecat_source.specs.Faults.{Takes};
 ghost use Rattle.ecat_source.specs.Progress.{Blames, EndsAt, EndsBehindHeader, GivesFirst, HasAhead};
 ghost use Rattle.ecat_source.specs.Progress.{IsNext, IsRefused, stage_after};
 ghost use Rattle.ecat_source.specs.Source.{CanFail};
@@ -64,8 +65,8 @@ pub(crate) enum Stage {
 
 /// The packets of a capture, one after another.
 ///
-/// The file is read through a buffer of 64 KiB, which the first call of `next` allocates. Beside that only one
-/// packet is held at a time, so a capture of any length takes the same memory.
+/// The file is read through a buffer of 64 KiB, which the first call of `next` allocates. Beside that only
+/// one packet is held at a time, so a capture of any length takes the same memory.
 #[derive(Drop)]
 pub struct Pcap<S: Source> {
     alloc: Global,
@@ -102,8 +103,8 @@ impl<S: Source> Pcap<S> {
         self.input.failures()
     }
 
-    /// The next packet, or `None` where the capture ends in front of a record, and from then on. The first call
-    /// takes the header too. After a fault every further call fails.
+    /// The next packet, or `None` where the capture ends in front of a record, and from then on. The first
+    /// call takes the header too. After a fault every further call fails.
     pub fn next(&mut self) -> Result<Option<Packet>, PcapFault>
         ensures stage { self.new.stage ≡ stage_after result }
         ensures monotone { self.old.input.count ≤ self.new.input.count }

@@ -12,13 +12,12 @@ fn all_worked_rows_are_ok(rt: HostRuntime) {
 
 #[test]
 fn a_command_that_is_not_there_says_so(rt: HostRuntime) {
-    let check = Args::Check { scene: "s" };
-    answers(
-        &rt,
-        &check,
-        &mut Bytes::new(b""),
-        2,
-        b"",
-        b"this command is not there yet\n",
-    );
+    let udp = Args::Udp {
+        scene: "s",
+        port: 34_980,
+    };
+    let said = b"this command is not there yet\n";
+    answers(&rt, &udp, &mut Bytes::new(b""), 2, b"", said);
+    let run = Args::Run { scene: "s" };
+    answers(&rt, &run, &mut Bytes::new(b"lrd 0 00\n"), 2, b"", said);
 }

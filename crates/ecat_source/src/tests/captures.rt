@@ -226,7 +226,8 @@ fn empty_packet_is_a_packet(rt: HostRuntime) {
     expect_end(&rt, pcap.next());
 }
 
-// Run with an allocation that is refused, too: then the call that wanted it says so, and every later one fails.
+// Run with an allocation that is refused, too: then the call that wanted it says so, and every later one
+// fails.
 #[test]
 fn want_of_memory_is_told(rt: HostRuntime) {
     let mut pcap = Pcap::new(rt.alloc(), Bytes::new(&CAPTURE));

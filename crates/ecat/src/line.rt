@@ -1,0 +1,89 @@
+//! The line of slaves that a scene describes, and the ring of them.
+
+use crate::act::Failure;
+use ec_app::Slave;
+use ec_esc::Controller;
+use ec_ring::Ring;
+use ecat_scene::{MAX_TEXT, Scene, SceneFault, SceneSlave, Setting};
+use ecat_source::{ReadAllFault, Source, read_all};
+use std::alloc::Global;
+
+/// Reads the scene of a source.
+pub fn scene_of<S: Source>(alloc: Global, source: &mut S) -> Result<Scene, Failure> {
+    let text = match read_all(alloc, source, MAX_TEXT) {
+        Ok(text) => text,
+        Err(ReadAllFault::TooLong) => return Err(Failure::Scene(SceneFault::TooLong)),
+        Err(ReadAllFault::Read) => return Err(Failure::Read),
+        Err(ReadAllFault::NoMemory) => return Err(Failure::NoMemory),
+    };
+    match Scene::read(alloc, text.as_slice()) {
+        Ok(scene) => Ok(scene),
+        Err(fault) => Err(Failure::Scene(fault)),
+    }
+}
+
+/// Sets up a controller, line by line.
+fn set_up(controller: &mut Controller, settings: &[Setting]) {
+    for setting in settings {
+        match setting {
+            Setting::SyncMan(manager) => controller.set_syncman(manager.index, &manager.record),
+            Setting::Fmmu(fmmu) => controller.set_fmmu(fmmu.index, &fmmu.record),
+            Setting::Load(load) => controller.load(load.address, load.bytes.as_slice()),
+        }
+    }
+}
+
+/// The slave that a scene describes.
+fn slave_of(alloc: Global, described: SceneSlave) -> Result<Slave, Failure> {
+    let SceneSlave {
+        station,
+        state,
+        output_length,
+        input_length,
+        settings,
+        objects,
+    } = described;
+    let Ok(mut slave) = Slave::new(alloc, station, objects, output_length, input_length) else {
+        return Err(Failure::NoMemory);
+    };
+    set_up(slave.controller_mut(), settings.as_slice());
+    slave.set_state(state);
+    Ok(slave)
+}
+
+/// The slaves that a scene describes, from master port A to port B.
+pub fn slaves_of(alloc: Global, described: Vec<SceneSlave>) -> Result<Vec<Slave>, Failure> {
+    let mut slaves = Vec::new(alloc);
+    for one in described {
+        let slave = slave_of(alloc, one)?;
+        if slaves.push(slave).is_err() {
+            return Err(Failure::NoMemory);
+        }
+    }
+    Ok(slaves)
+}
+
+/// The ring of them, with the links down that the scene names.
+pub fn ring_of(
+    alloc: Global,
+    described: Vec<SceneSlave>,
+    links_down: &[u64],
+) -> Result<Ring, Failure> {
+    let slaves = slaves_of(alloc, described)?;
+    let Ok(mut ring) = Ring::new(slaves) else {
+        return Err(Failure::TooManySlaves);
+    };
+    for link in links_down {
+        put_down(&mut ring, *link);
+    }
+    Ok(ring)
+}
+
+/// Puts a link down, if the ring has it.
+fn put_down(ring: &mut Ring, link: u64) {
+    let last = ring.slaves().len();
+    let link = link as usize;
+    if link <= last {
+        ring.set_link(link, false);
+    }
+}

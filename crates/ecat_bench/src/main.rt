@@ -1,0 +1,199 @@
+#![tactic(auto)]
+//! The works of the benchmark on this side: what `bench/run` compares with a peer in plain Rust.
+//!
+//! With no argument it lists the works. With the argument `measure` it prints a line for each: its name and
+//! the picoseconds of one run, the best of many.
+
+ghost use Rattle.std.specs.Prelude.{◌≡◌, length};
+
+use ec_esc::Controller;
+use ec_merge::join_bytes;
+use ec_regs::{Fmmu, SyncMan};
+use ec_wire::{Form, FrameBuf};
+use std::process::ExitCode;
+use std::rt::{Clock, Env};
+use std::time::Instant;
+use std::{env, io};
+
+/// How often a work runs between two looks at the clock.
+const RUNS: u32 = 1000;
+
+/// How often its time is taken.
+const ROUNDS: u32 = 20;
+
+/// The works, by name.
+const WORKS: [&str; 6] = [
+    "read_1",
+    "read_124",
+    "lrw_1486_aligned",
+    "lrd_1486_odd",
+    "brd_1486",
+    "join_1486",
+];
+
+fn main(rt: HostRuntime) -> ExitCode {
+    match start(&rt, &mut rt.stdout()) {
+        Ok(()) => ExitCode::from(0),
+        Err(_) => ExitCode::from(1),
+    }
+}
+
+/// Lists the works, or measures them where an argument is given.
+fn start<R, W>(rt: &R, out: &mut W) -> io::Result<()>
+where
+    R: Env + Clock + AllocGlobal,
+    W: io::Write,
+{
+    if env::args(rt)?.len() < 2 {
+        for name in WORKS {
+            writeln!(out, "{name}")?;
+        }
+        return Ok(());
+    }
+    let lrw = one(0x0C, 0x0001_0000);
+    writeln!(out, "read_1 {}", reading(rt, &lrw)?)?;
+    writeln!(out, "read_124 {}", reading(rt, &many())?)?;
+    let Ok(mut slave) = Controller::new(rt.alloc(), 0x1001) else {
+        return Ok(());
+    };
+    map_whole_bytes(&mut slave);
+    writeln!(out, "lrw_1486_aligned {}", passing(rt, &mut slave, &lrw)?)?;
+    let Ok(mut slave) = Controller::new(rt.alloc(), 0x1001) else {
+        return Ok(());
+    };
+    map_odd_bits(&mut slave);
+    let lrd = one(0x0A, 0x0001_0000);
+    writeln!(out, "lrd_1486_odd {}", passing(rt, &mut slave, &lrd)?)?;
+    let brd = one(0x07, 0x0130_0000);
+    writeln!(out, "brd_1486 {}", passing(rt, &mut slave, &brd)?)?;
+    writeln!(out, "join_1486 {}", joining(rt)?)?;
+    Ok(())
+}
+
+/// Eight FMMUs of 185 whole bytes each, by turns for reading and for writing, and the areas onto which they
+/// map.
+fn map_whole_bytes(slave: &mut Controller) {
+    for k in 0..8usize {
+        let area = 0x1000 + 185 * k as u16;
+        let is_output = k % 2 == 1;
+        let fmmu = Fmmu {
+            logical: 0x0001_0000 + 185 * k as u32,
+            length: 185,
+            start: 0,
+            stop: 7,
+            physical: area,
+            bit: 0,
+            kind: if is_output { 2 } else { 1 },
+            activate: 1,
+            reserved: [0; 3],
+        };
+        slave.set_fmmu(k, &fmmu);
+        let manager = SyncMan {
+            start: area,
+            length: 185,
+            control: if is_output { 0x04 } else { 0x00 },
+            status: 0,
+            activate: 1,
+            pdi: 0,
+        };
+        slave.set_syncman(k, &manager);
+    }
+}
+
+/// Eight FMMUs for reading, each from bit 3 of one of 185 bytes to bit 4 of the last, onto bits from bit 5
+/// on.
+fn map_odd_bits(slave: &mut Controller) {
+    for k in 0..8usize {
+        let fmmu = Fmmu {
+            logical: 0x0001_0000 + 185 * k as u32,
+            length: 185,
+            start: 3,
+            stop: 4,
+            physical: 0x1000 + 186 * k as u16,
+            bit: 5,
+            kind: 1,
+            activate: 1,
+            reserved: [0; 3],
+        };
+        slave.set_fmmu(k, &fmmu);
+    }
+}
+
+/// A frame of one datagram with 1,486 bytes of data.
+fn one(command: u8, address: u32) -> [u8; 1500] {
+    let mut bytes = [0; 1500];
+    bytes[0] = 0xDA;
+    bytes[1] = 0x15;
+    bytes[2] = command;
+    bytes[4..8].copy_from_slice(&address.to_le_bytes());
+    bytes[8] = 0xCE;
+    bytes[9] = 0x05;
+    bytes
+}
+
+/// A frame of 124 datagrams with no data.
+fn many() -> [u8; 1490] {
+    let mut bytes = [0; 1490];
+    for k in 0..123usize {
+        bytes[12 * k + 9] = 0x80;
+    }
+    bytes[0] = 0xD0;
+    bytes[1] = 0x15;
+    bytes
+}
+
+/// The picoseconds of reading a frame's bytes.
+fn reading(rt: &impl Clock, bytes: &[u8]) -> io::Result<u64> {
+    let mut best = u64::MAX;
+    for _round in 0..ROUNDS {
+        let start = Instant::now(rt)?;
+        let mut seen = 0;
+        for _run in 0..RUNS {
+            if let Ok(frame) = FrameBuf::read(bytes, Form::Udp) {
+                seen ^= u16::from(frame.bytes().last().copied().unwrap_or(0));
+            }
+        }
+        best = best.min(picoseconds(start.elapsed(rt)?.subsec_nanos(), seen));
+    }
+    Ok(best)
+}
+
+/// The picoseconds of one run where all took some nanoseconds; what the runs have seen counts for nothing.
+fn picoseconds(nanoseconds: u32, seen: u16) -> u64 {
+    u64::from(nanoseconds) * 1000 / u64::from(RUNS) + u64::from(seen) / 0x1_0000
+}
+
+/// The picoseconds of one frame's pass through a controller.
+fn passing(rt: &impl Clock, slave: &mut Controller, bytes: &[u8]) -> io::Result<u64> {
+    let Ok(mut frame) = FrameBuf::read(bytes, Form::Udp) else {
+        return Ok(0);
+    };
+    let mut best = u64::MAX;
+    for _round in 0..ROUNDS {
+        let start = Instant::now(rt)?;
+        for _run in 0..RUNS {
+            slave.process(&mut frame);
+        }
+        best = best.min(picoseconds(
+            start.elapsed(rt)?.subsec_nanos(),
+            u16::from(slave.byte(0x1000)),
+        ));
+    }
+    Ok(best)
+}
+
+/// The picoseconds of joining two copies of 1,486 bytes.
+fn joining(rt: &impl Clock) -> io::Result<u64> {
+    let sent = [0xF0; 1486];
+    let mut into = [0xF1; 1486];
+    let other = [0x70; 1486];
+    let mut best = u64::MAX;
+    for _round in 0..ROUNDS {
+        let start = Instant::now(rt)?;
+        for _run in 0..RUNS {
+            join_bytes(&sent, &mut into, &other);
+        }
+        best = best.min(picoseconds(start.elapsed(rt)?.subsec_nanos(), into[7].into()));
+    }
+    Ok(best)
+}

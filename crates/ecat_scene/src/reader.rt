@@ -1,0 +1,129 @@
+//! The reading of a scene: its lines in their order, then the links that they name.
+ghost use Rattle.std.specs.Prelude.{◌≡◌, ◌≢◌, Err};
+
+use crate::fault::{LineFault, SceneFault, Stop};
+use crate::scene::Scene;
+use crate::words::{test_text, words_of};
+use ec_map::Kind;
+use std::alloc::Global;
+
+/// A link that a line names. How far numbers may go is known only when all slaves are.
+#[derive(Clone, Copy)]
+pub(crate) struct NamedLink {
+    /// The number of the line, from 1.
+    pub(crate) line: usize,
+    /// The number of the link.
+    pub(crate) number: u64,
+}
+
+/// The scene as far as its text has been read.
+pub(crate) struct Reader {
+    /// Where the scene's memory comes from.
+    pub(crate) alloc: Global,
+    /// The number of the line that is read, from 1.
+    pub(crate) line: usize,
+    /// What the lines so far say.
+    pub(crate) scene: Scene,
+    /// The links that they name, in their order.
+    pub(crate) links: Vec<NamedLink>,
+}
+
+impl Drop for Reader {
+    fn drop(self) {
+        let Reader {
+            alloc: _,
+            line: _,
+            scene: _,
+            links: _,
+        } = self;
+    }
+}
+
+impl Reader {
+    ghost use Rattle.ecat_scene.specs.declared.fault.SceneFault.TheVariants.{TooLong};
+
+    pub(crate) fn new(alloc: Global) -> Reader {
+        let scene = Scene {
+            slaves: Vec::new(alloc),
+            links_down: Vec::new(alloc),
+            actions: Vec::new(alloc),
+            items: Vec::new(alloc),
+            weathers: Vec::new(alloc),
+        };
+        Reader {
+            alloc,
+            line: 0,
+            scene,
+            links: Vec::new(alloc),
+        }
+    }
+
+    /// Reads all lines of the text.
+    pub(crate) fn read(mut self, text: &[u8]) -> Result<Scene, SceneFault>
+        ensures { result ≢ Err TooLong }
+    {
+        for line in text.split(|byte| *byte == b'\n') {
+            self.line = self.line.saturating_add(1);
+            match self.read_line(line) {
+                Ok(()) => {}
+                Err(Stop::Fault(fault)) => return Err(SceneFault::Line {
+                    line: self.line,
+                    fault,
+                }),
+                Err(Stop::NoMemory) => return Err(SceneFault::NoMemory),
+            }
+        }
+        if let Some(line) = self.line_of_a_wrong_link() {
+            return Err(SceneFault::Line {
+                line,
+                fault: LineFault::OutOfRange,
+            });
+        }
+        let Reader {
+            alloc: _,
+            line: _,
+            scene,
+            links: _,
+        } = self;
+        Ok(scene)
+    }
+
+    /// The first line that names a link which is not on the line of slaves.
+    fn line_of_a_wrong_link(&self) -> Option<usize> {
+        let last = self.scene.slaves.len() as u64;
+        self.links
+            .iter()
+            .find(|link| link.number > last)
+            .map(|link| link.line)
+    }
+
+    /// Reads one line.
+    fn read_line(&mut self, line: &[u8]) -> Result<(), Stop> {
+        test_text(line)?;
+        if line.starts_with(b"#") {
+            return Ok(());
+        }
+        let words = words_of(self.alloc, line)?;
+        match words.as_slice() {
+            [] => Ok(()),
+            [b"slave", rest @ ..] => self.slave(rest),
+            [b"state", rest @ ..] => self.state(rest),
+            [b"areas", rest @ ..] => self.areas(rest),
+            [b"sm", rest @ ..] => self.sync_manager(rest),
+            [b"fmmu", rest @ ..] => self.fmmu(rest),
+            [b"mem", rest @ ..] => self.load(rest),
+            [b"object", rest @ ..] => self.object(rest),
+            [b"link", rest @ ..] => self.link(rest),
+            [b"frame", rest @ ..] => self.frame(rest),
+            [b"step", rest @ ..] => self.step(rest),
+            [b"lrd", rest @ ..] => self.item(Kind::Lrd, rest),
+            [b"lwr", rest @ ..] => self.item(Kind::Lwr, rest),
+            [b"lrw", rest @ ..] => self.item(Kind::Lrw, rest),
+            [b"brd", rest @ ..] => self.item(Kind::Brd, rest),
+            [b"fprd", rest @ ..] => self.addressed_item(Kind::Fprd, rest),
+            [b"fpwr", rest @ ..] => self.addressed_item(Kind::Fpwr, rest),
+            [b"weather", rest @ ..] => self.weather(rest),
+            _ => Err(Stop::Fault(LineFault::UnknownWord)),
+        }
+    }
+}

@@ -1,0 +1,225 @@
+//! The lines that describe a slave.
+ghost use Rattle.std.specs.Prelude.{◌≡◌, ◌<◌, IfOk};
+
+use crate::fault::{LineFault, Stop};
+use crate::number::{byte, bytes, double_word, number, test_bytes, word};
+use crate::reader::Reader;
+use crate::scene::{FmmuSetting, Load, MAX_SLAVES, SceneSlave, Setting, SyncManSetting};
+use bitflags::Flags;
+use ec_app::{ObjectFault, Objects, Rights, Value};
+use ec_regs::{AlState, Fmmu, SyncMan, SyncManControl};
+
+impl Reader {
+    /// `slave STATION`
+    pub(crate) fn slave(&mut self, words: &[&[u8]]) -> Result<(), Stop> {
+        let [station] = words else {
+            return Err(Stop::Fault(LineFault::WrongCount));
+        };
+        let station = word(number(station)?)?;
+        if self.scene.slaves.len() >= MAX_SLAVES {
+            return Err(Stop::Fault(LineFault::TooMany));
+        }
+        let slave = SceneSlave {
+            station,
+            state: AlState::Init,
+            output_length: 0,
+            input_length: 0,
+            settings: Vec::new(self.alloc),
+            objects: Objects::new(),
+        };
+        self.scene.slaves.push(slave)?;
+        Ok(())
+    }
+
+    /// Tests that a slave was begun.
+    fn test_slave(&self) -> Result<(), LineFault> {
+        if self.scene.slaves.is_empty() {
+            return Err(LineFault::NoSlave);
+        }
+        Ok(())
+    }
+
+    /// The last slave begun.
+    fn last_slave(&mut self) -> Result<&mut SceneSlave, LineFault> {
+        match self.scene.slaves.last_mut() {
+            None => Err(LineFault::NoSlave),
+            Some(slave) => Ok(slave),
+        }
+    }
+
+    /// `state S`
+    pub(crate) fn state(&mut self, words: &[&[u8]]) -> Result<(), Stop> {
+        let [code] = words else {
+            return Err(Stop::Fault(LineFault::WrongCount));
+        };
+        self.test_slave()?;
+        let code = byte(number(code)?)?;
+        let Some(state) = AlState::from_code(code) else {
+            return Err(Stop::Fault(LineFault::OutOfRange));
+        };
+        self.last_slave()?.state = state;
+        Ok(())
+    }
+
+    /// `areas OUT IN`
+    pub(crate) fn areas(&mut self, words: &[&[u8]]) -> Result<(), Stop> {
+        let [outputs, inputs] = words else {
+            return Err(Stop::Fault(LineFault::WrongCount));
+        };
+        self.test_slave()?;
+        let outputs = number(outputs)?;
+        let inputs = number(inputs)?;
+        let outputs = word(outputs)?;
+        let inputs = word(inputs)?;
+        let slave = self.last_slave()?;
+        slave.output_length = outputs;
+        slave.input_length = inputs;
+        Ok(())
+    }
+
+    /// `sm N START LENGTH KIND`
+    pub(crate) fn sync_manager(&mut self, words: &[&[u8]]) -> Result<(), Stop> {
+        let [index, start, length, kind] = words else {
+            return Err(Stop::Fault(LineFault::WrongCount));
+        };
+        self.test_slave()?;
+        let index = number(index)?;
+        let start = number(start)?;
+        let length = number(length)?;
+        let control = control_of(kind)?;
+        let index = index_of(index)?;
+        let record = SyncMan {
+            start: word(start)?,
+            length: word(length)?,
+            control: control.bits(),
+            status: 0,
+            activate: 1,
+            pdi: 0,
+        };
+        let setting = Setting::SyncMan(SyncManSetting { index, record });
+        self.last_slave()?.settings.push(setting)?;
+        Ok(())
+    }
+
+    /// `fmmu N LOGICAL LENGTH START STOP PHYSICAL BIT TYPE`
+    pub(crate) fn fmmu(&mut self, words: &[&[u8]]) -> Result<(), Stop> {
+        let [index, logical, length, start, stop, physical, bit, kind] = words else {
+            return Err(Stop::Fault(LineFault::WrongCount));
+        };
+        self.test_slave()?;
+        let index = number(index)?;
+        let logical = number(logical)?;
+        let length = number(length)?;
+        let start = number(start)?;
+        let stop = number(stop)?;
+        let physical = number(physical)?;
+        let bit = number(bit)?;
+        let kind = type_of(kind)?;
+        let index = index_of(index)?;
+        let record = Fmmu {
+            logical: double_word(logical)?,
+            length: word(length)?,
+            start: byte(start)?,
+            stop: byte(stop)?,
+            physical: word(physical)?,
+            bit: byte(bit)?,
+            kind,
+            activate: 1,
+            reserved: [0; 3],
+        };
+        let setting = Setting::Fmmu(FmmuSetting { index, record });
+        self.last_slave()?.settings.push(setting)?;
+        Ok(())
+    }
+
+    /// `mem ADDRESS BYTES`
+    pub(crate) fn load(&mut self, words: &[&[u8]]) -> Result<(), Stop> {
+        let [address, row] = words else {
+            return Err(Stop::Fault(LineFault::WrongCount));
+        };
+        self.test_slave()?;
+        let address = number(address)?;
+        test_bytes(row)?;
+        let address = word(address)?;
+        let bytes = bytes(self.alloc, row)?;
+        if address < 0x1000 || usize::from(address) + bytes.len() > 0x3000 {
+            return Err(Stop::Fault(LineFault::OutOfRange));
+        }
+        let setting = Setting::Load(Load { address, bytes });
+        self.last_slave()?.settings.push(setting)?;
+        Ok(())
+    }
+
+    /// `object INDEX SUB SIZE RIGHTS VALUE`
+    pub(crate) fn object(&mut self, words: &[&[u8]]) -> Result<(), Stop> {
+        let [index, sub, size, rights, value] = words else {
+            return Err(Stop::Fault(LineFault::WrongCount));
+        };
+        self.test_slave()?;
+        let index = number(index)?;
+        let sub = number(sub)?;
+        let size = number(size)?;
+        let rights = rights_of(rights)?;
+        let value = number(value)?;
+        let index = word(index)?;
+        let sub = byte(sub)?;
+        let value = value_of(size, value)?;
+        match self.last_slave()?.objects.add(index, sub, rights, value) {
+            Ok(()) => Ok(()),
+            Err(ObjectFault::Full) => Err(Stop::Fault(LineFault::TooMany)),
+            Err(ObjectFault::Twin) => Err(Stop::Fault(LineFault::Twin)),
+        }
+    }
+}
+
+/// What a sync manager of a kind may do.
+fn control_of(kind: &[u8]) -> Result<SyncManControl, LineFault> {
+    match kind {
+        b"mailbox-write" => Ok(SyncManControl::MAILBOX.union(SyncManControl::WRITE)),
+        b"mailbox-read" => Ok(SyncManControl::MAILBOX),
+        b"write" => Ok(SyncManControl::WRITE),
+        b"read" => Ok(SyncManControl::empty()),
+        _ => Err(LineFault::BadNumber),
+    }
+}
+
+/// The type byte of an FMMU.
+fn type_of(kind: &[u8]) -> Result<u8, LineFault> {
+    match kind {
+        b"read" => Ok(1),
+        b"write" => Ok(2),
+        b"both" => Ok(3),
+        _ => Err(LineFault::BadNumber),
+    }
+}
+
+/// The number of a sync manager or an FMMU, 0 to 7.
+fn index_of(number: u64) -> Result<usize, LineFault>
+    ensures { IfOk result (λ index. index < 8) }
+{
+    if number < 8 {
+        Ok(number as usize)
+    } else {
+        Err(LineFault::OutOfRange)
+    }
+}
+
+/// What the master may do with an object.
+fn rights_of(rights: &[u8]) -> Result<Rights, LineFault> {
+    match rights {
+        b"ro" => Ok(Rights::ReadOnly),
+        b"wo" => Ok(Rights::WriteOnly),
+        b"rw" => Ok(Rights::Both),
+        _ => Err(LineFault::BadNumber),
+    }
+}
+
+/// A value of a size in bytes.
+fn value_of(size: u64, value: u64) -> Result<Value, LineFault> {
+    match size {
+        1 => Ok(Value::One(byte(value)?)),
+        2 => Ok(Value::Two(word(value)?)),
+        4 => Ok(Value::Four(double_word(value)?)),
+        _ => Err(LineFault::OutOfRange),
+    }
+}
