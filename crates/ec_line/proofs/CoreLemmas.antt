@@ -44,7 +44,7 @@ apart-drop (suc n) [] all = tt
 apart-drop (suc n) (x ∷ xs) all = apart-drop n xs all.1
 
 -- nobody is apart from anybody
-apart_from_nobody : (xs : List ControllerState) → ApartFrom [] xs
+pub apart_from_nobody : (xs : List ControllerState) → ApartFrom [] xs
 apart_from_nobody [] = tt
 apart_from_nobody (x ∷ xs) = (tt, apart_from_nobody xs)
 

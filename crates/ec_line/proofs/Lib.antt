@@ -12,3 +12,4 @@ pub mod RunLemmas
 pub mod ShownLemmas
 pub mod ShownRunLemmas
 pub mod SetLemmas
+pub mod OwnLemmas

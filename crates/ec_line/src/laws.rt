@@ -1,27 +1,28 @@
 //! The laws of a line, each the contract of a function that does nothing.
 
-ghost use Rattle.std.specs.Prelude.{◌≡◌, ◌≤◌, ◌<◌, ◌+◌, ◌*◌, ℕ, None, Some, List, [], ◌∷◌, length};
+ghost use Rattle.std.specs.Prelude.{◌≡◌, ◌≤◌, ◌<◌, ◌+◌, ◌*◌, ℕ, None, Some, List, [], ◌∷◌, ◌++◌, ◌↔◌, length, map};
 ghost use Rattle.ec_regs.specs.Bits.{bit};
-ghost use Rattle.std.specs.List.{AllByRecursion};
+ghost use Rattle.std.specs.List.{AllByRecursion, Contains};
 ghost use Rattle.ec_regs.specs.declared.registers.TheConstants.{PROCESS_MEMORY, PROCESS_MEMORY_SIZE};
 ghost use Rattle.ec_wire.specs.Datagram.{DatagramRecord};
+ghost use Rattle.ec_merge.specs.Frames.{IsOwn, joined_record};
 ghost use Rattle.ec_areas.specs.Records.{fmmus_of, sync_managers_of};
 ghost use Rattle.ec_esc.specs.State.{ControllerState, IsController};
 ghost use Rattle.ec_esc.specs.Pass.{pass};
 ghost use Rattle.ec_line.specs.Accepted.{Accepts, AcceptsAll};
 ghost use Rattle.ec_line.specs.After.{Entry, after, after_frame};
-ghost use Rattle.ec_line.specs.Answered.{Answered};
-ghost use Rattle.ec_line.specs.Answers.{Answers};
+ghost use Rattle.ec_line.specs.Answered.{Answered, AnsweredFrame, sent_of};
+ghost use Rattle.ec_line.specs.Answers.{Answers, AllAgree};
 ghost use Rattle.ec_line.specs.Calm.{SameCalm};
 ghost use Rattle.ec_line.specs.Claims.{claim, taken, gain};
-ghost use Rattle.ec_line.specs.Fit.{IsFitAlone, Reads, Writes};
+ghost use Rattle.ec_line.specs.Fit.{IsFitAlone, IsFitLine, Reads, Writes};
 ghost use Rattle.ec_line.specs.declared.kind.Kind.TheVariants.{Lrd, Lwr, Lrw};
 ghost use Rattle.ec_line.specs.Memory.{SameMemories};
 ghost use Rattle.ec_line.specs.Request.{Request, OnWay};
 ghost use Rattle.ec_line.specs.Run.{trips_run, TripsReady, AnsweredTrips, CountsWholeAll};
 ghost use Rattle.ec_line.specs.Run.{after_trips, reached_trips, visited_trips, IsWholeTrip};
 ghost use Rattle.ec_line.specs.Shown.{ShowsLastInRun, SameShownWhere, NoAreaTwice, ShowsLast};
-ghost use Rattle.ec_line.specs.Trip.{Trip, returned};
+ghost use Rattle.ec_line.specs.Trip.{Trip, line_pass, passed, returned};
 
 /// The most controllers of a line whose counters certify an answer: what they count together stays far below
 /// 65,536.
@@ -142,4 +143,39 @@ pub fn takes_by_pairs()
         → taken (record { kind = Lwr; address = a; count = n }) c p ≡ None }
     ensures not_lrw { (a n : ℕ) (c : ControllerState) (p : ℕ) → ((i : ℕ) → i < 8 * n → ¬ Writes c (8 * a + i) p)
         → taken (record { kind = Lrw; address = a; count = n }) c p ≡ None }
+{}
+
+/// The relation of answers: nobody answers with what was sent; those that answer one after the other, or one
+/// copy each that are joined, have answered together; and sets with the same members answer the same.
+pub fn relation()
+    ensures nobody { (r : Request) (sent : ℕ → ℕ) → Answers (claim r) [] sent sent }
+    ensures one_after_the_other { (r : Request) (xs ys : List ControllerState) (sent between got : DatagramRecord)
+        → AllAgree (claim r) ys xs → Answered r xs sent between → Answered r ys between got
+        → Answered r (xs ++ ys) sent got }
+    ensures joined { (r : Request) (xs ys : List ControllerState) (sent a b : DatagramRecord) → OnWay r sent
+        → AllAgree (claim r) xs ys → AllAgree (claim r) ys xs → Answered r xs sent a → Answered r ys sent b
+        → Answered r (xs ++ ys) sent (joined_record sent a b) }
+    ensures same_members { (r : Request) (xs ys : List ControllerState) (sent got : ℕ → ℕ)
+        → ((c : ControllerState) → Contains xs c ↔ Contains ys c) → Answers (claim r) xs sent got
+        → Answers (claim r) ys sent got }
+{}
+
+/// A copy passes controllers of a fit line, each once: its frame is answered by all of them as they were at
+/// first, and each is left as by the items that were sent.
+pub fn one_copy()
+    ensures answered { (es : List Entry) (line : List ControllerState) → IsFitLine line
+        → AllByRecursion (AcceptsAll es) line → AllByRecursion (λ e. OnWay e.request e.sent) es
+        → AnsweredFrame es line (line_pass line (sent_of es)).frame }
+    ensures left { (es : List Entry) (line : List ControllerState) → IsFitLine line
+        → AllByRecursion (AcceptsAll es) line → AllByRecursion (λ e. OnWay e.request e.sent) es
+        → (line_pass line (sent_of es)).line ≡ map (after_frame es) line }
+{}
+
+/// A copy that went over a line is no stranger: it has the datagrams of the sent frame, each with the command,
+/// the index, the data length and the fixed address that were sent, whatever the controllers are.
+pub fn own_copies()
+    ensures a { (t : Trip) (line : List ControllerState) → AllByRecursion (λ e. OnWay e.request e.sent) t.entries
+        → IsOwn (sent_of t.entries) (passed t line).a }
+    ensures b { (t : Trip) (line : List ControllerState) → AllByRecursion (λ e. OnWay e.request e.sent) t.entries
+        → IsOwn (sent_of t.entries) (passed t line).b }
 {}
