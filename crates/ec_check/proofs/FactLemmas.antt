@@ -319,7 +319,7 @@ AreApart-fit line i j fit order there = record {
 -- ---- the whole line
 
 -- what holds at each number holds of each element
-each_from : (P : ControllerState → Type 0) (xs : List ControllerState) (d : ControllerState)
+pub each_from : (P : ControllerState → Type 0) (xs : List ControllerState) (d : ControllerState)
     → ((i : ℕ) → i < length xs → P (get_or xs i d)) → AllByRecursion P xs
 each_from P [] d at = tt
 each_from P (x ∷ xs) d at = (at 0 (omega arith), each_from P xs d (λ i below. at (suc i) (omega arith)))

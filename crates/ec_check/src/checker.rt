@@ -1,6 +1,8 @@
 //! All rules, one after the other.
 
 ghost use Rattle.std.specs.Prelude.{OnOk, IfErr};
+ghost use Rattle.std.specs.List.{AllByRecursion};
+ghost use Rattle.ec_esc.specs.State.{IsController};
 ghost use Rattle.ec_check.specs.Line.{controllers};
 ghost use Rattle.ec_check.specs.Fit.{IsFit, IsFirstFault};
 
@@ -16,8 +18,18 @@ use ec_app::Slave;
 
 /// Is the line mapped as a cycle needs it? If not, the first fault: that of the first rule that is broken, of
 /// the smallest numbers from left to right, and of the lowest address or bit. Only active FMMUs and active
-/// areas count.
+/// areas count. (Its clause `controllers` is what a proof knows of every line.)
 pub fn check(line: &[Slave]) -> Result<(), MapFault>
+    ensures accepted { OnOk result (IsFit (controllers line.now)) }
+    ensures refused { IfErr result (IsFirstFault (controllers line.now)) }
+    ensures controllers { AllByRecursion IsController (controllers line.now) }
+{
+    are_controllers(line);
+    test_rules(line)
+}
+
+/// Tests all rules in their order.
+fn test_rules(line: &[Slave]) -> Result<(), MapFault>
     ensures accepted { OnOk result (IsFit (controllers line.now)) }
     ensures refused { IfErr result (IsFirstFault (controllers line.now)) }
 {
@@ -28,4 +40,13 @@ pub fn check(line: &[Slave]) -> Result<(), MapFault>
     bits_written_twice(line)?;
     bits_read_twice(line)?;
     bits_read_and_written(line)
+}
+
+/// Each slave of a line has a controller.
+fn are_controllers(line: &[Slave])
+    ensures { AllByRecursion IsController (controllers line.now) }
+{
+    for slave in 0..line.len() {
+        let _station = line[slave].controller().station();
+    }
 }

@@ -91,6 +91,23 @@ impl Item {
         })
     }
 
+    /// The same item once more.
+    pub fn copy(&self) -> Item
+        ensures { result ≡ self.now }
+    {
+        let mut payload = ArrayVec::new();
+        payload
+            .try_extend_from_slice(self.payload.as_slice())
+            .unwrap();
+        Item {
+            kind: self.kind,
+            address: self.address,
+            payload,
+            counter: self.counter,
+            adp: self.adp,
+        }
+    }
+
     /// What it asks.
     pub fn kind(&self) -> Kind
         ensures { result ≡ self.now.kind }

@@ -1,7 +1,7 @@
 use Rattle.std.proofs.lemmas.Result.{err_from_is_err_and}
 use Rattle.ec_check.specs.Line.{controllers}
 use Rattle.ec_check.proofs.FitLemmas.{no_rule_yet, one_rule_more, IsFirstFault-rule, last_rule-accepted, last_rule-refused}
-use Rattle.ec_check.proofs.checker.check.Goals as goal
+use Rattle.ec_check.proofs.checker.test_rules.Goals as goal
 
 pub returns-in_err-twin_stations : goal.returns-in_err-twin_stations
 returns-in_err-twin_stations c =

@@ -1,0 +1,22 @@
+use Rattle.std.proofs.Common.{◌≡◌, ◌<◌, ◌∙◌, ap, ℕ, arith, sym, subst, below_more}
+use Rattle.ec_esc.specs.State.{ControllerState, IsController}
+use Rattle.ec_check.specs.Line.{controllers, controller_of, no_controller}
+use Rattle.ec_check.proofs.FactLemmas.{each_from}
+use Rattle.ec_check.proofs.LineLemmas.{controller_of-controllers, length-controllers}
+use Rattle.ec_check.proofs.checker.are_controllers.Goals as goal
+
+pub loop-slave-init : goal.loop-slave-init
+loop-slave-init c = λ i inside. absurd (omega (arith, inside))
+
+pub loop-slave-preserved : goal.loop-slave-preserved
+loop-slave-preserved c =
+    below_more _ _ c.loop-slave.invariant
+    (subst IsController
+    (c.controller.ensures
+    ∙ sym (controller_of-controllers c.args.line.now c.loop-slave.slave _ c.loop-slave-test.true c.index-line-slave.is))
+    c.station-station.ensures.controller)
+
+pub returns : goal.returns
+returns c =
+    each_from IsController (controllers c.args.line.now) no_controller
+    (λ i inside. c.loop-slave.invariant i (omega (arith, inside, c.loop-slave-test.false, length-controllers c.args.line.now)))
