@@ -1,0 +1,13 @@
+pub mod StationLemmas
+pub mod AnswerLemmas
+pub mod SlaveLemmas
+pub mod OrderLemmas
+pub mod VerdictLemmas
+pub mod CertificateLemmas
+pub mod CutLemmas
+pub mod WorkLemmas
+pub mod CarryLemmas
+pub mod TravelLemmas
+pub mod JudgedLemmas
+pub mod JudgeLemmas
+pub mod PortLemmas

@@ -1,0 +1,341 @@
+-- The verdict of a cycle is that of the counts of passes; what a good one says of the counters; and that it is
+-- good where each slave is passed once.
+use Rattle.std.proofs.Common.{◌≡◌, ℕ, suc, ◌+◌, ◌*◌, ◌%◌, ◌<◌, ◌≤◌, Bool, true, false, cond, eqb, ltb, ◌||◌}
+use Rattle.std.proofs.Common.{List, [], ◌∷◌, ◌++◌, length, map, take, drop, Option, None, Some}
+use Rattle.std.proofs.Common.{sym, subst, ◌∙◌, ap, refl, arith}
+use Rattle.std.specs.Prelude.{is_none}
+use Rattle.std.specs.List.{AllByRecursion, sum_by}
+use Rattle.std.proofs.lemmas.Bool.{eqb-true, eq-eqb}
+use Rattle.std.proofs.lemmas.List.{length-append, length-take, length-drop, take-append-drop, drop_all}
+use Rattle.std.proofs.lemmas.List.Sums.{sum_by-cons}
+use Rattle.ec_wire.specs.Datagram.{DatagramRecord}
+use Rattle.ec_esc.specs.State.{ControllerState}
+use Rattle.ec_line.specs.After.{Entry}
+use Rattle.ec_line.specs.Answered.{Answered, AnsweredFrame}
+use Rattle.ec_line.specs.Claims.{gain}
+use Rattle.ec_line.specs.Run.{AnsweredTrips, CountsWhole, CountsWholeAll}
+use Rattle.ec_line.specs.Trip.{Trip, returned}
+use Rattle.ec_line.proofs.CertificateLemmas.{sum_bound}
+use Rattle.ec_line.proofs.CoreLemmas.{later-refl}
+use Rattle.ec_line.proofs.RunLemmas.{core_run}
+use Rattle.ec_map.specs.Item.{ItemRecord, IsItem, datagram_of}
+use Rattle.ec_map.specs.Share.{share, expected_of, request_of}
+use Rattle.ec_map.proofs.LawLemmas.{gain-share}
+use Rattle.ec_ring.specs.Links.{IsOnlyDown}
+use Rattle.ec_ring.specs.Reach.{front, back, arrival_a, arrival_b}
+use Rattle.ec_ring.specs.Ring.{RingState, line_of}
+use Rattle.ec_ring.specs.Travel.{trip_of}
+use Rattle.ec_ring.specs.declared.links.Links.{Links}
+use Rattle.ec_ring.specs.declared.port.Port.{Port}
+use Rattle.ec_ring.specs.declared.weather.Weather.{Weather}
+use Rattle.ec_ring.proofs.ReachLemmas.{front-is-back, lost-front, lost-back}
+use Rattle.ec_ring.proofs.RingLemmas.{length-controllers}
+use Rattle.ec_master.specs.Certificate.{carriers, count_of, whole_count, counts_from, verdict_by_counts, verdict_under, IsOneDown}
+use Rattle.ec_master.specs.Cut.{concat, entries_from, frames_of}
+use Rattle.ec_master.specs.Travelled.{calm, trips_of, trips_under, run_under, answers_under}
+use Rattle.ec_master.specs.Unordered.{IsAccepted}
+use Rattle.ec_master.specs.Verdict.{moved, verdict_from}
+use Rattle.ec_master.specs.declared.verdict.Verdict.{Verdict}
+use Rattle.ec_master.specs.declared.verdict.Verdict.TheVariants.{Good, Short, Over}
+use Rattle.ec_master.proofs.SlaveLemmas.{concat-cut, entries-trips_of, trips_ready}
+
+-- ---- trips, entry by entry
+
+-- each entry's answer, by the trip that carries it
+abbrev pub AnsweredBy : (Trip → List ControllerState) → List Entry → List Trip → List DatagramRecord → Type 0
+AnsweredBy who [] [] [] = Unit {0}
+AnsweredBy who (e ∷ es) (t ∷ ts) (g ∷ gs) = Answered e.request (who t) e.sent g × AnsweredBy who es ts gs
+AnsweredBy who _ _ _ = ⊥
+
+answered-first : (who : Trip → List ControllerState) (t : Trip) (es rest : List Entry) (us : List Trip)
+    (gs hs : List DatagramRecord) → AnsweredFrame es (who t) gs → AnsweredBy who rest us hs
+    → AnsweredBy who (es ++ rest) (map (λ (e : Entry). t) es ++ us) (gs ++ hs)
+answered-first who t [] rest us [] hs first behind = behind
+answered-first who t [] rest us (g ∷ gs) hs first behind = absurd first
+answered-first who t (e ∷ es) rest us [] hs first behind = absurd first
+answered-first who t (e ∷ es) rest us (g ∷ gs) hs first behind =
+    (first.0, answered-first who t es rest us gs hs first.1 behind)
+
+-- the entries of trips, end to end
+abbrev pub entries_carried : List Trip → List Entry
+entries_carried ts = concat (map (λ (t : Trip). t.entries) ts)
+
+pub answered-each : (who : Trip → List ControllerState) (ts : List Trip) (joined : List (List DatagramRecord))
+    → AnsweredTrips ts who joined → AnsweredBy who (entries_carried ts) (carriers ts) (concat joined)
+unfolding carriers
+answered-each who [] [] answered = tt
+answered-each who [] (g ∷ gs) answered = absurd answered
+answered-each who (t ∷ ts) [] answered = absurd answered
+answered-each who (t ∷ ts) (g ∷ gs) answered =
+    answered-first who t t.entries (entries_carried ts) (carriers ts) g (concat gs) answered.0
+    (answered-each who ts gs answered.1)
+
+-- ---- counts
+
+sum-same : {S : Type 0} (f g : S → ℕ) (xs : List S) → ((x : S) → f x ≡ g x) → sum_by f xs ≡ sum_by g xs
+sum-same f g [] same = refl
+sum-same f g (x ∷ xs) same = omega (arith, sum_by-cons f x xs, sum_by-cons g x xs, same x, sum-same f g xs same)
+
+length-if : {S : Type 0} (b : Bool) (xs : List S) → length (cond b [] xs) ≤ length xs
+length-if true xs = omega arith
+length-if false xs = omega arith
+
+length-returned : (t : Trip) (xs : List ControllerState) → length (returned t xs) ≤ 2 * length xs
+length-returned t xs =
+    let a : length (cond t.lost_a [] (take t.front xs)) ≤ length (take t.front xs) = length-if t.lost_a (take t.front xs) in
+    let b : length (cond t.lost_b [] (drop t.back xs)) ≤ length (drop t.back xs) = length-if t.lost_b (drop t.back xs) in
+    let both = length-append (cond t.lost_a [] (take t.front xs)) (cond t.lost_b [] (drop t.back xs)) in
+    omega (arith, both, a, b, length-take t.front xs, length-drop t.back xs)
+
+-- shares are gains, member by member
+pub count-gains : (r : ItemRecord) (xs : List ControllerState) → IsItem r
+    → sum_by (gain (request_of r)) xs ≡ sum_by (share r) xs
+count-gains r xs item = sum-same (gain (request_of r)) (share r) xs (λ c. gain-share r c item)
+
+-- a counter has moved by the count
+count-moved : (r : ItemRecord) (j : ℕ) (t : Trip) (line : List ControllerState) (g : DatagramRecord)
+    → length line ≤ 256 → IsItem r → Answered (request_of r) (returned t line) (datagram_of r j) g
+    → moved r.counter g.counter ≡ count_of r t line
+count-moved r j t line g room item answered =
+    let counted : g.counter ≡ (r.counter + sum_by (gain (request_of r)) (returned t line)) % 65536 = answered.counter in
+    let same = count-gains r (returned t line) item in
+    let bound = sum_bound (request_of r) (returned t line) in
+    let size = length-returned t line in
+    let small : r.counter < 65536 = item.counter in
+    omega (arith, counted, same, bound, size, small, room)
+
+expected-whole : (r : ItemRecord) (line : List ControllerState) → length line ≤ 256 → IsItem r
+    → expected_of line r ≡ whole_count r line
+expected-whole r line room item =
+    let same = count-gains r line item in
+    let bound = sum_bound (request_of r) line in
+    omega (arith, same, bound, room)
+
+-- ---- the verdict by counts
+
+verdict-counts-from : (j k : ℕ) (items : List ItemRecord) (us : List Trip) (gs : List DatagramRecord)
+    (line : List ControllerState) → length line ≤ 256 → AllByRecursion IsItem items
+    → AnsweredBy (λ t. returned t line) (entries_from j items) us gs
+    → verdict_from k items gs (map (expected_of line) items) ≡ counts_from k items us line
+unfolding verdict_from counts_from entries_from
+verdict-counts-from j k [] us gs line room items answered = refl
+verdict-counts-from j k (r ∷ rs) [] gs line room items answered = absurd answered
+verdict-counts-from j k (r ∷ rs) (u ∷ us) [] line room items answered = absurd answered
+verdict-counts-from j k (r ∷ rs) (u ∷ us) (g ∷ gs) line room items answered =
+    let m : ℕ = moved r.counter g.counter in
+    let e : ℕ = expected_of line r in
+    let count : ℕ = count_of r u line in
+    let whole : ℕ = whole_count r line in
+    let rest : Verdict = verdict_from (suc k) rs gs (map (expected_of line) rs) in
+    let V : ℕ → ℕ → Verdict → Verdict = λ a b v. cond (eqb a b) v (cond (ltb a b) (Short k) (Over k)) in
+    ap (λ (a : ℕ). V a e rest) (count-moved r j u line g room items.0 answered.0)
+    ∙ ap (λ (b : ℕ). V count b rest) (expected-whole r line room items.0)
+    ∙ ap (λ (v : Verdict). V count whole v) (verdict-counts-from (suc j) (suc k) rs us gs line room items.1 answered.1)
+
+-- the entries of a work's trips
+pub entries_under : (ws : List Weather) (r : RingState) (items : List ItemRecord)
+    → entries_carried (trips_under ws r items) ≡ entries_from 0 items
+entries_under ws r items =
+    ap (λ (l : List (List Entry)). concat l) (entries-trips_of ws r.links (length r.slaves) (frames_of items))
+    ∙ concat-cut (entries_from 0 items)
+
+-- each answer is that of those that came back
+pub returned_answers : (ws : List Weather) (r : RingState) (items : List ItemRecord) → IsAccepted r.slaves items
+    → AllByRecursion IsItem items
+    → AnsweredTrips (trips_under ws r items) (λ t. returned t (line_of r)) (run_under ws r items).joined
+returned_answers ws r items accepted are_items =
+    let line : List ControllerState = line_of r in
+    let ready = trips_ready ws r items accepted are_items in
+    (core_run (trips_under ws r items) line line ready (later-refl line ready.fit.alone)).0
+
+pub line_room : (r : RingState) → length r.slaves ≤ 256 → length (line_of r) ≤ 256
+line_room r room = omega (arith, length-controllers r.slaves, room)
+
+pub verdict-counts : (ws : List Weather) (r : RingState) (items : List ItemRecord) → length r.slaves ≤ 256
+    → IsAccepted r.slaves items → AllByRecursion IsItem items
+    → verdict_under ws r items ≡ verdict_by_counts (trips_under ws r items) items (line_of r)
+verdict-counts ws r items room accepted are_items =
+    let line : List ControllerState = line_of r in
+    let ts : List Trip = trips_under ws r items in
+    let who : Trip → List ControllerState = λ t. returned t line in
+    let gs : List DatagramRecord = answers_under ws r items in
+    let each : AnsweredBy who (entries_carried ts) (carriers ts) gs =
+    answered-each who ts (run_under ws r items).joined (returned_answers ws r items accepted are_items) in
+    verdict-counts-from 0 0 items (carriers ts) gs line (line_room r room) are_items
+    (subst (λ (es : List Entry). AnsweredBy who es (carriers ts) gs) (entries_under ws r items) each)
+
+-- ---- a good verdict
+
+-- those of a trip that came back gain as much as the whole line
+abbrev pub CountsEqual : List ControllerState → Entry → Trip → Type 0
+CountsEqual line e t = sum_by (gain e.request) (returned t line) ≡ sum_by (gain e.request) line
+
+abbrev EqualBy : List ControllerState → List Entry → List Trip → Type 0
+EqualBy line [] [] = Unit {0}
+EqualBy line (e ∷ es) (t ∷ ts) = CountsEqual line e t × EqualBy line es ts
+EqualBy line _ _ = ⊥
+
+good-step : (b c : Bool) (v : Verdict) (k : ℕ) → cond b v (cond c (Short k) (Over k)) ≡ Good
+    → (b ≡ true) × (v ≡ Good)
+good-step true c v k good = (refl, good)
+good-step false true v k good = absurd (cc)
+good-step false false v k good = absurd (cc)
+
+good-equal : (j k : ℕ) (items : List ItemRecord) (us : List Trip) (gs : List DatagramRecord)
+    (line : List ControllerState) → AllByRecursion IsItem items
+    → AnsweredBy (λ t. returned t line) (entries_from j items) us gs → counts_from k items us line ≡ Good
+    → EqualBy line (entries_from j items) us
+unfolding counts_from entries_from
+good-equal j k [] [] gs line items answered good = tt
+good-equal j k [] (u ∷ us) gs line items answered good = absurd answered
+good-equal j k (r ∷ rs) [] gs line items answered good = absurd answered
+good-equal j k (r ∷ rs) (u ∷ us) [] line items answered good = absurd answered
+good-equal j k (r ∷ rs) (u ∷ us) (g ∷ gs) line items answered good =
+    let count : ℕ = count_of r u line in
+    let whole : ℕ = whole_count r line in
+    let step = good-step (eqb count whole) (ltb count whole) (counts_from (suc k) rs us line) k good in
+    let same : count ≡ whole = eqb-true count whole step.0 in (
+      count-gains r (returned u line) items.0 ∙ same ∙ sym (count-gains r line items.0),
+      good-equal (suc j) (suc k) rs us gs line items.1 answered.1 step.1,
+    )
+
+equal-split : (line : List ControllerState) (t : Trip) (es rest : List Entry) (us : List Trip)
+    → EqualBy line (es ++ rest) (map (λ (e : Entry). t) es ++ us)
+    → AllByRecursion (λ e. CountsEqual line e t) es × EqualBy line rest us
+equal-split line t [] rest us equal = (tt, equal)
+equal-split line t (e ∷ es) rest us equal =
+    let more = equal-split line t es rest us equal.1 in ((equal.0, more.0), more.1)
+
+equal-trips : (line : List ControllerState) (ts : List Trip) → EqualBy line (entries_carried ts) (carriers ts)
+    → AllByRecursion (λ t. AllByRecursion (λ e. CountsEqual line e t) t.entries) ts
+unfolding carriers
+equal-trips line [] equal = tt
+equal-trips line (t ∷ ts) equal =
+    let parts = equal-split line t t.entries (entries_carried ts) (carriers ts) equal in
+    (parts.0, equal-trips line ts parts.1)
+
+counts-frame : (line : List ControllerState) (t : Trip) (es : List Entry) (gs : List DatagramRecord)
+    → AnsweredFrame es (returned t line) gs → AllByRecursion (λ e. CountsEqual line e t) es → CountsWhole es line gs
+counts-frame line t [] [] answered equal = tt
+counts-frame line t [] (g ∷ gs) answered equal = absurd answered
+counts-frame line t (e ∷ es) [] answered equal = absurd answered
+counts-frame line t (e ∷ es) (g ∷ gs) answered equal = (
+  answered.0.counter ∙ ap (λ (n : ℕ). (e.sent.counter + n) % 65536) equal.0,
+  counts-frame line t es gs answered.1 equal.1,
+)
+
+counts-trips : (line : List ControllerState) (ts : List Trip) (joined : List (List DatagramRecord))
+    → AnsweredTrips ts (λ t. returned t line) joined
+    → AllByRecursion (λ t. AllByRecursion (λ e. CountsEqual line e t) t.entries) ts → CountsWholeAll ts line joined
+counts-trips line [] [] answered equal = tt
+counts-trips line [] (g ∷ gs) answered equal = absurd answered
+counts-trips line (t ∷ ts) [] answered equal = absurd answered
+counts-trips line (t ∷ ts) (g ∷ gs) answered equal =
+    (counts-frame line t t.entries g answered.0 equal.0, counts-trips line ts gs answered.1 equal.1)
+
+-- where the verdict is good the counters have moved as the whole line counts
+pub good_counts : (ws : List Weather) (r : RingState) (items : List ItemRecord) → length r.slaves ≤ 256
+    → IsAccepted r.slaves items → AllByRecursion IsItem items → verdict_under ws r items ≡ Good
+    → CountsWholeAll (trips_under ws r items) (line_of r) (run_under ws r items).joined
+good_counts ws r items room accepted are_items good =
+    let line : List ControllerState = line_of r in
+    let ts : List Trip = trips_under ws r items in
+    let who : Trip → List ControllerState = λ t. returned t line in
+    let gs : List DatagramRecord = answers_under ws r items in
+    let joined : List (List DatagramRecord) = (run_under ws r items).joined in
+    let answered : AnsweredTrips ts who joined = returned_answers ws r items accepted are_items in
+    let each : AnsweredBy who (entries_from 0 items) (carriers ts) gs =
+    subst (λ (es : List Entry). AnsweredBy who es (carriers ts) gs) (entries_under ws r items)
+    (answered-each who ts joined answered) in
+    let counts : verdict_by_counts ts items line ≡ Good =
+    sym (verdict-counts ws r items room accepted are_items) ∙ good in
+    let equal : EqualBy line (entries_carried ts) (carriers ts) =
+    subst (λ (es : List Entry). EqualBy line es (carriers ts)) (sym (entries_under ws r items))
+    (good-equal 0 0 items (carriers ts) gs line are_items each counts) in
+    counts-trips line ts joined answered (equal-trips line ts equal)
+
+-- ---- at most one link down, and nothing lost
+
+-- each is passed once by what comes back
+abbrev PassesOnce : List ControllerState → Trip → Type 0
+PassesOnce line t = returned t line ≡ line
+
+piece_a : (links : Links) (n : ℕ) (line : List ControllerState) (o : Option Port) → (o ≡ None → front links n ≡ 0)
+    → cond (is_none o) [] (take (front links n) line) ≡ take (front links n) line
+piece_a links n line None none = ap (λ (p : ℕ). take p line) (sym (none refl))
+piece_a links n line (Some port) none = refl
+
+piece_b : (links : Links) (line : List ControllerState) (o : Option Port)
+    → (o ≡ None → back links (length line) ≡ length line)
+    → cond (is_none o) [] (drop (back links (length line)) line) ≡ drop (back links (length line)) line
+piece_b links line None none =
+    sym (ap (λ (q : ℕ). drop q line) (none refl) ∙ drop_all (length line) line (omega arith))
+piece_b links line (Some port) none = refl
+
+passes-once : (w : Weather) (f : List Entry) (line : List ControllerState) → IsOneDown (length line) w
+    → PassesOnce line (trip_of w f (length line))
+passes-once w f line down =
+    let n : ℕ = length line in
+    let p : ℕ = front w.a n in
+    let A : Bool → List ControllerState = λ lost. cond (lost || is_none (arrival_a w.a n)) [] (take p line) in
+    let B : Bool → Links → List ControllerState =
+    λ lost links. cond (lost || is_none (arrival_b links n)) [] (drop (back links n) line) in
+    ap (λ (lost : Bool). A lost ++ B w.lost_b w.b) down.came_a
+    ∙ ap (λ (lost : Bool). A false ++ B lost w.b) down.came_b
+    ∙ ap (λ (links : Links). A false ++ B false links) down.same
+    ∙ ap (λ (l : List ControllerState). l ++ B false w.a) (piece_a w.a n line (arrival_a w.a n) (lost-front w.a n))
+    ∙ ap (λ (l : List ControllerState). take p line ++ l) (piece_b w.a line (arrival_b w.a n) (lost-back w.a n))
+    ∙ ap (λ (q : ℕ). take p line ++ drop q line) (sym (front-is-back w.a n down.link down.only))
+    ∙ take-append-drop p line
+
+trips-once : (ws : List Weather) (links : Links) (fs : List (List Entry)) (line : List ControllerState)
+    → AllByRecursion (IsOneDown (length line)) ws → IsOneDown (length line) (calm links)
+    → AllByRecursion (PassesOnce line) (trips_of ws links (length line) fs)
+unfolding trips_of
+trips-once ws links [] line down last = tt
+trips-once [] links (f ∷ fs) line down last =
+    (passes-once (calm links) f line last, trips-once [] links fs line down last)
+trips-once (w ∷ ws) links (f ∷ fs) line down last =
+    (passes-once w f line down.0, trips-once ws links fs line down.1 last)
+
+carriers-first : (P : Trip → Type 0) (t : Trip) (es : List Entry) (us : List Trip) → P t → AllByRecursion P us
+    → AllByRecursion P (map (λ (e : Entry). t) es ++ us)
+carriers-first P t [] us here all = all
+carriers-first P t (e ∷ es) us here all = (here, carriers-first P t es us here all)
+
+carriers-each : (P : Trip → Type 0) (ts : List Trip) → AllByRecursion P ts → AllByRecursion P (carriers ts)
+unfolding carriers
+carriers-each P [] all = tt
+carriers-each P (t ∷ ts) all = carriers-first P t t.entries (carriers ts) all.0 (carriers-each P ts all.1)
+
+once-good : (k : ℕ) (items : List ItemRecord) (us : List Trip) (line : List ControllerState)
+    → AllByRecursion (PassesOnce line) us → counts_from k items us line ≡ Good
+unfolding counts_from
+once-good k [] us line once = refl
+once-good k (r ∷ rs) [] line once = refl
+once-good k (r ∷ rs) (u ∷ us) line once =
+    let count : ℕ = count_of r u line in
+    let whole : ℕ = whole_count r line in
+    let same : count ≡ whole = ap (λ (l : List ControllerState). sum_by (share r) l) once.0 in
+    ap (λ (b : Bool). cond b (counts_from (suc k) rs us line) (cond (ltb count whole) (Short k) (Over k)))
+    (eq-eqb count whole same)
+    ∙ once-good (suc k) rs us line once.1
+
+-- so the verdict is good
+pub one_down_good : (ws : List Weather) (r : RingState) (items : List ItemRecord) → length r.slaves ≤ 256
+    → IsAccepted r.slaves items → AllByRecursion IsItem items → AllByRecursion (IsOneDown (length r.slaves)) ws
+    → (link : ℕ) → IsOnlyDown r.links (length r.slaves) link → verdict_under ws r items ≡ Good
+one_down_good ws r items room accepted are_items down link only =
+    let last : IsOneDown (length r.slaves) (calm r.links) =
+    record { same = refl; link = link; only = only; came_a = refl; came_b = refl } in
+    let line : List ControllerState = line_of r in
+    let size : length r.slaves ≡ length line = sym (length-controllers r.slaves) in
+    let ts : List Trip = trips_under ws r items in
+    let once : AllByRecursion (PassesOnce line) (trips_of ws r.links (length line) (frames_of items)) =
+    trips-once ws r.links (frames_of items) line
+    (subst (λ (n : ℕ). AllByRecursion (IsOneDown n) ws) size down)
+    (subst (λ (n : ℕ). IsOneDown n (calm r.links)) size last) in
+    let under : AllByRecursion (PassesOnce line) ts =
+    subst (λ (n : ℕ). AllByRecursion (PassesOnce line) (trips_of ws r.links n (frames_of items))) (sym size) once in
+    verdict-counts ws r items room accepted are_items
+    ∙ once-good 0 items (carriers ts) line (carriers-each (PassesOnce line) ts under)

@@ -1,0 +1,88 @@
+//! What the working counters of a cycle certify, whatever befell its frames, each promise the contract of a
+//! function that does nothing.
+
+ghost use Rattle.std.specs.Prelude.{◌≡◌, ℕ, ◌≤◌, ◌<◌, ◌+◌, Some, List, length, slice_get};
+ghost use Rattle.std.specs.List.{AllByRecursion};
+ghost use Rattle.std.specs.Option.{option_map};
+ghost use Rattle.ec_regs.specs.declared.registers.TheConstants.{PROCESS_MEMORY, PROCESS_MEMORY_SIZE};
+ghost use Rattle.ec_app.specs.State.{SlaveState};
+ghost use Rattle.ec_line.specs.After.{after_frame};
+ghost use Rattle.ec_line.specs.Shown.{ShowsLast, NoAreaTwice};
+ghost use Rattle.ec_map.specs.Item.{ItemRecord, IsItem};
+ghost use Rattle.ec_ring.specs.Links.{IsOnlyDown};
+ghost use Rattle.ec_ring.specs.Ring.{RingState, line_of};
+ghost use Rattle.ec_ring.specs.declared.links.TheConstants.{MAX_SLAVES};
+ghost use Rattle.ec_ring.specs.declared.weather.Weather.{Weather};
+ghost use Rattle.ec_master.specs.Certificate.{verdict_under, verdict_by_counts, entries_at, IsOneDown};
+ghost use Rattle.ec_master.specs.Certificate.{memory_at, application_at, shown_at};
+ghost use Rattle.ec_master.specs.Cut.{frames_of};
+ghost use Rattle.ec_master.specs.Travelled.{trips_under, answers_under, ring_under};
+ghost use Rattle.ec_master.specs.Unordered.{by_station, slaves_after_all, AreAnswers, IsAccepted};
+ghost use Rattle.ec_master.specs.Work.{with_answers};
+ghost use Rattle.ec_master.specs.declared.verdict.Verdict.TheVariants.{Good};
+
+/// The verdict is that by counts: the first item for which the copies that came back have not counted what
+/// the line counts if each slave is passed once.
+pub fn verdict_counts()
+    ensures { (ws : List Weather) (r : RingState) (items : List ItemRecord)
+        → length r.slaves ≤ MAX_SLAVES → IsAccepted r.slaves items → AllByRecursion IsItem items
+        → verdict_under ws r items ≡ verdict_by_counts (trips_under ws r items) items (line_of r) }
+{}
+
+/// Where the verdict is good, whatever was lost or passed twice, the answers are those of the unordered cycle
+/// of all slaves, and each memory is what it leaves.
+pub fn good_image()
+    ensures answers { (ws : List Weather) (r : RingState) (items : List ItemRecord)
+        → length r.slaves ≤ MAX_SLAVES → IsAccepted r.slaves items → AllByRecursion IsItem items
+        → verdict_under ws r items ≡ Good
+        → AreAnswers (by_station r.slaves) items (with_answers items (answers_under ws r items)) }
+    ensures memories { (ws : List Weather) (r : RingState) (items : List ItemRecord) (n : ℕ)
+        → length r.slaves ≤ MAX_SLAVES → IsAccepted r.slaves items → AllByRecursion IsItem items
+        → verdict_under ws r items ≡ Good → memory_at (by_station (ring_under ws r items).slaves) n
+        ≡ memory_at (slaves_after_all items (by_station r.slaves)) n }
+{}
+
+/// And each slave's application is shown a byte as the unordered cycle shows it, where in each frame the last
+/// item that shows the byte anew is the last that writes it; so each byte, where no two items of a frame
+/// write into one area of its outputs.
+pub fn good_outputs()
+    ensures shown_last { (ws : List Weather) (r : RingState) (items : List ItemRecord) (n k : ℕ)
+        (s : SlaveState) → length r.slaves ≤ MAX_SLAVES → IsAccepted r.slaves items
+        → AllByRecursion IsItem items → verdict_under ws r items ≡ Good → k < PROCESS_MEMORY_SIZE
+        → by_station r.slaves n ≡ Some s
+        → AllByRecursion (ShowsLast s.controller (PROCESS_MEMORY + k)) (frames_of items)
+        → shown_at (by_station (ring_under ws r items).slaves) k n
+        ≡ shown_at (slaves_after_all items (by_station r.slaves)) k n }
+    ensures no_area_twice { (ws : List Weather) (r : RingState) (items : List ItemRecord) (n k : ℕ)
+        (s : SlaveState) → length r.slaves ≤ MAX_SLAVES → IsAccepted r.slaves items
+        → AllByRecursion IsItem items → verdict_under ws r items ≡ Good → k < PROCESS_MEMORY_SIZE
+        → by_station r.slaves n ≡ Some s
+        → AllByRecursion (NoAreaTwice s.controller) (frames_of items)
+        → shown_at (by_station (ring_under ws r items).slaves) k n
+        ≡ shown_at (slaves_after_all items (by_station r.slaves)) k n }
+{}
+
+/// On every verdict a slave's memory is that after the items of those frames of which a copy reached it, each
+/// once.
+pub fn memory_on_every_verdict()
+    ensures { (ws : List Weather) (r : RingState) (items : List ItemRecord) (k : ℕ) (s : SlaveState)
+        → IsAccepted r.slaves items → AllByRecursion IsItem items → slice_get r.slaves k ≡ Some s
+        → option_map (λ (t : SlaveState). t.controller.memory) (slice_get (ring_under ws r items).slaves k)
+        ≡ Some (after_frame (entries_at (trips_under ws r items) k) s.controller).memory }
+{}
+
+/// And its application is as before.
+pub fn applications_kept()
+    ensures { (ws : List Weather) (r : RingState) (items : List ItemRecord) (n : ℕ)
+        → IsAccepted r.slaves items → AllByRecursion IsItem items
+        → application_at (by_station (ring_under ws r items).slaves) n
+        ≡ application_at (by_station r.slaves) n }
+{}
+
+/// With at most one link down, the same for both copies, and nothing lost the verdict is good.
+pub fn one_link_down()
+    ensures { (ws : List Weather) (r : RingState) (items : List ItemRecord)
+        → length r.slaves ≤ MAX_SLAVES → IsAccepted r.slaves items → AllByRecursion IsItem items
+        → AllByRecursion (IsOneDown (length r.slaves)) ws
+        → (link : ℕ) → IsOnlyDown r.links (length r.slaves) link → verdict_under ws r items ≡ Good }
+{}

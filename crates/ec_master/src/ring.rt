@@ -1,0 +1,128 @@
+//! A master's cycle over a ring.
+
+ghost use Rattle.std.specs.Prelude.{◌≡◌, ◌+◌, ◌<◌, ◌≤◌, ℕ, [], List, length, map, slice_index_or};
+ghost use Rattle.ec_wire.specs.Datagram.{nth};
+ghost use Rattle.ec_line.specs.After.{Entry};
+ghost use Rattle.ec_line.specs.Trip.{joined_of, passed};
+ghost use Rattle.ec_ring.specs.Ring.{line_of, with_line};
+ghost use Rattle.ec_ring.specs.declared.links.TheConstants.{MAX_SLAVES};
+ghost use Rattle.ec_ring.specs.Travel.{trip_of};
+ghost use Rattle.ec_master.specs.Cut.{IsFrameOf, frame_at};
+ghost use Rattle.ec_master.specs.Work.{with_answers, nth_item};
+ghost use Rattle.ec_master.specs.declared.work.TheConstants.{MAX_ITEMS};
+ghost use Rattle.ec_master.specs.Travelled.{calm, answers_under, ring_under, AtMostOneDown, reached};
+ghost use Rattle.ec_master.specs.Travelled.{unreached};
+ghost use Rattle.ec_master.specs.Unordered.{station, by_station, IsCycle, IsAccepted};
+
+use crate::cut::frame_from;
+use crate::work::Work;
+use ec_merge::join_frames;
+use ec_ring::{Links, Travel, Weather};
+use ec_wire::FrameBuf;
+
+/// Both copies under a ring's own links, copy A first, none lost on its last hop.
+fn calm(links: Links) -> Weather
+    ensures { result ≡ calm links }
+{
+    Weather {
+        a: links,
+        b: links,
+        lost_a: false,
+        lost_b: false,
+        b_first: false,
+    }
+}
+
+/// The weather of a frame with a number: past the list of weathers the ring's own links.
+fn weather_of(weather: &[Weather], number: usize, links: Links) -> Weather
+    ensures { result ≡ slice_index_or weather.now number (calm links) }
+{
+    if number < weather.len() {
+        weather[number]
+    } else {
+        calm(links)
+    }
+}
+
+/// Sends a frame over a ring and joins what comes back. A ring makes no strangers, so the copies of a frame
+/// of items are always joined.
+fn carry<T: Travel>(ring: &mut T, sent: &FrameBuf, weather: &Weather) -> FrameBuf
+    ensures joined { (es : List Entry) → IsFrameOf es sent.now
+        → let t = trip_of weather.now es (length (T.ring ring.old).slaves)
+        in result ≡ joined_of t (passed t (line_of (T.ring ring.old))) }
+    ensures ring { (es : List Entry) → IsFrameOf es sent.now
+        → let t = trip_of weather.now es (length (T.ring ring.old).slaves)
+        in T.ring ring.new ≡ with_line (T.ring ring.old) (passed t (line_of (T.ring ring.old))).line }
+{
+    let came = ring.trip(sent, weather);
+    match join_frames(sent, came.a.as_ref(), came.b.as_ref()) {
+        Ok(joined) => joined,
+        Err(_) => sent.copy(),
+    }
+}
+
+/// Sends the frame that begins with the item at `first` over a ring and joins what comes back: an answer for
+/// each of its items, of the item's size.
+fn exchange<T: Travel>(ring: &mut T, weather: &Weather, work: &Work, first: usize) -> FrameBuf
+    requires { first < length work.now }
+    ensures joined { let r = T.ring ring.old
+        in let t = trip_of weather.now (frame_at first work.now) (length r.slaves)
+        in result ≡ joined_of t (passed t (line_of r)) }
+    ensures ring { let r = T.ring ring.old
+        in let t = trip_of weather.now (frame_at first work.now) (length r.slaves)
+        in T.ring ring.new ≡ with_line r (passed t (line_of r)).line }
+    ensures count { length result ≡ length (frame_at first work.now) }
+    ensures some { 1 ≤ length result }
+    ensures room { first + length result ≤ length work.now }
+    ensures sizes { (j : ℕ) → j < length result
+        → length (nth result j).payload ≡ length (nth_item work.now (first + j)).payload }
+    ensures limit { length work.now ≤ MAX_ITEMS }
+{
+    work.are_items();
+    let sent = frame_from(work, first);
+    carry(ring, &sent, weather)
+}
+
+/// Sends all frames of a work over a ring, one after the other, each under its own weather, and past the list
+/// of weathers under the ring's own links. The work takes the answers as they come.
+pub(crate) fn travel<T: Travel>(ring: &mut T, weather: &[Weather], work: &mut Work)
+    ensures work { work.new ≡ with_answers work.old (answers_under weather.now (T.ring ring.old) work.old) }
+    ensures ring { T.ring ring.new ≡ ring_under weather.now (T.ring ring.old) work.old }
+    ensures limit { length (T.ring ring.old).slaves ≤ MAX_SLAVES }
+{
+    let links = ring.links();
+    let mut first = 0;
+    let mut number = 0;
+    while first < work.len() {
+        let under = weather_of(weather, number, links);
+        let joined = exchange(ring, &under, work, first);
+        work.take_answers(first, &joined);
+        first += joined.count();
+        number += 1;
+    }
+}
+
+/// One cycle over a ring: each frame of the work travels under the ring's own links, copy A first, and the
+/// work takes the joined answers: data, working counters and the ADP of broadcast reads. It always succeeds.
+///
+/// On a line and for items that the mapping checker accepts, with at most one link down, the work and the
+/// slaves are afterwards those of the cycle over slaves that are known by their stations alone
+/// (`order_free`): neither the order of the slaves nor the break shows. With more links down they are those
+/// of that cycle over the slaves that a copy reaches (`reached`), and the others are as before (`unreached`).
+pub fn ring_cycle<T: Travel>(ring: &mut T, work: &mut Work)
+    ensures order_free { AtMostOneDown (T.ring ring.old) → IsAccepted (T.ring ring.old).slaves work.old
+        → IsCycle (by_station (T.ring ring.old).slaves) work.old work.new
+        (by_station (T.ring ring.new).slaves) }
+    ensures reached { IsAccepted (T.ring ring.old).slaves work.old
+        → IsCycle (by_station (reached (T.ring ring.old))) work.old work.new
+        (by_station (reached (T.ring ring.new))) }
+    ensures unreached { IsAccepted (T.ring ring.old).slaves work.old
+        → unreached (T.ring ring.new) ≡ unreached (T.ring ring.old) }
+    ensures places { IsAccepted (T.ring ring.old).slaves work.old
+        → map station (T.ring ring.new).slaves ≡ map station (T.ring ring.old).slaves }
+    ensures links { (T.ring ring.new).links ≡ (T.ring ring.old).links }
+    ensures frames { work.new ≡ with_answers work.old (answers_under [] (T.ring ring.old) work.old) }
+{
+    work.are_items();
+    travel(ring, &[], work);
+}

@@ -1,0 +1,3 @@
+//! Cycles with their answers written out by hand.
+
+mod cycle;

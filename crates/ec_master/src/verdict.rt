@@ -1,0 +1,48 @@
+//! What the working counters say of a cycle.
+
+ghost use Rattle.std.specs.Prelude.{◌≡◌, ◌<◌, List, length};
+ghost use Rattle.ec_wire.specs.Datagram.{DatagramRecord};
+ghost use Rattle.ec_master.specs.Verdict.{verdict, moved};
+ghost use Rattle.ec_master.specs.Work.{nth_item, with_answers};
+
+use crate::work::Work;
+
+/// What the working counters say of a cycle (IEC 61158-4-12, working counter).
+#[derive(Clone, Copy, PartialEq, Eq, Debug)]
+pub enum Verdict {
+    /// Each counter has moved as the slaves' shares say.
+    Good,
+    /// The counter of this item, the first one that is not as expected, has moved by less.
+    Short(usize),
+    /// It has moved by more.
+    Over(usize),
+}
+
+/// The verdict on a work and the answers that it would take: the first item whose counter has not moved by
+/// what is expected.
+pub(crate) fn judge(work: &Work, taken: &Work, expected: &[u16]) -> Verdict
+    requires taken { length taken.now ≡ length work.now }
+    requires expected { length expected.now ≡ length work.now }
+    ensures { (answers : List DatagramRecord) → length answers ≡ length work.now
+        → taken.now ≡ with_answers work.now answers → result ≡ verdict work.now answers expected.now }
+{
+    for k in 0..work.len() {
+        let count = counted(work, taken, k);
+        if count < expected[k] {
+            return Verdict::Short(k);
+        }
+        if count > expected[k] {
+            return Verdict::Over(k);
+        }
+    }
+    Verdict::Good
+}
+
+/// By how much the counter of the item at `k` moved, modulo 65,536.
+fn counted(work: &Work, taken: &Work, k: usize) -> u16
+    requires work { k < length work.now }
+    requires taken { k < length taken.now }
+    ensures { result ≡ moved (nth_item work.now k).counter (nth_item taken.now k).counter }
+{
+    taken.item(k).counter().wrapping_sub(work.item(k).counter())
+}

@@ -1,0 +1,88 @@
+//! A master's cycle whatever befalls its frames.
+
+ghost use Rattle.std.specs.Prelude.{◌≡◌, ◌≢◌, ◌+◌, ◌<◌, ℕ, Some, List, length, map, slice_get};
+ghost use Rattle.std.specs.List.{AllByRecursion};
+ghost use Rattle.std.specs.Option.{option_map};
+ghost use Rattle.ec_regs.specs.declared.registers.TheConstants.{PROCESS_MEMORY, PROCESS_MEMORY_SIZE};
+ghost use Rattle.ec_app.specs.State.{SlaveState};
+ghost use Rattle.ec_line.specs.After.{after_frame};
+ghost use Rattle.ec_line.specs.Shown.{ShowsLast, NoAreaTwice};
+ghost use Rattle.ec_map.specs.Share.{expected_of};
+ghost use Rattle.ec_ring.specs.Ring.{line_of};
+ghost use Rattle.ec_master.specs.Certificate.{verdict_by_counts, entries_at, IsOneDown};
+ghost use Rattle.ec_master.specs.Certificate.{memory_at, application_at, shown_at};
+ghost use Rattle.ec_master.specs.Cut.{frames_of};
+ghost use Rattle.ec_master.specs.Travelled.{trips_under, ring_under, AtMostOneDown};
+ghost use Rattle.ec_master.specs.Unordered.{by_station, slaves_after_all, AreAnswers, IsAccepted};
+
+use crate::ring::travel;
+use crate::verdict::{Verdict, judge};
+use crate::work::Work;
+use ec_ring::{Travel, Weather};
+
+/// One cycle over a ring in any weather: frame i travels under weather i, and those past the list under the
+/// ring's own links, copy A first. The verdict compares each counter with what is expected of the line
+/// (`ec_map::expected`, which the caller has asked for each item). On `Good` the work takes the joined
+/// answers; else it is unchanged.
+///
+/// On a line and for items that the mapping checker accepts, whatever was lost or passed twice:
+/// - `verdict`: it is that by counts of passes;
+/// - `good_image`, `good_memories`: on `Good` the answers are those of the cycle over slaves that are known
+///   by their stations alone, and so is each memory;
+/// - `good_outputs`, `good_outputs_alone`: so is each shown byte, where in each frame the last item that
+///   shows it anew is the last that writes it, and where no two items of a frame write into one area of
+///   outputs;
+/// - `untouched_work`: on another verdict the work is unchanged;
+/// - `memory_on_every_verdict`: a slave's memory is that after the items of those frames of which a copy
+///   reached it, each once;
+/// - `good_when_one_link_is_down`: with at most one link down, the same for both copies, and nothing lost the
+///   verdict is `Good`.
+pub fn weather_cycle<T: Travel>(
+    ring: &mut T,
+    weather: &[Weather],
+    expected: &[u16],
+    work: &mut Work,
+) -> Verdict
+    requires { expected.now ≡ map (expected_of (line_of (T.ring ring.old))) work.old }
+    ensures verdict { IsAccepted (T.ring ring.old).slaves work.old → result
+        ≡ verdict_by_counts (trips_under weather.now (T.ring ring.old) work.old) work.old
+        (line_of (T.ring ring.old)) }
+    ensures good_image { IsAccepted (T.ring ring.old).slaves work.old → result ≡ Verdict.Good
+        → AreAnswers (by_station (T.ring ring.old).slaves) work.old work.new }
+    ensures good_memories { (n : ℕ) → IsAccepted (T.ring ring.old).slaves work.old → result ≡ Verdict.Good
+        → memory_at (by_station (T.ring ring.new).slaves) n
+        ≡ memory_at (slaves_after_all work.old (by_station (T.ring ring.old).slaves)) n }
+    ensures good_outputs { (n k : ℕ) (s : SlaveState) → IsAccepted (T.ring ring.old).slaves work.old
+        → result ≡ Verdict.Good → k < PROCESS_MEMORY_SIZE → by_station (T.ring ring.old).slaves n ≡ Some s
+        → AllByRecursion (ShowsLast s.controller (PROCESS_MEMORY + k)) (frames_of work.old)
+        → shown_at (by_station (T.ring ring.new).slaves) k n
+        ≡ shown_at (slaves_after_all work.old (by_station (T.ring ring.old).slaves)) k n }
+    ensures good_outputs_alone { (n k : ℕ) (s : SlaveState) → IsAccepted (T.ring ring.old).slaves work.old
+        → result ≡ Verdict.Good → k < PROCESS_MEMORY_SIZE → by_station (T.ring ring.old).slaves n ≡ Some s
+        → AllByRecursion (NoAreaTwice s.controller) (frames_of work.old)
+        → shown_at (by_station (T.ring ring.new).slaves) k n
+        ≡ shown_at (slaves_after_all work.old (by_station (T.ring ring.old).slaves)) k n }
+    ensures untouched_work { result ≢ Verdict.Good → work.new ≡ work.old }
+    ensures memory_on_every_verdict { (k : ℕ) (s : SlaveState) → IsAccepted (T.ring ring.old).slaves work.old
+        → slice_get (T.ring ring.old).slaves k ≡ Some s
+        → option_map (λ (t : SlaveState). t.controller.memory) (slice_get (T.ring ring.new).slaves k)
+        ≡ Some (after_frame (entries_at (trips_under weather.now (T.ring ring.old) work.old) k)
+        s.controller).memory }
+    ensures applications { (n : ℕ) → IsAccepted (T.ring ring.old).slaves work.old
+        → application_at (by_station (T.ring ring.new).slaves) n
+        ≡ application_at (by_station (T.ring ring.old).slaves) n }
+    ensures good_when_one_link_is_down { IsAccepted (T.ring ring.old).slaves work.old
+        → AllByRecursion (IsOneDown (length (T.ring ring.old).slaves)) weather.now
+        → AtMostOneDown (T.ring ring.old) → result ≡ Verdict.Good }
+    ensures links { (T.ring ring.new).links ≡ (T.ring ring.old).links }
+    ensures frames { T.ring ring.new ≡ ring_under weather.now (T.ring ring.old) work.old }
+{
+    work.are_items();
+    let mut taken = work.copy();
+    travel(ring, weather, &mut taken);
+    let verdict = judge(work, &taken, expected);
+    if verdict == Verdict::Good {
+        *work = taken;
+    }
+    verdict
+}

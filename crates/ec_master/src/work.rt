@@ -1,0 +1,170 @@
+//! What a master asks in each cycle.
+
+ghost use Rattle.std.specs.Prelude.{◌≡◌, ◌+◌, ◌++◌, ◌∷◌, ◌<◌, ◌≤◌, ◌↔◌, ℕ, [], length, map, slice_get, Some};
+ghost use Rattle.std.specs.Prelude.{OnOk, OnErr, IsErr};
+ghost use Rattle.std.specs.Borrow.{sem};
+ghost use Rattle.std.specs.List.{AllByRecursion};
+ghost use Rattle.ec_master.specs.Lending.{LendsItem};
+ghost use Rattle.ec_master.specs.Work.{nth_item, rewound, with_answer, with_answers_at};
+ghost use Rattle.ec_map.specs.Item.{IsItem, datagram_of};
+ghost use Rattle.ec_wire.specs.Datagram.{nth, record_of};
+
+use ec_map::Item;
+use ec_wire::{Datagram, FrameBuf};
+use std::marker::Model;
+
+/// The most items of a work.
+pub const MAX_ITEMS: usize = 32;
+
+/// A work has `MAX_ITEMS` items.
+#[derive(Clone, Copy, PartialEq, Eq, Debug)]
+pub struct Full;
+
+/// What a master asks in each cycle: at most `MAX_ITEMS` items, with the last answers. Contracts see the list
+/// of its items.
+#[derive(Drop)]
+pub struct Work {
+    items: [Item; MAX_ITEMS],
+    count: usize,
+}
+
+impl Model for Work {
+    ghost use Rattle.std.specs.Prelude.{◌≡◌, ◌≤◌, List, length, take};
+    ghost use Rattle.ec_map.specs.Item.{ItemRecord};
+    ghost use Rattle.ec_master.specs.declared.work.TheConstants.{MAX_ITEMS};
+
+    ghost Value = { List ItemRecord };
+
+    ghost view = { λ w. take w.count w.items };
+
+    ghost invariant = { λ w. (w.count ≤ MAX_ITEMS) × (length w.items ≡ MAX_ITEMS) };
+}
+
+impl Work {
+    /// A work without items.
+    pub fn new() -> Work
+        ensures { result ≡ [] }
+    {
+        Work {
+            items: Default::default(),
+            count: 0,
+        }
+    }
+
+    /// Adds an item behind the others; a work of `MAX_ITEMS` stays as it is.
+    pub fn push(&mut self, item: Item) -> Result<(), Full>
+        ensures ok { OnOk result (self.new ≡ self.old ++ item ∷ []) }
+        ensures err { OnErr result (self.new ≡ self.old) }
+        ensures full { IsErr result ↔ (length self.old ≡ MAX_ITEMS) }
+    {
+        if self.count == MAX_ITEMS {
+            return Err(Full);
+        }
+        self.items[self.count] = item;
+        self.count += 1;
+        Ok(())
+    }
+
+    /// The same work once more.
+    pub(crate) fn copy(&self) -> Work
+        ensures { result ≡ self.now }
+    {
+        let mut copy = Work::new();
+        for k in 0..self.len() {
+            let _ = copy.push(self.item(k).copy());
+        }
+        copy
+    }
+
+    /// The number of items, at most `MAX_ITEMS`.
+    pub fn len(&self) -> usize
+        ensures count { result ≡ length self.now }
+        ensures limit { result ≤ MAX_ITEMS }
+    {
+        self.count
+    }
+
+    /// The item at `k`.
+    pub fn item(&self, k: usize) -> &Item
+        requires { k < length self.now }
+        ensures { slice_get self.now k ≡ Some result.now }
+    {
+        let _count = self.len();
+        &self.items[k]
+    }
+
+    /// The item at `k`, to be given other data; all else stays.
+    pub fn item_mut(&mut self, k: usize) -> &mut Item
+        requires { k < length self.old }
+        ensures* writes_back { sem 𝓛 (LendsItem self.entry k result) }
+        ensures value { slice_get self.old k ≡ Some result.now }
+    {
+        let _count = self.len();
+        &mut self.items[k]
+    }
+
+    /// The datagram that asks the item at `k`, with `k` as index. (Its clause `item` is what a proof knows of
+    /// every item of a work.)
+    pub(crate) fn datagram(&self, k: usize) -> Datagram
+        requires { k < length self.now }
+        ensures datagram { record_of result ≡ datagram_of (nth_item self.now k) k }
+        ensures item { IsItem (nth_item self.now k) }
+    {
+        let _count = self.len();
+        let item = self.item(k);
+        let _length = item.len();
+        item.datagram(k as u8)
+    }
+
+    /// What a proof knows of the items of every work.
+    pub(crate) fn are_items(&self)
+        ensures items { AllByRecursion IsItem self.now }
+        ensures limit { length self.now ≤ MAX_ITEMS }
+    {
+        for k in 0..self.len() {
+            let _length = self.item(k).len();
+        }
+    }
+
+    /// Gives the items from `first` on the answers of a frame, each its own.
+    pub(crate) fn take_answers(&mut self, first: usize, joined: &FrameBuf)
+        requires room { first + length joined.now ≤ length self.old }
+        requires sizes { (j : ℕ) → j < length joined.now
+            → length (nth joined.now j).payload ≡ length (nth_item self.old (first + j)).payload }
+        ensures { self.new ≡ with_answers_at first self.old joined.now }
+    {
+        let _count = self.len();
+        for j in 0..joined.count() {
+            take_answer(self.item_mut(first + j), joined, j);
+        }
+    }
+
+    /// Sets the counters, and the ADP of broadcast reads, to 0; all else stays.
+    pub fn rewind(&mut self)
+        ensures { self.new ≡ map rewound self.old }
+    {
+        for k in 0..self.len() {
+            rewind_item(self.item_mut(k));
+        }
+    }
+}
+
+/// Gives an item the answer of the datagram at `j`: its data, its working counter, and its ADP where the item
+/// is a broadcast read.
+fn take_answer(item: &mut Item, joined: &FrameBuf, j: usize)
+    requires there { j < length joined.now }
+    requires size { length (nth joined.now j).payload ≡ length item.old.payload }
+    ensures { item.new ≡ with_answer item.old (nth joined.now j) }
+{
+    item.set_data(joined.data(j));
+    item.set_counter(joined.counter(j));
+    item.set_adp(joined.adp(j));
+}
+
+/// Sets an item's counter, and the ADP of a broadcast read, to 0.
+fn rewind_item(item: &mut Item)
+    ensures { item.new ≡ rewound item.old }
+{
+    item.set_counter(0);
+    item.set_adp(0);
+}
