@@ -6,6 +6,9 @@
 
 ghost use Rattle.std.specs.Prelude.{◌≡◌, length};
 
+mod checker;
+
+use checker::checking;
 use ec_esc::Controller;
 use ec_merge::join_bytes;
 use ec_regs::{Fmmu, SyncMan};
@@ -22,13 +25,14 @@ const RUNS: u32 = 1000;
 const ROUNDS: u32 = 20;
 
 /// The works, by name.
-const WORKS: [&str; 6] = [
+const WORKS: [&str; 7] = [
     "read_1",
     "read_124",
     "lrw_1486_aligned",
     "lrd_1486_odd",
     "brd_1486",
     "join_1486",
+    "check_256",
 ];
 
 fn main(rt: HostRuntime) -> ExitCode {
@@ -50,24 +54,47 @@ where
         }
         return Ok(());
     }
-    let lrw = one(0x0C, 0x0001_0000);
-    writeln!(out, "read_1 {}", reading(rt, &lrw)?)?;
-    writeln!(out, "read_124 {}", reading(rt, &many())?)?;
+    measure_reading(rt, out)?;
+    measure_whole_bytes(rt, out)?;
+    measure_odd_bits(rt, out)?;
+    writeln!(out, "join_1486 {}", joining(rt)?)?;
+    writeln!(out, "check_256 {}", checking(rt)?)
+}
+
+/// Measures the reading of frames.
+fn measure_reading<R: Clock, W: io::Write>(rt: &R, out: &mut W) -> io::Result<()> {
+    writeln!(out, "read_1 {}", reading(rt, &one(0x0C, 0x0001_0000))?)?;
+    writeln!(out, "read_124 {}", reading(rt, &many())?)
+}
+
+/// Measures a controller whose FMMUs map whole bytes.
+fn measure_whole_bytes<R, W>(rt: &R, out: &mut W) -> io::Result<()>
+where
+    R: Clock + AllocGlobal,
+    W: io::Write,
+{
     let Ok(mut slave) = Controller::new(rt.alloc(), 0x1001) else {
-        return Ok(());
+        return Err(io::Error::from(io::ErrorKind::OutOfMemory));
     };
     map_whole_bytes(&mut slave);
-    writeln!(out, "lrw_1486_aligned {}", passing(rt, &mut slave, &lrw)?)?;
+    let lrw = one(0x0C, 0x0001_0000);
+    writeln!(out, "lrw_1486_aligned {}", passing(rt, &mut slave, &lrw)?)
+}
+
+/// Measures a controller whose FMMUs map bits at odd places, and reads its registers too.
+fn measure_odd_bits<R, W>(rt: &R, out: &mut W) -> io::Result<()>
+where
+    R: Clock + AllocGlobal,
+    W: io::Write,
+{
     let Ok(mut slave) = Controller::new(rt.alloc(), 0x1001) else {
-        return Ok(());
+        return Err(io::Error::from(io::ErrorKind::OutOfMemory));
     };
     map_odd_bits(&mut slave);
     let lrd = one(0x0A, 0x0001_0000);
     writeln!(out, "lrd_1486_odd {}", passing(rt, &mut slave, &lrd)?)?;
     let brd = one(0x07, 0x0130_0000);
-    writeln!(out, "brd_1486 {}", passing(rt, &mut slave, &brd)?)?;
-    writeln!(out, "join_1486 {}", joining(rt)?)?;
-    Ok(())
+    writeln!(out, "brd_1486 {}", passing(rt, &mut slave, &brd)?)
 }
 
 /// Eight FMMUs of 185 whole bytes each, by turns for reading and for writing, and the areas onto which they

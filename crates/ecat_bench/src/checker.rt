@@ -1,0 +1,96 @@
+//! The checker of a line's mapping as a work, over a line of 256 slaves with eight FMMUs each. The line is
+//! fit, so that each rule is tested to its end.
+
+ghost use Rattle.std.specs.Prelude.{◌<◌};
+
+use ec_app::{Objects, Slave};
+use ec_map::check;
+use ec_regs::{Fmmu, NoMemory, SyncMan};
+use std::alloc::Global;
+use std::io;
+use std::rt::Clock;
+use std::time::Instant;
+
+/// How many slaves stand on the line.
+const SLAVES: u16 = 256;
+
+/// How often the time of a check is taken.
+const ROUNDS: u32 = 20;
+
+/// The picoseconds of checking the line.
+pub(crate) fn checking(rt: &(impl Clock + AllocGlobal)) -> io::Result<u64> {
+    let Ok(line) = full_line(rt.alloc()) else {
+        return Err(io::Error::from(io::ErrorKind::OutOfMemory));
+    };
+    let mut best = u64::MAX;
+    for _round in 0..ROUNDS {
+        let start = Instant::now(rt)?;
+        if check(&line).is_err() {
+            return Err(io::Error::from(io::ErrorKind::InvalidData));
+        }
+        best = best.min(picoseconds(start.elapsed(rt)?.subsec_nanos()));
+    }
+    Ok(best)
+}
+
+/// The picoseconds of some nanoseconds.
+fn picoseconds(nanoseconds: u32) -> u64 {
+    1000 * u64::from(nanoseconds)
+}
+
+/// The line, from its first slave on.
+fn full_line(alloc: Global) -> Result<Vec<Slave>, NoMemory> {
+    let mut line = Vec::new(alloc);
+    for place in 0..SLAVES {
+        if line.push(busy_slave(alloc, place)?).is_err() {
+            return Err(NoMemory);
+        }
+    }
+    Ok(line)
+}
+
+/// A slave that reads and writes four logical bytes of its own, one by one.
+fn busy_slave(alloc: Global, place: u16) -> Result<Slave, NoMemory>
+    requires { place < 256 }
+{
+    let mut slave = Slave::new(alloc, place, Objects::new(), 0, 0)?;
+    slave.controller_mut().set_syncman(2, &area(0x1000, 0x04));
+    slave.controller_mut().set_syncman(3, &area(0x1100, 0x00));
+    let logical = 0x0001_0000 + 4 * u32::from(place);
+    for k in 0..4usize {
+        slave
+            .controller_mut()
+            .set_fmmu(k, &byte(logical + k as u32, 0x1000 + k as u16, 2));
+        slave
+            .controller_mut()
+            .set_fmmu(k + 4, &byte(logical + k as u32, 0x1100 + k as u16, 1));
+    }
+    Ok(slave)
+}
+
+/// A buffered area of four bytes.
+fn area(start: u16, control: u8) -> SyncMan {
+    SyncMan {
+        start,
+        length: 4,
+        control,
+        status: 0,
+        activate: 1,
+        pdi: 0,
+    }
+}
+
+/// An FMMU of one whole byte.
+fn byte(logical: u32, physical: u16, kind: u8) -> Fmmu {
+    Fmmu {
+        logical,
+        length: 1,
+        start: 0,
+        stop: 7,
+        physical,
+        bit: 0,
+        kind,
+        activate: 1,
+        reserved: [0; 3],
+    }
+}
