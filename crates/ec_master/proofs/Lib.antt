@@ -9,5 +9,4 @@ pub mod WorkLemmas
 pub mod CarryLemmas
 pub mod TravelLemmas
 pub mod JudgedLemmas
-pub mod JudgeLemmas
 pub mod PortLemmas

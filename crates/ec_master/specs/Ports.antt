@@ -1,6 +1,6 @@
 -- The frames of a cycle go out over ports one after the other, and what comes back of each is joined, until
 -- one fails.
-use Rattle.std.specs.Prelude.{◌≡◌, ℕ, Option, unwrap_or, List, [], ◌∷◌, map, Result, Ok, Err}
+use Rattle.std.specs.Prelude.{◌≡◌, ℕ, Option, unwrap_or, List, [], ◌∷◌, length, map, Result, Ok, Err}
 use Rattle.ec_wire.specs.Datagram.{DatagramRecord}
 use Rattle.ec_merge.specs.Frames.{IsOwn, IsFault, joined_frame}
 use Rattle.ec_merge.specs.declared.frames.JoinFault.{JoinFault}
@@ -71,12 +71,13 @@ Sends {P} trips before (sent ∷ rest) outcome later =
 
 -- ---- the cycle
 
--- frames of items go out, and each is joined: these are the answers
-pub record IsAnswered {P : Type 0} (trips : Trips P) (before : P) (items : List ItemRecord)
-    (answers : List DatagramRecord) (later : P) : Type 0 where
+-- the frames of items go out, each is joined, and the items take their answers
+pub record IsAnswered {P : Type 0} (trips : Trips P) (before : P) (items taken : List ItemRecord)
+    (later : P) : Type 0 where
   pub joined : List (List DatagramRecord)
   pub sends : Sends trips before (map sent_of (frames_of items)) (Ok joined) later
-  pub answers_are : answers ≡ concat joined
+  pub count : length (concat joined) ≡ length items
+  pub taken_are : taken ≡ with_answers items (concat joined)
 
 -- items take their answers on a good verdict, and are else as they were
 abbrev pub taken_on : Verdict → List ItemRecord → List DatagramRecord → List ItemRecord

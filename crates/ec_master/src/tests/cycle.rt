@@ -116,7 +116,7 @@ fn two_frames(rt: &impl Abort) -> Work {
     work
 }
 
-/// The answer of a cycle of those two items, of which each is expected to count 1, and what is left of it: the
+/// The answer of a cycle of those two items, each of which is expected to count 1, and what is left then: the
 /// first byte and the counter of each item.
 fn cycle(rt: &impl Abort, ports: &mut Fates) -> (Result<Verdict, CycleFault>, [(u8, u16); 2]) {
     let mut work = two_frames(rt);
