@@ -13,7 +13,7 @@ fn guards(manager: &SyncMan, address: u32) -> bool
 {
     let start = u32::from(manager.start);
     let end = start + u32::from(manager.length);
-    manager.is_active() && start <= address && address < end
+    start <= address && address < end && manager.is_active()
 }
 
 /// Is the byte kept from reads through FMMUs?

@@ -1,13 +1,11 @@
 -- What the application finds after it wrote: runs of the memory, AL status, and the status byte of a mailbox.
-use Rattle.std.proofs.Common.{◌≡◌, ℕ, ◌+◌, ◌-◌, ◌*◌, ◌/◌, ◌%◌, ◌^◌, ◌<◌, ◌≤◌, true, false, List, [], ◌∷◌, ◌++◌, length, get_or, set, Some, take, drop, sym, ◌∙◌, ap, arith, length-append}
-use Rattle.std.specs.Prelude.{bit_and, bit_or, replicate}
-use Rattle.std.specs.Int.{bit_at, w16, to_le_bytes}
+use Rattle.std.proofs.Common.{◌≡◌, ℕ, ◌+◌, ◌-◌, ◌*◌, ◌/◌, ◌%◌, ◌^◌, ◌<◌, ◌≤◌, true, List, [], ◌∷◌, ◌++◌, length, get_or, take, drop, ◌∙◌, ap, arith, length-append}
+use Rattle.std.specs.Prelude.{replicate}
+use Rattle.std.specs.Int.{w16, to_le_bytes}
 use Rattle.std.proofs.Math.ListN.{get_or-append}
 use Rattle.std.proofs.Math.Seq.{take-append-add}
 use Rattle.std.proofs.lemmas.Bool.Decides.{nat_tests}
 use Rattle.std.proofs.lemmas.List.{get_or-take, get_or-drop, get_or-append_right, length-take-le, length-drop, take-replicate}
-use Rattle.std.proofs.lemmas.Nat.{and_comm, and-not, or_disjoint}
-use Rattle.std.proofs.lemmas.Nat.Bits.{and_pow, bit_at-lt}
 use Rattle.ec_regs.specs.Al.{status_byte, status_of}
 use Rattle.ec_regs.specs.declared.al.AlStatus.{AlStatus}
 use Rattle.ec_regs.specs.declared.registers.TheConstants.{AL_STATUS, AL_STATUS_CODE, MEMORY_SIZE}
@@ -15,8 +13,6 @@ use Rattle.ec_regs.specs.declared.sync_man.SyncMan.{SyncMan}
 use Rattle.ec_regs.proofs.AlLemmas.{status_of-status_byte}
 use Rattle.ec_esc.specs.Application.{with_al, al_status, al_status_code, mail_area}
 use Rattle.ec_regs.specs.SyncMan.{is_active, is_mailbox}
-use Rattle.ec_esc.specs.Writing.{with_emptied, with_filled}
-use Rattle.ec_regs.specs.SyncMan.{is_full}
 use Rattle.ec_areas.specs.Records.{sync_manager_at}
 use Rattle.ec_esc.specs.State.{ControllerState, with_run}
 use Rattle.ec_areas.specs.Ranges.{status_address}
@@ -24,7 +20,7 @@ use Rattle.ec_areas.specs.Ranges.{status_address}
 -- ---- a run of a list replaced
 
 -- its length stays
-length-with_run : (xs ys : List ℕ) (at : ℕ) → at + length ys ≤ length xs → length (with_run xs at ys) ≡ length xs
+pub length-with_run : (xs ys : List ℕ) (at : ℕ) → at + length ys ≤ length xs → length (with_run xs at ys) ≡ length xs
 length-with_run xs ys at inside =
     omega
     (arith, length-append (take at xs ++ ys) (drop (at + length ys) xs), length-append (take at xs) ys, length-take-le at xs (omega arith), length-drop (at + length ys) xs)
@@ -45,6 +41,17 @@ get_or-with_run_inside xs ys at k inside within =
     get_or-append (take at xs ++ ys) (drop (at + length ys) xs) 0 (at + k) (omega (arith, length-append (take at xs) ys))
     ∙ get_or-append_right (take at xs) ys at (at + k) 0 front (omega arith)
     ∙ ap (λ j. get_or ys j 0) place
+
+-- and those behind it stay
+pub get_or-with_run_behind : (xs ys : List ℕ) (at k : ℕ) → at + length ys ≤ k → at + length ys ≤ length xs
+    → get_or (with_run xs at ys) k 0 ≡ get_or xs k 0
+get_or-with_run_behind xs ys at k behind inside =
+    let size : length (take at xs ++ ys) ≡ at + length ys =
+    length-append (take at xs) ys ∙ ap (λ n. n + length ys) (length-take-le at xs (omega arith)) in
+    let place : at + length ys + (k - (at + length ys)) ≡ k = omega arith in
+    get_or-append_right (take at xs ++ ys) (drop (at + length ys) xs) (at + length ys) k 0 size behind
+    ∙ get_or-drop (at + length ys) xs (k - (at + length ys)) 0
+    ∙ ap (λ j. get_or xs j 0) place
 
 -- ---- AL status
 

@@ -9,3 +9,4 @@ pub mod SettledLemmas
 pub mod PhysicalLemmas
 pub mod IdleLemmas
 pub mod EffectLemmas
+pub mod PlannedLemmas

@@ -3,11 +3,12 @@
 ghost use Rattle.std.specs.Prelude.{◌≡◌, ◌+◌, ◌-◌, ◌<◌, ◌≤◌, ℕ, IfOk, length, slice_index};
 ghost use Rattle.ec_regs.specs.declared.registers.TheConstants.{PROCESS_MEMORY, MEMORY_SIZE};
 
+use crate::planned::PlannedMemory;
 use ec_regs::registers::{
     AL_STATUS, FMMU_BASE, FMMU_SIZE, PROCESS_MEMORY, PROCESS_MEMORY_SIZE, STATION_ADDRESS,
     SYNC_MANAGER_BASE, SYNC_MANAGER_SIZE,
 };
-use ec_regs::{Fmmu, Memory, NoMemory, SyncMan};
+use ec_regs::{Fmmu, NoMemory, SyncMan};
 use std::alloc::{AllocError, Global};
 use std::marker::Model;
 
@@ -18,7 +19,7 @@ const INIT: u8 = 0x01;
 /// process memory) and whether AL control was written since the application last looked.
 #[derive(Drop)]
 pub struct Controller {
-    pub(crate) memory: Memory,
+    pub(crate) memory: PlannedMemory,
     pub(crate) shown: Vec<u8>,
     pub(crate) written: bool,
 }
@@ -51,7 +52,7 @@ impl Controller {
     pub fn new(alloc: Global, station: u16) -> Result<Controller, NoMemory>
         ensures { IfOk result (IsFresh station) }
     {
-        let mut memory = Memory::new(alloc)?;
+        let mut memory = PlannedMemory::new(alloc)?;
         memory.set_byte(AL_STATUS, INIT);
         memory.set_byte(STATION_ADDRESS + 1, (station / 256) as u8);
         memory.set_byte(STATION_ADDRESS, (station % 256) as u8);

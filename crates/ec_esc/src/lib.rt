@@ -2,6 +2,7 @@
 //! One EtherCAT slave controller and what it does with a frame (IEC 61158-4-12).
 //!
 //! A `Controller` is its memory, the bytes that its application is shown, and a mark that AL control was written.
+//! It keeps the FMMUs and sync managers of the memory decoded (`planned`), so that no datagram decodes them.
 //!
 //! - `Controller::new` makes one with a station address, in Init.
 //! - `process` is one pass of a frame: its datagrams from left to right, each on the memory that the one before left.
@@ -20,6 +21,7 @@ mod controller;
 mod mailbox;
 mod physical;
 mod physical_write;
+mod planned;
 mod process;
 mod reading;
 mod showing;

@@ -5,11 +5,12 @@ ghost use Rattle.ec_regs.specs.declared.registers.TheConstants.{MEMORY_SIZE};
 ghost use Rattle.ec_esc.specs.Writing.{with_emptied, with_filled};
 
 use crate::controller::Controller;
+use crate::planned::PlannedMemory;
 use ec_areas::status_address;
-use ec_regs::{MAILBOX_FULL, Memory};
+use ec_regs::MAILBOX_FULL;
 
 /// Fills the mailbox of the sync manager with a number; all else stays.
-pub(crate) fn fill_mailbox(memory: &mut Memory, number: usize)
+pub(crate) fn fill_mailbox(memory: &mut PlannedMemory, number: usize)
     requires { number < 8 }
     ensures value { memory.new ≡ with_filled (Some number) memory.old }
     ensures size { length memory.new ≡ MEMORY_SIZE }

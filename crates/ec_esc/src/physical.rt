@@ -16,9 +16,7 @@ ghost use Rattle.ec_esc.specs.Pass.{counter_after};
 ghost use Rattle.ec_esc.specs.Stages.{access as access_of};
 
 use crate::controller::Controller;
-use ec_areas::{
-    copy_run, emptied_by, merge_run, serves_physical_read, serves_physical_write, sync_managers_of,
-};
+use ec_areas::{copy_run, emptied_by, merge_run, serves_physical_read, serves_physical_write};
 use ec_wire::FrameBuf;
 
 /// How many values each half of a physical command's address has.
@@ -92,8 +90,7 @@ impl Controller {
         ensures value { result ≡ serves_range_read self.now (nth frame.now k) }
         ensures inside { IsTrue result → ado (nth frame.now k) + length (nth frame.now k).payload ≤ MEMORY_SIZE }
     {
-        let managers = sync_managers_of(self.memory.bytes());
-        serves_physical_read(&managers, ado(frame, k), count(frame, k))
+        serves_physical_read(self.memory.managers(), ado(frame, k), count(frame, k))
     }
 
     /// Fills the data of the datagram at `k` with the bytes of its range; all else stays.
@@ -122,8 +119,7 @@ impl Controller {
         requires inside { ado (nth frame.now k) + length (nth frame.now k).payload ≤ MEMORY_SIZE }
         ensures { self.new ≡ read_out self.old (nth frame.now k) }
     {
-        let managers = sync_managers_of(self.memory.bytes());
-        match emptied_by(&managers, ado(frame, k), count(frame, k)) {
+        match emptied_by(self.memory.managers(), ado(frame, k), count(frame, k)) {
             Some(number) => self.mark_empty(number),
             None => {}
         }
@@ -171,8 +167,7 @@ impl Controller {
         ensures value { result ≡ serves_range_write self.now (nth frame.now k) }
         ensures inside { IsTrue result → ado (nth frame.now k) + length (nth frame.now k).payload ≤ MEMORY_SIZE }
     {
-        let managers = sync_managers_of(self.memory.bytes());
-        serves_physical_write(&managers, ado(frame, k), count(frame, k))
+        serves_physical_write(self.memory.managers(), ado(frame, k), count(frame, k))
     }
 
     /// Writes the data of the datagram at `k` to its range.

@@ -20,24 +20,27 @@ ghost use Rattle.ec_wire.specs.Datagram.{DatagramRecord};
 
 use crate::controller::Controller;
 use crate::mailbox::fill_mailbox;
-use ec_areas::{filled_by, status_address, sync_managers_of, takes_writes, within};
+use crate::planned::PlannedMemory;
+use crate::process::are_bytes;
+use ec_areas::{filled_by, status_address, takes_writes, within};
+use ec_regs::SyncMan;
 use ec_regs::registers::AL_CONTROL;
-use ec_regs::{Memory, SyncMan};
 
 /// The status of a sync manager that was switched on or off.
 const EMPTY: u8 = 0x00;
 
 /// The records of the sync managers on arrival.
-fn arrived_records(memory: &[u8]) -> [SyncMan; 8]
-    requires { length memory.now ≡ MEMORY_SIZE }
+fn arrived_records(memory: &PlannedMemory) -> [SyncMan; 8]
     ensures value { result ≡ sync_managers_of memory.now }
     ensures bytes { AreBytes memory.now }
+    ensures size { length memory.now ≡ MEMORY_SIZE }
 {
-    sync_managers_of(memory)
+    are_bytes(memory.bytes());
+    *memory.managers()
 }
 
 /// Writes the byte at an address where it takes writes by the records on arrival; all else stays.
-fn write_byte(memory: &mut Memory, managers: &[SyncMan; 8], address: u16, byte: u8)
+fn write_byte(memory: &mut PlannedMemory, managers: &[SyncMan; 8], address: u16, byte: u8)
     requires { address < MEMORY_SIZE }
     ensures { (arrived : List ℕ) → managers.now ≡ sync_managers_of arrived → memory.new ≡ (if takes_writes arrived address then slice_set memory.old address byte else memory.old) }
 {
@@ -47,7 +50,7 @@ fn write_byte(memory: &mut Memory, managers: &[SyncMan; 8], address: u16, byte: 
 }
 
 /// Writes the data from an address on, as far as the bytes there take writes by the records on arrival.
-fn write_run(memory: &mut Memory, managers: &[SyncMan; 8], from: u16, payload: &[u8])
+fn write_run(memory: &mut PlannedMemory, managers: &[SyncMan; 8], from: u16, payload: &[u8])
     requires size { length memory.old ≡ MEMORY_SIZE }
     requires bytes { AreBytes memory.old }
     requires records { managers.now ≡ sync_managers_of memory.old }
@@ -61,7 +64,7 @@ fn write_run(memory: &mut Memory, managers: &[SyncMan; 8], from: u16, payload: &
 }
 
 /// Writes the data from an address on as `write_run` does, and fills it with the bytes that stood there.
-fn swap_run(memory: &mut Memory, managers: &[SyncMan; 8], from: u16, payload: &mut [u8])
+fn swap_run(memory: &mut PlannedMemory, managers: &[SyncMan; 8], from: u16, payload: &mut [u8])
     requires size { length memory.old ≡ MEMORY_SIZE }
     requires bytes { AreBytes memory.old }
     requires records { managers.now ≡ sync_managers_of memory.old }
@@ -87,11 +90,11 @@ fn is_switched(before: &SyncMan, after: &SyncMan) -> bool
 
 /// Clears the status of each sync manager that a write switched on or off; all else stays. The records are those on
 /// arrival.
-fn settle(memory: &mut Memory, before: &[SyncMan; 8])
+fn settle(memory: &mut PlannedMemory, before: &[SyncMan; 8])
     ensures value { (arrived : List ℕ) → before.now ≡ sync_managers_of arrived → memory.new ≡ settled arrived memory.old }
     ensures size { length memory.new ≡ MEMORY_SIZE }
 {
-    let after = sync_managers_of(memory.bytes());
+    let after = *memory.managers();
     for number in 0..8usize {
         if is_switched(&before[number], &after[number]) {
             memory.set_byte(status_address(number), EMPTY);
@@ -129,7 +132,7 @@ impl Controller {
     fn show_range(&mut self, before: &[SyncMan; 8], from: u16, count: u16)
         ensures { (arrived : List ℕ) → before.now ≡ sync_managers_of arrived → self.new ≡ record self.old { shown = shown_after (is_written arrived from count) before.now (sync_managers_of self.old.memory) self.old.memory self.old.shown } }
     {
-        let after = sync_managers_of(self.memory.bytes());
+        let after = *self.memory.managers();
         let reached = last_bytes_written(before, &after, from, count);
         self.show_written(before, &after, &reached);
     }
@@ -171,7 +174,7 @@ impl Controller {
         requires { from + length payload.now ≤ MEMORY_SIZE }
         ensures { (d : DatagramRecord) → ado d ≡ from → d.payload ≡ payload.now → self.new ≡ range_written self.old d }
     {
-        let before = arrived_records(self.memory.bytes());
+        let before = arrived_records(&self.memory);
         write_run(&mut self.memory, &before, from, payload);
         self.finish_write(&before, from, payload.len() as u16);
     }
@@ -182,7 +185,7 @@ impl Controller {
         ensures state { (d : DatagramRecord) → ado d ≡ from → d.payload ≡ payload.old → self.new ≡ range_written self.old d }
         ensures read { payload.new ≡ with_bits payload.old self.old.memory (λ i. Some (8 * from + i)) }
     {
-        let before = arrived_records(self.memory.bytes());
+        let before = arrived_records(&self.memory);
         swap_run(&mut self.memory, &before, from, payload);
         self.finish_write(&before, from, payload.len() as u16);
     }

@@ -10,7 +10,7 @@ ghost use Rattle.ec_esc.specs.Pass.{pass, frame_pass};
 
 use crate::controller::Controller;
 use crate::physical::Access;
-use ec_areas::{fmmus_of, read_mapped, sync_managers_of};
+use ec_areas::read_mapped;
 use ec_wire::{Command, FrameBuf};
 
 /// What the type of a slice says of it: each element is a byte.
@@ -84,11 +84,11 @@ impl Controller {
         ensures frame { frame.new ≡ slice_set frame.old k (record (nth frame.old k) { payload = read_data self.now (nth frame.old k) }) }
         ensures served { result ≡ serves_read self.now (nth frame.old k) }
     {
+        let managers = self.memory.managers();
+        let fmmus = self.memory.fmmus();
         let memory = self.memory.bytes();
-        let managers = sync_managers_of(memory);
-        let fmmus = fmmus_of(memory);
         let address = frame.address(k);
-        read_mapped(&managers, &fmmus, memory, address, frame.data_mut(k))
+        read_mapped(managers, fmmus, memory, address, frame.data_mut(k))
     }
 }
 

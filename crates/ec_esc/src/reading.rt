@@ -7,7 +7,6 @@ ghost use Rattle.ec_areas.specs.Records.{fmmu_at, sync_manager_at};
 
 use crate::controller::Controller;
 use crate::process::are_bytes;
-use ec_areas::{fmmu_at, sync_manager_at};
 use ec_regs::registers::{PROCESS_MEMORY, STATION_ADDRESS};
 use ec_regs::{Fmmu, SyncMan};
 
@@ -28,7 +27,7 @@ impl Controller {
         requires { i < 8 }
         ensures { result ≡ fmmu_at self.now.memory i }
     {
-        fmmu_at(self.memory.bytes(), i)
+        self.memory.fmmus()[i].fmmu()
     }
 
     /// The record of a sync manager as it stands in the memory.
@@ -36,7 +35,7 @@ impl Controller {
         requires { i < 8 }
         ensures { result ≡ sync_manager_at self.now.memory i }
     {
-        sync_manager_at(self.memory.bytes(), i)
+        self.memory.managers()[i]
     }
 
     /// The memory's bytes from an address on.

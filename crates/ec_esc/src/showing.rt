@@ -15,8 +15,8 @@ fn hands_over(before: &SyncMan, after: &SyncMan, is_last_written: bool) -> bool
     ensures from { IsTrue result → PROCESS_MEMORY ≤ after.now.start }
     ensures to { IsTrue result → after.now.start + after.now.length ≤ MEMORY_SIZE }
 {
-    after.is_active()
-        && (!before.is_active() || after.is_buffered() && after.master_writes() && is_last_written)
+    let is_written = is_last_written && after.is_buffered() && after.master_writes();
+    (is_written || !before.is_active()) && after.is_active()
 }
 
 impl Controller {

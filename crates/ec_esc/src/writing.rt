@@ -8,7 +8,8 @@ ghost use Rattle.ec_esc.specs.Stages.{if_served, written_state, logical_write, l
 ghost use Rattle.ec_esc.specs.Stages.{serves_write};
 
 use crate::controller::Controller;
-use ec_areas::{fmmus_of, last_bytes_written, sync_managers_of, write_mapped};
+use crate::process::are_bytes;
+use ec_areas::last_bytes_written;
 use ec_regs::SyncMan;
 use ec_wire::FrameBuf;
 
@@ -61,9 +62,9 @@ impl Controller {
         ensures served { result ≡ serves_write self.old (record blank { address = address; payload = payload.now }) }
     {
         let managers = self.sync_managers();
-        let fmmus = fmmus_of(self.memory.bytes());
-        let served = write_mapped(&managers, &fmmus, &mut self.memory, address, payload);
-        let last_written = last_bytes_written(&managers, &fmmus, address, payload.len());
+        let fmmus = self.memory.fmmus();
+        let last_written = last_bytes_written(&managers, fmmus, address, payload.len());
+        let served = self.memory.write_mapped(address, payload);
         self.show_written(&managers, &managers, &last_written);
         served
     }
@@ -73,8 +74,8 @@ impl Controller {
         ensures value { result ≡ sync_managers_of self.now.memory }
         ensures bytes { AreBytes self.now.memory }
     {
-        let memory = self.memory.bytes();
-        sync_managers_of(memory)
+        are_bytes(self.memory.bytes());
+        *self.memory.managers()
     }
 }
 

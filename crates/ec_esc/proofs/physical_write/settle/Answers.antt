@@ -15,17 +15,15 @@ loop-number-init c = record { bytes = λ arrived _. settled_none arrived c.args.
 switched_is : (c : goal.Joined-is_switched) (arrived : List ℕ) → c.args.before.now ≡ sync_managers_of arrived
     → c.is_switched.result ≡ is_switched arrived c.args.memory.now c.loop-number.number
 switched_is c arrived before_is =
-    let after_is : c.sync_managers_of-after.result ≡ sync_managers_of c.args.memory.now =
-    c.sync_managers_of-after.ensures ∙ ap (λ (m : List ℕ). sync_managers_of m) c.bytes.ensures.value in
-    switched_by_records arrived c.args.memory.now c.args.before.now c.sync_managers_of-after.result _ _ c.loop-number.number c.is_switched.result
-    c.loop-number-test.true before_is after_is c.is_switched.ensures
+    switched_by_records arrived c.args.memory.now c.args.before.now c.managers.result.now _ _ c.loop-number.number c.is_switched.result
+    c.loop-number-test.true before_is c.managers.ensures.value c.is_switched.ensures
 
 pub loop-number-preserved : goal.loop-number-preserved
 loop-number-preserved c =
     let now = c.args.memory.now in
     let number = c.loop-number.number in
     let below : number < 8 = c.loop-number-test.true in
-    let room : length now ≡ MEMORY_SIZE = c.bytes.ensures.size in
+    let room : length now ≡ MEMORY_SIZE = c.managers.ensures.size in
     let inside : status_address number < length c.loop-number.memory = omega (arith, c.loop-number.invariant.size) in
     elim c.if-is_switched.branch [
       | then-is_switched w ↦
@@ -52,4 +50,4 @@ returns-clause-value c arrived before_is =
     (λ a. c.loop-number.invariant.bytes arrived before_is a ∙ ap (λ (n : ℕ). settled_to arrived c.args.memory.now n a) all)
 
 pub returns-clause-size : goal.returns-clause-size
-returns-clause-size c = c.loop-number.invariant.size ∙ c.bytes.ensures.size
+returns-clause-size c = c.loop-number.invariant.size ∙ c.managers.ensures.size

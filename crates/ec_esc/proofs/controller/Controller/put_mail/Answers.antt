@@ -1,12 +1,8 @@
-use Rattle.std.proofs.Common.{◌≡◌, ℕ, ◌<◌, ◌≤◌, false, List, Some, length, get_or, take, sym, ◌∙◌, ap, arith}
-use Rattle.std.specs.Int.{bit_at}
+use Rattle.std.proofs.Common.{◌≡◌, ℕ, List, Some, take, ◌∙◌, ap}
 use Rattle.ec_regs.specs.declared.sync_man.SyncMan.{SyncMan}
 use Rattle.ec_esc.specs.Application.{mail_area}
 use Rattle.ec_esc.specs.Writing.{with_filled}
-use Rattle.ec_regs.specs.SyncMan.{is_full}
-use Rattle.ec_areas.specs.Records.{sync_manager_at}
 use Rattle.ec_esc.specs.State.{ControllerState, with_run}
-use Rattle.ec_areas.specs.Ranges.{status_address}
 use Rattle.ec_esc.proofs.ApplicationLemmas.{take-padded}
 use Rattle.ec_esc.proofs.controller.Controller.put_mail.Goals as goal
 

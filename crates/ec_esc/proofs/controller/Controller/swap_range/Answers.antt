@@ -1,6 +1,4 @@
-use Rattle.std.proofs.Common.{◌≡◌, ℕ, List, length, sym, ◌∙◌, ap, arith}
-use Rattle.ec_regs.specs.Bits.{AreBytes}
-use Rattle.ec_regs.specs.declared.registers.TheConstants.{MEMORY_SIZE}
+use Rattle.std.proofs.Common.{◌≡◌, ℕ, List, length, ◌∙◌, ap, arith}
 use Rattle.ec_areas.specs.Records.{sync_managers_of}
 use Rattle.ec_esc.specs.State.{ControllerState}
 use Rattle.ec_esc.proofs.PhysicalLemmas.{with_written, range_written_by}
@@ -10,9 +8,8 @@ pub returns-clause-state : goal.returns-clause-state
 returns-clause-state c d from_is payload_is =
     let entry = c.args.self.now in
     let memory_is : c.self.inside.memory ≡ entry.memory = ap (λ (s : ControllerState). s.memory) c.self.view_is in
-    let bytes_is : c.bytes.result.now ≡ entry.memory = c.bytes.ensures.value ∙ memory_is in
     let before_is : c.arrived_records-before.result ≡ sync_managers_of entry.memory =
-    c.arrived_records-before.ensures.value ∙ ap (λ (m : List ℕ). sync_managers_of m) bytes_is in
+    c.arrived_records-before.ensures.value ∙ ap (λ (m : List ℕ). sync_managers_of m) memory_is in
     let after_is : c.swap_run.new.memory ≡ with_written entry.memory c.args.from c.args.payload.now =
     c.swap_run.ensures.written ∙ ap (λ (m : List ℕ). with_written m c.args.from c.args.payload.now) memory_is in
     let start : List ℕ → ControllerState = λ m. record { memory = m; shown = c.self.inside.shown.items; written = c.self.inside.written } in

@@ -1,0 +1,21 @@
+use Rattle.std.proofs.Common.{◌≡◌, ℕ, List, length, ◌∙◌, ap, arith}
+use Rattle.ec_areas.specs.Records.{fmmus_of, sync_managers_of}
+use Rattle.ec_esc.specs.Planned.{ChangesWithin}
+use Rattle.ec_esc.proofs.PlannedLemmas.{run_changes}
+use Rattle.ec_esc.proofs.planned.PlannedMemory.load.Goals as goal
+
+pub invariant_of-self : goal.invariant_of-self
+invariant_of-self c =
+    let memory : List ℕ = c.self.inside.memory in
+    let size : length memory ≡ 12288 = c.self.invariant.size in
+    let changes : ChangesWithin c.args.address (length c.args.bytes.now) memory c.bytes-bytes.result.now =
+    run_changes memory c.bytes-bytes.result.now c.args.bytes.now c.args.address (omega (arith, c.requires))
+    (c.bytes-bytes.ensures.value ∙ c.load.ensures.value) in
+    record {
+      size = c.load.ensures.size;
+      fmmus_are =
+          c.renew_fmmus.ensures memory c.self.invariant.fmmus_are changes ∙ ap fmmus_of c.bytes-bytes.ensures.value;
+      managers_are =
+          c.renew_managers.ensures memory c.self.invariant.managers_are changes
+          ∙ ap sync_managers_of c.bytes-bytes.ensures.value;
+    }

@@ -1,0 +1,12 @@
+use Rattle.std.proofs.Common.{◌≡◌, ℕ, List, length}
+use Rattle.ec_areas.specs.Records.{fmmu_at, fmmus_of}
+use Rattle.ec_esc.specs.Planned.{ChangesWithin}
+use Rattle.ec_esc.proofs.PlannedLemmas.{RenewedTo}
+use Rattle.ec_esc.proofs.planned.renew_fmmus.Given as goal
+
+-- the FMMUs before this one are those of the memory
+abbrev pub invariant-loop-number : goal.invariant-loop-number
+invariant-loop-number l = record {
+  size : length l.fmmus ≡ 8;
+  renewed : (before : List ℕ) → l.initial.fmmus ≡ fmmus_of before → ChangesWithin l.from l.count before l.memory → RenewedTo l.number l.initial.fmmus l.fmmus (fmmu_at l.memory);
+}

@@ -1,0 +1,19 @@
+-- A controller keeps the records of its memory decoded (IEC 61158-4-12, register layout); and where a write
+-- changes the memory.
+use Rattle.std.specs.Prelude.{◌≡◌, ℕ, ◌+◌, ◌<◌, ◌≤◌, List, length, slice_index}
+use Rattle.ec_regs.specs.declared.fmmu.Fmmu.{Fmmu}
+use Rattle.ec_regs.specs.declared.registers.TheConstants.{MEMORY_SIZE}
+use Rattle.ec_regs.specs.declared.sync_man.SyncMan.{SyncMan}
+use Rattle.ec_areas.specs.Records.{fmmus_of, sync_managers_of}
+
+-- these FMMUs and sync managers are those whose records stand in the memory
+pub record IsDecoded (memory : List ℕ) (fmmus : List Fmmu) (managers : List SyncMan) : Type 0 where
+  pub size : length memory ≡ MEMORY_SIZE
+  pub fmmus_are : fmmus ≡ fmmus_of memory
+  pub managers_are : managers ≡ sync_managers_of memory
+
+-- two memories of one length whose bytes are the same but for some of the n from an address on
+pub record ChangesWithin (from n : ℕ) (before after : List ℕ) : Type 0 where
+  pub size : length after ≡ length before
+  pub front : (a : ℕ) → a < from → slice_index after a ≡ slice_index before a
+  pub behind : (a : ℕ) → from + n ≤ a → slice_index after a ≡ slice_index before a

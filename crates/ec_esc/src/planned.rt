@@ -1,0 +1,178 @@
+//! A controller's memory with the records in it decoded (IEC 61158-4-12, register layout). Each datagram asks
+//! for FMMUs and sync managers, so a record is decoded once: when a byte of it changes.
+
+ghost use Rattle.std.specs.Prelude.{◌≡◌, ◌+◌, ◌*◌, ◌<◌, ◌≤◌, ◌&&◌, nat_lt, ℕ, List, IfOk, length};
+ghost use Rattle.std.specs.Prelude.{slice_index, slice_set};
+ghost use Rattle.ec_regs.specs.Bits.{AreBytes, with_bits};
+ghost use Rattle.ec_regs.specs.declared.registers.TheConstants.{MEMORY_SIZE};
+ghost use Rattle.ec_areas.specs.Logical.{write_map, target_places, names};
+ghost use Rattle.ec_areas.specs.Records.{fmmus_of, sync_managers_of};
+ghost use Rattle.ec_esc.specs.Planned.{ChangesWithin};
+ghost use Rattle.ec_esc.specs.State.{with_run};
+
+use ec_areas::{fmmu_at, fmmus_of, sync_manager_at, sync_managers_of, write_mapped};
+use ec_regs::registers::{
+    FMMU_BASE, FMMU_COUNT, FMMU_SIZE, SYNC_MANAGER_BASE, SYNC_MANAGER_COUNT, SYNC_MANAGER_SIZE,
+};
+use ec_regs::{Memory, NoMemory, PlannedFmmu, SyncMan};
+use std::alloc::Global;
+use std::marker::Model;
+
+/// The memory of a controller and the records in it. Contracts see the list of its bytes.
+#[derive(Drop)]
+pub(crate) struct PlannedMemory {
+    memory: Memory,
+    fmmus: [PlannedFmmu; 8],
+    managers: [SyncMan; 8],
+}
+
+impl Model for PlannedMemory {
+    ghost use Rattle.std.specs.Prelude.{ℕ, List};
+    ghost use Rattle.ec_esc.specs.Planned.{IsDecoded};
+
+    ghost Value = { List ℕ };
+
+    ghost view = { λ m. m.memory };
+
+    ghost invariant = { λ m. IsDecoded m.memory m.fmmus m.managers };
+}
+
+/// Does a range share a byte with the `size` bytes from `at` on?
+fn meets(at: u16, size: u16, from: u16, count: u16) -> bool
+    ensures { result ≡ (nat_lt at (from + count) && nat_lt from (at + size)) }
+{
+    u32::from(at) < u32::from(from) + u32::from(count)
+        && u32::from(from) < u32::from(at) + u32::from(size)
+}
+
+/// Decodes each FMMU of whose record a byte lies in the range that was written; the others stay.
+fn renew_fmmus(fmmus: &mut [PlannedFmmu; 8], memory: &[u8], from: u16, count: u16)
+    requires { length memory.now ≡ MEMORY_SIZE }
+    ensures { (before : List ℕ) → fmmus.old ≡ fmmus_of before
+        → ChangesWithin from count before memory.now → fmmus.new ≡ fmmus_of memory.now }
+{
+    if !meets(FMMU_BASE, FMMU_SIZE * FMMU_COUNT, from, count) {
+        return;
+    }
+    for number in 0..8usize {
+        let at = FMMU_BASE + FMMU_SIZE * number as u16;
+        if meets(at, FMMU_SIZE, from, count) {
+            fmmus[number] = PlannedFmmu::new(fmmu_at(memory, number));
+        }
+    }
+}
+
+/// Decodes each sync manager of whose record a byte lies in the range that was written; the others stay.
+fn renew_managers(managers: &mut [SyncMan; 8], memory: &[u8], from: u16, count: u16)
+    requires { length memory.now ≡ MEMORY_SIZE }
+    ensures { (before : List ℕ) → managers.old ≡ sync_managers_of before
+        → ChangesWithin from count before memory.now → managers.new ≡ sync_managers_of memory.now }
+{
+    if !meets(
+        SYNC_MANAGER_BASE,
+        SYNC_MANAGER_SIZE * SYNC_MANAGER_COUNT,
+        from,
+        count,
+    ) {
+        return;
+    }
+    for number in 0..8usize {
+        let at = SYNC_MANAGER_BASE + SYNC_MANAGER_SIZE * number as u16;
+        if meets(at, SYNC_MANAGER_SIZE, from, count) {
+            managers[number] = sync_manager_at(memory, number);
+        }
+    }
+}
+
+impl PlannedMemory {
+    /// A memory whose bytes are all 0. It fails only where the allocator has no room for it.
+    pub(crate) fn new(alloc: Global) -> Result<PlannedMemory, NoMemory>
+        ensures size { IfOk result (λ m. length m ≡ MEMORY_SIZE) }
+        ensures zero { IfOk result (λ m. (address : ℕ) → slice_index m address ≡ 0) }
+    {
+        let memory = Memory::new(alloc)?;
+        let fmmus = fmmus_of(memory.bytes());
+        let managers = sync_managers_of(memory.bytes());
+        Ok(PlannedMemory {
+            memory,
+            fmmus,
+            managers,
+        })
+    }
+
+    /// The byte at an address.
+    pub(crate) fn byte(&self, address: u16) -> u8
+        requires { address < MEMORY_SIZE }
+        ensures { result ≡ slice_index self.now address }
+    {
+        self.memory.byte(address)
+    }
+
+    /// All bytes, by address.
+    pub(crate) fn bytes(&self) -> &[u8]
+        ensures value { result.now ≡ self.now }
+        ensures size { length self.now ≡ MEMORY_SIZE }
+    {
+        self.memory.bytes()
+    }
+
+    /// All FMMUs, by number.
+    pub(crate) fn fmmus(&self) -> &[PlannedFmmu; 8]
+        ensures { result.now ≡ fmmus_of self.now }
+    {
+        &self.fmmus
+    }
+
+    /// All sync managers, by number.
+    pub(crate) fn managers(&self) -> &[SyncMan; 8]
+        ensures value { result.now ≡ sync_managers_of self.now }
+        ensures size { length self.now ≡ MEMORY_SIZE }
+    {
+        &self.managers
+    }
+
+    /// Writes the byte at an address; all others stay.
+    pub(crate) fn set_byte(&mut self, address: u16, value: u8)
+        requires { address < MEMORY_SIZE }
+        ensures value { self.new ≡ slice_set self.old address value }
+        ensures size { length self.new ≡ MEMORY_SIZE }
+    {
+        self.memory.set_byte(address, value);
+        let bytes = self.memory.bytes();
+        renew_fmmus(&mut self.fmmus, bytes, address, 1);
+        renew_managers(&mut self.managers, bytes, address, 1);
+    }
+
+    /// Writes a run of bytes from an address on; all others stay.
+    pub(crate) fn load(&mut self, address: u16, bytes: &[u8])
+        requires { address + length bytes.now ≤ MEMORY_SIZE }
+        ensures value { self.new ≡ with_run self.old address bytes.now }
+        ensures size { length self.new ≡ MEMORY_SIZE }
+    {
+        self.memory.load(address, bytes);
+        let count = bytes.len() as u16;
+        let bytes = self.memory.bytes();
+        renew_fmmus(&mut self.fmmus, bytes, address, count);
+        renew_managers(&mut self.managers, bytes, address, count);
+    }
+
+    /// Writes the data to the physical bits of all FMMUs, of which a later one prevails, and says whether
+    /// there is such a bit; all else stays. The first data byte stands at the logical byte `address`. FMMUs
+    /// reach no register, so the records stay as they were decoded.
+    pub(crate) fn write_mapped(&mut self, address: u32, payload: &[u8]) -> bool
+        requires { AreBytes self.old }
+        ensures bits { self.new ≡ with_bits self.old payload.now (write_map
+            (sync_managers_of self.old) (fmmus_of self.old) (8 * address) (8 * length payload.now)) }
+        ensures served { result ≡ names (target_places
+            (sync_managers_of self.old) (fmmus_of self.old) (8 * address)) (8 * length payload.now) }
+        ensures size { length self.new ≡ MEMORY_SIZE }
+    {
+        write_mapped(
+            &self.managers,
+            &self.fmmus,
+            &mut self.memory,
+            address,
+            payload,
+        )
+    }
+}
