@@ -16,7 +16,7 @@ pub const GOOD: u8 = 0;
 /// The content was refused.
 pub const REFUSED: u8 = 1;
 
-/// The command, or what the scene asks of it, is not there yet.
+/// The command is not there yet.
 const UNUSABLE: u8 = 2;
 
 /// The source, the output or memory failed.
@@ -35,8 +35,8 @@ pub enum Failure {
     Capture(PcapFault),
     /// The output failed.
     Output,
-    /// A line has more slaves than a ring may; no scene does.
-    TooManySlaves,
+    /// There are more slaves than a ring may have, or more items than a work; no scene has as many.
+    TooMany,
     /// A frame came back that is none of those sent; no ring makes one.
     Stranger,
     /// What is asked is not there yet.
@@ -86,7 +86,7 @@ fn report<W: Write, V: Write>(failure: &Failure, out: &mut W, err: &mut V) -> u8
         Failure::Capture(PcapFault::Read) => failed(err, b"capture: Read\n"),
         Failure::Capture(PcapFault::NoMemory) => failed(err, b"capture: NoMemory\n"),
         Failure::Scene(fault) => refused(writeln!(out, "scene: {fault}"), err),
-        Failure::TooManySlaves => refused(writeln!(out, "scene: TooMany"), err),
+        Failure::TooMany => refused(writeln!(out, "scene: TooMany"), err),
         Failure::Stranger => refused(writeln!(out, "cycle: Stranger"), err),
         Failure::Capture(fault) => refused(writeln!(out, "capture: {fault}"), err),
     }

@@ -4,8 +4,8 @@ use ec_merge::{JoinFault, join_frames};
 use ec_ring::{Ring, Travel, Weather};
 use ec_wire::FrameBuf;
 
-/// Sends a frame over the ring under its own links, copy A first, and joins what came back. No copy is a stranger, since
-/// the ring makes none.
+/// Sends a frame over the ring under its own links, copy A first, and joins what came back. No copy is a
+/// stranger, since the ring makes none.
 pub fn carry(ring: &mut Ring, sent: &FrameBuf) -> Result<FrameBuf, JoinFault> {
     let links = ring.links();
     let weather = Weather {

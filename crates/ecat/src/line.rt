@@ -3,8 +3,8 @@
 use crate::act::Failure;
 use ec_app::Slave;
 use ec_esc::Controller;
-use ec_ring::Ring;
-use ecat_scene::{MAX_TEXT, Scene, SceneFault, SceneSlave, Setting};
+use ec_ring::{Links, MAX_LINKS, Ring, Weather};
+use ecat_scene::{MAX_TEXT, Scene, SceneFault, SceneSlave, SceneWeather, Setting};
 use ecat_source::{ReadAllFault, Source, read_all};
 use std::alloc::Global;
 
@@ -71,7 +71,7 @@ pub fn ring_of(
 ) -> Result<Ring, Failure> {
     let slaves = slaves_of(alloc, described)?;
     let Ok(mut ring) = Ring::new(slaves) else {
-        return Err(Failure::TooManySlaves);
+        return Err(Failure::TooMany);
     };
     for link in links_down {
         put_down(&mut ring, *link);
@@ -86,4 +86,34 @@ fn put_down(ring: &mut Ring, link: u64) {
     if link <= last {
         ring.set_link(link, false);
     }
+}
+
+/// The links of a line of which these are down.
+fn links_of(down: &[u64]) -> Links {
+    let mut links = Links::new();
+    for link in down {
+        let link = *link as usize;
+        if link < MAX_LINKS {
+            links.set(link, false);
+        }
+    }
+    links
+}
+
+/// What the frames of a scene's cycle meet, in their order.
+pub fn weathers_of(alloc: Global, described: &[SceneWeather]) -> Result<Vec<Weather>, Failure> {
+    let mut weathers = Vec::new(alloc);
+    for one in described {
+        let weather = Weather {
+            a: links_of(one.down_for_a.as_slice()),
+            b: links_of(one.down_for_b.as_slice()),
+            lost_a: one.lost_a,
+            lost_b: one.lost_b,
+            b_first: one.b_first,
+        };
+        if weathers.push(weather).is_err() {
+            return Err(Failure::NoMemory);
+        }
+    }
+    Ok(weathers)
 }

@@ -4,9 +4,13 @@
 mod act;
 mod carry;
 mod check;
+mod cycle;
+mod cycle_rows;
+mod frame_rows;
 mod line;
 mod print;
 mod run;
+mod scene_rows;
 mod show;
 mod vectors;
 

@@ -1,8 +1,10 @@
-//! `ecat run`: the actions of a scene, and what its slaves show then.
+//! `ecat run`: the actions of a scene, its cycle, and what its slaves show then.
 
-use crate::act::{Failure, GOOD};
+use crate::act::{Failure, GOOD, REFUSED};
 use crate::carry::carry;
-use crate::line::{ring_of, scene_of};
+use crate::check::refuse;
+use crate::cycle::{cycle, work_of};
+use crate::line::{ring_of, scene_of, weathers_of};
 use crate::print::Lines;
 use ec_app::Slave;
 use ec_ring::Ring;
@@ -11,22 +13,29 @@ use ecat_source::Source;
 use std::alloc::Global;
 use std::io::{self, Write};
 
-/// Runs the scene that the source holds: its frames and steps in their order, then a line for each active buffered area
-/// that the master writes. A scene with items wants a cycle, which is not there yet.
+/// Runs the scene that the source holds: its frames and steps in their order; if it has items, one cycle of
+/// them, where the line as it then is and the items are accepted; then a line for each active buffered area
+/// that the master writes. All memory is taken before anything is printed.
 pub fn run<S: Source, W: Write>(alloc: Global, source: &mut S, out: &mut W) -> Result<u8, Failure> {
     let scene = scene_of(alloc, source)?;
-    if !scene.items.is_empty() {
-        return Err(Failure::NotThere);
-    }
+    let weathers = weathers_of(alloc, scene.weathers.as_slice())?;
     let mut ring = ring_of(alloc, scene.slaves, scene.links_down.as_slice())?;
     let mut lines = Lines::new(out);
     for action in &scene.actions {
         act_on(&mut ring, action, &mut lines)?;
     }
+    let mut status = GOOD;
+    if !scene.items.is_empty() {
+        if refuse(ring.slaves(), scene.items.as_slice(), &mut lines)? {
+            return Ok(REFUSED);
+        }
+        let mut work = work_of(scene.items)?;
+        status = cycle(&mut ring, &mut work, weathers.as_slice(), &mut lines)?;
+    }
     for (number, slave) in ring.slaves().iter().enumerate() {
         areas(number, slave, &mut lines)?;
     }
-    Ok(GOOD)
+    Ok(status)
 }
 
 /// Does one action, and prints the frame that it carries.

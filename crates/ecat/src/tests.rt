@@ -2,6 +2,7 @@
 //! that each allocation can be made to fail in turn.
 
 mod checking;
+mod cycles;
 mod rings;
 mod running;
 mod showing;

@@ -22,6 +22,18 @@ fn a_broken_link_changes_the_circulating_bit_alone(rt: HostRuntime) {
     );
     runs(
         &rt,
+        b"slave 1\nstate 8\nslave 2\nstate 4\nslave 3\nstate 8\nlink 1 down\nframe 0e100701000030010200000000000000\n",
+        0,
+        b"frame 0e10070103003001024000000c000300\n",
+    );
+    runs(
+        &rt,
+        b"slave 1\nstate 8\nslave 2\nstate 4\nslave 3\nstate 8\nlink 2 down\nframe 0e100701000030010200000000000000\n",
+        0,
+        b"frame 0e10070103003001024000000c000300\n",
+    );
+    runs(
+        &rt,
         b"slave 1\nstate 8\nslave 2\nstate 4\nlink 3 down\nslave 3\nstate 8\nframe 0e100701000030010200000000000000\n",
         0,
         b"frame 0e10070103003001020000000c000300\n",
@@ -75,5 +87,67 @@ fn the_areas_of_each_slave_are_printed(rt: HostRuntime) {
         scene,
         0,
         b"frame 0d100b000000010001400000ab0100\nslave 0 sm 2 open 00 shown 00\nslave 2 sm 1 open 0000 shown 0000\nslave 2 sm 2 open ab shown ab\n",
+    );
+}
+
+/// Two slaves that are read into one logical byte, the first into its lower half.
+#[test]
+fn the_lower_half_of_a_byte_comes_first(rt: HostRuntime) {
+    let whole = b"frame 0d100a000000010001000000a50200\n";
+    let turned = b"frame 0d100a000000010001400000a50200\n";
+    runs(
+        &rt,
+        b"slave 1\nsm 3 0x1100 1 read\nfmmu 0 0x10000 1 0 3 0x1100 0 read\nmem 0x1100 05\nslave 2\nsm 3 0x1100 1 read\nfmmu 0 0x10000 1 4 7 0x1100 0 read\nmem 0x1100 0a\nframe 0d100a000000010001000000000000\n",
+        0,
+        whole,
+    );
+    runs(
+        &rt,
+        b"slave 1\nsm 3 0x1100 1 read\nfmmu 0 0x10000 1 0 3 0x1100 0 read\nmem 0x1100 05\nslave 2\nsm 3 0x1100 1 read\nfmmu 0 0x10000 1 4 7 0x1100 0 read\nmem 0x1100 0a\nlink 0 down\nframe 0d100a000000010001000000000000\n",
+        0,
+        turned,
+    );
+    runs(
+        &rt,
+        b"slave 1\nsm 3 0x1100 1 read\nfmmu 0 0x10000 1 0 3 0x1100 0 read\nmem 0x1100 05\nslave 2\nsm 3 0x1100 1 read\nfmmu 0 0x10000 1 4 7 0x1100 0 read\nmem 0x1100 0a\nlink 1 down\nframe 0d100a000000010001000000000000\n",
+        0,
+        turned,
+    );
+    runs(
+        &rt,
+        b"slave 1\nsm 3 0x1100 1 read\nfmmu 0 0x10000 1 0 3 0x1100 0 read\nmem 0x1100 05\nslave 2\nsm 3 0x1100 1 read\nfmmu 0 0x10000 1 4 7 0x1100 0 read\nmem 0x1100 0a\nlink 2 down\nframe 0d100a000000010001000000000000\n",
+        0,
+        whole,
+    );
+}
+
+/// The same two in the other order.
+#[test]
+fn the_upper_half_of_a_byte_comes_first(rt: HostRuntime) {
+    let whole = b"frame 0d100a000000010001000000a50200\n";
+    let turned = b"frame 0d100a000000010001400000a50200\n";
+    runs(
+        &rt,
+        b"slave 1\nsm 3 0x1100 1 read\nfmmu 0 0x10000 1 4 7 0x1100 0 read\nmem 0x1100 0a\nslave 2\nsm 3 0x1100 1 read\nfmmu 0 0x10000 1 0 3 0x1100 0 read\nmem 0x1100 05\nframe 0d100a000000010001000000000000\n",
+        0,
+        whole,
+    );
+    runs(
+        &rt,
+        b"slave 1\nsm 3 0x1100 1 read\nfmmu 0 0x10000 1 4 7 0x1100 0 read\nmem 0x1100 0a\nslave 2\nsm 3 0x1100 1 read\nfmmu 0 0x10000 1 0 3 0x1100 0 read\nmem 0x1100 05\nlink 0 down\nframe 0d100a000000010001000000000000\n",
+        0,
+        turned,
+    );
+    runs(
+        &rt,
+        b"slave 1\nsm 3 0x1100 1 read\nfmmu 0 0x10000 1 4 7 0x1100 0 read\nmem 0x1100 0a\nslave 2\nsm 3 0x1100 1 read\nfmmu 0 0x10000 1 0 3 0x1100 0 read\nmem 0x1100 05\nlink 1 down\nframe 0d100a000000010001000000000000\n",
+        0,
+        turned,
+    );
+    runs(
+        &rt,
+        b"slave 1\nsm 3 0x1100 1 read\nfmmu 0 0x10000 1 4 7 0x1100 0 read\nmem 0x1100 0a\nslave 2\nsm 3 0x1100 1 read\nfmmu 0 0x10000 1 0 3 0x1100 0 read\nmem 0x1100 05\nlink 2 down\nframe 0d100a000000010001000000000000\n",
+        0,
+        whole,
     );
 }

@@ -6,7 +6,10 @@ use ecat_source::Bytes;
 
 #[test]
 fn all_worked_rows_are_ok(rt: HostRuntime) {
-    let rows = b"row 1 ok\nrow 3 ok\nrow 4 ok\nrow 5 ok\nrow 6 ok\nrow 7 ok\nrow 8 ok\n";
+    let rows = b"row 1 ok\nrow 2 ok\nrow 3 ok\nrow 4 ok\nrow 5 ok\nrow 6 ok\n\
+        row 7 ok\nrow 8 ok\nrow 9 ok\nrow 10 ok\nrow 11 ok\nrow 12 ok\n\
+        row 13 ok\nrow 14 ok\nrow 15 ok\nrow 16 ok\nrow 17 ok\nrow 18 ok\n\
+        row 19 ok\nrow 20 ok\nrow 21 ok\nrow 22 ok\nrow 23 ok\n";
     answers(&rt, &Args::Vectors, &mut Bytes::new(b""), 0, rows, b"");
 }
 
@@ -18,6 +21,4 @@ fn a_command_that_is_not_there_says_so(rt: HostRuntime) {
     };
     let said = b"this command is not there yet\n";
     answers(&rt, &udp, &mut Bytes::new(b""), 2, b"", said);
-    let run = Args::Run { scene: "s" };
-    answers(&rt, &run, &mut Bytes::new(b"lrd 0 00\n"), 2, b"", said);
 }
