@@ -10,3 +10,7 @@ pub mod CarryLemmas
 pub mod TravelLemmas
 pub mod JudgedLemmas
 pub mod PortLemmas
+pub mod SufficeLemmas
+pub mod ItemLemmas
+pub mod DivisionLemmas
+pub mod RangeLemmas

@@ -6,3 +6,4 @@ pub mod Unordered
 pub mod Verdict
 pub mod Certificate
 pub mod Ports
+pub mod Suffice

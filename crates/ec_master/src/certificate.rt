@@ -1,7 +1,7 @@
 //! What the working counters of a cycle certify, whatever befell its frames, each promise the contract of a
 //! function that does nothing.
 
-ghost use Rattle.std.specs.Prelude.{◌≡◌, ℕ, ◌≤◌, ◌<◌, ◌+◌, Some, List, length, slice_get};
+ghost use Rattle.std.specs.Prelude.{◌≡◌, ℕ, ◌≤◌, ◌<◌, ◌+◌, Some, List, [], length, slice_get, Result};
 ghost use Rattle.std.specs.List.{AllByRecursion};
 ghost use Rattle.std.specs.Option.{option_map};
 ghost use Rattle.ec_regs.specs.declared.registers.TheConstants.{PROCESS_MEMORY, PROCESS_MEMORY_SIZE};
@@ -16,9 +16,13 @@ ghost use Rattle.ec_ring.specs.declared.weather.Weather.{Weather};
 ghost use Rattle.ec_master.specs.Certificate.{verdict_under, verdict_by_counts, entries_at, IsOneDown};
 ghost use Rattle.ec_master.specs.Certificate.{memory_at, application_at, shown_at};
 ghost use Rattle.ec_master.specs.Cut.{frames_of};
+ghost use Rattle.ec_master.specs.Ports.{IsPortCycle};
+ghost use Rattle.ec_master.specs.Suffice.{AllThatCame, in_turn, SaysOfEach};
 ghost use Rattle.ec_master.specs.Travelled.{trips_under, answers_under, ring_under};
 ghost use Rattle.ec_master.specs.Unordered.{by_station, slaves_after_all, AreAnswers, IsAccepted};
 ghost use Rattle.ec_master.specs.Work.{with_answers};
+ghost use Rattle.ec_master.specs.declared.cycle.CycleFault.{CycleFault};
+ghost use Rattle.ec_master.specs.declared.verdict.Verdict.{Verdict};
 ghost use Rattle.ec_master.specs.declared.verdict.Verdict.TheVariants.{Good};
 
 /// The verdict is that by counts: the first item for which the copies that came back have not counted what
@@ -85,4 +89,14 @@ pub fn one_link_down()
         → length r.slaves ≤ MAX_SLAVES → IsAccepted r.slaves items → AllByRecursion IsItem items
         → AllByRecursion (IsOneDown (length r.slaves)) ws
         → (link : ℕ) → IsOnlyDown r.links (length r.slaves) link → verdict_under ws r items ≡ Good }
+{}
+
+/// Of ports only what came back of each frame counts. Where it is what a ring's trips give, the copies in
+/// either place, the cycle ends in no fault; its verdict is that by counts; on a good one the items have the
+/// answers of the unordered cycle of the ring's slaves, and on another they are as before.
+pub fn frames_suffice()
+    ensures { (items : List ItemRecord) (expected : List ℕ) (came : AllThatCame)
+        (result : Result Verdict CycleFault) (items_later : List ItemRecord) → AllByRecursion IsItem items
+        → IsPortCycle in_turn came items expected result items_later []
+        → SaysOfEach items expected came result items_later }
 {}

@@ -5,6 +5,7 @@ ghost use Rattle.ec_line.specs.Answered.{sent_of};
 ghost use Rattle.ec_master.specs.Cut.{frames_of};
 ghost use Rattle.ec_master.specs.declared.cycle.CycleFault.TheVariants.{Port};
 ghost use Rattle.ec_master.specs.Ports.{PortTrip, Sends, IsAnswered, IsPortCycle};
+ghost use Rattle.ec_master.specs.Suffice.{FramesSuffice};
 
 use crate::cut::frame_from;
 use crate::ports::Ports;
@@ -66,9 +67,11 @@ pub fn run_cycle<P: Ports>(
 ) -> Result<Verdict, CycleFault>
     requires { length expected.now ≡ length work.old }
     ensures cycle { IsPortCycle P.trips ports.old work.old expected.now result work.new ports.new }
+    ensures frames_suffice { FramesSuffice P.trips ports.old work.old expected.now result work.new ports.new }
     ensures counted { result ≡ Err Port → P.failed ports.old < P.failed ports.new }
     ensures never_lower { P.failed ports.old ≤ P.failed ports.new }
 {
+    work.are_items();
     let taken = carry_all(ports, work)?;
     let verdict = judge(work, &taken, expected);
     if verdict == Verdict::Good {

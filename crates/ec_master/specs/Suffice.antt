@@ -1,0 +1,85 @@
+-- Of ports only what came back of each frame counts: where it is what a ring's trips give, the end of a cycle
+-- says of that ring all that a cycle over the ring says.
+use Rattle.std.specs.Prelude.{◌≡◌, ◌≢◌, ◌≤◌, ◌⊎◌, ℕ, List, [], ◌∷◌, length, map, Result, Ok, Err}
+use Rattle.ec_wire.specs.Datagram.{DatagramRecord}
+use Rattle.ec_esc.specs.State.{ControllerState}
+use Rattle.ec_line.specs.Answered.{sent_of}
+use Rattle.ec_line.specs.Trip.{Trip, passed}
+use Rattle.ec_map.specs.Item.{ItemRecord}
+use Rattle.ec_map.specs.Share.{expected_of}
+use Rattle.ec_ring.specs.Ring.{RingState, line_of}
+use Rattle.ec_ring.specs.Travel.{as_trip}
+use Rattle.ec_ring.specs.declared.links.TheConstants.{MAX_SLAVES}
+use Rattle.ec_ring.specs.declared.weather.Came.{Came}
+use Rattle.ec_ring.specs.declared.weather.Weather.{Weather}
+use Rattle.ec_master.specs.Certificate.{verdict_by_counts}
+use Rattle.ec_master.specs.Cut.{frames_of}
+use Rattle.ec_master.specs.Ports.{Trips, IsPortCycle}
+use Rattle.ec_master.specs.Travelled.{trips_under}
+use Rattle.ec_master.specs.Unordered.{by_station, AreAnswers, IsAccepted}
+use Rattle.ec_master.specs.declared.cycle.CycleFault.{CycleFault}
+use Rattle.ec_master.specs.declared.ports.PortFault.{PortFault}
+use Rattle.ec_master.specs.declared.verdict.Verdict.{Verdict}
+use Rattle.ec_master.specs.declared.verdict.Verdict.TheVariants.{Good}
+
+-- ---- what came back
+
+-- what came back of each frame that went out, one after the other
+abbrev pub AllThatCame : Type 0
+AllThatCame = List (Result Came PortFault)
+
+-- frames go out from these ports on, and this comes back of them; the last ones may not have gone out
+unfoldable pub Brings : {P : Type 0} → Trips P → P → List (List DatagramRecord) → AllThatCame → P → Type 0
+Brings trips before sent [] later = later ≡ before
+Brings trips before [] (came ∷ more) later = ⊥
+Brings {P} trips before (sent ∷ rest) (came ∷ more) later =
+    (between : P) × trips before sent came between × Brings trips between rest more later
+
+-- the trips of no port at all: each gives what is next of all that came
+abbrev pub in_turn : Trips AllThatCame
+in_turn before sent came later = before ≡ came ∷ later
+
+-- ---- what a ring gives
+
+-- the copies in the other places
+abbrev pub exchanged : Came → Came
+exchanged came = record { a = came.b; b = came.a }
+
+-- the trip over a line gives these copies, in either place
+abbrev pub GivenBy : Trip → List ControllerState → Result Came PortFault → Type 0
+GivenBy t line (Err failed) = ⊥
+GivenBy t line (Ok came) =
+    let gives = (as_trip t (passed t line)).came in (came ≡ gives) ⊎ (came ≡ exchanged gives)
+
+-- each trip over the line, as those before left it, gives what came; the last ones may not have been made
+unfoldable pub AllGivenBy : List Trip → List ControllerState → AllThatCame → Type 0
+AllGivenBy ts line [] = Unit {0}
+AllGivenBy [] line (came ∷ more) = ⊥
+AllGivenBy (t ∷ ts) line (came ∷ more) = GivenBy t line came × AllGivenBy ts (passed t line).line more
+
+-- ---- what it says of the ring
+
+-- there is no fault, and the verdict is that by counts; on a good one the items have the answers of the
+-- unordered cycle, and else they are as they were
+pub record SaysOf (ws : List Weather) (r : RingState) (items : List ItemRecord)
+    (result : Result Verdict CycleFault) (items_later : List ItemRecord) : Type 0 where
+  pub counted : result ≡ Ok (verdict_by_counts (trips_under ws r items) items (line_of r))
+  pub good : result ≡ Ok Good → AreAnswers (by_station r.slaves) items items_later
+  pub untouched : result ≢ Ok Good → items_later ≡ items
+
+-- so it is of each ring, in any weathers, that would have given what came
+abbrev pub SaysOfEach : List ItemRecord → List ℕ → AllThatCame → Result Verdict CycleFault → List ItemRecord
+    → Type 0
+SaysOfEach items expected came result items_later =
+    (ws : List Weather) (r : RingState) → length r.slaves ≤ MAX_SLAVES → IsAccepted r.slaves items
+    → expected ≡ map (expected_of (line_of r)) items → AllGivenBy (trips_under ws r items) (line_of r) came
+    → SaysOf ws r items result items_later
+
+-- the cycle over ports is that of what its trips brought, and says so of each such ring
+pub record FramesSuffice {P : Type 0} (trips : Trips P) (before : P) (items : List ItemRecord)
+    (expected : List ℕ) (result : Result Verdict CycleFault) (items_later : List ItemRecord) (later : P)
+    : Type 0 where
+  pub came : AllThatCame
+  pub brought : Brings trips before (map sent_of (frames_of items)) came later
+  pub cycle : IsPortCycle in_turn came items expected result items_later []
+  pub says : SaysOfEach items expected came result items_later
