@@ -1,5 +1,5 @@
-//! The peer of the benchmark: the same works in plain Rust by hand, over plain bytes and with no proof. It is what
-//! a careful programmer writes who knows where each byte stands. Built by `rustc -O -C target-cpu=native`.
+//! The peer of the benchmark: the same works in plain Rust by hand, over plain bytes and with no proof. It is
+//! what a careful programmer writes who knows where each byte stands. Built by `rustc -O -C target-cpu=native`.
 //!
 //! It prints a line for each work: its name and the picoseconds of one run, the best of many.
 
@@ -12,6 +12,7 @@ const DATAGRAMS_MAX: usize = 124;
 const PAYLOAD_MAX: usize = 1486;
 
 /// A frame: a copy of its bytes, and where its datagrams begin.
+#[derive(Clone)]
 struct Frame {
     bytes: [u8; FRAME_MAX],
     len: usize,
@@ -66,6 +67,68 @@ impl Frame {
         self.count = count;
         true
     }
+
+    /// A frame that asks these items, all of which fit, each with its number as index.
+    fn of_items(items: &[Item]) -> Frame {
+        let mut frame = Frame::new();
+        let mut at = 2;
+        for (k, item) in items.iter().enumerate() {
+            let more = u16::from(k + 1 < items.len()) << 15;
+            let end = at + 10 + item.data.len();
+            frame.bytes[at..at + 2].copy_from_slice(&[item.command, k as u8]);
+            frame.bytes[at + 2..at + 6].copy_from_slice(&item.address.to_le_bytes());
+            frame.bytes[at + 6..at + 8].copy_from_slice(&(item.data.len() as u16 | more).to_le_bytes());
+            frame.bytes[at + 10..end].copy_from_slice(&item.data);
+            frame.bytes[end..end + 2].copy_from_slice(&item.counter.to_le_bytes());
+            frame.starts[k] = at as u16;
+            at = end + 2;
+        }
+        frame.bytes[..2].copy_from_slice(&((at - 2) as u16 | 1 << 12).to_le_bytes());
+        frame.len = at;
+        frame.count = items.len();
+        frame
+    }
+
+    /// May the datagram from `at` on have come of the one of the sent frame?
+    fn belongs(&self, sent: &Frame, at: usize) -> bool {
+        let fixed = if counts_adp(sent.bytes[at]) { at + 4 } else { at + 2 };
+        self.bytes[at..at + 2] == sent.bytes[at..at + 2]
+            && self.bytes[fixed..at + 6] == sent.bytes[fixed..at + 6]
+            && word(&self.bytes, at + 6) & 0x7FF == word(&sent.bytes, at + 6) & 0x7FF
+    }
+
+    /// Joins another copy of a sent frame in; false where one of them is a stranger.
+    fn join(&mut self, sent: &Frame, other: &Frame) -> bool {
+        if self.count != sent.count || other.count != sent.count {
+            return false;
+        }
+        for k in 0..sent.count {
+            let at = usize::from(sent.starts[k]);
+            if !self.belongs(sent, at) || !other.belongs(sent, at) {
+                return false;
+            }
+            let end = at + 10 + usize::from(word(&sent.bytes, at + 6) & 0x7FF);
+            let bits = at + 6..end;
+            join(&sent.bytes[bits.clone()], &mut self.bytes[bits.clone()], &other.bytes[bits]);
+            self.join_count(sent, other, end);
+            if counts_adp(sent.bytes[at]) {
+                self.join_count(sent, other, at + 2);
+            }
+        }
+        true
+    }
+
+    /// Joins a number in that slaves count up.
+    fn join_count(&mut self, sent: &Frame, other: &Frame, at: usize) {
+        let other = word(&other.bytes, at).wrapping_sub(word(&sent.bytes, at));
+        let joined = word(&self.bytes, at).wrapping_add(other);
+        self.bytes[at..at + 2].copy_from_slice(&joined.to_le_bytes());
+    }
+}
+
+/// Do slaves count up the ADP of this command?
+fn counts_adp(command: u8) -> bool {
+    matches!(command, 1..=3 | 7 | 8)
 }
 
 /// A run of bits that an FMMU maps.
@@ -215,6 +278,77 @@ fn join(sent: &[u8], into: &mut [u8], other: &[u8]) {
     }
 }
 
+/// What a master asks in each cycle, with the last answer.
+struct Item {
+    command: u8,
+    address: u32,
+    data: Vec<u8>,
+    counter: u16,
+}
+
+impl Item {
+    fn new(command: u8, address: u32, data: Vec<u8>) -> Item {
+        Item { command, address, data, counter: 0 }
+    }
+
+    /// Sets the counter, and the ADP of a broadcast read, to 0.
+    fn rewind(&mut self) {
+        self.counter = 0;
+        if self.command == 7 {
+            self.address &= 0xFFFF_0000;
+        }
+    }
+
+    /// Takes its datagram's answer.
+    fn take(&mut self, datagram: &[u8]) {
+        let end = 10 + self.data.len();
+        self.data.copy_from_slice(&datagram[10..end]);
+        self.counter = word(datagram, end);
+        if self.command == 7 {
+            self.address = double(datagram, 2);
+        }
+    }
+}
+
+/// A ring of 256 slaves. Each takes five logical bytes of its own as they arrive, and puts five others in
+/// their place.
+fn full_ring() -> Vec<Controller> {
+    let slave = |place: u64| {
+        let mut slave = Controller::new();
+        let first = 8 * (0x1_0000 + 5 * place);
+        slave.fmmus[0] = Fmmu { first, bits: 40, physical: 8 * 0x1000, reads: false, writes: true };
+        slave.fmmus[1] = Fmmu { first, bits: 40, physical: 8 * 0x1100, reads: true, writes: false };
+        slave.areas[2] = Area { start: 0x1000, end: 0x1005, mailbox: false, outputs: true };
+        slave.areas[3] = Area { start: 0x1100, end: 0x1105, mailbox: false, outputs: false };
+        slave.memory[0x1100..0x1105].copy_from_slice(&[0x11, 0x22, 0x33, 0x44, 0x55]);
+        slave
+    };
+    (0..256).map(slave).collect()
+}
+
+/// One copy of a frame passes the ring.
+fn walk(ring: &mut [Controller], frame: &mut Frame) {
+    for slave in ring {
+        slave.process(frame);
+    }
+}
+
+/// One cycle: the items' frame goes out in two copies, of which all slaves pass the first one, and the items
+/// take the joined answer.
+fn cycle(ring: &mut [Controller], items: &mut [Item]) -> bool {
+    let sent = Frame::of_items(items);
+    let mut joined = sent.clone();
+    walk(ring, &mut joined);
+    let other = sent.clone();
+    if !joined.join(&sent, black_box(&other)) {
+        return false;
+    }
+    for (k, item) in items.iter_mut().enumerate() {
+        item.take(&joined.bytes[usize::from(joined.starts[k])..joined.len]);
+    }
+    true
+}
+
 /// The bytes of a frame of datagrams, each a command, an address and data.
 fn frame_of(datagrams: &[(u8, u32, Vec<u8>)]) -> Vec<u8> {
     let mut body = Vec::new();
@@ -293,4 +427,20 @@ fn main() {
     let (sent, other) = (vec![0xF0; PAYLOAD_MAX], vec![0x70; PAYLOAD_MAX]);
     let mut into = vec![0xF1; PAYLOAD_MAX];
     measure("join_1486", || join(black_box(&sent), black_box(&mut into), black_box(&other)));
+
+    let mut ring = full_ring();
+    let mut items = [Item::new(12, 0x1_0000, vec![0x5A; 1280]), Item::new(7, 0x0130 << 16, vec![0; 2])];
+    let sent = Frame::of_items(&items);
+    measure("ring_256", || {
+        let mut joined = sent.clone();
+        walk(&mut ring, &mut joined);
+        black_box(joined.join(&sent, black_box(&sent)));
+        black_box(&joined);
+    });
+    measure("cycle_256", || {
+        items.iter_mut().for_each(Item::rewind);
+        black_box(cycle(&mut ring, &mut items));
+    });
+    assert_eq!((items[0].counter, items[1].counter), (3 * 256, 256));
+    assert_eq!(items[0].data, [0x11, 0x22, 0x33, 0x44, 0x55].repeat(256));
 }

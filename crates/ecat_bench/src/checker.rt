@@ -3,9 +3,10 @@
 
 ghost use Rattle.std.specs.Prelude.{◌<◌};
 
+use crate::mapping::{INPUTS, OUTPUTS, READ, WRITE, area, whole_bytes};
 use ec_app::{Objects, Slave};
 use ec_map::check;
-use ec_regs::{Fmmu, NoMemory, SyncMan};
+use ec_regs::NoMemory;
 use std::alloc::Global;
 use std::io;
 use std::rt::Clock;
@@ -54,43 +55,13 @@ fn busy_slave(alloc: Global, place: u16) -> Result<Slave, NoMemory>
     requires { place < 256 }
 {
     let mut slave = Slave::new(alloc, place, Objects::new(), 0, 0)?;
-    slave.controller_mut().set_syncman(2, &area(0x1000, 0x04));
-    slave.controller_mut().set_syncman(3, &area(0x1100, 0x00));
-    let logical = 0x0001_0000 + 4 * u32::from(place);
+    let controller = slave.controller_mut();
+    controller.set_syncman(2, &area(0x1000, 4, OUTPUTS));
+    controller.set_syncman(3, &area(0x1100, 4, INPUTS));
     for k in 0..4usize {
-        slave
-            .controller_mut()
-            .set_fmmu(k, &byte(logical + k as u32, 0x1000 + k as u16, 2));
-        slave
-            .controller_mut()
-            .set_fmmu(k + 4, &byte(logical + k as u32, 0x1100 + k as u16, 1));
+        let logical = 0x0001_0000 + 4 * u32::from(place) + k as u32;
+        controller.set_fmmu(k, &whole_bytes(logical, 1, 0x1000 + k as u16, WRITE));
+        controller.set_fmmu(k + 4, &whole_bytes(logical, 1, 0x1100 + k as u16, READ));
     }
     Ok(slave)
-}
-
-/// A buffered area of four bytes.
-fn area(start: u16, control: u8) -> SyncMan {
-    SyncMan {
-        start,
-        length: 4,
-        control,
-        status: 0,
-        activate: 1,
-        pdi: 0,
-    }
-}
-
-/// An FMMU of one whole byte.
-fn byte(logical: u32, physical: u16, kind: u8) -> Fmmu {
-    Fmmu {
-        logical,
-        length: 1,
-        start: 0,
-        stop: 7,
-        physical,
-        bit: 0,
-        kind,
-        activate: 1,
-        reserved: [0; 3],
-    }
 }

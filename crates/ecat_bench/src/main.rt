@@ -7,12 +7,16 @@
 ghost use Rattle.std.specs.Prelude.{◌≡◌, length};
 
 mod checker;
+mod mapping;
+mod ring;
 
 use checker::checking;
 use ec_esc::Controller;
 use ec_merge::join_bytes;
-use ec_regs::{Fmmu, SyncMan};
+use ec_regs::Fmmu;
 use ec_wire::{Form, FrameBuf};
+use mapping::{INPUTS, OUTPUTS, READ, WRITE, area, whole_bytes};
+use ring::{cycling, walking};
 use std::process::ExitCode;
 use std::rt::{Clock, Env};
 use std::time::Instant;
@@ -25,7 +29,7 @@ const RUNS: u32 = 1000;
 const ROUNDS: u32 = 20;
 
 /// The works, by name.
-const WORKS: [&str; 7] = [
+const WORKS: [&str; 9] = [
     "read_1",
     "read_124",
     "lrw_1486_aligned",
@@ -33,6 +37,8 @@ const WORKS: [&str; 7] = [
     "brd_1486",
     "join_1486",
     "check_256",
+    "ring_256",
+    "cycle_256",
 ];
 
 fn main(rt: HostRuntime) -> ExitCode {
@@ -58,7 +64,9 @@ where
     measure_whole_bytes(rt, out)?;
     measure_odd_bits(rt, out)?;
     writeln!(out, "join_1486 {}", joining(rt)?)?;
-    writeln!(out, "check_256 {}", checking(rt)?)
+    writeln!(out, "check_256 {}", checking(rt)?)?;
+    writeln!(out, "ring_256 {}", walking(rt)?)?;
+    writeln!(out, "cycle_256 {}", cycling(rt)?)
 }
 
 /// Measures the reading of frames.
@@ -101,29 +109,15 @@ where
 /// map.
 fn map_whole_bytes(slave: &mut Controller) {
     for k in 0..8usize {
-        let area = 0x1000 + 185 * k as u16;
-        let is_output = k % 2 == 1;
-        let fmmu = Fmmu {
-            logical: 0x0001_0000 + 185 * k as u32,
-            length: 185,
-            start: 0,
-            stop: 7,
-            physical: area,
-            bit: 0,
-            kind: if is_output { 2 } else { 1 },
-            activate: 1,
-            reserved: [0; 3],
-        };
-        slave.set_fmmu(k, &fmmu);
-        let manager = SyncMan {
-            start: area,
-            length: 185,
-            control: if is_output { 0x04 } else { 0x00 },
-            status: 0,
-            activate: 1,
-            pdi: 0,
-        };
-        slave.set_syncman(k, &manager);
+        let physical = 0x1000 + 185 * k as u16;
+        let logical = 0x0001_0000 + 185 * k as u32;
+        if k % 2 == 1 {
+            slave.set_fmmu(k, &whole_bytes(logical, 185, physical, WRITE));
+            slave.set_syncman(k, &area(physical, 185, OUTPUTS));
+        } else {
+            slave.set_fmmu(k, &whole_bytes(logical, 185, physical, READ));
+            slave.set_syncman(k, &area(physical, 185, INPUTS));
+        }
     }
 }
 
