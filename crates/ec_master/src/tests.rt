@@ -1,3 +1,4 @@
-//! Cycles with their answers written out by hand.
+//! Cycles with their answers written out by hand, and frames by their sizes.
 
+mod cut;
 mod cycle;

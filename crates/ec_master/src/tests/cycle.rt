@@ -165,3 +165,24 @@ fn the_first_fault_ends_the_cycle(rt: HostRuntime) {
     assert_eq!(rt; left, [(0, 0), (0, 0)]);
     assert_eq!(rt; ports.failures(), 1);
 }
+
+/// Three items of a frame each.
+fn three_frames(rt: &impl Abort) -> Work {
+    let mut work = two_frames(rt);
+    let item = Item::new(Kind::Lrd, 0x4000, &[0; 1000]).expect(rt, "an item");
+    work.push(item).expect(rt, "room");
+    work
+}
+
+#[test]
+fn a_fault_at_the_second_trip_is_the_last_trip(rt: HostRuntime) {
+    let mut ports = Fates::new([Fate::AnsweredA, Fate::Fault, Fate::AnsweredA]);
+    let mut work = three_frames(&rt);
+    assert_eq!(rt; work.len(), 3);
+    let verdict = run_cycle(&mut ports, &mut work, &[1, 1, 1]);
+    assert_eq!(rt; verdict, Err(CycleFault::Port));
+    assert_eq!(rt; ports.next, 2);
+    assert_eq!(rt; ports.failures(), 1);
+    assert_eq!(rt; work.len(), 3);
+    assert_eq!(rt; left(&rt, work.item(0)), (0, 0));
+}
