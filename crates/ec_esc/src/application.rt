@@ -2,13 +2,15 @@
 //! of its sync managers (IEC 61158-4-12, sync manager). What the application writes stands in the memory alone,
 //! where the wire reads it; the bytes that it is shown stay.
 
-ghost use Rattle.std.specs.Prelude.{true, false, ◌≡◌, ◌+◌, ◌-◌, ◌<◌, ◌≤◌, IfOk, OnOk, OnErr, Some, ◌++◌, length, slice_index, option_map, replicate};
+ghost use Rattle.std.specs.Prelude.{true, false, ◌≡◌, ◌+◌, ◌-◌, ◌<◌, ◌≤◌, IfOk};
+ghost use Rattle.std.specs.Prelude.{OnOk, OnErr, Some, ◌++◌, length, slice_index, option_map, replicate};
 ghost use Rattle.std.specs.Result.{result_err};
 ghost use Rattle.ec_regs.specs.declared.registers.TheConstants.{PROCESS_MEMORY, MEMORY_SIZE};
 ghost use Rattle.ec_regs.specs.SyncMan.{is_full};
 ghost use Rattle.ec_areas.specs.Records.{sync_manager_at};
 ghost use Rattle.ec_esc.specs.State.{word_at};
-ghost use Rattle.ec_esc.specs.Application.{new_control, with_control_taken, with_al, al_status, al_status_code, outputs_of, put_inputs_fault, with_inputs, take_mail_fault, mail_of, with_mail_taken, put_mail_fault, with_mail_put};
+ghost use Rattle.ec_esc.specs.Application.{new_control, with_control_taken, with_al, al_status, al_status_code, outputs_of};
+ghost use Rattle.ec_esc.specs.Application.{put_inputs_fault, with_inputs, take_mail_fault, mail_of, with_mail_taken, put_mail_fault, with_mail_put};
 
 use crate::controller::Controller;
 use arrayvec::ArrayVec;
@@ -172,7 +174,8 @@ impl Controller {
     /// and marks it empty (IEC 61158-4-12, sync manager, mailbox mode); all else stays. On an error nothing changes.
     pub fn take_mail(&mut self, sm: usize) -> Result<ArrayVec<u8, LONGEST_MAIL>, AreaFault>
         requires { sm < 8 }
-        ensures mail { IfOk result (λ mail. mail.items ≡ mail_of (sync_manager_at self.old.memory sm) self.old.memory) }
+        ensures mail { IfOk result (λ mail. mail.items
+            ≡ mail_of (sync_manager_at self.old.memory sm) self.old.memory) }
         ensures ok { OnOk result (self.new ≡ with_mail_taken self.old sm) }
         ensures err { result_err result ≡ take_mail_fault (sync_manager_at self.old.memory sm) }
         ensures unchanged { OnErr result (self.new ≡ self.old) }

@@ -1,17 +1,20 @@
 //! The physical commands: reads, writes and exchanges of a range of addresses, by the controller's place on the line,
 //! by its station address, or by all (IEC 61158-4-12, physical memory access).
 
-ghost use Rattle.std.specs.Prelude.{◌≡◌, ◌+◌, ◌*◌, ◌/◌, ◌%◌, ◌≤◌, ◌<◌, length, slice_set, slice_index, true, IsTrue};
+ghost use Rattle.std.specs.Prelude.{◌≡◌, ◌+◌, ◌*◌, ◌/◌, ◌%◌, ◌≤◌};
+ghost use Rattle.std.specs.Prelude.{◌<◌, length, slice_set, slice_index, true, IsTrue};
 ghost use Rattle.ec_regs.specs.Bits.{with_bits};
 ghost use Rattle.ec_regs.specs.declared.registers.TheConstants.{MEMORY_SIZE};
 ghost use Rattle.ec_wire.specs.Datagram.{nth};
 ghost use Rattle.ec_areas.specs.Records.{sync_managers_of};
 ghost use Rattle.ec_areas.specs.Ranges.{emptied_by};
 ghost use Rattle.ec_areas.specs.Ranges.{status_address};
-ghost use Rattle.ec_esc.specs.Stages.{is_first, is_station, read_out, physical_read, range_written, physical_write, physical_exchange, if_addressed, counted_up};
+ghost use Rattle.ec_esc.specs.Stages.{is_first, is_station, read_out, physical_read};
+ghost use Rattle.ec_esc.specs.Stages.{range_written, physical_write, physical_exchange, if_addressed, counted_up};
 ghost use Rattle.ec_wire.specs.Datagram.{adp, ado};
 ghost use Rattle.ec_esc.specs.Writing.{with_emptied};
-ghost use Rattle.ec_esc.specs.Stages.{serves_range_read, range_sources, broadcast_sources, serves_range_write};
+ghost use Rattle.ec_esc.specs.Stages.{serves_range_read, range_sources};
+ghost use Rattle.ec_esc.specs.Stages.{broadcast_sources, serves_range_write};
 ghost use Rattle.ec_esc.specs.Pass.{counter_after};
 ghost use Rattle.ec_esc.specs.Stages.{access as access_of};
 
@@ -68,7 +71,10 @@ fn count(frame: &FrameBuf, k: usize) -> u16
 /// Adds to the working counter of the datagram at `k`, modulo 65536; all else stays.
 fn add_to_counter(frame: &mut FrameBuf, k: usize, share: u16)
     requires { k < length frame.old }
-    ensures { frame.new ≡ slice_set frame.old k (record (nth frame.old k) { counter = counter_after (nth frame.old k) share }) }
+    ensures { frame.new
+        ≡ slice_set frame.old k (record (nth frame.old k) {
+          counter = counter_after (nth frame.old k) share;
+        }) }
 {
     let counter = frame.counter(k);
     frame.set_counter(k, counter.wrapping_add(share));
@@ -77,7 +83,11 @@ fn add_to_counter(frame: &mut FrameBuf, k: usize, share: u16)
 /// Counts the ADP of the datagram at `k` up, modulo 65536; all else stays.
 fn count_up(frame: &mut FrameBuf, k: usize)
     requires { k < length frame.old }
-    ensures { frame.new ≡ slice_set frame.old k (record (nth frame.old k) { address = (adp (nth frame.old k) + 1) % 65536 + 65536 * ado (nth frame.old k) }) }
+    ensures { frame.new
+        ≡ slice_set frame.old k (record (nth frame.old k) {
+          address = (adp (nth frame.old k) + 1) % 65536 +
+              65536 * ado (nth frame.old k);
+        }) }
 {
     let adp = adp(frame, k);
     frame.set_adp(k, adp.wrapping_add(1));
@@ -88,7 +98,8 @@ impl Controller {
     fn serves_read(&self, frame: &FrameBuf, k: usize) -> bool
         requires { k < length frame.now }
         ensures value { result ≡ serves_range_read self.now (nth frame.now k) }
-        ensures inside { IsTrue result → ado (nth frame.now k) + length (nth frame.now k).payload ≤ MEMORY_SIZE }
+        ensures inside { IsTrue result
+            → ado (nth frame.now k) + length (nth frame.now k).payload ≤ MEMORY_SIZE }
     {
         serves_physical_read(self.memory.managers(), ado(frame, k), count(frame, k))
     }
@@ -97,7 +108,11 @@ impl Controller {
     fn copy_data(&self, frame: &mut FrameBuf, k: usize)
         requires at { k < length frame.old }
         requires inside { ado (nth frame.old k) + length (nth frame.old k).payload ≤ MEMORY_SIZE }
-        ensures { frame.new ≡ slice_set frame.old k (record (nth frame.old k) { payload = with_bits (nth frame.old k).payload self.now.memory (range_sources (nth frame.old k)) }) }
+        ensures { frame.new
+            ≡ slice_set frame.old k (record (nth frame.old k) {
+              payload = with_bits (nth frame.old k).payload
+                  self.now.memory (range_sources (nth frame.old k));
+            }) }
     {
         let from = usize::from(ado(frame, k));
         copy_run(self.memory.bytes(), from, frame.data_mut(k));
@@ -107,7 +122,11 @@ impl Controller {
     fn merge_data(&self, frame: &mut FrameBuf, k: usize)
         requires at { k < length frame.old }
         requires inside { ado (nth frame.old k) + length (nth frame.old k).payload ≤ MEMORY_SIZE }
-        ensures { frame.new ≡ slice_set frame.old k (record (nth frame.old k) { payload = with_bits (nth frame.old k).payload self.now.memory (broadcast_sources self.now (nth frame.old k)) }) }
+        ensures { frame.new
+            ≡ slice_set frame.old k (record (nth frame.old k) {
+              payload = with_bits (nth frame.old k).payload
+                  self.now.memory (broadcast_sources self.now (nth frame.old k));
+            }) }
     {
         let from = usize::from(ado(frame, k));
         merge_run(self.memory.bytes(), from, frame.data_mut(k));
@@ -130,7 +149,10 @@ impl Controller {
     fn finish_read(&mut self, frame: &mut FrameBuf, k: usize)
         requires at { k < length frame.old }
         requires inside { ado (nth frame.old k) + length (nth frame.old k).payload ≤ MEMORY_SIZE }
-        ensures frame { frame.new ≡ slice_set frame.old k (record (nth frame.old k) { counter = counter_after (nth frame.old k) 1 }) }
+        ensures frame { frame.new
+            ≡ slice_set frame.old k (record (nth frame.old k) {
+              counter = counter_after (nth frame.old k) 1;
+            }) }
         ensures state { self.new ≡ read_out self.old (nth frame.old k) }
     {
         self.read_out(frame, k);
@@ -140,8 +162,11 @@ impl Controller {
     /// A read of the range of the datagram at `k`, where it is served; all other datagrams stay.
     fn physical_read(&mut self, frame: &mut FrameBuf, k: usize)
         requires { k < length frame.old }
-        ensures frame { frame.new ≡ slice_set frame.old k (physical_read (range_sources (nth frame.old k)) self.old (nth frame.old k)).datagram }
-        ensures state { self.new ≡ (physical_read (range_sources (nth frame.old k)) self.old (nth frame.old k)).state }
+        ensures frame { frame.new
+            ≡ slice_set frame.old k (physical_read (range_sources (nth frame.old k)) self.old (nth frame.old
+            k)).datagram }
+        ensures state { self.new
+            ≡ (physical_read (range_sources (nth frame.old k)) self.old (nth frame.old k)).state }
     {
         if self.serves_read(frame, k) {
             self.copy_data(frame, k);
@@ -152,8 +177,11 @@ impl Controller {
     /// A broadcast read of the range of the datagram at `k`, where it is served; all other datagrams stay.
     fn broadcast_read(&mut self, frame: &mut FrameBuf, k: usize)
         requires { k < length frame.old }
-        ensures frame { frame.new ≡ slice_set frame.old k (physical_read (broadcast_sources self.old (nth frame.old k)) self.old (nth frame.old k)).datagram }
-        ensures state { self.new ≡ (physical_read (broadcast_sources self.old (nth frame.old k)) self.old (nth frame.old k)).state }
+        ensures frame { frame.new
+            ≡ slice_set frame.old k (physical_read (broadcast_sources self.old (nth frame.old k)) self.old
+            (nth frame.old k)).datagram }
+        ensures state { self.new
+            ≡ (physical_read (broadcast_sources self.old (nth frame.old k)) self.old (nth frame.old k)).state }
     {
         if self.serves_read(frame, k) {
             self.merge_data(frame, k);
@@ -165,7 +193,8 @@ impl Controller {
     fn serves_write(&self, frame: &FrameBuf, k: usize) -> bool
         requires { k < length frame.now }
         ensures value { result ≡ serves_range_write self.now (nth frame.now k) }
-        ensures inside { IsTrue result → ado (nth frame.now k) + length (nth frame.now k).payload ≤ MEMORY_SIZE }
+        ensures inside { IsTrue result
+            → ado (nth frame.now k) + length (nth frame.now k).payload ≤ MEMORY_SIZE }
     {
         serves_physical_write(self.memory.managers(), ado(frame, k), count(frame, k))
     }
@@ -183,7 +212,11 @@ impl Controller {
     fn swap_data(&mut self, frame: &mut FrameBuf, k: usize)
         requires at { k < length frame.old }
         requires inside { ado (nth frame.old k) + length (nth frame.old k).payload ≤ MEMORY_SIZE }
-        ensures frame { frame.new ≡ slice_set frame.old k (record (nth frame.old k) { payload = with_bits (nth frame.old k).payload self.old.memory (range_sources (nth frame.old k)) }) }
+        ensures frame { frame.new
+            ≡ slice_set frame.old k (record (nth frame.old k) {
+              payload = with_bits (nth frame.old k).payload
+                  self.old.memory (range_sources (nth frame.old k));
+            }) }
         ensures state { self.new ≡ range_written self.old (nth frame.old k) }
     {
         let from = ado(frame, k);
@@ -193,7 +226,8 @@ impl Controller {
     /// A write of the range of the datagram at `k`, where it is served; all other datagrams stay.
     fn physical_write(&mut self, frame: &mut FrameBuf, k: usize)
         requires { k < length frame.old }
-        ensures frame { frame.new ≡ slice_set frame.old k (physical_write self.old (nth frame.old k)).datagram }
+        ensures frame { frame.new
+            ≡ slice_set frame.old k (physical_write self.old (nth frame.old k)).datagram }
         ensures state { self.new ≡ (physical_write self.old (nth frame.old k)).state }
     {
         if self.serves_write(frame, k) {
@@ -207,7 +241,8 @@ impl Controller {
         requires at { k < length frame.old }
         requires inside { ado (nth frame.old k) + length (nth frame.old k).payload ≤ MEMORY_SIZE }
         requires served { serves_range_write self.old (nth frame.old k) ≡ true }
-        ensures frame { frame.new ≡ slice_set frame.old k (physical_exchange self.old (nth frame.old k)).datagram }
+        ensures frame { frame.new
+            ≡ slice_set frame.old k (physical_exchange self.old (nth frame.old k)).datagram }
         ensures state { self.new ≡ (physical_exchange self.old (nth frame.old k)).state }
     {
         if self.serves_read(frame, k) {
@@ -222,7 +257,8 @@ impl Controller {
     /// A read and a write of the range of the datagram at `k`, each where it is served; all other datagrams stay.
     fn physical_exchange(&mut self, frame: &mut FrameBuf, k: usize)
         requires { k < length frame.old }
-        ensures frame { frame.new ≡ slice_set frame.old k (physical_exchange self.old (nth frame.old k)).datagram }
+        ensures frame { frame.new
+            ≡ slice_set frame.old k (physical_exchange self.old (nth frame.old k)).datagram }
         ensures state { self.new ≡ (physical_exchange self.old (nth frame.old k)).state }
     {
         if self.serves_write(frame, k) {
@@ -235,7 +271,8 @@ impl Controller {
     /// What a physical command does with the range of the datagram at `k`; all other datagrams stay.
     fn access(&mut self, frame: &mut FrameBuf, k: usize, access: Access)
         requires { k < length frame.old }
-        ensures frame { frame.new ≡ slice_set frame.old k (access_of access self.old (nth frame.old k)).datagram }
+        ensures frame { frame.new
+            ≡ slice_set frame.old k (access_of access self.old (nth frame.old k)).datagram }
         ensures state { self.new ≡ (access_of access self.old (nth frame.old k)).state }
     {
         match access {
@@ -249,8 +286,12 @@ impl Controller {
     /// What it does where it finds ADP 0; all other datagrams stay.
     fn where_first(&mut self, frame: &mut FrameBuf, k: usize, access: Access)
         requires { k < length frame.old }
-        ensures frame { frame.new ≡ slice_set frame.old k (if_addressed (is_first (nth frame.old k)) (access_of access self.old (nth frame.old k)) self.old (nth frame.old k)).datagram }
-        ensures state { self.new ≡ (if_addressed (is_first (nth frame.old k)) (access_of access self.old (nth frame.old k)) self.old (nth frame.old k)).state }
+        ensures frame { frame.new
+            ≡ slice_set frame.old k (if_addressed (is_first (nth frame.old k)) (access_of access self.old
+            (nth frame.old k)) self.old (nth frame.old k)).datagram }
+        ensures state { self.new
+            ≡ (if_addressed (is_first (nth frame.old k)) (access_of access self.old (nth frame.old k))
+            self.old (nth frame.old k)).state }
     {
         if adp(frame, k) == 0 {
             self.access(frame, k, access);
@@ -260,8 +301,12 @@ impl Controller {
     /// The pass of the AP command at `k`: the controller that finds ADP 0 is addressed, and each counts it up.
     pub(crate) fn by_position(&mut self, frame: &mut FrameBuf, k: usize, access: Access)
         requires { k < length frame.old }
-        ensures frame { frame.new ≡ slice_set frame.old k (counted_up (if_addressed (is_first (nth frame.old k)) (access_of access self.old (nth frame.old k)) self.old (nth frame.old k))).datagram }
-        ensures state { self.new ≡ (counted_up (if_addressed (is_first (nth frame.old k)) (access_of access self.old (nth frame.old k)) self.old (nth frame.old k))).state }
+        ensures frame { frame.new
+            ≡ slice_set frame.old k (counted_up (if_addressed (is_first (nth frame.old k)) (access_of access
+            self.old (nth frame.old k)) self.old (nth frame.old k))).datagram }
+        ensures state { self.new
+            ≡ (counted_up (if_addressed (is_first (nth frame.old k)) (access_of access self.old (nth
+            frame.old k)) self.old (nth frame.old k))).state }
     {
         self.where_first(frame, k, access);
         count_up(frame, k);
@@ -270,8 +315,12 @@ impl Controller {
     /// The pass of the FP command at `k`: the controller whose station address is the ADP is addressed.
     pub(crate) fn by_station(&mut self, frame: &mut FrameBuf, k: usize, access: Access)
         requires { k < length frame.old }
-        ensures frame { frame.new ≡ slice_set frame.old k (if_addressed (is_station self.old (nth frame.old k)) (access_of access self.old (nth frame.old k)) self.old (nth frame.old k)).datagram }
-        ensures state { self.new ≡ (if_addressed (is_station self.old (nth frame.old k)) (access_of access self.old (nth frame.old k)) self.old (nth frame.old k)).state }
+        ensures frame { frame.new
+            ≡ slice_set frame.old k (if_addressed (is_station self.old (nth frame.old k)) (access_of access
+            self.old (nth frame.old k)) self.old (nth frame.old k)).datagram }
+        ensures state { self.new
+            ≡ (if_addressed (is_station self.old (nth frame.old k)) (access_of access self.old (nth frame.old
+            k)) self.old (nth frame.old k)).state }
     {
         if adp(frame, k) == self.station() {
             self.access(frame, k, access);
@@ -281,7 +330,8 @@ impl Controller {
     /// The pass of the broadcast at `k`: each controller is addressed, and counts the ADP up.
     pub(crate) fn by_all(&mut self, frame: &mut FrameBuf, k: usize, access: Access)
         requires { k < length frame.old }
-        ensures frame { frame.new ≡ slice_set frame.old k (counted_up (access_of access self.old (nth frame.old k))).datagram }
+        ensures frame { frame.new
+            ≡ slice_set frame.old k (counted_up (access_of access self.old (nth frame.old k))).datagram }
         ensures state { self.new ≡ (counted_up (access_of access self.old (nth frame.old k))).state }
     {
         self.access(frame, k, access);

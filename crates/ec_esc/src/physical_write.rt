@@ -2,7 +2,8 @@
 //! or filled, the shown bytes, and the mark that AL control was written (IEC 61158-4-12, physical memory access, sync
 //! manager).
 
-ghost use Rattle.std.specs.Prelude.{◌≡◌, ◌+◌, ◌-◌, ◌*◌, ◌/◌, ◌<◌, ◌≤◌, ◌&&◌, ◌||◌, not, ℕ, List, length, slice_set, slice_index, if◌then◌else◌, IsTrue};
+ghost use Rattle.std.specs.Prelude.{◌≡◌, ◌+◌, ◌-◌, ◌*◌, ◌/◌, ◌<◌, ◌≤◌, ◌&&◌};
+ghost use Rattle.std.specs.Prelude.{◌||◌, not, ℕ, List, length, slice_set, slice_index, if◌then◌else◌, IsTrue};
 ghost use Rattle.std.specs.Int.{bit_at};
 ghost use Rattle.ec_regs.specs.Bits.{AreBytes, with_bits};
 ghost use Rattle.ec_regs.specs.declared.registers.TheConstants.{MEMORY_SIZE, AL_CONTROL};
@@ -42,7 +43,8 @@ fn arrived_records(memory: &PlannedMemory) -> [SyncMan; 8]
 /// Writes the byte at an address where it takes writes by the records on arrival; all else stays.
 fn write_byte(memory: &mut PlannedMemory, managers: &[SyncMan; 8], address: u16, byte: u8)
     requires { address < MEMORY_SIZE }
-    ensures { (arrived : List ℕ) → managers.now ≡ sync_managers_of arrived → memory.new ≡ (if takes_writes arrived address then slice_set memory.old address byte else memory.old) }
+    ensures { (arrived : List ℕ) → managers.now ≡ sync_managers_of arrived → memory.new
+        ≡ (if takes_writes arrived address then slice_set memory.old address byte else memory.old) }
 {
     if takes_writes(managers, u32::from(address)) {
         memory.set_byte(address, byte);
@@ -56,7 +58,9 @@ fn write_run(memory: &mut PlannedMemory, managers: &[SyncMan; 8], from: u16, pay
     requires records { managers.now ≡ sync_managers_of memory.old }
     requires inside { from + length payload.now ≤ MEMORY_SIZE }
     ensures size { length memory.new ≡ MEMORY_SIZE }
-    ensures written { memory.new ≡ with_bits memory.old payload.now (λ p. if within from (length payload.now) (p / 8) && takes_writes memory.old (p / 8) then Some (p - 8 * from) else None) }
+    ensures written { memory.new
+        ≡ with_bits memory.old payload.now (λ p. if within from (length payload.now) (p / 8) && takes_writes
+        memory.old (p / 8) then Some (p - 8 * from) else None) }
 {
     for (place, byte) in payload.iter().enumerate() {
         write_byte(memory, managers, from + place as u16, *byte);
@@ -70,7 +74,9 @@ fn swap_run(memory: &mut PlannedMemory, managers: &[SyncMan; 8], from: u16, payl
     requires records { managers.now ≡ sync_managers_of memory.old }
     requires inside { from + length payload.old ≤ MEMORY_SIZE }
     ensures size { length memory.new ≡ MEMORY_SIZE }
-    ensures written { memory.new ≡ with_bits memory.old payload.old (λ p. if within from (length payload.old) (p / 8) && takes_writes memory.old (p / 8) then Some (p - 8 * from) else None) }
+    ensures written { memory.new
+        ≡ with_bits memory.old payload.old (λ p. if within from (length payload.old) (p / 8) && takes_writes
+        memory.old (p / 8) then Some (p - 8 * from) else None) }
     ensures read { payload.new ≡ with_bits payload.old memory.old (λ i. Some (8 * from + i)) }
 {
     for place in 0..payload.len() {
@@ -91,7 +97,8 @@ fn is_switched(before: &SyncMan, after: &SyncMan) -> bool
 /// Clears the status of each sync manager that a write switched on or off; all else stays. The records are those on
 /// arrival.
 fn settle(memory: &mut PlannedMemory, before: &[SyncMan; 8])
-    ensures value { (arrived : List ℕ) → before.now ≡ sync_managers_of arrived → memory.new ≡ settled arrived memory.old }
+    ensures value { (arrived : List ℕ) → before.now ≡ sync_managers_of arrived → memory.new
+        ≡ settled arrived memory.old }
     ensures size { length memory.new ≡ MEMORY_SIZE }
 {
     let after = *memory.managers();
@@ -104,7 +111,8 @@ fn settle(memory: &mut PlannedMemory, before: &[SyncMan; 8])
 
 /// Is the last byte of an area among the written ones of the range? The records are those on arrival.
 fn last_byte_written(before: &[SyncMan; 8], area: &SyncMan, from: u16, count: u16) -> bool
-    ensures { (arrived : List ℕ) → before.now ≡ sync_managers_of arrived → result ≡ (within from count (last_byte area.now) && takes_writes arrived (last_byte area.now)) }
+    ensures { (arrived : List ℕ) → before.now ≡ sync_managers_of arrived → result
+        ≡ (within from count (last_byte area.now) && takes_writes arrived (last_byte area.now)) }
 {
     let end = u32::from(area.start) + u32::from(area.length);
     let last = end.saturating_sub(1);
@@ -118,7 +126,8 @@ fn last_bytes_written(
     from: u16,
     count: u16,
 ) -> [bool; 8]
-    ensures { (arrived : List ℕ) → before.now ≡ sync_managers_of arrived → SaysOfLastBytes (is_written arrived from count) after.now result }
+    ensures { (arrived : List ℕ) → before.now ≡ sync_managers_of arrived
+        → SaysOfLastBytes (is_written arrived from count) after.now result }
 {
     let mut written = [false; 8];
     for (number, area) in after.iter().enumerate() {
@@ -130,7 +139,11 @@ fn last_bytes_written(
 impl Controller {
     /// Shows the areas that a write of the range hands over. The records are those on arrival.
     fn show_range(&mut self, before: &[SyncMan; 8], from: u16, count: u16)
-        ensures { (arrived : List ℕ) → before.now ≡ sync_managers_of arrived → self.new ≡ record self.old { shown = shown_after (is_written arrived from count) before.now (sync_managers_of self.old.memory) self.old.memory self.old.shown } }
+        ensures { (arrived : List ℕ) → before.now ≡ sync_managers_of arrived → self.new
+            ≡ record self.old {
+              shown = shown_after (is_written arrived from count) before.now
+                  (sync_managers_of self.old.memory) self.old.memory self.old.shown;
+            } }
     {
         let after = *self.memory.managers();
         let reached = last_bytes_written(before, &after, from, count);
@@ -172,7 +185,8 @@ impl Controller {
     /// A write of the data from an address on, with all that it leaves.
     pub(crate) fn write_range(&mut self, from: u16, payload: &[u8])
         requires { from + length payload.now ≤ MEMORY_SIZE }
-        ensures { (d : DatagramRecord) → ado d ≡ from → d.payload ≡ payload.now → self.new ≡ range_written self.old d }
+        ensures { (d : DatagramRecord) → ado d ≡ from → d.payload ≡ payload.now → self.new
+            ≡ range_written self.old d }
     {
         let before = arrived_records(&self.memory);
         write_run(&mut self.memory, &before, from, payload);
@@ -182,7 +196,8 @@ impl Controller {
     /// The same, and the data are filled with the bytes that stood there.
     pub(crate) fn swap_range(&mut self, from: u16, payload: &mut [u8])
         requires { from + length payload.old ≤ MEMORY_SIZE }
-        ensures state { (d : DatagramRecord) → ado d ≡ from → d.payload ≡ payload.old → self.new ≡ range_written self.old d }
+        ensures state { (d : DatagramRecord) → ado d ≡ from → d.payload ≡ payload.old → self.new
+            ≡ range_written self.old d }
         ensures read { payload.new ≡ with_bits payload.old self.old.memory (λ i. Some (8 * from + i)) }
     {
         let before = arrived_records(&self.memory);

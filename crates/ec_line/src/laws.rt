@@ -1,6 +1,7 @@
 //! The laws of a line, each the contract of a function that does nothing.
 
-ghost use Rattle.std.specs.Prelude.{◌≡◌, ◌≤◌, ◌<◌, ◌+◌, ◌*◌, ℕ, None, Some, List, [], ◌∷◌, ◌++◌, ◌↔◌, length, map};
+ghost use Rattle.std.specs.Prelude.{◌≡◌, ◌≤◌, ◌<◌, ◌+◌, ◌*◌, ℕ, None};
+ghost use Rattle.std.specs.Prelude.{Some, List, [], ◌∷◌, ◌++◌, ◌↔◌, length, map};
 ghost use Rattle.ec_regs.specs.Bits.{bit};
 ghost use Rattle.std.specs.List.{AllByRecursion, Contains};
 ghost use Rattle.ec_regs.specs.declared.registers.TheConstants.{PROCESS_MEMORY, PROCESS_MEMORY_SIZE};
@@ -32,7 +33,8 @@ pub const MOST_CONTROLLERS: usize = 256;
 pub fn one_pass()
     ensures answered { (r : Request) (c : ControllerState) (d : DatagramRecord) → OnWay r d
         → Answered r (c ∷ []) d (pass c d).datagram }
-    ensures left { (r : Request) (c : ControllerState) (d : DatagramRecord) → IsController c → Accepts r c → OnWay r d
+    ensures left { (r : Request) (c : ControllerState) (d : DatagramRecord) → IsController c → Accepts r c
+        → OnWay r d
         → (pass c d).state ≡ after r d.payload c }
 {}
 
@@ -41,7 +43,8 @@ pub fn one_pass()
 pub fn calm_lasts()
     ensures calm { (r : Request) (payload : List ℕ) (c : ControllerState) → IsController c → Accepts r c
         → SameCalm c (after r payload c) }
-    ensures claims { (r : Request) (c later : ControllerState) (i : ℕ) → IsFitAlone c → Accepts r c → SameCalm c later
+    ensures claims { (r : Request) (c later : ControllerState) (i : ℕ) → IsFitAlone c → Accepts r c
+        → SameCalm c later
         → claim r later i ≡ claim r c i }
     ensures takes { (r : Request) (c later : ControllerState) → IsController c → SameCalm c later
         → taken r later ≡ taken r c }
@@ -55,13 +58,15 @@ pub fn calm_lasts()
         → fmmus_of later.memory ≡ fmmus_of c.memory }
     ensures fit { (c later : ControllerState) → IsFitAlone c → IsController later → SameCalm c later
         → IsFitAlone later }
-    ensures accepts { (r : Request) (c later : ControllerState) → IsController c → SameCalm c later → Accepts r c
+    ensures accepts { (r : Request) (c later : ControllerState) → IsController c → SameCalm c later
+        → Accepts r c
         → Accepts r later }
 {}
 
 /// A set of controllers has at most one answer.
 pub fn one_answer()
-    ensures { (r : Request) (xs : List ControllerState) (sent got other : ℕ → ℕ) → Answers (claim r) xs sent got
+    ensures { (r : Request) (xs : List ControllerState) (sent got other : ℕ → ℕ)
+        → Answers (claim r) xs sent got
         → Answers (claim r) xs sent other → (i : ℕ) → got i ≡ other i }
 {}
 
@@ -79,9 +84,11 @@ pub fn trips_core()
 /// Where in each trip both copies come back, and copy B begins where copy A ends, the answer is that of the
 /// whole line, and each controller is left once by each frame.
 pub fn whole_trips()
-    ensures answered { (ts : List Trip) (line : List ControllerState) → TripsReady ts line → AllByRecursion IsWholeTrip ts
+    ensures answered { (ts : List Trip) (line : List ControllerState) → TripsReady ts line
+        → AllByRecursion IsWholeTrip ts
         → AnsweredTrips ts (λ t. line) (trips_run ts line).joined }
-    ensures left { (ts : List Trip) (line : List ControllerState) → TripsReady ts line → AllByRecursion IsWholeTrip ts
+    ensures left { (ts : List Trip) (line : List ControllerState) → TripsReady ts line
+        → AllByRecursion IsWholeTrip ts
         → (trips_run ts line).line ≡ after_trips ts line }
 {}
 
@@ -98,13 +105,15 @@ pub fn good_counters()
         → SameMemories (trips_run ts line).line (after_trips ts line) }
     ensures shown { (ts : List Trip) (line : List ControllerState) (k : ℕ) → length line ≤ MOST_CONTROLLERS
         → TripsReady ts line → CountsWholeAll ts line (trips_run ts line).joined → k < PROCESS_MEMORY_SIZE
-        → SameShownWhere (ShowsLastInRun ts (PROCESS_MEMORY + k)) k line (trips_run ts line).line (after_trips ts line) }
+        → SameShownWhere (ShowsLastInRun ts (PROCESS_MEMORY + k)) k line (trips_run ts line).line
+        (after_trips ts line) }
 {}
 
 /// Where no two entries of a frame write into one area of outputs, the last entry that shows a byte is the
 /// last that writes it.
 pub fn no_area_twice()
-    ensures { (x : ControllerState) (address : ℕ) (es : List Entry) → NoAreaTwice x es → ShowsLast x address es }
+    ensures { (x : ControllerState) (address : ℕ) (es : List Entry) → NoAreaTwice x es
+        → ShowsLast x address es }
 {}
 
 /// Whatever was lost, each memory is that after the frames of which a copy reached the controller, each once.
@@ -135,13 +144,17 @@ pub fn claims_by_pairs()
 /// What it takes of a logical write or exchange is said by the set of its writable pairs: a memory bit that a
 /// pair names takes the pair's data bit, and every other bit of the memory takes nothing.
 pub fn takes_by_pairs()
-    ensures lwr { (a n : ℕ) (c : ControllerState) (p i : ℕ) → IsFitAlone c → i < 8 * n → Writes c (8 * a + i) p
+    ensures lwr { (a n : ℕ) (c : ControllerState) (p i : ℕ) → IsFitAlone c → i < 8 * n
+        → Writes c (8 * a + i) p
         → taken (record { kind = Lwr; address = a; count = n }) c p ≡ Some i }
-    ensures lrw { (a n : ℕ) (c : ControllerState) (p i : ℕ) → IsFitAlone c → i < 8 * n → Writes c (8 * a + i) p
+    ensures lrw { (a n : ℕ) (c : ControllerState) (p i : ℕ) → IsFitAlone c → i < 8 * n
+        → Writes c (8 * a + i) p
         → taken (record { kind = Lrw; address = a; count = n }) c p ≡ Some i }
-    ensures not_lwr { (a n : ℕ) (c : ControllerState) (p : ℕ) → ((i : ℕ) → i < 8 * n → ¬ Writes c (8 * a + i) p)
+    ensures not_lwr { (a n : ℕ) (c : ControllerState) (p : ℕ) → ((i : ℕ) → i < 8 * n
+        → ¬ Writes c (8 * a + i) p)
         → taken (record { kind = Lwr; address = a; count = n }) c p ≡ None }
-    ensures not_lrw { (a n : ℕ) (c : ControllerState) (p : ℕ) → ((i : ℕ) → i < 8 * n → ¬ Writes c (8 * a + i) p)
+    ensures not_lrw { (a n : ℕ) (c : ControllerState) (p : ℕ) → ((i : ℕ) → i < 8 * n
+        → ¬ Writes c (8 * a + i) p)
         → taken (record { kind = Lrw; address = a; count = n }) c p ≡ None }
 {}
 
@@ -149,7 +162,8 @@ pub fn takes_by_pairs()
 /// copy each that are joined, have answered together; and sets with the same members answer the same.
 pub fn relation()
     ensures nobody { (r : Request) (sent : ℕ → ℕ) → Answers (claim r) [] sent sent }
-    ensures one_after_the_other { (r : Request) (xs ys : List ControllerState) (sent between got : DatagramRecord)
+    ensures one_after_the_other { (r : Request) (xs ys : List ControllerState) (sent between got :
+        DatagramRecord)
         → AllAgree (claim r) ys xs → Answered r xs sent between → Answered r ys between got
         → Answered r (xs ++ ys) sent got }
     ensures joined { (r : Request) (xs ys : List ControllerState) (sent a b : DatagramRecord) → OnWay r sent
@@ -174,8 +188,10 @@ pub fn one_copy()
 /// A copy that went over a line is no stranger: it has the datagrams of the sent frame, each with the command,
 /// the index, the data length and the fixed address that were sent, whatever the controllers are.
 pub fn own_copies()
-    ensures a { (t : Trip) (line : List ControllerState) → AllByRecursion (λ e. OnWay e.request e.sent) t.entries
+    ensures a { (t : Trip) (line : List ControllerState)
+        → AllByRecursion (λ e. OnWay e.request e.sent) t.entries
         → IsOwn (sent_of t.entries) (passed t line).a }
-    ensures b { (t : Trip) (line : List ControllerState) → AllByRecursion (λ e. OnWay e.request e.sent) t.entries
+    ensures b { (t : Trip) (line : List ControllerState)
+        → AllByRecursion (λ e. OnWay e.request e.sent) t.entries
         → IsOwn (sent_of t.entries) (passed t line).b }
 {}
