@@ -264,3 +264,9 @@ found_in-mail_bytes bs (Ok n) begins fails m rest is e = ap Ok (BeginsWith_only 
 found_in-mail_bytes bs (Err fault) begins fails m rest is e =
     let none : mail_fault bs ≡ None = ap mail_fault e ∙ mail_fault-mail_bytes m rest is in
     absurd (cc)
+
+-- the fields of bytes that begin with a mail are that mail
+pub mail_of-BeginsWith : (bs : List ℕ) (m : Mail) → BeginsWith bs m → mail_of bs ≡ m
+mail_of-BeginsWith bs m begins =
+    ap mail_of (sym (take-append-drop 16 bs) ∙ ap (λ (xs : List ℕ). xs ++ drop 16 bs) begins.spelling)
+    ∙ mail_of-mail_bytes m (drop 16 bs) begins.mail

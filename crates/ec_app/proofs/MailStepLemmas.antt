@@ -18,13 +18,7 @@ use Rattle.ec_app.specs.Mail.{mail_of, mail_fault, counter_of, BeginsWith}
 use Rattle.ec_app.specs.MailStep.{has_mail, can_answer, has_request, is_kept, after_mail, after_bytes, request_bytes, mail_step}
 use Rattle.ec_app.specs.Roles.{is_answer_mailbox}
 use Rattle.ec_app.specs.State.{SlaveState}
-use Rattle.ec_app.proofs.MailLemmas.{mail_of-mail_bytes}
-
--- the fields of bytes that begin with a mail are that mail
-pub mail_of-BeginsWith : (bs : List ℕ) (m : Mail) → BeginsWith bs m → mail_of bs ≡ m
-mail_of-BeginsWith bs m begins =
-    ap mail_of (sym (take-append-drop 16 bs) ∙ ap (λ (xs : List ℕ). xs ++ drop 16 bs) begins.spelling)
-    ∙ mail_of-mail_bytes m (drop 16 bs) begins.mail
+use Rattle.ec_app.proofs.MailLemmas.{mail_of-BeginsWith}
 
 -- so bytes with a mail whose counter is not kept are answered as that mail
 pub after_bytes-BeginsWith : (bs : List ℕ) (m : Mail) (s : SlaveState) → mail_fault bs ≡ None

@@ -197,3 +197,8 @@ pub fn one_mail()
         → mail_bytes m ++ x ≡ mail_bytes n ++ y
         → (m ≡ n) × (x ≡ y) }
 {}
+
+/// The fields of a mail's bytes are that mail.
+pub fn fields_of_mail()
+    ensures { (bytes : List ℕ) (m : Mail) → BeginsWith bytes m → mail_of bytes ≡ m }
+{}

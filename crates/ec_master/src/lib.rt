@@ -14,7 +14,7 @@ mod work;
 
 pub use cycle::{CycleFault, run_cycle};
 pub use ports::{PortFault, Ports};
-pub use ring::ring_cycle;
+pub use ring::{calm, ring_cycle};
 pub use verdict::Verdict;
 pub use weather::weather_cycle;
 pub use work::{Full, MAX_ITEMS, Work};

@@ -20,8 +20,9 @@ use ec_merge::join_frames;
 use ec_ring::{Links, Travel, Weather};
 use ec_wire::FrameBuf;
 
-/// Both copies under a ring's own links, copy A first, none lost on its last hop.
-fn calm(links: Links) -> Weather
+/// The weather of a ring that nothing disturbs: both copies under its own links, copy A first, none lost on
+/// its last hop.
+pub fn calm(links: Links) -> Weather
     ensures { result ≡ calm links }
 {
     Weather {

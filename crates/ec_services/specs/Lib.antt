@@ -1,0 +1,6 @@
+pub mod Ask
+pub mod Stations
+pub mod States
+pub mod Mailbox
+pub mod Transfer
+pub mod RingTrips

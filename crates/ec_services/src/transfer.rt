@@ -1,0 +1,123 @@
+//! Objects of a slave, read and written by mail.
+
+ghost use Rattle.std.specs.Prelude.{◌≡◌, ◌≤◌, ◌<◌, Err, length};
+ghost use Rattle.ec_app.specs.declared.mail.TheConstants.{MAIL_SIZE};
+ghost use Rattle.ec_app.specs.declared.sdo.Sdo.TheVariants.{Upload, Download};
+ghost use Rattle.ec_services.specs.Transfer.{answers, answer_in, uploaded_by, downloaded_by};
+ghost use Rattle.ec_services.specs.Transfer.{IsExchanged, IsTransferred};
+ghost use Rattle.ec_services.specs.declared.fault.MasterFault.TheVariants.{Port};
+ghost use Rattle.ec_services.specs.declared.mailbox.TheConstants.{LONGEST_MAILBOX};
+
+use crate::fault::MasterFault;
+use crate::mailbox::{Peer, fetch, post};
+use ec_app::mail::{RESPONSE, fields_of_mail};
+use ec_app::{Mail, Sdo, Value};
+use ec_master::Ports;
+
+/// Does a mail answer a request: has it its counter, its index and its subindex?
+fn answers(mail: &Mail, counter: u8, asked: &Sdo) -> bool
+    ensures { result ≡ answers counter asked.now mail.now }
+{
+    mail.counter == counter && mail.sdo.index() == asked.index() && mail.sdo.sub() == asked.sub()
+}
+
+/// The mail that answers a request, in bytes that were read.
+fn answer_in(bytes: &[u8], counter: u8, asked: &Sdo) -> Result<Mail, MasterFault>
+    ensures { result ≡ answer_in counter asked.now bytes.now }
+{
+    fields_of_mail();
+    match Mail::read(bytes) {
+        Ok(mail) if answers(&mail, counter, asked) => Ok(mail),
+        _ => Err(MasterFault::BadAnswer),
+    }
+}
+
+/// What an answer to an upload comes to.
+fn uploaded_by(mail: &Mail) -> Result<Value, MasterFault>
+    ensures { result ≡ uploaded_by mail.now }
+{
+    match mail.sdo {
+        Sdo::UploadAnswer { value, .. } if mail.service == RESPONSE => Ok(value),
+        Sdo::Abort { code, .. } => Err(MasterFault::Abort(code)),
+        _ => Err(MasterFault::BadAnswer),
+    }
+}
+
+/// What an answer to a download comes to.
+fn downloaded_by(mail: &Mail) -> Result<(), MasterFault>
+    ensures { result ≡ downloaded_by mail.now }
+{
+    match mail.sdo {
+        Sdo::DownloadAnswer { .. } if mail.service == RESPONSE => Ok(()),
+        Sdo::Abort { code, .. } => Err(MasterFault::Abort(code)),
+        _ => Err(MasterFault::BadAnswer),
+    }
+}
+
+/// Writes a request into a peer's mailbox and fetches the answer, with at most `limit` reads.
+fn exchange<P: Ports>(
+    ports: &mut P,
+    peer: &mut Peer,
+    asked: &Sdo,
+    limit: u32,
+) -> Result<Mail, MasterFault>
+    requires counter { (1 ≤ peer.old.counter) × (peer.old.counter ≤ 7) }
+    requires to { (MAIL_SIZE ≤ peer.old.to.length) × (peer.old.to.length ≤ LONGEST_MAILBOX) }
+    requires from { (MAIL_SIZE ≤ peer.old.from.length) × (peer.old.from.length ≤ LONGEST_MAILBOX) }
+    ensures exchanged { IsExchanged P.trips ports.old peer.old asked.now limit result peer.new ports.new }
+    ensures counted { result ≡ Err Port → P.failed ports.old < P.failed ports.new }
+    ensures never_lower { P.failed ports.old ≤ P.failed ports.new }
+{
+    let before = *peer;
+    post(ports, peer, asked)?;
+    let frame = fetch(ports, &before, limit)?;
+    answer_in(frame.data(0), before.counter, asked)
+}
+
+/// Reads an object of a slave (IEC 61158-6-12, SDO upload, expedited): writes the request into the peer's
+/// mailbox, then reads its other mailbox at most `limit` times, until a mail is there. It takes no memory. The
+/// peer's counter moves on exactly where one slave took the request.
+///
+/// A trip that fails is `Port`, and a copy of another frame `Stranger`. `NoSlave`: no slave took the request,
+/// as where the mailbox is full; `Abort`: the slave ended the transfer; `NoAnswer`: `limit` reads found no
+/// mail; `BadAnswer`: more than one slave answered, or the mail is no answer to this request.
+pub fn sdo_upload<P: Ports>(
+    ports: &mut P,
+    peer: &mut Peer,
+    index: u16,
+    sub: u8,
+    limit: u32,
+) -> Result<Value, MasterFault>
+    requires counter { (1 ≤ peer.old.counter) × (peer.old.counter ≤ 7) }
+    requires to { (MAIL_SIZE ≤ peer.old.to.length) × (peer.old.to.length ≤ LONGEST_MAILBOX) }
+    requires from { (MAIL_SIZE ≤ peer.old.from.length) × (peer.old.from.length ≤ LONGEST_MAILBOX) }
+    ensures service { IsTransferred P.trips ports.old peer.old (Upload index sub) limit uploaded_by result peer.new
+        ports.new }
+    ensures counted { result ≡ Err Port → P.failed ports.old < P.failed ports.new }
+    ensures never_lower { P.failed ports.old ≤ P.failed ports.new }
+{
+    let mail = exchange(ports, peer, &Sdo::Upload { index, sub }, limit)?;
+    uploaded_by(&mail)
+}
+
+/// Writes an object of a slave (IEC 61158-6-12, SDO download, expedited), in the way of `sdo_upload` and with
+/// its faults.
+pub fn sdo_download<P: Ports>(
+    ports: &mut P,
+    peer: &mut Peer,
+    index: u16,
+    sub: u8,
+    value: Value,
+    limit: u32,
+) -> Result<(), MasterFault>
+    requires counter { (1 ≤ peer.old.counter) × (peer.old.counter ≤ 7) }
+    requires to { (MAIL_SIZE ≤ peer.old.to.length) × (peer.old.to.length ≤ LONGEST_MAILBOX) }
+    requires from { (MAIL_SIZE ≤ peer.old.from.length) × (peer.old.from.length ≤ LONGEST_MAILBOX) }
+    ensures service { IsTransferred P.trips ports.old peer.old (Download index sub value) limit downloaded_by result
+        peer.new ports.new }
+    ensures counted { result ≡ Err Port → P.failed ports.old < P.failed ports.new }
+    ensures never_lower { P.failed ports.old ≤ P.failed ports.new }
+{
+    let mail = exchange(ports, peer, &Sdo::Download { index, sub, value }, limit)?;
+    downloaded_by(&mail)
+}
