@@ -1,6 +1,6 @@
 -- A mail goes to a slave and one comes back (IEC 61158-4-12, sync manager, mailbox mode): the slave's mailbox
 -- of requests is written, and its mailbox of answers is read until a mail is there.
-use Rattle.std.specs.Prelude.{◌≡◌, ℕ, ◌+◌, ◌-◌, ◌==◌, nat_lt, if◌then◌else◌, Option, None, Some}
+use Rattle.std.specs.Prelude.{◌≡◌, ◌≤◌, ℕ, ◌+◌, ◌-◌, ◌==◌, nat_lt, if◌then◌else◌, Option, None, Some}
 use Rattle.std.specs.Prelude.{List, [], ◌∷◌, ◌++◌, replicate, Result, Ok, Err}
 use Rattle.ec_wire.specs.Datagram.{DatagramRecord}
 use Rattle.ec_wire.specs.declared.command.Command.TheVariants.{Fprd, Fpwr}
@@ -13,7 +13,22 @@ use Rattle.ec_master.specs.Ports.{Trips}
 use Rattle.ec_services.specs.Ask.{physical, request, Answer, told_by, Asks, Question, Talks, write_decides}
 use Rattle.ec_services.specs.declared.fault.MasterFault.{MasterFault}
 use Rattle.ec_services.specs.declared.fault.MasterFault.TheVariants.{NoAnswer, BadAnswer}
+use Rattle.ec_regs.specs.declared.sync_man.TheConstants.{SHORTEST_MAILBOX, LONGEST_MAILBOX}
+use Rattle.ec_services.specs.declared.mailbox.Area.{Area}
 use Rattle.ec_services.specs.declared.mailbox.Peer.{Peer}
+
+-- ---- a peer
+
+-- a mailbox has 16 to 128 bytes
+abbrev pub IsMailbox : Area → Type 0
+IsMailbox area = (SHORTEST_MAILBOX ≤ area.length) × (area.length ≤ LONGEST_MAILBOX)
+
+-- both its areas are mailboxes, and counters run from 1 to 7
+pub record IsPeer (peer : Peer) : Type 0 where
+  pub to : IsMailbox peer.to
+  pub from : IsMailbox peer.from
+  pub least : 1 ≤ peer.counter
+  pub most : peer.counter ≤ 7
 
 -- ---- the request
 
@@ -35,7 +50,7 @@ mail_write peer sdo =
     request Fpwr (physical peer.station peer.to.start)
     (mail_bytes (request_mail peer sdo) ++ replicate (peer.to.length - MAIL_SIZE) 0)
 
--- counters run from 1 to 7
+-- the counter after this one; after 7 comes 1
 abbrev pub next_counter : ℕ → ℕ
 next_counter counter = if counter == 7 then 1 else counter + 1
 

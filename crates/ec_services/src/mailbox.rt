@@ -4,7 +4,7 @@ ghost use Rattle.std.specs.Prelude.{◌≡◌, ◌≤◌, ◌<◌, Err, IfOk, If
 ghost use Rattle.ec_wire.specs.Datagram.{record_of};
 ghost use Rattle.ec_app.specs.declared.mail.Mail.{Mail};
 ghost use Rattle.ec_services.specs.Ask.{IsAsked, Talks, done, write_decides};
-ghost use Rattle.ec_services.specs.Mailbox.{mail_write, next_counter, with_counted, IsPosted, mail_read};
+ghost use Rattle.ec_services.specs.Mailbox.{IsPeer, mail_write, next_counter, with_counted, IsPosted, mail_read};
 ghost use Rattle.ec_services.specs.Mailbox.{mail_decides, mail_question, Fetches};
 ghost use Rattle.ec_services.specs.declared.fault.MasterFault.TheVariants.{NoAnswer, Port};
 
@@ -13,10 +13,11 @@ use crate::fault::MasterFault;
 use ec_app::mail::{MAIL_SIZE, REQUEST};
 use ec_app::{Mail, Sdo};
 use ec_master::Ports;
+use ec_regs::LONGEST_MAILBOX;
 use ec_wire::{Command, Datagram, FrameBuf};
 
-/// The bytes of the longest mailbox.
-pub(crate) const LONGEST_MAILBOX: usize = 128;
+/// Room for the area of a mailbox.
+const ROOM: usize = LONGEST_MAILBOX as usize;
 
 /// The area of a mailbox in a slave's memory (IEC 61158-4-12, sync manager).
 #[derive(Clone, Copy, PartialEq, Eq, Debug)]
@@ -50,8 +51,7 @@ fn next_counter(counter: u8) -> u8
 
 /// The mail of a request as it is written: zeros after it fill the mailbox.
 fn mail_write(peer: &Peer, sdo: &Sdo) -> Datagram
-    requires counter { (1 ≤ peer.now.counter) × (peer.now.counter ≤ 7) }
-    requires to { (MAIL_SIZE ≤ peer.now.to.length) × (peer.now.to.length ≤ LONGEST_MAILBOX) }
+    requires { IsPeer peer.now }
     ensures { record_of result ≡ mail_write peer.now sdo.now }
 {
     let mail = Mail {
@@ -63,7 +63,7 @@ fn mail_write(peer: &Peer, sdo: &Sdo) -> Datagram
         service: REQUEST,
         sdo: *sdo,
     };
-    let mut area = [0; LONGEST_MAILBOX];
+    let mut area = [0; ROOM];
     area[..MAIL_SIZE].copy_from_slice(&mail.write());
     let address = physical(peer.station, peer.to.start);
     request(Command::Fpwr, address, &area[..usize::from(peer.to.length)])
@@ -83,8 +83,7 @@ fn count_request(peer: &mut Peer, back: &Back) -> Result<(), MasterFault>
 
 /// Writes a request into the mailbox of a peer.
 pub(crate) fn post<P: Ports>(ports: &mut P, peer: &mut Peer, sdo: &Sdo) -> Result<(), MasterFault>
-    requires counter { (1 ≤ peer.old.counter) × (peer.old.counter ≤ 7) }
-    requires to { (MAIL_SIZE ≤ peer.old.to.length) × (peer.old.to.length ≤ LONGEST_MAILBOX) }
+    requires { IsPeer peer.old }
     ensures posted { IsPosted P.trips ports.old peer.old sdo.now (done result) peer.new ports.new }
     ensures counted { result ≡ Err Port → P.failed ports.old < P.failed ports.new }
     ensures never_lower { P.failed ports.old ≤ P.failed ports.new }
@@ -95,10 +94,10 @@ pub(crate) fn post<P: Ports>(ports: &mut P, peer: &mut Peer, sdo: &Sdo) -> Resul
 
 /// The read of the mailbox of answers, whole.
 fn mail_read(peer: &Peer) -> Datagram
-    requires { peer.now.from.length ≤ LONGEST_MAILBOX }
+    requires { IsPeer peer.now }
     ensures { record_of result ≡ mail_read peer.now }
 {
-    let area = [0; LONGEST_MAILBOX];
+    let area = [0; ROOM];
     let address = physical(peer.station, peer.from.start);
     request(
         Command::Fprd,
@@ -122,7 +121,7 @@ fn mail_decides(back: Back) -> Result<Option<FrameBuf>, MasterFault>
 
 /// Reads the mailbox of answers.
 fn read_mail<P: Ports>(ports: &mut P, peer: &Peer) -> Result<Option<FrameBuf>, MasterFault>
-    requires { peer.now.from.length ≤ LONGEST_MAILBOX }
+    requires { IsPeer peer.now }
     ensures asked { IsAsked P.trips ports.old (mail_question peer.now) result ports.new }
     ensures one { IfOk result (λ found. IfSome found (λ frame. length frame ≡ 1)) }
     ensures counted { result ≡ Err Port → P.failed ports.old < P.failed ports.new }
@@ -137,7 +136,7 @@ pub(crate) fn fetch<P: Ports>(
     peer: &Peer,
     limit: u32,
 ) -> Result<FrameBuf, MasterFault>
-    requires { peer.now.from.length ≤ LONGEST_MAILBOX }
+    requires { IsPeer peer.now }
     ensures fetches { Fetches P.trips ports.old peer.now limit result ports.new }
     ensures one { IfOk result (λ frame. length frame ≡ 1) }
     ensures counted { result ≡ Err Port → P.failed ports.old < P.failed ports.new }

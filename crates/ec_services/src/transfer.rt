@@ -1,12 +1,11 @@
 //! Objects of a slave, read and written by mail.
 
 ghost use Rattle.std.specs.Prelude.{◌≡◌, ◌≤◌, ◌<◌, Err, length};
-ghost use Rattle.ec_app.specs.declared.mail.TheConstants.{MAIL_SIZE};
 ghost use Rattle.ec_app.specs.declared.sdo.Sdo.TheVariants.{Upload, Download};
 ghost use Rattle.ec_services.specs.Transfer.{answers, answer_in, uploaded_by, downloaded_by};
 ghost use Rattle.ec_services.specs.Transfer.{IsExchanged, IsTransferred};
 ghost use Rattle.ec_services.specs.declared.fault.MasterFault.TheVariants.{Port};
-ghost use Rattle.ec_services.specs.declared.mailbox.TheConstants.{LONGEST_MAILBOX};
+ghost use Rattle.ec_services.specs.Mailbox.{IsPeer};
 
 use crate::fault::MasterFault;
 use crate::mailbox::{Peer, fetch, post};
@@ -61,9 +60,7 @@ fn exchange<P: Ports>(
     asked: &Sdo,
     limit: u32,
 ) -> Result<Mail, MasterFault>
-    requires counter { (1 ≤ peer.old.counter) × (peer.old.counter ≤ 7) }
-    requires to { (MAIL_SIZE ≤ peer.old.to.length) × (peer.old.to.length ≤ LONGEST_MAILBOX) }
-    requires from { (MAIL_SIZE ≤ peer.old.from.length) × (peer.old.from.length ≤ LONGEST_MAILBOX) }
+    requires { IsPeer peer.old }
     ensures exchanged { IsExchanged P.trips ports.old peer.old asked.now limit result peer.new ports.new }
     ensures counted { result ≡ Err Port → P.failed ports.old < P.failed ports.new }
     ensures never_lower { P.failed ports.old ≤ P.failed ports.new }
@@ -88,9 +85,7 @@ pub fn sdo_upload<P: Ports>(
     sub: u8,
     limit: u32,
 ) -> Result<Value, MasterFault>
-    requires counter { (1 ≤ peer.old.counter) × (peer.old.counter ≤ 7) }
-    requires to { (MAIL_SIZE ≤ peer.old.to.length) × (peer.old.to.length ≤ LONGEST_MAILBOX) }
-    requires from { (MAIL_SIZE ≤ peer.old.from.length) × (peer.old.from.length ≤ LONGEST_MAILBOX) }
+    requires { IsPeer peer.old }
     ensures service { IsTransferred P.trips ports.old peer.old (Upload index sub) limit uploaded_by result peer.new
         ports.new }
     ensures counted { result ≡ Err Port → P.failed ports.old < P.failed ports.new }
@@ -110,9 +105,7 @@ pub fn sdo_download<P: Ports>(
     value: Value,
     limit: u32,
 ) -> Result<(), MasterFault>
-    requires counter { (1 ≤ peer.old.counter) × (peer.old.counter ≤ 7) }
-    requires to { (MAIL_SIZE ≤ peer.old.to.length) × (peer.old.to.length ≤ LONGEST_MAILBOX) }
-    requires from { (MAIL_SIZE ≤ peer.old.from.length) × (peer.old.from.length ≤ LONGEST_MAILBOX) }
+    requires { IsPeer peer.old }
     ensures service { IsTransferred P.trips ports.old peer.old (Download index sub value) limit downloaded_by result
         peer.new ports.new }
     ensures counted { result ≡ Err Port → P.failed ports.old < P.failed ports.new }

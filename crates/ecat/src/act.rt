@@ -1,7 +1,11 @@
 //! The commands over a source and two writers.
 
+ghost use Rattle.std.specs.Prelude.{◌≡◌, false};
+ghost use Rattle.ecat.specs.Commands.{is_udp};
+
 use crate::check::check;
 use crate::run::run;
+use crate::sdo::{Asked, sdo, value_of};
 use crate::show::show;
 use crate::vectors::vectors;
 use ecat_args::Args;
@@ -15,9 +19,6 @@ pub const GOOD: u8 = 0;
 
 /// The content was refused.
 pub const REFUSED: u8 = 1;
-
-/// The command is not there yet.
-const UNUSABLE: u8 = 2;
 
 /// The source, the output or memory failed.
 const FAILED: u8 = 3;
@@ -39,8 +40,10 @@ pub enum Failure {
     TooMany,
     /// A frame came back that is none of those sent; no ring makes one.
     Stranger,
-    /// What is asked is not there yet.
-    NotThere,
+    /// A send or a receive failed.
+    Port,
+    /// The scene has actions or weathers, for which there are no packets.
+    Actions,
 }
 
 impl From<io::Error> for Failure {
@@ -49,19 +52,35 @@ impl From<io::Error> for Failure {
     }
 }
 
-/// Does a command, whose file is open as `source`, and answers the exit status.
+/// Does a command but `udp`, whose file is open as `source`, and answers the exit status.
 pub fn act<S, W, V>(alloc: Global, args: &Args<'_>, source: &mut S, out: &mut W, err: &mut V) -> u8
 where
     S: Source,
     W: Write,
     V: Write,
+    requires { is_udp args.now ≡ false }
 {
     let done = match args {
         Args::Check { .. } => check(alloc, source, out),
         Args::Run { .. } => run(alloc, source, out),
         Args::Show { .. } => show(alloc, source, out),
+        Args::Sdo {
+            station,
+            index,
+            sub,
+            value,
+            ..
+        } => {
+            let asked = Asked {
+                station: *station,
+                index: *index,
+                sub: *sub,
+                value: value.map(value_of),
+            };
+            sdo(alloc, &asked, source, out)
+        }
         Args::Vectors => vectors(alloc, out),
-        Args::Sdo { .. } | Args::Udp { .. } => Err(Failure::NotThere),
+        Args::Udp { .. } => unreachable!(),
     };
     match done {
         Ok(status) => status,
@@ -71,18 +90,16 @@ where
 
 /// Writes the line of a failure, to the output where the content was refused and to `err` else, and
 /// answers the exit status.
-fn report<W: Write, V: Write>(failure: &Failure, out: &mut W, err: &mut V) -> u8 {
+pub fn report<W: Write, V: Write>(failure: &Failure, out: &mut W, err: &mut V) -> u8 {
     match failure {
         Failure::Scene(SceneFault::NoMemory) | Failure::NoMemory => failed(
             err,
             b"scene: NoMemory\n",
         ),
-        Failure::NotThere => {
-            let _ = err.write_all(b"this command is not there yet\n");
-            UNUSABLE
-        }
         Failure::Read => failed(err, b"file: Read\n"),
         Failure::Output => failed(err, b"output: Write\n"),
+        Failure::Port => failed(err, b"cycle: Port\n"),
+        Failure::Actions => refused(writeln!(out, "scene: actions"), err),
         Failure::Capture(PcapFault::Read) => failed(err, b"capture: Read\n"),
         Failure::Capture(PcapFault::NoMemory) => failed(err, b"capture: NoMemory\n"),
         Failure::Scene(fault) => refused(writeln!(out, "scene: {fault}"), err),

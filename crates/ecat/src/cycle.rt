@@ -45,7 +45,7 @@ pub fn cycle<W: Write>(
 }
 
 /// What the line adds to the working counter of each item.
-fn all_expected(line: &[Slave], work: &Work) -> ArrayVec<u16, MAX_ITEMS>
+pub fn all_expected(line: &[Slave], work: &Work) -> ArrayVec<u16, MAX_ITEMS>
     ensures { result.items ≡ map (expected_of (controllers line.now)) work.now }
 {
     let mut all = ArrayVec::new();
@@ -56,7 +56,7 @@ fn all_expected(line: &[Slave], work: &Work) -> ArrayVec<u16, MAX_ITEMS>
 }
 
 /// Prints a verdict, and answers the status.
-fn print_verdict<W: Write>(verdict: Verdict, lines: &mut Lines<'_, W>) -> io::Result<u8> {
+pub fn print_verdict<W: Write>(verdict: Verdict, lines: &mut Lines<'_, W>) -> io::Result<u8> {
     let status = match verdict {
         Verdict::Good => {
             lines.text("good")?;
@@ -76,7 +76,7 @@ fn print_verdict<W: Write>(verdict: Verdict, lines: &mut Lines<'_, W>) -> io::Re
 }
 
 /// Prints a line for each item of the work, with what was expected of its working counter.
-fn print_items<W: Write>(
+pub fn print_items<W: Write>(
     work: &Work,
     expected: &[u16],
     lines: &mut Lines<'_, W>,

@@ -11,12 +11,18 @@ mod line;
 mod print;
 mod run;
 mod scene_rows;
+mod sdo;
 mod show;
+mod slave_rows;
+mod udp;
 mod vectors;
 
 use act::act;
+use udp::act_udp;
 use ecat_args::{Args, ArgsFault};
 use ecat_source::{Bytes, Counted};
+use ecat_udp::UdpLine;
+use std::net::Net;
 use std::process::ExitCode;
 use std::rt::{Env, Files};
 use std::{env, fs, io};
@@ -34,7 +40,7 @@ fn main(rt: HostRuntime) -> ExitCode {
 /// Reads the command line, opens the file that it names, and does the command.
 fn start<R, W, V>(rt: &R, out: &mut W, err: &mut V) -> u8
 where
-    R: Env + Files + AllocGlobal,
+    R: Env + Files + Net + AllocGlobal,
     W: io::Write,
     V: io::Write,
 {
@@ -70,7 +76,7 @@ where
 /// Opens the file of a command, if it has one, and does the command.
 fn open<R, W, V>(rt: &R, args: &Args<'_>, out: &mut W, err: &mut V) -> u8
 where
-    R: Files + AllocGlobal,
+    R: Files + Net + AllocGlobal,
     W: io::Write,
     V: io::Write,
 {
@@ -82,18 +88,27 @@ where
         | Args::Udp { scene, .. } => *scene,
         Args::Vectors => return act(rt.alloc(), args, &mut Bytes::new(b""), out, err),
     };
-    match fs::open(rt, path) {
-        Ok(file) => act(rt.alloc(), args, &mut Counted::new(file), out, err),
-        Err(_) => {
-            let _ = err.write_all(b"file: Open\n");
-            FAILED
-        }
+    let Ok(file) = fs::open(rt, path) else {
+        return failed(b"file: Open\n", err);
+    };
+    let mut source = Counted::new(file);
+    match args {
+        Args::Udp { port, .. } => match UdpLine::bind(rt, *port) {
+            Ok(line) => act_udp(rt.alloc(), &mut source, line, out, err),
+            Err(_) => failed(b"socket: Bind\n", err),
+        },
+        _ => act(rt.alloc(), args, &mut source, out, err),
     }
 }
 
-fn no_memory<V: io::Write>(err: &mut V) -> u8 {
-    let _ = err.write_all(b"arguments: NoMemory\n");
+/// Writes the line of what failed.
+fn failed<V: io::Write>(line: &[u8], err: &mut V) -> u8 {
+    let _ = err.write_all(line);
     FAILED
+}
+
+fn no_memory<V: io::Write>(err: &mut V) -> u8 {
+    failed(b"arguments: NoMemory\n", err)
 }
 
 fn bad_arguments<V: io::Write>(err: &mut V) -> u8 {

@@ -32,10 +32,16 @@ pub fn run<S: Source, W: Write>(alloc: Global, source: &mut S, out: &mut W) -> R
         let mut work = work_of(scene.items)?;
         status = cycle(&mut ring, &mut work, weathers.as_slice(), &mut lines)?;
     }
-    for (number, slave) in ring.slaves().iter().enumerate() {
-        areas(number, slave, &mut lines)?;
-    }
+    print_areas(ring.slaves(), &mut lines)?;
     Ok(status)
+}
+
+/// Prints a line for each active buffered area of the slaves that the master writes.
+pub fn print_areas<W: Write>(line: &[Slave], lines: &mut Lines<'_, W>) -> io::Result<()> {
+    for (number, slave) in line.iter().enumerate() {
+        areas(number, slave, lines)?;
+    }
+    Ok(())
 }
 
 /// Does one action, and prints the frame that it carries.

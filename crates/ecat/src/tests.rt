@@ -3,6 +3,7 @@
 
 mod checking;
 mod cycles;
+mod objects;
 mod rings;
 mod running;
 mod showing;

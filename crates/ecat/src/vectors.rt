@@ -17,6 +17,9 @@ use crate::scene_rows::{
     outputs_are_taken_and_inputs_given, read_and_written_is_refused, two_slaves_share_a_byte,
     unmapped_read_is_unchanged,
 };
+use crate::slave_rows::{
+    an_error_stands_until_acknowledged, mails_are_answered_once, states_are_refused_with_their_codes,
+};
 use std::alloc::Global;
 use std::io::Write;
 
@@ -46,6 +49,9 @@ pub fn vectors<W: Write>(alloc: Global, out: &mut W) -> Result<u8, Failure> {
         (21, another_index_is_a_stranger()),
         (22, a_full_mailbox_takes_no_mail(alloc)?),
         (23, outputs_are_shown_whole(alloc)?),
+        (24, mails_are_answered_once(alloc)?),
+        (25, an_error_stands_until_acknowledged(alloc)?),
+        (26, states_are_refused_with_their_codes(alloc)?),
     ];
     let mut lines = Lines::new(out);
     let mut status = GOOD;

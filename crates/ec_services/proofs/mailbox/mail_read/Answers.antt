@@ -9,4 +9,4 @@ returns c =
     c.request.ensures
     ∙ rw (c.physical-address.ensures, c.from.ensures)
     (ap (request Fprd (physical c.args.peer.now.station c.args.peer.now.from.start))
-    (take-replicate c.args.peer.now.from.length 128 0 c.requires))
+    (take-replicate c.args.peer.now.from.length 128 0 c.requires.from.1))

@@ -1,0 +1,107 @@
+//! Objects of a slave that are read and written by mail.
+
+use super::answers;
+use ecat_args::{Args, Value};
+use ecat_source::Bytes;
+use std::process::Abort;
+
+/// A slave in Pre-Op with both mailboxes, an object that is read and one that is read and written.
+const SLAVE: &[u8] =
+    b"slave 0x1001\nstate 2\nsm 0 0x1800 32 mailbox-write\nsm 1 0x1880 32 mailbox-read\n\
+    object 0x1018 1 4 ro 2\nobject 0x2000 0 2 rw 0\n";
+
+/// `sdo` over a text.
+fn transfers(
+    rt: &(impl AllocGlobal + Abort),
+    scene: &[u8],
+    object: (u16, u16, u8),
+    value: Option<Value>,
+    status: u8,
+    out: &[u8],
+) {
+    let (station, index, sub) = object;
+    let args = Args::Sdo {
+        scene: "s",
+        station,
+        index,
+        sub,
+        value,
+    };
+    answers(rt, &args, &mut Bytes::new(scene), status, out, b"");
+}
+
+#[test]
+fn a_value_is_uploaded(rt: HostRuntime) {
+    let out = b"value 0x00000002\n";
+    transfers(&rt, SLAVE, (0x1001, 0x1018, 1), None, 0, out);
+}
+
+#[test]
+fn an_object_that_is_not_there_aborts(rt: HostRuntime) {
+    let out = b"abort 0x06020000\n";
+    transfers(&rt, SLAVE, (0x1001, 0x2001, 0), None, 1, out);
+}
+
+#[test]
+fn a_value_is_downloaded(rt: HostRuntime) {
+    let value = Some(Value::Two(0x1234));
+    transfers(&rt, SLAVE, (0x1001, 0x2000, 0), value, 0, b"written\n");
+}
+
+#[test]
+fn a_value_of_another_length_aborts(rt: HostRuntime) {
+    let value = Some(Value::One(0x12));
+    let out = b"abort 0x06070010\n";
+    transfers(&rt, SLAVE, (0x1001, 0x2000, 0), value, 1, out);
+}
+
+#[test]
+fn a_value_has_the_digits_of_its_length(rt: HostRuntime) {
+    let out = b"value 0x0000\n";
+    transfers(&rt, SLAVE, (0x1001, 0x2000, 0), None, 0, out);
+}
+
+#[test]
+fn a_station_that_nobody_has_is_no_slave(rt: HostRuntime) {
+    let out = b"fault NoSlave\n";
+    transfers(&rt, SLAVE, (0x1002, 0x1018, 1), None, 1, out);
+}
+
+#[test]
+fn a_slave_without_mailboxes_is_no_slave(rt: HostRuntime) {
+    let scene = b"slave 0x1001\nstate 2\nsm 0 0x1800 32 mailbox-write\nobject 0x1018 1 4 ro 2\n";
+    let out = b"fault NoSlave\n";
+    transfers(&rt, scene, (0x1001, 0x1018, 1), None, 1, out);
+}
+
+#[test]
+fn a_slave_in_init_answers_no_mail(rt: HostRuntime) {
+    let scene = b"slave 0x1001\nsm 0 0x1800 32 mailbox-write\nsm 1 0x1880 32 mailbox-read\n\
+        object 0x1018 1 4 ro 2\n";
+    let out = b"fault NoAnswer\n";
+    transfers(&rt, scene, (0x1001, 0x1018, 1), None, 1, out);
+}
+
+#[test]
+fn a_mail_finds_its_way_round_a_broken_cable(rt: HostRuntime) {
+    let scene = b"slave 0x1001\nstate 2\nsm 0 0x1800 32 mailbox-write\nsm 1 0x1880 32 mailbox-read\n\
+        object 0x1018 1 4 ro 2\nlink 0 down\n";
+    let out = b"value 0x00000002\n";
+    transfers(&rt, scene, (0x1001, 0x1018, 1), None, 0, out);
+}
+
+#[test]
+fn a_slave_that_no_copy_reaches_is_no_slave(rt: HostRuntime) {
+    let scene = b"slave 0x1001\nstate 2\nsm 0 0x1800 32 mailbox-write\nsm 1 0x1880 32 mailbox-read\n\
+        object 0x1018 1 4 ro 2\nlink 0 down\nlink 1 down\n";
+    let out = b"fault NoSlave\n";
+    transfers(&rt, scene, (0x1001, 0x1018, 1), None, 1, out);
+}
+
+#[test]
+fn actions_items_and_weathers_are_passed_over(rt: HostRuntime) {
+    let scene = b"slave 0x1001\nstate 2\nsm 0 0x1800 32 mailbox-write\nsm 1 0x1880 32 mailbox-read\n\
+        object 0x1018 1 4 ro 2\nstep\nbrd 0x0130 0000\nweather 0 0 ab a\n";
+    let out = b"value 0x00000002\n";
+    transfers(&rt, scene, (0x1001, 0x1018, 1), None, 0, out);
+}

@@ -1,0 +1,27 @@
+-- What is stated of a trip over packets, and what it does to the ring.
+use Rattle.std.specs.Prelude.{◌≡◌, ◌⊎◌, List, Result, ⊤}
+use Rattle.ec_wire.specs.Datagram.{DatagramRecord}
+use Rattle.ec_ring.specs.Ring.{RingState, line_of, with_line}
+use Rattle.ec_ring.specs.Walk.{walked}
+use Rattle.ec_ring.specs.declared.port.Port.{Port}
+use Rattle.ec_ring.specs.declared.port.Port.TheVariants.{A, B}
+use Rattle.ec_ring.specs.declared.weather.Came.{Came}
+use Rattle.ec_master.specs.declared.ports.PortFault.{PortFault}
+
+-- Of what comes back nothing is stated: what a socket gives is up to the system. So each trip is one that can
+-- be made.
+abbrev pub any_trip : {P : Type 0} → P → List DatagramRecord → Result Came PortFault → P → Type 0
+any_trip before sent came later = ⊤
+
+-- the ring behind a copy that has walked over it from a port, under its own links
+abbrev pub after_copy : Port → List DatagramRecord → RingState → RingState
+after_copy from copy ring = with_line ring (walked from ring.links copy (line_of ring)).line
+
+-- at most one copy has walked over the ring from this port
+abbrev pub IsWalkedOnce : Port → RingState → RingState → Type 0
+IsWalkedOnce from before later =
+    (later ≡ before) ⊎ ((copy : List DatagramRecord) × (later ≡ after_copy from copy before))
+
+-- at most one copy from port A, and then at most one from port B, have walked over the ring
+abbrev pub IsWalked : RingState → RingState → Type 0
+IsWalked before later = (between : RingState) × IsWalkedOnce A before between × IsWalkedOnce B between later
