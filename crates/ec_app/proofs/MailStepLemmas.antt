@@ -1,6 +1,7 @@
 -- What a slave finds before it answers a mail: a mailbox that takes the answer, also once the request was
 -- taken, and a request where the controller gave one.
-use Rattle.std.proofs.Common.{◌≡◌, ℕ, ◌-◌, ◌≤◌, Bool, true, false, not, cond, ◌&&◌, leb, List, ◌++◌, length, get_or, set, drop, None, Some, Result, Ok, Err, sym, ◌∙◌, ap, refl, arith}
+use Rattle.std.proofs.Common.{◌≡◌, ℕ, ◌-◌, ◌≤◌, Bool, true, false, not, cond, ◌&&◌, leb, List, ◌++◌, length}
+use Rattle.std.proofs.Common.{get_or, set, drop, None, Some, Result, Ok, Err, sym, ◌∙◌, ap, refl, arith}
 use Rattle.std.proofs.lemmas.Bool.{and_parts}
 use Rattle.std.proofs.lemmas.Bool.Decides.{nat_tests}
 use Rattle.std.proofs.lemmas.List.{take-append-drop, drop-set-lt, get_or-set_other}
@@ -15,7 +16,8 @@ use Rattle.ec_esc.specs.State.{ControllerState}
 use Rattle.ec_esc.specs.declared.application.AreaFault.{AreaFault}
 use Rattle.ec_app.specs.declared.mail.Mail.{Mail}
 use Rattle.ec_app.specs.Mail.{mail_of, mail_fault, counter_of, BeginsWith}
-use Rattle.ec_app.specs.MailStep.{has_mail, can_answer, has_request, is_kept, after_mail, after_bytes, request_bytes, mail_step}
+use Rattle.ec_app.specs.MailStep.{has_mail, can_answer, has_request, is_kept, after_mail, after_bytes}
+use Rattle.ec_app.specs.MailStep.{request_bytes, mail_step}
 use Rattle.ec_app.specs.Roles.{is_answer_mailbox}
 use Rattle.ec_app.specs.State.{SlaveState}
 use Rattle.ec_app.proofs.MailLemmas.{mail_of-BeginsWith}

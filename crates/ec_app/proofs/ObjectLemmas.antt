@@ -1,10 +1,12 @@
 -- A dictionary's entries stay distinct when one is added whose place is free, and when a value is replaced.
-use Rattle.std.proofs.Common.{◌≡◌, ℕ, ◌+◌, ◌<◌, Bool, true, false, not, eqb, ◌||◌, cond, List, [], ◌∷◌, ◌++◌, length, map, take, drop, get_or, set, sym, ◌∙◌, ap, refl, arith}
+use Rattle.std.proofs.Common.{◌≡◌, ℕ, ◌+◌, ◌<◌, Bool, true, false, not, eqb, ◌||◌, cond, List, [], ◌∷◌, ◌++◌}
+use Rattle.std.proofs.Common.{length, map, take, drop, get_or, set, sym, ◌∙◌, ap, refl, arith}
 use Rattle.std.specs.List.{refill}
 use Rattle.std.proofs.lemmas.Bool.{and_parts, and_from}
 use Rattle.std.proofs.lemmas.Bool.Decides.{nat_tests}
 use Rattle.std.proofs.lemmas.List.Folds.{list_any-append}
-use Rattle.std.proofs.lemmas.List.{take_at, length_push, length-map, length-take-le, append_assoc, drop_more, get_or_at, set_at, map_more}
+use Rattle.std.proofs.lemmas.List.{take_at, length_push, length-map, length-take-le, append_assoc, drop_more}
+use Rattle.std.proofs.lemmas.List.{get_or_at, set_at, map_more}
 use Rattle.ec_app.specs.Objects.{IsDictionary, is_at, stands_at, are_distinct, with_value}
 use Rattle.ec_app.specs.declared.objects.Entry.{Entry}
 use Rattle.ec_app.specs.declared.value.Value.{Value}
@@ -28,11 +30,13 @@ or_parts true y h = absurd (cc)
 or_parts false y h = (refl, h)
 
 -- distinct entries and one at a free place are distinct
-are_distinct_push : (es : List Entry) (e : Entry) → are_distinct es ≡ true → stands_at e.index e.sub es ≡ false
+are_distinct_push : (es : List Entry) (e : Entry) → are_distinct es ≡ true
+    → stands_at e.index e.sub es ≡ false
     → are_distinct (es ++ e ∷ []) ≡ true
 are_distinct_push [] e distinct free = refl
 are_distinct_push (x ∷ xs) e distinct free =
-    let parts : (not (stands_at x.index x.sub xs) ≡ true) × (are_distinct xs ≡ true) = and_parts _ _ distinct in
+    let parts : (not (stands_at x.index x.sub xs) ≡ true) × (are_distinct xs ≡ true) =
+    and_parts _ _ distinct in
     let others : (is_at e.index e.sub x ≡ false) × (stands_at e.index e.sub xs ≡ false) = or_parts _ _ free in
     let fresh : not (stands_at x.index x.sub (xs ++ e ∷ [])) ≡ true =
     ap not (list_any-append (is_at x.index x.sub) xs (e ∷ []))
@@ -40,9 +44,11 @@ are_distinct_push (x ∷ xs) e distinct free =
     and_from _ _ fresh (are_distinct_push xs e parts.1 others.1)
 
 -- a replaced value leaves the entry at its place
-is_at-with_value : (i s index sub : ℕ) (value : Value) (e : Entry) → is_at i s (with_value index sub value e) ≡ is_at i s e
+is_at-with_value : (i s index sub : ℕ) (value : Value) (e : Entry)
+    → is_at i s (with_value index sub value e) ≡ is_at i s e
 is_at-with_value i s index sub value e =
-    elim (is_at index sub e) as (λ test. is_at i s (cond test (record e { value = value }) e) ≡ is_at i s e) [ true ↦ refl | false ↦ refl ]
+    elim (is_at index sub e) as (λ test. is_at i s (cond test (record e { value = value }) e) ≡ is_at i s e)
+    [ true ↦ refl | false ↦ refl ]
 
 -- so the same places are taken
 stands_at-map-with_value : (i s index sub : ℕ) (value : Value) (es : List Entry)
@@ -56,7 +62,8 @@ place-with_value : (index sub : ℕ) (value : Value) (e : Entry)
     → ((with_value index sub value e).index ≡ e.index) × ((with_value index sub value e).sub ≡ e.sub)
 place-with_value index sub value e =
     elim (is_at index sub e) as
-    (λ test. ((cond test (record e { value = value }) e).index ≡ e.index) × ((cond test (record e { value = value }) e).sub ≡ e.sub))
+    (λ test. ((cond test (record e { value = value }) e).index ≡ e.index)
+    × ((cond test (record e { value = value }) e).sub ≡ e.sub))
     [ true ↦ (refl, refl) | false ↦ (refl, refl) ]
 
 -- and the entries as distinct as before
@@ -65,7 +72,12 @@ are_distinct-map-with_value : (index sub : ℕ) (value : Value) (es : List Entry
 are_distinct-map-with_value index sub value [] = refl
 are_distinct-map-with_value index sub value (e ∷ es) =
     let place = place-with_value index sub value e in
-    rw (place.0, place.1, stands_at-map-with_value e.index e.sub index sub value es, are_distinct-map-with_value index sub value es) refl
+    rw (
+      place.0,
+      place.1,
+      stands_at-map-with_value e.index e.sub index sub value es,
+      are_distinct-map-with_value index sub value es,
+    ) refl
 
 -- a dictionary that is not full, and an entry at a free place, are a dictionary
 pub IsDictionary-push : (es : List Entry) (e : Entry) → IsDictionary es → eqb (length es) 32 ≡ false
@@ -86,17 +98,22 @@ IsDictionary-map-with_value index sub value es is =
 
 -- one element more of a list whose first elements are mapped: its own image is written at its place
 pub set_mapped : (f : Entry → Entry) (es ms : List Entry) (i : ℕ) (d : Entry) → i < length es
-    → ms ≡ map f (take i es) ++ drop i es → set ms i (f (get_or ms i d)) ≡ map f (take (i + 1) es) ++ drop (i + 1) es
+    → ms ≡ map f (take i es) ++ drop i es
+    → set ms i (f (get_or ms i d)) ≡ map f (take (i + 1) es) ++ drop (i + 1) es
 set_mapped f es ms i d inside so_far =
     let e : Entry = get_or es i d in
-    let front : length (map f (take i es)) ≡ i = length-map (take i es) f ∙ length-take-le i es (omega arith) in
-    let split : ms ≡ map f (take i es) ++ e ∷ drop (i + 1) es = so_far ∙ ap (λ xs. map f (take i es) ++ xs) (drop_more es i d inside) in
-    let here : get_or ms i d ≡ e = ap (λ xs. get_or xs i d) split ∙ get_or_at (map f (take i es)) e (drop (i + 1) es) d i front in
+    let front : length (map f (take i es)) ≡ i =
+    length-map (take i es) f ∙ length-take-le i es (omega arith) in
+    let split : ms ≡ map f (take i es) ++ e ∷ drop (i + 1) es =
+    so_far ∙ ap (λ xs. map f (take i es) ++ xs) (drop_more es i d inside) in
+    let here : get_or ms i d ≡ e =
+    ap (λ xs. get_or xs i d) split ∙ get_or_at (map f (take i es)) e (drop (i + 1) es) d i front in
     let written : set ms i (f e) ≡ map f (take i es) ++ f e ∷ drop (i + 1) es =
     ap (λ xs. set xs i (f e)) split ∙ set_at (map f (take i es)) e (drop (i + 1) es) (f e) i front in
     let one_more : map f (take (i + 1) es) ≡ map f (take i es) ++ f e ∷ [] = map_more f es i d inside in
     let joined : map f (take (i + 1) es) ++ drop (i + 1) es ≡ map f (take i es) ++ f e ∷ drop (i + 1) es =
-    ap (λ xs. xs ++ drop (i + 1) es) one_more ∙ append_assoc (map f (take i es)) (f e ∷ []) (drop (i + 1) es) in
+    ap (λ xs. xs ++ drop (i + 1) es) one_more
+    ∙ append_assoc (map f (take i es)) (f e ∷ []) (drop (i + 1) es) in
     ap (λ x. set ms i (f x)) here ∙ written ∙ sym joined
 
 -- a list that is refilled by mapped elements of its own is the mapped list

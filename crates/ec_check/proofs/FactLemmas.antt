@@ -1,5 +1,7 @@
 -- What a fit line gives a cycle.
-use Rattle.std.proofs.Common.{◌≡◌, ◌⊎◌, ⊎_elim, inl, inr, ℕ, zero, suc, ◌+◌, ◌-◌, ◌/◌, ◌<◌, ◌≤◌, Bool, true, false, cond, ltb, leb, ◌&&◌, List, [], ◌∷◌, length, get_or, refl, sym, ap, ◌∙◌, arith}
+use Rattle.std.proofs.Common.{◌≡◌, ◌⊎◌, ⊎_elim, inl, inr, ℕ, zero, suc, ◌+◌, ◌-◌, ◌/◌, ◌<◌, ◌≤◌, Bool, true}
+use Rattle.std.proofs.Common.{false, cond, ltb, leb, ◌&&◌, List, [], ◌∷◌, length, get_or, refl, sym, ap, ◌∙◌}
+use Rattle.std.proofs.Common.{arith}
 use Rattle.std.specs.List.{AllByRecursion}
 use Rattle.std.proofs.lemmas.Bool.{and_parts, cases_Bool, cases_lt, cases_order, both_ways}
 use Rattle.std.proofs.lemmas.Bool.Decides.{nat_tests}
@@ -14,7 +16,8 @@ use Rattle.ec_areas.specs.Records.{fmmu_at, sync_manager_at, sync_managers_of}
 use Rattle.ec_areas.proofs.RangeLemmas.{get_or-sync_managers_of}
 use Rattle.ec_areas.specs.Areas.{guards}
 use Rattle.ec_esc.specs.State.{ControllerState, IsController}
-use Rattle.ec_check.specs.declared.fault.MapFault.TheVariants.{TwinStation, BadFmmu, OutsideArea, TwiceWritten, TwiceRead, ReadAndWritten}
+use Rattle.ec_check.specs.declared.fault.MapFault.TheVariants.{TwinStation, BadFmmu, OutsideArea}
+use Rattle.ec_check.specs.declared.fault.MapFault.TheVariants.{TwiceWritten, TwiceRead, ReadAndWritten}
 use Rattle.ec_check.specs.declared.outside.TheConstants.{MAIL_STATUS}
 use Rattle.ec_line.specs.Calm.{is_calm}
 use Rattle.ec_line.specs.Fit.{Reads, Writes, IsFitAlone, AreApart, AllApart, IsFitLine}
@@ -22,11 +25,13 @@ use Rattle.ec_line.proofs.CalmLemmas.{register_calm, input_calm}
 use Rattle.ec_check.specs.Facts.{IsWellPlaced}
 use Rattle.ec_check.specs.Fit.{IsFit}
 use Rattle.ec_check.specs.Line.{no_controller, controller_of, station_of, fmmu_of, sync_manager_of, HasFmmu}
-use Rattle.ec_check.specs.Rules.{ReadsLogical, WritesPhysical, IsGoodFmmu, Area, HoldsAllOf, IsAreaFor, IsAreaEnd, IsGuarded, IsMailStatus}
+use Rattle.ec_check.specs.Rules.{ReadsLogical, WritesPhysical, IsGoodFmmu, Area, HoldsAllOf, IsAreaFor}
+use Rattle.ec_check.specs.Rules.{IsAreaEnd, IsGuarded, IsMailStatus}
 use Rattle.ec_check.specs.Runs.{is_good, holds_first_byte, begins_at_mail_status}
 use Rattle.ec_check.proofs.FmmuLemmas.{IsGoodFmmu-is_good, is_good-IsGoodFmmu}
 use Rattle.ec_check.proofs.LineLemmas.{get_or-fmmus_of, length-fmmus_of, length-sync_managers_of}
-use Rattle.ec_check.proofs.OutsideLemmas.{HoldsAllOf-ends, IsAreaEnd-holds, IsAreaEnd-mail, HasNoArea-none, IsFirstOf-no_area, IsFirstOf-behind}
+use Rattle.ec_check.proofs.OutsideLemmas.{HoldsAllOf-ends, IsAreaEnd-holds, IsAreaEnd-mail, HasNoArea-none}
+use Rattle.ec_check.proofs.OutsideLemmas.{IsFirstOf-no_area, IsFirstOf-behind}
 use Rattle.ec_check.proofs.RunLemmas.{IsInRun-MapsLogical, IsInRun-MapsPhysical}
 
 -- ---- FMMUs by themselves, and in areas
@@ -219,8 +224,10 @@ written_once line slave l m p fit there first second =
 
 -- a byte of a buffered area that the master reads is calm
 input_at : (line : List ControllerState) (slave number address : ℕ) → number < 8
-    → is_active (sync_manager_of line slave number) ≡ true → is_buffered (sync_manager_of line slave number) ≡ true
-    → master_reads (sync_manager_of line slave number) ≡ true → (sync_manager_of line slave number).start ≤ address
+    → is_active (sync_manager_of line slave number) ≡ true → is_buffered (sync_manager_of line slave number)
+    ≡ true
+    → master_reads (sync_manager_of line slave number) ≡ true
+    → (sync_manager_of line slave number).start ≤ address
     → address < (sync_manager_of line slave number).start + (sync_manager_of line slave number).length
     → is_calm (sync_managers_of (controller_of line slave).memory) address ≡ true
 unfolding sync_manager_of guards
@@ -338,9 +345,11 @@ apart_from (x ∷ xs) d at = (
   apart_from xs d (λ i j order below. at (suc i) (suc j) (omega arith) (omega arith)),
 )
 
-pub IsFitLine-fit : (line : List ControllerState) → AllByRecursion IsController line → IsFit line → IsFitLine line
+pub IsFitLine-fit : (line : List ControllerState) → AllByRecursion IsController line → IsFit line
+    → IsFitLine line
 IsFitLine-fit line are fit = record {
   alone = each_from IsFitAlone line no_controller
-      (λ slave there. IsFitAlone-fit line slave fit there (each_at IsController line no_controller slave are there));
+      (λ slave there.
+      IsFitAlone-fit line slave fit there (each_at IsController line no_controller slave are there));
   apart = apart_from line no_controller (λ i j order there. AreApart-fit line i j fit order there);
 }

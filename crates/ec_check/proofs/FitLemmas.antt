@@ -3,7 +3,8 @@ use Rattle.std.proofs.Common.{◌≡◌, ℕ, ◌+◌, Result, Ok, Err, List, []
 use Rattle.std.specs.Result.{OnOk, IfErr}
 use Rattle.ec_esc.specs.State.{ControllerState}
 use Rattle.ec_check.specs.declared.fault.MapFault.{MapFault}
-use Rattle.ec_check.specs.declared.fault.MapFault.TheVariants.{TwinStation, BadFmmu, AreasMeet, OutsideArea, TwiceWritten, TwiceRead, ReadAndWritten}
+use Rattle.ec_check.specs.declared.fault.MapFault.TheVariants.{TwinStation, BadFmmu, AreasMeet, OutsideArea}
+use Rattle.ec_check.specs.declared.fault.MapFault.TheVariants.{TwiceWritten, TwiceRead, ReadAndWritten}
 use Rattle.ec_check.specs.Order.{BeginsWith}
 use Rattle.ec_check.specs.Fit.{Breaks, numbers, IsFit, IsFirstFault}
 use Rattle.ec_check.specs.Search.{HasNone, HasNoneBelow, IsFirstOf, Answers}

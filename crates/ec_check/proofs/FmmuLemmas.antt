@@ -1,6 +1,8 @@
 -- Bad FMMUs, number by number, and the test that finds them.
-use Rattle.std.proofs.Common.{◌≡◌, ⊎_elim, inl, inr, ℕ, ◌+◌, ◌*◌, ◌-◌, ◌/◌, ◌<◌, ◌≤◌, true, false, ◌&&◌, ◌||◌, eqb, leb, List, [], ◌∷◌, length, refl, arith}
-use Rattle.std.proofs.lemmas.Bool.{and_parts, and_from, or_cases, or_left, or_right, leb-true, le-leb, eqb-true, eq-eqb, cases_Bool}
+use Rattle.std.proofs.Common.{◌≡◌, ⊎_elim, inl, inr, ℕ, ◌+◌, ◌*◌, ◌-◌, ◌/◌, ◌<◌, ◌≤◌, true, false, ◌&&◌, ◌||◌}
+use Rattle.std.proofs.Common.{eqb, leb, List, [], ◌∷◌, length, refl, arith}
+use Rattle.std.proofs.lemmas.Bool.{and_parts, and_from, or_cases, or_left, or_right, leb-true, le-leb}
+use Rattle.std.proofs.lemmas.Bool.{eqb-true, eq-eqb, cases_Bool}
 use Rattle.ec_regs.specs.Pairs.{is_switched_on}
 use Rattle.ec_regs.specs.Pairs.{can_map, first_logical, first_physical, pair_count}
 use Rattle.ec_regs.specs.declared.fmmu.Fmmu.{Fmmu}
@@ -16,7 +18,8 @@ use Rattle.ec_check.specs.Rules.{IsGoodFmmu, IsBadFmmu}
 use Rattle.ec_check.specs.Runs.{is_good}
 use Rattle.ec_check.specs.Fit.{Breaks, numbers}
 use Rattle.ec_check.specs.Search.{HasNone}
-use Rattle.ec_check.proofs.RunLemmas.{IsInRun-MapsLogical, MapsLogical-IsInRun, IsInRun-MapsPhysical, MapsPhysical-IsInRun}
+use Rattle.ec_check.proofs.RunLemmas.{IsInRun-MapsLogical, MapsLogical-IsInRun, IsInRun-MapsPhysical}
+use Rattle.ec_check.proofs.RunLemmas.{MapsPhysical-IsInRun}
 use Rattle.ec_check.proofs.SearchLemmas.{GoesOnBelow}
 
 -- the fault goes on with a slave

@@ -1,6 +1,8 @@
 -- FMMUs outside of areas, number by number, and where an FMMU leaves its area.
-use Rattle.std.proofs.Common.{◌≡◌, ◌⊎◌, ⊎_elim, inl, inr, ℕ, ◌+◌, ◌-◌, ◌/◌, ◌<◌, ◌≤◌, true, false, cond, ◌&&◌, ◌||◌, eqb, leb, ltb, List, [], ◌∷◌, length, refl, sym, ap, ◌∙◌, arith}
-use Rattle.std.proofs.lemmas.Bool.{and_parts, and_from, leb-true, le-leb, ltb-true, lt-ltb, eqb-true, eq-eqb, both_ways, cases_order}
+use Rattle.std.proofs.Common.{◌≡◌, ◌⊎◌, ⊎_elim, inl, inr, ℕ, ◌+◌, ◌-◌, ◌/◌, ◌<◌, ◌≤◌, true, false, cond, ◌&&◌}
+use Rattle.std.proofs.Common.{◌||◌, eqb, leb, ltb, List, [], ◌∷◌, length, refl, sym, ap, ◌∙◌, arith}
+use Rattle.std.proofs.lemmas.Bool.{and_parts, and_from, leb-true, le-leb, ltb-true, lt-ltb, eqb-true, eq-eqb}
+use Rattle.std.proofs.lemmas.Bool.{both_ways, cases_order}
 use Rattle.ec_regs.specs.Pairs.{is_switched_on}
 use Rattle.ec_regs.specs.Pairs.{reads, first_physical, pair_count}
 use Rattle.ec_regs.specs.declared.fmmu.Fmmu.{Fmmu}
@@ -16,7 +18,8 @@ use Rattle.ec_check.specs.declared.fault.MapFault.TheVariants.{AreasMeet, Outsid
 use Rattle.ec_check.specs.declared.outside.TheConstants.{MAIL_STATUS}
 use Rattle.ec_check.specs.Order.{BeginsWith}
 use Rattle.ec_check.specs.Line.{fmmu_of, sync_manager_of, HasFmmu}
-use Rattle.ec_check.specs.Rules.{Area, Holds, HoldsAllOf, suits, IsGuarded, IsMailStatus, IsAreaFor, IsAreaEnd, HasNoArea, first_byte, IsOutsideArea}
+use Rattle.ec_check.specs.Rules.{Area, Holds, HoldsAllOf, suits, IsGuarded, IsMailStatus, IsAreaFor}
+use Rattle.ec_check.specs.Rules.{IsAreaEnd, HasNoArea, first_byte, IsOutsideArea}
 use Rattle.ec_check.specs.Runs.{holds_first_byte, begins_at_mail_status}
 use Rattle.ec_check.specs.Fit.{Breaks, numbers}
 use Rattle.ec_check.specs.Search.{HasNone, IsFirstOf}

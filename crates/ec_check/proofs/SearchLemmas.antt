@@ -5,7 +5,8 @@ use Rattle.ec_check.specs.declared.fault.MapFault.{MapFault}
 use Rattle.ec_check.specs.Order.{BeginsWith}
 use Rattle.ec_check.specs.Fit.{Breaks, numbers}
 use Rattle.ec_check.specs.Search.{HasNone, HasNoneBelow, IsFirstOf}
-use Rattle.ec_check.proofs.OrderLemmas.{BeginsWith-shorter, BeginsWith-itself, IsBefore-begins, IsBefore-cases}
+use Rattle.ec_check.proofs.OrderLemmas.{BeginsWith-shorter, BeginsWith-itself, IsBefore-begins}
+use Rattle.ec_check.proofs.OrderLemmas.{IsBefore-cases}
 
 -- the first fault that goes on with n is the first of all if there is none that goes on with less
 pub IsFirstOf-shorter : (beginning : List ℕ) (line : List ControllerState) (n : ℕ) (fault : MapFault)

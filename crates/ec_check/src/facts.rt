@@ -15,5 +15,6 @@ pub fn fit_line()
     ensures placed { (line : List ControllerState) (slave number : ℕ) → IsFit line → HasFmmu line slave number
         → is_switched_on (fmmu_of line slave number) ≡ true
         → IsWellPlaced line slave (fmmu_of line slave number) }
-    ensures facts { (line : List ControllerState) → AllByRecursion IsController line → IsFit line → IsFitLine line }
+    ensures facts { (line : List ControllerState) → AllByRecursion IsController line → IsFit line
+        → IsFitLine line }
 {}

@@ -1,6 +1,7 @@
--- What an accepted request does in a controller: it empties and fills no mailbox, writes no register, and leaves the
--- controller after the item.
-use Rattle.std.proofs.Common.{◌≡◌, ◌⊎◌, inl, inr, ℕ, ◌+◌, ◌-◌, ◌*◌, ◌/◌, ◌%◌, ◌<◌, ◌≤◌, Bool, true, false, ◌&&◌, ◌||◌, cond, eqb, leb, ltb, List, length, get_or}
+-- What an accepted request does in a controller: it empties and fills no mailbox, writes no register, and
+-- leaves the controller after the item.
+use Rattle.std.proofs.Common.{◌≡◌, ◌⊎◌, inl, inr, ℕ, ◌+◌, ◌-◌, ◌*◌, ◌/◌, ◌%◌, ◌<◌, ◌≤◌, Bool, true, false}
+use Rattle.std.proofs.Common.{◌&&◌, ◌||◌, cond, eqb, leb, ltb, List, length, get_or}
 use Rattle.std.proofs.Common.{Option, None, Some, sym, ◌∙◌, ap, refl, arith, ⊎_elim}
 use Rattle.std.proofs.lemmas.Bool.{cases_Bool}
 use Rattle.std.proofs.lemmas.Bool.Decides.{nat_tests}
@@ -14,10 +15,13 @@ use Rattle.ec_areas.specs.Records.{fmmus_of, sync_managers_of}
 use Rattle.ec_areas.proofs.LogicalLemmas.{both}
 use Rattle.ec_areas.proofs.MailboxLemmas.{no_manager}
 use Rattle.ec_areas.proofs.MapLemmas.{write_map_register}
-use Rattle.ec_areas.proofs.MeetLemmas.{LiesBuffered, emptied_registers, emptied_buffered, filled_buffered, buffered_place}
+use Rattle.ec_areas.proofs.MeetLemmas.{LiesBuffered, emptied_registers, emptied_buffered, filled_buffered}
+use Rattle.ec_areas.proofs.MeetLemmas.{buffered_place}
 use Rattle.ec_esc.specs.State.{ControllerState, IsController, word_at}
 use Rattle.ec_esc.specs.Writing.{with_emptied}
-use Rattle.ec_esc.specs.Pass.{Effect, Half, where_served, effect, serves_range_read, serves_range_write, serves_write, write_sources, read_mailbox, written_mailbox, range_targets, written_by, read_by, pass}
+use Rattle.ec_esc.specs.Pass.{Effect, Half, where_served, effect, serves_range_read, serves_range_write}
+use Rattle.ec_esc.specs.Pass.{serves_write, write_sources, read_mailbox, written_mailbox, range_targets}
+use Rattle.ec_esc.specs.Pass.{written_by, read_by, pass}
 use Rattle.ec_esc.proofs.IdleLemmas.{written_plain}
 use Rattle.ec_line.specs.Accepted.{IsWithinArea, LiesInArea, LiesInRegisters, IsStationOf, Accepts}
 use Rattle.ec_line.specs.After.{written_through, after}
@@ -33,15 +37,18 @@ pub where_mail : (b : Bool) (h : Half) → (b ≡ true → h.mail ≡ None) → 
 where_mail true h none = none refl
 where_mail false h none = refl
 
-pub where_places : (b : Bool) (h : Half) (p : ℕ) → (b ≡ true → h.places p ≡ None) → (where_served b h).places p ≡ None
+pub where_places : (b : Bool) (h : Half) (p : ℕ) → (b ≡ true → h.places p ≡ None)
+    → (where_served b h).places p ≡ None
 where_places true h p none = none refl
 where_places false h p none = refl
 
 -- ---- ranges
 
 -- an area in which the range lies, by its number
-pub lies_buffered : (direction : SyncMan → Bool) (c : ControllerState) (from n : ℕ) → 1 ≤ n → LiesInArea direction c from n
-    → (k : ℕ) × LiesBuffered (sync_managers_of c.memory) from n k × (direction (get_or (sync_managers_of c.memory) k no_manager) ≡ true)
+pub lies_buffered : (direction : SyncMan → Bool) (c : ControllerState) (from n : ℕ) → 1 ≤ n
+    → LiesInArea direction c from n
+    → (k : ℕ) × LiesBuffered (sync_managers_of c.memory) from n k
+    × (direction (get_or (sync_managers_of c.memory) k no_manager) ≡ true)
 lies_buffered direction c from n some lies =
     let managers = sync_managers_of c.memory in
     let k = lies.0 in
@@ -63,7 +70,8 @@ lies_buffered direction c from n some lies =
     )
 
 -- the station that a test names
-pub station_named : (a : ℕ) (c : ControllerState) (b : Bool) → (eqb (adp_of a) (word_at c.memory 16) && b) ≡ true → adp_of a ≡ word_at c.memory 16
+pub station_named : (a : ℕ) (c : ControllerState) (b : Bool) → (eqb (adp_of a) (word_at c.memory 16) && b)
+    ≡ true → adp_of a ≡ word_at c.memory 16
 station_named a c b named =
     let parts = both (eqb (adp_of a) (word_at c.memory 16)) b named in
     let same : eqb (adp_of a) (word_at c.memory 16) ≡ true = parts.0 in
@@ -71,18 +79,21 @@ station_named a c b named =
 
 -- ---- no mailbox is emptied, and none is filled
 
-reading_mail_kind : (k : Kind) (a n : ℕ) (c : ControllerState) → Accepts (record { kind = k; address = a; count = n }) c
+reading_mail_kind : (k : Kind) (a n : ℕ) (c : ControllerState)
+    → Accepts (record { kind = k; address = a; count = n }) c
     → (effect (command_of k) c a n).reading.mail ≡ None
 reading_mail_kind Lrd a n c accepts = where_mail _ _ (λ served. refl)
 reading_mail_kind Lwr a n c accepts = refl
 reading_mail_kind Lrw a n c accepts = where_mail _ _ (λ served. refl)
 reading_mail_kind Brd a n c accepts =
-    where_mail _ _ (λ served. emptied_registers (sync_managers_of c.memory) (ado_of a) n accepts.some accepts.place)
+    where_mail _ _
+    (λ served. emptied_registers (sync_managers_of c.memory) (ado_of a) n accepts.some accepts.place)
 reading_mail_kind Fprd a n c accepts =
     where_mail _ _
     (λ served.
     ⊎_elim
-    (λ (registers : LiesInRegisters (ado_of a) n). emptied_registers (sync_managers_of c.memory) (ado_of a) n accepts.some registers)
+    (λ (registers : LiesInRegisters (ado_of a) n).
+    emptied_registers (sync_managers_of c.memory) (ado_of a) n accepts.some registers)
     (λ (area : LiesInArea master_reads c (ado_of a) n).
     let lies = lies_buffered master_reads c (ado_of a) n accepts.some area in
     emptied_buffered (sync_managers_of c.memory) (ado_of a) n lies.0 lies.1)
@@ -92,7 +103,8 @@ reading_mail_kind Fpwr a n c accepts = refl
 pub reading_mail : (r : Request) (c : ControllerState) → Accepts r c → (effect_of r c).reading.mail ≡ None
 reading_mail r c accepts = reading_mail_kind r.kind r.address r.count c accepts
 
-writing_mail_kind : (k : Kind) (a n : ℕ) (c : ControllerState) → Accepts (record { kind = k; address = a; count = n }) c
+writing_mail_kind : (k : Kind) (a n : ℕ) (c : ControllerState)
+    → Accepts (record { kind = k; address = a; count = n }) c
     → (effect (command_of k) c a n).writing.mail ≡ None
 writing_mail_kind Lrd a n c accepts = refl
 writing_mail_kind Lwr a n c accepts = where_mail _ _ (λ served. refl)
@@ -102,7 +114,8 @@ writing_mail_kind Fprd a n c accepts = refl
 writing_mail_kind Fpwr a n c accepts =
     where_mail _ _
     (λ served.
-    let lies = lies_buffered master_writes c (ado_of a) n accepts.some (accepts.place (station_named a c (serves_range_write c (ado_of a) n) served)) in
+    let lies = lies_buffered master_writes c (ado_of a) n accepts.some
+    (accepts.place (station_named a c (serves_range_write c (ado_of a) n) served)) in
     filled_buffered (sync_managers_of c.memory) (ado_of a) n lies.0 lies.1)
 
 pub writing_mail : (r : Request) (c : ControllerState) → Accepts r c → (effect_of r c).writing.mail ≡ None
@@ -111,12 +124,14 @@ writing_mail r c accepts = writing_mail_kind r.kind r.address r.count c accepts
 -- ---- no register is written
 
 -- a byte before the range does not lie in it
-outside_before : (c : ControllerState) (from n p : ℕ) → PROCESS_MEMORY ≤ from → p / 8 < PROCESS_MEMORY → range_targets c from n p ≡ None
+outside_before : (c : ControllerState) (from n p : ℕ) → PROCESS_MEMORY ≤ from → p / 8 < PROCESS_MEMORY
+    → range_targets c from n p ≡ None
 outside_before c from n p behind register =
     let starts : leb from (p / 8) ≡ false = let h : p / 8 < from = omega arith in grind (arith, nat_tests) in
     rw starts refl
 
-taken_register_kind : (k : Kind) (a n : ℕ) (c : ControllerState) (p : ℕ) → Accepts (record { kind = k; address = a; count = n }) c
+taken_register_kind : (k : Kind) (a n : ℕ) (c : ControllerState) (p : ℕ)
+    → Accepts (record { kind = k; address = a; count = n }) c
     → p / 8 < PROCESS_MEMORY → (effect (command_of k) c a n).writing.places p ≡ None
 taken_register_kind Lrd a n c p accepts register = refl
 taken_register_kind Lwr a n c p accepts register =
@@ -131,18 +146,21 @@ taken_register_kind Fpwr a n c p accepts register =
     where_places (eqb (adp_of a) (word_at c.memory 16) && serves_range_write c (ado_of a) n)
     (record { places = range_targets c (ado_of a) n; gain = 1; mail = written_mailbox c (ado_of a) n }) p
     (λ served.
-    let lies = lies_buffered master_writes c (ado_of a) n accepts.some (accepts.place (station_named a c (serves_range_write c (ado_of a) n) served)) in
+    let lies = lies_buffered master_writes c (ado_of a) n accepts.some
+    (accepts.place (station_named a c (serves_range_write c (ado_of a) n) served)) in
     let place = buffered_place (sync_managers_of c.memory) (ado_of a) n lies.0 lies.1 in
     outside_before c (ado_of a) n p place.0 register)
 
-pub taken_register : (r : Request) (c : ControllerState) (p : ℕ) → Accepts r c → p / 8 < PROCESS_MEMORY → taken r c p ≡ None
+pub taken_register : (r : Request) (c : ControllerState) (p : ℕ) → Accepts r c → p / 8 < PROCESS_MEMORY
+    → taken r c p ≡ None
 unfolding taken
 taken_register r c p accepts register = taken_register_kind r.kind r.address r.count c p accepts register
 
 -- ---- what the pass leaves
 
 -- the controller after the item, with the data that arrived
-pub after_pass : (r : Request) (c : ControllerState) (d : DatagramRecord) → IsController c → Accepts r c → OnWay r d
+pub after_pass : (r : Request) (c : ControllerState) (d : DatagramRecord) → IsController c → Accepts r c
+    → OnWay r d
     → (pass c d).state ≡ after r d.payload c
 unfolding pass taken written_through
 after_pass r c d controller accepts way =
@@ -150,7 +168,8 @@ after_pass r c d controller accepts way =
     let F : Effect → ControllerState = λ f. read_by f.reading (written_by f.writing d.payload c) in
     let written : ControllerState = written_by e.writing d.payload c in
     let no_mail : read_by e.reading written ≡ written =
-    ap (λ (o : Option ℕ). record written { memory = with_emptied o written.memory }) (reading_mail r c accepts) in
+    ap (λ (o : Option ℕ). record written { memory = with_emptied o written.memory })
+    (reading_mail r c accepts) in
     ap F (effect_on_way r c d way)
     ∙ no_mail
     ∙ written_plain c e.writing d.payload controller (writing_mail r c accepts)

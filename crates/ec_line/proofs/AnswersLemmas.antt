@@ -1,32 +1,39 @@
--- The laws of answers: nobody, one, one after the other, joined copies, other members, and at most one answer.
+-- The laws of answers: nobody, one, one after the other, joined copies, other members, and at most one
+-- answer.
 use Rattle.std.specs.Prelude.{max}
-use Rattle.std.proofs.Common.{◌≡◌, ◌≢◌, ◌⊎◌, inl, inr, ℕ, ◌+◌, ◌-◌, ◌%◌, ◌<◌, List, [], ◌∷◌, ◌++◌, Option, None, Some, sym, ◌∙◌, ap, refl, arith, ⊎_elim}
+use Rattle.std.proofs.Common.{◌≡◌, ◌≢◌, ◌⊎◌, inl, inr, ℕ, ◌+◌, ◌-◌, ◌%◌, ◌<◌, List, [], ◌∷◌, ◌++◌, Option}
+use Rattle.std.proofs.Common.{None, Some, sym, ◌∙◌, ap, refl, arith, ⊎_elim}
 use Rattle.std.specs.List.{AllByRecursion}
 use Rattle.ec_line.specs.Answers.{Meets, Answers, Agree, AllAgree}
 
 -- ---- members
 
 -- what holds of each of some and of each of others holds of each of all
-pub each-append : {S : Type 0} (P : S → Type 0) (xs ys : List S) → AllByRecursion P xs → AllByRecursion P ys → AllByRecursion P (xs ++ ys)
+pub each-append : {S : Type 0} (P : S → Type 0) (xs ys : List S) → AllByRecursion P xs → AllByRecursion P ys
+    → AllByRecursion P (xs ++ ys)
 each-append P [] ys front back = back
 each-append P (x ∷ xs) ys front back = (front.0, each-append P xs ys front.1 back)
 
 -- and the other way round
-pub each-front : {S : Type 0} (P : S → Type 0) (xs ys : List S) → AllByRecursion P (xs ++ ys) → AllByRecursion P xs
+pub each-front : {S : Type 0} (P : S → Type 0) (xs ys : List S) → AllByRecursion P (xs ++ ys)
+    → AllByRecursion P xs
 each-front P [] ys all = tt
 each-front P (x ∷ xs) ys all = (all.0, each-front P xs ys all.1)
 
-pub each-back : {S : Type 0} (P : S → Type 0) (xs ys : List S) → AllByRecursion P (xs ++ ys) → AllByRecursion P ys
+pub each-back : {S : Type 0} (P : S → Type 0) (xs ys : List S) → AllByRecursion P (xs ++ ys)
+    → AllByRecursion P ys
 each-back P [] ys all = all
 each-back P (x ∷ xs) ys all = each-back P xs ys all.1
 
 -- what follows for one follows for each
-pub each-map : {S : Type 0} (P Q : S → Type 0) (xs : List S) → ((x : S) → P x → Q x) → AllByRecursion P xs → AllByRecursion Q xs
+pub each-map : {S : Type 0} (P Q : S → Type 0) (xs : List S) → ((x : S) → P x → Q x) → AllByRecursion P xs
+    → AllByRecursion Q xs
 each-map P Q [] f all = tt
 each-map P Q (x ∷ xs) f all = (f x all.0, each-map P Q xs f all.1)
 
 -- what holds of two things of each holds of both
-pub each-both : {S : Type 0} (P Q R : S → Type 0) (xs : List S) → ((x : S) → P x → Q x → R x) → AllByRecursion P xs → AllByRecursion Q xs
+pub each-both : {S : Type 0} (P Q R : S → Type 0) (xs : List S) → ((x : S) → P x → Q x → R x)
+    → AllByRecursion P xs → AllByRecursion Q xs
     → AllByRecursion R xs
 each-both P Q R [] f p q = tt
 each-both P Q R (x ∷ xs) f p q = (f x p.0 q.0, each-both P Q R xs f p.1 q.1)
@@ -35,7 +42,8 @@ each-both P Q R (x ∷ xs) f p q = (f x p.0 q.0, each-both P Q R xs f p.1 q.1)
 pub meets_value : (value claimed : ℕ) (o : Option ℕ) → o ≡ Some claimed → Meets value o → value ≡ claimed
 meets_value value claimed o e meets =
     let P : Option ℕ → Type 0 = λ c. c ≡ Some claimed → Meets value c → value ≡ claimed in
-    elim o as P [ None ↦ λ no _. absurd (cc) | Some v ↦ λ is m. let same : v ≡ claimed = cc in m ∙ same ] e meets
+    elim o as P [ None ↦ λ no _. absurd (cc) | Some v ↦ λ is m. let same : v ≡ claimed = cc in m ∙ same ] e
+    meets
 
 -- the bit is the claimed one where it is so
 pub value_meets : (value : ℕ) (o : Option ℕ) → ((v : ℕ) → o ≡ Some v → value ≡ v) → Meets value o
@@ -49,12 +57,13 @@ meets_same value other (Some v) e meets = e ∙ meets
 
 -- ---- who claims a bit
 
--- nobody does, or somebody claims it for a value: then it has that value in each answer, and members of any set that
--- agrees claim it for no other
+-- nobody does, or somebody claims it for a value: then it has that value in each answer, and members of any
+-- set that agrees claim it for no other
 pub data Claimed {S : Type 0} (claim : S → ℕ → Option ℕ) (xs : List S) (i : ℕ) : Type 0 where
   nobody_claims : AllByRecursion (λ x. claim x i ≡ None) xs → Claimed claim xs i
   somebody_claims : (v : ℕ) → ((g : ℕ) → AllByRecursion (λ x. Meets g (claim x i)) xs → g ≡ v)
-      → ((ys : List S) → AllAgree claim xs ys → AllByRecursion (λ y. Meets v (claim y i)) ys) → Claimed claim xs i
+      → ((ys : List S) → AllAgree claim xs ys → AllByRecursion (λ y. Meets v (claim y i)) ys)
+      → Claimed claim xs i
 
 pub claimed_by : {S : Type 0} (claim : S → ℕ → Option ℕ) (xs : List S) (i : ℕ) → Claimed claim xs i
 claimed_by claim [] i = nobody_claims tt
@@ -79,7 +88,8 @@ pub answers_nobody : {S : Type 0} (claim : S → ℕ → Option ℕ) (sent : ℕ
 answers_nobody claim sent = record { claimed = λ i. tt; rest = λ i none. refl }
 
 -- bits that are the same are the same answer
-pub answers_bits : {S : Type 0} (claim : S → ℕ → Option ℕ) (xs : List S) (sent got other : ℕ → ℕ) → ((i : ℕ) → other i ≡ got i)
+pub answers_bits : {S : Type 0} (claim : S → ℕ → Option ℕ) (xs : List S) (sent got other : ℕ → ℕ)
+    → ((i : ℕ) → other i ≡ got i)
     → Answers claim xs sent got → Answers claim xs sent other
 answers_bits claim xs sent got other same answer = record {
   claimed = λ i. each-map (λ x. Meets (got i) (claim x i)) (λ x. Meets (other i) (claim x i)) xs
@@ -89,21 +99,25 @@ answers_bits claim xs sent got other same answer = record {
 
 -- one after the other: the answer of both
 pub answers_then : {S : Type 0} (claim : S → ℕ → Option ℕ) (xs ys : List S) (sent between got : ℕ → ℕ)
-    → AllAgree claim ys xs → Answers claim xs sent between → Answers claim ys between got → Answers claim (xs ++ ys) sent got
+    → AllAgree claim ys xs → Answers claim xs sent between → Answers claim ys between got
+    → Answers claim (xs ++ ys) sent got
 answers_then claim xs ys sent between got agree first second = record {
   claimed = λ i.
       each-append (λ x. Meets (got i) (claim x i)) xs ys
       (elim (claimed_by claim ys i) [
         | nobody_claims none ↦
             each-map (λ x. Meets (between i) (claim x i)) (λ x. Meets (got i) (claim x i)) xs
-            (λ x meets. meets_same (between i) (got i) (claim x i) (second.rest i none) meets) (first.claimed i)
+            (λ x meets. meets_same (between i) (got i) (claim x i) (second.rest i none) meets)
+            (first.claimed i)
         | somebody_claims v value agreed ↦
             each-map (λ x. Meets v (claim x i)) (λ x. Meets (got i) (claim x i)) xs
-            (λ x meets. meets_same v (got i) (claim x i) (value (got i) (second.claimed i)) meets) (agreed xs agree)
+            (λ x meets. meets_same v (got i) (claim x i) (value (got i) (second.claimed i)) meets)
+            (agreed xs agree)
       ])
       (second.claimed i);
   rest = λ i none.
-      second.rest i (each-back (λ x. claim x i ≡ None) xs ys none) ∙ first.rest i (each-front (λ x. claim x i ≡ None) xs ys none);
+      second.rest i (each-back (λ x. claim x i ≡ None) xs ys none)
+      ∙ first.rest i (each-front (λ x. claim x i ≡ None) xs ys none);
 }
 
 -- bits of two copies joined: what differs from the sent one in some copy does in the joined one
@@ -112,8 +126,10 @@ joined_at s a b = (s + max ((a + s) % 2) ((b + s) % 2)) % 2
 
 -- copies joined: the answer of both sets
 pub answers_joined : {S : Type 0} (claim : S → ℕ → Option ℕ) (xs ys : List S) (sent a b got : ℕ → ℕ)
-    → AllAgree claim xs ys → AllAgree claim ys xs → ((i : ℕ) → sent i < 2) → ((i : ℕ) → a i < 2) → ((i : ℕ) → b i < 2)
-    → ((i : ℕ) → got i ≡ joined_at (sent i) (a i) (b i)) → Answers claim xs sent a → Answers claim ys sent b → Answers claim (xs ++ ys) sent got
+    → AllAgree claim xs ys → AllAgree claim ys xs → ((i : ℕ) → sent i < 2) → ((i : ℕ) → a i < 2)
+    → ((i : ℕ) → b i < 2)
+    → ((i : ℕ) → got i ≡ joined_at (sent i) (a i) (b i)) → Answers claim xs sent a → Answers claim ys sent b
+    → Answers claim (xs ++ ys) sent got
 answers_joined claim xs ys sent a b got agree back s_bit a_bit b_bit joined first second =
     let s = s_bit in
     record {
@@ -128,7 +144,8 @@ answers_joined claim xs ys sent a b got agree back s_bit a_bit b_bit joined firs
                 let g_is : got i ≡ b i = omega arith in
                 each-append (λ x. Meets (got i) (claim x i)) xs ys
                 (each-map (λ x. claim x i ≡ None) (λ x. Meets (got i) (claim x i)) xs
-                (λ x none. value_meets (got i) (claim x i) (λ v some. absurd (let no : None ≡ Some v = sym none ∙ some in cc))) x_none)
+                (λ x none. value_meets (got i) (claim x i)
+                (λ v some. absurd (let no : None ≡ Some v = sym none ∙ some in cc))) x_none)
                 (each-map (λ y. Meets (b i) (claim y i)) (λ y. Meets (got i) (claim y i)) ys
                 (λ y meets. meets_same (b i) (got i) (claim y i) g_is meets) (second.claimed i))
             | somebody_claims v value agreed ↦
@@ -141,9 +158,11 @@ answers_joined claim xs ys sent a b got agree back s_bit a_bit b_bit joined firs
                       (each-map (λ x. Meets (a i) (claim x i)) (λ x. Meets (got i) (claim x i)) xs
                       (λ x meets. meets_same (a i) (got i) (claim x i) g_is meets) (first.claimed i))
                       (each-map (λ y. claim y i ≡ None) (λ y. Meets (got i) (claim y i)) ys
-                      (λ y none. value_meets (got i) (claim y i) (λ w some. absurd (let no : None ≡ Some w = sym none ∙ some in cc))) y_none)
+                      (λ y none. value_meets (got i) (claim y i)
+                      (λ w some. absurd (let no : None ≡ Some w = sym none ∙ some in cc))) y_none)
                   | somebody_claims w y_value y_agreed ↦
-                      let same : b i ≡ v = y_value (b i) (second.claimed i) ∙ sym (y_value v (agreed ys agree)) in
+                      let same : b i ≡ v =
+                      y_value (b i) (second.claimed i) ∙ sym (y_value v (agreed ys agree)) in
                       let g_is : got i ≡ a i = omega arith in
                       let g_b : got i ≡ b i = omega arith in
                       each-append (λ x. Meets (got i) (claim x i)) xs ys
@@ -162,20 +181,25 @@ answers_joined claim xs ys sent a b got agree back s_bit a_bit b_bit joined firs
     }
 
 -- there is at most one answer
-pub answers_once : {S : Type 0} (claim : S → ℕ → Option ℕ) (xs : List S) (sent got other : ℕ → ℕ) → Answers claim xs sent got
+pub answers_once : {S : Type 0} (claim : S → ℕ → Option ℕ) (xs : List S) (sent got other : ℕ → ℕ)
+    → Answers claim xs sent got
     → Answers claim xs sent other → (i : ℕ) → got i ≡ other i
 answers_once claim xs sent got other first second i =
     elim (claimed_by claim xs i) [
       | nobody_claims none ↦ first.rest i none ∙ sym (second.rest i none)
-      | somebody_claims v value agreed ↦ value (got i) (first.claimed i) ∙ sym (value (other i) (second.claimed i))
+      | somebody_claims v value agreed ↦ value (got i) (first.claimed i)
+          ∙ sym (value (other i) (second.claimed i))
     ]
 
--- members that claim nothing may be left out, or put in: what holds of each that claims in one set holds in the other
+-- members that claim nothing may be left out, or put in: what holds of each that claims in one set holds in
+-- the other
 pub record SameClaims {S : Type 0} (claim : S → ℕ → Option ℕ) (xs ys : List S) : Type 0 where
-  pub meets : (i g : ℕ) → AllByRecursion (λ x. Meets g (claim x i)) xs → AllByRecursion (λ y. Meets g (claim y i)) ys
+  pub meets : (i g : ℕ) → AllByRecursion (λ x. Meets g (claim x i)) xs
+      → AllByRecursion (λ y. Meets g (claim y i)) ys
   pub silent : (i : ℕ) → AllByRecursion (λ y. claim y i ≡ None) ys → AllByRecursion (λ x. claim x i ≡ None) xs
 
-pub answers_same : {S : Type 0} (claim : S → ℕ → Option ℕ) (xs ys : List S) (sent got : ℕ → ℕ) → SameClaims claim xs ys
+pub answers_same : {S : Type 0} (claim : S → ℕ → Option ℕ) (xs ys : List S) (sent got : ℕ → ℕ)
+    → SameClaims claim xs ys
     → Answers claim xs sent got → Answers claim ys sent got
 answers_same claim xs ys sent got same answer = record {
   claimed = λ i. same.meets i (got i) (answer.claimed i);

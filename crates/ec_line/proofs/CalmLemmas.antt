@@ -1,6 +1,7 @@
--- Calm bytes last through accepted items, and with them what a controller claims, takes and counts, what it accepts, and
--- that it is fit.
-use Rattle.std.proofs.Common.{◌≡◌, ◌⊎◌, inl, inr, ℕ, ◌+◌, ◌-◌, ◌*◌, ◌/◌, ◌%◌, ◌<◌, ◌≤◌, Bool, true, false, ◌&&◌, ◌||◌, cond, eqb, leb, ltb, List, [], ◌∷◌}
+-- Calm bytes last through accepted items, and with them what a controller claims, takes and counts, what it
+-- accepts, and that it is fit.
+use Rattle.std.proofs.Common.{◌≡◌, ◌⊎◌, inl, inr, ℕ, ◌+◌, ◌-◌, ◌*◌, ◌/◌, ◌%◌, ◌<◌, ◌≤◌, Bool, true, false}
+use Rattle.std.proofs.Common.{◌&&◌, ◌||◌, cond, eqb, leb, ltb, List, [], ◌∷◌}
 use Rattle.std.proofs.Common.{length, get_or, Option, None, Some, sym, subst, ◌∙◌, ap, refl, arith, ⊎_elim}
 use Rattle.std.specs.Prelude.{not}
 use Rattle.std.specs.List.{list_any, Any}
@@ -20,21 +21,26 @@ use Rattle.ec_regs.proofs.BitLemmas.{length-with_bits, AreBytes-with_bits}
 use Rattle.ec_wire.specs.Datagram.{adp_of, ado_of}
 use Rattle.ec_wire.specs.declared.command.Command as commands
 use Rattle.ec_areas.specs.Areas.{guards, locks, is_locked}
-use Rattle.ec_areas.specs.Logical.{IsReadable, IsWritable, read_map, write_map, read_places, target_places, names}
-use Rattle.ec_areas.specs.Ranges.{within, is_range, meets_locked, takes_writes, some_address, emptied_by, filled_by, serves_physical_read, serves_physical_write}
+use Rattle.ec_areas.specs.Logical.{IsReadable, IsWritable, read_map, write_map, read_places, target_places}
+use Rattle.ec_areas.specs.Logical.{names}
+use Rattle.ec_areas.specs.Ranges.{within, is_range, meets_locked, takes_writes, some_address, emptied_by}
+use Rattle.ec_areas.specs.Ranges.{filled_by, serves_physical_read, serves_physical_write}
 use Rattle.ec_areas.specs.Records.{fmmus_of, sync_managers_of}
 use Rattle.ec_areas.proofs.LogicalLemmas.{both, IsReadable-read_map}
 use Rattle.ec_areas.proofs.MailboxLemmas.{no_manager}
 use Rattle.ec_areas.proofs.MapLemmas.{IsWritable-write_map, writable_parts}
-use Rattle.ec_areas.proofs.MeetLemmas.{LiesBuffered, guards_parts, guards_from, filled_buffered, buffered_place, unlocked_in_range, takes_writes_same}
+use Rattle.ec_areas.proofs.MeetLemmas.{LiesBuffered, guards_parts, guards_from, filled_buffered}
+use Rattle.ec_areas.proofs.MeetLemmas.{buffered_place, unlocked_in_range, takes_writes_same}
 use Rattle.ec_areas.proofs.RecordLemmas.{SameRegisters, sync_managers_same, fmmus_same}
 use Rattle.ec_areas.proofs.RunLemmas.{get_or-with_bits_kept}
 use Rattle.ec_esc.specs.State.{ControllerState, IsController, word_at}
 use Rattle.ec_esc.specs.Writing.{is_shown_anew, shown_byte, shown_after}
 use Rattle.ec_esc.proofs.ShowLemmas.{get_or-shown_after, length-shown_after}
-use Rattle.ec_esc.specs.Pass.{touches, Effect, Half, nothing, where_served, effect, serves_read, serves_write, read_sources, write_sources, serves_range_read, serves_range_write}
+use Rattle.ec_esc.specs.Pass.{touches, Effect, Half, nothing, where_served, effect, serves_read, serves_write}
+use Rattle.ec_esc.specs.Pass.{read_sources, write_sources, serves_range_read, serves_range_write}
 use Rattle.ec_esc.specs.Pass.{range_sources, broadcast_sources, range_targets, read_mailbox, written_mailbox}
-use Rattle.ec_line.specs.Accepted.{IsWithinArea, LiesInArea, LiesInRegisters, IsStationOf, AcceptsPlace, Accepts}
+use Rattle.ec_line.specs.Accepted.{IsWithinArea, LiesInArea, LiesInRegisters, IsStationOf, AcceptsPlace}
+use Rattle.ec_line.specs.Accepted.{Accepts}
 use Rattle.ec_line.specs.After.{written_through, after}
 use Rattle.ec_line.specs.Calm.{is_input, is_calm, SameCalm}
 use Rattle.ec_line.specs.Claims.{effect_of, claim, taken, gain}
@@ -61,7 +67,8 @@ unfolding is_calm
 input_calm managers a input = rw input (or_true (ltb a PROCESS_MEMORY))
 
 -- a calm byte of process memory is locked
-pub calm_locked : (managers : List SyncMan) (a : ℕ) → PROCESS_MEMORY ≤ a → is_calm managers a ≡ true → is_locked managers a ≡ true
+pub calm_locked : (managers : List SyncMan) (a : ℕ) → PROCESS_MEMORY ≤ a → is_calm managers a ≡ true
+    → is_locked managers a ≡ true
 unfolding is_calm locks
 calm_locked managers a process calm =
     let test : ltb a PROCESS_MEMORY ≡ false = grind (arith, nat_tests) in
@@ -74,10 +81,12 @@ calm_locked managers a process calm =
     list_any_at (λ t. locks t a) managers found.0 s found.2 (ap (λ t. locks t a) found.3 ∙ hit)
 
 -- so a byte of process memory that is not locked is not calm
-pub unlocked_uncalm : (managers : List SyncMan) (a : ℕ) → PROCESS_MEMORY ≤ a → is_locked managers a ≡ false → is_calm managers a ≡ false
+pub unlocked_uncalm : (managers : List SyncMan) (a : ℕ) → PROCESS_MEMORY ≤ a → is_locked managers a ≡ false
+    → is_calm managers a ≡ false
 unlocked_uncalm managers a process free =
     ⊎_elim
-    (λ (calm : is_calm managers a ≡ true). absurd (let no : true ≡ false = sym (calm_locked managers a process calm) ∙ free in cc))
+    (λ (calm : is_calm managers a ≡ true).
+    absurd (let no : true ≡ false = sym (calm_locked managers a process calm) ∙ free in cc))
     (λ (uncalm : is_calm managers a ≡ false). uncalm)
     (cases_Bool (is_calm managers a))
 
@@ -95,27 +104,33 @@ registers_of x y controller same =
       bytes = λ a below. same.bytes a (register_calm (sync_managers_of x.memory) a below);
     }
 
-pub managers_last : (x y : ControllerState) → IsController x → SameCalm x y → sync_managers_of y.memory ≡ sync_managers_of x.memory
+pub managers_last : (x y : ControllerState) → IsController x → SameCalm x y
+    → sync_managers_of y.memory ≡ sync_managers_of x.memory
 managers_last x y controller same = sync_managers_same x.memory y.memory (registers_of x y controller same)
 
-pub fmmus_last : (x y : ControllerState) → IsController x → SameCalm x y → fmmus_of y.memory ≡ fmmus_of x.memory
+pub fmmus_last : (x y : ControllerState) → IsController x → SameCalm x y
+    → fmmus_of y.memory ≡ fmmus_of x.memory
 fmmus_last x y controller same = fmmus_same x.memory y.memory (registers_of x y controller same)
 
-pub station_lasts : (x y : ControllerState) → IsController x → SameCalm x y → word_at y.memory STATION_ADDRESS ≡ word_at x.memory STATION_ADDRESS
+pub station_lasts : (x y : ControllerState) → IsController x → SameCalm x y
+    → word_at y.memory STATION_ADDRESS ≡ word_at x.memory STATION_ADDRESS
 station_lasts x y controller same =
-    let at : (a : ℕ) → a < PROCESS_MEMORY → get_or y.memory a 0 ≡ get_or x.memory a 0 = (registers_of x y controller same).bytes in
+    let at : (a : ℕ) → a < PROCESS_MEMORY → get_or y.memory a 0 ≡ get_or x.memory a 0 =
+    (registers_of x y controller same).bytes in
     omega (arith, at 16 (omega arith), at 17 (omega arith))
 
 pub same_calm_trans : (x y z : ControllerState) → IsController x → SameCalm x y → SameCalm y z → SameCalm x z
 same_calm_trans x y z controller first second = record {
   size = second.size ∙ first.size;
   bytes = λ a calm.
-      let still : is_calm (sync_managers_of y.memory) a ≡ true = ap (λ (ms : List SyncMan). is_calm ms a) (managers_last x y controller first) ∙ calm in
+      let still : is_calm (sync_managers_of y.memory) a ≡ true =
+      ap (λ (ms : List SyncMan). is_calm ms a) (managers_last x y controller first) ∙ calm in
       second.bytes a still ∙ first.bytes a calm;
 }
 
 -- a bit of a calm byte
-pub bit_lasts : (x y : ControllerState) (p : ℕ) → SameCalm x y → is_calm (sync_managers_of x.memory) (p / 8) ≡ true → bit y.memory p ≡ bit x.memory p
+pub bit_lasts : (x y : ControllerState) (p : ℕ) → SameCalm x y → is_calm (sync_managers_of x.memory) (p / 8)
+    ≡ true → bit y.memory p ≡ bit x.memory p
 bit_lasts x y p same calm = ap (λ b. bit_at b (p % 8)) (same.bytes (p / 8) calm)
 
 -- ---- what a controller does lasts
@@ -125,31 +140,38 @@ effect_lasts_logical : (k : Kind) (a n : ℕ) (x y : ControllerState) → IsCont
     → (effect (command_of Lrw) y a n ≡ effect (command_of Lrw) x a n)
 effect_lasts_logical k a n x y controller same =
     let F : List SyncMan → List Fmmu → Effect = λ ms fs. record {
-      reading = where_served (names (read_places ms fs (8 * a)) (8 * n)) (record { places = read_places ms fs (8 * a); gain = 1; mail = None });
-      writing = where_served (names (target_places ms fs (8 * a)) (8 * n)) (record { places = write_map ms fs (8 * a) (8 * n); gain = 2; mail = None });
+      reading = where_served (names (read_places ms fs (8 * a)) (8 * n))
+          (record { places = read_places ms fs (8 * a); gain = 1; mail = None });
+      writing = where_served (names (target_places ms fs (8 * a)) (8 * n))
+          (record { places = write_map ms fs (8 * a) (8 * n); gain = 2; mail = None });
     } in
     ap (λ (ms : List SyncMan). F ms (fmmus_of y.memory)) (managers_last x y controller same)
     ∙ ap (F (sync_managers_of x.memory)) (fmmus_last x y controller same)
 
-effect_lasts_lrd : (a n : ℕ) (x y : ControllerState) → IsController x → SameCalm x y → effect (command_of Lrd) y a n ≡ effect (command_of Lrd) x a n
+effect_lasts_lrd : (a n : ℕ) (x y : ControllerState) → IsController x → SameCalm x y
+    → effect (command_of Lrd) y a n ≡ effect (command_of Lrd) x a n
 effect_lasts_lrd a n x y controller same =
     let F : List SyncMan → List Fmmu → Effect = λ ms fs. record {
-      reading = where_served (names (read_places ms fs (8 * a)) (8 * n)) (record { places = read_places ms fs (8 * a); gain = 1; mail = None });
+      reading = where_served (names (read_places ms fs (8 * a)) (8 * n))
+          (record { places = read_places ms fs (8 * a); gain = 1; mail = None });
       writing = nothing;
     } in
     ap (λ (ms : List SyncMan). F ms (fmmus_of y.memory)) (managers_last x y controller same)
     ∙ ap (F (sync_managers_of x.memory)) (fmmus_last x y controller same)
 
-effect_lasts_lwr : (a n : ℕ) (x y : ControllerState) → IsController x → SameCalm x y → effect (command_of Lwr) y a n ≡ effect (command_of Lwr) x a n
+effect_lasts_lwr : (a n : ℕ) (x y : ControllerState) → IsController x → SameCalm x y
+    → effect (command_of Lwr) y a n ≡ effect (command_of Lwr) x a n
 effect_lasts_lwr a n x y controller same =
     let F : List SyncMan → List Fmmu → Effect = λ ms fs. record {
       reading = nothing;
-      writing = where_served (names (target_places ms fs (8 * a)) (8 * n)) (record { places = write_map ms fs (8 * a) (8 * n); gain = 1; mail = None });
+      writing = where_served (names (target_places ms fs (8 * a)) (8 * n))
+          (record { places = write_map ms fs (8 * a) (8 * n); gain = 1; mail = None });
     } in
     ap (λ (ms : List SyncMan). F ms (fmmus_of y.memory)) (managers_last x y controller same)
     ∙ ap (F (sync_managers_of x.memory)) (fmmus_last x y controller same)
 
-effect_lasts_fprd : (a n : ℕ) (x y : ControllerState) → IsController x → SameCalm x y → effect (command_of Fprd) y a n ≡ effect (command_of Fprd) x a n
+effect_lasts_fprd : (a n : ℕ) (x y : ControllerState) → IsController x → SameCalm x y
+    → effect (command_of Fprd) y a n ≡ effect (command_of Fprd) x a n
 effect_lasts_fprd a n x y controller same =
     let F : List SyncMan → ℕ → Effect = λ ms station. record {
       reading = where_served (eqb (adp_of a) station && serves_physical_read ms (ado_of a) n)
@@ -166,21 +188,33 @@ write_effect a n ms station takes =
     record {
       reading = nothing;
       writing = where_served
-          (eqb (adp_of a) station && (is_range from n && ((not (meets_locked ms from n) && some_address takes from n) || is_some (filled_by ms from n))))
-          (record { places = λ p. cond (within from n (p / 8) && takes (p / 8)) (Some (p - 8 * from)) None; gain = 1; mail = filled_by ms from n });
+          (eqb (adp_of a) station
+          && (is_range from n
+          && ((not (meets_locked ms from n) && some_address takes from n)
+          || is_some (filled_by ms from n))))
+          (record {
+            places = λ p. cond (within from n (p / 8) && takes (p / 8)) (Some (p - 8 * from)) None;
+            gain = 1;
+            mail = filled_by ms from n;
+          });
     }
 
-effect_lasts_fpwr : (a n : ℕ) (x y : ControllerState) → IsController x → SameCalm x y → effect (command_of Fpwr) y a n ≡ effect (command_of Fpwr) x a n
+effect_lasts_fpwr : (a n : ℕ) (x y : ControllerState) → IsController x → SameCalm x y
+    → effect (command_of Fpwr) y a n ≡ effect (command_of Fpwr) x a n
 unfolding write_effect
 effect_lasts_fpwr a n x y controller same =
-    ap (λ (ms : List SyncMan). write_effect a n ms (word_at y.memory STATION_ADDRESS) (takes_writes y.memory)) (managers_last x y controller same)
-    ∙ ap (λ (s : ℕ). write_effect a n (sync_managers_of x.memory) s (takes_writes y.memory)) (station_lasts x y controller same)
+    ap (λ (ms : List SyncMan). write_effect a n ms (word_at y.memory STATION_ADDRESS) (takes_writes y.memory))
+    (managers_last x y controller same)
+    ∙ ap (λ (s : ℕ). write_effect a n (sync_managers_of x.memory) s (takes_writes y.memory))
+    (station_lasts x y controller same)
     ∙ ap (λ (t : ℕ → Bool). write_effect a n (sync_managers_of x.memory) (word_at x.memory STATION_ADDRESS) t)
     (takes_writes_same x.memory y.memory (registers_of x y controller same))
 
 -- what is served of a broadcast read does too
-serves_lasts : (from n : ℕ) (x y : ControllerState) → IsController x → SameCalm x y → serves_range_read y from n ≡ serves_range_read x from n
-serves_lasts from n x y controller same = ap (λ (ms : List SyncMan). serves_physical_read ms from n) (managers_last x y controller same)
+serves_lasts : (from n : ℕ) (x y : ControllerState) → IsController x → SameCalm x y
+    → serves_range_read y from n ≡ serves_range_read x from n
+serves_lasts from n x y controller same =
+    ap (λ (ms : List SyncMan). serves_physical_read ms from n) (managers_last x y controller same)
 
 -- ---- gains
 
@@ -189,19 +223,26 @@ where_gain true h = refl
 where_gain false h = refl
 
 gain_lasts_kind : (k : Kind) (a n : ℕ) (x y : ControllerState) → IsController x → SameCalm x y
-    → gain (record { kind = k; address = a; count = n }) y ≡ gain (record { kind = k; address = a; count = n }) x
+    → gain (record { kind = k; address = a; count = n }) y
+    ≡ gain (record { kind = k; address = a; count = n }) x
 unfolding gain
-gain_lasts_kind Lrd a n x y controller same = ap (λ (e : Effect). e.reading.gain + e.writing.gain) (effect_lasts_lrd a n x y controller same)
-gain_lasts_kind Lwr a n x y controller same = ap (λ (e : Effect). e.reading.gain + e.writing.gain) (effect_lasts_lwr a n x y controller same)
-gain_lasts_kind Lrw a n x y controller same = ap (λ (e : Effect). e.reading.gain + e.writing.gain) (effect_lasts_logical Lrw a n x y controller same)
+gain_lasts_kind Lrd a n x y controller same =
+    ap (λ (e : Effect). e.reading.gain + e.writing.gain) (effect_lasts_lrd a n x y controller same)
+gain_lasts_kind Lwr a n x y controller same =
+    ap (λ (e : Effect). e.reading.gain + e.writing.gain) (effect_lasts_lwr a n x y controller same)
+gain_lasts_kind Lrw a n x y controller same =
+    ap (λ (e : Effect). e.reading.gain + e.writing.gain) (effect_lasts_logical Lrw a n x y controller same)
 gain_lasts_kind Brd a n x y controller same =
     let from = ado_of a in
-    let half : ControllerState → Half = λ c. record { places = broadcast_sources c from; gain = 1; mail = read_mailbox c from n } in
+    let half : ControllerState
+    → Half = λ c. record { places = broadcast_sources c from; gain = 1; mail = read_mailbox c from n } in
     ap (λ g. g + 0) (where_gain (serves_range_read y from n) (half y))
     ∙ ap (λ b. cond b 1 0 + 0) (serves_lasts from n x y controller same)
     ∙ ap (λ g. g + 0) (sym (where_gain (serves_range_read x from n) (half x)))
-gain_lasts_kind Fprd a n x y controller same = ap (λ (e : Effect). e.reading.gain + e.writing.gain) (effect_lasts_fprd a n x y controller same)
-gain_lasts_kind Fpwr a n x y controller same = ap (λ (e : Effect). e.reading.gain + e.writing.gain) (effect_lasts_fpwr a n x y controller same)
+gain_lasts_kind Fprd a n x y controller same =
+    ap (λ (e : Effect). e.reading.gain + e.writing.gain) (effect_lasts_fprd a n x y controller same)
+gain_lasts_kind Fpwr a n x y controller same =
+    ap (λ (e : Effect). e.reading.gain + e.writing.gain) (effect_lasts_fpwr a n x y controller same)
 
 pub gain_lasts : (r : Request) (x y : ControllerState) → IsController x → SameCalm x y → gain r y ≡ gain r x
 gain_lasts r x y controller same = gain_lasts_kind r.kind r.address r.count x y controller same
@@ -209,16 +250,21 @@ gain_lasts r x y controller same = gain_lasts_kind r.kind r.address r.count x y 
 -- ---- takes
 
 taken_lasts_kind : (k : Kind) (a n : ℕ) (x y : ControllerState) → IsController x → SameCalm x y
-    → taken (record { kind = k; address = a; count = n }) y ≡ taken (record { kind = k; address = a; count = n }) x
+    → taken (record { kind = k; address = a; count = n }) y
+    ≡ taken (record { kind = k; address = a; count = n }) x
 unfolding taken
 taken_lasts_kind Lrd a n x y controller same = refl
-taken_lasts_kind Lwr a n x y controller same = ap (λ (e : Effect). e.writing.places) (effect_lasts_lwr a n x y controller same)
-taken_lasts_kind Lrw a n x y controller same = ap (λ (e : Effect). e.writing.places) (effect_lasts_logical Lrw a n x y controller same)
+taken_lasts_kind Lwr a n x y controller same =
+    ap (λ (e : Effect). e.writing.places) (effect_lasts_lwr a n x y controller same)
+taken_lasts_kind Lrw a n x y controller same =
+    ap (λ (e : Effect). e.writing.places) (effect_lasts_logical Lrw a n x y controller same)
 taken_lasts_kind Brd a n x y controller same = refl
 taken_lasts_kind Fprd a n x y controller same = refl
-taken_lasts_kind Fpwr a n x y controller same = ap (λ (e : Effect). e.writing.places) (effect_lasts_fpwr a n x y controller same)
+taken_lasts_kind Fpwr a n x y controller same =
+    ap (λ (e : Effect). e.writing.places) (effect_lasts_fpwr a n x y controller same)
 
-pub taken_lasts : (r : Request) (x y : ControllerState) → IsController x → SameCalm x y → taken r y ≡ taken r x
+pub taken_lasts : (r : Request) (x y : ControllerState) → IsController x → SameCalm x y
+    → taken r y ≡ taken r x
 taken_lasts r x y controller same = taken_lasts_kind r.kind r.address r.count x y controller same
 
 -- ---- claims
@@ -238,19 +284,23 @@ claim_out r c i past =
     ap (λ b. cond b (option_map (bit c.memory) ((effect_of r c).reading.places i)) None) test
 
 -- a place of a half that is served
-pub where_some : (b : Bool) (h : Half) (i p : ℕ) → (where_served b h).places i ≡ Some p → (b ≡ true) × (h.places i ≡ Some p)
+pub where_some : (b : Bool) (h : Half) (i p : ℕ) → (where_served b h).places i ≡ Some p
+    → (b ≡ true) × (h.places i ≡ Some p)
 where_some true h i p e = (refl, e)
 where_some false h i p e = absurd (cc)
 
 -- bits of two memories, at a place where they are the same
-same_mapped : (x y : ControllerState) (o : Option ℕ) → ((p : ℕ) → o ≡ Some p → bit y.memory p ≡ bit x.memory p)
+same_mapped : (x y : ControllerState) (o : Option ℕ)
+    → ((p : ℕ) → o ≡ Some p → bit y.memory p ≡ bit x.memory p)
     → option_map (bit y.memory) o ≡ option_map (bit x.memory) o
 same_mapped x y None same = refl
 same_mapped x y (Some p) same = ap Some (same p refl)
 
 -- claims where the effect lasts and its places are calm
-claim_lasts_by : (r : Request) (x y : ControllerState) (i : ℕ) → effect_of r y ≡ effect_of r x → SameCalm x y → i < 8 * r.count
-    → ((p : ℕ) → (effect_of r x).reading.places i ≡ Some p → is_calm (sync_managers_of x.memory) (p / 8) ≡ true)
+claim_lasts_by : (r : Request) (x y : ControllerState) (i : ℕ) → effect_of r y ≡ effect_of r x → SameCalm x y
+    → i < 8 * r.count
+    → ((p : ℕ) → (effect_of r x).reading.places i ≡ Some p → is_calm (sync_managers_of x.memory) (p / 8)
+    ≡ true)
     → claim r y i ≡ claim r x i
 claim_lasts_by r x y i effects same inside calm =
     claim_in r y i inside
@@ -259,7 +309,8 @@ claim_lasts_by r x y i effects same inside calm =
     ∙ sym (claim_in r x i inside)
 
 -- a bit that an accepted range gives
-range_calm : (c : ControllerState) (from n i : ℕ) → 1 ≤ n → i < 8 * n → LiesInRegisters from n ⊎ LiesInArea master_reads c from n
+range_calm : (c : ControllerState) (from n i : ℕ) → 1 ≤ n → i < 8 * n → LiesInRegisters from n
+    ⊎ LiesInArea master_reads c from n
     → is_calm (sync_managers_of c.memory) ((8 * from + i) / 8) ≡ true
 range_calm c from n i some inside place =
     let managers = sync_managers_of c.memory in
@@ -272,7 +323,8 @@ range_calm c from n i some inside place =
     let starts = lies.starts in
     let ends = lies.ends in
     let guarded : guards s address ≡ true = guards_from s address lies.active (omega arith) (omega arith) in
-    let hit : (guards s address && is_buffered s && master_reads s) ≡ true = rw (guarded, lies.buffered, lies.direction_is) refl in
+    let hit : (guards s address && is_buffered s && master_reads s) ≡ true =
+    rw (guarded, lies.buffered, lies.direction_is) refl in
     let F : SyncMan → Bool = λ t. guards t address && is_buffered t && master_reads t in
     input_calm managers address (list_any_at F managers area.0 s area.2 (ap F area.3 ∙ hit)))
     place
@@ -280,32 +332,45 @@ range_calm c from n i some inside place =
 -- a broadcast read claims the bits that are 1
 pub broadcast_claim : (a n : ℕ) (c : ControllerState) (i : ℕ) → i < 8 * n
     → claim (record { kind = Brd; address = a; count = n }) c i
-    ≡ cond (serves_range_read c (ado_of a) n) (cond (eqb (bit c.memory (8 * ado_of a + i)) 1) (Some (bit c.memory (8 * ado_of a + i))) None) None
+    ≡ cond (serves_range_read c (ado_of a) n)
+    (cond (eqb (bit c.memory (8 * ado_of a + i)) 1) (Some (bit c.memory (8 * ado_of a + i))) None) None
 broadcast_claim a n c i inside =
     let from = ado_of a in
     let q = 8 * from + i in
     let half : Half = record { places = broadcast_sources c from; gain = 1; mail = read_mailbox c from n } in
     let P : Bool → Type 0 =
-    λ b. option_map (bit c.memory) ((where_served b half).places i) ≡ cond b (cond (eqb (bit c.memory q) 1) (Some (bit c.memory q)) None) None in
-    let Q : Bool → Type 0 = λ b. option_map (bit c.memory) (cond b (Some q) None) ≡ cond b (Some (bit c.memory q)) None in
+    λ b. option_map (bit c.memory) ((where_served b half).places i)
+    ≡ cond b (cond (eqb (bit c.memory q) 1) (Some (bit c.memory q)) None) None in
+    let Q : Bool → Type 0 = λ b. option_map (bit c.memory) (cond b (Some q) None)
+    ≡ cond b (Some (bit c.memory q)) None in
     claim_in (record { kind = Brd; address = a; count = n }) c i inside
-    ∙ elim (serves_range_read c from n) as P [ true ↦ elim (eqb (bit c.memory q) 1) as Q [ true ↦ refl | false ↦ refl ] | false ↦ refl ]
+    ∙ elim (serves_range_read c from n) as P
+    [ true ↦ elim (eqb (bit c.memory q) 1) as Q [ true ↦ refl | false ↦ refl ] | false ↦ refl ]
 
-claim_lasts_kind : (k : Kind) (a n : ℕ) (x y : ControllerState) (i : ℕ) → IsFitAlone x → Accepts (record { kind = k; address = a; count = n }) x
+claim_lasts_kind : (k : Kind) (a n : ℕ) (x y : ControllerState) (i : ℕ) → IsFitAlone x
+    → Accepts (record { kind = k; address = a; count = n }) x
     → SameCalm x y → i < 8 * n
-    → claim (record { kind = k; address = a; count = n }) y i ≡ claim (record { kind = k; address = a; count = n }) x i
+    → claim (record { kind = k; address = a; count = n }) y i
+    ≡ claim (record { kind = k; address = a; count = n }) x i
 claim_lasts_kind Lrd a n x y i fit accepts same inside =
-    claim_lasts_by (record { kind = Lrd; address = a; count = n }) x y i (effect_lasts_lrd a n x y fit.controller same) same inside
+    claim_lasts_by (record { kind = Lrd; address = a; count = n }) x y i
+    (effect_lasts_lrd a n x y fit.controller same) same inside
     (λ p e.
-    let found = where_some (serves_read x a n) (record { places = read_sources x a; gain = 1; mail = None }) i p e in
-    fit.calm (8 * a + i) p (IsReadable-read_map (sync_managers_of x.memory) (fmmus_of x.memory) (8 * a + i) p found.1))
+    let found = where_some (serves_read x a n) (record { places = read_sources x a; gain = 1; mail = None }) i
+    p e in
+    fit.calm (8 * a + i) p
+    (IsReadable-read_map (sync_managers_of x.memory) (fmmus_of x.memory) (8 * a + i) p found.1))
 claim_lasts_kind Lwr a n x y i fit accepts same inside =
-    claim_lasts_by (record { kind = Lwr; address = a; count = n }) x y i (effect_lasts_lwr a n x y fit.controller same) same inside (λ p e. absurd (cc))
+    claim_lasts_by (record { kind = Lwr; address = a; count = n }) x y i
+    (effect_lasts_lwr a n x y fit.controller same) same inside (λ p e. absurd (cc))
 claim_lasts_kind Lrw a n x y i fit accepts same inside =
-    claim_lasts_by (record { kind = Lrw; address = a; count = n }) x y i (effect_lasts_logical Lrw a n x y fit.controller same) same inside
+    claim_lasts_by (record { kind = Lrw; address = a; count = n }) x y i
+    (effect_lasts_logical Lrw a n x y fit.controller same) same inside
     (λ p e.
-    let found = where_some (serves_read x a n) (record { places = read_sources x a; gain = 1; mail = None }) i p e in
-    fit.calm (8 * a + i) p (IsReadable-read_map (sync_managers_of x.memory) (fmmus_of x.memory) (8 * a + i) p found.1))
+    let found = where_some (serves_read x a n) (record { places = read_sources x a; gain = 1; mail = None }) i
+    p e in
+    fit.calm (8 * a + i) p
+    (IsReadable-read_map (sync_managers_of x.memory) (fmmus_of x.memory) (8 * a + i) p found.1))
 claim_lasts_kind Brd a n x y i fit accepts same inside =
     let from = ado_of a in
     let q = 8 * from + i in
@@ -318,18 +383,23 @@ claim_lasts_kind Brd a n x y i fit accepts same inside =
     ∙ ap (G (serves_range_read x from n)) bits
     ∙ sym (broadcast_claim a n x i inside)
 claim_lasts_kind Fprd a n x y i fit accepts same inside =
-    claim_lasts_by (record { kind = Fprd; address = a; count = n }) x y i (effect_lasts_fprd a n x y fit.controller same) same inside
+    claim_lasts_by (record { kind = Fprd; address = a; count = n }) x y i
+    (effect_lasts_fprd a n x y fit.controller same) same inside
     (λ p e.
     let from = ado_of a in
     let served = eqb (adp_of a) (word_at x.memory 16) && serves_range_read x from n in
-    let found = where_some served (record { places = range_sources from; gain = 1; mail = read_mailbox x from n }) i p e in
+    let found = where_some served
+    (record { places = range_sources from; gain = 1; mail = read_mailbox x from n }) i p e in
     let here : 8 * from + i ≡ p = let s = found.1 in cc in
     ap (λ q. is_calm (sync_managers_of x.memory) (q / 8)) (sym here)
-    ∙ range_calm x from n i accepts.some inside (accepts.place (station_named a x (serves_range_read x from n) found.0)))
+    ∙ range_calm x from n i accepts.some inside
+    (accepts.place (station_named a x (serves_range_read x from n) found.0)))
 claim_lasts_kind Fpwr a n x y i fit accepts same inside =
-    claim_lasts_by (record { kind = Fpwr; address = a; count = n }) x y i (effect_lasts_fpwr a n x y fit.controller same) same inside (λ p e. absurd (cc))
+    claim_lasts_by (record { kind = Fpwr; address = a; count = n }) x y i
+    (effect_lasts_fpwr a n x y fit.controller same) same inside (λ p e. absurd (cc))
 
-pub claim_lasts : (r : Request) (x y : ControllerState) (i : ℕ) → IsFitAlone x → Accepts r x → SameCalm x y → claim r y i ≡ claim r x i
+pub claim_lasts : (r : Request) (x y : ControllerState) (i : ℕ) → IsFitAlone x → Accepts r x → SameCalm x y
+    → claim r y i ≡ claim r x i
 claim_lasts r x y i fit accepts same =
     ⊎_elim
     (λ (inside : i < 8 * r.count). claim_lasts_kind r.kind r.address r.count x y i fit accepts same inside)
@@ -338,7 +408,8 @@ claim_lasts r x y i fit accepts same =
 
 -- ---- what is taken is not calm
 
-fmmu_uncalm : (a n : ℕ) (c : ControllerState) (p i : ℕ) → write_map (sync_managers_of c.memory) (fmmus_of c.memory) (8 * a) (8 * n) p ≡ Some i
+fmmu_uncalm : (a n : ℕ) (c : ControllerState) (p i : ℕ)
+    → write_map (sync_managers_of c.memory) (fmmus_of c.memory) (8 * a) (8 * n) p ≡ Some i
     → is_calm (sync_managers_of c.memory) (p / 8) ≡ false
 fmmu_uncalm a n c p i e =
     let managers = sync_managers_of c.memory in
@@ -348,25 +419,30 @@ fmmu_uncalm a n c p i e =
     unlocked_uncalm managers (p / 8) parts.0 parts.2
 
 -- a write that is served and fills no mailbox meets no area that is locked
-open_write : (memory : List ℕ) (managers : List SyncMan) (from n : ℕ) → serves_physical_write memory managers from n ≡ true
+open_write : (memory : List ℕ) (managers : List SyncMan) (from n : ℕ)
+    → serves_physical_write memory managers from n ≡ true
     → filled_by managers from n ≡ None → meets_locked managers from n ≡ false
 open_write memory managers from n served unfilled =
     let open_ : Bool = not (meets_locked managers from n) && some_address (takes_writes memory) from n in
     let parts = both (is_range from n) (open_ || is_some (filled_by managers from n)) served in
-    let either : (open_ || is_some {T = ℕ} None) ≡ true = ap (λ (o : Option ℕ). open_ || is_some o) (sym unfilled) ∙ parts.1 in
+    let either : (open_ || is_some {T = ℕ} None) ≡ true =
+    ap (λ (o : Option ℕ). open_ || is_some o) (sym unfilled) ∙ parts.1 in
     ⊎_elim
-    (λ (locked : meets_locked managers from n ≡ true). absurd (let no : (false || false) ≡ true = rw locked at either in cc))
+    (λ (locked : meets_locked managers from n ≡ true).
+    absurd (let no : (false || false) ≡ true = rw locked at either in cc))
     (λ (free : meets_locked managers from n ≡ false). free)
     (cases_Bool (meets_locked managers from n))
 
 -- a place of a range whose byte takes writes
-range_some : (c : ControllerState) (from n p i : ℕ) → range_targets c from n p ≡ Some i → (from ≤ p / 8) × (p / 8 < from + n)
+range_some : (c : ControllerState) (from n p i : ℕ) → range_targets c from n p ≡ Some i
+    → (from ≤ p / 8) × (p / 8 < from + n)
 range_some c from n p i e =
     let test = within from n (p / 8) && takes_writes c.memory (p / 8) in
     let kept : test ≡ true =
     ⊎_elim
     (λ (t : test ≡ true). t)
-    (λ (f : test ≡ false). absurd (let no : None ≡ Some i = ap (λ b. cond b (Some (p - 8 * from)) None) (sym f) ∙ e in cc))
+    (λ (f : test ≡ false).
+    absurd (let no : None ≡ Some i = ap (λ b. cond b (Some (p - 8 * from)) None) (sym f) ∙ e in cc))
     (cases_Bool test) in
     let parts = both (within from n (p / 8)) (takes_writes c.memory (p / 8)) kept in
     let ends = both (leb from (p / 8)) (ltb (p / 8) (from + n)) parts.0 in
@@ -374,35 +450,45 @@ range_some c from n p i e =
     let high : ltb (p / 8) (from + n) ≡ true = ends.1 in
     (grind (arith, nat_tests), grind (arith, nat_tests))
 
-taken_uncalm_kind : (k : Kind) (a n : ℕ) (c : ControllerState) (p i : ℕ) → Accepts (record { kind = k; address = a; count = n }) c
-    → (effect (command_of k) c a n).writing.places p ≡ Some i → is_calm (sync_managers_of c.memory) (p / 8) ≡ false
+taken_uncalm_kind : (k : Kind) (a n : ℕ) (c : ControllerState) (p i : ℕ)
+    → Accepts (record { kind = k; address = a; count = n }) c
+    → (effect (command_of k) c a n).writing.places p ≡ Some i → is_calm (sync_managers_of c.memory) (p / 8)
+    ≡ false
 taken_uncalm_kind Lrd a n c p i accepts e = absurd (cc)
 taken_uncalm_kind Lwr a n c p i accepts e =
-    fmmu_uncalm a n c p i (where_some (serves_write c a n) (record { places = write_sources c a n; gain = 1; mail = None }) p i e).1
+    fmmu_uncalm a n c p i
+    (where_some (serves_write c a n) (record { places = write_sources c a n; gain = 1; mail = None }) p i e).1
 taken_uncalm_kind Lrw a n c p i accepts e =
-    fmmu_uncalm a n c p i (where_some (serves_write c a n) (record { places = write_sources c a n; gain = 2; mail = None }) p i e).1
+    fmmu_uncalm a n c p i
+    (where_some (serves_write c a n) (record { places = write_sources c a n; gain = 2; mail = None }) p i e).1
 taken_uncalm_kind Brd a n c p i accepts e = absurd (cc)
 taken_uncalm_kind Fprd a n c p i accepts e = absurd (cc)
 taken_uncalm_kind Fpwr a n c p i accepts e =
     let from = ado_of a in
     let managers = sync_managers_of c.memory in
     let station = eqb (adp_of a) (word_at c.memory 16) in
-    let found = where_some (station && serves_range_write c from n) (record { places = range_targets c from n; gain = 1; mail = written_mailbox c from n }) p i e in
+    let found = where_some (station && serves_range_write c from n)
+    (record { places = range_targets c from n; gain = 1; mail = written_mailbox c from n }) p i e in
     let served = both station (serves_range_write c from n) found.0 in
-    let lies = lies_buffered master_writes c from n accepts.some (accepts.place (station_named a c (serves_range_write c from n) found.0)) in
+    let lies = lies_buffered master_writes c from n accepts.some
+    (accepts.place (station_named a c (serves_range_write c from n) found.0)) in
     let place = buffered_place managers from n lies.0 lies.1 in
     let inside = range_some c from n p i found.1 in
-    let free = unlocked_in_range managers from n (p / 8) (open_write c.memory managers from n served.1 (filled_buffered managers from n lies.0 lies.1)) inside.0 inside.1 in
+    let free = unlocked_in_range managers from n (p / 8)
+    (open_write c.memory managers from n served.1 (filled_buffered managers from n lies.0 lies.1)) inside.0
+    inside.1 in
     unlocked_uncalm managers (p / 8) (omega (arith, place.0, inside.0)) free
 
-pub taken_uncalm : (r : Request) (c : ControllerState) (p i : ℕ) → Accepts r c → taken r c p ≡ Some i → is_calm (sync_managers_of c.memory) (p / 8) ≡ false
+pub taken_uncalm : (r : Request) (c : ControllerState) (p i : ℕ) → Accepts r c → taken r c p ≡ Some i
+    → is_calm (sync_managers_of c.memory) (p / 8) ≡ false
 unfolding taken
 taken_uncalm r c p i accepts e = taken_uncalm_kind r.kind r.address r.count c p i accepts e
 
 -- ---- a controller after an item
 
 -- its calm bytes are the same
-pub after_calm : (r : Request) (payload : List ℕ) (c : ControllerState) → IsController c → Accepts r c → SameCalm c (after r payload c)
+pub after_calm : (r : Request) (payload : List ℕ) (c : ControllerState) → IsController c → Accepts r c
+    → SameCalm c (after r payload c)
 unfolding written_through
 after_calm r payload c controller accepts = record {
   size = length-with_bits c.memory payload (taken r c);
@@ -414,29 +500,38 @@ after_calm r payload c controller accepts = record {
       elim (taken r c (8 * a + b)) as P [
         | None ↦ λ _. refl
         | Some i ↦ λ e.
-            let uncalm : is_calm (sync_managers_of c.memory) ((8 * a + b) / 8) ≡ false = taken_uncalm r c (8 * a + b) i accepts e in
-            absurd (let no : true ≡ false = sym calm ∙ ap (is_calm (sync_managers_of c.memory)) (sym byte) ∙ uncalm in cc)
+            let uncalm : is_calm (sync_managers_of c.memory) ((8 * a + b) / 8) ≡ false =
+            taken_uncalm r c (8 * a + b) i accepts e in
+            absurd (let no : true ≡ false = sym calm ∙ ap (is_calm (sync_managers_of c.memory)) (sym byte)
+            ∙ uncalm in cc)
       ] refl);
 }
 
 -- it is a controller
-shown_are_bytes : (f : ℕ → Bool) (befores afters : List SyncMan) (memory shown : List ℕ) → AreBytes memory → AreBytes shown
+shown_are_bytes : (f : ℕ → Bool) (befores afters : List SyncMan) (memory shown : List ℕ) → AreBytes memory
+    → AreBytes shown
     → AreBytes (shown_after f befores afters memory shown)
 shown_are_bytes f befores afters memory shown m s k =
     ⊎_elim
     (λ (inside : k < length shown).
     let byte = shown_byte f befores afters memory shown k in
     let below : byte < 256 =
-    elim (is_shown_anew f befores afters (4096 + k)) as (λ b. cond b (get_or memory (4096 + k) 0) (get_or shown k 0) < 256) [
+    elim (is_shown_anew f befores afters (4096 + k)) as
+    (λ b. cond b (get_or memory (4096 + k) 0) (get_or shown k 0) < 256) [
       | true ↦ m (4096 + k)
       | false ↦ s k
     ] in
     omega (arith, get_or-shown_after f befores afters memory shown k inside))
     (λ (past : length shown ≤ k).
-    omega (arith, get_or_past (shown_after f befores afters memory shown) k 0 (omega (arith, length-shown_after f befores afters memory shown))))
+    omega (
+      arith,
+      get_or_past (shown_after f befores afters memory shown) k 0
+          (omega (arith, length-shown_after f befores afters memory shown)),
+    ))
     (cases_lt k (length shown))
 
-pub after_controller : (r : Request) (payload : List ℕ) (c : ControllerState) → IsController c → IsController (after r payload c)
+pub after_controller : (r : Request) (payload : List ℕ) (c : ControllerState) → IsController c
+    → IsController (after r payload c)
 unfolding written_through
 after_controller r payload c controller =
     let managers = sync_managers_of c.memory in
@@ -445,7 +540,8 @@ after_controller r payload c controller =
     record {
       memory_size = length-with_bits c.memory payload (taken r c) ∙ controller.memory_size;
       memory = bytes;
-      shown_size = length-shown_after (touches (taken r c)) managers managers memory c.shown ∙ controller.shown_size;
+      shown_size = length-shown_after (touches (taken r c)) managers managers memory c.shown
+          ∙ controller.shown_size;
       shown = shown_are_bytes (touches (taken r c)) managers managers memory c.shown bytes controller.shown;
     }
 
@@ -457,7 +553,8 @@ reads_last x y l p controller same pair =
     subst (λ (fs : List Fmmu). P (sync_managers_of x.memory) fs) (fmmus_last x y controller same)
     (subst (λ (ms : List SyncMan). P ms (fmmus_of y.memory)) (managers_last x y controller same) pair)
 
-pub writes_last : (x y : ControllerState) (l p : ℕ) → IsController x → SameCalm x y → Writes y l p → Writes x l p
+pub writes_last : (x y : ControllerState) (l p : ℕ) → IsController x → SameCalm x y → Writes y l p
+    → Writes x l p
 writes_last x y l p controller same pair =
     let P : List SyncMan → List Fmmu → Type 0 = λ ms fs. IsWritable ms fs l p in
     subst (λ (fs : List Fmmu). P (sync_managers_of x.memory) fs) (fmmus_last x y controller same)
@@ -470,18 +567,23 @@ fit_lasts x y fit controller same = record {
       ap (λ (ms : List SyncMan). is_calm ms (p / 8)) (managers_last x y fit.controller same)
       ∙ fit.calm l p (reads_last x y l p fit.controller same pair);
   read_once = λ l p q one two.
-      fit.read_once l p q (reads_last x y l p fit.controller same one) (reads_last x y l q fit.controller same two);
+      fit.read_once l p q (reads_last x y l p fit.controller same one)
+      (reads_last x y l q fit.controller same two);
   written_once = λ l m p one two.
-      fit.written_once l m p (writes_last x y l p fit.controller same one) (writes_last x y m p fit.controller same two);
+      fit.written_once l m p (writes_last x y l p fit.controller same one)
+      (writes_last x y m p fit.controller same two);
 }
 
-area_lasts : (direction : SyncMan → Bool) (x y : ControllerState) (from n : ℕ) → IsController x → SameCalm x y → LiesInArea direction x from n
+area_lasts : (direction : SyncMan → Bool) (x y : ControllerState) (from n : ℕ) → IsController x → SameCalm x y
+    → LiesInArea direction x from n
     → LiesInArea direction y from n
 area_lasts direction x y from n controller same lies =
-    subst (λ (ms : List SyncMan). Any (λ s. IsWithinArea direction s from n) ms) (sym (managers_last x y controller same)) lies
+    subst (λ (ms : List SyncMan). Any (λ s. IsWithinArea direction s from n) ms)
+    (sym (managers_last x y controller same)) lies
 
 accepts_lasts_kind : (k : Kind) (a n : ℕ) (x y : ControllerState) → IsController x → SameCalm x y
-    → AcceptsPlace k (record { kind = k; address = a; count = n }) x → AcceptsPlace k (record { kind = k; address = a; count = n }) y
+    → AcceptsPlace k (record { kind = k; address = a; count = n }) x
+    → AcceptsPlace k (record { kind = k; address = a; count = n }) y
 accepts_lasts_kind Lrd a n x y controller same place = tt
 accepts_lasts_kind Lwr a n x y controller same place = tt
 accepts_lasts_kind Lrw a n x y controller same place = tt
@@ -489,12 +591,15 @@ accepts_lasts_kind Brd a n x y controller same place = place
 accepts_lasts_kind Fprd a n x y controller same place = λ station.
     ⊎_elim
     (λ (registers : LiesInRegisters (ado_of a) n). inl registers)
-    (λ (area : LiesInArea master_reads x (ado_of a) n). inr (area_lasts master_reads x y (ado_of a) n controller same area))
+    (λ (area : LiesInArea master_reads x (ado_of a) n).
+    inr (area_lasts master_reads x y (ado_of a) n controller same area))
     (place (station ∙ station_lasts x y controller same))
 accepts_lasts_kind Fpwr a n x y controller same place = λ station.
-    area_lasts master_writes x y (ado_of a) n controller same (place (station ∙ station_lasts x y controller same))
+    area_lasts master_writes x y (ado_of a) n controller same
+    (place (station ∙ station_lasts x y controller same))
 
-pub accepts_lasts : (r : Request) (x y : ControllerState) → IsController x → SameCalm x y → Accepts r x → Accepts r y
+pub accepts_lasts : (r : Request) (x y : ControllerState) → IsController x → SameCalm x y → Accepts r x
+    → Accepts r y
 accepts_lasts r x y controller same accepts = record {
   some = accepts.some;
   place = accepts_lasts_kind r.kind r.address r.count x y controller same accepts.place;

@@ -1,6 +1,7 @@
--- The core: what came back of a trip over a fit line and was joined is the answer of those that the copies passed which came
--- back, and each controller is left after the frame as often as it was passed.
-use Rattle.std.proofs.Common.{◌≡◌, ℕ, zero, suc, ◌+◌, ◌<◌, ◌≤◌, Bool, true, false, cond, List, [], ◌∷◌, ◌++◌, length, take, drop, map, sym, subst, ◌∙◌, ap, refl, arith}
+-- The core: what came back of a trip over a fit line and was joined is the answer of those that the copies
+-- passed which came back, and each controller is left after the frame as often as it was passed.
+use Rattle.std.proofs.Common.{◌≡◌, ℕ, zero, suc, ◌+◌, ◌<◌, ◌≤◌, Bool, true, false, cond, List, [], ◌∷◌, ◌++◌}
+use Rattle.std.proofs.Common.{length, take, drop, map, sym, subst, ◌∙◌, ap, refl, arith}
 use Rattle.std.specs.List.{AllByRecursion}
 use Rattle.std.proofs.lemmas.List.{take-append-drop, append-nil, length-take-le, length-map}
 use Rattle.ec_wire.specs.Datagram.{DatagramRecord}
@@ -14,7 +15,8 @@ use Rattle.ec_line.specs.Calm.{SameCalm}
 use Rattle.ec_line.specs.Claims.{claim}
 use Rattle.ec_line.specs.Fit.{IsFitAlone, AreApart, AllApart, IsFitLine}
 use Rattle.ec_line.specs.Request.{Request}
-use Rattle.ec_line.specs.Trip.{PassedLine, line_pass, front_pass, back_pass, circulated, Trip, Passed, sent_b, passed_by_a_first, passed_by_b_first, passed, joined_of}
+use Rattle.ec_line.specs.Trip.{PassedLine, line_pass, front_pass, back_pass, circulated, Trip, Passed, sent_b}
+use Rattle.ec_line.specs.Trip.{passed_by_a_first, passed_by_b_first, passed, joined_of}
 use Rattle.ec_line.specs.Trip.{returned, front_after, back_after, visited}
 use Rattle.ec_line.proofs.AnswersLemmas.{each-map, each-both, each-append}
 use Rattle.ec_line.proofs.FitLemmas.{agree, agree_self, agree_back}
@@ -23,12 +25,14 @@ use Rattle.ec_line.proofs.JoinLemmas.{IsEntry, AgreeAll, frame_joined, answered_
 
 -- ---- pieces of a list
 
-pub each-take : {S : Type 0} (P : S → Type 0) (n : ℕ) (xs : List S) → AllByRecursion P xs → AllByRecursion P (take n xs)
+pub each-take : {S : Type 0} (P : S → Type 0) (n : ℕ) (xs : List S) → AllByRecursion P xs
+    → AllByRecursion P (take n xs)
 each-take P zero xs all = tt
 each-take P (suc n) [] all = tt
 each-take P (suc n) (x ∷ xs) all = (all.0, each-take P n xs all.1)
 
-pub each-drop : {S : Type 0} (P : S → Type 0) (n : ℕ) (xs : List S) → AllByRecursion P xs → AllByRecursion P (drop n xs)
+pub each-drop : {S : Type 0} (P : S → Type 0) (n : ℕ) (xs : List S) → AllByRecursion P xs
+    → AllByRecursion P (drop n xs)
 each-drop P zero xs all = all
 each-drop P (suc n) [] all = tt
 each-drop P (suc n) (x ∷ xs) all = each-drop P n xs all.1
@@ -64,14 +68,16 @@ later-drop (suc n) [] (y ∷ ys) later = absurd later
 later-drop (suc n) (x ∷ xs) [] later = absurd later
 later-drop (suc n) (x ∷ xs) (y ∷ ys) later = later-drop n xs ys later.1
 
-later-append : (xs ys zs ws : List ControllerState) → IsLater xs ys → IsLater zs ws → IsLater (xs ++ zs) (ys ++ ws)
+later-append : (xs ys zs ws : List ControllerState) → IsLater xs ys → IsLater zs ws
+    → IsLater (xs ++ zs) (ys ++ ws)
 later-append [] [] zs ws front back = back
 later-append [] (y ∷ ys) zs ws front back = absurd front
 later-append (x ∷ xs) [] zs ws front back = absurd front
 later-append (x ∷ xs) (y ∷ ys) zs ws front back = (front.0, later-append xs ys zs ws front.1 back)
 
 -- a line whose controllers went through a frame is a later one
-pub later-map : (es : List Entry) (xs ys : List ControllerState) → AllByRecursion IsFitAlone xs → AllByRecursion (AcceptsAll es) xs → IsLater xs ys
+pub later-map : (es : List Entry) (xs ys : List ControllerState) → AllByRecursion IsFitAlone xs
+    → AllByRecursion (AcceptsAll es) xs → IsLater xs ys
     → IsLater xs (map (after_frame es) ys)
 later-map es [] [] fit accepts later = tt
 later-map es [] (y ∷ ys) fit accepts later = absurd later
@@ -81,14 +87,17 @@ later-map es (x ∷ xs) (y ∷ ys) fit accepts later =
     ((kept.1, kept.0), later-map es xs ys fit.1 accepts.1 later.1)
 
 -- a line put together of its pieces
-later-pieces : (n : ℕ) (xs ys zs : List ControllerState) → IsLater (take n xs) ys → IsLater (drop n xs) zs → IsLater xs (ys ++ zs)
+later-pieces : (n : ℕ) (xs ys zs : List ControllerState) → IsLater (take n xs) ys → IsLater (drop n xs) zs
+    → IsLater xs (ys ++ zs)
 later-pieces n xs ys zs front back =
-    subst (λ (l : List ControllerState). IsLater l (ys ++ zs)) (take-append-drop n xs) (later-append (take n xs) ys (drop n xs) zs front back)
+    subst (λ (l : List ControllerState). IsLater l (ys ++ zs)) (take-append-drop n xs)
+    (later-append (take n xs) ys (drop n xs) zs front back)
 
 -- a line is a later one of itself
 pub later-refl : (xs : List ControllerState) → AllByRecursion IsFitAlone xs → IsLater xs xs
 later-refl [] fit = tt
-later-refl (x ∷ xs) fit = ((record { size = refl; bytes = λ a calm. refl }, fit.0.controller), later-refl xs fit.1)
+later-refl (x ∷ xs) fit =
+    ((record { size = refl; bytes = λ a calm. refl }, fit.0.controller), later-refl xs fit.1)
 
 -- ---- members of a fit line agree
 
@@ -97,8 +106,12 @@ all_agree : (r : Request) (xs : List ControllerState) → AllApart xs → AllAgr
 all_agree r [] apart = tt
 all_agree r (x ∷ xs) apart =
     let rest : AllAgree (claim r) xs xs = all_agree r xs apart.1 in (
-      (agree_self r x, each-map (λ y. AreApart x y) (λ y. Agree (claim r) x y) xs (λ y p. agree r x y p) apart.0),
-      each-both (λ y. AreApart x y) (λ y. AllByRecursion (λ z. Agree (claim r) y z) xs) (λ y. AllByRecursion (λ z. Agree (claim r) y z) (x ∷ xs)) xs
+      (
+        agree_self r x,
+        each-map (λ y. AreApart x y) (λ y. Agree (claim r) x y) xs (λ y p. agree r x y p) apart.0,
+      ),
+      each-both (λ y. AreApart x y) (λ y. AllByRecursion (λ z. Agree (claim r) y z) xs)
+          (λ y. AllByRecursion (λ z. Agree (claim r) y z) (x ∷ xs)) xs
           (λ y p q. (agree_back r x y p, q)) apart.0 rest,
     )
 
@@ -106,22 +119,28 @@ all_agree r (x ∷ xs) apart =
 pub chosen : {S : Type 0} → Bool → List S → List S
 chosen lost xs = cond lost [] xs
 
-each-chosen : {S : Type 0} (P : S → Type 0) (b : Bool) (xs : List S) → AllByRecursion P xs → AllByRecursion P (chosen b xs)
+each-chosen : {S : Type 0} (P : S → Type 0) (b : Bool) (xs : List S) → AllByRecursion P xs
+    → AllByRecursion P (chosen b xs)
 unfolding chosen
 each-chosen P true xs all = tt
 each-chosen P false xs all = all
 
 -- those of a front and those of a back
 agree_pieces : (r : Request) (xs : List ControllerState) (p q : ℕ) (a b : Bool) → AllApart xs
-    → AllAgree (claim r) (chosen a (take p xs)) (chosen b (drop q xs)) × AllAgree (claim r) (chosen b (drop q xs)) (chosen a (take p xs))
+    → AllAgree (claim r) (chosen a (take p xs)) (chosen b (drop q xs))
+    × AllAgree (claim r) (chosen b (drop q xs)) (chosen a (take p xs))
 agree_pieces r xs p q a b apart =
     let all : AllAgree (claim r) xs xs = all_agree r xs apart in
     let fronts : AllByRecursion (λ x. AllByRecursion (λ y. Agree (claim r) x y) (chosen b (drop q xs))) xs =
-    each-map (λ x. AllByRecursion (λ y. Agree (claim r) x y) xs) (λ x. AllByRecursion (λ y. Agree (claim r) x y) (chosen b (drop q xs))) xs
-    (λ x each. each-chosen (λ y. Agree (claim r) x y) b (drop q xs) (each-drop (λ y. Agree (claim r) x y) q xs each)) all in
+    each-map (λ x. AllByRecursion (λ y. Agree (claim r) x y) xs)
+    (λ x. AllByRecursion (λ y. Agree (claim r) x y) (chosen b (drop q xs))) xs
+    (λ x each. each-chosen (λ y. Agree (claim r) x y) b (drop q xs)
+    (each-drop (λ y. Agree (claim r) x y) q xs each)) all in
     let backs : AllByRecursion (λ x. AllByRecursion (λ y. Agree (claim r) x y) (chosen a (take p xs))) xs =
-    each-map (λ x. AllByRecursion (λ y. Agree (claim r) x y) xs) (λ x. AllByRecursion (λ y. Agree (claim r) x y) (chosen a (take p xs))) xs
-    (λ x each. each-chosen (λ y. Agree (claim r) x y) a (take p xs) (each-take (λ y. Agree (claim r) x y) p xs each)) all in (
+    each-map (λ x. AllByRecursion (λ y. Agree (claim r) x y) xs)
+    (λ x. AllByRecursion (λ y. Agree (claim r) x y) (chosen a (take p xs))) xs
+    (λ x each. each-chosen (λ y. Agree (claim r) x y) a (take p xs)
+    (each-take (λ y. Agree (claim r) x y) p xs each)) all in (
       each-chosen (λ x. AllByRecursion (λ y. Agree (claim r) x y) (chosen b (drop q xs))) a (take p xs)
           (each-take (λ x. AllByRecursion (λ y. Agree (claim r) x y) (chosen b (drop q xs))) p xs fronts),
       each-chosen (λ x. AllByRecursion (λ y. Agree (claim r) x y) (chosen a (take p xs))) b (drop q xs)
@@ -133,7 +152,8 @@ agree_entries : (es : List Entry) (xs : List ControllerState) (p q : ℕ) (a b :
     → AgreeAll es (chosen a (take p xs)) (chosen b (drop q xs))
 unfolding AgreeAll
 agree_entries [] xs p q a b apart = tt
-agree_entries (e ∷ es) xs p q a b apart = (agree_pieces e.request xs p q a b apart, agree_entries es xs p q a b apart)
+agree_entries (e ∷ es) xs p q a b apart =
+    (agree_pieces e.request xs p q a b apart, agree_entries es xs p q a b apart)
 
 -- ---- one copy
 
@@ -145,46 +165,63 @@ pub record IsReady (es : List Entry) (xs ys : List ControllerState) : Type 0 whe
   pub later : IsLater xs ys
 
 -- a copy that passes a first piece
-front_copy : (es : List Entry) (xs ys : List ControllerState) (n : ℕ) (ds : List DatagramRecord) → IsReady es xs ys → AnsweredFrame es [] ds
-    → AnsweredFrame es (take n xs) (front_pass n ys ds).frame × ((front_pass n ys ds).line ≡ front_after (after_frame es) n ys)
+front_copy : (es : List Entry) (xs ys : List ControllerState) (n : ℕ) (ds : List DatagramRecord)
+    → IsReady es xs ys → AnsweredFrame es [] ds
+    → AnsweredFrame es (take n xs) (front_pass n ys ds).frame
+    × ((front_pass n ys ds).line ≡ front_after (after_frame es) n ys)
 front_copy es xs ys n ds ready sent =
-    let done = line_step es [] (take n xs) (take n ys) ds (each-take IsFitAlone n xs ready.fit.alone) (apart-take n xs ready.fit.apart)
-    (apart_from_nobody (take n xs)) (each-take (AcceptsAll es) n xs ready.accepts) (later-take n xs ys ready.later) sent in
+    let done = line_step es [] (take n xs) (take n ys) ds (each-take IsFitAlone n xs ready.fit.alone)
+    (apart-take n xs ready.fit.apart)
+    (apart_from_nobody (take n xs)) (each-take (AcceptsAll es) n xs ready.accepts)
+    (later-take n xs ys ready.later) sent in
     (done.0, ap (λ (l : List ControllerState). l ++ drop n ys) done.1)
 
 -- and one that passes a last piece
-back_copy : (es : List Entry) (xs ys : List ControllerState) (n : ℕ) (ds : List DatagramRecord) → IsReady es xs ys → AnsweredFrame es [] ds
-    → AnsweredFrame es (drop n xs) (back_pass n ys ds).frame × ((back_pass n ys ds).line ≡ back_after (after_frame es) n ys)
+back_copy : (es : List Entry) (xs ys : List ControllerState) (n : ℕ) (ds : List DatagramRecord)
+    → IsReady es xs ys → AnsweredFrame es [] ds
+    → AnsweredFrame es (drop n xs) (back_pass n ys ds).frame
+    × ((back_pass n ys ds).line ≡ back_after (after_frame es) n ys)
 back_copy es xs ys n ds ready sent =
-    let done = line_step es [] (drop n xs) (drop n ys) ds (each-drop IsFitAlone n xs ready.fit.alone) (apart-drop n xs ready.fit.apart)
-    (apart_from_nobody (drop n xs)) (each-drop (AcceptsAll es) n xs ready.accepts) (later-drop n xs ys ready.later) sent in
+    let done = line_step es [] (drop n xs) (drop n ys) ds (each-drop IsFitAlone n xs ready.fit.alone)
+    (apart-drop n xs ready.fit.apart)
+    (apart_from_nobody (drop n xs)) (each-drop (AcceptsAll es) n xs ready.accepts)
+    (later-drop n xs ys ready.later) sent in
     (done.0, ap (λ (l : List ControllerState). take n ys ++ l) done.1)
 
 -- the line behind a copy is ready again
-pub ready_front : (es fs : List Entry) (xs ys : List ControllerState) (n : ℕ) → IsReady es xs ys → IsLater xs (front_after (after_frame es) n ys)
+pub ready_front : (es fs : List Entry) (xs ys : List ControllerState) (n : ℕ) → IsReady es xs ys
+    → IsLater xs (front_after (after_frame es) n ys)
 ready_front es fs xs ys n ready =
     later-pieces n xs (map (after_frame es) (take n ys)) (drop n ys)
-    (later-map es (take n xs) (take n ys) (each-take IsFitAlone n xs ready.fit.alone) (each-take (AcceptsAll es) n xs ready.accepts) (later-take n xs ys ready.later))
+    (later-map es (take n xs) (take n ys) (each-take IsFitAlone n xs ready.fit.alone)
+    (each-take (AcceptsAll es) n xs ready.accepts) (later-take n xs ys ready.later))
     (later-drop n xs ys ready.later)
 
-pub ready_back : (es fs : List Entry) (xs ys : List ControllerState) (n : ℕ) → IsReady es xs ys → IsLater xs (back_after (after_frame es) n ys)
+pub ready_back : (es fs : List Entry) (xs ys : List ControllerState) (n : ℕ) → IsReady es xs ys
+    → IsLater xs (back_after (after_frame es) n ys)
 ready_back es fs xs ys n ready =
     later-pieces n xs (take n ys) (map (after_frame es) (drop n ys)) (later-take n xs ys ready.later)
-    (later-map es (drop n xs) (drop n ys) (each-drop IsFitAlone n xs ready.fit.alone) (each-drop (AcceptsAll es) n xs ready.accepts) (later-drop n xs ys ready.later))
+    (later-map es (drop n xs) (drop n ys) (each-drop IsFitAlone n xs ready.fit.alone)
+    (each-drop (AcceptsAll es) n xs ready.accepts) (later-drop n xs ys ready.later))
 
-again : (es : List Entry) (xs ys zs : List ControllerState) → IsReady es xs ys → IsLater xs zs → IsReady es xs zs
-again es xs ys zs ready later = record { fit = ready.fit; accepts = ready.accepts; entries = ready.entries; later = later }
+again : (es : List Entry) (xs ys zs : List ControllerState) → IsReady es xs ys → IsLater xs zs
+    → IsReady es xs zs
+again es xs ys zs ready later =
+    record { fit = ready.fit; accepts = ready.accepts; entries = ready.entries; later = later }
 
 -- copy B as it starts, with its circulating bits set or not, is answered by nobody
 turned_nobody : (es : List Entry) → AllByRecursion IsEntry es → AnsweredFrame es [] (circulated (sent_of es))
 unfolding IsEntry
 turned_nobody [] entries = tt
-turned_nobody (e ∷ es) entries =
-    (answered_nobody e.request e.sent (record e.sent { circulating = true }) entries.0 refl, turned_nobody es entries.1)
+turned_nobody (e ∷ es) entries = (
+  answered_nobody e.request e.sent (record e.sent { circulating = true }) entries.0 refl,
+  turned_nobody es entries.1,
+)
 
 starts_b : (t : Trip) → AllByRecursion IsEntry t.entries → AnsweredFrame t.entries [] (sent_b t)
 starts_b t entries =
-    elim t.turned as (λ b. AnsweredFrame t.entries [] (cond b (circulated (sent_of t.entries)) (sent_of t.entries))) [
+    elim t.turned as
+    (λ b. AnsweredFrame t.entries [] (cond b (circulated (sent_of t.entries)) (sent_of t.entries))) [
       | true ↦ turned_nobody t.entries entries
       | false ↦ frame_nobody t.entries entries
     ]
@@ -198,48 +235,64 @@ pub record CopiesAnswered (t : Trip) (xs ys : List ControllerState) (p : Passed)
   pub line : p.line ≡ visited t ys
   pub later : IsLater xs p.line
 
-a_first : (t : Trip) (xs ys : List ControllerState) → IsReady t.entries xs ys → t.b_first ≡ false → CopiesAnswered t xs ys (passed_by_a_first t ys)
+a_first : (t : Trip) (xs ys : List ControllerState) → IsReady t.entries xs ys → t.b_first ≡ false
+    → CopiesAnswered t xs ys (passed_by_a_first t ys)
 a_first t xs ys ready order =
     let es = t.entries in
     let leave = after_frame es in
     let a = front_copy es xs ys t.front (sent_of es) ready (frame_nobody es ready.entries) in
     let mid : List ControllerState = (front_pass t.front ys (sent_of es)).line in
-    let mid_later : IsLater xs mid = subst (λ (l : List ControllerState). IsLater xs l) (sym a.1) (ready_front es es xs ys t.front ready) in
+    let mid_later : IsLater xs mid =
+    subst (λ (l : List ControllerState). IsLater xs l) (sym a.1) (ready_front es es xs ys t.front ready) in
     let ready_mid : IsReady es xs mid = again es xs ys mid ready mid_later in
     let b = back_copy es xs mid t.back (sent_b t) ready_mid (starts_b t ready.entries) in
-    let line : (passed_by_a_first t ys).line ≡ back_after leave t.back (front_after leave t.front ys) = b.1 ∙ ap (back_after leave t.back) a.1 in
+    let line : (passed_by_a_first t ys).line ≡ back_after leave t.back (front_after leave t.front ys) =
+    b.1 ∙ ap (back_after leave t.back) a.1 in
     record {
       a = a.0;
       b = b.0;
-      line = line ∙ ap (λ x. cond x (front_after leave t.front (back_after leave t.back ys)) (back_after leave t.back (front_after leave t.front ys))) (sym order);
-      later = subst (λ (l : List ControllerState). IsLater xs l) (sym b.1) (ready_back es es xs mid t.back ready_mid);
+      line = line ∙ ap
+          (λ x. cond x (front_after leave t.front (back_after leave t.back ys))
+          (back_after leave t.back (front_after leave t.front ys))) (sym order);
+      later = subst (λ (l : List ControllerState). IsLater xs l) (sym b.1)
+          (ready_back es es xs mid t.back ready_mid);
     }
 
-b_first_copies : (t : Trip) (xs ys : List ControllerState) → IsReady t.entries xs ys → t.b_first ≡ true → CopiesAnswered t xs ys (passed_by_b_first t ys)
+b_first_copies : (t : Trip) (xs ys : List ControllerState) → IsReady t.entries xs ys → t.b_first ≡ true
+    → CopiesAnswered t xs ys (passed_by_b_first t ys)
 b_first_copies t xs ys ready order =
     let es = t.entries in
     let leave = after_frame es in
     let b = back_copy es xs ys t.back (sent_b t) ready (starts_b t ready.entries) in
     let mid : List ControllerState = (back_pass t.back ys (sent_b t)).line in
-    let mid_later : IsLater xs mid = subst (λ (l : List ControllerState). IsLater xs l) (sym b.1) (ready_back es es xs ys t.back ready) in
+    let mid_later : IsLater xs mid =
+    subst (λ (l : List ControllerState). IsLater xs l) (sym b.1) (ready_back es es xs ys t.back ready) in
     let ready_mid : IsReady es xs mid = again es xs ys mid ready mid_later in
     let a = front_copy es xs mid t.front (sent_of es) ready_mid (frame_nobody es ready.entries) in
-    let line : (passed_by_b_first t ys).line ≡ front_after leave t.front (back_after leave t.back ys) = a.1 ∙ ap (front_after leave t.front) b.1 in
+    let line : (passed_by_b_first t ys).line ≡ front_after leave t.front (back_after leave t.back ys) =
+    a.1 ∙ ap (front_after leave t.front) b.1 in
     record {
       a = a.0;
       b = b.0;
-      line = line ∙ ap (λ x. cond x (front_after leave t.front (back_after leave t.back ys)) (back_after leave t.back (front_after leave t.front ys))) (sym order);
-      later = subst (λ (l : List ControllerState). IsLater xs l) (sym a.1) (ready_front es es xs mid t.front ready_mid);
+      line = line ∙ ap
+          (λ x. cond x (front_after leave t.front (back_after leave t.back ys))
+          (back_after leave t.back (front_after leave t.front ys))) (sym order);
+      later = subst (λ (l : List ControllerState). IsLater xs l) (sym a.1)
+          (ready_front es es xs mid t.front ready_mid);
     }
 
-pub copies : (t : Trip) (xs ys : List ControllerState) → IsReady t.entries xs ys → CopiesAnswered t xs ys (passed t ys)
+pub copies : (t : Trip) (xs ys : List ControllerState) → IsReady t.entries xs ys
+    → CopiesAnswered t xs ys (passed t ys)
 unfolding passed
 copies t xs ys ready =
-    let P : Bool → Type 0 = λ x. t.b_first ≡ x → CopiesAnswered t xs ys (cond x (passed_by_b_first t ys) (passed_by_a_first t ys)) in
-    elim t.b_first as P [ true ↦ λ order. b_first_copies t xs ys ready order | false ↦ λ order. a_first t xs ys ready order ] refl
+    let P : Bool → Type 0 = λ x. t.b_first ≡ x
+    → CopiesAnswered t xs ys (cond x (passed_by_b_first t ys) (passed_by_a_first t ys)) in
+    elim t.b_first as P
+    [ true ↦ λ order. b_first_copies t xs ys ready order | false ↦ λ order. a_first t xs ys ready order ] refl
 
 -- a copy that came back, or the sent frame
-came_or : (es : List Entry) (xs : List ControllerState) (lost : Bool) (ds : List DatagramRecord) → AllByRecursion IsEntry es → AnsweredFrame es xs ds
+came_or : (es : List Entry) (xs : List ControllerState) (lost : Bool) (ds : List DatagramRecord)
+    → AllByRecursion IsEntry es → AnsweredFrame es xs ds
     → AnsweredFrame es (chosen lost xs) (cond lost (sent_of es) ds)
 unfolding chosen
 came_or es xs true ds entries answered = frame_nobody es entries
@@ -247,7 +300,8 @@ came_or es xs false ds entries answered = answered
 
 -- the core: the joined frame is the answer of those that were passed by what came back
 pub core : (t : Trip) (xs ys : List ControllerState) → IsReady t.entries xs ys
-    → AnsweredFrame t.entries (returned t xs) (joined_of t (passed t ys)) × ((passed t ys).line ≡ visited t ys) × IsLater xs (passed t ys).line
+    → AnsweredFrame t.entries (returned t xs) (joined_of t (passed t ys))
+    × ((passed t ys).line ≡ visited t ys) × IsLater xs (passed t ys).line
 unfolding chosen
 core t xs ys ready =
     let es = t.entries in

@@ -1,7 +1,9 @@
--- Controllers that are apart: where both claim a bit they claim one value, what one takes the other does not claim, and
--- one that counts nothing does nothing.
-use Rattle.std.proofs.Common.{◌≡◌, ◌⊎◌, inl, inr, ℕ, zero, suc, ◌+◌, ◌-◌, ◌*◌, ◌/◌, ◌%◌, ◌<◌, ◌≤◌, Bool, true, false, ◌&&◌, ◌||◌, cond, eqb, List, [], ◌∷◌, ◌++◌}
-use Rattle.std.proofs.Common.{length, get_or, take, drop, Option, None, Some, sym, subst, ◌∙◌, ap, refl, arith, ⊎_elim}
+-- Controllers that are apart: where both claim a bit they claim one value, what one takes the other does not
+-- claim, and one that counts nothing does nothing.
+use Rattle.std.proofs.Common.{◌≡◌, ◌⊎◌, inl, inr, ℕ, zero, suc, ◌+◌, ◌-◌, ◌*◌, ◌/◌, ◌%◌, ◌<◌, ◌≤◌, Bool, true}
+use Rattle.std.proofs.Common.{false, ◌&&◌, ◌||◌, cond, eqb, List, [], ◌∷◌, ◌++◌}
+use Rattle.std.proofs.Common.{length, get_or, take, drop, Option, None, Some, sym, subst, ◌∙◌, ap, refl}
+use Rattle.std.proofs.Common.{arith, ⊎_elim}
 use Rattle.std.specs.List.{AllByRecursion}
 use Rattle.std.specs.Option.{option_map}
 use Rattle.std.proofs.lemmas.Bool.{cases_Bool, cases_lt}
@@ -14,7 +16,8 @@ use Rattle.ec_areas.proofs.LogicalLemmas.{both, IsReadable-read_map}
 use Rattle.ec_areas.proofs.MapLemmas.{IsWritable-write_map}
 use Rattle.ec_areas.proofs.MeetLemmas.{reads_registers}
 use Rattle.ec_esc.specs.State.{ControllerState, word_at}
-use Rattle.ec_esc.specs.Pass.{Half, nothing, where_served, effect, serves_read, serves_write, read_sources, write_sources, serves_range_read, serves_range_write}
+use Rattle.ec_esc.specs.Pass.{Half, nothing, where_served, effect, serves_read, serves_write, read_sources}
+use Rattle.ec_esc.specs.Pass.{write_sources, serves_range_read, serves_range_write}
 use Rattle.ec_esc.specs.Pass.{range_sources, range_targets, broadcast_sources, read_mailbox, written_mailbox}
 use Rattle.ec_line.specs.Accepted.{Accepts}
 use Rattle.ec_line.specs.Answers.{Agree, AllAgree}
@@ -36,7 +39,8 @@ claimed_place r c i v e =
     ⊎_elim
     (λ (inside : i < 8 * r.count).
     let places = (effect_of r c).reading.places in
-    let P : Option ℕ → Type 0 = λ o. places i ≡ o → option_map (bit c.memory) o ≡ Some v → (p : ℕ) × (places i ≡ Some p) × (bit c.memory p ≡ v) in
+    let P : Option ℕ → Type 0 = λ o. places i ≡ o → option_map (bit c.memory) o ≡ Some v
+    → (p : ℕ) × (places i ≡ Some p) × (bit c.memory p ≡ v) in
     let found = elim (places i) as P [
       | None ↦ λ _ no. absurd (cc)
       | Some p ↦ λ is some. (p, is, let s = some in cc)
@@ -47,22 +51,27 @@ claimed_place r c i v e =
 
 -- a logical claim is that of a readable pair
 logical_claim : (a n g : ℕ) (c : ControllerState) (i p : ℕ)
-    → (where_served (serves_read c a n) (record { places = read_sources c a; gain = g; mail = None })).places i ≡ Some p → Reads c (8 * a + i) p
+    → (where_served (serves_read c a n) (record { places = read_sources c a; gain = g; mail = None })).places
+    i ≡ Some p → Reads c (8 * a + i) p
 logical_claim a n g c i p e =
     IsReadable-read_map (sync_managers_of c.memory) (fmmus_of c.memory) (8 * a + i) p
     (where_some (serves_read c a n) (record { places = read_sources c a; gain = g; mail = None }) i p e).1
 
 -- and what is taken logically that of a writable pair
 logical_take : (a n g : ℕ) (c : ControllerState) (p i : ℕ)
-    → (where_served (serves_write c a n) (record { places = write_sources c a n; gain = g; mail = None })).places p ≡ Some i → Writes c (8 * a + i) p
+    → (where_served (serves_write c a n)
+    (record { places = write_sources c a n; gain = g; mail = None })).places p ≡ Some i
+    → Writes c (8 * a + i) p
 logical_take a n g c p i e =
     (IsWritable-write_map (sync_managers_of c.memory) (fmmus_of c.memory) (8 * a) (8 * n) p i
-    (where_some (serves_write c a n) (record { places = write_sources c a n; gain = g; mail = None }) p i e).1).1
+    (where_some (serves_write c a n) (record { places = write_sources c a n; gain = g; mail = None }) p i
+    e).1).1
 
 -- an addressed claim is that of the station
 addressed_claim : (a n : ℕ) (c : ControllerState) (i p : ℕ)
     → (where_served (eqb (adp_of a) (word_at c.memory 16) && serves_range_read c (ado_of a) n)
-    (record { places = range_sources (ado_of a); gain = 1; mail = read_mailbox c (ado_of a) n })).places i ≡ Some p
+    (record { places = range_sources (ado_of a); gain = 1; mail = read_mailbox c (ado_of a) n })).places i
+    ≡ Some p
     → adp_of a ≡ word_at c.memory 16
 addressed_claim a n c i p e =
     station_named a c (serves_range_read c (ado_of a) n)
@@ -84,32 +93,39 @@ broadcast_one true b v e =
     (λ (other : eqb b 1 ≡ false). absurd (let no : None ≡ Some v = rw other at e in cc))
     (cases_Bool (eqb b 1))
 
-agree_kind : (k : Kind) (a n : ℕ) (x y : ControllerState) → AreApart x y → Agree (claim (record { kind = k; address = a; count = n })) x y
+agree_kind : (k : Kind) (a n : ℕ) (x y : ControllerState) → AreApart x y
+    → Agree (claim (record { kind = k; address = a; count = n })) x y
 agree_kind Lrd a n x y apart i v w one two =
     let r : Request = record { kind = Lrd; address = a; count = n } in
     let f = claimed_place r x i v one in
     let g = claimed_place r y i w two in
-    absurd (apart.both_read (8 * a + i) f.1 g.1 (logical_claim a n 1 x i f.1 f.2) (logical_claim a n 1 y i g.1 g.2))
+    absurd (apart.both_read (8 * a + i) f.1 g.1 (logical_claim a n 1 x i f.1 f.2)
+    (logical_claim a n 1 y i g.1 g.2))
 agree_kind Lwr a n x y apart i v w one two =
-    absurd (let f = claimed_place (record { kind = Lwr; address = a; count = n }) x i v one in let no : None ≡ Some f.1 = f.2 in cc)
+    absurd (let f = claimed_place (record { kind = Lwr; address = a; count = n }) x i v one in
+    let no : None ≡ Some f.1 = f.2 in cc)
 agree_kind Lrw a n x y apart i v w one two =
     let r : Request = record { kind = Lrw; address = a; count = n } in
     let f = claimed_place r x i v one in
     let g = claimed_place r y i w two in
-    absurd (apart.both_read (8 * a + i) f.1 g.1 (logical_claim a n 1 x i f.1 f.2) (logical_claim a n 1 y i g.1 g.2))
+    absurd (apart.both_read (8 * a + i) f.1 g.1 (logical_claim a n 1 x i f.1 f.2)
+    (logical_claim a n 1 y i g.1 g.2))
 agree_kind Brd a n x y apart i v w one two =
     let r : Request = record { kind = Brd; address = a; count = n } in
     let f = claimed_place r x i v one in
     let from = ado_of a in
-    broadcast_one (serves_range_read x from n) (bit x.memory (8 * from + i)) v (sym (broadcast_claim a n x i f.0) ∙ one)
-    ∙ sym (broadcast_one (serves_range_read y from n) (bit y.memory (8 * from + i)) w (sym (broadcast_claim a n y i f.0) ∙ two))
+    broadcast_one (serves_range_read x from n) (bit x.memory (8 * from + i)) v
+    (sym (broadcast_claim a n x i f.0) ∙ one)
+    ∙ sym (broadcast_one (serves_range_read y from n) (bit y.memory (8 * from + i)) w
+    (sym (broadcast_claim a n y i f.0) ∙ two))
 agree_kind Fprd a n x y apart i v w one two =
     let r : Request = record { kind = Fprd; address = a; count = n } in
     let f = claimed_place r x i v one in
     let g = claimed_place r y i w two in
     absurd (apart.stations (sym (addressed_claim a n x i f.1 f.2) ∙ addressed_claim a n y i g.1 g.2))
 agree_kind Fpwr a n x y apart i v w one two =
-    absurd (let f = claimed_place (record { kind = Fpwr; address = a; count = n }) x i v one in let no : None ≡ Some f.1 = f.2 in cc)
+    absurd (let f = claimed_place (record { kind = Fpwr; address = a; count = n }) x i v one in
+    let no : None ≡ Some f.1 = f.2 in cc)
 
 pub agree : (r : Request) (x y : ControllerState) → AreApart x y → Agree (claim r) x y
 agree r x y apart = agree_kind r.kind r.address r.count x y apart
@@ -124,20 +140,25 @@ agree_back r x y apart i v w one two = sym (agree r x y apart i w v two one)
 -- ---- own
 
 own_kind : (k : Kind) (a n : ℕ) (x y : ControllerState) (p i v : ℕ) → AreApart x y
-    → (effect (command_of k) y a n).writing.places p ≡ Some i → claim (record { kind = k; address = a; count = n }) x i ≡ Some v → ⊥
+    → (effect (command_of k) y a n).writing.places p ≡ Some i
+    → claim (record { kind = k; address = a; count = n }) x i ≡ Some v → ⊥
 own_kind Lrd a n x y p i v apart takes claims = absurd (cc)
 own_kind Lwr a n x y p i v apart takes claims =
-    absurd (let f = claimed_place (record { kind = Lwr; address = a; count = n }) x i v claims in let no : None ≡ Some f.1 = f.2 in cc)
+    absurd (let f = claimed_place (record { kind = Lwr; address = a; count = n }) x i v claims in
+    let no : None ≡ Some f.1 = f.2 in cc)
 own_kind Lrw a n x y p i v apart takes claims =
     let f = claimed_place (record { kind = Lrw; address = a; count = n }) x i v claims in
-    apart.read_and_written (8 * a + i) f.1 p (logical_claim a n 1 x i f.1 f.2) (logical_take a n 2 y p i takes)
+    apart.read_and_written (8 * a + i) f.1 p (logical_claim a n 1 x i f.1 f.2)
+    (logical_take a n 2 y p i takes)
 own_kind Brd a n x y p i v apart takes claims = absurd (cc)
 own_kind Fprd a n x y p i v apart takes claims = absurd (cc)
 own_kind Fpwr a n x y p i v apart takes claims =
-    absurd (let f = claimed_place (record { kind = Fpwr; address = a; count = n }) x i v claims in let no : None ≡ Some f.1 = f.2 in cc)
+    absurd (let f = claimed_place (record { kind = Fpwr; address = a; count = n }) x i v claims in
+    let no : None ≡ Some f.1 = f.2 in cc)
 
 -- what y takes x does not claim
-pub own : (r : Request) (x y : ControllerState) (p i : ℕ) → AreApart x y → taken r y p ≡ Some i → claim r x i ≡ None
+pub own : (r : Request) (x y : ControllerState) (p i : ℕ) → AreApart x y → taken r y p ≡ Some i
+    → claim r x i ≡ None
 unfolding taken
 own r x y p i apart takes =
     let P : Option ℕ → Type 0 = λ o. claim r x i ≡ o → o ≡ None in
@@ -158,79 +179,110 @@ pub record IsSilent (r : Request) (c : ControllerState) : Type 0 where
   pub claims : (i : ℕ) → claim r c i ≡ None
   pub takes : (p : ℕ) → taken r c p ≡ None
 
-silent_by : (r : Request) (c : ControllerState) → (effect_of r c).reading ≡ nothing → (effect_of r c).writing ≡ nothing → IsSilent r c
+silent_by : (r : Request) (c : ControllerState) → (effect_of r c).reading ≡ nothing
+    → (effect_of r c).writing ≡ nothing → IsSilent r c
 unfolding taken
 silent_by r c reading writing = record {
   claims = λ i.
       ⊎_elim
-      (λ (inside : i < 8 * r.count). claim_in r c i inside ∙ ap (λ (h : Half). option_map (bit c.memory) (h.places i)) reading)
+      (λ (inside : i < 8 * r.count). claim_in r c i inside
+      ∙ ap (λ (h : Half). option_map (bit c.memory) (h.places i)) reading)
       (λ (past : 8 * r.count ≤ i). claim_out r c i past)
       (cases_lt i (8 * r.count));
   takes = λ p. ap (λ (h : Half). h.places p) writing;
 }
 
-silent_kind : (k : Kind) (a n : ℕ) (c : ControllerState) → gain (record { kind = k; address = a; count = n }) c ≡ 0
+silent_kind : (k : Kind) (a n : ℕ) (c : ControllerState)
+    → gain (record { kind = k; address = a; count = n }) c ≡ 0
     → IsSilent (record { kind = k; address = a; count = n }) c
 unfolding gain
 silent_kind Lrd a n c none =
     let h : Half = record { places = read_sources c a; gain = 1; mail = None } in
-    silent_by (record { kind = Lrd; address = a; count = n }) c (where_idle (serves_read c a n) h (omega arith) (omega arith)) refl
+    silent_by (record { kind = Lrd; address = a; count = n }) c
+    (where_idle (serves_read c a n) h (omega arith) (omega arith)) refl
 silent_kind Lwr a n c none =
     let h : Half = record { places = write_sources c a n; gain = 1; mail = None } in
-    silent_by (record { kind = Lwr; address = a; count = n }) c refl (where_idle (serves_write c a n) h (omega arith) (omega arith))
+    silent_by (record { kind = Lwr; address = a; count = n }) c refl
+    (where_idle (serves_write c a n) h (omega arith) (omega arith))
 silent_kind Lrw a n c none =
     let h : Half = record { places = read_sources c a; gain = 1; mail = None } in
     let g : Half = record { places = write_sources c a n; gain = 2; mail = None } in
     silent_by (record { kind = Lrw; address = a; count = n }) c
-    (where_idle (serves_read c a n) h (omega arith) (omega arith)) (where_idle (serves_write c a n) g (omega arith) (omega arith))
+    (where_idle (serves_read c a n) h (omega arith) (omega arith))
+    (where_idle (serves_write c a n) g (omega arith) (omega arith))
 silent_kind Brd a n c none =
-    let h : Half = record { places = broadcast_sources c (ado_of a); gain = 1; mail = read_mailbox c (ado_of a) n } in
-    silent_by (record { kind = Brd; address = a; count = n }) c (where_idle (serves_range_read c (ado_of a) n) h (omega arith) (omega arith)) refl
+    let h : Half =
+    record { places = broadcast_sources c (ado_of a); gain = 1; mail = read_mailbox c (ado_of a) n } in
+    silent_by (record { kind = Brd; address = a; count = n }) c
+    (where_idle (serves_range_read c (ado_of a) n) h (omega arith) (omega arith)) refl
 silent_kind Fprd a n c none =
-    let h : Half = record { places = range_sources (ado_of a); gain = 1; mail = read_mailbox c (ado_of a) n } in
+    let h : Half =
+    record { places = range_sources (ado_of a); gain = 1; mail = read_mailbox c (ado_of a) n } in
     silent_by (record { kind = Fprd; address = a; count = n }) c
-    (where_idle (eqb (adp_of a) (word_at c.memory 16) && serves_range_read c (ado_of a) n) h (omega arith) (omega arith)) refl
+    (where_idle (eqb (adp_of a) (word_at c.memory 16) && serves_range_read c (ado_of a) n) h (omega arith)
+    (omega arith)) refl
 silent_kind Fpwr a n c none =
-    let h : Half = record { places = range_targets c (ado_of a) n; gain = 1; mail = written_mailbox c (ado_of a) n } in
+    let h : Half =
+    record { places = range_targets c (ado_of a) n; gain = 1; mail = written_mailbox c (ado_of a) n } in
     silent_by (record { kind = Fpwr; address = a; count = n }) c refl
-    (where_idle (eqb (adp_of a) (word_at c.memory 16) && serves_range_write c (ado_of a) n) h (omega arith) (omega arith))
+    (where_idle (eqb (adp_of a) (word_at c.memory 16) && serves_range_write c (ado_of a) n) h (omega arith)
+    (omega arith))
 
 pub silent : (r : Request) (c : ControllerState) → gain r c ≡ 0 → IsSilent r c
 silent r c none = silent_kind r.kind r.address r.count c none
 
 -- a broadcast read is counted by each
-pub broadcast_gain : (a n : ℕ) (c : ControllerState) → Accepts (record { kind = Brd; address = a; count = n }) c
+pub broadcast_gain : (a n : ℕ) (c : ControllerState)
+    → Accepts (record { kind = Brd; address = a; count = n }) c
     → gain (record { kind = Brd; address = a; count = n }) c ≡ 1
 unfolding gain
 broadcast_gain a n c accepts =
-    let served : serves_range_read c (ado_of a) n ≡ true = reads_registers (sync_managers_of c.memory) (ado_of a) n accepts.some accepts.place in
-    let h : Half = record { places = broadcast_sources c (ado_of a); gain = 1; mail = read_mailbox c (ado_of a) n } in
+    let served : serves_range_read c (ado_of a) n ≡ true =
+    reads_registers (sync_managers_of c.memory) (ado_of a) n accepts.some accepts.place in
+    let h : Half =
+    record { places = broadcast_sources c (ado_of a); gain = 1; mail = read_mailbox c (ado_of a) n } in
     ap (λ b. (where_served b h).gain + 0) served
 
 -- what a half counts at most
-where_bound : (b : Bool) (h : Half) (bound more : ℕ) → h.gain ≤ bound → more ≤ 0 → (where_served b h).gain + more ≤ bound
+where_bound : (b : Bool) (h : Half) (bound more : ℕ) → h.gain ≤ bound → more ≤ 0
+    → (where_served b h).gain + more ≤ bound
 where_bound true h bound more below none = omega arith
 where_bound false h bound more below none = omega arith
 
 -- and by no more than three is counted of anything
-gain_bound_kind : (k : Kind) (a n : ℕ) (c : ControllerState) → gain (record { kind = k; address = a; count = n }) c ≤ 3
+gain_bound_kind : (k : Kind) (a n : ℕ) (c : ControllerState)
+    → gain (record { kind = k; address = a; count = n }) c ≤ 3
 unfolding gain
-gain_bound_kind Lrd a n c = where_bound (serves_read c a n) (record { places = read_sources c a; gain = 1; mail = None }) 3 0 (omega arith) (omega arith)
+gain_bound_kind Lrd a n c =
+    where_bound (serves_read c a n) (record { places = read_sources c a; gain = 1; mail = None }) 3 0
+    (omega arith) (omega arith)
 gain_bound_kind Lwr a n c =
     let h : Half = record { places = write_sources c a n; gain = 1; mail = None } in
     omega (arith, where_bound (serves_write c a n) h 3 0 (omega arith) (omega arith))
 gain_bound_kind Lrw a n c =
     let h : Half = record { places = read_sources c a; gain = 1; mail = None } in
     let g : Half = record { places = write_sources c a n; gain = 2; mail = None } in
-    omega (arith, where_bound (serves_read c a n) h 1 0 (omega arith) (omega arith), where_bound (serves_write c a n) g 2 0 (omega arith) (omega arith))
+    omega (
+      arith,
+      where_bound (serves_read c a n) h 1 0 (omega arith) (omega arith),
+      where_bound (serves_write c a n) g 2 0 (omega arith) (omega arith),
+    )
 gain_bound_kind Brd a n c =
-    where_bound (serves_range_read c (ado_of a) n) (record { places = broadcast_sources c (ado_of a); gain = 1; mail = read_mailbox c (ado_of a) n }) 3 0 (omega arith) (omega arith)
+    where_bound (serves_range_read c (ado_of a) n)
+    (record { places = broadcast_sources c (ado_of a); gain = 1; mail = read_mailbox c (ado_of a) n }) 3 0
+    (omega arith) (omega arith)
 gain_bound_kind Fprd a n c =
     where_bound (eqb (adp_of a) (word_at c.memory 16) && serves_range_read c (ado_of a) n)
-    (record { places = range_sources (ado_of a); gain = 1; mail = read_mailbox c (ado_of a) n }) 3 0 (omega arith) (omega arith)
+    (record { places = range_sources (ado_of a); gain = 1; mail = read_mailbox c (ado_of a) n }) 3 0
+    (omega arith) (omega arith)
 gain_bound_kind Fpwr a n c =
-    let h : Half = record { places = range_targets c (ado_of a) n; gain = 1; mail = written_mailbox c (ado_of a) n } in
-    omega (arith, where_bound (eqb (adp_of a) (word_at c.memory 16) && serves_range_write c (ado_of a) n) h 3 0 (omega arith) (omega arith))
+    let h : Half =
+    record { places = range_targets c (ado_of a) n; gain = 1; mail = written_mailbox c (ado_of a) n } in
+    omega (
+      arith,
+      where_bound (eqb (adp_of a) (word_at c.memory 16) && serves_range_write c (ado_of a) n) h 3 0
+          (omega arith) (omega arith),
+    )
 
 pub gain_bound : (r : Request) (c : ControllerState) → gain r c ≤ 3
 gain_bound r c = gain_bound_kind r.kind r.address r.count c

@@ -1,5 +1,6 @@
 -- Two copies that were answered, joined, are the answer of both sets.
-use Rattle.std.proofs.Common.{◌≡◌, ℕ, ◌+◌, ◌-◌, ◌*◌, ◌/◌, ◌%◌, ◌<◌, ◌≤◌, Bool, true, false, cond, List, [], ◌∷◌, ◌++◌, length, get_or, Option, None, Some}
+use Rattle.std.proofs.Common.{◌≡◌, ℕ, ◌+◌, ◌-◌, ◌*◌, ◌/◌, ◌%◌, ◌<◌, ◌≤◌, Bool, true, false, cond, List, []}
+use Rattle.std.proofs.Common.{◌∷◌, ◌++◌, length, get_or, Option, None, Some}
 use Rattle.std.proofs.Common.{sym, subst, ◌∙◌, ap, refl, arith}
 use Rattle.std.specs.Prelude.{max}
 use Rattle.std.specs.List.{AllByRecursion, sum_by}
@@ -32,7 +33,8 @@ use Rattle.ec_line.proofs.StepLemmas.{moved_none}
 joined_address_by : (x y : Command) (s a b : ℕ) → x ≡ y → joined_address x s a b ≡ joined_address y s a b
 joined_address_by x y s a b e = ap (λ (z : Command). joined_address z s a b) e
 
-joined_moved_kind : (k : Kind) (m n s : ℕ) → joined_address (command_of k) s (moved_address k m s) (moved_address k n s) ≡ moved_address k (m + n) s
+joined_moved_kind : (k : Kind) (m n s : ℕ)
+    → joined_address (command_of k) s (moved_address k m s) (moved_address k n s) ≡ moved_address k (m + n) s
 joined_moved_kind Lrd m n s = refl
 joined_moved_kind Lwr m n s = refl
 joined_moved_kind Lrw m n s = refl
@@ -40,7 +42,8 @@ joined_moved_kind Brd m n s = omega arith
 joined_moved_kind Fprd m n s = refl
 joined_moved_kind Fpwr m n s = refl
 
-same_moved_kind : (k : Kind) (n s wanted : ℕ) → SameAddress k s wanted → SameAddress k (moved_address k n s) wanted
+same_moved_kind : (k : Kind) (n s wanted : ℕ) → SameAddress k s wanted
+    → SameAddress k (moved_address k n s) wanted
 same_moved_kind Lrd n s wanted same = same
 same_moved_kind Lwr n s wanted same = same
 same_moved_kind Lrw n s wanted same = same
@@ -58,20 +61,26 @@ joined_bit s a b i a_size b_size =
 
 -- ---- a datagram
 
-pub answered_joined : (r : Request) (xs ys : List ControllerState) (s a b : DatagramRecord) → OnWay r s → AllAgree (claim r) xs ys
-    → AllAgree (claim r) ys xs → Answered r xs s a → Answered r ys s b → Answered r (xs ++ ys) s (joined_record s a b)
+pub answered_joined : (r : Request) (xs ys : List ControllerState) (s a b : DatagramRecord) → OnWay r s
+    → AllAgree (claim r) xs ys
+    → AllAgree (claim r) ys xs → Answered r xs s a → Answered r ys s b
+    → Answered r (xs ++ ys) s (joined_record s a b)
 answered_joined r xs ys s a b way agree back first second =
     let a_size : length a.payload ≡ length s.payload = first.way.size ∙ sym way.size in
     let b_size : length b.payload ≡ length s.payload = second.way.size ∙ sym way.size in
-    let size : length (joined_bytes s.payload a.payload b.payload) ≡ length s.payload = length-joined s.payload a.payload b.payload a_size b_size in
+    let size : length (joined_bytes s.payload a.payload b.payload) ≡ length s.payload =
+    length-joined s.payload a.payload b.payload a_size b_size in
     let a_count = first.counter in
     let b_count = second.counter in
     let small = way.counter in
-    let sum : sum_by (gain r) (xs ++ ys) ≡ sum_by (gain r) xs + sum_by (gain r) ys = sum_by-append (gain r) xs ys in
-    let address : joined_address s.command s.address a.address b.address ≡ moved_address r.kind (length (xs ++ ys)) s.address =
+    let sum : sum_by (gain r) (xs ++ ys) ≡ sum_by (gain r) xs + sum_by (gain r) ys =
+    sum_by-append (gain r) xs ys in
+    let address : joined_address s.command s.address a.address b.address
+    ≡ moved_address r.kind (length (xs ++ ys)) s.address =
     joined_address_by s.command (command_of r.kind) s.address a.address b.address way.command
     ∙ ap (λ x. joined_address (command_of r.kind) s.address x b.address) first.address
-    ∙ ap (joined_address (command_of r.kind) s.address (moved_address r.kind (length xs) s.address)) second.address
+    ∙ ap (joined_address (command_of r.kind) s.address (moved_address r.kind (length xs) s.address))
+    second.address
     ∙ joined_moved_kind r.kind (length xs) (length ys) s.address
     ∙ ap (λ n. moved_address r.kind n s.address) (sym (length-append xs ys)) in
     record {
@@ -79,12 +88,15 @@ answered_joined r xs ys s a b way agree back first second =
         command = way.command;
         size = size ∙ way.size;
         address = let P : ℕ → Type 0 = λ x. SameAddress r.kind x r.address in
-            subst P (sym address) (same_moved_kind r.kind (length (xs ++ ys)) s.address r.address way.address);
+            subst P (sym address)
+            (same_moved_kind r.kind (length (xs ++ ys)) s.address r.address way.address);
         counter = omega arith;
       };
       index = refl;
-      irq = ap (λ x. joined_bits s.irq x b.irq) first.irq ∙ ap (joined_bits s.irq s.irq) second.irq ∙ joined_bits_unit s.irq s.irq;
-      bits = answers_joined (claim r) xs ys (bit s.payload) (bit a.payload) (bit b.payload) (bit (joined_bytes s.payload a.payload b.payload))
+      irq = ap (λ x. joined_bits s.irq x b.irq) first.irq ∙ ap (joined_bits s.irq s.irq) second.irq
+          ∙ joined_bits_unit s.irq s.irq;
+      bits = answers_joined (claim r) xs ys (bit s.payload) (bit a.payload) (bit b.payload)
+          (bit (joined_bytes s.payload a.payload b.payload))
           agree back (bit-lt s.payload) (bit-lt a.payload) (bit-lt b.payload)
           (λ i. joined_bit s.payload a.payload b.payload i a_size b_size) first.bits second.bits;
       counter = omega arith;
@@ -99,10 +111,13 @@ IsEntry e = OnWay e.request e.sent
 
 -- two sets agree about each entry
 unfoldable pub AgreeAll : List Entry → List ControllerState → List ControllerState → Type 0
-AgreeAll es xs ys = AllByRecursion (λ e. AllAgree (claim e.request) xs ys × AllAgree (claim e.request) ys xs) es
+AgreeAll es xs ys =
+    AllByRecursion (λ e. AllAgree (claim e.request) xs ys × AllAgree (claim e.request) ys xs) es
 
-pub frame_joined : (es : List Entry) (xs ys : List ControllerState) (a b : List DatagramRecord) → AllByRecursion IsEntry es → AgreeAll es xs ys
-    → AnsweredFrame es xs a → AnsweredFrame es ys b → AnsweredFrame es (xs ++ ys) (joined_frame (sent_of es) a b)
+pub frame_joined : (es : List Entry) (xs ys : List ControllerState) (a b : List DatagramRecord)
+    → AllByRecursion IsEntry es → AgreeAll es xs ys
+    → AnsweredFrame es xs a → AnsweredFrame es ys b
+    → AnsweredFrame es (xs ++ ys) (joined_frame (sent_of es) a b)
 unfolding IsEntry AgreeAll
 frame_joined [] xs ys a b entries agrees first second = tt
 frame_joined (e ∷ es) xs ys [] b entries agrees first second = absurd first
@@ -113,7 +128,8 @@ frame_joined (e ∷ es) xs ys (x ∷ a) (y ∷ b) entries agrees first second = 
 )
 
 -- nobody answers a frame with what was sent
-pub answered_nobody : (r : Request) (s d : DatagramRecord) → OnWay r s → d ≡ record s { circulating = d.circulating } → Answered r [] s d
+pub answered_nobody : (r : Request) (s d : DatagramRecord) → OnWay r s
+    → d ≡ record s { circulating = d.circulating } → Answered r [] s d
 answered_nobody r s d way same =
     let small = way.counter in
     let made : DatagramRecord = record s { circulating = d.circulating } in
@@ -130,4 +146,5 @@ answered_nobody r s d way same =
 pub frame_nobody : (es : List Entry) → AllByRecursion IsEntry es → AnsweredFrame es [] (sent_of es)
 unfolding IsEntry
 frame_nobody [] entries = tt
-frame_nobody (e ∷ es) entries = (answered_nobody e.request e.sent e.sent entries.0 refl, frame_nobody es entries.1)
+frame_nobody (e ∷ es) entries =
+    (answered_nobody e.request e.sent e.sent entries.0 refl, frame_nobody es entries.1)

@@ -1,15 +1,18 @@
--- On a fit line what a controller claims, takes and counts of a logical item is that of the sets of its readable and
--- writable pairs; of an addressed item and a broadcast read, that of the range.
-use Rattle.std.proofs.Common.{◌≡◌, ◌⊎◌, inl, inr, ℕ, ◌+◌, ◌-◌, ◌*◌, ◌/◌, ◌%◌, ◌<◌, ◌≤◌, Bool, true, false, ◌&&◌, cond, eqb, List, length, Option, None, Some}
+-- On a fit line what a controller claims, takes and counts of a logical item is that of the sets of its
+-- readable and writable pairs; of an addressed item and a broadcast read, that of the range.
+use Rattle.std.proofs.Common.{◌≡◌, ◌⊎◌, inl, inr, ℕ, ◌+◌, ◌-◌, ◌*◌, ◌/◌, ◌%◌, ◌<◌, ◌≤◌, Bool, true, false}
+use Rattle.std.proofs.Common.{◌&&◌, cond, eqb, List, length, Option, None, Some}
 use Rattle.std.proofs.Common.{sym, subst, ◌∙◌, ap, refl, arith, ⊎_elim}
 use Rattle.std.specs.Option.{option_map, is_some, IsSome}
 use Rattle.std.proofs.lemmas.Bool.{cases_Bool, cases_lt}
 use Rattle.std.proofs.lemmas.Bool.Decides.{nat_tests}
 use Rattle.ec_regs.specs.Bits.{bit}
-use Rattle.ec_areas.specs.Logical.{IsReadable, IsWritable, read_map, write_map, read_places, target_places, target_map, names}
+use Rattle.ec_areas.specs.Logical.{IsReadable, IsWritable, read_map, write_map, read_places, target_places}
+use Rattle.ec_areas.specs.Logical.{target_map, names}
 use Rattle.ec_areas.specs.Records.{fmmus_of, sync_managers_of}
 use Rattle.ec_areas.proofs.LogicalLemmas.{IsReadable-read_map, read_map-IsReadable}
-use Rattle.ec_areas.proofs.MapLemmas.{names_at, names_some, names_none, IsWritable-write_map, write_map-IsWritable, IsWritable-target_map, target_map-IsWritable}
+use Rattle.ec_areas.proofs.MapLemmas.{names_at, names_some, names_none, IsWritable-write_map}
+use Rattle.ec_areas.proofs.MapLemmas.{write_map-IsWritable, IsWritable-target_map, target_map-IsWritable}
 use Rattle.ec_esc.specs.State.{ControllerState}
 use Rattle.ec_esc.specs.Pass.{Half, where_served, serves_read, serves_write, read_sources, write_sources}
 use Rattle.ec_line.specs.Claims.{effect_of, claim, taken, gain}
@@ -37,45 +40,60 @@ pub served_read : (c : ControllerState) (a n : ℕ) → serves_read c a n ≡ tr
 unfolding ReadsIn
 served_read c a n served =
     let found = names_some (read_sources c a) (8 * n) served in
-    let value = some_value (read_sources c a found.0) found.2 in
-    (found.0, value.0, found.1, IsReadable-read_map (sync_managers_of c.memory) (fmmus_of c.memory) (8 * a + found.0) value.0 value.1)
+    let value = some_value (read_sources c a found.0) found.2 in (
+      found.0,
+      value.0,
+      found.1,
+      IsReadable-read_map (sync_managers_of c.memory) (fmmus_of c.memory) (8 * a + found.0) value.0 value.1,
+    )
 
 pub read_served : (c : ControllerState) (a n : ℕ) → ReadsIn c a n → serves_read c a n ≡ true
 unfolding ReadsIn
 read_served c a n found =
-    names_at (read_sources c a) (8 * n) found.0 found.2 (read_map-IsReadable (sync_managers_of c.memory) (fmmus_of c.memory) (8 * a + found.0) found.1 found.3)
+    names_at (read_sources c a) (8 * n) found.0 found.2
+    (read_map-IsReadable (sync_managers_of c.memory) (fmmus_of c.memory) (8 * a + found.0) found.1 found.3)
 
 pub served_write : (c : ControllerState) (a n : ℕ) → serves_write c a n ≡ true → WritesIn c a n
 unfolding WritesIn
 served_write c a n served =
     let places : ℕ → Option ℕ = target_places (sync_managers_of c.memory) (fmmus_of c.memory) (8 * a) in
     let found = names_some places (8 * n) served in
-    let value = some_value (places found.0) found.2 in
-    (found.0, value.0, found.1, IsWritable-target_map (sync_managers_of c.memory) (fmmus_of c.memory) (8 * a + found.0) value.0 value.1)
+    let value = some_value (places found.0) found.2 in (
+      found.0,
+      value.0,
+      found.1,
+      IsWritable-target_map (sync_managers_of c.memory) (fmmus_of c.memory) (8 * a + found.0) value.0 value.1,
+    )
 
 pub write_served : (c : ControllerState) (a n : ℕ) → WritesIn c a n → serves_write c a n ≡ true
 unfolding WritesIn
 write_served c a n found =
     let places : ℕ → Option ℕ = target_places (sync_managers_of c.memory) (fmmus_of c.memory) (8 * a) in
-    names_at places (8 * n) found.0 found.2 (target_map-IsWritable (sync_managers_of c.memory) (fmmus_of c.memory) (8 * a + found.0) found.1 found.3)
+    names_at places (8 * n) found.0 found.2
+    (target_map-IsWritable (sync_managers_of c.memory) (fmmus_of c.memory) (8 * a + found.0) found.1 found.3)
 
 -- ---- claims of logical items
 
 -- the bit of a readable pair
-read_place_of : (c : ControllerState) (l p : ℕ) → IsFitAlone c → Reads c l p → read_map (sync_managers_of c.memory) (fmmus_of c.memory) l ≡ Some p
+read_place_of : (c : ControllerState) (l p : ℕ) → IsFitAlone c → Reads c l p
+    → read_map (sync_managers_of c.memory) (fmmus_of c.memory) l ≡ Some p
 read_place_of c l p fit pair =
     let managers = sync_managers_of c.memory in
     let fmmus = fmmus_of c.memory in
     let value = some_value (read_map managers fmmus l) (read_map-IsReadable managers fmmus l p pair) in
     value.1 ∙ ap Some (fit.read_once l value.0 p (IsReadable-read_map managers fmmus l value.0 value.1) pair)
 
-logical_claim_by : (r : Request) (c : ControllerState) (i p g : ℕ) → IsFitAlone c → i < 8 * r.count → Reads c (8 * r.address + i) p
-    → (effect_of r c).reading ≡ where_served (serves_read c r.address r.count) (record { places = read_sources c r.address; gain = g; mail = None })
+logical_claim_by : (r : Request) (c : ControllerState) (i p g : ℕ) → IsFitAlone c → i < 8 * r.count
+    → Reads c (8 * r.address + i) p
+    → (effect_of r c).reading
+    ≡ where_served (serves_read c r.address r.count)
+    (record { places = read_sources c r.address; gain = g; mail = None })
     → claim r c i ≡ Some (bit c.memory p)
 unfolding ReadsIn
 logical_claim_by r c i p g fit inside pair half_is =
     let half : Half = record { places = read_sources c r.address; gain = g; mail = None } in
-    let served : serves_read c r.address r.count ≡ true = read_served c r.address r.count (i, p, inside, pair) in
+    let served : serves_read c r.address r.count ≡ true =
+    read_served c r.address r.count (i, p, inside, pair) in
     claim_in r c i inside
     ∙ ap (λ (h : Half). option_map (bit c.memory) (h.places i)) half_is
     ∙ ap (λ b. option_map (bit c.memory) ((where_served b half).places i)) served
@@ -83,15 +101,19 @@ logical_claim_by r c i p g fit inside pair half_is =
 
 pub claim_lrd : (a n : ℕ) (c : ControllerState) (i p : ℕ) → IsFitAlone c → i < 8 * n → Reads c (8 * a + i) p
     → claim (record { kind = Lrd; address = a; count = n }) c i ≡ Some (bit c.memory p)
-claim_lrd a n c i p fit inside pair = logical_claim_by (record { kind = Lrd; address = a; count = n }) c i p 1 fit inside pair refl
+claim_lrd a n c i p fit inside pair =
+    logical_claim_by (record { kind = Lrd; address = a; count = n }) c i p 1 fit inside pair refl
 
 pub claim_lrw : (a n : ℕ) (c : ControllerState) (i p : ℕ) → IsFitAlone c → i < 8 * n → Reads c (8 * a + i) p
     → claim (record { kind = Lrw; address = a; count = n }) c i ≡ Some (bit c.memory p)
-claim_lrw a n c i p fit inside pair = logical_claim_by (record { kind = Lrw; address = a; count = n }) c i p 1 fit inside pair refl
+claim_lrw a n c i p fit inside pair =
+    logical_claim_by (record { kind = Lrw; address = a; count = n }) c i p 1 fit inside pair refl
 
 -- and of what no readable pair names there is none
 unclaimed_by : (r : Request) (c : ControllerState) (i g : ℕ)
-    → (effect_of r c).reading ≡ where_served (serves_read c r.address r.count) (record { places = read_sources c r.address; gain = g; mail = None })
+    → (effect_of r c).reading
+    ≡ where_served (serves_read c r.address r.count)
+    (record { places = read_sources c r.address; gain = g; mail = None })
     → ((p : ℕ) → Reads c (8 * r.address + i) p → ⊥) → claim r c i ≡ None
 unclaimed_by r c i g half_is none =
     let half : Half = record { places = read_sources c r.address; gain = g; mail = None } in
@@ -100,15 +122,19 @@ unclaimed_by r c i g half_is none =
       | None ↦ λ _. refl
       | Some v ↦ λ e.
           let f = claimed_place r c i v e in
-          let place : (where_served (serves_read c r.address r.count) half).places i ≡ Some f.1 = ap (λ (h : Half). h.places i) (sym half_is) ∙ f.2 in
-          absurd (none f.1 (IsReadable-read_map (sync_managers_of c.memory) (fmmus_of c.memory) (8 * r.address + i) f.1
+          let place : (where_served (serves_read c r.address r.count) half).places i ≡ Some f.1 =
+          ap (λ (h : Half). h.places i) (sym half_is) ∙ f.2 in
+          absurd (none f.1
+          (IsReadable-read_map (sync_managers_of c.memory) (fmmus_of c.memory) (8 * r.address + i) f.1
           (where_some (serves_read c r.address r.count) half i f.1 place).1))
     ] refl
 
-pub unclaimed_lrd : (a n : ℕ) (c : ControllerState) (i : ℕ) → ((p : ℕ) → Reads c (8 * a + i) p → ⊥) → claim (record { kind = Lrd; address = a; count = n }) c i ≡ None
+pub unclaimed_lrd : (a n : ℕ) (c : ControllerState) (i : ℕ) → ((p : ℕ) → Reads c (8 * a + i) p → ⊥)
+    → claim (record { kind = Lrd; address = a; count = n }) c i ≡ None
 unclaimed_lrd a n c i none = unclaimed_by (record { kind = Lrd; address = a; count = n }) c i 1 refl none
 
-pub unclaimed_lrw : (a n : ℕ) (c : ControllerState) (i : ℕ) → ((p : ℕ) → Reads c (8 * a + i) p → ⊥) → claim (record { kind = Lrw; address = a; count = n }) c i ≡ None
+pub unclaimed_lrw : (a n : ℕ) (c : ControllerState) (i : ℕ) → ((p : ℕ) → Reads c (8 * a + i) p → ⊥)
+    → claim (record { kind = Lrw; address = a; count = n }) c i ≡ None
 unclaimed_lrw a n c i none = unclaimed_by (record { kind = Lrw; address = a; count = n }) c i 1 refl none
 
 -- ---- takes of logical items
@@ -118,7 +144,8 @@ write_place_of : (c : ControllerState) (a n p i : ℕ) → IsFitAlone c → i < 
 write_place_of c a n p i fit inside pair =
     let managers = sync_managers_of c.memory in
     let fmmus = fmmus_of c.memory in
-    let value = some_value (write_map managers fmmus (8 * a) (8 * n) p) (write_map-IsWritable managers fmmus (8 * a) (8 * n) p i inside pair) in
+    let value = some_value (write_map managers fmmus (8 * a) (8 * n) p)
+    (write_map-IsWritable managers fmmus (8 * a) (8 * n) p i inside pair) in
     let found = IsWritable-write_map managers fmmus (8 * a) (8 * n) p value.0 value.1 in
     let same : 8 * a + value.0 ≡ 8 * a + i = fit.written_once (8 * a + value.0) (8 * a + i) p found.1 pair in
     let number : value.0 ≡ i = omega arith in
@@ -129,18 +156,21 @@ pub taken_lwr : (a n : ℕ) (c : ControllerState) (p i : ℕ) → IsFitAlone c �
 unfolding taken WritesIn
 taken_lwr a n c p i fit inside pair =
     let half : Half = record { places = write_sources c a n; gain = 1; mail = None } in
-    ap (λ b. (where_served b half).places p) (write_served c a n (i, p, inside, pair)) ∙ write_place_of c a n p i fit inside pair
+    ap (λ b. (where_served b half).places p) (write_served c a n (i, p, inside, pair))
+    ∙ write_place_of c a n p i fit inside pair
 
 pub taken_lrw : (a n : ℕ) (c : ControllerState) (p i : ℕ) → IsFitAlone c → i < 8 * n → Writes c (8 * a + i) p
     → taken (record { kind = Lrw; address = a; count = n }) c p ≡ Some i
 unfolding taken WritesIn
 taken_lrw a n c p i fit inside pair =
     let half : Half = record { places = write_sources c a n; gain = 2; mail = None } in
-    ap (λ b. (where_served b half).places p) (write_served c a n (i, p, inside, pair)) ∙ write_place_of c a n p i fit inside pair
+    ap (λ b. (where_served b half).places p) (write_served c a n (i, p, inside, pair))
+    ∙ write_place_of c a n p i fit inside pair
 
 -- and what no writable pair in the range names is not taken
 pub untaken_by : (c : ControllerState) (a n p g : ℕ) → ((i : ℕ) → i < 8 * n → Writes c (8 * a + i) p → ⊥)
-    → (where_served (serves_write c a n) (record { places = write_sources c a n; gain = g; mail = None })).places p ≡ None
+    → (where_served (serves_write c a n)
+    (record { places = write_sources c a n; gain = g; mail = None })).places p ≡ None
 untaken_by c a n p g none =
     let half : Half = record { places = write_sources c a n; gain = g; mail = None } in
     let places : ℕ → Option ℕ = (where_served (serves_write c a n) half).places in
@@ -148,7 +178,8 @@ untaken_by c a n p g none =
     elim (places p) as P [
       | None ↦ λ _. refl
       | Some i ↦ λ e.
-          let found = IsWritable-write_map (sync_managers_of c.memory) (fmmus_of c.memory) (8 * a) (8 * n) p i (where_some (serves_write c a n) half p i e).1 in
+          let found = IsWritable-write_map (sync_managers_of c.memory) (fmmus_of c.memory) (8 * a) (8 * n) p i
+          (where_some (serves_write c a n) half p i e).1 in
           absurd (none i found.0 found.1)
     ] refl
 

@@ -37,7 +37,8 @@ IsStationOf r c = adp_of r.address ≡ word_at c.memory STATION_ADDRESS
 abbrev pub AcceptsPlace : Kind → Request → ControllerState → Type 0
 AcceptsPlace Brd r c = LiesInRegisters (ado_of r.address) r.count
 AcceptsPlace Fprd r c =
-    IsStationOf r c → LiesInRegisters (ado_of r.address) r.count ⊎ LiesInArea master_reads c (ado_of r.address) r.count
+    IsStationOf r c → LiesInRegisters (ado_of r.address) r.count
+    ⊎ LiesInArea master_reads c (ado_of r.address) r.count
 AcceptsPlace Fpwr r c = IsStationOf r c → LiesInArea master_writes c (ado_of r.address) r.count
 AcceptsPlace _ r c = Unit {0}
 

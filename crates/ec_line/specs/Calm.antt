@@ -19,4 +19,5 @@ is_calm managers address = nat_lt address PROCESS_MEMORY || is_input managers ad
 -- two states of a controller whose calm bytes are the same
 pub record SameCalm (before after : ControllerState) : Type 0 where
   pub size : length after.memory ≡ length before.memory
-  pub bytes : (a : ℕ) → is_calm (sync_managers_of before.memory) a ≡ true → slice_index after.memory a ≡ slice_index before.memory a
+  pub bytes : (a : ℕ) → is_calm (sync_managers_of before.memory) a ≡ true
+      → slice_index after.memory a ≡ slice_index before.memory a

@@ -14,7 +14,9 @@ effect_of r c = effect (command_of r.kind) c r.address r.count
 -- the value that the controller claims for a data bit: that of the memory bit which the data bit takes, if it
 -- takes one
 unfoldable pub claim : Request → ControllerState → ℕ → Option ℕ
-claim r c i = if nat_lt i (8 * r.count) then option_map (bit c.memory) ((effect_of r c).reading.places i) else None
+claim r c i =
+    if nat_lt i (8 * r.count) then option_map (bit c.memory) ((effect_of r c).reading.places i)
+    else None
 
 -- the data bit that a memory bit takes, if it takes one
 unfoldable pub taken : Request → ControllerState → ℕ → Option ℕ

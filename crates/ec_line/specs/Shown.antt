@@ -19,7 +19,8 @@ writes_byte x address e = touches (taken e.request x) address
 -- does it show that byte anew
 abbrev pub shows_byte : ControllerState → ℕ → Entry → Bool
 shows_byte x address e =
-    is_shown_anew (touches (taken e.request x)) (sync_managers_of x.memory) (sync_managers_of x.memory) address
+    is_shown_anew (touches (taken e.request x))
+    (sync_managers_of x.memory) (sync_managers_of x.memory) address
 
 -- does some entry
 abbrev pub some_shows : ControllerState → ℕ → List Entry → Bool
@@ -30,11 +31,13 @@ some_shows x address (e ∷ es) = shows_byte x address e || some_shows x address
 abbrev pub ShowsLast : ControllerState → ℕ → List Entry → Type 0
 ShowsLast x address [] = Unit {0}
 ShowsLast x address (e ∷ es) =
-    (shows_byte x address e ≡ true → some_shows x address es ≡ false → AllByRecursion (λ f. writes_byte x address f ≡ false) es)
+    (shows_byte x address e ≡ true → some_shows x address es ≡ false
+    → AllByRecursion (λ f. writes_byte x address f ≡ false) es)
     × ShowsLast x address es
 
 -- lines whose members have the same shown byte, where a condition holds of the member as it was at first
-abbrev pub SameShownWhere : (ControllerState → Type 0) → ℕ → List ControllerState → List ControllerState → List ControllerState → Type 0
+abbrev pub SameShownWhere : (ControllerState → Type 0) → ℕ → List ControllerState → List ControllerState
+    → List ControllerState → Type 0
 SameShownWhere C k [] [] [] = Unit {0}
 SameShownWhere C k (x ∷ xs) (y ∷ ys) (z ∷ zs) =
     (C x → slice_index y.shown k ≡ slice_index z.shown k) × SameShownWhere C k xs ys zs

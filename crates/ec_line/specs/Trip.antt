@@ -25,11 +25,13 @@ line_pass (x ∷ xs) frame =
 -- the first n controllers of a line are passed, and those from number n on
 abbrev pub front_pass : ℕ → List ControllerState → List DatagramRecord → PassedLine
 front_pass n line frame =
-    let passed = line_pass (take n line) frame in record { frame = passed.frame; line = passed.line ++ drop n line }
+    let passed = line_pass (take n line) frame in
+    record { frame = passed.frame; line = passed.line ++ drop n line }
 
 abbrev pub back_pass : ℕ → List ControllerState → List DatagramRecord → PassedLine
 back_pass n line frame =
-    let passed = line_pass (drop n line) frame in record { frame = passed.frame; line = take n line ++ passed.line }
+    let passed = line_pass (drop n line) frame in
+    record { frame = passed.frame; line = take n line ++ passed.line }
 
 -- the frame with the circulating bit of each datagram set, as a turn at a closed port leaves it
 abbrev pub circulated : List DatagramRecord → List DatagramRecord

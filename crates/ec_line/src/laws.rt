@@ -128,8 +128,8 @@ pub fn twice_is_once()
         → (after_frame es (after_frame es c)).memory ≡ (after_frame es c).memory }
 {}
 
-/// What a logical read or exchange claims of a controller that is fit alone is said by the set of its readable
-/// pairs: the bit that a pair names, and nothing where no pair names the data bit.
+/// What a logical read or exchange claims of a controller that is fit alone is said by the set of its
+/// readable pairs: the bit that a pair names, and nothing where no pair names the data bit.
 pub fn claims_by_pairs()
     ensures lrd { (a n : ℕ) (c : ControllerState) (i p : ℕ) → IsFitAlone c → i < 8 * n → Reads c (8 * a + i) p
         → claim (record { kind = Lrd; address = a; count = n }) c i ≡ Some (bit c.memory p) }
@@ -185,8 +185,8 @@ pub fn one_copy()
         → (line_pass line (sent_of es)).line ≡ map (after_frame es) line }
 {}
 
-/// A copy that went over a line is no stranger: it has the datagrams of the sent frame, each with the command,
-/// the index, the data length and the fixed address that were sent, whatever the controllers are.
+/// A copy that went over a line is no stranger: it has the datagrams of the sent frame, each with the
+/// command, the index, the data length and the fixed address that were sent, whatever the controllers are.
 pub fn own_copies()
     ensures a { (t : Trip) (line : List ControllerState)
         → AllByRecursion (λ e. OnWay e.request e.sent) t.entries

@@ -1,7 +1,10 @@
 -- What the checker's answers give the promises about cycles.
-use Rattle.std.proofs.Common.{◌≡◌, ◌⊎◌, ⊎_elim, inl, inr, ℕ, zero, suc, ◌+◌, ◌*◌, ◌/◌, ◌<◌, ◌≤◌, ◌^◌, Bool, true, false, cond, ◌&&◌, ◌||◌, eqb, leb, ltb, None, Some, List, [], ◌∷◌, length, get_or, refl, sym, ap, ◌∙◌, arith}
+use Rattle.std.proofs.Common.{◌≡◌, ◌⊎◌, ⊎_elim, inl, inr, ℕ, zero, suc, ◌+◌, ◌*◌, ◌/◌, ◌<◌, ◌≤◌, ◌^◌, Bool}
+use Rattle.std.proofs.Common.{true, false, cond, ◌&&◌, ◌||◌, eqb, leb, ltb, None, Some, List, [], ◌∷◌, length}
+use Rattle.std.proofs.Common.{get_or, refl, sym, ap, ◌∙◌, arith}
 use Rattle.std.specs.List.{AllByRecursion, Any, list_any}
-use Rattle.std.proofs.lemmas.Bool.{and_from, and_parts, or_cases, or_left, or_right, or_parts, leb-true, le-leb, lt-ltb, eqb-false}
+use Rattle.std.proofs.lemmas.Bool.{and_from, and_parts, or_cases, or_left, or_right, or_parts, leb-true}
+use Rattle.std.proofs.lemmas.Bool.{le-leb, lt-ltb, eqb-false}
 use Rattle.ec_regs.specs.SyncMan.{is_active, is_buffered, master_reads, master_writes}
 use Rattle.ec_regs.specs.declared.sync_man.SyncMan.{SyncMan}
 use Rattle.ec_regs.specs.declared.registers.TheConstants.{PROCESS_MEMORY, STATION_ADDRESS}
@@ -9,7 +12,8 @@ use Rattle.ec_wire.specs.Datagram.{adp_of, ado_of}
 use Rattle.ec_areas.specs.Areas.{guards}
 use Rattle.ec_areas.specs.Records.{sync_managers_of}
 use Rattle.ec_esc.specs.State.{ControllerState, IsController, word_at}
-use Rattle.ec_esc.specs.Pass.{Half, where_served, read_sources, write_sources, range_sources, range_targets, read_mailbox, written_mailbox, serves_range_read, serves_range_write}
+use Rattle.ec_esc.specs.Pass.{Half, where_served, read_sources, write_sources, range_sources, range_targets}
+use Rattle.ec_esc.specs.Pass.{read_mailbox, written_mailbox, serves_range_read, serves_range_write}
 use Rattle.ec_line.specs.Accepted.{Accepts, AcceptsPlace, IsWithinArea, LiesInArea, LiesInRegisters}
 use Rattle.ec_line.specs.Claims.{gain}
 use Rattle.ec_line.proofs.FitLemmas.{broadcast_gain}
@@ -211,7 +215,8 @@ gain_by Fpwr a n p xs c item =
     omega (
       arith,
       gain_half
-          (eqb (adp_of a) (word_at c.memory STATION_ADDRESS) && serves_range_write c (ado_of a) (length xs)) h,
+          (eqb (adp_of a) (word_at c.memory STATION_ADDRESS) && serves_range_write c (ado_of a) (length xs))
+          h,
     )
 
 pub gain-share : (r : ItemRecord) (c : ControllerState) → IsItem r → gain (request_of r) c ≡ share r c

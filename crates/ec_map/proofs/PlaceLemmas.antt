@@ -6,7 +6,8 @@ use Rattle.ec_check.specs.declared.fault.MapFault.TheVariants.{TwinStation}
 use Rattle.ec_check.specs.Fit.{IsFit}
 use Rattle.ec_check.specs.Line.{controller_of, station_of}
 use Rattle.ec_map.specs.Item.{ItemRecord}
-use Rattle.ec_map.specs.Place.{station_named, ado_named, may_read, may_write, IsFirstOfStation, HasNoStation, IsPlaced}
+use Rattle.ec_map.specs.Place.{station_named, ado_named, may_read, may_write, IsFirstOfStation, HasNoStation}
+use Rattle.ec_map.specs.Place.{IsPlaced}
 use Rattle.ec_line.specs.declared.kind.Kind.TheVariants.{Fprd, Fpwr}
 use Rattle.ec_map.specs.declared.place.PlaceFault.TheVariants.{OutsideRead, OutsideWrite}
 

@@ -1,13 +1,15 @@
 -- What FMMUs reach of a range of logical bits: their runs, the sets of pairs, and the bits that a
 -- controller's maps name.
-use Rattle.std.proofs.Common.{◌≡◌, ⊎_elim, ℕ, zero, suc, ◌+◌, ◌*◌, ◌-◌, ◌/◌, ◌<◌, ◌≤◌, true, false, min, max, List, [], ◌∷◌, length, get_or, Option, None, Some, refl, sym, ap, ◌∙◌, arith}
+use Rattle.std.proofs.Common.{◌≡◌, ⊎_elim, ℕ, zero, suc, ◌+◌, ◌*◌, ◌-◌, ◌/◌, ◌<◌, ◌≤◌, true, false, min, max}
+use Rattle.std.proofs.Common.{List, [], ◌∷◌, length, get_or, Option, None, Some, refl, sym, ap, ◌∙◌, arith}
 use Rattle.std.specs.Option.{IsSome, is_some}
 use Rattle.std.proofs.lemmas.Bool.{or_cases, or_left, or_right, cases_Bool, cases_lt}
 use Rattle.ec_regs.specs.Bits.{later}
 use Rattle.ec_regs.specs.Pairs.{first_logical, first_physical, pair_count}
 use Rattle.ec_regs.specs.declared.fmmu.Fmmu.{Fmmu}
 use Rattle.ec_regs.specs.declared.sync_man.SyncMan.{SyncMan}
-use Rattle.ec_areas.specs.Logical.{IsWritable, IsWritablePair, read_map, write_target, target_map, read_places, target_places, names}
+use Rattle.ec_areas.specs.Logical.{IsWritable, IsWritablePair, read_map, write_target, target_map}
+use Rattle.ec_areas.specs.Logical.{read_places, target_places, names}
 use Rattle.ec_areas.specs.Records.{fmmu_at, fmmus_of, sync_managers_of}
 use Rattle.ec_areas.proofs.LogicalLemmas.{IsReadable-read_map, read_map-IsReadable}
 use Rattle.ec_areas.proofs.WriteLemmas.{IsWritablePair-write_target, write_target-IsWritablePair}

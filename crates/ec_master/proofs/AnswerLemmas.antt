@@ -1,5 +1,6 @@
 -- The answers of trips, item after item, are those of the unordered cycle on the slaves as they then are.
-use Rattle.std.proofs.Common.{◌≡◌, ℕ, suc, ◌+◌, ◌*◌, ◌%◌, ◌<◌, Bool, true, false, cond, Option, None, Some, List, [], ◌∷◌, ◌++◌, length, map}
+use Rattle.std.proofs.Common.{◌≡◌, ℕ, suc, ◌+◌, ◌*◌, ◌%◌, ◌<◌, Bool, true, false, cond, Option, None, Some}
+use Rattle.std.proofs.Common.{List, [], ◌∷◌, ◌++◌, length, map}
 use Rattle.std.proofs.Common.{sym, subst, ◌∙◌, ap, refl, arith}
 use Rattle.std.specs.List.{AllByRecursion, sum_by}
 use Rattle.std.proofs.lemmas.List.Sums.{sum_by-cons}
@@ -20,7 +21,8 @@ use Rattle.ec_line.specs.Trip.{Trip}
 use Rattle.ec_line.specs.declared.kind.Kind.{Kind}
 use Rattle.ec_line.specs.declared.kind.Kind.TheVariants.{Lrd, Lwr, Lrw, Brd, Fprd, Fpwr}
 use Rattle.ec_line.proofs.AnswersLemmas.{each-map, meets_value}
-use Rattle.ec_line.proofs.CalmLemmas.{after_calm, after_controller, accepts_lasts, claim_lasts, gain_lasts, same_calm_trans}
+use Rattle.ec_line.proofs.CalmLemmas.{after_calm, after_controller, accepts_lasts, claim_lasts, gain_lasts}
+use Rattle.ec_line.proofs.CalmLemmas.{same_calm_trans}
 use Rattle.ec_line.proofs.CoreLemmas.{later-refl}
 use Rattle.ec_line.proofs.FrameLemmas.{IsLater}
 use Rattle.ec_check.specs.Line.{controllers}
@@ -31,13 +33,15 @@ use Rattle.ec_ring.proofs.RingLemmas.{length-controllers}
 use Rattle.ec_master.specs.Cut.{concat, entries_from}
 use Rattle.ec_master.specs.Unordered.{ByStation, station, by_station, slave_after, IsAnswer, AreAnswers}
 use Rattle.ec_master.specs.Work.{with_answer, with_answers}
-use Rattle.ec_master.proofs.StationLemmas.{StationsApart, each-controller, each-slave, station_below, by_station_each, each_by_station, sum_of_stations-sum_by}
+use Rattle.ec_master.proofs.StationLemmas.{StationsApart, each-controller, each-slave, station_below}
+use Rattle.ec_master.proofs.StationLemmas.{by_station_each, each_by_station, sum_of_stations-sum_by}
 use Rattle.ec_master.proofs.StationLemmas.{sum_of_ones, slaves_after-map, stations_apart, later_controllers}
 
 -- ---- controllers as they are now
 
 -- what is met at first is met now
-meets_later : (r : Request) (i g : ℕ) (xs ys : List ControllerState) → AllByRecursion IsFitAlone xs → AllByRecursion (Accepts r) xs → IsLater xs ys
+meets_later : (r : Request) (i g : ℕ) (xs ys : List ControllerState) → AllByRecursion IsFitAlone xs
+    → AllByRecursion (Accepts r) xs → IsLater xs ys
     → AllByRecursion (λ x. Meets g (claim r x i)) xs → AllByRecursion (λ y. Meets g (claim r y i)) ys
 meets_later r i g [] [] fit accept later all = tt
 meets_later r i g [] (y ∷ ys) fit accept later all = absurd later
@@ -48,7 +52,8 @@ meets_later r i g (x ∷ xs) (y ∷ ys) fit accept later all = (
 )
 
 -- what nobody claims now nobody claimed at first
-silent_later : (r : Request) (i : ℕ) (xs ys : List ControllerState) → AllByRecursion IsFitAlone xs → AllByRecursion (Accepts r) xs → IsLater xs ys
+silent_later : (r : Request) (i : ℕ) (xs ys : List ControllerState) → AllByRecursion IsFitAlone xs
+    → AllByRecursion (Accepts r) xs → IsLater xs ys
     → AllByRecursion (λ y. claim r y i ≡ None) ys → AllByRecursion (λ x. claim r x i ≡ None) xs
 silent_later r i [] [] fit accept later all = tt
 silent_later r i [] (y ∷ ys) fit accept later all = absurd later
@@ -59,7 +64,8 @@ silent_later r i (x ∷ xs) (y ∷ ys) fit accept later all = (
 )
 
 -- they gain what they gained
-gains_later : (r : Request) (xs ys : List ControllerState) → AllByRecursion IsFitAlone xs → IsLater xs ys → sum_by (gain r) ys ≡ sum_by (gain r) xs
+gains_later : (r : Request) (xs ys : List ControllerState) → AllByRecursion IsFitAlone xs → IsLater xs ys
+    → sum_by (gain r) ys ≡ sum_by (gain r) xs
 gains_later r [] [] fit later = refl
 gains_later r [] (y ∷ ys) fit later = absurd later
 gains_later r (x ∷ xs) [] fit later = absurd later
@@ -77,7 +83,8 @@ length_later (x ∷ xs) [] later = absurd later
 length_later (x ∷ xs) (y ∷ ys) later = ap suc (length_later xs ys later.1)
 
 -- so what the controllers made of a datagram as they were at first is what they make of it now
-pub answered_later : (r : Request) (xs ys : List ControllerState) (d e : DatagramRecord) → AllByRecursion IsFitAlone xs → AllByRecursion (Accepts r) xs
+pub answered_later : (r : Request) (xs ys : List ControllerState) (d e : DatagramRecord)
+    → AllByRecursion IsFitAlone xs → AllByRecursion (Accepts r) xs
     → IsLater xs ys → Answered r xs d e → Answered r ys d e
 answered_later r xs ys d e fit accept later answer = record {
   way = answer.way;
@@ -94,7 +101,8 @@ answered_later r xs ys d e fit accept later answer = record {
 -- ---- one item
 
 -- the slaves' shares are what their controllers gain
-shares : (r : ItemRecord) (ss : List SlaveState) → IsItem r → sum_by (gain (request_of r)) (controllers ss) ≡ sum_by (λ s. share r s.controller) ss
+shares : (r : ItemRecord) (ss : List SlaveState) → IsItem r → sum_by (gain (request_of r)) (controllers ss)
+    ≡ sum_by (λ s. share r s.controller) ss
 shares r [] item = refl
 shares r (s ∷ ss) item =
     sum_by-cons (gain (request_of r)) s.controller (controllers ss)
@@ -104,7 +112,8 @@ shares r (s ∷ ss) item =
 
 -- the ADP of a broadcast read, and of every other item the one that it had
 adp_moved : (k : Kind) (address adp n : ℕ) → adp < 65536
-    → cond (is_broadcast k) (adp_of (moved_address k n (cond (is_broadcast k) (adp + 65536 * address) address))) adp
+    → cond (is_broadcast k)
+    (adp_of (moved_address k n (cond (is_broadcast k) (adp + 65536 * address) address))) adp
     ≡ cond (is_broadcast k) ((adp + n) % 65536) adp
 adp_moved Lrd address adp n below = refl
 adp_moved Lwr address adp n below = refl
@@ -114,23 +123,37 @@ adp_moved Fprd address adp n below = refl
 adp_moved Fpwr address adp n below = refl
 
 -- an item with an ADP, field by field
-with_adp_is : (r : ItemRecord) (adp : ℕ) → with_adp r adp ≡ record r { adp = cond (is_broadcast r.kind) adp r.adp }
+with_adp_is : (r : ItemRecord) (adp : ℕ)
+    → with_adp r adp ≡ record r { adp = cond (is_broadcast r.kind) adp r.adp }
 with_adp_is r adp =
     let P : Bool → Type 0 = λ b. cond b (record r { adp = adp }) r ≡ record r { adp = cond b adp r.adp } in
     elim (is_broadcast r.kind) as P [ true ↦ refl | false ↦ refl ]
 
 -- what slaves, as their stations tell, answer to an item is what their controllers made of its datagram
-pub answer_by_station : (r : ItemRecord) (k : ℕ) (ss : List SlaveState) (g : DatagramRecord) → IsItem r → StationsApart ss
-    → AllByRecursion (λ s. IsController s.controller) ss → Answered (request_of r) (controllers ss) (datagram_of r k) g
+pub answer_by_station : (r : ItemRecord) (k : ℕ) (ss : List SlaveState) (g : DatagramRecord) → IsItem r
+    → StationsApart ss
+    → AllByRecursion (λ s. IsController s.controller) ss
+    → Answered (request_of r) (controllers ss) (datagram_of r k) g
     → IsAnswer (by_station ss) r (with_answer r g)
 answer_by_station r k ss g item apart are answer =
     let q = request_of r in
     let below : AllByRecursion (λ s. station s < 65536) ss =
-    each-map (λ (s : SlaveState). IsController s.controller) (λ s. station s < 65536) ss (λ s is. station_below s is) are in
+    each-map (λ (s : SlaveState). IsController s.controller) (λ s. station s < 65536) ss
+    (λ s is. station_below s is) are in
     let found : AllByRecursion (λ s. by_station ss (station s) ≡ Some s) ss = each_by_station ss apart in
-    let is : with_answer r g ≡ record r { payload = g.payload; counter = g.counter; adp = cond (is_broadcast r.kind) (adp_of g.address) r.adp } =
+    let is : with_answer r g
+    ≡ record r {
+      payload = g.payload;
+      counter = g.counter;
+      adp = cond (is_broadcast r.kind) (adp_of g.address) r.adp;
+    } =
     with_adp_is (record r { payload = g.payload; counter = g.counter }) (adp_of g.address) in
-    let fields : IsAnswer (by_station ss) r (record r { payload = g.payload; counter = g.counter; adp = cond (is_broadcast r.kind) (adp_of g.address) r.adp }) =
+    let fields : IsAnswer (by_station ss) r
+    (record r {
+      payload = g.payload;
+      counter = g.counter;
+      adp = cond (is_broadcast r.kind) (adp_of g.address) r.adp;
+    }) =
     record {
       kind = refl;
       address = refl;
@@ -139,7 +162,8 @@ answer_by_station r k ss g item apart are answer =
           let meets : AllByRecursion (λ s. Meets (bit g.payload i) (claim q s.controller i)) ss =
           each-controller (λ x. Meets (bit g.payload i) (claim q x i)) ss (answer.bits.claimed i) in
           meets_value (bit g.payload i) value (claim q claims.slave.controller i) claims.claims
-          (by_station_each (λ s. Meets (bit g.payload i) (claim q s.controller i)) ss claims.station claims.slave claims.there meets).0;
+          (by_station_each (λ s. Meets (bit g.payload i) (claim q s.controller i)) ss claims.station
+          claims.slave claims.there meets).0;
       rest = λ i none.
           answer.bits.rest i
           (each-slave (λ x. claim q x i ≡ None) ss
@@ -148,7 +172,8 @@ answer_by_station r k ss g item apart are answer =
           let P : Option ℕ → Type 0 = λ o. claim q s.controller i ≡ o → o ≡ None in
           elim (claim q s.controller i) as P [
             | None ↦ λ _. refl
-            | Some v ↦ λ some. absurd (none v (record { station = station s; slave = s; there = there; claims = some }))
+            | Some v ↦ λ some.
+                absurd (none v (record { station = station s; slave = s; there = there; claims = some }))
           ] refl)
           found));
       counter =
@@ -168,17 +193,22 @@ answer_by_station r k ss g item apart are answer =
 -- ---- item after item
 
 -- each slave accepts now what its controller accepted at first
-accepts_now : (q : Request) (xs : List ControllerState) (ss : List SlaveState) → AllByRecursion IsFitAlone xs → AllByRecursion (Accepts q) xs
+accepts_now : (q : Request) (xs : List ControllerState) (ss : List SlaveState) → AllByRecursion IsFitAlone xs
+    → AllByRecursion (Accepts q) xs
     → IsLater xs (controllers ss) → AllByRecursion (λ s. Accepts q s.controller) ss
 accepts_now q [] [] fit accept later = tt
 accepts_now q [] (s ∷ ss) fit accept later = absurd later
 accepts_now q (x ∷ xs) [] fit accept later = absurd later
-accepts_now q (x ∷ xs) (s ∷ ss) fit accept later =
-    (accepts_lasts q x s.controller fit.0.controller later.0.0 accept.0, accepts_now q xs ss fit.1 accept.1 later.1)
+accepts_now q (x ∷ xs) (s ∷ ss) fit accept later = (
+  accepts_lasts q x s.controller fit.0.controller later.0.0 accept.0,
+  accepts_now q xs ss fit.1 accept.1 later.1,
+)
 
 -- after an item the line is still a later one
-later_after : (r : ItemRecord) (xs : List ControllerState) (ss : List SlaveState) → AllByRecursion IsFitAlone xs
-    → AllByRecursion (λ s. Accepts (request_of r) s.controller) ss → IsLater xs (controllers ss) → IsLater xs (controllers (map (slave_after r) ss))
+later_after : (r : ItemRecord) (xs : List ControllerState) (ss : List SlaveState)
+    → AllByRecursion IsFitAlone xs
+    → AllByRecursion (λ s. Accepts (request_of r) s.controller) ss → IsLater xs (controllers ss)
+    → IsLater xs (controllers (map (slave_after r) ss))
 later_after r [] [] fit accept later = tt
 later_after r [] (s ∷ ss) fit accept later = absurd later
 later_after r (x ∷ xs) [] fit accept later = absurd later
@@ -189,11 +219,14 @@ later_after r (x ∷ xs) (s ∷ ss) fit accept later =
     let same : SameCalm x next = same_calm_trans x s.controller next fit.0.controller later.0.0 calm in
     ((same, after_controller q r.payload s.controller later.0.1), later_after r xs ss fit.1 accept.1 later.1)
 
--- what controllers as they were at first made of the items' datagrams is what the slaves that the items before
--- left answer
-answers_later : (xs : List ControllerState) (ss : List SlaveState) (items : List ItemRecord) (k : ℕ) (gots : List DatagramRecord)
-    → AllByRecursion IsFitAlone xs → AllApart xs → AllByRecursion (AcceptsAll (entries_from k items)) xs → AllByRecursion IsItem items
-    → IsLater xs (controllers ss) → AnsweredFrame (entries_from k items) xs gots → AreAnswers (by_station ss) items (with_answers items gots)
+-- what controllers as they were at first made of the items' datagrams is what the slaves that the items
+-- before left answer
+answers_later : (xs : List ControllerState) (ss : List SlaveState) (items : List ItemRecord) (k : ℕ)
+    (gots : List DatagramRecord)
+    → AllByRecursion IsFitAlone xs → AllApart xs → AllByRecursion (AcceptsAll (entries_from k items)) xs
+    → AllByRecursion IsItem items
+    → IsLater xs (controllers ss) → AnsweredFrame (entries_from k items) xs gots
+    → AreAnswers (by_station ss) items (with_answers items gots)
 unfolding entries_from
 answers_later xs ss [] k [] fit apart accept items_are later answered = tt
 answers_later xs ss [] k (g ∷ gs) fit apart accept items_are later answered = absurd answered
@@ -203,26 +236,33 @@ answers_later xs ss (r ∷ rs) k (g ∷ gs) fit apart accept items_are later ans
     let es : List Entry = entries_from (suc k) rs in
     let accept_first : AllByRecursion (Accepts q) xs =
     each-map (AcceptsAll (entries_from k (r ∷ rs))) (Accepts q) xs (λ x all. all.0) accept in
-    let accept_rest : AllByRecursion (AcceptsAll es) xs = each-map (AcceptsAll (entries_from k (r ∷ rs))) (AcceptsAll es) xs (λ x all. all.1) accept in
+    let accept_rest : AllByRecursion (AcceptsAll es) xs =
+    each-map (AcceptsAll (entries_from k (r ∷ rs))) (AcceptsAll es) xs (λ x all. all.1) accept in
     let are = later_controllers xs ss later in
     let accept_now = accepts_now q xs ss fit accept_first later in
     let first = answered_later q xs (controllers ss) (datagram_of r k) g fit accept_first later answered.0 in
-    let rest = answers_later xs (map (slave_after r) ss) rs (suc k) gs fit apart accept_rest items_are.1 (later_after r xs ss fit accept_now later) answered.1 in (
+    let rest = answers_later xs (map (slave_after r) ss) rs (suc k) gs fit apart accept_rest items_are.1
+    (later_after r xs ss fit accept_now later) answered.1 in (
       answer_by_station r k ss g items_are.0 (stations_apart xs ss fit apart later) are first,
-      subst (λ (slaves : ByStation). AreAnswers slaves rs (with_answers rs gs)) (sym (slaves_after-map r ss are accept_now)) rest,
+      subst (λ (slaves : ByStation). AreAnswers slaves rs (with_answers rs gs))
+          (sym (slaves_after-map r ss are accept_now)) rest,
     )
 
 -- what the controllers of a fit line made of the datagrams of items are the answers of the unordered cycle
-pub answers_over : (ss : List SlaveState) (items : List ItemRecord) (k : ℕ) (gots : List DatagramRecord) → IsFitLine (controllers ss)
+pub answers_over : (ss : List SlaveState) (items : List ItemRecord) (k : ℕ) (gots : List DatagramRecord)
+    → IsFitLine (controllers ss)
     → AllByRecursion (AcceptsAll (entries_from k items)) (controllers ss) → AllByRecursion IsItem items
-    → AnsweredFrame (entries_from k items) (controllers ss) gots → AreAnswers (by_station ss) items (with_answers items gots)
+    → AnsweredFrame (entries_from k items) (controllers ss) gots
+    → AreAnswers (by_station ss) items (with_answers items gots)
 answers_over ss items k gots fit accept are answered =
-    answers_later (controllers ss) ss items k gots fit.alone fit.apart accept are (later-refl (controllers ss) fit.alone) answered
+    answers_later (controllers ss) ss items k gots fit.alone fit.apart accept are
+    (later-refl (controllers ss) fit.alone) answered
 
 -- ---- frame after frame
 
 -- two frames' answers are those of both
-answered-append : (es fs : List Entry) (xs : List ControllerState) (gs hs : List DatagramRecord) → AnsweredFrame es xs gs → AnsweredFrame fs xs hs
+answered-append : (es fs : List Entry) (xs : List ControllerState) (gs hs : List DatagramRecord)
+    → AnsweredFrame es xs gs → AnsweredFrame fs xs hs
     → AnsweredFrame (es ++ fs) xs (gs ++ hs)
 answered-append [] fs xs [] hs front back = back
 answered-append [] fs xs (g ∷ gs) hs front back = absurd front
@@ -234,16 +274,19 @@ abbrev pub entries_of : List Trip → List (List Entry)
 entries_of ts = map (λ (t : Trip). t.entries) ts
 
 -- the frames' answers, one after the other, are those of all entries
-pub answered-concat : (ts : List Trip) (xs : List ControllerState) (joined : List (List DatagramRecord)) → AnsweredTrips ts (λ t. xs) joined
+pub answered-concat : (ts : List Trip) (xs : List ControllerState) (joined : List (List DatagramRecord))
+    → AnsweredTrips ts (λ t. xs) joined
     → AnsweredFrame (concat (entries_of ts)) xs (concat joined)
 answered-concat [] xs [] answered = tt
 answered-concat [] xs (g ∷ gs) answered = absurd answered
 answered-concat (t ∷ ts) xs [] answered = absurd answered
 answered-concat (t ∷ ts) xs (g ∷ gs) answered =
-    answered-append t.entries (concat (entries_of ts)) xs g (concat gs) answered.0 (answered-concat ts xs gs answered.1)
+    answered-append t.entries (concat (entries_of ts)) xs g (concat gs) answered.0
+    (answered-concat ts xs gs answered.1)
 
 -- trips that were answered by the same controllers
-pub answered-same : (ts : List Trip) (who : Trip → List ControllerState) (xs : List ControllerState) (joined : List (List DatagramRecord))
+pub answered-same : (ts : List Trip) (who : Trip → List ControllerState) (xs : List ControllerState)
+    (joined : List (List DatagramRecord))
     → AllByRecursion (λ t. who t ≡ xs) ts → AnsweredTrips ts who joined → AnsweredTrips ts (λ t. xs) joined
 answered-same [] who xs [] same answered = tt
 answered-same [] who xs (g ∷ gs) same answered = absurd answered
@@ -254,9 +297,13 @@ answered-same (t ∷ ts) who xs (g ∷ gs) same answered = (
 )
 
 -- so the answers of trips whose entries are those of items are those of the unordered cycle
-pub answers_of_trips : (ts : List Trip) (ss : List SlaveState) (items : List ItemRecord) (joined : List (List DatagramRecord)) → IsFitLine (controllers ss)
-    → AllByRecursion (AcceptsAll (entries_from 0 items)) (controllers ss) → AllByRecursion IsItem items → concat (entries_of ts) ≡ entries_from 0 items
-    → AnsweredTrips ts (λ t. controllers ss) joined → AreAnswers (by_station ss) items (with_answers items (concat joined))
+pub answers_of_trips : (ts : List Trip) (ss : List SlaveState) (items : List ItemRecord)
+    (joined : List (List DatagramRecord)) → IsFitLine (controllers ss)
+    → AllByRecursion (AcceptsAll (entries_from 0 items)) (controllers ss) → AllByRecursion IsItem items
+    → concat (entries_of ts) ≡ entries_from 0 items
+    → AnsweredTrips ts (λ t. controllers ss) joined
+    → AreAnswers (by_station ss) items (with_answers items (concat joined))
 answers_of_trips ts ss items joined fit accept are whole answered =
     answers_over ss items 0 (concat joined) fit accept are
-    (subst (λ (es : List Entry). AnsweredFrame es (controllers ss) (concat joined)) whole (answered-concat ts (controllers ss) joined answered))
+    (subst (λ (es : List Entry). AnsweredFrame es (controllers ss) (concat joined)) whole
+    (answered-concat ts (controllers ss) joined answered))

@@ -7,7 +7,8 @@ use Rattle.std.specs.List.{AllByRecursion, slice_get}
 use Rattle.std.specs.Option.{option_map}
 use Rattle.std.proofs.lemmas.Bool.Decides.{nat_tests}
 use Rattle.std.proofs.lemmas.Option.{slice_get-map}
-use Rattle.ec_regs.specs.declared.registers.TheConstants.{STATION_ADDRESS, PROCESS_MEMORY, PROCESS_MEMORY_SIZE}
+use Rattle.ec_regs.specs.declared.registers.TheConstants.{STATION_ADDRESS, PROCESS_MEMORY}
+use Rattle.ec_regs.specs.declared.registers.TheConstants.{PROCESS_MEMORY_SIZE}
 use Rattle.ec_esc.specs.State.{ControllerState, IsController, word_at}
 use Rattle.ec_app.specs.Lending.{with_controller}
 use Rattle.ec_app.specs.State.{SlaveState, ApplicationState}
@@ -35,7 +36,8 @@ use Rattle.ec_master.specs.Unordered.{station, by_station, slaves_after_all, Are
 use Rattle.ec_master.specs.Work.{with_answers}
 use Rattle.ec_master.specs.declared.verdict.Verdict.TheVariants.{Good}
 use Rattle.ec_master.proofs.AnswerLemmas.{answers_of_trips}
-use Rattle.ec_master.proofs.SlaveLemmas.{after_frame-append, each-trip, trips_ready, accepts_items, takes_items, by_station-after_trips}
+use Rattle.ec_master.proofs.SlaveLemmas.{after_frame-append, each-trip, trips_ready, accepts_items}
+use Rattle.ec_master.proofs.SlaveLemmas.{takes_items, by_station-after_trips}
 use Rattle.ec_master.proofs.VerdictLemmas.{entries_under, line_room, good_counts}
 
 -- ---- slaves by their stations
@@ -53,8 +55,10 @@ memories-by_station (y ∷ ys) (c ∷ cs) (d ∷ ds) n same =
     let one : Option SlaveState = by_station (with_controllers ys cs) n in
     let two : Option SlaveState = by_station (with_controllers ys ds) n in
     let P : Bool → Type 0 =
-    λ b. option_map M (cond b (Some (with_controller y c)) one) ≡ option_map M (cond b (Some (with_controller y d)) two) in
-    ap (λ (m : List ℕ). option_map M (cond (eqb (word_at m STATION_ADDRESS) n) (Some (with_controller y c)) one)) same.0
+    λ b. option_map M (cond b (Some (with_controller y c)) one)
+    ≡ option_map M (cond b (Some (with_controller y d)) two) in
+    ap (λ (m : List ℕ).
+    option_map M (cond (eqb (word_at m STATION_ADDRESS) n) (Some (with_controller y c)) one)) same.0
     ∙ elim (eqb (word_at d.memory STATION_ADDRESS) n) as P [
       | true ↦ ap (λ (m : List ℕ). Some m) same.0
       | false ↦ memories-by_station ys cs ds n same.1
@@ -71,7 +75,8 @@ applications-by_station (y ∷ ys) (c ∷ cs) n are later =
     let A : SlaveState → ApplicationState = λ s. s.application in
     let one : Option SlaveState = by_station (with_controllers ys cs) n in
     let P : Bool → Type 0 =
-    λ b. option_map A (cond b (Some (with_controller y c)) one) ≡ option_map A (cond b (Some y) (by_station ys n)) in
+    λ b. option_map A (cond b (Some (with_controller y c)) one)
+    ≡ option_map A (cond b (Some y) (by_station ys n)) in
     ap (λ (m : ℕ). option_map A (cond (eqb m n) (Some (with_controller y c)) one))
     (station_lasts y.controller c are.0 later.0.0)
     ∙ elim (eqb (word_at y.controller.memory STATION_ADDRESS) n) as P [
@@ -80,9 +85,11 @@ applications-by_station (y ∷ ys) (c ∷ cs) n are later =
     ]
 
 -- the same shown byte, of a slave where a condition holds
-shown-by_station : (C : ControllerState → Type 0) (k : ℕ) (ys : List SlaveState) (cs ds : List ControllerState)
+shown-by_station : (C : ControllerState → Type 0) (k : ℕ) (ys : List SlaveState)
+    (cs ds : List ControllerState)
     (n : ℕ) (s : SlaveState) → AllByRecursion IsController (controllers ys) → IsLater (controllers ys) cs
-    → SameMemories cs ds → SameShownWhere C k (controllers ys) cs ds → by_station ys n ≡ Some s → C s.controller
+    → SameMemories cs ds → SameShownWhere C k (controllers ys) cs ds → by_station ys n ≡ Some s
+    → C s.controller
     → shown_at (by_station (with_controllers ys cs)) k n ≡ shown_at (by_station (with_controllers ys ds)) k n
 unfolding by_station station
 shown-by_station C k [] cs ds n s are later same shown there holds = refl
@@ -98,7 +105,8 @@ shown-by_station C k (y ∷ ys) (c ∷ cs) (d ∷ ds) n s are later same shown t
     ap (λ (m : List ℕ). word_at m STATION_ADDRESS) (sym same.0) ∙ first in
     let P : Bool → Type 0 =
     λ b. cond b (Some y) (by_station ys n) ≡ Some s
-    → option_map K (cond b (Some (with_controller y c)) one) ≡ option_map K (cond b (Some (with_controller y d)) two) in
+    → option_map K (cond b (Some (with_controller y c)) one)
+    ≡ option_map K (cond b (Some (with_controller y d)) two) in
     let middle =
     elim (eqb (word_at y.controller.memory STATION_ADDRESS) n) as P [
       | true ↦ λ here.
@@ -124,7 +132,8 @@ pub applications_kept : (ws : List Weather) (r : RingState) (items : List ItemRe
     → IsAccepted r.slaves items → AllByRecursion IsItem items
     → application_at (by_station (ring_under ws r items).slaves) n ≡ application_at (by_station r.slaves) n
 applications_kept ws r items n accepted are_items =
-    applications-by_station r.slaves (run_under ws r items).line n accepted.are (run_later ws r items accepted are_items)
+    applications-by_station r.slaves (run_under ws r items).line n accepted.are
+    (run_later ws r items accepted are_items)
 
 -- ---- a good verdict
 
@@ -151,23 +160,27 @@ good_answers ws r items room accepted are_items good =
     (good_cycle ws r items room accepted are_items good).0
 
 -- and each memory is that of its slaves later
-pub good_memories : (ws : List Weather) (r : RingState) (items : List ItemRecord) (n : ℕ) → length r.slaves ≤ 256
+pub good_memories : (ws : List Weather) (r : RingState) (items : List ItemRecord) (n : ℕ)
+    → length r.slaves ≤ 256
     → IsAccepted r.slaves items → AllByRecursion IsItem items → verdict_under ws r items ≡ Good
-    → memory_at (by_station (ring_under ws r items).slaves) n ≡ memory_at (slaves_after_all items (by_station r.slaves)) n
+    → memory_at (by_station (ring_under ws r items).slaves) n
+    ≡ memory_at (slaves_after_all items (by_station r.slaves)) n
 good_memories ws r items n room accepted are_items good =
     let ts : List Trip = trips_under ws r items in
     let M : SlaveState → List ℕ = λ s. s.controller.memory in
     memories-by_station r.slaves (run_under ws r items).line (after_trips ts (line_of r)) n
     (good_cycle ws r items room accepted are_items good).1
     ∙ ap (λ (o : Option SlaveState). option_map M o)
-    (by_station-after_trips ts items r.slaves n (entries_under ws r items) (takes_items r.slaves items accepted are_items))
+    (by_station-after_trips ts items r.slaves n (entries_under ws r items)
+    (takes_items r.slaves items accepted are_items))
 
 -- a byte is shown so, where in each frame the last item that shows it is the last that writes it
 pub good_shows : (ws : List Weather) (r : RingState) (items : List ItemRecord) (n k : ℕ) (s : SlaveState)
     → length r.slaves ≤ 256 → IsAccepted r.slaves items → AllByRecursion IsItem items
     → verdict_under ws r items ≡ Good → k < PROCESS_MEMORY_SIZE → by_station r.slaves n ≡ Some s
     → AllByRecursion (ShowsLast s.controller (PROCESS_MEMORY + k)) (frames_of items)
-    → shown_at (by_station (ring_under ws r items).slaves) k n ≡ shown_at (slaves_after_all items (by_station r.slaves)) k n
+    → shown_at (by_station (ring_under ws r items).slaves) k n
+    ≡ shown_at (slaves_after_all items (by_station r.slaves)) k n
 good_shows ws r items n k s room accepted are_items good inside there last =
     let line : List ControllerState = line_of r in
     let ts : List Trip = trips_under ws r items in
@@ -175,18 +188,23 @@ good_shows ws r items n k s room accepted are_items good inside there last =
     let C : ControllerState → Type 0 = ShowsLastInRun ts (PROCESS_MEMORY + k) in
     let K : SlaveState → ℕ = λ t. get_or t.controller.shown k 0 in
     let shown : SameShownWhere C k line (run_under ws r items).line (after_trips ts line) =
-    good_shown C k ts line line (line_room r room) (λ x last. last) inside ready (later-refl line ready.fit.alone)
+    good_shown C k ts line line (line_room r room) (λ x last. last) inside ready
+    (later-refl line ready.fit.alone)
     (good_counts ws r items room accepted are_items good) in
     shown-by_station C k r.slaves (run_under ws r items).line (after_trips ts line) n s accepted.are
-    (run_later ws r items accepted are_items) (good_cycle ws r items room accepted are_items good).1 shown there
-    (each-trip (λ f. ShowsLast s.controller (PROCESS_MEMORY + k) f) ws r.links (length r.slaves) (frames_of items) last)
+    (run_later ws r items accepted are_items) (good_cycle ws r items room accepted are_items good).1 shown
+    there
+    (each-trip (λ f. ShowsLast s.controller (PROCESS_MEMORY + k) f) ws r.links (length r.slaves)
+    (frames_of items) last)
     ∙ ap (λ (o : Option SlaveState). option_map K o)
-    (by_station-after_trips ts items r.slaves n (entries_under ws r items) (takes_items r.slaves items accepted are_items))
+    (by_station-after_trips ts items r.slaves n (entries_under ws r items)
+    (takes_items r.slaves items accepted are_items))
 
 -- which is so where no two items of a frame write into one area of outputs
 pub shows-last-apart : (x : ControllerState) (address : ℕ) (fs : List (List Entry))
     → AllByRecursion (NoAreaTwice x) fs → AllByRecursion (ShowsLast x address) fs
-shows-last-apart x address fs apart = each-map (NoAreaTwice x) (ShowsLast x address) fs (λ f one. shows_last x address f one) apart
+shows-last-apart x address fs apart =
+    each-map (NoAreaTwice x) (ShowsLast x address) fs (λ f one. shows_last x address f one) apart
 
 -- ---- slaves by their places
 
@@ -239,8 +257,10 @@ get-reached {S} f zero (suc q) (suc k) (x ∷ xs) =
 get-reached {S} f (suc p) zero zero (x ∷ xs) = ap (λ (b : Bool). Some (cond b (f x) x)) (sym (test-front p 0))
 get-reached {S} f (suc p) zero (suc k) (x ∷ xs) =
     get-reached f p zero k xs
-    ∙ ap (λ (b : Bool). option_map (change f b) (slice_get xs k)) (test-back p k ∙ sym (test-back (suc p) (suc k)))
-get-reached {S} f (suc p) (suc q) zero (x ∷ xs) = ap (λ (b : Bool). Some (cond b (f x) x)) (sym (test-front p (suc q)))
+    ∙ ap (λ (b : Bool). option_map (change f b) (slice_get xs k))
+    (test-back p k ∙ sym (test-back (suc p) (suc k)))
+get-reached {S} f (suc p) (suc q) zero (x ∷ xs) =
+    ap (λ (b : Bool). Some (cond b (f x) x)) (sym (test-front p (suc q)))
 get-reached {S} f (suc p) (suc q) (suc k) (x ∷ xs) =
     get-reached f p q k xs
     ∙ ap (λ (b : Bool). option_map (change f b) (slice_get xs k)) (sym (test-suc p q k))
@@ -291,10 +311,13 @@ reached_memory ws r items k s accepted are_items there =
     let line : List ControllerState = line_of r in
     let ts : List Trip = trips_under ws r items in
     let ready = trips_ready ws r items accepted are_items in
-    let M : Option ControllerState → Option (List ℕ) = λ o. option_map (λ (c : ControllerState). c.memory) o in
-    memories-at r.slaves (run_under ws r items).line (reached_trips ts line) k (run_later ws r items accepted are_items)
+    let M : Option ControllerState → Option (List ℕ) =
+    λ o. option_map (λ (c : ControllerState). c.memory) o in
+    memories-at r.slaves (run_under ws r items).line (reached_trips ts line) k
+    (run_later ws r items accepted are_items)
     (reached_run ts line line ready (later-refl line ready.fit.alone))
     ∙ ap M (reached-at ts line k)
     ∙ ap (λ (o : Option ControllerState). M (option_map (after_frame (entries_at ts k)) o))
     (slice_get-map (λ (t : SlaveState). t.controller) r.slaves k)
-    ∙ ap (λ (o : Option SlaveState). M (option_map (after_frame (entries_at ts k)) (option_map (λ (t : SlaveState). t.controller) o))) there
+    ∙ ap (λ (o : Option SlaveState).
+    M (option_map (after_frame (entries_at ts k)) (option_map (λ (t : SlaveState). t.controller) o))) there

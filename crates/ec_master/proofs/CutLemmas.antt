@@ -1,6 +1,8 @@
 -- The first frame of entries and what is left of them.
-use Rattle.std.proofs.Common.{◌≡◌, ℕ, suc, ◌+◌, ◌<◌, ◌≤◌, Bool, true, false, if◌then◌else◌, sym, ap, refl, ◌∙◌, arith, inl, inr}
-use Rattle.std.proofs.Common.{List, [], ◌∷◌, ◌++◌, length, drop, append_assoc, length-append, suc-add, add-suc, add-zero, get_or, drop-cons}
+use Rattle.std.proofs.Common.{◌≡◌, ℕ, suc, ◌+◌, ◌<◌, ◌≤◌, Bool, true, false, if◌then◌else◌, sym, ap, refl}
+use Rattle.std.proofs.Common.{◌∙◌, arith, inl, inr}
+use Rattle.std.proofs.Common.{List, [], ◌∷◌, ◌++◌, length, drop, append_assoc, length-append, suc-add}
+use Rattle.std.proofs.Common.{add-suc, add-zero, get_or, drop-cons}
 use Rattle.ec_line.specs.After.{Entry}
 use Rattle.ec_line.specs.Answered.{sent_of}
 use Rattle.ec_wire.specs.Datagram.{DatagramRecord, datagram_length}
@@ -18,7 +20,8 @@ rest_of frame (e ∷ es) = if fits_frame (frame ++ e ∷ []) then rest_of (frame
 pub cut_onto-filled : (frame es : List Entry) → cut_onto frame es ≡ filled frame es ∷ cut (rest_of frame es)
 unfolding cut_onto filled rest_of cut
 cut_onto-filled frame [] = refl
-cut_onto-filled frame (e ∷ es) = by_fit (fits_frame (frame ++ e ∷ [])) frame e es (cut_onto-filled (frame ++ e ∷ []) es)
+cut_onto-filled frame (e ∷ es) =
+    by_fit (fits_frame (frame ++ e ∷ [])) frame e es (cut_onto-filled (frame ++ e ∷ []) es)
   where
     by_fit : (fits : Bool) (frame : List Entry) (e : Entry) (es : List Entry)
         → cut_onto (frame ++ e ∷ []) es ≡ filled (frame ++ e ∷ []) es ∷ cut (rest_of (frame ++ e ∷ []) es)
@@ -31,11 +34,13 @@ cut_onto-filled frame (e ∷ es) = by_fit (fits_frame (frame ++ e ∷ [])) frame
 pub filled-whole : (frame es : List Entry) → filled frame es ++ rest_of frame es ≡ frame ++ es
 unfolding filled rest_of
 filled-whole frame [] = refl
-filled-whole frame (e ∷ es) = by_fit (fits_frame (frame ++ e ∷ [])) frame e es (filled-whole (frame ++ e ∷ []) es)
+filled-whole frame (e ∷ es) =
+    by_fit (fits_frame (frame ++ e ∷ [])) frame e es (filled-whole (frame ++ e ∷ []) es)
   where
     by_fit : (fits : Bool) (frame : List Entry) (e : Entry) (es : List Entry)
         → filled (frame ++ e ∷ []) es ++ rest_of (frame ++ e ∷ []) es ≡ (frame ++ e ∷ []) ++ es
-        → (if fits then filled (frame ++ e ∷ []) es else frame) ++ (if fits then rest_of (frame ++ e ∷ []) es else e ∷ es)
+        → (if fits then filled (frame ++ e ∷ []) es else frame)
+        ++ (if fits then rest_of (frame ++ e ∷ []) es else e ∷ es)
         ≡ frame ++ e ∷ es
     by_fit true frame e es more = more ∙ append_assoc frame (e ∷ []) es
     by_fit false frame e es more = refl
@@ -58,16 +63,19 @@ behind (e ∷ es) = es
 
 -- what is left of them once a part is taken
 pub entries-split : (front : List Entry) (k : ℕ) (items : List ItemRecord) (back : List Entry)
-    → front ++ back ≡ entries_from k items → back ≡ entries_from (k + length front) (drop (length front) items)
+    → front ++ back ≡ entries_from k items
+    → back ≡ entries_from (k + length front) (drop (length front) items)
 unfolding entries_from
 entries-split [] k items back e = rw (add-zero k) e
 entries-split (f ∷ front) k [] back e = absurd (cc)
 entries-split (f ∷ front) k (r ∷ rs) back e =
-    rw (add-suc k (length front)) (rw (suc-add k (length front)) at (entries-split front (suc k) rs back (ap behind e)))
+    rw (add-suc k (length front))
+    (rw (suc-add k (length front)) at (entries-split front (suc k) rs back (ap behind e)))
 
 -- the entry with the first number
 pub entries-cons : (k : ℕ) (items : List ItemRecord) (e : ItemRecord) → k < length items
-    → entries_from k (drop k items) ≡ entry_of (get_or items k e) k ∷ entries_from (suc k) (drop (suc k) items)
+    → entries_from k (drop k items) ≡ entry_of (get_or items k e) k
+    ∷ entries_from (suc k) (drop (suc k) items)
 unfolding entries_from
 entries-cons k items e h = ap (entries_from k) (drop-cons items k e h)
 
@@ -96,7 +104,8 @@ pub filled-more : (frame es : List Entry) (e : Entry) → fits_frame (frame ++ e
 unfolding filled
 filled-more frame es e fits = rw fits refl
 
-pub filled-full : (frame es : List Entry) (e : Entry) → fits_frame (frame ++ e ∷ []) ≡ false → filled frame (e ∷ es) ≡ frame
+pub filled-full : (frame es : List Entry) (e : Entry) → fits_frame (frame ++ e ∷ []) ≡ false
+    → filled frame (e ∷ es) ≡ frame
 unfolding filled
 filled-full frame es e fits = rw fits refl
 
@@ -116,8 +125,10 @@ pub filled-some : (frame es : List Entry) → 1 ≤ length frame → 1 ≤ lengt
 unfolding filled
 filled-some frame [] some = some
 filled-some frame (e ∷ es) some =
-    by_fit (fits_frame (frame ++ e ∷ [])) (filled-some (frame ++ e ∷ []) es (omega (arith, some, length-append frame (e ∷ []))))
+    by_fit (fits_frame (frame ++ e ∷ []))
+    (filled-some (frame ++ e ∷ []) es (omega (arith, some, length-append frame (e ∷ []))))
   where
-    by_fit : (fits : Bool) → 1 ≤ length (filled (frame ++ e ∷ []) es) → 1 ≤ length (if fits then filled (frame ++ e ∷ []) es else frame)
+    by_fit : (fits : Bool) → 1 ≤ length (filled (frame ++ e ∷ []) es)
+        → 1 ≤ length (if fits then filled (frame ++ e ∷ []) es else frame)
     by_fit true more = more
     by_fit false more = some

@@ -136,7 +136,8 @@ IsCut-cut es frames is = cut-only frames is.some is.fit is.full ∙ ap cut is.wh
 item-fits : (k : ℕ) (r : ItemRecord) → IsItem r → fits_frame (entry_of r k ∷ []) ≡ true
 item-fits k r item = le-leb _ _ (omega (arith, item_most r item))
 
-pub items-fit : (k : ℕ) (items : List ItemRecord) → AllByRecursion IsItem items → EachFits (entries_from k items)
+pub items-fit : (k : ℕ) (items : List ItemRecord) → AllByRecursion IsItem items
+    → EachFits (entries_from k items)
 unfolding entries_from
 items-fit k [] items = tt
 items-fit k (r ∷ rs) items = (item-fits k r items.0, items-fit (suc k) rs items.1)

@@ -1,5 +1,6 @@
 -- What is known of the size and the range of an item.
-use Rattle.std.proofs.Common.{◌≡◌, ℕ, ◌≤◌, Bool, true, false, cond, ◌||◌, eqb, ltb, length, None, Some, refl, arith}
+use Rattle.std.proofs.Common.{◌≡◌, ℕ, ◌≤◌, Bool, true, false, cond, ◌||◌, eqb, ltb, length, None, Some, refl}
+use Rattle.std.proofs.Common.{arith}
 use Rattle.std.proofs.lemmas.Bool.{ltb-false, eqb-false, or_parts}
 use Rattle.ec_wire.specs.declared.datagram.TheConstants.{MAX_DATA}
 use Rattle.ec_map.specs.Item.{ItemRecord, IsItem, is_in_range}

@@ -1,5 +1,6 @@
 -- A cycle of a ring under its own links is the unordered cycle of the slaves that a copy reaches.
-use Rattle.std.proofs.Common.{◌≡◌, ℕ, zero, suc, ◌-◌, ◌≤◌, cond, Option, None, Some, List, [], ◌∷◌, ◌++◌, length, map, take, drop}
+use Rattle.std.proofs.Common.{◌≡◌, ℕ, zero, suc, ◌-◌, ◌≤◌, cond, Option, None, Some, List, [], ◌∷◌, ◌++◌}
+use Rattle.std.proofs.Common.{length, map, take, drop}
 use Rattle.std.proofs.Common.{sym, subst, ◌∙◌, ap, refl, arith}
 use Rattle.std.specs.Prelude.{is_none}
 use Rattle.std.specs.List.{AllByRecursion}
@@ -26,17 +27,20 @@ use Rattle.ec_ring.specs.declared.port.Port.{Port}
 use Rattle.ec_ring.proofs.ReachLemmas.{front-le-back, front-is-back, lost-front, lost-back}
 use Rattle.ec_ring.proofs.RingLemmas.{length-controllers, length-with_controllers}
 use Rattle.ec_master.specs.Cut.{concat, entries_from, frames_of}
-use Rattle.ec_master.specs.Travelled.{calm, trips_of, trips_under, run_under, answers_under, ring_under, reached, unreached}
+use Rattle.ec_master.specs.Travelled.{calm, trips_of, trips_under, run_under, answers_under, ring_under}
+use Rattle.ec_master.specs.Travelled.{reached, unreached}
 use Rattle.ec_master.specs.Unordered.{by_station, AreAnswers, IsCycle, IsAccepted}
 use Rattle.ec_master.specs.Work.{with_answers}
 use Rattle.ec_master.proofs.AnswerLemmas.{answered-same, answers_of_trips}
-use Rattle.ec_master.proofs.SlaveLemmas.{TakesItems, concat-cut, entries-trips_of, trips_ready, takes_items, reached_by_station, unreached_kept}
+use Rattle.ec_master.proofs.SlaveLemmas.{TakesItems, concat-cut, entries-trips_of, trips_ready, takes_items}
+use Rattle.ec_master.proofs.SlaveLemmas.{reached_by_station, unreached_kept}
 use Rattle.ec_master.proofs.StationLemmas.{each-slave}
 
 -- ---- a first and a last piece of a list
 
 -- what holds of each holds of each of both pieces
-each-pieces : {S : Type 0} (P : S → Type 0) (p q : ℕ) (xs : List S) → AllByRecursion P xs → AllByRecursion P (take p xs ++ drop q xs)
+each-pieces : {S : Type 0} (P : S → Type 0) (p q : ℕ) (xs : List S) → AllByRecursion P xs
+    → AllByRecursion P (take p xs ++ drop q xs)
 each-pieces P p q xs all = each-append P (take p xs) (drop q xs) (each-take P p xs all) (each-drop P q xs all)
 
 -- pieces of controllers that are apart are so
@@ -60,11 +64,13 @@ fit-pieces p q xs order fit =
 -- ---- who answers
 
 -- a copy that the links lose has passed nobody
-front_lost : {S : Type 0} (o : Option Port) (p : ℕ) (xs : List S) → (o ≡ None → p ≡ 0) → cond (is_none o) [] (take p xs) ≡ take p xs
+front_lost : {S : Type 0} (o : Option Port) (p : ℕ) (xs : List S) → (o ≡ None → p ≡ 0)
+    → cond (is_none o) [] (take p xs) ≡ take p xs
 front_lost None p xs lost = ap (λ m. take m xs) (sym (lost refl))
 front_lost (Some port) p xs lost = refl
 
-back_lost : {S : Type 0} (o : Option Port) (q : ℕ) (xs : List S) → (o ≡ None → q ≡ length xs) → cond (is_none o) [] (drop q xs) ≡ drop q xs
+back_lost : {S : Type 0} (o : Option Port) (q : ℕ) (xs : List S) → (o ≡ None → q ≡ length xs)
+    → cond (is_none o) [] (drop q xs) ≡ drop q xs
 back_lost None q xs lost = let all : q ≡ length xs = lost refl in sym (drop_all q xs (omega arith))
 back_lost (Some port) q xs lost = refl
 
@@ -79,14 +85,18 @@ returned_pieces links f line n size =
     ∙ ap (λ (l : List ControllerState). take p line ++ l)
     (back_lost (arrival_b links n) q line (λ none. lost-back links n none ∙ sym size))
 
-each_returned : (links : Links) (fs : List (List Entry)) (line : List ControllerState) (n : ℕ) → length line ≡ n
-    → AllByRecursion (λ t. returned t line ≡ take (front links n) line ++ drop (back links n) line) (trips_of [] links n fs)
+each_returned : (links : Links) (fs : List (List Entry)) (line : List ControllerState) (n : ℕ)
+    → length line ≡ n
+    → AllByRecursion (λ t. returned t line ≡ take (front links n) line ++ drop (back links n) line)
+    (trips_of [] links n fs)
 unfolding trips_of
 each_returned links [] line n size = tt
-each_returned links (f ∷ fs) line n size = (returned_pieces links f line n size, each_returned links fs line n size)
+each_returned links (f ∷ fs) line n size =
+    (returned_pieces links f line n size, each_returned links fs line n size)
 
 -- and they are the controllers of slaves that a copy reaches
-controllers_reached : (p q : ℕ) (ss : List SlaveState) → take p (controllers ss) ++ drop q (controllers ss) ≡ controllers (take p ss ++ drop q ss)
+controllers_reached : (p q : ℕ) (ss : List SlaveState) → take p (controllers ss) ++ drop q (controllers ss)
+    ≡ controllers (take p ss ++ drop q ss)
 controllers_reached p q ss =
     let f : SlaveState → ControllerState = λ s. s.controller in
     ap (λ (l : List ControllerState). l ++ drop q (map f ss)) (take-map f p ss)
@@ -96,7 +106,8 @@ controllers_reached p q ss =
 -- ---- the cycle
 
 -- its answers are those of the slaves that a copy reaches
-pub reached_answers : (r : RingState) (items : List ItemRecord) → IsAccepted r.slaves items → AllByRecursion IsItem items
+pub reached_answers : (r : RingState) (items : List ItemRecord) → IsAccepted r.slaves items
+    → AllByRecursion IsItem items
     → AreAnswers (by_station (reached r)) items (with_answers items (answers_under [] r items))
 reached_answers r items accepted are =
     let ss : List SlaveState = r.slaves in
@@ -111,29 +122,40 @@ reached_answers r items accepted are =
     let ready : TripsReady ts line = trips_ready [] r items accepted are in
     let pieces : xs ≡ controllers (reached r) = controllers_reached p q ss in
     let answered : AnsweredTrips ts (λ t. xs) joined =
-    answered-same ts (λ t. returned t line) xs joined (each_returned r.links (frames_of items) line n (length-controllers ss))
+    answered-same ts (λ t. returned t line) xs joined
+    (each_returned r.links (frames_of items) line n (length-controllers ss))
     (core_run ts line line ready (later-refl line ready.fit.alone)).0 in
-    let fit : IsFitLine (controllers (reached r)) = subst IsFitLine pieces (fit-pieces p q line (front-le-back r.links n) ready.fit) in
+    let fit : IsFitLine (controllers (reached r)) =
+    subst IsFitLine pieces (fit-pieces p q line (front-le-back r.links n) ready.fit) in
     let accept : AllByRecursion (AcceptsAll es) (controllers (reached r)) =
     each-slave (AcceptsAll es) (reached r)
-    (each-map (TakesItems items) (λ (s : SlaveState). AcceptsAll es s.controller) (reached r) (λ s takes. takes.accepts)
+    (each-map (TakesItems items) (λ (s : SlaveState). AcceptsAll es s.controller) (reached r)
+    (λ s takes. takes.accepts)
     (each-pieces (TakesItems items) p q ss (takes_items ss items accepted are))) in
     answers_of_trips ts (reached r) items joined fit accept are
-    (ap (λ (l : List (List Entry)). concat l) (entries-trips_of [] r.links n (frames_of items)) ∙ concat-cut es)
+    (ap (λ (l : List (List Entry)). concat l) (entries-trips_of [] r.links n (frames_of items))
+    ∙ concat-cut es)
     (subst (λ (zs : List ControllerState). AnsweredTrips ts (λ t. zs) joined) pieces answered)
 
 -- it is the unordered cycle of the slaves that a copy reaches
-pub reached_cycle : (r : RingState) (items : List ItemRecord) → IsAccepted r.slaves items → AllByRecursion IsItem items
-    → IsCycle (by_station (reached r)) items (with_answers items (answers_under [] r items)) (by_station (reached (ring_under [] r items)))
+pub reached_cycle : (r : RingState) (items : List ItemRecord) → IsAccepted r.slaves items
+    → AllByRecursion IsItem items
+    → IsCycle (by_station (reached r)) items (with_answers items (answers_under [] r items))
+    (by_station (reached (ring_under [] r items)))
 reached_cycle r items accepted are =
-    record { answers = reached_answers r items accepted are; slaves = λ n. reached_by_station r items n accepted are }
+    record {
+      answers = reached_answers r items accepted are;
+      slaves = λ n. reached_by_station r items n accepted are;
+    }
 
 -- it leaves the others as they were
-pub unreached_same : (r : RingState) (items : List ItemRecord) → IsAccepted r.slaves items → AllByRecursion IsItem items
+pub unreached_same : (r : RingState) (items : List ItemRecord) → IsAccepted r.slaves items
+    → AllByRecursion IsItem items
     → unreached (ring_under [] r items) ≡ unreached r
 unreached_same r items accepted are =
     let later : List SlaveState = (ring_under [] r items).slaves in
-    let size : length later ≡ length r.slaves = length-with_controllers r.slaves (run_under [] r items).line in
+    let size : length later ≡ length r.slaves =
+    length-with_controllers r.slaves (run_under [] r items).line in
     ap (λ (n : ℕ). take (back r.links n - front r.links n) (drop (front r.links n) later)) size
     ∙ unreached_kept r items accepted are
 
@@ -145,14 +167,20 @@ reached_all r k only =
     ∙ take-append-drop (front r.links n) r.slaves
 
 -- then it is the unordered cycle of all slaves
-pub whole_cycle : (r : RingState) (items : List ItemRecord) (k : ℕ) → IsOnlyDown r.links (length r.slaves) k → IsAccepted r.slaves items
+pub whole_cycle : (r : RingState) (items : List ItemRecord) (k : ℕ) → IsOnlyDown r.links (length r.slaves) k
+    → IsAccepted r.slaves items
     → AllByRecursion IsItem items
-    → IsCycle (by_station r.slaves) items (with_answers items (answers_under [] r items)) (by_station (ring_under [] r items).slaves)
+    → IsCycle (by_station r.slaves) items (with_answers items (answers_under [] r items))
+    (by_station (ring_under [] r items).slaves)
 whole_cycle r items k only accepted are =
     let later : RingState = ring_under [] r items in
     let got : List ItemRecord = with_answers items (answers_under [] r items) in
-    let size : length later.slaves ≡ length r.slaves = length-with_controllers r.slaves (run_under [] r items).line in
-    let only_later : IsOnlyDown later.links (length later.slaves) k = subst (λ (n : ℕ). IsOnlyDown r.links n k) (sym size) only in
-    subst (λ (ss : List SlaveState). IsCycle (by_station ss) items got (by_station later.slaves)) (reached_all r k only)
-    (subst (λ (ss : List SlaveState). IsCycle (by_station (reached r)) items got (by_station ss)) (reached_all later k only_later)
+    let size : length later.slaves ≡ length r.slaves =
+    length-with_controllers r.slaves (run_under [] r items).line in
+    let only_later : IsOnlyDown later.links (length later.slaves) k =
+    subst (λ (n : ℕ). IsOnlyDown r.links n k) (sym size) only in
+    subst (λ (ss : List SlaveState). IsCycle (by_station ss) items got (by_station later.slaves))
+    (reached_all r k only)
+    (subst (λ (ss : List SlaveState). IsCycle (by_station (reached r)) items got (by_station ss))
+    (reached_all later k only_later)
     (reached_cycle r items accepted are))

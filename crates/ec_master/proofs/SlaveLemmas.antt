@@ -36,7 +36,8 @@ use Rattle.ec_ring.specs.declared.weather.Weather.{Weather}
 use Rattle.ec_ring.proofs.ReachLemmas.{front-le-back}
 use Rattle.ec_master.specs.Cut.{concat, entries_from, fits_frame, cut_onto, cut, frames_of}
 use Rattle.ec_master.specs.Travelled.{trips_of, trips_under, run_under, ring_under, reached}
-use Rattle.ec_master.specs.Unordered.{ByStation, station, by_station, slave_after, slaves_after, slaves_after_all, IsAccepted}
+use Rattle.ec_master.specs.Unordered.{ByStation, station, by_station, slave_after, slaves_after}
+use Rattle.ec_master.specs.Unordered.{slaves_after_all, IsAccepted}
 
 -- ---- frames put end to end
 
@@ -145,7 +146,8 @@ by_station-after_items rs ys n takes =
 -- ---- slaves with other controllers
 
 with_controllers-map : (f : ControllerState → ControllerState) (ys : List SlaveState)
-    → with_controllers ys (map f (controllers ys)) ≡ map (λ (s : SlaveState). with_controller s (f s.controller)) ys
+    → with_controllers ys (map f (controllers ys))
+    ≡ map (λ (s : SlaveState). with_controller s (f s.controller)) ys
 with_controllers-map f [] = refl
 with_controllers-map f (y ∷ ys) =
     ap (λ (l : List SlaveState). with_controller y (f y.controller) ∷ l) (with_controllers-map f ys)
@@ -175,7 +177,8 @@ after_trips-concat (t ∷ ts) line =
 -- each slave after all trips, where their entries are those of items
 pub by_station-after_trips : (ts : List Trip) (rs : List ItemRecord) (ys : List SlaveState) (n : ℕ)
     → concat (map (λ (t : Trip). t.entries) ts) ≡ entries_from 0 rs → AllByRecursion (TakesItems rs) ys
-    → by_station (with_controllers ys (after_trips ts (controllers ys))) n ≡ slaves_after_all rs (by_station ys) n
+    → by_station (with_controllers ys (after_trips ts (controllers ys))) n
+    ≡ slaves_after_all rs (by_station ys) n
 by_station-after_trips ts rs ys n entries takes =
     let es = entries_from 0 rs in
     let slaves : with_controllers ys (after_trips ts (controllers ys)) ≡ map (after_items rs) ys =
@@ -193,11 +196,13 @@ with_controllers-reached : (f : ControllerState → ControllerState) (p q : ℕ)
     ≡ reached_after (λ (s : SlaveState). with_controller s (f s.controller)) p q ys
 with_controllers-reached f p q [] = refl
 with_controllers-reached f zero zero (y ∷ ys) =
-    ap (λ (l : List SlaveState). with_controller y (f y.controller) ∷ l) (with_controllers-reached f zero zero ys)
+    ap (λ (l : List SlaveState). with_controller y (f y.controller) ∷ l)
+    (with_controllers-reached f zero zero ys)
 with_controllers-reached f zero (suc q) (y ∷ ys) =
     ap (λ (l : List SlaveState). y ∷ l) (with_controllers-reached f zero q ys)
 with_controllers-reached f (suc p) zero (y ∷ ys) =
-    ap (λ (l : List SlaveState). with_controller y (f y.controller) ∷ l) (with_controllers-reached f p zero ys)
+    ap (λ (l : List SlaveState). with_controller y (f y.controller) ∷ l)
+    (with_controllers-reached f p zero ys)
 with_controllers-reached f (suc p) (suc q) (y ∷ ys) =
     ap (λ (l : List SlaveState). with_controller y (f y.controller) ∷ l) (with_controllers-reached f p q ys)
 
@@ -227,7 +232,8 @@ reached-same {S} f (suc p) zero (x ∷ xs) same =
     ap (λ (y : S). y ∷ reached_after f p zero xs) (same x)
     ∙ ap (λ (l : List S). x ∷ l) (reached-same f p zero xs same)
 reached-same {S} f (suc p) (suc q) (x ∷ xs) same =
-    ap (λ (y : S). y ∷ reached_after f p q xs) (same x) ∙ ap (λ (l : List S). x ∷ l) (reached-same f p q xs same)
+    ap (λ (y : S). y ∷ reached_after f p q xs) (same x)
+    ∙ ap (λ (l : List S). x ∷ l) (reached-same f p q xs same)
 
 -- one change after the other
 reached-then : {S : Type 0} (f g h : S → S) (p q : ℕ) (xs : List S) → ((x : S) → g (f x) ≡ h x)
@@ -245,7 +251,8 @@ reached-then {S} f g h (suc p) (suc q) (x ∷ xs) same =
     ap (λ (y : S). y ∷ reached_after g p q (reached_after f p q xs)) (same x)
     ∙ ap (λ (l : List S). h x ∷ l) (reached-then f g h p q xs same)
 
-length-reached : {S : Type 0} (f : S → S) (p q : ℕ) (xs : List S) → length (reached_after f p q xs) ≡ length xs
+length-reached : {S : Type 0} (f : S → S) (p q : ℕ) (xs : List S)
+    → length (reached_after f p q xs) ≡ length xs
 length-reached f p q [] = refl
 length-reached f zero zero (x ∷ xs) = ap (λ (n : ℕ). suc n) (length-reached f zero zero xs)
 length-reached f zero (suc q) (x ∷ xs) = ap (λ (n : ℕ). suc n) (length-reached f zero q xs)
@@ -253,7 +260,8 @@ length-reached f (suc p) zero (x ∷ xs) = ap (λ (n : ℕ). suc n) (length-reac
 length-reached f (suc p) (suc q) (x ∷ xs) = ap (λ (n : ℕ). suc n) (length-reached f p q xs)
 
 -- its pieces
-take-reached : {S : Type 0} (f : S → S) (p q : ℕ) (xs : List S) → take p (reached_after f p q xs) ≡ map f (take p xs)
+take-reached : {S : Type 0} (f : S → S) (p q : ℕ) (xs : List S)
+    → take p (reached_after f p q xs) ≡ map f (take p xs)
 take-reached f zero q xs = refl
 take-reached f (suc p) q [] = refl
 take-reached {S} f (suc p) zero (x ∷ xs) = ap (λ (l : List S). f x ∷ l) (take-reached f p zero xs)
@@ -264,7 +272,8 @@ back-all f p [] = refl
 back-all {S} f zero (x ∷ xs) = ap (λ (l : List S). f x ∷ l) (back-all f zero xs)
 back-all {S} f (suc p) (x ∷ xs) = ap (λ (l : List S). f x ∷ l) (back-all f p xs)
 
-drop-reached : {S : Type 0} (f : S → S) (p q : ℕ) (xs : List S) → drop q (reached_after f p q xs) ≡ map f (drop q xs)
+drop-reached : {S : Type 0} (f : S → S) (p q : ℕ) (xs : List S)
+    → drop q (reached_after f p q xs) ≡ map f (drop q xs)
 drop-reached f p zero xs = back-all f p xs
 drop-reached f p (suc q) [] = refl
 drop-reached f zero (suc q) (x ∷ xs) = drop-reached f zero q xs
@@ -292,8 +301,10 @@ visited-apart f zero zero [] apart = refl
 visited-apart f zero (suc q) [] apart = refl
 visited-apart f (suc p) zero [] apart = refl
 visited-apart f (suc p) (suc q) [] apart = refl
-visited-apart {S} f zero zero (x ∷ xs) apart = ap (λ (l : List S). f x ∷ l) (visited-apart f zero zero xs (omega arith))
-visited-apart {S} f zero (suc q) (x ∷ xs) apart = ap (λ (l : List S). x ∷ l) (visited-apart f zero q xs (omega arith))
+visited-apart {S} f zero zero (x ∷ xs) apart =
+    ap (λ (l : List S). f x ∷ l) (visited-apart f zero zero xs (omega arith))
+visited-apart {S} f zero (suc q) (x ∷ xs) apart =
+    ap (λ (l : List S). x ∷ l) (visited-apart f zero q xs (omega arith))
 visited-apart f (suc p) zero (x ∷ xs) apart = absurd (omega arith)
 visited-apart {S} f (suc p) (suc q) (x ∷ xs) apart =
     ap (λ (l : List S). f x ∷ l) (visited-apart f p q xs (omega arith))
@@ -330,7 +341,8 @@ pub entries-trips_of : (ws : List Weather) (links : Links) (n : ℕ) (fs : List 
 unfolding trips_of
 entries-trips_of ws links n [] = refl
 entries-trips_of [] links n (f ∷ fs) = ap (λ (l : List (List Entry)). f ∷ l) (entries-trips_of [] links n fs)
-entries-trips_of (w ∷ ws) links n (f ∷ fs) = ap (λ (l : List (List Entry)). f ∷ l) (entries-trips_of ws links n fs)
+entries-trips_of (w ∷ ws) links n (f ∷ fs) =
+    ap (λ (l : List (List Entry)). f ∷ l) (entries-trips_of ws links n fs)
 
 -- ---- what an accepted line and accepted items give
 
@@ -347,7 +359,12 @@ pub entries-on_way : (k : ℕ) (rs : List ItemRecord) → AllByRecursion IsItem 
 unfolding entries_from
 entries-on_way k [] items = tt
 entries-on_way k (r ∷ rs) items = (
-  record { command = refl; size = refl; address = same_address r.kind (wire_address r); counter = items.0.counter },
+  record {
+    command = refl;
+    size = refl;
+    address = same_address r.kind (wire_address r);
+    counter = items.0.counter;
+  },
   entries-on_way (suc k) rs items.1,
 )
 
@@ -408,14 +425,16 @@ accepts_items line items fit placed are_items =
 pub takes_items : (ys : List SlaveState) (items : List ItemRecord) → IsAccepted ys items
     → AllByRecursion IsItem items → AllByRecursion (TakesItems items) ys
 takes_items ys items accepted are_items =
-    takes-each items ys accepted.are (accepts_items (controllers ys) items accepted.fit accepted.placed are_items)
+    takes-each items ys accepted.are
+    (accepts_items (controllers ys) items accepted.fit accepted.placed are_items)
 
 -- ---- the slaves of a ring after a cycle under its own links
 
 pub ring_slaves : (r : RingState) (items : List ItemRecord) → IsAccepted r.slaves items
     → AllByRecursion IsItem items
     → (ring_under [] r items).slaves
-    ≡ reached_after (after_items items) (front r.links (length r.slaves)) (back r.links (length r.slaves)) r.slaves
+    ≡ reached_after (after_items items) (front r.links (length r.slaves)) (back r.links (length r.slaves))
+    r.slaves
 ring_slaves r items accepted are_items =
     let ys : List SlaveState = r.slaves in
     let line : List ControllerState = line_of r in
@@ -425,12 +444,14 @@ ring_slaves r items accepted are_items =
     let es : List Entry = entries_from 0 items in
     let ts : List Trip = trips_under [] r items in
     let ready = trips_ready [] r items accepted are_items in
-    let left : (trips_run ts line).line ≡ visited_trips ts line = (core_run ts line line ready (later-refl line ready.fit.alone)).1 in
+    let left : (trips_run ts line).line ≡ visited_trips ts line =
+    (core_run ts line line ready (later-refl line ready.fit.alone)).1 in
     ap (λ (l : List ControllerState). with_controllers ys l)
     (left ∙ visited_trips-concat r.links n (frames_of items) line
     ∙ ap (λ (l : List Entry). reached_after (after_frame l) p q line) (concat-cut es))
     ∙ with_controllers-reached (after_frame es) p q ys
-    ∙ reached-ext (λ (s : SlaveState). with_controller s (after_frame es s.controller)) (after_items items) p q ys
+    ∙ reached-ext (λ (s : SlaveState). with_controller s (after_frame es s.controller)) (after_items items) p
+    q ys
     (λ s. sym (after_items-frame items 0 s))
 
 -- those that a copy reaches, each after all items once
@@ -477,7 +498,8 @@ unreached_kept r items accepted are_items =
 
 -- ---- stations, in any weather
 
-stations-later : (ys : List SlaveState) (cs : List ControllerState) → AllByRecursion IsController (controllers ys)
+stations-later : (ys : List SlaveState) (cs : List ControllerState)
+    → AllByRecursion IsController (controllers ys)
     → IsLater (controllers ys) cs → map station (with_controllers ys cs) ≡ map station ys
 unfolding station
 stations-later [] cs are later = refl

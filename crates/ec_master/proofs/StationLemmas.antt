@@ -1,6 +1,7 @@
--- Slaves by their stations: where stations differ each slave is the one of its station, and what slaves come to
--- by their stations is what they come to one by one.
-use Rattle.std.proofs.Common.{◌≡◌, ◌≢◌, ℕ, zero, suc, ◌+◌, ◌<◌, ◌≤◌, true, false, eqb, Option, None, Some, List, [], ◌∷◌, length, map, get_or}
+-- Slaves by their stations: where stations differ each slave is the one of its station, and what slaves come
+-- to by their stations is what they come to one by one.
+use Rattle.std.proofs.Common.{◌≡◌, ◌≢◌, ℕ, zero, suc, ◌+◌, ◌<◌, ◌≤◌, true, false, eqb, Option, None, Some}
+use Rattle.std.proofs.Common.{List, [], ◌∷◌, length, map, get_or}
 use Rattle.std.proofs.Common.{sym, subst, ◌∙◌, ap, refl, arith, ⊎_elim}
 use Rattle.std.specs.List.{AllByRecursion, sum_by}
 use Rattle.std.proofs.Math.Path.{fun_ext}
@@ -18,7 +19,8 @@ use Rattle.ec_line.proofs.FrameLemmas.{IsLater}
 use Rattle.ec_check.specs.Line.{controllers}
 use Rattle.ec_map.specs.Item.{ItemRecord}
 use Rattle.ec_map.specs.Share.{request_of}
-use Rattle.ec_master.specs.Unordered.{ByStation, station, by_station, sum_of_stations, part_of_station, slave_after, slaves_after}
+use Rattle.ec_master.specs.Unordered.{ByStation, station, by_station, sum_of_stations, part_of_station}
+use Rattle.ec_master.specs.Unordered.{slave_after, slaves_after}
 
 -- ---- stations that differ
 
@@ -28,13 +30,15 @@ StationsApart [] = Unit {0}
 StationsApart (s ∷ ss) = AllByRecursion (λ t. station s ≢ station t) ss × StationsApart ss
 
 -- what holds of each controller of slaves holds of each slave's
-pub each-controller : (P : ControllerState → Type 0) (ss : List SlaveState) → AllByRecursion P (controllers ss)
+pub each-controller : (P : ControllerState → Type 0) (ss : List SlaveState)
+    → AllByRecursion P (controllers ss)
     → AllByRecursion (λ s. P s.controller) ss
 each-controller P [] all = tt
 each-controller P (s ∷ ss) all = (all.0, each-controller P ss all.1)
 
 -- and the other way round
-pub each-slave : (P : ControllerState → Type 0) (ss : List SlaveState) → AllByRecursion (λ s. P s.controller) ss
+pub each-slave : (P : ControllerState → Type 0) (ss : List SlaveState)
+    → AllByRecursion (λ s. P s.controller) ss
     → AllByRecursion P (controllers ss)
 each-slave P [] all = tt
 each-slave P (s ∷ ss) all = (all.0, each-slave P ss all.1)
@@ -50,7 +54,8 @@ station_below s is =
 -- ---- a slave by its station
 
 -- what holds of each slave holds of the one of a station, whose station it is
-pub by_station_each : (P : SlaveState → Type 0) (ss : List SlaveState) (n : ℕ) (s : SlaveState) → by_station ss n ≡ Some s
+pub by_station_each : (P : SlaveState → Type 0) (ss : List SlaveState) (n : ℕ) (s : SlaveState)
+    → by_station ss n ≡ Some s
     → AllByRecursion P ss → P s × (station s ≡ n)
 unfolding by_station
 by_station_each P [] n s found all = absurd (cc)
@@ -66,7 +71,8 @@ by_station_each P (t ∷ ts) n s found all =
     (cases_Bool (eqb (station t) n))
 
 -- a station that each slave's differs from has no slave
-pub by_station_none : (ss : List SlaveState) (n : ℕ) → AllByRecursion (λ t. n ≢ station t) ss → by_station ss n ≡ None
+pub by_station_none : (ss : List SlaveState) (n : ℕ) → AllByRecursion (λ t. n ≢ station t) ss
+    → by_station ss n ≡ None
 unfolding by_station
 by_station_none [] n all = refl
 by_station_none (t ∷ ts) n all =
@@ -74,14 +80,17 @@ by_station_none (t ∷ ts) n all =
     rw other (by_station_none ts n all.1)
 
 -- where stations differ each slave is the one of its station
-pub each_by_station : (ss : List SlaveState) → StationsApart ss → AllByRecursion (λ s. by_station ss (station s) ≡ Some s) ss
+pub each_by_station : (ss : List SlaveState) → StationsApart ss
+    → AllByRecursion (λ s. by_station ss (station s) ≡ Some s) ss
 unfolding by_station
 each_by_station [] apart = tt
 each_by_station (s ∷ ss) apart =
     let own : eqb (station s) (station s) ≡ true = eq-eqb (station s) (station s) refl in (
       rw own refl,
-      each-both (λ t. station s ≢ station t) (λ t. by_station ss (station t) ≡ Some t) (λ t. by_station (s ∷ ss) (station t) ≡ Some t) ss
-          (λ t differs found. let other : eqb (station s) (station t) ≡ false = ne_eqb (station s) (station t) differs in rw other found)
+      each-both (λ t. station s ≢ station t) (λ t. by_station ss (station t) ≡ Some t)
+          (λ t. by_station (s ∷ ss) (station t) ≡ Some t) ss
+          (λ t differs found. let other : eqb (station s) (station t)
+          ≡ false = ne_eqb (station s) (station t) differs in rw other found)
           apart.0 (each_by_station ss apart.1),
     )
 
@@ -94,7 +103,8 @@ pub record IsOneMore (some others : ByStation) (n : ℕ) (s : SlaveState) : Type
   pub same : (m : ℕ) → m ≢ n → some m ≡ others m
 
 -- below that station they come to the same
-sum_before : (f : SlaveState → ℕ) (some others : ByStation) (n : ℕ) (s : SlaveState) (limit : ℕ) → IsOneMore some others n s
+sum_before : (f : SlaveState → ℕ) (some others : ByStation) (n : ℕ) (s : SlaveState) (limit : ℕ)
+    → IsOneMore some others n s
     → limit ≤ n → sum_of_stations f some limit ≡ sum_of_stations f others limit
 unfolding sum_of_stations
 sum_before f some others n s zero more below = refl
@@ -106,7 +116,8 @@ sum_before f some others n s (suc limit) more below =
     ∙ ap (λ m. part_of_station f (others limit) + m) rest
 
 -- above it to what the slave comes to more
-sum_with : (f : SlaveState → ℕ) (some others : ByStation) (n : ℕ) (s : SlaveState) (limit : ℕ) → IsOneMore some others n s
+sum_with : (f : SlaveState → ℕ) (some others : ByStation) (n : ℕ) (s : SlaveState) (limit : ℕ)
+    → IsOneMore some others n s
     → n < limit → sum_of_stations f some limit ≡ f s + sum_of_stations f others limit
 unfolding sum_of_stations part_of_station
 sum_with f some others n s zero more above = absurd (omega arith)
@@ -116,8 +127,10 @@ sum_with f some others n s (suc limit) more above =
     let is : limit ≡ n = eqb-true limit n here in
     let one : some limit ≡ Some s = ap some is ∙ more.here in
     let none : others limit ≡ None = ap others is ∙ more.nobody in
-    let mine : part_of_station f (some limit) ≡ f s = ap (λ (o : Option SlaveState). part_of_station f o) one in
-    let nothing : part_of_station f (others limit) ≡ 0 = ap (λ (o : Option SlaveState). part_of_station f o) none in
+    let mine : part_of_station f (some limit) ≡ f s =
+    ap (λ (o : Option SlaveState). part_of_station f o) one in
+    let nothing : part_of_station f (others limit) ≡ 0 =
+    ap (λ (o : Option SlaveState). part_of_station f o) none in
     let rest : sum_of_stations f some limit ≡ sum_of_stations f others limit =
     sum_before f some others n s limit more (omega arith) in
     omega arith)
@@ -160,47 +173,59 @@ sum_of_stations-sum_by f (s ∷ ss) limit apart below =
 pub sum_of_ones : (ss : List SlaveState) → sum_by (λ (s : SlaveState). 1) ss ≡ length ss
 sum_of_ones [] = refl
 sum_of_ones (s ∷ ss) =
-    let first : sum_by (λ (s : SlaveState). 1) (s ∷ ss) ≡ 1 + sum_by (λ (s : SlaveState). 1) ss = sum_by-cons (λ (s : SlaveState). 1) s ss in
+    let first : sum_by (λ (s : SlaveState). 1) (s ∷ ss) ≡ 1 + sum_by (λ (s : SlaveState). 1) ss =
+    sum_by-cons (λ (s : SlaveState). 1) s ss in
     let rest : sum_by (λ (s : SlaveState). 1) ss ≡ length ss = sum_of_ones ss in
     omega arith
 
 -- ---- slaves after an item
 
 -- a slave's station is a register, which an item that it accepts leaves
-pub station_after : (r : ItemRecord) (s : SlaveState) → IsController s.controller → Accepts (request_of r) s.controller
+pub station_after : (r : ItemRecord) (s : SlaveState) → IsController s.controller
+    → Accepts (request_of r) s.controller
     → station (slave_after r s) ≡ station s
 unfolding station
-station_after r s is accepts = station_lasts s.controller _ is (after_calm (request_of r) r.payload s.controller is accepts)
+station_after r s is accepts =
+    station_lasts s.controller _ is (after_calm (request_of r) r.payload s.controller is accepts)
 
 -- the slaves after an item, by their stations
-by_station_after : (r : ItemRecord) (ss : List SlaveState) (n : ℕ) → AllByRecursion (λ s. IsController s.controller) ss
-    → AllByRecursion (λ s. Accepts (request_of r) s.controller) ss → slaves_after r (by_station ss) n ≡ by_station (map (slave_after r) ss) n
+by_station_after : (r : ItemRecord) (ss : List SlaveState) (n : ℕ)
+    → AllByRecursion (λ s. IsController s.controller) ss
+    → AllByRecursion (λ s. Accepts (request_of r) s.controller) ss
+    → slaves_after r (by_station ss) n ≡ by_station (map (slave_after r) ss) n
 unfolding by_station
 by_station_after r [] n are accept = refl
 by_station_after r (s ∷ ss) n are accept =
     ⊎_elim
     (λ (here : eqb (station s) n ≡ true).
-    let still : eqb (station (slave_after r s)) n ≡ true = ap (λ m. eqb m n) (station_after r s are.0 accept.0) ∙ here in
+    let still : eqb (station (slave_after r s)) n ≡ true =
+    ap (λ m. eqb m n) (station_after r s are.0 accept.0) ∙ here in
     rw (here, still) refl)
     (λ (other : eqb (station s) n ≡ false).
-    let still : eqb (station (slave_after r s)) n ≡ false = ap (λ m. eqb m n) (station_after r s are.0 accept.0) ∙ other in
+    let still : eqb (station (slave_after r s)) n ≡ false =
+    ap (λ m. eqb m n) (station_after r s are.0 accept.0) ∙ other in
     rw (other, still) (by_station_after r ss n are.1 accept.1))
     (cases_Bool (eqb (station s) n))
 
-pub slaves_after-map : (r : ItemRecord) (ss : List SlaveState) → AllByRecursion (λ s. IsController s.controller) ss
-    → AllByRecursion (λ s. Accepts (request_of r) s.controller) ss → slaves_after r (by_station ss) ≡ by_station (map (slave_after r) ss)
+pub slaves_after-map : (r : ItemRecord) (ss : List SlaveState)
+    → AllByRecursion (λ s. IsController s.controller) ss
+    → AllByRecursion (λ s. Accepts (request_of r) s.controller) ss
+    → slaves_after r (by_station ss) ≡ by_station (map (slave_after r) ss)
 slaves_after-map r ss are accept = fun_ext (λ n. by_station_after r ss n are accept)
 
 -- ---- a line as it is now
 
 -- the station of a slave whose controller is a later one
-station_of_later : (y : ControllerState) (t : SlaveState) → IsController y → SameCalm y t.controller → station t ≡ word_at y.memory STATION_ADDRESS
+station_of_later : (y : ControllerState) (t : SlaveState) → IsController y → SameCalm y t.controller
+    → station t ≡ word_at y.memory STATION_ADDRESS
 unfolding station
 station_of_later y t is same = station_lasts y t.controller is same
 
 -- the stations of slaves whose line is a later one of a line that is apart
-stations_from : (x : ControllerState) (s : SlaveState) (xs : List ControllerState) (ss : List SlaveState) → station s ≡ word_at x.memory STATION_ADDRESS
-    → AllByRecursion IsFitAlone xs → AllByRecursion (λ y. AreApart x y) xs → IsLater xs (controllers ss) → AllByRecursion (λ t. station s ≢ station t) ss
+stations_from : (x : ControllerState) (s : SlaveState) (xs : List ControllerState) (ss : List SlaveState)
+    → station s ≡ word_at x.memory STATION_ADDRESS
+    → AllByRecursion IsFitAlone xs → AllByRecursion (λ y. AreApart x y) xs → IsLater xs (controllers ss)
+    → AllByRecursion (λ t. station s ≢ station t) ss
 stations_from x s [] [] is fit apart later = tt
 stations_from x s [] (t ∷ ts) is fit apart later = absurd later
 stations_from x s (y ∷ ys) [] is fit apart later = absurd later
@@ -209,7 +234,8 @@ stations_from x s (y ∷ ys) (t ∷ ts) is fit apart later = (
   stations_from x s ys ts is fit.1 apart.1 later.1,
 )
 
-pub stations_apart : (xs : List ControllerState) (ss : List SlaveState) → AllByRecursion IsFitAlone xs → AllApart xs → IsLater xs (controllers ss)
+pub stations_apart : (xs : List ControllerState) (ss : List SlaveState) → AllByRecursion IsFitAlone xs
+    → AllApart xs → IsLater xs (controllers ss)
     → StationsApart ss
 stations_apart [] [] fit apart later = tt
 stations_apart [] (s ∷ ss) fit apart later = absurd later
@@ -220,7 +246,8 @@ stations_apart (x ∷ xs) (s ∷ ss) fit apart later = (
 )
 
 -- and they are controllers
-pub later_controllers : (xs : List ControllerState) (ss : List SlaveState) → IsLater xs (controllers ss) → AllByRecursion (λ s. IsController s.controller) ss
+pub later_controllers : (xs : List ControllerState) (ss : List SlaveState) → IsLater xs (controllers ss)
+    → AllByRecursion (λ s. IsController s.controller) ss
 later_controllers [] [] later = tt
 later_controllers [] (s ∷ ss) later = absurd later
 later_controllers (x ∷ xs) [] later = absurd later

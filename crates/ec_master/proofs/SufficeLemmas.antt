@@ -1,5 +1,5 @@
--- Frames whose copies come back as a ring's trips give them are joined as those are, so the end of the cycle is
--- certified by the counters.
+-- Frames whose copies come back as a ring's trips give them are joined as those are, so the end of the cycle
+-- is certified by the counters.
 use Rattle.std.proofs.Common.{◌≡◌, ◌≢◌, ◌≤◌, inl, inr, ℕ, Bool, true, false, cond, sym, subst, ap, refl, ◌∙◌}
 use Rattle.std.proofs.Common.{List, [], ◌∷◌, length, map, None, Some, Ok, Err}
 use Rattle.std.specs.Prelude.{Result}
@@ -24,8 +24,10 @@ use Rattle.ec_ring.specs.declared.weather.Came.{Came}
 use Rattle.ec_ring.specs.declared.weather.Weather.{Weather}
 use Rattle.ec_master.specs.Certificate.{verdict_under}
 use Rattle.ec_master.specs.Cut.{frames_of}
-use Rattle.ec_master.specs.Ports.{came_or, ComesTo, Trips, PortTrip, Outcome, with_first, Sends, taken_on, EndsIn, IsPortCycle}
-use Rattle.ec_master.specs.Suffice.{AllThatCame, Brings, in_turn, exchanged, GivenBy, AllGivenBy, SaysOf, SaysOfEach, FramesSuffice}
+use Rattle.ec_master.specs.Ports.{came_or, ComesTo, Trips, PortTrip, Outcome, with_first, Sends, taken_on}
+use Rattle.ec_master.specs.Ports.{EndsIn, IsPortCycle}
+use Rattle.ec_master.specs.Suffice.{AllThatCame, Brings, in_turn, exchanged, GivenBy, AllGivenBy, SaysOf}
+use Rattle.ec_master.specs.Suffice.{SaysOfEach, FramesSuffice}
 use Rattle.ec_master.specs.Travelled.{trips_under, run_under, answers_under}
 use Rattle.ec_master.specs.Unordered.{by_station, AreAnswers, IsAccepted}
 use Rattle.ec_master.specs.Verdict.{verdict}
@@ -49,15 +51,18 @@ OnWays t = AllByRecursion (λ (e : Entry). OnWay e.request e.sent) t.entries
 pub record JoinsAs (t : Trip) (line : List ControllerState) (came : Came) : Type 0 where
   pub own_a : IsOwn (sent_of t.entries) (came_or came.a (sent_of t.entries))
   pub own_b : IsOwn (sent_of t.entries) (came_or came.b (sent_of t.entries))
-  pub joined : joined_frame (sent_of t.entries) (came_or came.a (sent_of t.entries)) (came_or came.b (sent_of t.entries))
+  pub joined : joined_frame (sent_of t.entries) (came_or came.a (sent_of t.entries))
+      (came_or came.b (sent_of t.entries))
       ≡ joined_of t (passed t line)
 
-stands_for : (lost : Bool) (sent copy : List DatagramRecord) → came_or (cond lost None (Some copy)) sent ≡ cond lost sent copy
+stands_for : (lost : Bool) (sent copy : List DatagramRecord)
+    → came_or (cond lost None (Some copy)) sent ≡ cond lost sent copy
 stands_for true sent copy = refl
 stands_for false sent copy = refl
 
 -- those that the trip gives, in their places and exchanged
-own_gives : (t : Trip) (line : List ControllerState) → OnWays t → JoinsAs t line (as_trip t (passed t line)).came
+own_gives : (t : Trip) (line : List ControllerState) → OnWays t
+    → JoinsAs t line (as_trip t (passed t line)).came
 own_gives t line ways =
     let s : List DatagramRecord = sent_of t.entries in
     let p : Passed = passed t line in
@@ -71,7 +76,8 @@ own_gives t line ways =
           ∙ ap (λ (y : List DatagramRecord). joined_frame s (cond t.lost_a s p.a) y) is_b;
     }
 
-own_exchanged : (t : Trip) (line : List ControllerState) (came : Came) → JoinsAs t line came → JoinsAs t line (exchanged came)
+own_exchanged : (t : Trip) (line : List ControllerState) (came : Came) → JoinsAs t line came
+    → JoinsAs t line (exchanged came)
 own_exchanged t line came is =
     let s : List DatagramRecord = sent_of t.entries in
     record {
@@ -80,10 +86,12 @@ own_exchanged t line came is =
       joined = joined_frame_symmetric s (came_or came.b s) (came_or came.a s) ∙ is.joined;
     }
 
-own_given : (t : Trip) (line : List ControllerState) (came : Came) → OnWays t → GivenBy t line (Ok came) → JoinsAs t line came
+own_given : (t : Trip) (line : List ControllerState) (came : Came) → OnWays t → GivenBy t line (Ok came)
+    → JoinsAs t line came
 own_given t line came ways (inl same) = subst (JoinsAs t line) (sym same) (own_gives t line ways)
 own_given t line came ways (inr other) =
-    subst (JoinsAs t line) (sym other) (own_exchanged t line (as_trip t (passed t line)).came (own_gives t line ways))
+    subst (JoinsAs t line) (sym other)
+    (own_exchanged t line (as_trip t (passed t line)).came (own_gives t line ways))
 
 -- so they come to the joined frame of the trip
 comes-given : (t : Trip) (line : List ControllerState) (came : Result Came PortFault)
@@ -106,20 +114,23 @@ unfolding AllGivenBy
 first-given t ts line came first rest is given = subst (AllGivenBy (t ∷ ts) line) is given
 
 -- what one frame comes to, and the others behind it
-abbrev Behind : AllThatCame → List (List DatagramRecord) → Outcome → Result (List DatagramRecord) CycleFault → Type 0
+abbrev Behind : AllThatCame → List (List DatagramRecord) → Outcome → Result (List DatagramRecord) CycleFault
+    → Type 0
 Behind between rest outcome (Err fault) = (outcome ≡ Err fault) × ([] ≡ between)
 Behind between rest outcome (Ok joined) =
     (others : Outcome) × Sends in_turn between rest others [] × (outcome ≡ with_first joined others)
 
 behind-joined : (between : AllThatCame) (rest : List (List DatagramRecord)) (outcome : Outcome)
-    (answer : Result (List DatagramRecord) CycleFault) (joined : List DatagramRecord) (js : List (List DatagramRecord))
+    (answer : Result (List DatagramRecord) CycleFault) (joined : List DatagramRecord)
+    (js : List (List DatagramRecord))
     → answer ≡ Ok joined → ((others : Outcome) → Sends in_turn between rest others [] → others ≡ Ok js)
     → Behind between rest outcome answer → outcome ≡ Ok (joined ∷ js)
 behind-joined between rest outcome (Err fault) joined js is more behind =
     absurd (let no : Err fault ≡ Ok joined = is in cc)
 behind-joined between rest outcome (Ok frame) joined js is more behind =
     let same : frame ≡ joined = let e : Ok frame ≡ Ok joined = is in cc in
-    behind.2 ∙ ap (with_first frame) (more behind.0 behind.1) ∙ ap (λ (f : List DatagramRecord). Ok (f ∷ js)) same
+    behind.2 ∙ ap (with_first frame) (more behind.0 behind.1)
+    ∙ ap (λ (f : List DatagramRecord). Ok (f ∷ js)) same
 
 -- frames of trips whose copies come back as the trips give them are all joined as the trips are
 given-run : (ts : List Trip) (line : List ControllerState) (came : AllThatCame) (outcome : Outcome)
@@ -131,7 +142,8 @@ given-run [] line came outcome ways given sends = sends.0
 given-run (t ∷ ts) line came outcome ways given sends =
     let p : Passed = passed t line in
     let parts = first-given t ts line came sends.2.came sends.1 sends.2.made given in
-    behind-joined sends.1 (map (λ (u : Trip). sent_of u.entries) ts) outcome sends.0 (joined_of t p) (trips_run ts p.line).joined
+    behind-joined sends.1 (map (λ (u : Trip). sent_of u.entries) ts) outcome sends.0 (joined_of t p)
+    (trips_run ts p.line).joined
     (comes-given t line sends.2.came sends.0 ways.0 parts.0 sends.2.comes)
     (λ others more. given-run ts p.line sends.1 others ways.1 parts.1 more)
     sends.3
@@ -143,22 +155,27 @@ frames-trips : (ws : List Weather) (r : RingState) (items : List ItemRecord)
     → map (λ (t : Trip). sent_of t.entries) (trips_under ws r items) ≡ map sent_of (frames_of items)
 frames-trips ws r items =
     sym (map-map sent_of (λ (t : Trip). t.entries) (trips_under ws r items))
-    ∙ ap (λ (fs : List (List Entry)). map sent_of fs) (entries-trips_of ws r.links (length r.slaves) (frames_of items))
+    ∙ ap (λ (fs : List (List Entry)). map sent_of fs)
+    (entries-trips_of ws r.links (length r.slaves) (frames_of items))
 
 taken-good : (v : Verdict) (items : List ItemRecord) (answers : List DatagramRecord) → v ≡ Good
     → taken_on v items answers ≡ with_answers items answers
 taken-good v items answers good = ap (λ (x : Verdict). taken_on x items answers) good
 
-taken-other : (v : Verdict) (items : List ItemRecord) (answers : List DatagramRecord) → v ≢ Good → taken_on v items answers ≡ items
+taken-other : (v : Verdict) (items : List ItemRecord) (answers : List DatagramRecord) → v ≢ Good
+    → taken_on v items answers ≡ items
 taken-other Good items answers other = absurd (other refl)
 taken-other (Short k) items answers other = refl
 taken-other (Over k) items answers other = refl
 
 -- joined frames of a ring's trips end in what is said of the ring
-says : (ws : List Weather) (r : RingState) (items : List ItemRecord) (expected : List ℕ) (result : Result Verdict CycleFault)
-    (items_later : List ItemRecord) → length r.slaves ≤ MAX_SLAVES → IsAccepted r.slaves items → AllByRecursion IsItem items
+says : (ws : List Weather) (r : RingState) (items : List ItemRecord) (expected : List ℕ)
+    (result : Result Verdict CycleFault)
+    (items_later : List ItemRecord) → length r.slaves ≤ MAX_SLAVES → IsAccepted r.slaves items
+    → AllByRecursion IsItem items
     → expected ≡ map (expected_of (line_of r)) items
-    → EndsIn items expected (Ok (run_under ws r items).joined) result items_later → SaysOf ws r items result items_later
+    → EndsIn items expected (Ok (run_under ws r items).joined) result items_later
+    → SaysOf ws r items result items_later
 says ws r items expected result items_later room accepted are counts ends =
     let answers : List DatagramRecord = answers_under ws r items in
     let v : Verdict = verdict items answers expected in
@@ -170,39 +187,49 @@ says ws r items expected result items_later room accepted are counts ends =
           let is : v ≡ Good = let e : Ok v ≡ Ok Good = sym ends.0 ∙ good in cc in
           subst (AreAnswers (by_station r.slaves) items) (sym (ends.1 ∙ taken-good v items answers is))
           (good_answers ws r items room accepted are (sym same ∙ is));
-      untouched = λ other. ends.1 ∙ taken-other v items answers (λ is. other (ends.0 ∙ ap (λ (x : Verdict). Ok x) is));
+      untouched = λ other. ends.1
+          ∙ taken-other v items answers (λ is. other (ends.0 ∙ ap (λ (x : Verdict). Ok x) is));
     }
 
-pub frames-suffice : (items : List ItemRecord) (expected : List ℕ) (came : AllThatCame) (result : Result Verdict CycleFault)
+pub frames-suffice : (items : List ItemRecord) (expected : List ℕ) (came : AllThatCame)
+    (result : Result Verdict CycleFault)
     (items_later : List ItemRecord) → AllByRecursion IsItem items
-    → IsPortCycle in_turn came items expected result items_later [] → SaysOfEach items expected came result items_later
+    → IsPortCycle in_turn came items expected result items_later []
+    → SaysOfEach items expected came result items_later
 frames-suffice items expected came result items_later are cycle ws r room accepted counts given =
     let ts : List Trip = trips_under ws r items in
     let line : List ControllerState = line_of r in
     let sends : Sends in_turn came (map (λ (t : Trip). sent_of t.entries) ts) cycle.outcome [] =
-    subst (λ (fs : List (List DatagramRecord)). Sends in_turn came fs cycle.outcome []) (sym (frames-trips ws r items)) cycle.sends in
-    let joined = given-run ts line came cycle.outcome (trips_ready ws r items accepted are).entries given sends in
+    subst (λ (fs : List (List DatagramRecord)). Sends in_turn came fs cycle.outcome [])
+    (sym (frames-trips ws r items)) cycle.sends in
+    let joined = given-run ts line came cycle.outcome (trips_ready ws r items accepted are).entries given
+    sends in
     says ws r items expected result items_later room accepted are counts
     (subst (λ (o : Outcome). EndsIn items expected o result items_later) joined cycle.ends)
 
 -- ---- a run by what came back
 
 -- frames that go out over ports come to what they come to by what came back alone
-pub record ByWhatCame {P : Type 0} (trips : Trips P) (before : P) (frames : List (List DatagramRecord)) (outcome : Outcome) (later : P)
+pub record ByWhatCame {P : Type 0} (trips : Trips P) (before : P) (frames : List (List DatagramRecord))
+    (outcome : Outcome) (later : P)
     : Type 0 where
   pub came : AllThatCame
   pub brought : Brings trips before frames came later
   pub sends : Sends in_turn came frames outcome []
 
 -- what one frame comes to over ports, and the others behind it
-abbrev Continues : {P : Type 0} → Trips P → P → List (List DatagramRecord) → Outcome → P → Result (List DatagramRecord) CycleFault → Type 0
+abbrev Continues : {P : Type 0} → Trips P → P → List (List DatagramRecord) → Outcome → P
+    → Result (List DatagramRecord) CycleFault → Type 0
 Continues trips between rest outcome later (Err fault) = (outcome ≡ Err fault) × (later ≡ between)
 Continues trips between rest outcome later (Ok joined) =
     (others : Outcome) × Sends trips between rest others later × (outcome ≡ with_first joined others)
 
-by-first : {P : Type 0} (trips : Trips P) (before between later : P) (sent : List DatagramRecord) (rest : List (List DatagramRecord))
-    (outcome : Outcome) (answer : Result (List DatagramRecord) CycleFault) → PortTrip trips before sent answer between
-    → ((others : Outcome) → Sends trips between rest others later → ByWhatCame trips between rest others later)
+by-first : {P : Type 0} (trips : Trips P) (before between later : P) (sent : List DatagramRecord)
+    (rest : List (List DatagramRecord))
+    (outcome : Outcome) (answer : Result (List DatagramRecord) CycleFault)
+    → PortTrip trips before sent answer between
+    → ((others : Outcome) → Sends trips between rest others later
+    → ByWhatCame trips between rest others later)
     → Continues trips between rest outcome later answer → ByWhatCame trips before (sent ∷ rest) outcome later
 unfolding Sends Brings
 by-first trips before between later sent rest outcome (Err fault) trip more ends = record {
@@ -215,18 +242,26 @@ by-first trips before between later sent rest outcome (Ok joined) trip more goes
     record {
       came = trip.came ∷ others.came;
       brought = (between, trip.made, others.brought);
-      sends = (Ok joined, others.came, record { came = trip.came; made = refl; comes = trip.comes }, (goes_on.0, others.sends, goes_on.2));
+      sends = (
+        Ok joined,
+        others.came,
+        record { came = trip.came; made = refl; comes = trip.comes },
+        (goes_on.0, others.sends, goes_on.2),
+      );
     }
 
-by_what_came : {P : Type 0} (trips : Trips P) (before later : P) (frames : List (List DatagramRecord)) (outcome : Outcome)
+by_what_came : {P : Type 0} (trips : Trips P) (before later : P) (frames : List (List DatagramRecord))
+    (outcome : Outcome)
     → Sends trips before frames outcome later → ByWhatCame trips before frames outcome later
 unfolding Sends Brings
-by_what_came trips before later [] outcome sends = record { came = []; brought = sends.1; sends = (sends.0, refl) }
+by_what_came trips before later [] outcome sends =
+    record { came = []; brought = sends.1; sends = (sends.0, refl) }
 by_what_came trips before later (sent ∷ rest) outcome sends =
     by-first trips before sends.1 later sent rest outcome sends.0 sends.2
     (λ others more. by_what_came trips sends.1 later rest others more) sends.3
 
-pub cycle-suffices : {P : Type 0} (trips : Trips P) (before later : P) (items : List ItemRecord) (expected : List ℕ)
+pub cycle-suffices : {P : Type 0} (trips : Trips P) (before later : P) (items : List ItemRecord)
+    (expected : List ℕ)
     (result : Result Verdict CycleFault) (items_later : List ItemRecord) → AllByRecursion IsItem items
     → IsPortCycle trips before items expected result items_later later
     → FramesSuffice trips before items expected result items_later later

@@ -1,5 +1,5 @@
--- The verdict of a cycle is that of the counts of passes; what a good one says of the counters; and that it is
--- good where each slave is passed once.
+-- The verdict of a cycle is that of the counts of passes; what a good one says of the counters; and that it
+-- is good where each slave is passed once.
 use Rattle.std.proofs.Common.{◌≡◌, ℕ, suc, ◌+◌, ◌*◌, ◌%◌, ◌<◌, ◌≤◌, Bool, true, false, cond, eqb, ltb, ◌||◌}
 use Rattle.std.proofs.Common.{List, [], ◌∷◌, ◌++◌, length, map, take, drop, Option, None, Some}
 use Rattle.std.proofs.Common.{sym, subst, ◌∙◌, ap, refl, arith}
@@ -30,7 +30,8 @@ use Rattle.ec_ring.specs.declared.port.Port.{Port}
 use Rattle.ec_ring.specs.declared.weather.Weather.{Weather}
 use Rattle.ec_ring.proofs.ReachLemmas.{front-is-back, lost-front, lost-back}
 use Rattle.ec_ring.proofs.RingLemmas.{length-controllers}
-use Rattle.ec_master.specs.Certificate.{carriers, count_of, whole_count, counts_from, verdict_by_counts, verdict_under, IsOneDown}
+use Rattle.ec_master.specs.Certificate.{carriers, count_of, whole_count, counts_from, verdict_by_counts}
+use Rattle.ec_master.specs.Certificate.{verdict_under, IsOneDown}
 use Rattle.ec_master.specs.Cut.{concat, entries_from, frames_of}
 use Rattle.ec_master.specs.Travelled.{calm, trips_of, trips_under, run_under, answers_under}
 use Rattle.ec_master.specs.Unordered.{IsAccepted}
@@ -74,7 +75,8 @@ answered-each who (t ∷ ts) (g ∷ gs) answered =
 
 sum-same : {S : Type 0} (f g : S → ℕ) (xs : List S) → ((x : S) → f x ≡ g x) → sum_by f xs ≡ sum_by g xs
 sum-same f g [] same = refl
-sum-same f g (x ∷ xs) same = omega (arith, sum_by-cons f x xs, sum_by-cons g x xs, same x, sum-same f g xs same)
+sum-same f g (x ∷ xs) same =
+    omega (arith, sum_by-cons f x xs, sum_by-cons g x xs, same x, sum-same f g xs same)
 
 length-if : {S : Type 0} (b : Bool) (xs : List S) → length (cond b [] xs) ≤ length xs
 length-if true xs = omega arith
@@ -82,8 +84,10 @@ length-if false xs = omega arith
 
 length-returned : (t : Trip) (xs : List ControllerState) → length (returned t xs) ≤ 2 * length xs
 length-returned t xs =
-    let a : length (cond t.lost_a [] (take t.front xs)) ≤ length (take t.front xs) = length-if t.lost_a (take t.front xs) in
-    let b : length (cond t.lost_b [] (drop t.back xs)) ≤ length (drop t.back xs) = length-if t.lost_b (drop t.back xs) in
+    let a : length (cond t.lost_a [] (take t.front xs)) ≤ length (take t.front xs) =
+    length-if t.lost_a (take t.front xs) in
+    let b : length (cond t.lost_b [] (drop t.back xs)) ≤ length (drop t.back xs) =
+    length-if t.lost_b (drop t.back xs) in
     let both = length-append (cond t.lost_a [] (take t.front xs)) (cond t.lost_b [] (drop t.back xs)) in
     omega (arith, both, a, b, length-take t.front xs, length-drop t.back xs)
 
@@ -97,7 +101,8 @@ count-moved : (r : ItemRecord) (j : ℕ) (t : Trip) (line : List ControllerState
     → length line ≤ 256 → IsItem r → Answered (request_of r) (returned t line) (datagram_of r j) g
     → moved r.counter g.counter ≡ count_of r t line
 count-moved r j t line g room item answered =
-    let counted : g.counter ≡ (r.counter + sum_by (gain (request_of r)) (returned t line)) % 65536 = answered.counter in
+    let counted : g.counter ≡ (r.counter + sum_by (gain (request_of r)) (returned t line)) % 65536 =
+    answered.counter in
     let same = count-gains r (returned t line) item in
     let bound = sum_bound (request_of r) (returned t line) in
     let size = length-returned t line in
@@ -130,7 +135,8 @@ verdict-counts-from j k (r ∷ rs) (u ∷ us) (g ∷ gs) line room items answere
     let V : ℕ → ℕ → Verdict → Verdict = λ a b v. cond (eqb a b) v (cond (ltb a b) (Short k) (Over k)) in
     ap (λ (a : ℕ). V a e rest) (count-moved r j u line g room items.0 answered.0)
     ∙ ap (λ (b : ℕ). V count b rest) (expected-whole r line room items.0)
-    ∙ ap (λ (v : Verdict). V count whole v) (verdict-counts-from (suc j) (suc k) rs us gs line room items.1 answered.1)
+    ∙ ap (λ (v : Verdict). V count whole v)
+    (verdict-counts-from (suc j) (suc k) rs us gs line room items.1 answered.1)
 
 -- the entries of a work's trips
 pub entries_under : (ws : List Weather) (r : RingState) (items : List ItemRecord)
@@ -140,7 +146,8 @@ entries_under ws r items =
     ∙ concat-cut (entries_from 0 items)
 
 -- each answer is that of those that came back
-pub returned_answers : (ws : List Weather) (r : RingState) (items : List ItemRecord) → IsAccepted r.slaves items
+pub returned_answers : (ws : List Weather) (r : RingState) (items : List ItemRecord)
+    → IsAccepted r.slaves items
     → AllByRecursion IsItem items
     → AnsweredTrips (trips_under ws r items) (λ t. returned t (line_of r)) (run_under ws r items).joined
 returned_answers ws r items accepted are_items =
@@ -215,7 +222,8 @@ equal-trips line (t ∷ ts) equal =
     (parts.0, equal-trips line ts parts.1)
 
 counts-frame : (line : List ControllerState) (t : Trip) (es : List Entry) (gs : List DatagramRecord)
-    → AnsweredFrame es (returned t line) gs → AllByRecursion (λ e. CountsEqual line e t) es → CountsWhole es line gs
+    → AnsweredFrame es (returned t line) gs → AllByRecursion (λ e. CountsEqual line e t) es
+    → CountsWhole es line gs
 counts-frame line t [] [] answered equal = tt
 counts-frame line t [] (g ∷ gs) answered equal = absurd answered
 counts-frame line t (e ∷ es) [] answered equal = absurd answered
@@ -226,7 +234,8 @@ counts-frame line t (e ∷ es) (g ∷ gs) answered equal = (
 
 counts-trips : (line : List ControllerState) (ts : List Trip) (joined : List (List DatagramRecord))
     → AnsweredTrips ts (λ t. returned t line) joined
-    → AllByRecursion (λ t. AllByRecursion (λ e. CountsEqual line e t) t.entries) ts → CountsWholeAll ts line joined
+    → AllByRecursion (λ t. AllByRecursion (λ e. CountsEqual line e t) t.entries) ts
+    → CountsWholeAll ts line joined
 counts-trips line [] [] answered equal = tt
 counts-trips line [] (g ∷ gs) answered equal = absurd answered
 counts-trips line (t ∷ ts) [] answered equal = absurd answered
@@ -260,7 +269,8 @@ good_counts ws r items room accepted are_items good =
 abbrev PassesOnce : List ControllerState → Trip → Type 0
 PassesOnce line t = returned t line ≡ line
 
-piece_a : (links : Links) (n : ℕ) (line : List ControllerState) (o : Option Port) → (o ≡ None → front links n ≡ 0)
+piece_a : (links : Links) (n : ℕ) (line : List ControllerState) (o : Option Port)
+    → (o ≡ None → front links n ≡ 0)
     → cond (is_none o) [] (take (front links n) line) ≡ take (front links n) line
 piece_a links n line None none = ap (λ (p : ℕ). take p line) (sym (none refl))
 piece_a links n line (Some port) none = refl
@@ -283,8 +293,10 @@ passes-once w f line down =
     ap (λ (lost : Bool). A lost ++ B w.lost_b w.b) down.came_a
     ∙ ap (λ (lost : Bool). A false ++ B lost w.b) down.came_b
     ∙ ap (λ (links : Links). A false ++ B false links) down.same
-    ∙ ap (λ (l : List ControllerState). l ++ B false w.a) (piece_a w.a n line (arrival_a w.a n) (lost-front w.a n))
-    ∙ ap (λ (l : List ControllerState). take p line ++ l) (piece_b w.a line (arrival_b w.a n) (lost-back w.a n))
+    ∙ ap (λ (l : List ControllerState). l ++ B false w.a)
+    (piece_a w.a n line (arrival_a w.a n) (lost-front w.a n))
+    ∙ ap (λ (l : List ControllerState). take p line ++ l)
+    (piece_b w.a line (arrival_b w.a n) (lost-back w.a n))
     ∙ ap (λ (q : ℕ). take p line ++ drop q line) (sym (front-is-back w.a n down.link down.only))
     ∙ take-append-drop p line
 
@@ -323,7 +335,8 @@ once-good k (r ∷ rs) (u ∷ us) line once =
 
 -- so the verdict is good
 pub one_down_good : (ws : List Weather) (r : RingState) (items : List ItemRecord) → length r.slaves ≤ 256
-    → IsAccepted r.slaves items → AllByRecursion IsItem items → AllByRecursion (IsOneDown (length r.slaves)) ws
+    → IsAccepted r.slaves items → AllByRecursion IsItem items
+    → AllByRecursion (IsOneDown (length r.slaves)) ws
     → (link : ℕ) → IsOnlyDown r.links (length r.slaves) link → verdict_under ws r items ≡ Good
 one_down_good ws r items room accepted are_items down link only =
     let last : IsOneDown (length r.slaves) (calm r.links) =
@@ -336,6 +349,7 @@ one_down_good ws r items room accepted are_items down link only =
     (subst (λ (n : ℕ). AllByRecursion (IsOneDown n) ws) size down)
     (subst (λ (n : ℕ). IsOneDown n (calm r.links)) size last) in
     let under : AllByRecursion (PassesOnce line) ts =
-    subst (λ (n : ℕ). AllByRecursion (PassesOnce line) (trips_of ws r.links n (frames_of items))) (sym size) once in
+    subst (λ (n : ℕ). AllByRecursion (PassesOnce line) (trips_of ws r.links n (frames_of items))) (sym size)
+    once in
     verdict-counts ws r items room accepted are_items
     ∙ once-good 0 items (carriers ts) line (carriers-each (PassesOnce line) ts under)

@@ -15,7 +15,8 @@ use Rattle.ec_master.specs.Work.{with_answer, with_answers, with_answers_at, rew
 pub front-get : {X : Type 0} (n : ℕ) (xs : List X) (k : ℕ) (d : X) → n ≤ length xs → k < n
     → slice_get (take n xs) k ≡ Some (get_or xs k d)
 front-get n xs k d h below =
-    slice_get-get_or (take n xs) k d (omega (arith, below, length-take-le n xs h)) ∙ ap Some (get_or-take n xs k d below)
+    slice_get-get_or (take n xs) k d (omega (arith, below, length-take-le n xs h))
+    ∙ ap Some (get_or-take n xs k d below)
 
 -- ---- answers
 
@@ -23,7 +24,8 @@ pub with_answers-none : (rs : List ItemRecord) → with_answers rs [] ≡ rs
 with_answers-none [] = refl
 with_answers-none (r ∷ rs) = refl
 
-pub length-with_answers : (rs : List ItemRecord) (ds : List DatagramRecord) → length (with_answers rs ds) ≡ length rs
+pub length-with_answers : (rs : List ItemRecord) (ds : List DatagramRecord)
+    → length (with_answers rs ds) ≡ length rs
 length-with_answers [] ds = refl
 length-with_answers (r ∷ rs) [] = refl
 length-with_answers (r ∷ rs) (d ∷ ds) = ap suc (length-with_answers rs ds)
@@ -54,30 +56,38 @@ get-with_answers_at (suc k) j [] ds e = refl
 get-with_answers_at (suc k) j (r ∷ rs) ds e = rw (suc-add k j) (get-with_answers_at k j rs ds e)
 
 -- it takes its answer
-pub set-with_answers : (j : ℕ) (rs : List ItemRecord) (ds : List DatagramRecord) (e : ItemRecord) → j < length rs → j < length ds
-    → set (with_answers rs (take j ds)) j (with_answer (get_or rs j e) (nth ds j)) ≡ with_answers rs (take (suc j) ds)
+pub set-with_answers : (j : ℕ) (rs : List ItemRecord) (ds : List DatagramRecord) (e : ItemRecord)
+    → j < length rs → j < length ds
+    → set (with_answers rs (take j ds)) j (with_answer (get_or rs j e) (nth ds j))
+    ≡ with_answers rs (take (suc j) ds)
 set-with_answers j [] ds e h i = absurd (omega (arith, h))
 set-with_answers j (r ∷ rs) [] e h i = absurd (omega (arith, i))
-set-with_answers zero (r ∷ rs) (d ∷ ds) e h i = ap (λ (xs : List ItemRecord). with_answer r d ∷ xs) (sym (with_answers-none rs))
+set-with_answers zero (r ∷ rs) (d ∷ ds) e h i =
+    ap (λ (xs : List ItemRecord). with_answer r d ∷ xs) (sym (with_answers-none rs))
 set-with_answers (suc j) (r ∷ rs) (d ∷ ds) e h i =
-    ap (λ (xs : List ItemRecord). with_answer r d ∷ xs) (set-with_answers j rs ds e (omega (arith, h)) (omega (arith, i)))
+    ap (λ (xs : List ItemRecord). with_answer r d ∷ xs)
+    (set-with_answers j rs ds e (omega (arith, h)) (omega (arith, i)))
 
-pub set-with_answers_at : (k j : ℕ) (rs : List ItemRecord) (ds : List DatagramRecord) (e : ItemRecord) → k + j < length rs
+pub set-with_answers_at : (k j : ℕ) (rs : List ItemRecord) (ds : List DatagramRecord) (e : ItemRecord)
+    → k + j < length rs
     → j < length ds
     → set (with_answers_at k rs (take j ds)) (k + j) (with_answer (get_or rs (k + j) e) (nth ds j))
     ≡ with_answers_at k rs (take (suc j) ds)
 set-with_answers_at zero j rs ds e h i = rw (zero-add j) (set-with_answers j rs ds e (omega (arith, h)) i)
 set-with_answers_at (suc k) j [] ds e h i = absurd (omega (arith, h))
 set-with_answers_at (suc k) j (r ∷ rs) ds e h i =
-    rw (suc-add k j) (ap (λ (xs : List ItemRecord). r ∷ xs) (set-with_answers_at k j rs ds e (omega (arith, h)) i))
+    rw (suc-add k j)
+    (ap (λ (xs : List ItemRecord). r ∷ xs) (set-with_answers_at k j rs ds e (omega (arith, h)) i))
 
 -- ---- rewinding
 
 pub set-rewound : (k : ℕ) (rs : List ItemRecord) (e : ItemRecord) → k < length rs
-    → set (map rewound (take k rs) ++ drop k rs) k (rewound (get_or rs k e)) ≡ map rewound (take (suc k) rs) ++ drop (suc k) rs
+    → set (map rewound (take k rs) ++ drop k rs) k (rewound (get_or rs k e)) ≡ map rewound (take (suc k) rs)
+    ++ drop (suc k) rs
 set-rewound k [] e h = absurd (omega (arith, h))
 set-rewound zero (r ∷ rs) e h = refl
-set-rewound (suc k) (r ∷ rs) e h = ap (λ (xs : List ItemRecord). rewound r ∷ xs) (set-rewound k rs e (omega (arith, h)))
+set-rewound (suc k) (r ∷ rs) e h =
+    ap (λ (xs : List ItemRecord). rewound r ∷ xs) (set-rewound k rs e (omega (arith, h)))
 
 pub get-rewound : (k : ℕ) (rs : List ItemRecord) (e : ItemRecord)
     → get_or (map rewound (take k rs) ++ drop k rs) k e ≡ get_or rs k e
@@ -86,7 +96,8 @@ get-rewound (suc k) [] e = refl
 get-rewound zero (r ∷ rs) e = refl
 get-rewound (suc k) (r ∷ rs) e = get-rewound k rs e
 
-pub length-rewound : (k : ℕ) (rs : List ItemRecord) → length (map rewound (take k rs) ++ drop k rs) ≡ length rs
+pub length-rewound : (k : ℕ) (rs : List ItemRecord) → length (map rewound (take k rs) ++ drop k rs)
+    ≡ length rs
 length-rewound zero [] = refl
 length-rewound (suc k) [] = refl
 length-rewound zero (r ∷ rs) = refl
@@ -95,12 +106,15 @@ length-rewound (suc k) (r ∷ rs) = ap suc (length-rewound k rs)
 -- ---- pushing and copying
 
 -- where there is room an item is pushed
-pub pushed : {E : Type 0} (result : Result (Unit {0}) E) (old later : List ItemRecord) (r : ItemRecord) → OnOk result (later ≡ old ++ r ∷ [])
+pub pushed : {E : Type 0} (result : Result (Unit {0}) E) (old later : List ItemRecord) (r : ItemRecord)
+    → OnOk result (later ≡ old ++ r ∷ [])
     → (IsErr result ↔ (length old ≡ 32)) → length old < 32 → later ≡ old ++ r ∷ []
 pushed (Ok u) old later r done full room = done
 pushed (Err e) old later r done full room = absurd (omega (arith, room, full.0 refl))
 
-pub take-one_more : (k : ℕ) (rs : List ItemRecord) (e : ItemRecord) → k < length rs → take k rs ++ get_or rs k e ∷ [] ≡ take (k + 1) rs
+pub take-one_more : (k : ℕ) (rs : List ItemRecord) (e : ItemRecord) → k < length rs
+    → take k rs ++ get_or rs k e ∷ [] ≡ take (k + 1) rs
 take-one_more k [] e inside = absurd (omega (arith, inside))
 take-one_more zero (r ∷ rs) e inside = refl
-take-one_more (suc k) (r ∷ rs) e inside = rw (suc-add k 1) (ap (λ (xs : List ItemRecord). r ∷ xs) (take-one_more k rs e (omega (arith, inside))))
+take-one_more (suc k) (r ∷ rs) e inside =
+    rw (suc-add k 1) (ap (λ (xs : List ItemRecord). r ∷ xs) (take-one_more k rs e (omega (arith, inside))))

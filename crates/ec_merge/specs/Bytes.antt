@@ -22,5 +22,6 @@ joined_bytes (s ∷ ss) (x ∷ xs) (y ∷ ys) = joined_bits s x y ∷ joined_byt
 -- the first n bytes of a are joined with those of b, and the others are as they were
 pub record IsJoinedUpTo (n : ℕ) (sent a b now : List ℕ) : Type 0 where
   pub count : length now ≡ length a
-  pub joined : (k : ℕ) → k < n → slice_index now k ≡ joined_bits (slice_index sent k) (slice_index a k) (slice_index b k)
+  pub joined : (k : ℕ) → k < n
+      → slice_index now k ≡ joined_bits (slice_index sent k) (slice_index a k) (slice_index b k)
   pub rest : (k : ℕ) → n ≤ k → slice_index now k ≡ slice_index a k

@@ -26,7 +26,8 @@ fixed_address command address = if counts_adp command then address / 65536 else 
 -- a copy may have come of this datagram: its command, index, data length and fixed address are the sent ones
 abbrev pub belongs : DatagramRecord → DatagramRecord → Bool
 belongs sent copy =
-    code_of copy.command == code_of sent.command && copy.index == sent.index && length copy.payload == length sent.payload
+    code_of copy.command == code_of sent.command && copy.index == sent.index
+    && length copy.payload == length sent.payload
     && fixed_address sent.command copy.address == fixed_address sent.command sent.address
 
 -- no stranger: as many datagrams as were sent, and each may have come of the sent one
@@ -53,11 +54,13 @@ IsFault sent a b (StrangerB k) = IsOwn sent a × IsStranger sent b k
 -- the joined ADP below the sent ADO where slaves count it up, else the sent address
 abbrev pub joined_address : Command → ℕ → ℕ → ℕ → ℕ
 joined_address command sent a b =
-    if counts_adp command then joined_count (sent % 65536) (a % 65536) (b % 65536) + 65536 * (sent / 65536) else sent
+    if counts_adp command then joined_count (sent % 65536) (a % 65536) (b % 65536) + 65536 * (sent / 65536)
+    else sent
 
 -- copy a with its address joined
 abbrev pub with_joined_address : DatagramRecord → DatagramRecord → DatagramRecord → DatagramRecord
-with_joined_address sent a b = record a { address = joined_address sent.command sent.address a.address b.address }
+with_joined_address sent a b =
+    record a { address = joined_address sent.command sent.address a.address b.address }
 
 -- copy a with all else joined that slaves change
 abbrev pub with_joined_fields : DatagramRecord → DatagramRecord → DatagramRecord → DatagramRecord
@@ -81,14 +84,16 @@ joined_record sent a b = record {
 }
 
 -- a frame of two copies
-abbrev pub joined_frame : List DatagramRecord → List DatagramRecord → List DatagramRecord → List DatagramRecord
+abbrev pub joined_frame : List DatagramRecord → List DatagramRecord → List DatagramRecord
+    → List DatagramRecord
 joined_frame [] xs ys = []
 joined_frame (s ∷ ss) [] ys = []
 joined_frame (s ∷ ss) (x ∷ xs) [] = []
 joined_frame (s ∷ ss) (x ∷ xs) (y ∷ ys) = joined_record s x y ∷ joined_frame ss xs ys
 
 -- the first n datagrams of a are joined with those of b
-abbrev pub joined_part : ℕ → List DatagramRecord → List DatagramRecord → List DatagramRecord → List DatagramRecord
+abbrev pub joined_part : ℕ → List DatagramRecord → List DatagramRecord → List DatagramRecord
+    → List DatagramRecord
 joined_part zero ss xs ys = xs
 joined_part (suc n) [] xs ys = xs
 joined_part (suc n) (s ∷ ss) [] ys = []

@@ -181,9 +181,11 @@ pub fn join_frames(
     ensures joined { IfOk result (λ frame.
         frame ≡ joined_frame sent.now (copy_or a.entry sent.now) (copy_or b.entry sent.now)) }
     ensures fault { IfErr result (IsFault sent.now (copy_or a.entry sent.now) (copy_or b.entry sent.now)) }
-    ensures only_joined { IsOwn sent.now (copy_or a.entry sent.now) → IsOwn sent.now (copy_or b.entry sent.now)
+    ensures only_joined { IsOwn sent.now (copy_or a.entry sent.now)
+        → IsOwn sent.now (copy_or b.entry sent.now)
         → result ≡ Ok (joined_frame sent.now (copy_or a.entry sent.now) (copy_or b.entry sent.now)) }
-    ensures only_fault { (f : JoinFault) → IsFault sent.now (copy_or a.entry sent.now) (copy_or b.entry sent.now) f
+    ensures only_fault { (f : JoinFault)
+        → IsFault sent.now (copy_or a.entry sent.now) (copy_or b.entry sent.now) f
         → result ≡ Err f }
 {
     let a = a.unwrap_or(sent);
@@ -202,7 +204,8 @@ pub fn join_frames(
 /// The order of two copies does not matter, and a copy that is as it was sent adds nothing.
 pub fn frame_laws()
     ensures symmetric { (s a b : List DatagramRecord) → joined_frame s a b ≡ joined_frame s b a }
-    ensures unit { (s a : List DatagramRecord) → All Fits s → All Fits a → IsOwn s a → joined_frame s a s ≡ a }
+    ensures unit { (s a : List DatagramRecord) → All Fits s → All Fits a → IsOwn s a
+        → joined_frame s a s ≡ a }
 {}
 
 /// A stranger has one first difference, and a frame that is no stranger has none.

@@ -145,7 +145,8 @@ pub fn value_rule()
     ensures flag { (s a b : Bool) → IsJoinedBit s a b (joined_flag s a b) }
     ensures counter { (s a b : ℕ) → s < 65536
         → distance s (joined_count s a b) ≡ (distance s a + distance s b) % 65536 }
-    ensures one_counter { (s x y : ℕ) → s < 65536 → x < 65536 → y < 65536 → distance s x ≡ distance s y → x ≡ y }
+    ensures one_counter { (s x y : ℕ) → s < 65536 → x < 65536 → y < 65536 → distance s x ≡ distance s y
+        → x ≡ y }
 {}
 
 #[cfg(test)]

@@ -11,7 +11,8 @@ use base.Fml.{Fml, ftrue, fsep, feq}
 use prog.Memory.{align, up}
 use types.Logic.{Logic, sem}
 use types.SemTy.{cells}
-use types.Kit.{‵, ◌⊛◌, raw, ◌$◌, ◌∵◌, !, qed, move, drop, split, fsplit, fjoin, use1, use2, done, rewrite, feq_l, feq_i, check}
+use types.Kit.{‵, ◌⊛◌, raw, ◌$◌, ◌∵◌, !, qed, move, drop, split, fsplit, fjoin, use1, use2, done, rewrite}
+use types.Kit.{feq_l, feq_i, check}
 use denote.ArrayMemory.{Array-apart, Array-whole}
 use denote.Array.{Array}
 use denote.Builtin.{u8}
@@ -52,7 +53,8 @@ module _ (n : ℕ) where
   first_byte o = o + up (align array) zero
 
   -- the struct in memory is the tuple of its one field
-  as_fields : (c : S.Denot) (b o : ℕ) → part_at S full_share c b o ≡ part_at Fields full_share (c.bytes, tt) b o
+  as_fields : (c : S.Denot) (b o : ℕ)
+      → part_at S full_share c b o ≡ part_at Fields full_share (c.bytes, tt) b o
   as_fields c b o = let D = the_type N in Recorded-part (Struct (shape D)) D.D D.to D.to_one full_share c b o
 
   module _ {M : Type 1} {𝓤 : Ura M} (𝓛 : Logic 𝓤) (b o : ℕ) where
@@ -63,7 +65,9 @@ module _ (n : ℕ) where
     Frame = H.left full_share (ty_struct [] (raw_tys fields)) (raw_tys fields) b o
 
     -- the bytes come out of the struct, and there are n of them
-    pub bytes_out : (c : S.Denot) → ent 𝓤 (sem 𝓛 ((mem S).own_at c b o)) (guard 𝓤 (length c.bytes ≡ n) (sep 𝓤 (sem 𝓛 (cells (mem u8) c.bytes b (first_byte o))) Frame))
+    pub bytes_out : (c : S.Denot)
+        → ent 𝓤 (sem 𝓛 ((mem S).own_at c b o))
+        (guard 𝓤 (length c.bytes ≡ n) (sep 𝓤 (sem 𝓛 (cells (mem u8) c.bytes b (first_byte o))) Frame))
     bytes_out c =
         let one = (array_loose u8-field (loosen u8-field u8-laws) n).single in
         qed 𝓛 (‵ (part_at S full_share c b o) ∷ []) ∵
@@ -77,7 +81,8 @@ module _ (n : ℕ) where
         check ! long $ done !)
 
     -- n bytes make the struct again
-    pub bytes_in : (c : S.Denot) → length c.bytes ≡ n → ent 𝓤 (sep 𝓤 (sem 𝓛 (cells (mem u8) c.bytes b (first_byte o))) Frame) (sem 𝓛 ((mem S).own_at c b o))
+    pub bytes_in : (c : S.Denot) → length c.bytes ≡ n
+        → ent 𝓤 (sep 𝓤 (sem 𝓛 (cells (mem u8) c.bytes b (first_byte o))) Frame) (sem 𝓛 ((mem S).own_at c b o))
     bytes_in c long =
         qed 𝓛 (‵ (cells (mem u8) c.bytes b (first_byte o)) ∷ raw Frame ∷ []) ∵
         use1 𝓛 (‵ (row u8 full_share c.bytes b (first_byte o))) (whole_out 𝓛 u8 c.bytes b (first_byte o)) $

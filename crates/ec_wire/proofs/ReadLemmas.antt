@@ -1,11 +1,14 @@
 -- Reading a frame datagram by datagram: what the tests leave, how far the loop has come, and that bytes
 -- have at most one value or one first fault.
-use Rattle.std.proofs.Common.{◌≡◌, ℕ, ◌+◌, ◌/◌, ◌%◌, ◌<◌, ◌≤◌, ◌^◌, ◌==◌, ◌&&◌, Bool, true, false, not, nat_lt, Some, None, List, [], ◌∷◌, ◌++◌, length, take, drop, get_or, refl, sym, ap, ◌∙◌, subst, arith}
+use Rattle.std.proofs.Common.{◌≡◌, ℕ, ◌+◌, ◌/◌, ◌%◌, ◌<◌, ◌≤◌, ◌^◌, ◌==◌, ◌&&◌, Bool, true, false, not}
+use Rattle.std.proofs.Common.{nat_lt, Some, None, List, [], ◌∷◌, ◌++◌, length, take, drop, get_or, refl, sym}
+use Rattle.std.proofs.Common.{ap, ◌∙◌, subst, arith}
 use Rattle.std.specs.Prelude.{All}
 use Rattle.std.specs.Int.{w16, to_le_bytes}
 use Rattle.std.proofs.lemmas.Bool.{true≢false}
 use Rattle.std.proofs.lemmas.Bool.Decides.{nat_tests}
-use Rattle.std.proofs.lemmas.List.{append_assoc, append-nil, length-append, length-drop, take-append-drop, drop-drop, map-append, length-take-le, take-take}
+use Rattle.std.proofs.lemmas.List.{append_assoc, append-nil, length-append, length-drop, take-append-drop}
+use Rattle.std.proofs.lemmas.List.{drop-drop, map-append, length-take-le, take-take}
 use Rattle.std.proofs.lemmas.List.Elements.{All-push, All-nil}
 use Rattle.std.proofs.lemmas.List.Sums.{sum_by_push}
 use Rattle.std.proofs.Math.ListN.{drop_of_length-le}
@@ -13,9 +16,11 @@ use Rattle.ec_wire.specs.Datagram.{DatagramRecord, datagram_length, Fits}
 use Rattle.ec_wire.specs.Decoding.{length_field, data_length, says_more, record_at}
 use Rattle.ec_wire.specs.Spelling.{datagram, body, body_length, front, header, spelling, IsFrameValue}
 use Rattle.ec_wire.specs.Frame.{starts_from, records_at, Keeps}
-use Rattle.ec_wire.specs.Fault.{first_of, header_word, stated_length, frame_end, header_tests, header_fault, datagram_tests, datagram_fault, FailsWithin, AreSpelt, IsSpeltBefore}
+use Rattle.ec_wire.specs.Fault.{first_of, header_word, stated_length, frame_end, header_tests, header_fault}
+use Rattle.ec_wire.specs.Fault.{datagram_tests, datagram_fault, FailsWithin, AreSpelt, IsSpeltBefore}
 use Rattle.ec_wire.specs.declared.fault.WireFault.{WireFault}
-use Rattle.ec_wire.proofs.DatagramLemmas.{AreBytes, Passes, datagram-record_at, Fits-record_at, AreBytes-drop, le_bytes_first}
+use Rattle.ec_wire.proofs.DatagramLemmas.{AreBytes, Passes, datagram-record_at, Fits-record_at, AreBytes-drop}
+use Rattle.ec_wire.proofs.DatagramLemmas.{le_bytes_first}
 use Rattle.ec_wire.proofs.SpellingLemmas.{length-body, length-front, length-starts_from}
 use Rattle.ec_wire.proofs.WriteLemmas.{is_nil-push, body-push, front-push, starts_from-push, Keeps-made}
 use Rattle.ec_wire.proofs.FrameLemmas.{twelve_each}
@@ -76,7 +81,8 @@ GoesOn-none at rest none =
       last = last_ends (says_more rest) (12 + data_length rest) (length rest) room tests.1.1.1.1.1.0;
     }
 
--- How far the reading of a frame has come: behind datagrams that are spelt well and each say that more follow.
+-- How far the reading of a frame has come: behind datagrams that are spelt well and each say that more
+-- follow.
 pub record Reached (frame : List ℕ) (at : ℕ) (starts : List ℕ) (rs : List DatagramRecord) : Type 0 where
   pub seen : records_at frame starts ≡ rs
   pub fits : All Fits rs
@@ -86,71 +92,97 @@ pub record Reached (frame : List ℕ) (at : ℕ) (starts : List ℕ) (rs : List 
   pub starts_are : starts ≡ starts_from 2 rs
 
 -- it begins behind the header
-pub Reached-start : (frame starts : List ℕ) → 2 < length frame → starts ≡ [] → Reached frame 2 starts (records_at frame starts)
+pub Reached-start : (frame starts : List ℕ) → 2 < length frame → starts ≡ []
+    → Reached frame 2 starts (records_at frame starts)
 unfolding records_at
 Reached-start frame starts some e =
     let none : records_at frame starts ≡ [] = ap (records_at frame) e in
     let P : List DatagramRecord → Type 0 = λ rs. Reached frame 2 starts rs in
-    subst P (sym none) (record { seen = none; fits = All-nil Fits; split = refl; at_is = refl; below = some; starts_are = e })
+    subst P (sym none)
+    (record { seen = none; fits = All-nil Fits; split = refl; at_is = refl; below = some; starts_are = e })
 
 -- one more place gives one more record
-records_at-push : (frame starts : List ℕ) (at : ℕ) → records_at frame (starts ++ at ∷ []) ≡ records_at frame starts ++ record_at (drop at frame) ∷ []
+records_at-push : (frame starts : List ℕ) (at : ℕ)
+    → records_at frame (starts ++ at ∷ []) ≡ records_at frame starts ++ record_at (drop at frame) ∷ []
 unfolding records_at
 records_at-push frame starts at = map-append (λ start. record_at (drop start frame)) starts (at ∷ [])
 
 -- the record ahead takes as many bytes as its length field says
-record-long : (rest : List ℕ) → AreBytes rest → Passes rest → datagram_length (record_at rest) ≡ 12 + data_length rest
+record-long : (rest : List ℕ) → AreBytes rest → Passes rest
+    → datagram_length (record_at rest) ≡ 12 + data_length rest
 unfolding record_at
-record-long rest all ok = ap (λ n. 12 + n) (length-take-le (data_length rest) (drop 10 rest) (simp length-drop (omega (arith, ok.room))))
+record-long rest all ok =
+    ap (λ n. 12 + n)
+    (length-take-le (data_length rest) (drop 10 rest) (simp length-drop (omega (arith, ok.room))))
 
 -- the frame from a datagram on, where one is ahead
-ahead-split : (frame : List ℕ) (at : ℕ) → AreBytes frame → Passes (drop at frame) → drop at frame ≡ datagram (says_more (drop at frame)) (record_at (drop at frame)) ++ drop (at + (12 + data_length (drop at frame))) frame
+ahead-split : (frame : List ℕ) (at : ℕ) → AreBytes frame → Passes (drop at frame)
+    → drop at frame ≡ datagram (says_more (drop at frame)) (record_at (drop at frame))
+    ++ drop (at + (12 + data_length (drop at frame))) frame
 ahead-split frame at all ok =
-    datagram-record_at (drop at frame) (AreBytes-drop at frame all) ok ∙ ap (λ xs. datagram (says_more (drop at frame)) (record_at (drop at frame)) ++ xs) (drop-drop (12 + data_length (drop at frame)) at frame)
+    datagram-record_at (drop at frame) (AreBytes-drop at frame all) ok
+    ∙ ap (λ xs. datagram (says_more (drop at frame)) (record_at (drop at frame)) ++ xs)
+    (drop-drop (12 + data_length (drop at frame)) at frame)
 
 -- a datagram that says that more follow brings the reading on
-pub Reached-more : (frame : List ℕ) (at : ℕ) (starts starts' : List ℕ) (rs : List DatagramRecord) → AreBytes frame → Reached frame at starts rs → datagram_fault at (drop at frame) ≡ None → says_more (drop at frame) ≡ true → starts' ≡ starts ++ at ∷ []
+pub Reached-more : (frame : List ℕ) (at : ℕ) (starts starts' : List ℕ) (rs : List DatagramRecord)
+    → AreBytes frame → Reached frame at starts rs → datagram_fault at (drop at frame) ≡ None
+    → says_more (drop at frame) ≡ true → starts' ≡ starts ++ at ∷ []
     → Reached frame (at + (12 + data_length (drop at frame))) starts' (records_at frame starts')
 Reached-more frame at starts starts' rs all so_far none more e =
     let rest = drop at frame in
     let go = GoesOn-none at rest none in
     let r = record_at rest in
-    let seen : records_at frame starts' ≡ rs ++ r ∷ [] = ap (records_at frame) e ∙ records_at-push frame starts at ∙ ap (λ xs. xs ++ r ∷ []) so_far.seen in
-    let ahead = ahead-split frame at all go.passes ∙ ap (λ b. datagram b r ++ drop (at + (12 + data_length rest)) frame) more in
-    let total : body_length (rs ++ r ∷ []) ≡ body_length rs + datagram_length r = sum_by_push datagram_length rs r in
+    let seen : records_at frame starts' ≡ rs ++ r ∷ [] =
+    ap (records_at frame) e ∙ records_at-push frame starts at ∙ ap (λ xs. xs ++ r ∷ []) so_far.seen in
+    let ahead = ahead-split frame at all go.passes
+    ∙ ap (λ b. datagram b r ++ drop (at + (12 + data_length rest)) frame) more in
+    let total : body_length (rs ++ r ∷ []) ≡ body_length rs + datagram_length r =
+    sum_by_push datagram_length rs r in
     let long = record-long rest (AreBytes-drop at frame all) go.passes in
     let left = length-drop at frame in
     let P : List DatagramRecord → Type 0 = λ xs. Reached frame (at + (12 + data_length rest)) starts' xs in
     subst P (sym seen) (record {
       seen = seen;
       fits = All-push Fits rs r so_far.fits (Fits-record_at rest (AreBytes-drop at frame all) go.passes);
-      split = so_far.split ∙ ap (λ xs. front rs ++ xs) ahead ∙ sym (append_assoc (front rs) (datagram true r) (drop (at + (12 + data_length rest)) frame)) ∙ ap (λ xs. xs ++ drop (at + (12 + data_length rest)) frame) (sym (front-push rs r));
+      split = so_far.split ∙ ap (λ xs. front rs ++ xs) ahead
+          ∙ sym (append_assoc (front rs) (datagram true r) (drop (at + (12 + data_length rest)) frame))
+          ∙ ap (λ xs. xs ++ drop (at + (12 + data_length rest)) frame) (sym (front-push rs r));
       at_is = omega (arith, so_far.at_is, total, long);
       below = omega (arith, go.more more, left, so_far.below);
-      starts_are = e ∙ ap (λ xs. xs ++ at ∷ []) so_far.starts_are ∙ ap (λ n. starts_from 2 rs ++ n ∷ []) so_far.at_is ∙ sym (starts_from-push rs 2 r);
+      starts_are = e ∙ ap (λ xs. xs ++ at ∷ []) so_far.starts_are
+          ∙ ap (λ n. starts_from 2 rs ++ n ∷ []) so_far.at_is ∙ sym (starts_from-push rs 2 r);
     })
 
 -- the last one ends it
-pub AreSpelt-last : (frame : List ℕ) (at : ℕ) (starts starts' : List ℕ) (rs : List DatagramRecord) → AreBytes frame → Reached frame at starts rs → datagram_fault at (drop at frame) ≡ None → says_more (drop at frame) ≡ false → starts' ≡ starts ++ at ∷ []
+pub AreSpelt-last : (frame : List ℕ) (at : ℕ) (starts starts' : List ℕ) (rs : List DatagramRecord)
+    → AreBytes frame → Reached frame at starts rs → datagram_fault at (drop at frame) ≡ None
+    → says_more (drop at frame) ≡ false → starts' ≡ starts ++ at ∷ []
     → AreSpelt frame starts' (records_at frame starts')
 AreSpelt-last frame at starts starts' rs all so_far none last e =
     let rest = drop at frame in
     let go = GoesOn-none at rest none in
     let r = record_at rest in
-    let seen : records_at frame starts' ≡ rs ++ r ∷ [] = ap (records_at frame) e ∙ records_at-push frame starts at ∙ ap (λ xs. xs ++ r ∷ []) so_far.seen in
+    let seen : records_at frame starts' ≡ rs ++ r ∷ [] =
+    ap (records_at frame) e ∙ records_at-push frame starts at ∙ ap (λ xs. xs ++ r ∷ []) so_far.seen in
     let left = length-drop at frame in
-    let over : length frame ≤ at + (12 + data_length rest) = omega (arith, go.last last, left, so_far.below) in
-    let ahead = ahead-split frame at all go.passes ∙ ap (λ b. datagram b r ++ drop (at + (12 + data_length rest)) frame) last ∙ ap (λ xs. datagram false r ++ xs) (drop_of_length-le frame over) ∙ append-nil (datagram false r) in
+    let over : length frame ≤ at + (12 + data_length rest) =
+    omega (arith, go.last last, left, so_far.below) in
+    let ahead = ahead-split frame at all go.passes
+    ∙ ap (λ b. datagram b r ++ drop (at + (12 + data_length rest)) frame) last
+    ∙ ap (λ xs. datagram false r ++ xs) (drop_of_length-le frame over) ∙ append-nil (datagram false r) in
     let P : List DatagramRecord → Type 0 = λ xs. AreSpelt frame starts' xs in
     subst P (sym seen) (record {
       some = is_nil-push rs r;
       fits = All-push Fits rs r so_far.fits (Fits-record_at rest (AreBytes-drop at frame all) go.passes);
       split = so_far.split ∙ ap (λ xs. front rs ++ xs) ahead ∙ sym (body-push rs r);
-      starts_are = e ∙ ap (λ xs. xs ++ at ∷ []) so_far.starts_are ∙ ap (λ n. starts_from 2 rs ++ n ∷ []) so_far.at_is ∙ sym (starts_from-push rs 2 r);
+      starts_are = e ∙ ap (λ xs. xs ++ at ∷ []) so_far.starts_are
+          ∙ ap (λ n. starts_from 2 rs ++ n ∷ []) so_far.at_is ∙ sym (starts_from-push rs 2 r);
     })
 
 -- a datagram at fault is the frame's
-pub FailsWithin-ahead : (frame : List ℕ) (at : ℕ) (starts : List ℕ) (rs : List DatagramRecord) (f : WireFault) → Reached frame at starts rs → datagram_fault at (drop at frame) ≡ Some f → FailsWithin frame f
+pub FailsWithin-ahead : (frame : List ℕ) (at : ℕ) (starts : List ℕ) (rs : List DatagramRecord) (f : WireFault)
+    → Reached frame at starts rs → datagram_fault at (drop at frame) ≡ Some f → FailsWithin frame f
 FailsWithin-ahead frame at starts rs f so_far fails =
     let left = length-drop at frame in
     let place : at ≡ 2 + length (front rs) = so_far.at_is ∙ ap (λ n. 2 + n) (sym (length-front rs)) in (
@@ -165,13 +197,17 @@ FailsWithin-ahead frame at starts rs f so_far fails =
     )
 
 -- there is room for one more start
-pub starts-room : (frame : List ℕ) (at : ℕ) (starts : List ℕ) (rs : List DatagramRecord) → Reached frame at starts rs → datagram_fault at (drop at frame) ≡ None → length frame ≤ 1500 → (length starts < 124) × (at + (12 + data_length (drop at frame)) ≤ 1500)
+pub starts-room : (frame : List ℕ) (at : ℕ) (starts : List ℕ) (rs : List DatagramRecord)
+    → Reached frame at starts rs → datagram_fault at (drop at frame) ≡ None → length frame ≤ 1500
+    → (length starts < 124) × (at + (12 + data_length (drop at frame)) ≤ 1500)
 starts-room frame at starts rs so_far none room =
     let go = GoesOn-none at (drop at frame) none in
     let left = length-drop at frame in
     let count = ap length so_far.starts_are ∙ length-starts_from rs 2 in
-    let each = twelve_each rs in
-    (omega (arith, go.passes.room, so_far.at_is, so_far.below, left, count, each), omega (arith, go.passes.room, left, so_far.below))
+    let each = twelve_each rs in (
+      omega (arith, go.passes.room, so_far.at_is, so_far.below, left, count, each),
+      omega (arith, go.passes.room, left, so_far.below),
+    )
 
 -- What the header's tests leave where they find no fault.
 pub record HeaderGoesOn (bytes : List ℕ) : Type 0 where
@@ -207,17 +243,23 @@ HeaderGoesOn-none bytes all none =
     }
 
 -- a header without a fault is the header of the stated length
-pub take-header : (bytes : List ℕ) → AreBytes bytes → header_fault bytes ≡ None → take 2 bytes ≡ header (stated_length bytes)
-take-header bytes all none = let h = HeaderGoesOn-none bytes all none in sym (le_bytes_first bytes all h.two) ∙ ap (to_le_bytes w16) h.word
+pub take-header : (bytes : List ℕ) → AreBytes bytes → header_fault bytes ≡ None
+    → take 2 bytes ≡ header (stated_length bytes)
+take-header bytes all none = let h = HeaderGoesOn-none bytes all none in
+    sym (le_bytes_first bytes all h.two) ∙ ap (to_le_bytes w16) h.word
 
 -- the frame of the stated length
-pub frame-split : (bytes : List ℕ) → AreBytes bytes → header_fault bytes ≡ None → take (frame_end bytes) bytes ≡ header (stated_length bytes) ++ drop 2 (take (frame_end bytes) bytes)
+pub frame-split : (bytes : List ℕ) → AreBytes bytes → header_fault bytes ≡ None
+    → take (frame_end bytes) bytes ≡ header (stated_length bytes) ++ drop 2 (take (frame_end bytes) bytes)
 frame-split bytes all none =
     let two : 2 ≤ frame_end bytes = omega arith in
-    sym (take-append-drop 2 (take (frame_end bytes) bytes)) ∙ ap (λ xs. xs ++ drop 2 (take (frame_end bytes) bytes)) (take-take 2 (frame_end bytes) bytes two ∙ take-header bytes all none)
+    sym (take-append-drop 2 (take (frame_end bytes) bytes))
+    ∙ ap (λ xs. xs ++ drop 2 (take (frame_end bytes) bytes))
+    (take-take 2 (frame_end bytes) bytes two ∙ take-header bytes all none)
 
 -- what is spelt is as long as is stated
-pub stated-body : (bytes : List ℕ) (rs : List DatagramRecord) → AreBytes bytes → header_fault bytes ≡ None → drop 2 (take (frame_end bytes) bytes) ≡ body rs → stated_length bytes ≡ body_length rs
+pub stated-body : (bytes : List ℕ) (rs : List DatagramRecord) → AreBytes bytes → header_fault bytes ≡ None
+    → drop 2 (take (frame_end bytes) bytes) ≡ body rs → stated_length bytes ≡ body_length rs
 stated-body bytes rs all none split =
     let h = HeaderGoesOn-none bytes all none in
     let long = length-take-le (frame_end bytes) bytes h.whole in
@@ -227,21 +269,36 @@ stated-body bytes rs all none split =
     omega arith
 
 -- the frame is the spelling of its datagrams, and they are a frame's value
-pub IsFrameValue-spelt : (bytes starts : List ℕ) (rs : List DatagramRecord) → AreBytes bytes → header_fault bytes ≡ None → AreSpelt (take (frame_end bytes) bytes) starts rs → IsFrameValue rs
-IsFrameValue-spelt bytes starts rs all none spelt = record { some = spelt.some; fits = spelt.fits; room = rw (← stated-body bytes rs all none spelt.split) (HeaderGoesOn-none bytes all none).room }
+pub IsFrameValue-spelt : (bytes starts : List ℕ) (rs : List DatagramRecord) → AreBytes bytes
+    → header_fault bytes ≡ None → AreSpelt (take (frame_end bytes) bytes) starts rs → IsFrameValue rs
+IsFrameValue-spelt bytes starts rs all none spelt =
+    record {
+      some = spelt.some;
+      fits = spelt.fits;
+      room = rw (← stated-body bytes rs all none spelt.split) (HeaderGoesOn-none bytes all none).room;
+    }
 
-pub spelling-spelt : (bytes starts : List ℕ) (rs : List DatagramRecord) → AreBytes bytes → header_fault bytes ≡ None → AreSpelt (take (frame_end bytes) bytes) starts rs → take (frame_end bytes) bytes ≡ spelling rs
+pub spelling-spelt : (bytes starts : List ℕ) (rs : List DatagramRecord) → AreBytes bytes
+    → header_fault bytes ≡ None → AreSpelt (take (frame_end bytes) bytes) starts rs
+    → take (frame_end bytes) bytes ≡ spelling rs
 unfolding spelling
-spelling-spelt bytes starts rs all none spelt = frame-split bytes all none ∙ ap (λ xs. header (stated_length bytes) ++ xs) spelt.split ∙ ap (λ n. header n ++ body rs) (stated-body bytes rs all none spelt.split)
+spelling-spelt bytes starts rs all none spelt =
+    frame-split bytes all none ∙ ap (λ xs. header (stated_length bytes) ++ xs) spelt.split
+    ∙ ap (λ n. header n ++ body rs) (stated-body bytes rs all none spelt.split)
 
-pub IsSpeltBefore-spelt : (bytes starts : List ℕ) (rs : List DatagramRecord) → AreBytes bytes → header_fault bytes ≡ None → AreSpelt (take (frame_end bytes) bytes) starts rs → IsSpeltBefore bytes rs (drop (frame_end bytes) bytes)
+pub IsSpeltBefore-spelt : (bytes starts : List ℕ) (rs : List DatagramRecord) → AreBytes bytes
+    → header_fault bytes ≡ None → AreSpelt (take (frame_end bytes) bytes) starts rs
+    → IsSpeltBefore bytes rs (drop (frame_end bytes) bytes)
 IsSpeltBefore-spelt bytes starts rs all none spelt = record {
   value = IsFrameValue-spelt bytes starts rs all none spelt;
-  split = sym (take-append-drop (frame_end bytes) bytes) ∙ ap (λ xs. xs ++ drop (frame_end bytes) bytes) (spelling-spelt bytes starts rs all none spelt);
+  split = sym (take-append-drop (frame_end bytes) bytes)
+      ∙ ap (λ xs. xs ++ drop (frame_end bytes) bytes) (spelling-spelt bytes starts rs all none spelt);
 }
 
 -- the frame that keeps the bytes' datagrams
-pub Keeps-spelt : (bytes starts cells zeros : List ℕ) (rs : List DatagramRecord) → AreBytes bytes → header_fault bytes ≡ None → AreSpelt (take (frame_end bytes) bytes) starts rs → length zeros ≡ 1500 → cells ≡ take (frame_end bytes) bytes ++ drop (0 + length (take (frame_end bytes) bytes)) zeros
+pub Keeps-spelt : (bytes starts cells zeros : List ℕ) (rs : List DatagramRecord) → AreBytes bytes
+    → header_fault bytes ≡ None → AreSpelt (take (frame_end bytes) bytes) starts rs → length zeros ≡ 1500
+    → cells ≡ take (frame_end bytes) bytes ++ drop (0 + length (take (frame_end bytes) bytes)) zeros
     → Keeps cells (frame_end bytes) starts rs
 unfolding spelling
 Keeps-spelt bytes starts cells zeros rs all none spelt long made =
@@ -252,5 +309,6 @@ Keeps-spelt bytes starts cells zeros rs all none spelt long made =
     let rest = drop (0 + length (take (frame_end bytes) bytes)) zeros in
     let whole = length-append (take (frame_end bytes) bytes) rest in
     Keeps-made cells (frame_end bytes) starts rs rest (IsFrameValue-spelt bytes starts rs all none spelt)
-    (made ∙ ap (λ xs. xs ++ rest) (spelling-spelt bytes starts rs all none spelt) ∙ append_assoc (header (body_length rs)) (body rs) rest)
+    (made ∙ ap (λ xs. xs ++ rest) (spelling-spelt bytes starts rs all none spelt)
+    ∙ append_assoc (header (body_length rs)) (body rs) rest)
     spelt.starts_are (ap (λ n. 2 + n) count) (ap length made ∙ whole ∙ (let room = h.room in omega arith))

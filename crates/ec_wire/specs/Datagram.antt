@@ -19,11 +19,21 @@ pub record DatagramRecord : Type 0 where
 
 -- the record of a `Datagram`
 abbrev pub record_of : Datagram → DatagramRecord
-record_of d = record { command = d.command; index = d.index; address = d.address; circulating = d.circulating; irq = d.irq; payload = d.payload.items; counter = d.counter }
+record_of d =
+    record {
+      command = d.command;
+      index = d.index;
+      address = d.address;
+      circulating = d.circulating;
+      irq = d.irq;
+      payload = d.payload.items;
+      counter = d.counter;
+    }
 
 -- the commands in the order of their codes
 abbrev pub commands : List Command
-commands = Nop ∷ Aprd ∷ Apwr ∷ Aprw ∷ Fprd ∷ Fpwr ∷ Fprw ∷ Brd ∷ Bwr ∷ Brw ∷ Lrd ∷ Lwr ∷ Lrw ∷ Armw ∷ Frmw ∷ []
+commands =
+    Nop ∷ Aprd ∷ Apwr ∷ Aprw ∷ Fprd ∷ Fpwr ∷ Fprw ∷ Brd ∷ Bwr ∷ Brw ∷ Lrd ∷ Lwr ∷ Lrw ∷ Armw ∷ Frmw ∷ []
 
 -- the command of a code
 unfoldable pub command_of : ℕ → Command
@@ -76,7 +86,15 @@ datagram_length r = 12 + length r.payload
 
 -- a datagram that asks nothing and carries nothing
 abbrev pub blank : DatagramRecord
-blank = record { command = Nop; index = 0; address = 0; circulating = false; irq = 0; payload = []; counter = 0 }
+blank = record {
+  command = Nop;
+  index = 0;
+  address = 0;
+  circulating = false;
+  irq = 0;
+  payload = [];
+  counter = 0;
+}
 
 -- the datagram at an index, which is below their number
 abbrev pub nth : List DatagramRecord → ℕ → DatagramRecord

@@ -40,8 +40,13 @@ frame_end bytes = 2 + stated_length bytes
 -- the tests of the header, in their order
 abbrev pub header_tests : List ℕ → List (Bool × WireFault)
 header_tests bytes =
-    (nat_lt (length bytes) 2, fault Short (length bytes)) ∷ (not (header_word bytes / 4096 == 1), fault BadType 1) ∷ (not (header_word bytes / 2048 % 2 == 0), fault Reserved 1) ∷ (stated_length bytes == 0, fault Empty 0)
-    ∷ (nat_lt 1498 (stated_length bytes), fault TooLong 0) ∷ (nat_lt (length bytes) (frame_end bytes), fault Short (length bytes)) ∷ []
+    (nat_lt (length bytes) 2, fault Short (length bytes))
+    ∷ (not (header_word bytes / 4096 == 1), fault BadType 1)
+    ∷ (not (header_word bytes / 2048 % 2 == 0), fault Reserved 1)
+    ∷ (stated_length bytes == 0, fault Empty 0)
+    ∷ (nat_lt 1498 (stated_length bytes), fault TooLong 0)
+    ∷ (nat_lt (length bytes) (frame_end bytes), fault Short (length bytes))
+    ∷ []
 
 -- the fault that the header's tests find
 unfoldable pub header_fault : List ℕ → Option WireFault
@@ -50,15 +55,24 @@ header_fault bytes = first_of (header_tests bytes)
 -- the tests of the datagram that begins at a place, in their order; `rest` is the frame from there on
 abbrev pub datagram_tests : ℕ → List ℕ → List (Bool × WireFault)
 datagram_tests at rest =
-    (nat_lt (length rest) 12, fault LeftOver at) ∷ (nat_lt 14 (slice_index rest 0), fault BadCommand at) ∷ (not (length_field rest / 2048 % 8 == 0), fault Reserved (at + 7)) ∷ (nat_lt (length rest) (12 + data_length rest), fault Overrun (at + 6))
-    ∷ (says_more rest && (12 + data_length rest == length rest), fault MoreAtEnd (at + 7)) ∷ (not (says_more rest) && nat_lt (12 + data_length rest) (length rest), fault LeftOver (at + 12 + data_length rest)) ∷ []
+    (nat_lt (length rest) 12, fault LeftOver at)
+    ∷ (nat_lt 14 (slice_index rest 0), fault BadCommand at)
+    ∷ (not (length_field rest / 2048 % 8 == 0), fault Reserved (at + 7))
+    ∷ (nat_lt (length rest) (12 + data_length rest), fault Overrun (at + 6))
+    ∷ (says_more rest && (12 + data_length rest == length rest), fault MoreAtEnd (at + 7))
+    ∷ (
+      not (says_more rest) && nat_lt (12 + data_length rest) (length rest),
+      fault LeftOver (at + 12 + data_length rest),
+    )
+    ∷ []
 
 -- the fault that the tests of a datagram find
 unfoldable pub datagram_fault : ℕ → List ℕ → Option WireFault
 datagram_fault at rest = first_of (datagram_tests at rest)
 
 -- Behind datagrams that are spelt well and each say that more follow, the next one of the frame is at fault.
-pub record IsFaultyAfter (frame : List ℕ) (f : WireFault) (rs : List DatagramRecord) (rest : List ℕ) : Type 0 where
+pub record IsFaultyAfter (frame : List ℕ) (f : WireFault) (rs : List DatagramRecord)
+    (rest : List ℕ) : Type 0 where
   pub fits : All Fits rs
   pub split : drop 2 frame ≡ front rs ++ rest
   pub more : 0 < length rest
@@ -84,7 +98,9 @@ IsSpelt form bytes rs = (behind : List ℕ) × IsSpeltBefore bytes rs behind × 
 
 -- A whole frame, and more bytes in a UDP packet.
 abbrev pub IsTrailing : Form → List ℕ → WireFault → Type 0
-IsTrailing form bytes f = (form ≡ Udp) × (rs : List DatagramRecord) × (behind : List ℕ) × IsSpeltBefore bytes rs behind × (0 < length behind) × (f ≡ fault Trailing (frame_end bytes))
+IsTrailing form bytes f =
+    (form ≡ Udp) × (rs : List DatagramRecord) × (behind : List ℕ)
+    × IsSpeltBefore bytes rs behind × (0 < length behind) × (f ≡ fault Trailing (frame_end bytes))
 
 -- This is the first fault of the bytes in this form.
 abbrev pub IsFirstFault : Form → List ℕ → WireFault → Type 0

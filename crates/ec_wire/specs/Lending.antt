@@ -7,7 +7,9 @@ use Rattle.ec_wire.specs.contracts.frame.FrameBuf.{the_row}
 
 -- a frame with the data of the datagram at `k` written over, their number kept
 abbrev pub with_data : List DatagramRecord → ℕ → List ℕ → List DatagramRecord
-with_data rs k bytes = slice_set rs k (record (nth rs k) { payload = refill (length (nth rs k).payload) (nth rs k).payload bytes })
+with_data rs k bytes =
+    slice_set rs k
+    (record (nth rs k) { payload = refill (length (nth rs k).payload) (nth rs k).payload bytes })
 
 -- once the borrow r ends, the data of the datagram at `k` are what was last behind r, and all else is as
 -- before

@@ -17,7 +17,9 @@ length_word more r = length r.payload + 16384 * bit_of r.circulating + 32768 * b
 
 -- a datagram's ten bytes before its data
 abbrev pub head : Bool → DatagramRecord → List ℕ
-head more r = code_of r.command ∷ r.index ∷ (to_le_bytes w32 r.address ++ to_le_bytes w16 (length_word more r) ++ to_le_bytes w16 r.irq)
+head more r =
+    code_of r.command ∷ r.index
+    ∷ (to_le_bytes w32 r.address ++ to_le_bytes w16 (length_word more r) ++ to_le_bytes w16 r.irq)
 
 -- a datagram's bytes; `more` says that another one follows
 unfoldable pub datagram : Bool → DatagramRecord → List ℕ

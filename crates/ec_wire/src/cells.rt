@@ -43,7 +43,8 @@ impl<const N: usize> Cells<N> {
     /// Writes these bytes from `at` on.
     pub(crate) fn put(&mut self, at: usize, bytes: &[u8])
         requires { at + length bytes.now ≤ N }
-        ensures { self.new.bytes ≡ take at self.old.bytes ++ (bytes.now ++ drop (at + length bytes.now) self.old.bytes) }
+        ensures { self.new.bytes ≡ take at self.old.bytes
+            ++ (bytes.now ++ drop (at + length bytes.now) self.old.bytes) }
     {
         self.run_mut(at, at + bytes.len()).copy_from_slice(bytes);
     }

@@ -62,7 +62,8 @@ impl Model for FrameBuf {
 
     ghost view = { λ f. records_at f.cells.bytes f.starts.items };
 
-    ghost invariant = { λ f. Keeps f.cells.bytes f.size f.starts.items (records_at f.cells.bytes f.starts.items) };
+    ghost invariant = { λ f.
+        Keeps f.cells.bytes f.size f.starts.items (records_at f.cells.bytes f.starts.items) };
 }
 
 impl FrameBuf {

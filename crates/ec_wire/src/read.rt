@@ -93,7 +93,8 @@ fn datagram_ahead(rest: &[u8], at: usize) -> Result<Ahead, WireFault>
 fn datagram_starts(frame: &[u8]) -> Result<ArrayVec<u16, MAX_DATAGRAMS>, WireFault>
     requires some { 2 < length frame.now }
     requires room { length frame.now ≤ 1500 }
-    ensures spelt { IfOk result (λ starts. AreSpelt frame.now starts.items (records_at frame.now starts.items)) }
+    ensures spelt { IfOk result (λ starts.
+        AreSpelt frame.now starts.items (records_at frame.now starts.items)) }
     ensures fault { IfErr result (FailsWithin frame.now) }
 {
     let mut starts = ArrayVec::new();
@@ -147,5 +148,6 @@ impl FrameBuf {
 /// No spelling begins another, and a value has one spelling: so what `bytes` gives is read again,
 /// whatever follows it.
 pub fn one_spelling()
-    ensures { (rs ss : List DatagramRecord) (x y : List ℕ) → IsFrameValue rs → IsFrameValue ss → spelling rs ++ x ≡ spelling ss ++ y → (rs ≡ ss) × (x ≡ y) }
+    ensures { (rs ss : List DatagramRecord) (x y : List ℕ) → IsFrameValue rs → IsFrameValue ss
+        → spelling rs ++ x ≡ spelling ss ++ y → (rs ≡ ss) × (x ≡ y) }
 {}

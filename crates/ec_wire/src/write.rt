@@ -34,7 +34,9 @@ fn header_field(length: usize) -> u16
 /// Writes a datagram's bytes from `at` on; `more` says that another one follows it.
 fn write_datagram(cells: &mut Cells<MAX_FRAME>, at: usize, written: &Datagram, more: bool)
     requires { at + 12 + length written.now.payload.items ≤ 1500 }
-    ensures { cells.new.bytes ≡ take at cells.old.bytes ++ (datagram more (record_of written.now) ++ drop (at + datagram_length (record_of written.now)) cells.old.bytes) }
+    ensures { cells.new.bytes ≡ take at cells.old.bytes
+        ++ (datagram more (record_of written.now)
+        ++ drop (at + datagram_length (record_of written.now)) cells.old.bytes) }
 {
     let length = written.payload.len();
     let field = length_field(length, written.circulating, more);
@@ -68,7 +70,8 @@ impl FrameBuf {
     pub fn push(&mut self, datagram: &Datagram) -> Result<(), Full>
         ensures ok { OnOk result (self.new ≡ self.old ++ record_of datagram.now ∷ []) }
         ensures err { OnErr result (self.new ≡ self.old) }
-        ensures full { IsErr result ↔ (1498 < body_length self.old + datagram_length (record_of datagram.now)) }
+        ensures full { IsErr result
+            ↔ (1498 < body_length self.old + datagram_length (record_of datagram.now)) }
     {
         let at = self.size;
         let end = at + datagram.wire_length();

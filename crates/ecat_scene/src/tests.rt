@@ -10,7 +10,8 @@ mod slaves;
 mod works;
 
 const FIRST: &[u8] =
-    b"slave 0x1001\nsm 3 0x1100 1 read\nfmmu 0 0x10000 1 0 7 0x1100 0 read\nmem 0x1100 12\nframe 0d100a000000010001000000000000";
+    b"slave 0x1001\nsm 3 0x1100 1 read\nfmmu 0 0x10000 1 0 7 0x1100 0 read\nmem 0x1100 12\n\
+    frame 0d100a000000010001000000000000";
 
 /// Whether the text is refused with this fault in this line.
 fn refused(rt: &impl AllocGlobal, text: &[u8], line: usize, fault: LineFault) -> bool {
@@ -97,7 +98,9 @@ fn comments_blank_lines_and_spaces_are_nothing(rt: HostRuntime) {
 #[test]
 fn the_four_kinds_and_three_types_are_known(rt: HostRuntime) {
     let text =
-        b"slave 1\nsm 0 0x1800 32 mailbox-write\nsm 1 0x1880 32 mailbox-read\nsm 2 0x1000 1 write\nsm 3 0x1100 1 read\nfmmu 0 0 1 0 7 0x1000 0 write\nfmmu 7 0xFFFFFFFF 65535 255 255 65535 255 both";
+        b"slave 1\nsm 0 0x1800 32 mailbox-write\nsm 1 0x1880 32 mailbox-read\nsm 2 0x1000 1 write\n\
+        sm 3 0x1100 1 read\nfmmu 0 0 1 0 7 0x1000 0 write\n\
+        fmmu 7 0xFFFFFFFF 65535 255 255 65535 255 both";
     let Some(scene) = taken(&rt, text) else {
         return;
     };
@@ -141,7 +144,8 @@ fn words_are_counted_before_they_are_read(rt: HostRuntime) {
     assert!(rt; refused(&rt, b"fmmu 0 0 1 0 7 0x1000 0", 1, LineFault::WrongCount));
     assert!(rt; refused(&rt, b"mem 0x1000", 1, LineFault::WrongCount));
     let text =
-        b"slave 0x1001\nsm 3 0x1100 1 read\nfmmu 0 0x10000 1 0 7 0x1100 0 read\nmem 0x1100 12\nframe 0d100a0000000100010000000000 00";
+        b"slave 0x1001\nsm 3 0x1100 1 read\nfmmu 0 0x10000 1 0 7 0x1100 0 read\nmem 0x1100 12\n\
+        frame 0d100a0000000100010000000000 00";
     assert!(rt; refused(&rt, text, 5, LineFault::WrongCount));
 }
 

@@ -46,8 +46,11 @@ pub record IsRecord (bytes packet : List ℕ) : Type 0 where
 -- records end to end, one for each packet
 abbrev pub AreRecords : List ℕ → List (List ℕ) → Type 0
 AreRecords bytes [] = bytes ≡ []
-AreRecords bytes (packet ∷ packets) = (front rest : List ℕ) × (bytes ≡ front ++ rest) × IsRecord front packet × AreRecords rest packets
+AreRecords bytes (packet ∷ packets) =
+    (front rest : List ℕ) × (bytes ≡ front ++ rest) × IsRecord front packet
+    × AreRecords rest packets
 
 -- a header, and then a record for each packet
 abbrev pub IsCapture : List ℕ → List (List ℕ) → Type 0
-IsCapture bytes packets = (header rest : List ℕ) × (bytes ≡ header ++ rest) × IsHeader header × AreRecords rest packets
+IsCapture bytes packets =
+    (header rest : List ℕ) × (bytes ≡ header ++ rest) × IsHeader header × AreRecords rest packets

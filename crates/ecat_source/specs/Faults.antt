@@ -16,7 +16,8 @@ abbrev pub HeaderIsRefused : List ℕ → PcapFault → Type 0
 HeaderIsRefused bytes Short = length bytes < header_length
 HeaderIsRefused bytes NotPcap = (header_length ≤ length bytes) × (¬ HasMagic bytes)
 HeaderIsRefused bytes Version = (header_length ≤ length bytes) × HasMagic bytes × (¬ HasVersion bytes)
-HeaderIsRefused bytes LinkType = (header_length ≤ length bytes) × HasMagic bytes × HasVersion bytes × (¬ HasLinkType bytes)
+HeaderIsRefused bytes LinkType = (header_length ≤ length bytes) × HasMagic bytes × HasVersion bytes
+    × (¬ HasLinkType bytes)
 HeaderIsRefused bytes TooLong = ⊥
 HeaderIsRefused bytes Read = ⊥
 HeaderIsRefused bytes NoMemory = ⊥
@@ -24,7 +25,10 @@ HeaderIsRefused bytes Failed = ⊥
 
 -- a record begins and doesn't end: the bytes end inside its head or inside the packet
 abbrev pub IsCut : List ℕ → Type 0
-IsCut bytes = (0 < length bytes) × ((length bytes < head_length) ⊎ ((stored_length bytes ≤ greatest_packet) × (length bytes < head_length + stored_length bytes)))
+IsCut bytes =
+    (0 < length bytes)
+    × ((length bytes < head_length)
+    ⊎ ((stored_length bytes ≤ greatest_packet) × (length bytes < head_length + stored_length bytes)))
 
 -- The bytes don't begin with a record, and they are not at their end.
 abbrev pub RecordIsRefused : List ℕ → PcapFault → Type 0

@@ -18,7 +18,8 @@ pub record Progress : Type 0 where
 
 -- the bytes of the next packet: its record, and before the first one the header
 abbrev pub IsNext : Stage → List ℕ → List ℕ → Type 0
-IsNext Header packet front = (header rest : List ℕ) × (front ≡ header ++ rest) × IsHeader header × IsRecord rest packet
+IsNext Header packet front =
+    (header rest : List ℕ) × (front ≡ header ++ rest) × IsHeader header × IsRecord rest packet
 IsNext Records packet front = IsRecord front packet
 IsNext End packet front = ⊥
 IsNext Fault packet front = ⊥
@@ -36,7 +37,8 @@ EndsAt Fault old new = ⊥
 
 -- The bytes are refused where the header, or behind it the first record, is to stand, or a later record.
 abbrev pub IsRefused : Stage → List ℕ → PcapFault → Type 0
-IsRefused Header bytes fault = HeaderIsRefused bytes fault ⊎ ((header rest : List ℕ) × (bytes ≡ header ++ rest) × IsHeader header × RecordIsRefused rest fault)
+IsRefused Header bytes fault = HeaderIsRefused bytes fault
+    ⊎ ((header rest : List ℕ) × (bytes ≡ header ++ rest) × IsHeader header × RecordIsRefused rest fault)
 IsRefused Records bytes fault = RecordIsRefused bytes fault
 IsRefused End bytes fault = ⊥
 IsRefused Fault bytes fault = ⊥
@@ -63,7 +65,9 @@ StandsBefore Fault bytes packets = ⊥
 
 -- these packets, and nothing else, are ahead, and the source tells that
 abbrev pub HasAhead : Progress → List (List ℕ) → Type 0
-HasAhead progress packets = (bytes : List ℕ) × (progress.input.ahead ≡ Some bytes) × StandsBefore progress.stage bytes packets
+HasAhead progress packets =
+    (bytes : List ℕ) × (progress.input.ahead ≡ Some bytes)
+    × StandsBefore progress.stage bytes packets
 
 -- a fault that a good capture can meet: a read failed in that call, or memory ran out
 abbrev pub Hinders : Input → Input → PcapFault → Type 0
@@ -74,5 +78,7 @@ Hinders old new _ = ⊥
 -- of the packets ahead the first is given, and then the others are ahead; or there is none
 abbrev pub GivesFirst : List (List ℕ) → Progress → Result (Option Packet) PcapFault → Progress → Type 0
 GivesFirst packets old (Ok None) new = (packets ≡ []) × HasAhead new []
-GivesFirst packets old (Ok (Some packet)) new = (rest : List (List ℕ)) × (packets ≡ packet.bytes.items ∷ rest) × HasAhead new rest
+GivesFirst packets old (Ok (Some packet)) new =
+    (rest : List (List ℕ)) × (packets ≡ packet.bytes.items ∷ rest)
+    × HasAhead new rest
 GivesFirst packets old (Err fault) new = Hinders old.input new.input fault

@@ -18,7 +18,9 @@ fn checks(rt: &(impl AllocGlobal + Abort), scene: &[u8], status: u8, out: &[u8])
 fn a_fit_line_is_accepted(rt: HostRuntime) {
     checks(
         &rt,
-        b"slave 0x1001\nstate 8\nsm 2 0x1000 1 write\nsm 3 0x1100 1 read\nfmmu 0 0x10000 1 0 7 0x1000 0 write\nfmmu 1 0x10000 1 0 7 0x1100 0 read\nmem 0x1100 12\nslave 0x1002\nstate 4\nlink 1 down\nlrw 0x10000 ff\nbrd 0x0130 0000\n",
+        b"slave 0x1001\nstate 8\nsm 2 0x1000 1 write\nsm 3 0x1100 1 read\n\
+        fmmu 0 0x10000 1 0 7 0x1000 0 write\nfmmu 1 0x10000 1 0 7 0x1100 0 read\nmem 0x1100 12\n\
+        slave 0x1002\nstate 4\nlink 1 down\nlrw 0x10000 ff\nbrd 0x0130 0000\n",
         0,
         b"accepted\n",
     );
@@ -68,7 +70,8 @@ fn an_fmmu_that_leaves_its_area_is_refused(rt: HostRuntime) {
 fn outputs_written_twice_are_refused(rt: HostRuntime) {
     checks(
         &rt,
-        b"slave 0x1001\nsm 2 0x1000 1 write\nfmmu 0 0x10000 1 0 7 0x1000 0 write\nfmmu 1 0x10001 1 0 7 0x1000 0 write\n",
+        b"slave 0x1001\nsm 2 0x1000 1 write\nfmmu 0 0x10000 1 0 7 0x1000 0 write\n\
+        fmmu 1 0x10001 1 0 7 0x1000 0 write\n",
         1,
         b"refused: TwiceWritten slave 0 fmmu 0 fmmu 1 bit 32768\n",
     );
@@ -78,7 +81,8 @@ fn outputs_written_twice_are_refused(rt: HostRuntime) {
 fn a_bit_read_from_two_slaves_is_refused(rt: HostRuntime) {
     checks(
         &rt,
-        b"slave 0x1001\nsm 3 0x1100 1 read\nfmmu 0 0x10000 1 0 7 0x1100 0 read\nslave 0x1002\nsm 3 0x1100 1 read\nfmmu 0 0x10000 1 0 7 0x1100 0 read\n",
+        b"slave 0x1001\nsm 3 0x1100 1 read\nfmmu 0 0x10000 1 0 7 0x1100 0 read\nslave 0x1002\n\
+        sm 3 0x1100 1 read\nfmmu 0 0x10000 1 0 7 0x1100 0 read\n",
         1,
         b"refused: TwiceRead slave 0 fmmu 0 slave 1 fmmu 0 bit 524288\n",
     );
@@ -88,7 +92,8 @@ fn a_bit_read_from_two_slaves_is_refused(rt: HostRuntime) {
 fn a_bit_read_from_one_slave_and_written_to_another_is_refused(rt: HostRuntime) {
     checks(
         &rt,
-        b"slave 0x1001\nsm 2 0x1000 1 write\nfmmu 0 0x10000 1 0 7 0x1000 0 write\nslave 0x1002\nsm 3 0x1100 1 read\nfmmu 0 0x10000 1 0 7 0x1100 0 read\n",
+        b"slave 0x1001\nsm 2 0x1000 1 write\nfmmu 0 0x10000 1 0 7 0x1000 0 write\nslave 0x1002\n\
+        sm 3 0x1100 1 read\nfmmu 0 0x10000 1 0 7 0x1100 0 read\n",
         1,
         b"refused: ReadAndWritten slave 1 fmmu 0 slave 0 fmmu 0 bit 524288\n",
     );
@@ -98,7 +103,9 @@ fn a_bit_read_from_one_slave_and_written_to_another_is_refused(rt: HostRuntime) 
 fn an_addressed_read_of_outputs_is_refused(rt: HostRuntime) {
     checks(
         &rt,
-        b"slave 0x1001\nstate 8\nsm 2 0x1000 1 write\nsm 3 0x1100 1 read\nfmmu 0 0x10000 1 0 7 0x1000 0 write\nfmmu 1 0x10000 1 0 7 0x1100 0 read\nmem 0x1100 12\nslave 0x1002\nstate 4\nfprd 0x1001 0x1000 00\n",
+        b"slave 0x1001\nstate 8\nsm 2 0x1000 1 write\nsm 3 0x1100 1 read\n\
+        fmmu 0 0x10000 1 0 7 0x1000 0 write\nfmmu 1 0x10000 1 0 7 0x1100 0 read\nmem 0x1100 12\n\
+        slave 0x1002\nstate 4\nfprd 0x1001 0x1000 00\n",
         1,
         b"refused: OutsideRead item 0 slave 0 address 0x1000\n",
     );
@@ -108,7 +115,9 @@ fn an_addressed_read_of_outputs_is_refused(rt: HostRuntime) {
 fn an_addressed_write_of_inputs_is_refused(rt: HostRuntime) {
     checks(
         &rt,
-        b"slave 0x1001\nstate 8\nsm 2 0x1000 1 write\nsm 3 0x1100 1 read\nfmmu 0 0x10000 1 0 7 0x1000 0 write\nfmmu 1 0x10000 1 0 7 0x1100 0 read\nmem 0x1100 12\nslave 0x1002\nstate 4\nfprd 0x1001 0x1100 00\nfpwr 0x1001 0x1100 00\n",
+        b"slave 0x1001\nstate 8\nsm 2 0x1000 1 write\nsm 3 0x1100 1 read\n\
+        fmmu 0 0x10000 1 0 7 0x1000 0 write\nfmmu 1 0x10000 1 0 7 0x1100 0 read\nmem 0x1100 12\n\
+        slave 0x1002\nstate 4\nfprd 0x1001 0x1100 00\nfpwr 0x1001 0x1100 00\n",
         1,
         b"refused: OutsideWrite item 1 slave 0 address 0x1100\n",
     );

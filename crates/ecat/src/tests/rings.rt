@@ -16,25 +16,29 @@ fn a_broadcast_read_reaches_each_slave(rt: HostRuntime) {
 fn a_broken_link_changes_the_circulating_bit_alone(rt: HostRuntime) {
     runs(
         &rt,
-        b"slave 1\nstate 8\nslave 2\nstate 4\nslave 3\nstate 8\nlink 0 down\nframe 0e100701000030010200000000000000\n",
+        b"slave 1\nstate 8\nslave 2\nstate 4\nslave 3\nstate 8\nlink 0 down\n\
+        frame 0e100701000030010200000000000000\n",
         0,
         b"frame 0e10070103003001024000000c000300\n",
     );
     runs(
         &rt,
-        b"slave 1\nstate 8\nslave 2\nstate 4\nslave 3\nstate 8\nlink 1 down\nframe 0e100701000030010200000000000000\n",
+        b"slave 1\nstate 8\nslave 2\nstate 4\nslave 3\nstate 8\nlink 1 down\n\
+        frame 0e100701000030010200000000000000\n",
         0,
         b"frame 0e10070103003001024000000c000300\n",
     );
     runs(
         &rt,
-        b"slave 1\nstate 8\nslave 2\nstate 4\nslave 3\nstate 8\nlink 2 down\nframe 0e100701000030010200000000000000\n",
+        b"slave 1\nstate 8\nslave 2\nstate 4\nslave 3\nstate 8\nlink 2 down\n\
+        frame 0e100701000030010200000000000000\n",
         0,
         b"frame 0e10070103003001024000000c000300\n",
     );
     runs(
         &rt,
-        b"slave 1\nstate 8\nslave 2\nstate 4\nlink 3 down\nslave 3\nstate 8\nframe 0e100701000030010200000000000000\n",
+        b"slave 1\nstate 8\nslave 2\nstate 4\nlink 3 down\nslave 3\nstate 8\n\
+        frame 0e100701000030010200000000000000\n",
         0,
         b"frame 0e10070103003001020000000c000300\n",
     );
@@ -60,7 +64,8 @@ fn a_circulating_frame_is_lost_at_a_broken_link(rt: HostRuntime) {
 fn slaves_between_two_broken_links_are_not_reached(rt: HostRuntime) {
     runs(
         &rt,
-        b"slave 1\nstate 8\nslave 2\nstate 4\nslave 3\nstate 8\nlink 1 down\nlink 2 down\nframe 0e100701000030010200000000000000\n",
+        b"slave 1\nstate 8\nslave 2\nstate 4\nslave 3\nstate 8\nlink 1 down\nlink 2 down\n\
+        frame 0e100701000030010200000000000000\n",
         0,
         b"frame 0e100701020030010240000008000200\n",
     );
@@ -69,24 +74,30 @@ fn slaves_between_two_broken_links_are_not_reached(rt: HostRuntime) {
 #[test]
 fn a_step_answers_the_mail(rt: HostRuntime) {
     let scene =
-        b"slave 0x1001\nstate 2\nsm 0 0x1800 16 mailbox-write\nsm 1 0x1880 16 mailbox-read\nobject 0x1018 1 4 ro 2\nframe 1c10050001100018100000000a0000000013002040181001000000000000\nframe 0d10040001100d0801000000000000\nstep\nframe 0d10040001100d0801000000000000\n";
+        b"slave 0x1001\nstate 2\nsm 0 0x1800 16 mailbox-write\nsm 1 0x1880 16 mailbox-read\n\
+        object 0x1018 1 4 ro 2\n\
+        frame 1c10050001100018100000000a0000000013002040181001000000000000\n\
+        frame 0d10040001100d0801000000000000\nstep\nframe 0d10040001100d0801000000000000\n";
     runs(
         &rt,
         scene,
         0,
-        b"frame 1c10050001100018100000000a0000000013002040181001000000000100\nframe 0d10040001100d0801000000000100\nframe 0d10040001100d0801000000080100\n",
+        b"frame 1c10050001100018100000000a0000000013002040181001000000000100\n\
+        frame 0d10040001100d0801000000000100\nframe 0d10040001100d0801000000080100\n",
     );
 }
 
 #[test]
 fn the_areas_of_each_slave_are_printed(rt: HostRuntime) {
-    let scene =
-        b"slave 1\nsm 2 0x1000 1 write\nslave 2\nslave 3\nsm 1 0x1010 2 write\nsm 2 0x1000 1 write\nfmmu 0 0x10000 1 0 7 0x1000 0 write\nlink 1 down\nframe 0d100b000000010001000000ab0000\n";
+    let scene = b"slave 1\nsm 2 0x1000 1 write\nslave 2\nslave 3\nsm 1 0x1010 2 write\n\
+        sm 2 0x1000 1 write\nfmmu 0 0x10000 1 0 7 0x1000 0 write\nlink 1 down\n\
+        frame 0d100b000000010001000000ab0000\n";
     runs(
         &rt,
         scene,
         0,
-        b"frame 0d100b000000010001400000ab0100\nslave 0 sm 2 open 00 shown 00\nslave 2 sm 1 open 0000 shown 0000\nslave 2 sm 2 open ab shown ab\n",
+        b"frame 0d100b000000010001400000ab0100\nslave 0 sm 2 open 00 shown 00\n\
+        slave 2 sm 1 open 0000 shown 0000\nslave 2 sm 2 open ab shown ab\n",
     );
 }
 
@@ -97,25 +108,33 @@ fn the_lower_half_of_a_byte_comes_first(rt: HostRuntime) {
     let turned = b"frame 0d100a000000010001400000a50200\n";
     runs(
         &rt,
-        b"slave 1\nsm 3 0x1100 1 read\nfmmu 0 0x10000 1 0 3 0x1100 0 read\nmem 0x1100 05\nslave 2\nsm 3 0x1100 1 read\nfmmu 0 0x10000 1 4 7 0x1100 0 read\nmem 0x1100 0a\nframe 0d100a000000010001000000000000\n",
+        b"slave 1\nsm 3 0x1100 1 read\nfmmu 0 0x10000 1 0 3 0x1100 0 read\nmem 0x1100 05\nslave 2\n\
+        sm 3 0x1100 1 read\nfmmu 0 0x10000 1 4 7 0x1100 0 read\nmem 0x1100 0a\n\
+        frame 0d100a000000010001000000000000\n",
         0,
         whole,
     );
     runs(
         &rt,
-        b"slave 1\nsm 3 0x1100 1 read\nfmmu 0 0x10000 1 0 3 0x1100 0 read\nmem 0x1100 05\nslave 2\nsm 3 0x1100 1 read\nfmmu 0 0x10000 1 4 7 0x1100 0 read\nmem 0x1100 0a\nlink 0 down\nframe 0d100a000000010001000000000000\n",
+        b"slave 1\nsm 3 0x1100 1 read\nfmmu 0 0x10000 1 0 3 0x1100 0 read\nmem 0x1100 05\nslave 2\n\
+        sm 3 0x1100 1 read\nfmmu 0 0x10000 1 4 7 0x1100 0 read\nmem 0x1100 0a\nlink 0 down\n\
+        frame 0d100a000000010001000000000000\n",
         0,
         turned,
     );
     runs(
         &rt,
-        b"slave 1\nsm 3 0x1100 1 read\nfmmu 0 0x10000 1 0 3 0x1100 0 read\nmem 0x1100 05\nslave 2\nsm 3 0x1100 1 read\nfmmu 0 0x10000 1 4 7 0x1100 0 read\nmem 0x1100 0a\nlink 1 down\nframe 0d100a000000010001000000000000\n",
+        b"slave 1\nsm 3 0x1100 1 read\nfmmu 0 0x10000 1 0 3 0x1100 0 read\nmem 0x1100 05\nslave 2\n\
+        sm 3 0x1100 1 read\nfmmu 0 0x10000 1 4 7 0x1100 0 read\nmem 0x1100 0a\nlink 1 down\n\
+        frame 0d100a000000010001000000000000\n",
         0,
         turned,
     );
     runs(
         &rt,
-        b"slave 1\nsm 3 0x1100 1 read\nfmmu 0 0x10000 1 0 3 0x1100 0 read\nmem 0x1100 05\nslave 2\nsm 3 0x1100 1 read\nfmmu 0 0x10000 1 4 7 0x1100 0 read\nmem 0x1100 0a\nlink 2 down\nframe 0d100a000000010001000000000000\n",
+        b"slave 1\nsm 3 0x1100 1 read\nfmmu 0 0x10000 1 0 3 0x1100 0 read\nmem 0x1100 05\nslave 2\n\
+        sm 3 0x1100 1 read\nfmmu 0 0x10000 1 4 7 0x1100 0 read\nmem 0x1100 0a\nlink 2 down\n\
+        frame 0d100a000000010001000000000000\n",
         0,
         whole,
     );
@@ -128,25 +147,33 @@ fn the_upper_half_of_a_byte_comes_first(rt: HostRuntime) {
     let turned = b"frame 0d100a000000010001400000a50200\n";
     runs(
         &rt,
-        b"slave 1\nsm 3 0x1100 1 read\nfmmu 0 0x10000 1 4 7 0x1100 0 read\nmem 0x1100 0a\nslave 2\nsm 3 0x1100 1 read\nfmmu 0 0x10000 1 0 3 0x1100 0 read\nmem 0x1100 05\nframe 0d100a000000010001000000000000\n",
+        b"slave 1\nsm 3 0x1100 1 read\nfmmu 0 0x10000 1 4 7 0x1100 0 read\nmem 0x1100 0a\nslave 2\n\
+        sm 3 0x1100 1 read\nfmmu 0 0x10000 1 0 3 0x1100 0 read\nmem 0x1100 05\n\
+        frame 0d100a000000010001000000000000\n",
         0,
         whole,
     );
     runs(
         &rt,
-        b"slave 1\nsm 3 0x1100 1 read\nfmmu 0 0x10000 1 4 7 0x1100 0 read\nmem 0x1100 0a\nslave 2\nsm 3 0x1100 1 read\nfmmu 0 0x10000 1 0 3 0x1100 0 read\nmem 0x1100 05\nlink 0 down\nframe 0d100a000000010001000000000000\n",
+        b"slave 1\nsm 3 0x1100 1 read\nfmmu 0 0x10000 1 4 7 0x1100 0 read\nmem 0x1100 0a\nslave 2\n\
+        sm 3 0x1100 1 read\nfmmu 0 0x10000 1 0 3 0x1100 0 read\nmem 0x1100 05\nlink 0 down\n\
+        frame 0d100a000000010001000000000000\n",
         0,
         turned,
     );
     runs(
         &rt,
-        b"slave 1\nsm 3 0x1100 1 read\nfmmu 0 0x10000 1 4 7 0x1100 0 read\nmem 0x1100 0a\nslave 2\nsm 3 0x1100 1 read\nfmmu 0 0x10000 1 0 3 0x1100 0 read\nmem 0x1100 05\nlink 1 down\nframe 0d100a000000010001000000000000\n",
+        b"slave 1\nsm 3 0x1100 1 read\nfmmu 0 0x10000 1 4 7 0x1100 0 read\nmem 0x1100 0a\nslave 2\n\
+        sm 3 0x1100 1 read\nfmmu 0 0x10000 1 0 3 0x1100 0 read\nmem 0x1100 05\nlink 1 down\n\
+        frame 0d100a000000010001000000000000\n",
         0,
         turned,
     );
     runs(
         &rt,
-        b"slave 1\nsm 3 0x1100 1 read\nfmmu 0 0x10000 1 4 7 0x1100 0 read\nmem 0x1100 0a\nslave 2\nsm 3 0x1100 1 read\nfmmu 0 0x10000 1 0 3 0x1100 0 read\nmem 0x1100 05\nlink 2 down\nframe 0d100a000000010001000000000000\n",
+        b"slave 1\nsm 3 0x1100 1 read\nfmmu 0 0x10000 1 4 7 0x1100 0 read\nmem 0x1100 0a\nslave 2\n\
+        sm 3 0x1100 1 read\nfmmu 0 0x10000 1 0 3 0x1100 0 read\nmem 0x1100 05\nlink 2 down\n\
+        frame 0d100a000000010001000000000000\n",
         0,
         whole,
     );

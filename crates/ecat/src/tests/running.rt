@@ -7,7 +7,8 @@ use ecat_source::{Bytes, FailsAt};
 use std::io::Cursor;
 
 const FIRST: &[u8] =
-    b"slave 0x1001\nsm 3 0x1100 1 read\nfmmu 0 0x10000 1 0 7 0x1100 0 read\nmem 0x1100 12\nframe 0d100a000000010001000000000000\n";
+    b"slave 0x1001\nsm 3 0x1100 1 read\nfmmu 0 0x10000 1 0 7 0x1100 0 read\nmem 0x1100 12\n\
+    frame 0d100a000000010001000000000000\n";
 
 const RUN: Args<'static> = Args::Run { scene: "s" };
 
@@ -19,7 +20,8 @@ fn the_first_scene_prints_its_frame(rt: HostRuntime) {
 #[test]
 fn a_space_in_the_frame_is_a_wrong_count(rt: HostRuntime) {
     let scene =
-        b"slave 0x1001\nsm 3 0x1100 1 read\nfmmu 0 0x10000 1 0 7 0x1100 0 read\nmem 0x1100 12\nframe 0d100a0000000100010000000000 00\n";
+        b"slave 0x1001\nsm 3 0x1100 1 read\nfmmu 0 0x10000 1 0 7 0x1100 0 read\nmem 0x1100 12\n\
+        frame 0d100a0000000100010000000000 00\n";
     runs(&rt, scene, 1, b"scene: line 5: WrongCount\n");
 }
 
@@ -33,7 +35,8 @@ fn bytes_that_are_no_frame_are_named(rt: HostRuntime) {
 #[test]
 fn the_second_byte_of_an_fmmu_is_read(rt: HostRuntime) {
     let scene =
-        b"slave 1\nsm 3 0x1100 2 read\nfmmu 0 0x10000 2 0 7 0x1100 0 read\nmem 0x1100 1234\nframe 0D100A000100010001000000000000\n";
+        b"slave 1\nsm 3 0x1100 2 read\nfmmu 0 0x10000 2 0 7 0x1100 0 read\nmem 0x1100 1234\n\
+        frame 0D100A000100010001000000000000\n";
     runs(&rt, scene, 0, b"frame 0d100a000100010001000000340100\n");
 }
 
@@ -51,11 +54,11 @@ fn what_nobody_maps_stays_as_sent(rt: HostRuntime) {
 
 #[test]
 fn bits_are_taken_and_the_others_stay(rt: HostRuntime) {
-    let scene =
-        b"slave 1\nsm 3 0x1100 1 read\nfmmu 0 0x10000 2 6 1 0x1100 0 read\nmem 0x1100 0b\nframe 0e100a0000000100020000000000 0000\n";
+    let scene = b"slave 1\nsm 3 0x1100 1 read\nfmmu 0 0x10000 2 6 1 0x1100 0 read\nmem 0x1100 0b\n\
+        frame 0e100a0000000100020000000000 0000\n";
     runs(&rt, scene, 1, b"scene: line 5: WrongCount\n");
-    let scene =
-        b"slave 1\nsm 3 0x1100 1 read\nfmmu 0 0x10000 2 6 1 0x1100 0 read\nmem 0x1100 0b\nframe 0e100a00000001000200000000000000\nframe 0e100a000000010002000000ffff0000\n";
+    let scene = b"slave 1\nsm 3 0x1100 1 read\nfmmu 0 0x10000 2 6 1 0x1100 0 read\nmem 0x1100 0b\n\
+        frame 0e100a00000001000200000000000000\nframe 0e100a000000010002000000ffff0000\n";
     runs(
         &rt,
         scene,
@@ -66,26 +69,28 @@ fn bits_are_taken_and_the_others_stay(rt: HostRuntime) {
 
 #[test]
 fn a_later_fmmu_prevails(rt: HostRuntime) {
-    let scene =
-        b"slave 1\nsm 3 0x1100 2 read\nfmmu 0 0x10000 1 0 7 0x1100 0 read\nfmmu 1 0x10000 1 0 7 0x1101 0 read\nmem 0x1100 1234\nframe 0d100a000000010001000000000000\n";
+    let scene = b"slave 1\nsm 3 0x1100 2 read\nfmmu 0 0x10000 1 0 7 0x1100 0 read\n\
+        fmmu 1 0x10000 1 0 7 0x1101 0 read\nmem 0x1100 1234\n\
+        frame 0d100a000000010001000000000000\n";
     runs(&rt, scene, 0, b"frame 0d100a000000010001000000340100\n");
 }
 
 #[test]
 fn an_fmmu_without_bits_and_one_into_a_mailbox_serve_nothing(rt: HostRuntime) {
     let sent = b"frame 0d100a000000010001000000000000\n";
-    let scene =
-        b"slave 1\nsm 3 0x1100 1 read\nfmmu 0 0x10000 1 5 2 0x1100 0 read\nmem 0x1100 12\nframe 0d100a000000010001000000000000\n";
+    let scene = b"slave 1\nsm 3 0x1100 1 read\nfmmu 0 0x10000 1 5 2 0x1100 0 read\nmem 0x1100 12\n\
+        frame 0d100a000000010001000000000000\n";
     runs(&rt, scene, 0, sent);
     let scene =
-        b"slave 1\nsm 1 0x1100 16 mailbox-read\nfmmu 0 0x10000 1 0 7 0x1100 0 read\nmem 0x1100 12\nframe 0d100a000000010001000000000000\n";
+        b"slave 1\nsm 1 0x1100 16 mailbox-read\nfmmu 0 0x10000 1 0 7 0x1100 0 read\nmem 0x1100 12\n\
+        frame 0d100a000000010001000000000000\n";
     runs(&rt, scene, 0, sent);
 }
 
 #[test]
 fn outputs_follow_the_frames(rt: HostRuntime) {
-    let scene =
-        b"slave 1\nsm 2 0x1000 2 write\nsm 3 0x1100 1 read\nmem 0x1000 a55a\nframe 0d100a000000010001000000000000\n";
+    let scene = b"slave 1\nsm 2 0x1000 2 write\nsm 3 0x1100 1 read\nmem 0x1000 a55a\n\
+        frame 0d100a000000010001000000000000\n";
     runs(
         &rt,
         scene,

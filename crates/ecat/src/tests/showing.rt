@@ -127,7 +127,8 @@ fn a_packet_that_came_back_shows_all_it_carries(rt: HostRuntime) {
         &rt,
         &payload,
         0,
-        b"packet 0 datagrams 1\n  BRD index 1 adp 0003 ado 0130 length 2 irq 1234 counter 3 data 0c00 circulating\n",
+        b"packet 0 datagrams 1\
+        \n  BRD index 1 adp 0003 ado 0130 length 2 irq 1234 counter 3 data 0c00 circulating\n",
     );
     let two = [
         0x1a, 0x10, 0x00, 0x00, 0x00, 0x00, 0x00, 0x00, 0x00, 0x80, 0x00, 0x00, 0x00, 0x00, 0x0c,
@@ -137,7 +138,8 @@ fn a_packet_that_came_back_shows_all_it_carries(rt: HostRuntime) {
         &rt,
         &two,
         0,
-        b"packet 0 datagrams 2\n  NOP index 0 adp 0000 ado 0000 length 0 irq 0000 counter 0 data -\n  LRW index 255 log ffffffff length 2 irq 0000 counter 65535 data abcd\n",
+        b"packet 0 datagrams 2\n  NOP index 0 adp 0000 ado 0000 length 0 irq 0000 counter 0 data -\
+        \n  LRW index 255 log ffffffff length 2 irq 0000 counter 65535 data abcd\n",
     );
 }
 

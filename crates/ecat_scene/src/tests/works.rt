@@ -19,7 +19,8 @@ fn steps_and_frames_stand_in_one_order(rt: HostRuntime) {
 #[test]
 fn items_are_of_six_kinds(rt: HostRuntime) {
     let text =
-        b"lrd 0 00\nlwr 0x10000 a1B2\nlrw 0xffffffff 01\nbrd 0x0130 0000\nfprd 0x1001 0x1100 00\nfpwr 65535 0x2fff 5a";
+        b"lrd 0 00\nlwr 0x10000 a1B2\nlrw 0xffffffff 01\nbrd 0x0130 0000\nfprd 0x1001 0x1100 00\n\
+        fpwr 65535 0x2fff 5a";
     let Some(scene) = taken(&rt, text) else {
         return;
     };

@@ -7,4 +7,5 @@ pub returns-in-None-clause-found : goal.returns-in-None-clause-found
 returns-in-None-clause-found c =
     let bytes = c.args.bytes.now in
     subst (BeginsWith bytes) (sym c.fields.ensures)
-    (BeginsWith-mail_of bytes (λ i. search (rules, c.type_inv.bytes i)) (sym c.first_fault.ensures.value ∙ c.in-None.is))
+    (BeginsWith-mail_of bytes (λ i. search (rules, c.type_inv.bytes i))
+    (sym c.first_fault.ensures.value ∙ c.in-None.is))

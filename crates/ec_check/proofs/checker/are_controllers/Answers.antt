@@ -13,10 +13,12 @@ loop-slave-preserved c =
     below_more _ _ c.loop-slave.invariant
     (subst IsController
     (c.controller.ensures
-    ∙ sym (controller_of-controllers c.args.line.now c.loop-slave.slave _ c.loop-slave-test.true c.index-line-slave.is))
+    ∙ sym (controller_of-controllers c.args.line.now c.loop-slave.slave _ c.loop-slave-test.true
+    c.index-line-slave.is))
     c.station-station.ensures.controller)
 
 pub returns : goal.returns
 returns c =
     each_from IsController (controllers c.args.line.now) no_controller
-    (λ i inside. c.loop-slave.invariant i (omega (arith, inside, c.loop-slave-test.false, length-controllers c.args.line.now)))
+    (λ i inside. c.loop-slave.invariant i
+    (omega (arith, inside, c.loop-slave-test.false, length-controllers c.args.line.now)))

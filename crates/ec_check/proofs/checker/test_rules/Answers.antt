@@ -1,6 +1,7 @@
 use Rattle.std.proofs.lemmas.Result.{err_from_is_err_and}
 use Rattle.ec_check.specs.Line.{controllers}
-use Rattle.ec_check.proofs.FitLemmas.{no_rule_yet, one_rule_more, IsFirstFault-rule, last_rule-accepted, last_rule-refused}
+use Rattle.ec_check.proofs.FitLemmas.{no_rule_yet, one_rule_more, IsFirstFault-rule, last_rule-accepted}
+use Rattle.ec_check.proofs.FitLemmas.{last_rule-refused}
 use Rattle.ec_check.proofs.checker.test_rules.Goals as goal
 
 pub returns-in_err-twin_stations : goal.returns-in_err-twin_stations
@@ -16,7 +17,8 @@ returns-in_err-bad_fmmus c =
     let line = controllers c.args.line.now in
     let none = no_rule_yet line in
     let one = one_rule_more line 1 none c.in_ok-twin_stations.ensures in
-    let p = err_from_is_err_and c.from_residual-in_err-bad_fmmus.result c.from_residual-in_err-bad_fmmus.ensures.1 in
+    let p = err_from_is_err_and c.from_residual-in_err-bad_fmmus.result
+    c.from_residual-in_err-bad_fmmus.ensures.1 in
     rw (p.1, p.2)
     (record { accepted = tt; refused = IsFirstFault-rule line 2 _ one c.in_err-bad_fmmus.ensures })
 
@@ -26,7 +28,8 @@ returns-in_err-meeting_areas c =
     let none = no_rule_yet line in
     let one = one_rule_more line 1 none c.in_ok-twin_stations.ensures in
     let two = one_rule_more line 2 one c.in_ok-bad_fmmus.ensures in
-    let p = err_from_is_err_and c.from_residual-in_err-meeting_areas.result c.from_residual-in_err-meeting_areas.ensures.1 in
+    let p = err_from_is_err_and c.from_residual-in_err-meeting_areas.result
+    c.from_residual-in_err-meeting_areas.ensures.1 in
     rw (p.1, p.2)
     (record { accepted = tt; refused = IsFirstFault-rule line 3 _ two c.in_err-meeting_areas.ensures })
 
@@ -37,7 +40,8 @@ returns-in_err-fmmus_outside c =
     let one = one_rule_more line 1 none c.in_ok-twin_stations.ensures in
     let two = one_rule_more line 2 one c.in_ok-bad_fmmus.ensures in
     let three = one_rule_more line 3 two c.in_ok-meeting_areas.ensures in
-    let p = err_from_is_err_and c.from_residual-in_err-fmmus_outside.result c.from_residual-in_err-fmmus_outside.ensures.1 in
+    let p = err_from_is_err_and c.from_residual-in_err-fmmus_outside.result
+    c.from_residual-in_err-fmmus_outside.ensures.1 in
     rw (p.1, p.2)
     (record { accepted = tt; refused = IsFirstFault-rule line 4 _ three c.in_err-fmmus_outside.ensures })
 
@@ -49,7 +53,8 @@ returns-in_err-bits_written_twice c =
     let two = one_rule_more line 2 one c.in_ok-bad_fmmus.ensures in
     let three = one_rule_more line 3 two c.in_ok-meeting_areas.ensures in
     let four = one_rule_more line 4 three c.in_ok-fmmus_outside.ensures in
-    let p = err_from_is_err_and c.from_residual-in_err-bits_written_twice.result c.from_residual-in_err-bits_written_twice.ensures.1 in
+    let p = err_from_is_err_and c.from_residual-in_err-bits_written_twice.result
+    c.from_residual-in_err-bits_written_twice.ensures.1 in
     rw (p.1, p.2)
     (record { accepted = tt; refused = IsFirstFault-rule line 5 _ four c.in_err-bits_written_twice.ensures })
 
@@ -62,7 +67,8 @@ returns-in_err-bits_read_twice c =
     let three = one_rule_more line 3 two c.in_ok-meeting_areas.ensures in
     let four = one_rule_more line 4 three c.in_ok-fmmus_outside.ensures in
     let five = one_rule_more line 5 four c.in_ok-bits_written_twice.ensures in
-    let p = err_from_is_err_and c.from_residual-in_err-bits_read_twice.result c.from_residual-in_err-bits_read_twice.ensures.1 in
+    let p = err_from_is_err_and c.from_residual-in_err-bits_read_twice.result
+    c.from_residual-in_err-bits_read_twice.ensures.1 in
     rw (p.1, p.2)
     (record { accepted = tt; refused = IsFirstFault-rule line 6 _ five c.in_err-bits_read_twice.ensures })
 

@@ -3,7 +3,8 @@ use Rattle.ec_regs.specs.Pairs.{first_physical, pair_count}
 use Rattle.ec_regs.specs.declared.fmmu.Fmmu.{Fmmu}
 use Rattle.ec_check.specs.Line.{controllers}
 use Rattle.ec_check.proofs.LineLemmas.{length-controllers}
-use Rattle.ec_check.proofs.OutsideLemmas.{HasNone-unmapped, HasNone-inside, IsFirstOf-no_area, IsFirstOf-behind}
+use Rattle.ec_check.proofs.OutsideLemmas.{HasNone-unmapped, HasNone-inside, IsFirstOf-no_area}
+use Rattle.ec_check.proofs.OutsideLemmas.{IsFirstOf-behind}
 use Rattle.ec_check.proofs.outside.place_fmmu.Goals as goal
 
 pub returns-then-mapped_bits-eq0 : goal.returns-then-mapped_bits-eq0

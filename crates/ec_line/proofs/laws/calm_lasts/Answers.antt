@@ -1,4 +1,5 @@
-use Rattle.ec_line.proofs.CalmLemmas.{after_calm, after_controller, claim_lasts, taken_lasts, gain_lasts, managers_last, fmmus_last, fit_lasts, accepts_lasts}
+use Rattle.ec_line.proofs.CalmLemmas.{after_calm, after_controller, claim_lasts, taken_lasts, gain_lasts}
+use Rattle.ec_line.proofs.CalmLemmas.{managers_last, fmmus_last, fit_lasts, accepts_lasts}
 use Rattle.ec_line.proofs.laws.calm_lasts.Goals as goal
 
 pub returns-clause-calm : goal.returns-clause-calm

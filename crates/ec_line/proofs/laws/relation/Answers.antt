@@ -1,6 +1,7 @@
 use Rattle.std.proofs.Common.{◌≡◌, ℕ, List, [], None}
 use Rattle.std.specs.List.{All, AllByRecursion, Contains}
-use Rattle.std.proofs.lemmas.List.Elements.{All-contains, All-contains_itself, All-weaker, All-from_recursion, recursion_from_All}
+use Rattle.std.proofs.lemmas.List.Elements.{All-contains, All-contains_itself, All-weaker, All-from_recursion}
+use Rattle.std.proofs.lemmas.List.Elements.{recursion_from_All}
 use Rattle.ec_line.specs.Answers.{Meets}
 use Rattle.ec_line.specs.Claims.{claim}
 use Rattle.ec_line.proofs.AnswersLemmas.{answers_nobody, SameClaims, answers_same}
@@ -9,10 +10,12 @@ use Rattle.ec_line.proofs.JoinLemmas.{answered_joined}
 use Rattle.ec_line.proofs.laws.relation.Goals as goal
 
 -- what holds of each of some holds of each of others that are among them
-each_among : {S : Type 0} (P : S → Type 0) (xs ys : List S) → ((c : S) → Contains ys c → Contains xs c) → AllByRecursion P xs → AllByRecursion P ys
+each_among : {S : Type 0} (P : S → Type 0) (xs ys : List S) → ((c : S) → Contains ys c → Contains xs c)
+    → AllByRecursion P xs → AllByRecursion P ys
 each_among P xs ys among all =
     recursion_from_All P ys
-    (All-weaker (Contains ys) P (λ c there. All-contains P xs c (All-from_recursion P xs all) (among c there)) ys (All-contains_itself ys))
+    (All-weaker (Contains ys) P (λ c there. All-contains P xs c (All-from_recursion P xs all) (among c there))
+    ys (All-contains_itself ys))
 
 pub returns-clause-nobody : goal.returns-clause-nobody
 returns-clause-nobody c r sent = answers_nobody (claim r) sent

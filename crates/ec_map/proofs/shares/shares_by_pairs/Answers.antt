@@ -1,4 +1,5 @@
-use Rattle.ec_map.proofs.ReachLemmas.{ReadsBit-reads_bits, reads_bits-ReadsBit, WritesBit-writes_bits, writes_bits-WritesBit}
+use Rattle.ec_map.proofs.ReachLemmas.{ReadsBit-reads_bits, reads_bits-ReadsBit, WritesBit-writes_bits}
+use Rattle.ec_map.proofs.ReachLemmas.{writes_bits-WritesBit}
 use Rattle.ec_map.proofs.shares.shares_by_pairs.Goals as goal
 
 pub returns : goal.returns

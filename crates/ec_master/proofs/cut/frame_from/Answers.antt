@@ -1,5 +1,6 @@
 -- The frame grows by the datagram of one item after the other, as long as they fit.
-use Rattle.std.proofs.Common.{◌≡◌, ◌<◌, ◌≤◌, ◌+◌, ◌∙◌, ℕ, suc, arith, ap, sym, refl, add-one, List, [], ◌∷◌, ◌++◌, length, drop}
+use Rattle.std.proofs.Common.{◌≡◌, ◌<◌, ◌≤◌, ◌+◌, ◌∙◌, ℕ, suc, arith, ap, sym, refl, add-one, List, [], ◌∷◌}
+use Rattle.std.proofs.Common.{◌++◌, length, drop}
 use Rattle.std.proofs.lemmas.List.{drop_all}
 use Rattle.ec_line.specs.After.{Entry}
 use Rattle.ec_line.specs.Answered.{sent_of}
@@ -8,7 +9,8 @@ use Rattle.ec_wire.specs.Datagram.{DatagramRecord, datagram_length, record_of}
 use Rattle.ec_wire.specs.Spelling.{body_length}
 use Rattle.ec_master.specs.Cut.{entry_of, entries_from, filled}
 use Rattle.ec_master.specs.Work.{nth_item, no_item}
-use Rattle.ec_master.proofs.CutLemmas.{entries-cons, filled-more, filled-full, filled-none, sent_of-more, fits-more, fits-no_more, not_full}
+use Rattle.ec_master.proofs.CutLemmas.{entries-cons, filled-more, filled-full, filled-none, sent_of-more}
+use Rattle.ec_master.proofs.CutLemmas.{fits-more, fits-no_more, not_full}
 use Rattle.ec_master.proofs.cut.frame_from.Goals as goal
 
 pub loop-k-init : goal.loop-k-init
@@ -23,11 +25,13 @@ loop-k-init c =
     }
 
 -- what the frame and the pushed datagram take is what the entries take
-over : (es : List Entry) (e : Entry) (frame : List DatagramRecord) (d : DatagramRecord) → frame ≡ sent_of es → d ≡ e.sent
+over : (es : List Entry) (e : Entry) (frame : List DatagramRecord) (d : DatagramRecord) → frame ≡ sent_of es
+    → d ≡ e.sent
     → 1498 < body_length frame + datagram_length d → 1498 < body_length (sent_of es) + datagram_length e.sent
 over es e frame d same one h = omega (arith, h, ap body_length same, ap datagram_length one)
 
-within : (es : List Entry) (e : Entry) (frame : List DatagramRecord) (d : DatagramRecord) → frame ≡ sent_of es → d ≡ e.sent
+within : (es : List Entry) (e : Entry) (frame : List DatagramRecord) (d : DatagramRecord) → frame ≡ sent_of es
+    → d ≡ e.sent
     → body_length frame + datagram_length d ≤ 1498 → body_length (sent_of es) + datagram_length e.sent ≤ 1498
 within es e frame d same one h = omega (arith, h, ap body_length same, ap datagram_length one)
 
@@ -38,7 +42,8 @@ returns-in-Err c =
     let es = c.loop-k.invariant.entries in
     let e : Entry = entry_of (nth_item items k) k in
     let full : 1498 < body_length (sent_of es) + datagram_length e.sent
-    = over es e _ _ c.loop-k.invariant.frame c.datagram-in-loop-k.ensures.datagram (c.in-Err.ensures.full.0 refl) in
+    = over es e _ _ c.loop-k.invariant.frame c.datagram-in-loop-k.ensures.datagram
+    (c.in-Err.ensures.full.0 refl) in
     let inside : k < length items = omega (arith, c.loop-k-test.true, c.len-k-end.ensures.count) in
     c.in-Err.ensures.err ∙ c.loop-k.invariant.frame
     ∙ ap sent_of
@@ -55,10 +60,12 @@ loop-k-preserved c =
     let inside : k < length items = omega (arith, c.loop-k-test.true, c.len-k-end.ensures.count) in
     let pushed : c.push.new.self ≡ sent_of es ++ e.sent ∷ []
     = c.in-Ok.ensures.ok
-    ∙ ap (λ (ds : List DatagramRecord). ds ++ record_of c.datagram-in-loop-k.result ∷ []) c.loop-k.invariant.frame
+    ∙ ap (λ (ds : List DatagramRecord). ds ++ record_of c.datagram-in-loop-k.result ∷ [])
+    c.loop-k.invariant.frame
     ∙ ap (λ (d : DatagramRecord). sent_of es ++ d ∷ []) c.datagram-in-loop-k.ensures.datagram in
     let fits : body_length (sent_of es) + datagram_length e.sent ≤ 1498
-    = within es e _ _ c.loop-k.invariant.frame c.datagram-in-loop-k.ensures.datagram (not_full _ _ c.in-Ok.ensures.full.1) in
+    = within es e _ _ c.loop-k.invariant.frame c.datagram-in-loop-k.ensures.datagram
+    (not_full _ _ c.in-Ok.ensures.full.1) in
     record {
       entries = es ++ e ∷ [];
       frame = pushed ∙ sym (sent_of-more es e);
@@ -75,7 +82,8 @@ unfolding entries_from
 returns c =
     let items = c.args.work.now in
     let k : ℕ = c.loop-k.k in
-    let none : drop k items ≡ [] = drop_all k items (omega (arith, c.loop-k-test.false, c.len-k-end.ensures.count)) in
+    let none : drop k items ≡ [] =
+    drop_all k items (omega (arith, c.loop-k-test.false, c.len-k-end.ensures.count)) in
     c.loop-k.invariant.frame
     ∙ ap sent_of
     (sym (filled-none c.loop-k.invariant.entries)

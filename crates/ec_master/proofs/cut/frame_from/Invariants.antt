@@ -10,5 +10,6 @@ invariant-loop-k l = record {
   entries : List Entry;
   frame : l.frame ≡ sent_of entries;
   inside : l.k ≤ length l.work;
-  rest : filled entries (entries_from l.k (drop l.k l.work)) ≡ first_frame (entries_from l.first (drop l.first l.work));
+  rest : filled entries (entries_from l.k (drop l.k l.work))
+      ≡ first_frame (entries_from l.first (drop l.first l.work));
 }

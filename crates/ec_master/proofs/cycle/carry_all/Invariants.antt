@@ -1,5 +1,5 @@
--- Some frames have gone out and are joined, and the items before `first` have taken their answers; and what those behind
--- them come to, after them, is what all come to.
+-- Some frames have gone out and are joined, and the items before `first` have taken their answers; and what
+-- those behind them come to, after them, is what all come to.
 use Rattle.std.proofs.Common.{◌≡◌, ◌≤◌, ◌-◌, List, length}
 use Rattle.ec_wire.specs.Datagram.{DatagramRecord}
 use Rattle.ec_master.specs.Cut.{concat}

@@ -11,15 +11,18 @@ judge-verdict-requires-clause-taken g c =
 
 pub returns-in_err-taken-clause-frames_suffice : goal.returns-in_err-taken-clause-frames_suffice
 returns-in_err-taken-clause-frames_suffice g c =
-    cycle-suffices g.P.Ports.trips c.args.ports.now c.carry_all.new.ports c.args.work.now c.args.expected.now c.from_residual.result
+    cycle-suffices g.P.Ports.trips c.args.ports.now c.carry_all.new.ports c.args.work.now c.args.expected.now
+    c.from_residual.result
     c.args.work.now c.are_items.ensures.items (search rules)
 
 pub returns-then-eq-clause-frames_suffice : goal.returns-then-eq-clause-frames_suffice
 returns-then-eq-clause-frames_suffice g c =
-    cycle-suffices g.P.Ports.trips c.args.ports.now c.carry_all.new.ports c.args.work.now c.args.expected.now (Ok c.judge-verdict.result)
+    cycle-suffices g.P.Ports.trips c.args.ports.now c.carry_all.new.ports c.args.work.now c.args.expected.now
+    (Ok c.judge-verdict.result)
     c.in_ok-taken.taken c.are_items.ensures.items (search rules)
 
 pub returns-else-eq-clause-frames_suffice : goal.returns-else-eq-clause-frames_suffice
 returns-else-eq-clause-frames_suffice g c =
-    cycle-suffices g.P.Ports.trips c.args.ports.now c.carry_all.new.ports c.args.work.now c.args.expected.now (Ok c.judge-verdict.result)
+    cycle-suffices g.P.Ports.trips c.args.ports.now c.carry_all.new.ports c.args.work.now c.args.expected.now
+    (Ok c.judge-verdict.result)
     c.args.work.now c.are_items.ensures.items (search rules)

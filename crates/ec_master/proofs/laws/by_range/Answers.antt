@@ -1,4 +1,5 @@
-use Rattle.ec_master.proofs.RangeLemmas.{item_fprd, item_not_fprd, item_brd, item_not_brd, item_writes, item_fpwr, item_beside_fpwr, item_not_fpwr, item_reads}
+use Rattle.ec_master.proofs.RangeLemmas.{item_fprd, item_not_fprd, item_brd, item_not_brd, item_writes}
+use Rattle.ec_master.proofs.RangeLemmas.{item_fpwr, item_beside_fpwr, item_not_fpwr, item_reads}
 use Rattle.ec_master.proofs.laws.by_range.Goals as goal
 
 pub returns : goal.returns

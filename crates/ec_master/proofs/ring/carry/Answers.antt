@@ -19,11 +19,13 @@ returns-in-Ok-clause-joined g c es frame =
     let is_b = c.as_ref-2.ensures.value ∙ ap (λ (x : Came). x.b) c.trip-came.ensures.came in
     let by = carried w es sent (line_of r) _ _ frame is_a is_b in
     c.in-Ok.ensures.joined ∙ by.joined
-    ∙ ap (λ (n : ℕ). joined_of (trip_of w es n) (passed (trip_of w es n) (line_of r))) (length-controllers r.slaves)
+    ∙ ap (λ (n : ℕ). joined_of (trip_of w es n) (passed (trip_of w es n) (line_of r)))
+    (length-controllers r.slaves)
 
 pub returns-in-Ok-clause-ring : goal.returns-in-Ok-clause-ring
 returns-in-Ok-clause-ring g c es frame =
-    c.trip-came.ensures.ring ∙ ring_carried (g.T.Travel.ring c.args.ring.now) c.args.weather.now es c.args.sent.now frame
+    c.trip-came.ensures.ring
+    ∙ ring_carried (g.T.Travel.ring c.args.ring.now) c.args.weather.now es c.args.sent.now frame
 
 pub returns-in-Err-clause-joined : goal.returns-in-Err-clause-joined
 returns-in-Err-clause-joined g c es frame =
@@ -37,4 +39,5 @@ returns-in-Err-clause-joined g c es frame =
 
 pub returns-in-Err-clause-ring : goal.returns-in-Err-clause-ring
 returns-in-Err-clause-ring g c es frame =
-    c.trip-came.ensures.ring ∙ ring_carried (g.T.Travel.ring c.args.ring.now) c.args.weather.now es c.args.sent.now frame
+    c.trip-came.ensures.ring
+    ∙ ring_carried (g.T.Travel.ring c.args.ring.now) c.args.weather.now es c.args.sent.now frame

@@ -12,21 +12,30 @@ pub returns-clause-order_free : goal.returns-clause-order_free
 returns-clause-order_free g c one accepted =
     let r : RingState = g.T.Travel.ring c.args.ring.now in
     let items = c.args.work.now in
-    subst (λ (later : RingState). IsCycle (by_station r.slaves) items c.travel.new.work (by_station later.slaves)) (sym c.travel.ensures.ring)
-    (subst (λ (got : List ItemRecord). IsCycle (by_station r.slaves) items got (by_station (ring_under [] r items).slaves)) (sym c.travel.ensures.work)
+    subst (λ (later : RingState).
+    IsCycle (by_station r.slaves) items c.travel.new.work (by_station later.slaves))
+    (sym c.travel.ensures.ring)
+    (subst (λ (got : List ItemRecord).
+    IsCycle (by_station r.slaves) items got (by_station (ring_under [] r items).slaves))
+    (sym c.travel.ensures.work)
     (whole_cycle r items one.0 one.1 accepted c.are_items.ensures.items))
 
 pub returns-clause-reached : goal.returns-clause-reached
 returns-clause-reached g c accepted =
     let r : RingState = g.T.Travel.ring c.args.ring.now in
     let items = c.args.work.now in
-    subst (λ (later : RingState). IsCycle (by_station (reached r)) items c.travel.new.work (by_station (reached later))) (sym c.travel.ensures.ring)
-    (subst (λ (got : List ItemRecord). IsCycle (by_station (reached r)) items got (by_station (reached (ring_under [] r items)))) (sym c.travel.ensures.work)
+    subst (λ (later : RingState).
+    IsCycle (by_station (reached r)) items c.travel.new.work (by_station (reached later)))
+    (sym c.travel.ensures.ring)
+    (subst (λ (got : List ItemRecord).
+    IsCycle (by_station (reached r)) items got (by_station (reached (ring_under [] r items))))
+    (sym c.travel.ensures.work)
     (reached_cycle r items accepted c.are_items.ensures.items))
 
 pub returns-clause-unreached : goal.returns-clause-unreached
 returns-clause-unreached g c accepted =
-    ap unreached c.travel.ensures.ring ∙ unreached_same (g.T.Travel.ring c.args.ring.now) c.args.work.now accepted c.are_items.ensures.items
+    ap unreached c.travel.ensures.ring
+    ∙ unreached_same (g.T.Travel.ring c.args.ring.now) c.args.work.now accepted c.are_items.ensures.items
 
 pub returns-clause-places : goal.returns-clause-places
 returns-clause-places g c accepted =

@@ -1,5 +1,6 @@
 -- One frame more has travelled; in the end none is left.
-use Rattle.std.proofs.Common.{◌≡◌, ℕ, ◌+◌, ◌∙◌, ◌<◌, ◌≤◌, ap, sym, refl, arith, length, drop, List, slice_index_or}
+use Rattle.std.proofs.Common.{◌≡◌, ℕ, ◌+◌, ◌∙◌, ◌<◌, ◌≤◌, ap, sym, refl, arith, length, drop, List}
+use Rattle.std.proofs.Common.{slice_index_or}
 use Rattle.std.proofs.lemmas.List.{drop-drop}
 use Rattle.ec_wire.specs.Datagram.{DatagramRecord}
 use Rattle.ec_line.specs.Trip.{Trip, Passed, passed, joined_of}
@@ -11,7 +12,8 @@ use Rattle.ec_ring.specs.declared.weather.Weather.{Weather}
 use Rattle.ec_master.specs.Cut.{frame_at}
 use Rattle.ec_master.specs.Work.{with_answers_at}
 use Rattle.ec_master.specs.Travelled.{calm}
-use Rattle.ec_master.proofs.TravelLemmas.{Finished, finished, finished-next, finished-none, finished-all, first_weather, weather_at}
+use Rattle.ec_master.proofs.TravelLemmas.{Finished, finished, finished-next, finished-none, finished-all}
+use Rattle.ec_master.proofs.TravelLemmas.{first_weather, weather_at}
 use Rattle.ec_master.proofs.TravelLemmas.{later_ring-start, later_ring-next, line-next}
 use Rattle.ec_master.proofs.WorkLemmas.{length-with_answers_at}
 use Rattle.ec_master.proofs.ring.travel.Goals as goal
@@ -26,11 +28,21 @@ loop-first-init g c = record {
 
 pub overflow_add-first : goal.overflow_add-first
 overflow_add-first g c =
-    omega (arith, c.count-first.ensures.count, c.exchange-joined.ensures.room, c.exchange-joined.ensures.limit)
+    omega (
+      arith,
+      c.count-first.ensures.count,
+      c.exchange-joined.ensures.room,
+      c.exchange-joined.ensures.limit,
+    )
 
 pub overflow_add-number : goal.overflow_add-number
 overflow_add-number g c =
-    omega (arith, c.loop-first.invariant.number, c.exchange-joined.ensures.room, c.exchange-joined.ensures.limit)
+    omega (
+      arith,
+      c.loop-first.invariant.number,
+      c.exchange-joined.ensures.room,
+      c.exchange-joined.ensures.limit,
+    )
 
 pub loop-first-smaller : goal.loop-first-smaller
 loop-first-smaller g c =
@@ -56,7 +68,8 @@ loop-first-preserved g c =
     let places : length r.slaves ≡ n = sym (length-controllers r.slaves) ∙ c.loop-first.invariant.ring.size in
     let weather : c.weather_of-under.result ≡ first_weather ws r0.links
     = c.weather_of-under.ensures
-    ∙ ap (λ (l : Links). slice_index_or c.args.weather.now c.loop-first.number (calm l)) c.links-links.ensures.links
+    ∙ ap (λ (l : Links). slice_index_or c.args.weather.now c.loop-first.number (calm l))
+    c.links-links.ensures.links
     ∙ sym (weather_at c.args.weather.now r0.links c.loop-first.number) in
     let same : trip_of c.weather_of-under.result (frame_at k items) (length r.slaves) ≡ t
     = (λ i. trip_of (weather i) (frame_at k items) (places i)) in
@@ -88,22 +101,31 @@ loop-first-preserved g c =
             ap length c.take_answers.ensures,
             length-with_answers_at k items c.exchange-joined.result,
           );
-      number = omega (arith, c.loop-first.invariant.number, c.count-first.ensures.count, c.exchange-joined.ensures.some);
+      number = omega (
+        arith,
+        c.loop-first.invariant.number,
+        c.count-first.ensures.count,
+        c.exchange-joined.ensures.some,
+      );
     }
 
 pub returns-clause-work : goal.returns-clause-work
 returns-clause-work g c =
     let r0 : RingState = g.T.Travel.ring c.args.ring.now in
-    let past : length c.loop-first.work ≤ c.loop-first.first = omega (arith, c.loop-first-test.false, c.len.ensures.count) in
+    let past : length c.loop-first.work ≤ c.loop-first.first =
+    omega (arith, c.loop-first-test.false, c.len.ensures.count) in
     ap (λ (f : Finished). f.work)
-    (sym (finished-none _ r0.links (length r0.slaves) c.loop-first.first c.loop-first.work (line_of (g.T.Travel.ring c.loop-first.ring)) past)
+    (sym (finished-none _ r0.links (length r0.slaves) c.loop-first.first c.loop-first.work
+    (line_of (g.T.Travel.ring c.loop-first.ring)) past)
     ∙ c.loop-first.invariant.left ∙ finished-all c.args.weather.now r0 c.args.work.now)
 
 pub returns-clause-ring : goal.returns-clause-ring
 returns-clause-ring g c =
     let r0 : RingState = g.T.Travel.ring c.args.ring.now in
-    let past : length c.loop-first.work ≤ c.loop-first.first = omega (arith, c.loop-first-test.false, c.len.ensures.count) in
+    let past : length c.loop-first.work ≤ c.loop-first.first =
+    omega (arith, c.loop-first-test.false, c.len.ensures.count) in
     c.loop-first.invariant.ring.line
     ∙ ap (λ (f : Finished). with_line r0 f.line)
-    (sym (finished-none _ r0.links (length r0.slaves) c.loop-first.first c.loop-first.work (line_of (g.T.Travel.ring c.loop-first.ring)) past)
+    (sym (finished-none _ r0.links (length r0.slaves) c.loop-first.first c.loop-first.work
+    (line_of (g.T.Travel.ring c.loop-first.ring)) past)
     ∙ c.loop-first.invariant.left ∙ finished-all c.args.weather.now r0 c.args.work.now)

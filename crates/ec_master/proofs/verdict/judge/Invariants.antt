@@ -8,4 +8,5 @@ use Rattle.ec_master.proofs.verdict.judge.Given as goal
 abbrev pub invariant-loop-k : goal.invariant-loop-k
 invariant-loop-k l =
     (answers : List DatagramRecord) → length answers ≡ length l.work → l.taken ≡ with_answers l.work answers
-    → verdict_from l.k (drop l.k l.work) (drop l.k answers) (drop l.k l.expected) ≡ verdict l.work answers l.expected
+    → verdict_from l.k (drop l.k l.work) (drop l.k answers) (drop l.k l.expected)
+    ≡ verdict l.work answers l.expected

@@ -29,8 +29,10 @@ returns-then-eq-clause-verdict g c accepted =
     let ws : List Weather = c.args.weather.now in
     let items = c.args.work.now in
     let ring = c.travel.ensures.ring ∙ ap (ring_under ws r) c.copy-taken.ensures in
-    let work = c.travel.ensures.work ∙ ap (λ (rs : List ItemRecord). with_answers rs (answers_under ws r rs)) c.copy-taken.ensures in
-    let is = judged ws r items c.args.expected.now c.travel.new.work c.judge-verdict.result accepted c.are_items.ensures.items c.requires work c.judge-verdict.ensures in
+    let work = c.travel.ensures.work
+    ∙ ap (λ (rs : List ItemRecord). with_answers rs (answers_under ws r rs)) c.copy-taken.ensures in
+    let is = judged ws r items c.args.expected.now c.travel.new.work c.judge-verdict.result accepted
+    c.are_items.ensures.items c.requires work c.judge-verdict.ensures in
     is ∙ verdict-counts ws r items c.travel.ensures.limit accepted c.are_items.ensures.items
 
 pub returns-then-eq-clause-good_image : goal.returns-then-eq-clause-good_image
@@ -39,10 +41,13 @@ returns-then-eq-clause-good_image g c accepted good =
     let ws : List Weather = c.args.weather.now in
     let items = c.args.work.now in
     let ring = c.travel.ensures.ring ∙ ap (ring_under ws r) c.copy-taken.ensures in
-    let work = c.travel.ensures.work ∙ ap (λ (rs : List ItemRecord). with_answers rs (answers_under ws r rs)) c.copy-taken.ensures in
-    let is = judged ws r items c.args.expected.now c.travel.new.work c.judge-verdict.result accepted c.are_items.ensures.items c.requires work c.judge-verdict.ensures in
+    let work = c.travel.ensures.work
+    ∙ ap (λ (rs : List ItemRecord). with_answers rs (answers_under ws r rs)) c.copy-taken.ensures in
+    let is = judged ws r items c.args.expected.now c.travel.new.work c.judge-verdict.result accepted
+    c.are_items.ensures.items c.requires work c.judge-verdict.ensures in
     subst (AreAnswers (by_station r.slaves) items) (sym work)
-    (certificate.good_answers ws r items c.travel.ensures.limit accepted c.are_items.ensures.items (sym is ∙ good))
+    (certificate.good_answers ws r items c.travel.ensures.limit accepted c.are_items.ensures.items
+    (sym is ∙ good))
 
 pub returns-then-eq-clause-good_memories : goal.returns-then-eq-clause-good_memories
 returns-then-eq-clause-good_memories g c n accepted good =
@@ -50,10 +55,13 @@ returns-then-eq-clause-good_memories g c n accepted good =
     let ws : List Weather = c.args.weather.now in
     let items = c.args.work.now in
     let ring = c.travel.ensures.ring ∙ ap (ring_under ws r) c.copy-taken.ensures in
-    let work = c.travel.ensures.work ∙ ap (λ (rs : List ItemRecord). with_answers rs (answers_under ws r rs)) c.copy-taken.ensures in
-    let is = judged ws r items c.args.expected.now c.travel.new.work c.judge-verdict.result accepted c.are_items.ensures.items c.requires work c.judge-verdict.ensures in
+    let work = c.travel.ensures.work
+    ∙ ap (λ (rs : List ItemRecord). with_answers rs (answers_under ws r rs)) c.copy-taken.ensures in
+    let is = judged ws r items c.args.expected.now c.travel.new.work c.judge-verdict.result accepted
+    c.are_items.ensures.items c.requires work c.judge-verdict.ensures in
     ap (λ (x : RingState). memory_at (by_station x.slaves) n) ring
-    ∙ certificate.good_memories ws r items n c.travel.ensures.limit accepted c.are_items.ensures.items (sym is ∙ good)
+    ∙ certificate.good_memories ws r items n c.travel.ensures.limit accepted c.are_items.ensures.items
+    (sym is ∙ good)
 
 pub returns-then-eq-clause-good_outputs : goal.returns-then-eq-clause-good_outputs
 returns-then-eq-clause-good_outputs g c n k s accepted good below there shows =
@@ -61,10 +69,13 @@ returns-then-eq-clause-good_outputs g c n k s accepted good below there shows =
     let ws : List Weather = c.args.weather.now in
     let items = c.args.work.now in
     let ring = c.travel.ensures.ring ∙ ap (ring_under ws r) c.copy-taken.ensures in
-    let work = c.travel.ensures.work ∙ ap (λ (rs : List ItemRecord). with_answers rs (answers_under ws r rs)) c.copy-taken.ensures in
-    let is = judged ws r items c.args.expected.now c.travel.new.work c.judge-verdict.result accepted c.are_items.ensures.items c.requires work c.judge-verdict.ensures in
+    let work = c.travel.ensures.work
+    ∙ ap (λ (rs : List ItemRecord). with_answers rs (answers_under ws r rs)) c.copy-taken.ensures in
+    let is = judged ws r items c.args.expected.now c.travel.new.work c.judge-verdict.result accepted
+    c.are_items.ensures.items c.requires work c.judge-verdict.ensures in
     ap (λ (x : RingState). shown_at (by_station x.slaves) k n) ring
-    ∙ certificate.good_shows ws r items n k s c.travel.ensures.limit accepted c.are_items.ensures.items (sym is ∙ good) below there shows
+    ∙ certificate.good_shows ws r items n k s c.travel.ensures.limit accepted c.are_items.ensures.items
+    (sym is ∙ good) below there shows
 
 pub returns-then-eq-clause-good_outputs_alone : goal.returns-then-eq-clause-good_outputs_alone
 returns-then-eq-clause-good_outputs_alone g c n k s accepted good below there alone =
@@ -72,10 +83,14 @@ returns-then-eq-clause-good_outputs_alone g c n k s accepted good below there al
     let ws : List Weather = c.args.weather.now in
     let items = c.args.work.now in
     let ring = c.travel.ensures.ring ∙ ap (ring_under ws r) c.copy-taken.ensures in
-    let work = c.travel.ensures.work ∙ ap (λ (rs : List ItemRecord). with_answers rs (answers_under ws r rs)) c.copy-taken.ensures in
-    let is = judged ws r items c.args.expected.now c.travel.new.work c.judge-verdict.result accepted c.are_items.ensures.items c.requires work c.judge-verdict.ensures in
+    let work = c.travel.ensures.work
+    ∙ ap (λ (rs : List ItemRecord). with_answers rs (answers_under ws r rs)) c.copy-taken.ensures in
+    let is = judged ws r items c.args.expected.now c.travel.new.work c.judge-verdict.result accepted
+    c.are_items.ensures.items c.requires work c.judge-verdict.ensures in
     ap (λ (x : RingState). shown_at (by_station x.slaves) k n) ring
-    ∙ certificate.good_shows ws r items n k s c.travel.ensures.limit accepted c.are_items.ensures.items (sym is ∙ good) below there (certificate.shows-last-apart s.controller (PROCESS_MEMORY + k) (frames_of items) alone)
+    ∙ certificate.good_shows ws r items n k s c.travel.ensures.limit accepted c.are_items.ensures.items
+    (sym is ∙ good) below there
+    (certificate.shows-last-apart s.controller (PROCESS_MEMORY + k) (frames_of items) alone)
 
 pub returns-then-eq-clause-memory_on_every_verdict : goal.returns-then-eq-clause-memory_on_every_verdict
 returns-then-eq-clause-memory_on_every_verdict g c k s accepted there =
@@ -101,8 +116,10 @@ returns-else-eq-clause-verdict g c accepted =
     let ws : List Weather = c.args.weather.now in
     let items = c.args.work.now in
     let ring = c.travel.ensures.ring ∙ ap (ring_under ws r) c.copy-taken.ensures in
-    let work = c.travel.ensures.work ∙ ap (λ (rs : List ItemRecord). with_answers rs (answers_under ws r rs)) c.copy-taken.ensures in
-    let is = judged ws r items c.args.expected.now c.travel.new.work c.judge-verdict.result accepted c.are_items.ensures.items c.requires work c.judge-verdict.ensures in
+    let work = c.travel.ensures.work
+    ∙ ap (λ (rs : List ItemRecord). with_answers rs (answers_under ws r rs)) c.copy-taken.ensures in
+    let is = judged ws r items c.args.expected.now c.travel.new.work c.judge-verdict.result accepted
+    c.are_items.ensures.items c.requires work c.judge-verdict.ensures in
     is ∙ verdict-counts ws r items c.travel.ensures.limit accepted c.are_items.ensures.items
 
 pub returns-else-eq-clause-memory_on_every_verdict : goal.returns-else-eq-clause-memory_on_every_verdict
@@ -129,6 +146,8 @@ returns-else-eq-clause-good_when_one_link_is_down g c accepted down one =
     let ws : List Weather = c.args.weather.now in
     let items = c.args.work.now in
     let ring = c.travel.ensures.ring ∙ ap (ring_under ws r) c.copy-taken.ensures in
-    let work = c.travel.ensures.work ∙ ap (λ (rs : List ItemRecord). with_answers rs (answers_under ws r rs)) c.copy-taken.ensures in
-    let is = judged ws r items c.args.expected.now c.travel.new.work c.judge-verdict.result accepted c.are_items.ensures.items c.requires work c.judge-verdict.ensures in
+    let work = c.travel.ensures.work
+    ∙ ap (λ (rs : List ItemRecord). with_answers rs (answers_under ws r rs)) c.copy-taken.ensures in
+    let is = judged ws r items c.args.expected.now c.travel.new.work c.judge-verdict.result accepted
+    c.are_items.ensures.items c.requires work c.judge-verdict.ensures in
     is ∙ one_down_good ws r items c.travel.ensures.limit accepted c.are_items.ensures.items down one.0 one.1

@@ -6,4 +6,6 @@ use Rattle.ec_merge.proofs.bytes.join_block.Goals as goal
 pub returns : goal.returns
 returns c =
     let at = c.args.at in
-    ap (put_chunk at c.args.into.now) (sym (joined-zip2 (chunk at 32 c.args.sent.now) (chunk at 32 c.args.into.now) (chunk at 32 c.args.other.now)))
+    ap (put_chunk at c.args.into.now)
+    (sym (joined-zip2 (chunk at 32 c.args.sent.now) (chunk at 32 c.args.into.now)
+    (chunk at 32 c.args.other.now)))

@@ -9,9 +9,16 @@ pub returns : goal.returns
 unfolding line
 returns c =
     let start : app_of c.subcommand_required.result ≡ ecat_line = search rules in
-    let show = app_of-subcommand c.in_ok-subcommand.ensures start c.in_ok-show.ensures.line c.in_ok-show.ensures.local in
-    let check = app_of-subcommand c.in_ok-subcommand-2.ensures show c.in_ok-check.ensures.line c.in_ok-check.ensures.local in
-    let run = app_of-subcommand c.in_ok-subcommand-3.ensures check c.in_ok-run.ensures.line c.in_ok-run.ensures.local in
-    let sdo = app_of-subcommand c.in_ok-subcommand-4.ensures run c.in_ok-sdo.ensures.line c.in_ok-sdo.ensures.local in
-    let udp = app_of-subcommand c.in_ok-subcommand-5.ensures sdo c.in_ok-udp.ensures.line c.in_ok-udp.ensures.local in
-    IfOk-weaker c.subcommand-6.result _ _ (λ r added. app_of-subcommand added udp c.vectors.ensures.line c.vectors.ensures.local) c.subcommand-6.ensures
+    let show = app_of-subcommand c.in_ok-subcommand.ensures start c.in_ok-show.ensures.line
+    c.in_ok-show.ensures.local in
+    let check = app_of-subcommand c.in_ok-subcommand-2.ensures show c.in_ok-check.ensures.line
+    c.in_ok-check.ensures.local in
+    let run = app_of-subcommand c.in_ok-subcommand-3.ensures check c.in_ok-run.ensures.line
+    c.in_ok-run.ensures.local in
+    let sdo = app_of-subcommand c.in_ok-subcommand-4.ensures run c.in_ok-sdo.ensures.line
+    c.in_ok-sdo.ensures.local in
+    let udp = app_of-subcommand c.in_ok-subcommand-5.ensures sdo c.in_ok-udp.ensures.line
+    c.in_ok-udp.ensures.local in
+    IfOk-weaker c.subcommand-6.result _ _
+    (λ r added. app_of-subcommand added udp c.vectors.ensures.line c.vectors.ensures.local)
+    c.subcommand-6.ensures

@@ -9,8 +9,10 @@ pub returns-clause-line : goal.returns-clause-line
 returns-clause-line c =
     let start : app_of c.about.result ≡ new_app (codes "sdo") = search rules in
     let scene = app_of-arg c.in_ok-arg.ensures start c.scene.ensures.rule c.scene.ensures.local in
-    let station = app_of-arg c.in_ok-arg-2.ensures scene c.needed-station.ensures.rule c.needed-station.ensures.local in
-    let index = app_of-arg c.in_ok-arg-3.ensures station c.needed-index.ensures.rule c.needed-index.ensures.local in
+    let station =
+    app_of-arg c.in_ok-arg-2.ensures scene c.needed-station.ensures.rule c.needed-station.ensures.local in
+    let index = app_of-arg c.in_ok-arg-3.ensures station c.needed-index.ensures.rule
+    c.needed-index.ensures.local in
     let sub = app_of-arg c.in_ok-arg-4.ensures index c.needed-sub.ensures.rule c.needed-sub.ensures.local in
     let value = c.optional-value.ensures in
     IfOk-weaker c.arg-5.result _ _ (λ r added. app_of-arg added sub value.rule value.local) c.arg-5.ensures

@@ -7,4 +7,5 @@ returns-clause-value c = c.numeral.ensures ∙ within-short c.args.digits.now c.
 
 pub returns-clause-small : goal.returns-clause-small
 returns-clause-small c =
-    subst (λ (o : Option ℕ). IfSome o (λ n. n < 16 ^ length c.args.digits.now)) (sym (c.numeral.ensures ∙ within-short c.args.digits.now c.requires)) (numeral-small 16 c.args.digits.now)
+    subst (λ (o : Option ℕ). IfSome o (λ n. n < 16 ^ length c.args.digits.now))
+    (sym (c.numeral.ensures ∙ within-short c.args.digits.now c.requires)) (numeral-small 16 c.args.digits.now)

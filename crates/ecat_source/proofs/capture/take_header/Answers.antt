@@ -11,4 +11,6 @@ returns-clause-err g c =
     let whole : length header ≡ 24 = omega arith in
     let all : take c.in_ok-take.field-0 header ≡ header = take_all _ _ (omega arith) in
     let taken = rw all at c.in_ok-take.ensures.taken in
-    IfErr-weaker _ _ _ (λ fault refused. Explains-from_header header whole c.args.input.now c.take.new.self fault taken refused) c.check_header.ensures.err
+    IfErr-weaker _ _ _
+    (λ fault refused. Explains-from_header header whole c.args.input.now c.take.new.self fault taken refused)
+    c.check_header.ensures.err

@@ -8,7 +8,8 @@ use Rattle.ec_master.proofs.work.Work.are_items.Goals as goal
 pub loop-k-preserved : goal.loop-k-preserved
 loop-k-preserved c =
     below_more _ _ c.loop-k.invariant
-    (subst IsItem (sym (get_or_from_slice_get c.args.self.now c.loop-k.k _ no_item c.item.ensures)) c.len-length.ensures.item)
+    (subst IsItem (sym (get_or_from_slice_get c.args.self.now c.loop-k.k _ no_item c.item.ensures))
+    c.len-length.ensures.item)
 
 pub returns-clause-items : goal.returns-clause-items
 returns-clause-items c =

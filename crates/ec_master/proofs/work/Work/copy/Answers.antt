@@ -11,7 +11,14 @@ loop-k-preserved c =
     let items = c.args.self.now in
     let inside : k < length items = omega (arith, c.loop-k-test.true, c.len-k-end.ensures.count) in
     let room : length c.loop-k.copy < 32
-    = omega (arith, inside, ap length c.loop-k.invariant, length-take-le k items (omega (arith, inside)), c.len-k-end.ensures.count, c.len-k-end.ensures.limit) in
+    = omega (
+      arith,
+      inside,
+      ap length c.loop-k.invariant,
+      length-take-le k items (omega (arith, inside)),
+      c.len-k-end.ensures.count,
+      c.len-k-end.ensures.limit,
+    ) in
     let same : c.copy.result ≡ get_or items k no_item
     = c.copy.ensures ∙ sym (get_or_from_slice_get items k _ no_item c.item.ensures) in
     pushed _ c.loop-k.copy c.push.new.self c.copy.result c.push.ensures.ok c.push.ensures.full room

@@ -10,8 +10,10 @@ overflow_cast-k c = omega (arith, c.requires, c.len-count.ensures.count, c.len-c
 pub returns-clause-datagram : goal.returns-clause-datagram
 returns-clause-datagram c =
     c.datagram.ensures
-    ∙ ap (λ (r : ItemRecord). datagram_of r c.args.k) (sym (get_or_from_slice_get c.args.self.now c.args.k _ no_item c.item-item.ensures))
+    ∙ ap (λ (r : ItemRecord). datagram_of r c.args.k)
+    (sym (get_or_from_slice_get c.args.self.now c.args.k _ no_item c.item-item.ensures))
 
 pub returns-clause-item : goal.returns-clause-item
 returns-clause-item c =
-    subst IsItem (sym (get_or_from_slice_get c.args.self.now c.args.k _ no_item c.item-item.ensures)) c.len-length.ensures.item
+    subst IsItem (sym (get_or_from_slice_get c.args.self.now c.args.k _ no_item c.item-item.ensures))
+    c.len-length.ensures.item

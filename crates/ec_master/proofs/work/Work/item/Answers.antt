@@ -6,7 +6,8 @@ use Rattle.ec_master.proofs.WorkLemmas.{front-get}
 use Rattle.ec_master.proofs.work.Work.item.Goals as goal
 
 pub offset_bounds-self-inside-k : goal.offset_bounds-self-inside-k
-offset_bounds-self-inside-k c = omega (arith, c.requires, c.len-count.ensures.count, c.len-count.ensures.limit)
+offset_bounds-self-inside-k c =
+    omega (arith, c.requires, c.len-count.ensures.count, c.len-count.ensures.limit)
 
 pub returns : goal.returns
 returns c =
@@ -14,5 +15,6 @@ returns c =
     let count = c.self.inside.count in
     let k = c.args.k in
     let room : count ≤ length items = omega (arith, c.self.invariant.0, c.self.invariant.1) in
-    let below : k < count = omega (arith, c.requires, ap length c.self.view_is, length-take-le count items room) in
+    let below : k < count =
+    omega (arith, c.requires, ap length c.self.view_is, length-take-le count items room) in
     ap (λ (xs : List ItemRecord). slice_get xs k) (sym c.self.view_is) ∙ front-get count items k _ room below

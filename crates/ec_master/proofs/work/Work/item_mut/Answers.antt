@@ -16,7 +16,16 @@ returns c =
     let count = c.self.inside.count in
     let k = c.args.k in
     let room : count ≤ length items = omega (arith, c.self.invariant.0, c.self.invariant.1) in
-    let below : k < count = omega (arith, c.requires, ap length c.self.view_is, length-take-le count items room) in (
-      (refl, λ w. take-set-lt count items k w below ∙ ap (λ (xs : List ItemRecord). set xs k w) c.self.view_is),
-      record { writes_back = tt; value = ap (λ (xs : List ItemRecord). slice_get xs k) (sym c.self.view_is) ∙ front-get count items k _ room below },
+    let below : k < count =
+    omega (arith, c.requires, ap length c.self.view_is, length-take-le count items room) in (
+      (
+        refl,
+        λ w. take-set-lt count items k w below
+            ∙ ap (λ (xs : List ItemRecord). set xs k w) c.self.view_is,
+      ),
+      record {
+        writes_back = tt;
+        value = ap (λ (xs : List ItemRecord). slice_get xs k) (sym c.self.view_is)
+            ∙ front-get count items k _ room below;
+      },
     )

@@ -7,7 +7,13 @@ use Rattle.ec_master.proofs.work.Work.rewind.Goals as goal
 
 pub item_mut-requires : goal.item_mut-requires
 item_mut-requires c =
-    omega (arith, c.loop-k-test.true, c.len-k-end.ensures.count, ap length c.loop-k.invariant, length-rewound c.loop-k.k c.args.self.now)
+    omega (
+      arith,
+      c.loop-k-test.true,
+      c.len-k-end.ensures.count,
+      ap length c.loop-k.invariant,
+      length-rewound c.loop-k.k c.args.self.now,
+    )
 
 pub loop-k-preserved : goal.loop-k-preserved
 loop-k-preserved c =
@@ -18,4 +24,5 @@ loop-k-preserved c =
     ∙ ap (λ (xs : List ItemRecord). get_or xs k no_item) c.loop-k.invariant
     ∙ get-rewound k old no_item in
     let inside : k < length old = omega (arith, c.loop-k-test.true, c.len-k-end.ensures.count) in
-    rw (c.loop-k.invariant, c.rewind_item.ensures ∙ ap rewound same, add-one k) (set-rewound k old no_item inside)
+    rw (c.loop-k.invariant, c.rewind_item.ensures ∙ ap rewound same, add-one k)
+    (set-rewound k old no_item inside)

@@ -3,7 +3,8 @@ use Rattle.std.proofs.lemmas.Option.{get_or_from_slice_get}
 use Rattle.ec_wire.specs.Datagram.{nth}
 use Rattle.ec_map.specs.Item.{ItemRecord}
 use Rattle.ec_master.specs.Work.{no_item, with_answer, nth_item}
-use Rattle.ec_master.proofs.WorkLemmas.{with_answers_at-none, length-with_answers_at, get-with_answers_at, set-with_answers_at}
+use Rattle.ec_master.proofs.WorkLemmas.{with_answers_at-none, length-with_answers_at, get-with_answers_at}
+use Rattle.ec_master.proofs.WorkLemmas.{set-with_answers_at}
 use Rattle.ec_master.proofs.work.Work.take_answers.Goals as goal
 
 pub loop-j-init : goal.loop-j-init
@@ -19,9 +20,15 @@ overflow_add-first c =
 
 pub item_mut-requires : goal.item_mut-requires
 item_mut-requires c =
-    omega (arith, there c, ap length c.loop-j.invariant, length-with_answers_at c.args.first c.args.self.now (take c.loop-j.j c.args.joined.now))
+    omega (
+      arith,
+      there c,
+      ap length c.loop-j.invariant,
+      length-with_answers_at c.args.first c.args.self.now (take c.loop-j.j c.args.joined.now),
+    )
 
-same : (c : goal.After-item_mut) → c.item_mut.result.now ≡ nth_item c.args.self.now (c.args.first + c.loop-j.j)
+same : (c : goal.After-item_mut)
+    → c.item_mut.result.now ≡ nth_item c.args.self.now (c.args.first + c.loop-j.j)
 same c =
     let at : ℕ = c.args.first + c.loop-j.j in
     sym (get_or_from_slice_get c.loop-j.self at _ no_item c.item_mut.ensures.value)
@@ -45,6 +52,7 @@ loop-j-preserved c =
     (sym (get_or_from_slice_get c.loop-j.self (k + j) _ no_item c.item_mut.ensures.value)
     ∙ ap (λ (xs : List ItemRecord). get_or xs (k + j) no_item) c.loop-j.invariant
     ∙ get-with_answers_at k j old ds no_item) in
-    let room : k + j < length old = omega (arith, c.requires.room, c.loop-j-test.true, c.count-j-end.ensures.count) in
+    let room : k + j < length old =
+    omega (arith, c.requires.room, c.loop-j-test.true, c.count-j-end.ensures.count) in
     let inside : j < length ds = omega (arith, c.loop-j-test.true, c.count-j-end.ensures.count) in
     rw (c.loop-j.invariant, answer, add-one j) (set-with_answers_at k j old ds no_item room inside)

@@ -9,13 +9,16 @@ use Rattle.ec_wire.proofs.frame.FrameBuf.data_mut.Goals as goal
 pub invariant_of-self-lent : goal.invariant_of-self-lent
 invariant_of-self-lent c w =
     let place : c.start-at.result + 10 ≡ start_of c.args.self.now c.args.k + 10 = cc in
-    let till : c.start-at.result + 10 + c.data_len.result ≡ c.start-at.result + 10 + length (nth c.args.self.now c.args.k).payload = cc in
-    Keeps-seen _ _ _ _ (Keeps-run c.args.k w (Keeps-view c.self.invariant c.self.view_is) c.requires place till)
+    let till : c.start-at.result + 10 + c.data_len.result
+    ≡ c.start-at.result + 10 + length (nth c.args.self.now c.args.k).payload = cc in
+    Keeps-seen _ _ _ _
+    (Keeps-run c.args.k w (Keeps-view c.self.invariant c.self.view_is) c.requires place till)
 
 pub returns : goal.returns
 returns c =
     let place : c.start-at.result + 10 ≡ start_of c.args.self.now c.args.k + 10 = cc in
-    let till : c.start-at.result + 10 + c.data_len.result ≡ c.start-at.result + 10 + length (nth c.args.self.now c.args.k).payload = cc in
+    let till : c.start-at.result + 10 + c.data_len.result
+    ≡ c.start-at.result + 10 + length (nth c.args.self.now c.args.k).payload = cc in
     let kept = Keeps-view c.self.invariant c.self.view_is in (
       (refl, λ w. records_at-keeps _ _ _ _ (Keeps-run c.args.k w kept c.requires place till)),
       record {

@@ -7,9 +7,14 @@ use Rattle.ec_wire.proofs.FieldLemmas.{Keeps-adp}
 use Rattle.ec_wire.proofs.frame.FrameBuf.set_adp.Goals as goal
 
 -- the frame keeps its datagrams with that one field replaced
-kept_new : (c : goal.After-put) → Keeps c.put.new.self.bytes c.self.inside.size c.self.inside.starts.items (set c.args.self.now c.args.k (record (nth c.args.self.now c.args.k) { address = c.args.adp + 65536 * ((nth c.args.self.now c.args.k).address / 65536) }))
+kept_new : (c : goal.After-put)
+    → Keeps c.put.new.self.bytes c.self.inside.size c.self.inside.starts.items
+    (set c.args.self.now c.args.k
+    (record (nth c.args.self.now c.args.k)
+    { address = c.args.adp + 65536 * ((nth c.args.self.now c.args.k).address / 65536) }))
 kept_new c =
-    Keeps-adp c.args.k (Keeps-view c.self.invariant c.self.view_is) c.requires c.ranges.adp.fits c.to_le_bytes.ensures (ap (λ n. n + 2) c.start-at.ensures.value) c.put.ensures
+    Keeps-adp c.args.k (Keeps-view c.self.invariant c.self.view_is) c.requires c.ranges.adp.fits
+    c.to_le_bytes.ensures (ap (λ n. n + 2) c.start-at.ensures.value) c.put.ensures
 
 pub invariant_of-self : goal.invariant_of-self
 invariant_of-self c = Keeps-seen _ _ _ _ (kept_new c)

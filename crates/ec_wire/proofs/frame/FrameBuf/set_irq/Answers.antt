@@ -7,9 +7,12 @@ use Rattle.ec_wire.proofs.FieldLemmas.{Keeps-irq}
 use Rattle.ec_wire.proofs.frame.FrameBuf.set_irq.Goals as goal
 
 -- the frame keeps its datagrams with that one field replaced
-kept_new : (c : goal.After-put) → Keeps c.put.new.self.bytes c.self.inside.size c.self.inside.starts.items (set c.args.self.now c.args.k (record (nth c.args.self.now c.args.k) { irq = c.args.irq }))
+kept_new : (c : goal.After-put)
+    → Keeps c.put.new.self.bytes c.self.inside.size c.self.inside.starts.items
+    (set c.args.self.now c.args.k (record (nth c.args.self.now c.args.k) { irq = c.args.irq }))
 kept_new c =
-    Keeps-irq c.args.k (Keeps-view c.self.invariant c.self.view_is) c.requires c.ranges.irq.fits c.to_le_bytes.ensures (ap (λ n. n + 8) c.start-at.ensures.value) c.put.ensures
+    Keeps-irq c.args.k (Keeps-view c.self.invariant c.self.view_is) c.requires c.ranges.irq.fits
+    c.to_le_bytes.ensures (ap (λ n. n + 8) c.start-at.ensures.value) c.put.ensures
 
 pub invariant_of-self : goal.invariant_of-self
 invariant_of-self c = Keeps-seen _ _ _ _ (kept_new c)

@@ -5,7 +5,8 @@ use Rattle.ec_wire.proofs.frame.FrameBuf.start.Goals as goal
 
 -- the start that is kept
 start_is : (c : goal.After-from) → c.from.result ≡ start_of c.args.self.now c.args.k
-start_is c = c.from.ensures ∙ ap (λ xs. get_or xs c.args.k 0) c.deref.ensures.0 ∙ start-kept _ _ _ _ c.args.k (Keeps-view c.self.invariant c.self.view_is) c.requires
+start_is c = c.from.ensures ∙ ap (λ xs. get_or xs c.args.k 0) c.deref.ensures.0
+    ∙ start-kept _ _ _ _ c.args.k (Keeps-view c.self.invariant c.self.view_is) c.requires
 
 pub offset_bounds-deref-k : goal.offset_bounds-deref-k
 offset_bounds-deref-k c =
