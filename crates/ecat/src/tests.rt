@@ -4,6 +4,7 @@
 mod checking;
 mod cycles;
 mod objects;
+mod packets;
 mod rings;
 mod running;
 mod showing;

@@ -29,7 +29,7 @@
 //! - a trip changes nothing of the ring but by the walks of at most one copy from port A and then at most one
 //!   from port B, so links stay and applications take no step;
 //! - a packet is a copy exactly where it is a frame in the UDP form;
-//! - a trip takes no memory (it is given none).
+//! - a trip takes no memory: it is handed no allocator.
 //!
 //! Of the bytes that come, nothing is stated: they are up to the system (`specs/Trips.antt`).
 

@@ -1,4 +1,4 @@
-//! The worked rows, and the commands that are not there yet.
+//! The worked rows.
 
 use super::answers;
 use ecat_args::Args;
@@ -12,14 +12,4 @@ fn all_worked_rows_are_ok(rt: HostRuntime) {
         row 19 ok\nrow 20 ok\nrow 21 ok\nrow 22 ok\nrow 23 ok\nrow 24 ok\n\
         row 25 ok\nrow 26 ok\n";
     answers(&rt, &Args::Vectors, &mut Bytes::new(b""), 0, rows, b"");
-}
-
-#[test]
-fn a_command_that_is_not_there_says_so(rt: HostRuntime) {
-    let udp = Args::Udp {
-        scene: "s",
-        port: 34_980,
-    };
-    let said = b"this command is not there yet\n";
-    answers(&rt, &udp, &mut Bytes::new(b""), 2, b"", said);
 }
