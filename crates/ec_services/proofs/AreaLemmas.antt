@@ -15,17 +15,20 @@ mail_area n mail size least most =
     let room : n - 16 ≤ 112 = omega arith in
     let zeros : take (n - 16) (drop 16 (replicate 128 0)) ≡ replicate (n - 16) 0 =
     ap (take (n - 16)) (drop-replicate 16 128 0) ∙ take-replicate (n - 16) 112 0 room in
-    ap (λ (k : ℕ). take k (mail ++ drop 16 (replicate 128 0))) (let e : n ≡ length mail + (n - 16) = omega arith in e)
+    ap (λ (k : ℕ). take k (mail ++ drop 16 (replicate 128 0))) (let e : n ≡ length mail + (n - 16) =
+    omega arith in e)
     ∙ take-append-add mail (drop 16 (replicate 128 0)) (n - 16)
     ∙ ap (λ (xs : List ℕ). mail ++ xs) zeros
 
 -- ---- sizes
 
-length-joined : (s a b : List ℕ) → length a ≡ length s → length b ≡ length s → length (joined_bytes s a b) ≡ length s
+length-joined : (s a b : List ℕ) → length a ≡ length s → length b ≡ length s
+    → length (joined_bytes s a b) ≡ length s
 length-joined [] a b one two = refl
 length-joined (s ∷ ss) [] b one two = absurd (omega (arith, one))
 length-joined (s ∷ ss) (x ∷ xs) [] one two = absurd (omega (arith, two))
-length-joined (s ∷ ss) (x ∷ xs) (y ∷ ys) one two = ap suc (length-joined ss xs ys (omega (arith, one)) (omega (arith, two)))
+length-joined (s ∷ ss) (x ∷ xs) (y ∷ ys) one two = ap suc (length-joined ss xs ys (omega (arith, one))
+    (omega (arith, two)))
 
 same_size : (s c : DatagramRecord) → belongs s c ≡ true → length c.payload ≡ length s.payload
 same_size s c own = grind (arith, nat_tests)
@@ -36,4 +39,5 @@ pub joined_size : (s : DatagramRecord) (a b : List DatagramRecord) → IsOwn (s 
 joined_size s [] b one two = absurd (omega (arith, one.count))
 joined_size s (x ∷ xs) [] one two = absurd (omega (arith, two.count))
 joined_size s (x ∷ xs) (y ∷ ys) one two =
-    length-joined s.payload x.payload y.payload (same_size s x (one.each 0 (omega arith))) (same_size s y (two.each 0 (omega arith)))
+    length-joined s.payload x.payload y.payload (same_size s x (one.each 0 (omega arith))) (same_size s y
+    (two.each 0 (omega arith)))

@@ -1,5 +1,5 @@
--- A ring of simulated slaves as the ports of a master: a frame travels over it under the ring's own links, and
--- then every slave takes its step.
+-- A ring of simulated slaves as the ports of a master: a frame travels over it under the ring's own links,
+-- and then every slave takes its step.
 use Rattle.std.specs.Prelude.{◌≡◌, List, map, Result, Ok}
 use Rattle.ec_wire.specs.Datagram.{DatagramRecord}
 use Rattle.ec_app.specs.Slave.{step}

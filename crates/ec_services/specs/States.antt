@@ -31,7 +31,10 @@ status_decides state (Ok back) =
     first_fitting
     ((status.counter == 0, Err NoSlave)
     ∷ (nat_lt 1 status.counter, Err BadAnswer)
-    ∷ ((status_of (slice_index status.payload 0)).error, Err (Refused (from_le_bytes w16 (drop 4 status.payload))))
+    ∷ (
+      (status_of (slice_index status.payload 0)).error,
+      Err (Refused (from_le_bytes w16 (drop 4 status.payload))),
+    )
     ∷ (slice_index status.payload 0 % 16 == code_of state, Ok (Some tt))
     ∷ []) (Ok None)
 
@@ -39,7 +42,8 @@ abbrev pub status_question : ℕ → AlState → Question (Unit {0})
 status_question station state = record { sent = status_read station; decides = status_decides state }
 
 -- the service: one write, and then at most `limit` reads
-abbrev pub IsRequested : {P : Type 0} → Trips P → P → ℕ → AlState → ℕ → Result (Unit {0}) MasterFault → P → Type 0
+abbrev pub IsRequested : {P : Type 0} → Trips P → P → ℕ → AlState → ℕ → Result (Unit {0}) MasterFault → P
+    → Type 0
 IsRequested trips before station state limit result later =
     Talks trips before (write (control_write station state) ∷ replicate limit (status_question station state))
     (Err NoAnswer) result later

@@ -1,6 +1,7 @@
 -- Each slave of a line gets its station address by its place (IEC 61158-4-12, configured station address and
 -- auto-increment addressing): a broadcast read counts the slaves, and then each is written to.
-use Rattle.std.specs.Prelude.{◌≡◌, ℕ, zero, suc, ◌+◌, ◌-◌, ◌%◌, ◌==◌, nat_lt, Bool, ◌&&◌, ◌||◌, Option, None, Some}
+use Rattle.std.specs.Prelude.{◌≡◌, ℕ, zero, suc, ◌+◌, ◌-◌, ◌%◌, ◌==◌, nat_lt, Bool, ◌&&◌, ◌||◌, Option}
+use Rattle.std.specs.Prelude.{None, Some}
 use Rattle.std.specs.Prelude.{List, [], ◌∷◌, Result, Ok, Err, is_none}
 use Rattle.std.specs.Int.{w16, to_le_bytes}
 use Rattle.ec_wire.specs.Datagram.{DatagramRecord, nth}
@@ -56,12 +57,14 @@ adp_of_place place = (65536 - place) % 65536
 
 -- the slave at a place is given a station address
 abbrev pub station_write : ℕ → ℕ → DatagramRecord
-station_write place station = request Apwr (physical (adp_of_place place) STATION_ADDRESS) (to_le_bytes w16 station)
+station_write place station =
+    request Apwr (physical (adp_of_place place) STATION_ADDRESS) (to_le_bytes w16 station)
 
 -- so many slaves from a place on are given rising addresses
 abbrev pub station_writes : ℕ → ℕ → ℕ → List (Question ℕ)
 station_writes place station zero = []
-station_writes place station (suc n) = write (station_write place station) ∷ station_writes (place + 1) (station + 1) n
+station_writes place station (suc n) =
+    write (station_write place station) ∷ station_writes (place + 1) (station + 1) n
 
 -- ---- the service
 

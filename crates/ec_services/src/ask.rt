@@ -2,7 +2,8 @@
 
 ghost use Rattle.std.specs.Prelude.{◌≡◌, ◌≤◌, ◌<◌, IfOk, Err, length};
 ghost use Rattle.ec_wire.specs.Datagram.{record_of};
-ghost use Rattle.ec_services.specs.Ask.{physical, request, Asks, IsAsked, told_by, write, write_decides, done};
+ghost use Rattle.ec_services.specs.Ask.{physical, request, Asks, IsAsked, told_by, write, write_decides};
+ghost use Rattle.ec_services.specs.Ask.{done};
 ghost use Rattle.ec_services.specs.declared.fault.MasterFault.TheVariants.{Port};
 
 use crate::fault::MasterFault;
@@ -79,7 +80,8 @@ pub(crate) fn written(back: &Back) -> Result<(), MasterFault>
 
 /// Writes to one slave.
 pub(crate) fn write<P: Ports>(ports: &mut P, sent: &Datagram) -> Result<(), MasterFault>
-    ensures asked { IsAsked P.trips ports.old (write {A = Unit {0}} (record_of sent.now)) (done result) ports.new }
+    ensures asked { IsAsked P.trips ports.old (write {A = Unit {0}} (record_of sent.now)) (done result)
+        ports.new }
     ensures counted { result ≡ Err Port → P.failed ports.old < P.failed ports.new }
     ensures never_lower { P.failed ports.old ≤ P.failed ports.new }
 {

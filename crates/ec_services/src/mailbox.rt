@@ -4,7 +4,8 @@ ghost use Rattle.std.specs.Prelude.{◌≡◌, ◌≤◌, ◌<◌, Err, IfOk, If
 ghost use Rattle.ec_wire.specs.Datagram.{record_of};
 ghost use Rattle.ec_app.specs.declared.mail.Mail.{Mail};
 ghost use Rattle.ec_services.specs.Ask.{IsAsked, Talks, done, write_decides};
-ghost use Rattle.ec_services.specs.Mailbox.{IsPeer, mail_write, next_counter, with_counted, IsPosted, mail_read};
+ghost use Rattle.ec_services.specs.Mailbox.{IsPeer, mail_write, next_counter, with_counted, IsPosted};
+ghost use Rattle.ec_services.specs.Mailbox.{mail_read};
 ghost use Rattle.ec_services.specs.Mailbox.{mail_decides, mail_question, Fetches};
 ghost use Rattle.ec_services.specs.declared.fault.MasterFault.TheVariants.{NoAnswer, Port};
 

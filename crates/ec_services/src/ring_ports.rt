@@ -8,8 +8,8 @@ use ec_ring::{Came, Ring, Travel};
 use ec_wire::FrameBuf;
 use std::marker::Model;
 
-/// A ring of simulated slaves as the ports of a master: each frame travels over it under the ring's own links,
-/// copy A first, and then every slave takes its step. A trip never fails. Contracts see the ring.
+/// A ring of simulated slaves as the ports of a master: each frame travels over it under the ring's own
+/// links, copy A first, and then every slave takes its step. A trip never fails. Contracts see the ring.
 #[derive(Drop)]
 pub struct RingPorts {
     ring: Ring,

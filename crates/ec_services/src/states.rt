@@ -25,8 +25,8 @@ const CODE_AT: usize = 4;
 
 /// Writes the state and the acknowledgement into AL control.
 fn write_control<P: Ports>(ports: &mut P, station: u16, state: AlState) -> Result<(), MasterFault>
-    ensures asked { IsAsked P.trips ports.old (write {A = Unit {0}} (control_write station state)) (done result)
-        ports.new }
+    ensures asked { IsAsked P.trips ports.old (write {A = Unit {0}} (control_write station state))
+        (done result) ports.new }
     ensures counted { result ≡ Err Port → P.failed ports.old < P.failed ports.new }
     ensures never_lower { P.failed ports.old ≤ P.failed ports.new }
 {
@@ -79,8 +79,8 @@ fn await_state<P: Ports>(
     state: AlState,
     limit: u32,
 ) -> Result<(), MasterFault>
-    ensures talk { Talks P.trips ports.old (replicate limit (status_question station state)) (Err NoAnswer) result
-        ports.new }
+    ensures talk { Talks P.trips ports.old (replicate limit (status_question station state)) (Err NoAnswer)
+        result ports.new }
     ensures counted { result ≡ Err Port → P.failed ports.old < P.failed ports.new }
     ensures never_lower { P.failed ports.old ≤ P.failed ports.new }
 {

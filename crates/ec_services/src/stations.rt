@@ -65,7 +65,8 @@ fn count_slaves<P: Ports>(ports: &mut P) -> Result<u16, MasterFault>
 
 /// Gives the slave at a place its station address.
 fn write_station<P: Ports>(ports: &mut P, place: u16, station: u16) -> Result<(), MasterFault>
-    ensures asked { IsAsked P.trips ports.old (write {A = Unit {0}} (station_write place station)) (done result) ports.new }
+    ensures asked { IsAsked P.trips ports.old (write {A = Unit {0}} (station_write place station))
+        (done result) ports.new }
     ensures counted { result ≡ Err Port → P.failed ports.old < P.failed ports.new }
     ensures never_lower { P.failed ports.old ≤ P.failed ports.new }
 {

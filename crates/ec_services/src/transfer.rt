@@ -72,12 +72,16 @@ fn exchange<P: Ports>(
 }
 
 /// Reads an object of a slave (IEC 61158-6-12, SDO upload, expedited): writes the request into the peer's
-/// mailbox, then reads its other mailbox at most `limit` times, until a mail is there. It takes no memory. The
-/// peer's counter moves on exactly where one slave took the request.
+/// mailbox, then reads its other mailbox at most `limit` times, until a mail is there. It takes no memory.
+/// The peer's counter moves on exactly where one slave took the request.
 ///
 /// A trip that fails is `Port`, and a copy of another frame `Stranger`. `NoSlave`: no slave took the request,
 /// as where the mailbox is full; `Abort`: the slave ended the transfer; `NoAnswer`: `limit` reads found no
 /// mail; `BadAnswer`: more than one slave answered, or the mail is no answer to this request.
+///
+/// An answer that comes after `limit` reads stays in the slave's mailbox, where the next transfer finds it. A
+/// request that a slave took although its copies were lost leaves the counter, so that the slave takes the
+/// next one for the same again.
 pub fn sdo_upload<P: Ports>(
     ports: &mut P,
     peer: &mut Peer,
@@ -86,8 +90,8 @@ pub fn sdo_upload<P: Ports>(
     limit: u32,
 ) -> Result<Value, MasterFault>
     requires { IsPeer peer.old }
-    ensures service { IsTransferred P.trips ports.old peer.old (Upload index sub) limit uploaded_by result peer.new
-        ports.new }
+    ensures service { IsTransferred P.trips ports.old peer.old (Upload index sub) limit uploaded_by
+        result peer.new ports.new }
     ensures counted { result ≡ Err Port → P.failed ports.old < P.failed ports.new }
     ensures never_lower { P.failed ports.old ≤ P.failed ports.new }
 {
@@ -106,8 +110,8 @@ pub fn sdo_download<P: Ports>(
     limit: u32,
 ) -> Result<(), MasterFault>
     requires { IsPeer peer.old }
-    ensures service { IsTransferred P.trips ports.old peer.old (Download index sub value) limit downloaded_by result
-        peer.new ports.new }
+    ensures service { IsTransferred P.trips ports.old peer.old (Download index sub value) limit downloaded_by
+        result peer.new ports.new }
     ensures counted { result ≡ Err Port → P.failed ports.old < P.failed ports.new }
     ensures never_lower { P.failed ports.old ≤ P.failed ports.new }
 {

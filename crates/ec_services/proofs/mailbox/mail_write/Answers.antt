@@ -12,5 +12,6 @@ returns c =
     ∙ rw (c.physical-address.ensures, c.from.ensures, c.copy_from_slice.ensures.after, c.write.ensures.value)
     (ap (request Fpwr (physical c.args.peer.now.station c.args.peer.now.to.start))
     (mail_area c.args.peer.now.to.length (mail_bytes (request_mail c.args.peer.now c.args.sdo.now))
-    (sym (ap length (c.copy_from_slice.ensures.after ∙ c.write.ensures.value)) ∙ c.copy_from_slice.ensures.len)
+    (sym (ap length (c.copy_from_slice.ensures.after ∙ c.write.ensures.value))
+    ∙ c.copy_from_slice.ensures.len)
     c.requires.to.0 c.requires.to.1))

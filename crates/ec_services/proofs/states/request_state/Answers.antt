@@ -10,8 +10,10 @@ pub returns-in_err-write_control-clause-service : goal.returns-in_err-write_cont
 returns-in_err-write_control-clause-service g c =
     let p = err_from_is_err_and c.from_residual.result c.from_residual.ensures.1 in
     rw (p.1, p.2)
-    (talks_fault g.P.Ports.trips c.args.ports.now c.write_control.new.ports (write (control_write c.args.station c.args.state))
-    (replicate c.args.limit (status_question c.args.station c.args.state)) (Err NoAnswer) c.in_err-write_control.field-0.0
+    (talks_fault g.P.Ports.trips c.args.ports.now c.write_control.new.ports (write
+    (control_write c.args.station c.args.state))
+    (replicate c.args.limit (status_question c.args.station c.args.state))
+    (Err NoAnswer) c.in_err-write_control.field-0.0
     c.in_err-write_control.ensures.asked)
 
 pub returns-clause-service : goal.returns-clause-service

@@ -11,16 +11,20 @@ returns-in_err-write_station-clause-service g c =
     let n : ℕ = c.in_ok-count.count in
     let k : ℕ = c.loop-place.place in
     let sent = station_write k (first + k) in
-    let p = err_from_is_err_and c.from_residual-in_err-write_station.result c.from_residual-in_err-write_station.ensures.1 in
+    let p = err_from_is_err_and c.from_residual-in_err-write_station.result
+    c.from_residual-in_err-write_station.ensures.1 in
     rw (p.1, p.2) (record {
       count = Ok n;
       between = c.count_slaves.new.ports;
       counting = c.in_ok-count.ensures.counting;
-      writing = ends_fault g.P.Ports.trips c.count_slaves.new.ports c.loop-place.ports c.write_station.new.ports
-          (station_writes 0 first n) (station_writes k (first + k) (n - k)) (station_writes (k + 1) (first + (k + 1)) (n - (k + 1)))
+      writing = ends_fault g.P.Ports.trips c.count_slaves.new.ports c.loop-place.ports
+          c.write_station.new.ports
+          (station_writes 0 first n) (station_writes k (first + k) (n - k)) (station_writes (k + 1)
+          (first + (k + 1)) (n - (k + 1)))
           (write sent) (Ok n) c.in_err-write_station.field-0.0 c.loop-place.invariant.goes_on
           (stations_left first n k c.loop-place-test.true)
-          (write_in {A = Unit {0}} g.P.Ports.trips c.loop-place.ports c.write_station.new.ports sent (Err c.in_err-write_station.field-0.0) c.in_err-write_station.ensures.asked);
+          (write_in {A = Unit {0}} g.P.Ports.trips c.loop-place.ports c.write_station.new.ports sent
+          (Err c.in_err-write_station.field-0.0) c.in_err-write_station.ensures.asked);
     })
 
 pub loop-place-preserved : goal.loop-place-preserved
@@ -32,9 +36,11 @@ loop-place-preserved g c =
     record {
       counted = omega (arith, c.loop-place.invariant.counted, c.write_station.ensures.never_lower);
       goes_on = goes_on g.P.Ports.trips c.count_slaves.new.ports c.loop-place.ports c.write_station.new.ports
-          (station_writes 0 first n) (station_writes k (first + k) (n - k)) (station_writes (k + 1) (first + (k + 1)) (n - (k + 1)))
+          (station_writes 0 first n) (station_writes k (first + k) (n - k)) (station_writes (k + 1)
+          (first + (k + 1)) (n - (k + 1)))
           (write sent) (Ok n) c.loop-place.invariant.goes_on (stations_left first n k c.loop-place-test.true)
-          (write_in {A = Unit {0}} g.P.Ports.trips c.loop-place.ports c.write_station.new.ports sent (Ok tt) c.in_ok-write_station.ensures.asked);
+          (write_in {A = Unit {0}} g.P.Ports.trips c.loop-place.ports c.write_station.new.ports sent
+          (Ok tt) c.in_ok-write_station.ensures.asked);
     }
 
 pub returns-clause-service : goal.returns-clause-service
@@ -46,7 +52,9 @@ returns-clause-service g c =
       count = Ok n;
       between = c.count_slaves.new.ports;
       counting = c.in_ok-count.ensures.counting;
-      writing = ends_undecided g.P.Ports.trips c.count_slaves.new.ports c.loop-place.ports (station_writes 0 first n)
+      writing = ends_undecided g.P.Ports.trips c.count_slaves.new.ports c.loop-place.ports
+          (station_writes 0 first n)
           (station_writes k (first + k) (n - k)) (Ok n) c.loop-place.invariant.goes_on
-          (ap (station_writes k (first + k)) (let e : n - k ≡ 0 = omega (arith, c.loop-place-test.false) in e));
+          (ap (station_writes k (first + k)) (let e : n - k ≡ 0 =
+          omega (arith, c.loop-place-test.false) in e));
     }
