@@ -11,3 +11,4 @@ pub mod NamesLemmas
 pub mod WholeLemmas
 pub mod ShowingLemmas
 pub mod ReachLemmas
+pub mod ApartLemmas

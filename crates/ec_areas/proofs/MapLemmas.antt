@@ -1,6 +1,6 @@
 -- Where the writes through all FMMUs go: the partial functions and the sets of pairs; what is mapped of a range; and bytes
 -- that no write through an FMMU reaches.
-use Rattle.std.proofs.Common.{◌≡◌, ℕ, zero, suc, ◌+◌, ◌-◌, ◌*◌, ◌/◌, ◌<◌, ◌≤◌, Bool, true, false, ltb, leb, eqb, ◌&&◌, ◌||◌, cond, List, [], ◌∷◌, length}
+use Rattle.std.proofs.Common.{◌≡◌, ℕ, zero, suc, ◌+◌, ◌-◌, ◌/◌, ◌<◌, ◌≤◌, true, false, ltb, leb, eqb, ◌&&◌, List, [], ◌∷◌, length}
 use Rattle.std.proofs.Common.{get_or, Option, None, Some, sym, ◌∙◌, ap, refl, arith, ⊎_elim}
 use Rattle.std.specs.Option.{is_some, IsSome}
 use Rattle.std.proofs.lemmas.Bool.{cases_Bool}

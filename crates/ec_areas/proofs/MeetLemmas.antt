@@ -1,20 +1,18 @@
 -- What ranges meet: registers meet no area, and a range within a buffered area meets no mailbox alone.
-use Rattle.std.proofs.Common.{◌≡◌, ◌≢◌, ℕ, zero, suc, ◌+◌, ◌-◌, ◌/◌, ◌%◌, ◌*◌, ◌<◌, ◌≤◌, Bool, true, false, ◌&&◌, ◌||◌, cond, eqb, leb, ltb, List, [], ◌∷◌}
+use Rattle.std.proofs.Common.{◌≡◌, ◌≢◌, ℕ, ◌+◌, ◌-◌, ◌/◌, ◌%◌, ◌<◌, ◌≤◌, Bool, true, false, ◌&&◌, ◌||◌, eqb, leb, ltb, List}
 use Rattle.std.proofs.Common.{length, get_or, Option, None, Some, sym, ◌∙◌, ap, refl, arith, ⊎_elim}
 use Rattle.std.specs.Prelude.{not}
-use Rattle.std.specs.List.{filter, list_any, Any}
-use Rattle.std.specs.Option.{is_some}
+use Rattle.std.specs.List.{filter}
 use Rattle.std.proofs.Math.Path.{fun_ext}
 use Rattle.std.proofs.lemmas.Bool.{cases_Bool, cases_lt, cases_eq}
 use Rattle.std.proofs.lemmas.Bool.Decides.{nat_tests}
-use Rattle.std.proofs.lemmas.List.{get_or_default}
 use Rattle.std.proofs.lemmas.List.Folds.{list_any_none, list_any_at, Any-from_list_any}
 use Rattle.ec_regs.specs.declared.sync_man.SyncMan.{SyncMan}
 use Rattle.ec_regs.specs.declared.registers.TheConstants.{PROCESS_MEMORY, MEMORY_SIZE}
 use Rattle.ec_regs.specs.SyncMan.{is_enabled, is_active, is_buffered, is_mailbox, master_reads, master_writes, has_area_length, is_in_process_memory}
-use Rattle.ec_areas.specs.Areas.{guards, hides, locks, is_hidden, is_locked}
-use Rattle.ec_areas.specs.Ranges.{is_range, meets, meets_hidden, meets_locked, meets_one, is_area, emptied_by, filled_by, serves_physical_read}
-use Rattle.ec_areas.specs.Ranges.{is_in_sync_manager, is_writable_field, takes_writes, some_address}
+use Rattle.ec_areas.specs.Areas.{guards, locks, is_locked}
+use Rattle.ec_areas.specs.Ranges.{meets, meets_hidden, meets_locked, emptied_by, filled_by, serves_physical_read}
+use Rattle.ec_areas.specs.Ranges.{is_in_sync_manager, is_writable_field, takes_writes}
 use Rattle.ec_areas.proofs.LogicalLemmas.{both}
 use Rattle.ec_areas.proofs.MailboxLemmas.{no_manager, HasMailbox, emptied_facts, filled_facts, two_kept, area_meets}
 use Rattle.ec_areas.proofs.RecordLemmas.{SameRegisters, sync_manager_same}

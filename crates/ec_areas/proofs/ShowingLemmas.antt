@@ -1,21 +1,27 @@
 -- Which bytes a write reaches through FMMUs: by the ends of runs, and by the areas that lock them.
-use Rattle.std.proofs.Common.{◌≡◌, ◌≢◌, ℕ, ◌+◌, ◌-◌, ◌*◌, ◌/◌, ◌<◌, ◌≤◌, Bool, true, false, cond, ltb, ◌&&◌, ◌||◌, List, [], ◌∷◌, length, get_or, set, drop, Option, None, Some, sym, ◌∙◌, ap, refl, arith, ⊎_elim}
+use Rattle.std.proofs.Common.{◌≡◌, ◌≢◌, ℕ, ◌+◌, ◌-◌, ◌*◌, ◌/◌, ◌<◌, ◌≤◌, Bool, true, false, cond, leb, ltb, ◌&&◌, ◌||◌, List, [], ◌∷◌, length, get_or, set, Option, None, Some, sym, ◌∙◌, ap, refl, arith, ⊎_elim}
 use Rattle.std.specs.List.{list_any, slice_get}
-use Rattle.std.proofs.lemmas.List.{get_or-set_same, get_or-set_other, drop_all, drop_more}
-use Rattle.std.proofs.lemmas.Option.{get_or_from_slice_get}
-use Rattle.std.proofs.lemmas.Bool.{cases_lt, cases_eq}
+use Rattle.std.proofs.lemmas.List.{get_or-set_same, get_or-set_other}
+use Rattle.std.proofs.lemmas.List.Folds.{list_any_at}
+use Rattle.std.proofs.lemmas.Option.{get_or_from_slice_get, slice_get_within}
+use Rattle.std.proofs.lemmas.Bool.{cases_Bool, cases_lt, cases_eq, false≢true}
 use Rattle.std.proofs.lemmas.Bool.Decides.{nat_tests}
+use Rattle.ec_regs.specs.SyncMan.{is_enabled, is_buffered, is_mailbox, master_reads, master_writes, is_active, has_area_length}
+use Rattle.ec_regs.specs.SyncMan.{is_in_process_memory, guards_outputs}
 use Rattle.ec_regs.specs.Pairs.{writes, logical_of, partner}
 use Rattle.ec_regs.specs.declared.fmmu.Fmmu.{Fmmu}
 use Rattle.ec_regs.specs.declared.sync_man.SyncMan.{SyncMan}
 use Rattle.ec_regs.proofs.PairLemmas.{partner_inside, partner_before, partner_behind}
-use Rattle.ec_areas.specs.Areas.{is_writable}
+use Rattle.ec_areas.specs.Areas.{guards, locks, is_locked, is_writable}
 use Rattle.ec_areas.specs.declared.logical.TheConstants.{LOGICAL_BITS}
 use Rattle.ec_areas.specs.Logical.{place_if, number_within, write_place, write_map, names}
 use Rattle.ec_areas.specs.Met.{data_in}
 use Rattle.ec_areas.specs.declared.met.Run.{Run}
-use Rattle.ec_areas.specs.Showing.{written_number}
-use Rattle.ec_areas.proofs.NamesLemmas.{or_false, names_same, names_nowhere, names_somewhere, names-later}
+use Rattle.ec_areas.specs.Showing.{last_byte, written_number}
+use Rattle.ec_regs.specs.declared.registers.TheConstants.{PROCESS_MEMORY, MEMORY_SIZE}
+use Rattle.ec_areas.proofs.LogicalLemmas.{both}
+use Rattle.ec_areas.proofs.MeetLemmas.{guards_from}
+use Rattle.ec_areas.proofs.NamesLemmas.{names_same, names_nowhere, names_somewhere, names-later}
 use Rattle.ec_areas.proofs.WriteLemmas.{sources}
 
 -- a run has a bit in a byte where it begins before the byte ends and ends behind its first bit
@@ -90,10 +96,6 @@ and_distributes true true false = refl
 and_distributes true false false = refl
 and_distributes false b c = refl
 
--- does a write of n bits from logical bit `from` on reach the byte through the FMMU, if no area locks it
-abbrev pub reaches : ℕ → ℕ → ℕ → Fmmu → Bool
-reaches from n byte f = names (λ b. written_number from n f (8 * byte + b)) 8
-
 -- a write reaches a byte where it would do so through some FMMU, and the byte may be written
 pub names-write_map : (managers : List SyncMan) (fmmus : List Fmmu) (from n byte : ℕ)
     → names (λ b. write_map managers fmmus from n (8 * byte + b)) 8
@@ -116,63 +118,6 @@ written_number_not_for_writing from n f p not_writes = rw not_writes refl
 pub written_number-run : (run : Option Run) (from n : ℕ) (f : Fmmu) (p : ℕ) → writes f ≡ true
     → data_in run p ≡ number_within from n (place_if (λ l. ltb l LOGICAL_BITS) (logical_of f p)) → data_in run p ≡ written_number from n f p
 written_number-run run from n f p for_writing is = rw for_writing is
-
--- ---- marks, one after the other
-
--- a mark that is set for the first time
-or_once : (a b : Bool) → ((a || (false && b)) || b) ≡ (a || (true && b))
-or_once true b = refl
-or_once false b = refl
-
--- three truths in another order
-or_assoc : (a b c : Bool) → ((a || b) || c) ≡ (a || (b || c))
-or_assoc true b c = refl
-or_assoc false b c = refl
-
--- one mark more: that of number i is set where its test is true
-pub marked_more : (met : List Bool) (i j : ℕ) (old has test : Bool) → i < length met → get_or met j false ≡ (old || (ltb j i && test))
-    → (j ≡ i → has ≡ test) → get_or (set met i (get_or met i false || has)) j false ≡ (old || (ltb j (i + 1) && test))
-marked_more met i j old has test inside so_far same =
-    ⊎_elim
-    (λ (here : j ≡ i).
-    let before : ltb j i ≡ false = grind (arith, nat_tests) in
-    let now : ltb j (i + 1) ≡ true = grind (arith, nat_tests) in
-    ap (λ k. get_or (set met i (get_or met i false || has)) k false) here
-    ∙ get_or-set_same met i (get_or met i false || has) false inside
-    ∙ ap (λ k. get_or met k false || has) (sym here) ∙ ap (λ b. b || has) so_far ∙ ap (λ b. (old || (b && test)) || has) before
-    ∙ ap (λ b. (old || (false && test)) || b) (same here) ∙ or_once old test ∙ ap (λ b. old || (b && test)) (sym now))
-    (λ (other : j ≢ i).
-    let same_test : ltb j i ≡ ltb j (i + 1) = grind (arith, nat_tests) in
-    get_or-set_other met i j (get_or met i false || has) false other ∙ so_far ∙ ap (λ b. old || (b && test)) same_test)
-    (cases_eq j i)
-
--- all marks are set
-pub marked_all : (i j : ℕ) (old test : Bool) → j < i → (old || (ltb j i && test)) ≡ (old || test)
-marked_all i j old test before = let is : ltb j i ≡ true = grind (arith, nat_tests) in rw is refl
-
--- nothing is added where the test is false
-pub marked_none : (old test : Bool) → test ≡ false → old ≡ (old || test)
-marked_none true test none = refl
-marked_none false test none = sym none
-
--- ---- FMMUs, one after the other
-
--- does one of the FMMUs from one on pass: that one, or one behind it
-pub list_any-drop : (p : Fmmu → Bool) (fmmus : List Fmmu) (k : ℕ) (f : Fmmu) → k < length fmmus → f ≡ get_or fmmus k f
-    → list_any p (drop k fmmus) ≡ (p f || list_any p (drop (k + 1) fmmus))
-list_any-drop p fmmus k f inside is =
-    rw (drop_more fmmus k f inside) (ap (λ g. p g || list_any p (drop (k + 1) fmmus)) (sym is))
-
--- one FMMU more: its marks are set, and those of the FMMUs behind it are left to do
-pub passed_more : (p : Fmmu → Bool) (fmmus : List Fmmu) (k : ℕ) (f : Fmmu) (old new : Bool) → k < length fmmus → f ≡ get_or fmmus k f
-    → new ≡ (old || p f) → (new || list_any p (drop (k + 1) fmmus)) ≡ (old || list_any p (drop k fmmus))
-passed_more p fmmus k f old new inside is marked =
-    ap (λ b. b || list_any p (drop (k + 1) fmmus)) marked ∙ or_assoc old (p f) (list_any p (drop (k + 1) fmmus))
-    ∙ ap (λ b. old || b) (sym (list_any-drop p fmmus k f inside is))
-
--- behind the last FMMU nothing is left to do
-pub passed_all : (p : Fmmu → Bool) (fmmus : List Fmmu) (k : ℕ) (old : Bool) → length fmmus ≤ k → old ≡ (old || list_any p (drop k fmmus))
-passed_all p fmmus k old past = rw (drop_all k fmmus past) (sym (or_false old))
 
 -- ---- areas, one after the other
 
@@ -198,9 +143,57 @@ told_here managers i d s has test here told = told ∙ ap test (get_or_from_slic
 pub answered_all : (i j : ℕ) (old answer : Bool) → j < i → cond (ltb j i) answer old ≡ answer
 answered_all i j old answer before = let is : ltb j i ≡ true = grind (arith, nat_tests) in rw is refl
 
--- the next one is still as it was
-pub answered_not_yet : (xs : List Bool) (i j : ℕ) (old answer : Bool) → get_or xs j false ≡ cond (ltb j i) answer old → j ≡ i
-    → get_or xs i false ≡ old
-answered_not_yet xs i j old answer so_far here =
-    let before : ltb j i ≡ false = grind (arith, nat_tests) in
-    ap (λ k. get_or xs k false) (sym here) ∙ so_far ∙ ap (λ b. cond b answer old) before
+-- ---- an area that is not for outputs
+
+-- it is a mailbox, or the master reads it
+kept_off : (e b m r w l p : Bool) → (e && (b || m) && (r || w) && l && p) ≡ true
+    → ((e && (b || m) && (r || w) && l && p) && b && w) ≡ false → (m || r) ≡ true
+kept_off true true true r w l p active outputs = refl
+kept_off true true false true w l p active outputs = refl
+kept_off true true false false true true true active outputs = sym outputs
+kept_off true true false false true true false active outputs = absurd (false≢true active)
+kept_off true true false false true false p active outputs = absurd (false≢true active)
+kept_off true true false false false l p active outputs = absurd (false≢true active)
+kept_off true false true r w l p active outputs = refl
+kept_off true false false r w l p active outputs = absurd (false≢true active)
+kept_off false b m r w l p active outputs = absurd (false≢true active)
+
+-- it has a byte
+area_some : (s : SyncMan) → has_area_length s ≡ true → 1 ≤ s.length
+area_some s has =
+    ⊎_elim
+    (λ (mailbox : is_mailbox s ≡ true).
+    let ends = both (leb 16 s.length) (leb s.length 128) (rw mailbox at has) in
+    let low : leb 16 s.length ≡ true = ends.0 in
+    grind (arith, nat_tests))
+    (λ (other : is_mailbox s ≡ false).
+    let low : leb 1 s.length ≡ true = rw other at has in
+    grind (arith, nat_tests))
+    (cases_Bool (is_mailbox s))
+
+-- so its last byte is locked
+locked_last : (managers : List SyncMan) (i : ℕ) (s : SyncMan) → slice_get managers i ≡ Some s → is_active s ≡ true
+    → guards_outputs s ≡ false → is_writable managers (last_byte s) ≡ false
+unfolding is_active is_writable locks
+locked_last managers i s here active outputs =
+    let parts = both (is_enabled s && (is_buffered s || is_mailbox s) && (master_reads s || master_writes s) && has_area_length s) (is_in_process_memory s) active in
+    let some : 1 ≤ s.length = area_some s (both (is_enabled s && (is_buffered s || is_mailbox s) && (master_reads s || master_writes s)) (has_area_length s) parts.0).1 in
+    let off : (is_mailbox s || master_reads s) ≡ true = kept_off (is_enabled s) (is_buffered s) (is_mailbox s) (master_reads s) (master_writes s) (has_area_length s) (is_in_process_memory s) active outputs in
+    let guarded : guards s (last_byte s) ≡ true = guards_from s (last_byte s) active (omega arith) (omega arith) in
+    let locks_it : locks s (last_byte s) ≡ true = rw (guarded, off) refl in
+    let locked : is_locked managers (last_byte s) ≡ true =
+    list_any_at (λ t. locks t (last_byte s)) managers i s (slice_get_within managers i s here)
+    (ap (λ t. locks t (last_byte s)) (get_or_from_slice_get managers i s s here) ∙ locks_it) in
+    rw locked (and_false_right (leb PROCESS_MEMORY (last_byte s) && ltb (last_byte s) MEMORY_SIZE))
+
+-- what is asked of an area that is active is asked of outputs alone
+pub written_outputs : (managers : List SyncMan) (i : ℕ) (s : SyncMan) (reached : Bool) → slice_get managers i ≡ Some s
+    → is_active s ≡ true
+    → (guards_outputs s && reached && is_writable managers (last_byte s)) ≡ (reached && is_writable managers (last_byte s))
+written_outputs managers i s reached here active =
+    ⊎_elim
+    (λ (outputs : guards_outputs s ≡ true). ap (λ b. b && reached && is_writable managers (last_byte s)) outputs)
+    (λ (other : guards_outputs s ≡ false).
+    let locked = locked_last managers i s here active other in
+    ap (λ b. b && reached && is_writable managers (last_byte s)) other ∙ sym (ap (λ b. reached && b) locked ∙ and_false_right reached))
+    (cases_Bool (guards_outputs s))

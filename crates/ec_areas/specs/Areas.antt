@@ -6,6 +6,10 @@ use Rattle.ec_regs.specs.SyncMan.{is_mailbox, master_reads, master_writes, is_ac
 use Rattle.ec_regs.specs.declared.sync_man.SyncMan.{SyncMan}
 use Rattle.ec_regs.specs.declared.registers.TheConstants.{PROCESS_MEMORY, MEMORY_SIZE}
 
+-- is an address one of those of the area that the record tells
+abbrev pub holds : SyncMan → ℕ → Bool
+holds s address = nat_le s.start address && nat_lt address (s.start + s.length)
+
 -- is the byte at an address in the area of an active sync manager
 unfoldable pub guards : SyncMan → ℕ → Bool
 guards s address = is_active s && nat_le s.start address && nat_lt address (s.start + s.length)

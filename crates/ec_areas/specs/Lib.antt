@@ -4,3 +4,4 @@ pub mod Ranges
 pub mod Logical
 pub mod Showing
 pub mod Met
+pub mod Apart

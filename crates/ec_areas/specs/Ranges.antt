@@ -21,7 +21,11 @@ is_range from n = nat_le 1 n && nat_le (from + n) MEMORY_SIZE
 
 -- ---- the areas that a range meets
 
--- does the range share a byte with the area
+-- does the range share a byte with the area that the record tells
+abbrev pub overlaps : SyncMan → ℕ → ℕ → Bool
+overlaps s from n = nat_lt s.start (from + n) && nat_lt from (s.start + s.length)
+
+-- does the range share a byte with the area of an active sync manager
 unfoldable pub meets : SyncMan → ℕ → ℕ → Bool
 meets s from n = is_active s && nat_lt s.start (from + n) && nat_lt from (s.start + s.length)
 

@@ -1,9 +1,10 @@
 -- Whether an area that a write found active is shown anew hangs on its last byte (IEC 61158-4-12, sync
 -- manager, buffered mode).
-use Rattle.std.specs.Prelude.{◌≡◌, ℕ, ◌+◌, ◌-◌, Bool, false, ◌||◌, if◌then◌else◌, Option, None, Some, List}
-use Rattle.std.specs.Prelude.{slice_get, slice_index_or, IsTrue}
+use Rattle.std.specs.Prelude.{◌≡◌, ℕ, ◌+◌, ◌-◌, ◌*◌, Bool, if◌then◌else◌, Option, None, Some, List}
+use Rattle.std.specs.Prelude.{slice_get, IsTrue}
 use Rattle.ec_regs.specs.Pairs.{writes}
 use Rattle.ec_regs.specs.declared.fmmu.Fmmu.{Fmmu}
+use Rattle.ec_areas.specs.Logical.{names}
 use Rattle.ec_areas.specs.Met.{number_at}
 use Rattle.ec_regs.specs.declared.sync_man.SyncMan.{SyncMan}
 use Rattle.ec_regs.specs.SyncMan.{is_active}
@@ -23,8 +24,6 @@ SaysOfLastBytes test managers said =
 abbrev pub written_number : ℕ → ℕ → Fmmu → ℕ → Option ℕ
 written_number from n f p = if writes f then number_at from n f p else None
 
--- the areas whose last byte passes the test are marked, by number; the other marks stay
-abbrev pub MarksMet : (ℕ → Bool) → List SyncMan → List Bool → List Bool → Type 0
-MarksMet test managers old new =
-    (i : ℕ) (s : SyncMan) → slice_get managers i ≡ Some s
-    → slice_index_or new i false ≡ (slice_index_or old i false || test (last_byte s))
+-- does such a write reach the byte at an address
+abbrev pub reaches : ℕ → ℕ → ℕ → Fmmu → Bool
+reaches from n byte f = names (λ b. written_number from n f (8 * byte + b)) 8

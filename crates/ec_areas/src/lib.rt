@@ -6,6 +6,7 @@
 //! - `met`: the run of bits that an FMMU and the data of a logical command share.
 //! - `reach`: whether FMMUs reach all bytes of a run.
 //! - `logical`, `logical_write`: what logical commands read and write through FMMUs, run by run.
+//! - `apart`: whether FMMUs for reading and for writing share no bit of the memory.
 //! - `showing`: which areas a logical write shows.
 //! - `ranges`: which ranges physical commands may read and write, and which mailboxes they empty and fill.
 //! - `runs`: the bytes of a range, copied or or-ed into data.
@@ -13,6 +14,7 @@
 //! All of it works on memories and records; a controller, which has them, is in the crate above. What the
 //! contracts speak of stands in specs/, under the same names.
 
+mod apart;
 mod areas;
 mod logical;
 mod logical_write;
@@ -23,6 +25,7 @@ mod records;
 mod runs;
 mod showing;
 
+pub use apart::are_apart;
 pub use areas::{is_readable, is_writable};
 pub use logical::read_mapped;
 pub use logical_write::write_mapped;

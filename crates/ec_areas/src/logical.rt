@@ -10,7 +10,7 @@ use crate::areas::is_readable;
 use crate::met::{Run, run_met};
 use crate::reach::are_readable;
 use ec_regs::bits::copy_bits;
-use ec_regs::{PlannedFmmu, SyncMan};
+use ec_regs::{PlannedFmmu, PlannedSyncMan};
 
 /// How many bits a byte has.
 const BYTE: usize = 8;
@@ -23,7 +23,7 @@ pub(crate) const LOGICAL_BITS: u64 = 8 * LOGICAL_BYTES;
 
 /// Copies what may be read of a run to the data, byte by byte of the memory, and says whether there is such a
 /// byte.
-fn read_cut_run(managers: &[SyncMan], run: Run, memory: &[u8], into: &mut [u8]) -> bool
+fn read_cut_run(managers: &[PlannedSyncMan], run: Run, memory: &[u8], into: &mut [u8]) -> bool
     requires size { length memory.now ≡ MEMORY_SIZE }
     requires run { IsRunOf (8 * length into.old) run }
     ensures bits { into.new ≡ with_bits into.old memory.now (readable_in managers.now run) }
@@ -44,7 +44,7 @@ fn read_cut_run(managers: &[SyncMan], run: Run, memory: &[u8], into: &mut [u8]) 
 }
 
 /// Copies what may be read of a run to the data, and says whether there is any.
-fn read_run(managers: &[SyncMan], run: Run, memory: &[u8], into: &mut [u8]) -> bool
+fn read_run(managers: &[PlannedSyncMan], run: Run, memory: &[u8], into: &mut [u8]) -> bool
     requires size { length memory.now ≡ MEMORY_SIZE }
     requires run { IsRunOf (8 * length into.old) run }
     ensures bits { into.new ≡ with_bits into.old memory.now (readable_in managers.now run) }
@@ -60,7 +60,7 @@ fn read_run(managers: &[SyncMan], run: Run, memory: &[u8], into: &mut [u8]) -> b
 
 /// Fills the bits of the data that a read through one FMMU reaches, and says whether there is one.
 fn read_through(
-    managers: &[SyncMan],
+    managers: &[PlannedSyncMan],
     fmmu: &PlannedFmmu,
     memory: &[u8],
     address: u32,
@@ -84,7 +84,7 @@ fn read_through(
 /// Fills the bits of the data that a read reaches from the memory, and says whether there is one.
 /// The first data byte stands at the logical byte `address`.
 pub fn read_mapped(
-    managers: &[SyncMan],
+    managers: &[PlannedSyncMan],
     fmmus: &[PlannedFmmu],
     memory: &[u8],
     address: u32,

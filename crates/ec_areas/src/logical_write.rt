@@ -9,14 +9,14 @@ ghost use Rattle.ec_areas.specs.Met.{IsRunOf, target_in, writable_in};
 use crate::areas::is_writable;
 use crate::met::{Run, run_met};
 use crate::reach::are_writable;
-use ec_regs::{Memory, PlannedFmmu, SyncMan};
+use ec_regs::{Memory, PlannedFmmu, PlannedSyncMan};
 
 /// How many bits a byte has.
 const BYTE: usize = 8;
 
 /// Writes the data of a run where it may be written, byte by byte of the memory, and says whether there is
 /// such a byte.
-fn write_cut_run(managers: &[SyncMan], run: Run, memory: &mut Memory, payload: &[u8]) -> bool
+fn write_cut_run(managers: &[PlannedSyncMan], run: Run, memory: &mut Memory, payload: &[u8]) -> bool
     requires bytes { AreBytes memory.old }
     requires run { IsRunOf (8 * length payload.now) run }
     ensures bits { memory.new ≡ with_bits memory.old payload.now (writable_in managers.now run) }
@@ -37,7 +37,7 @@ fn write_cut_run(managers: &[SyncMan], run: Run, memory: &mut Memory, payload: &
 }
 
 /// Writes the data of a run where it may be written, and says whether there is such a bit.
-fn write_run(managers: &[SyncMan], run: Run, memory: &mut Memory, payload: &[u8]) -> bool
+fn write_run(managers: &[PlannedSyncMan], run: Run, memory: &mut Memory, payload: &[u8]) -> bool
     requires bytes { AreBytes memory.old }
     requires run { IsRunOf (8 * length payload.now) run }
     ensures bits { memory.new ≡ with_bits memory.old payload.now (writable_in managers.now run) }
@@ -54,7 +54,7 @@ fn write_run(managers: &[SyncMan], run: Run, memory: &mut Memory, payload: &[u8]
 /// Writes the data to the physical bits of one FMMU, and says whether there is such a bit; all else stays.
 /// The first data byte stands at the logical byte `address`.
 fn write_through(
-    managers: &[SyncMan],
+    managers: &[PlannedSyncMan],
     fmmu: &PlannedFmmu,
     memory: &mut Memory,
     address: u32,
@@ -78,7 +78,7 @@ fn write_through(
 /// Writes the data to the physical bits of all FMMUs, of which a later one prevails, and says whether there
 /// is such a bit; all else stays. The first data byte stands at the logical byte `address`.
 pub fn write_mapped(
-    managers: &[SyncMan],
+    managers: &[PlannedSyncMan],
     fmmus: &[PlannedFmmu],
     memory: &mut Memory,
     address: u32,

@@ -1,17 +1,18 @@
 //! The range of addresses that a physical command reaches, and what of it the sync managers let it read and
 //! write (IEC 61158-4-12, physical memory access, sync manager and mailbox).
 
-ghost use Rattle.std.specs.Prelude.{◌≡◌, ◌+◌, ◌≤◌, ◌<◌, ◌&&◌, not, ℕ, List, IsTrue, count_by, position};
+ghost use Rattle.std.specs.Prelude.{◌≡◌, ◌+◌, ◌≤◌, ◌<◌, ◌&&◌, ◌||◌, not, ℕ, List, IsTrue, count_by, position};
 ghost use Rattle.std.specs.Option.{IfSome};
 ghost use Rattle.ec_regs.specs.declared.registers.TheConstants.{MEMORY_SIZE};
 ghost use Rattle.ec_areas.specs.Records.{sync_managers_of};
 ghost use Rattle.ec_areas.specs.Ranges.{status_address};
-ghost use Rattle.ec_areas.specs.Ranges.{within, is_range, meets, meets_hidden, meets_locked, meets_one};
+ghost use Rattle.ec_regs.specs.SyncMan.{is_mailbox, master_reads, master_writes};
+ghost use Rattle.ec_areas.specs.Ranges.{within, is_range, overlaps, meets, meets_hidden, meets_locked, meets_one};
 ghost use Rattle.ec_areas.specs.Ranges.{is_area, gives_mail, takes_mail, emptied_by, filled_by};
 ghost use Rattle.ec_areas.specs.Ranges.{serves_physical_read, serves_physical_write, is_in_sync_manager};
 ghost use Rattle.ec_areas.specs.Ranges.{is_writable_field, takes_writes, some_address};
 
-use ec_regs::SyncMan;
+use ec_regs::PlannedSyncMan;
 use ec_regs::registers::{
     AL_CONTROL, FMMU_BASE, FMMU_COUNT, FMMU_SIZE, MEMORY_SIZE, PROCESS_MEMORY, PROCESS_MEMORY_SIZE,
     STATION_ADDRESS, SYNC_MANAGER_BASE, SYNC_MANAGER_COUNT, SYNC_MANAGER_SIZE,
@@ -51,37 +52,62 @@ pub fn status_address(number: usize) -> u16
     SYNC_MANAGER_BASE + SYNC_MANAGER_SIZE * number as u16 + STATUS_OFFSET as u16
 }
 
+/// Does the range share a byte with the area that the sync manager's record tells?
+fn overlaps(manager: &PlannedSyncMan, from: u16, count: u16) -> bool
+    ensures { result ≡ overlaps manager.now from count }
+{
+    let start = u32::from(manager.start());
+    let end = start + u32::from(manager.length());
+    let from = u32::from(from);
+    start < from + u32::from(count) && from < end
+}
+
 /// Does the range share a byte with the area of the sync manager?
 #[tactic(auto, unfolding(crate::specs::Ranges::meets))]
-fn meets(manager: &SyncMan, from: u16, count: u16) -> bool
+fn meets(manager: &PlannedSyncMan, from: u16, count: u16) -> bool
     ensures { result ≡ meets manager.now from count }
 {
-    let start = u32::from(manager.start);
-    let end = start + u32::from(manager.length);
-    let from = u32::from(from);
-    start < from + u32::from(count) && from < end && manager.is_active()
+    manager.is_active() && overlaps(manager, from, count)
+}
+
+/// Does the range share a byte with the area, and is the area kept from reads?
+#[tactic(auto, unfolding(crate::specs::Ranges::meets))]
+fn meets_kept_from_reads(manager: &PlannedSyncMan, from: u16, count: u16) -> bool
+    ensures { result
+        ≡ (meets manager.now from count && (is_mailbox manager.now || master_writes manager.now)) }
+{
+    manager.keeps_reads_off() && overlaps(manager, from, count)
+}
+
+/// Does it share one, and is the area kept from writes?
+#[tactic(auto, unfolding(crate::specs::Ranges::meets))]
+fn meets_kept_from_writes(manager: &PlannedSyncMan, from: u16, count: u16) -> bool
+    ensures { result
+        ≡ (meets manager.now from count && (is_mailbox manager.now || master_reads manager.now)) }
+{
+    manager.keeps_writes_off() && overlaps(manager, from, count)
 }
 
 /// Does it share one with an area that is kept from reads?
-pub(crate) fn meets_hidden(managers: &[SyncMan], from: u16, count: u16) -> bool
+pub(crate) fn meets_hidden(managers: &[PlannedSyncMan], from: u16, count: u16) -> bool
     ensures { result ≡ meets_hidden managers.now from count }
 {
-    managers.iter().any(|manager| {
-        meets(manager, from, count) && (manager.is_mailbox() || manager.master_writes())
-    })
+    managers
+        .iter()
+        .any(|manager| meets_kept_from_reads(manager, from, count))
 }
 
 /// Does it share one with an area that is kept from writes?
-pub(crate) fn meets_locked(managers: &[SyncMan], from: u16, count: u16) -> bool
+pub(crate) fn meets_locked(managers: &[PlannedSyncMan], from: u16, count: u16) -> bool
     ensures { result ≡ meets_locked managers.now from count }
 {
-    managers.iter().any(|manager| {
-        meets(manager, from, count) && (manager.is_mailbox() || manager.master_reads())
-    })
+    managers
+        .iter()
+        .any(|manager| meets_kept_from_writes(manager, from, count))
 }
 
 /// With how many areas does it share a byte?
-fn areas_met(managers: &[SyncMan], from: u16, count: u16) -> usize
+fn areas_met(managers: &[PlannedSyncMan], from: u16, count: u16) -> usize
     ensures { result ≡ count_by (λ s. meets s from count) managers.now }
 {
     managers
@@ -91,43 +117,45 @@ fn areas_met(managers: &[SyncMan], from: u16, count: u16) -> usize
 }
 
 /// Does it meet one area alone?
-fn meets_one(managers: &[SyncMan], from: u16, count: u16) -> bool
+fn meets_one(managers: &[PlannedSyncMan], from: u16, count: u16) -> bool
     ensures { result ≡ meets_one managers.now from count }
 {
     areas_met(managers, from, count) == 1
 }
 
 /// Is the range the whole area of the sync manager?
-fn is_area(manager: &SyncMan, from: u16, count: u16) -> bool
+fn is_area(manager: &PlannedSyncMan, from: u16, count: u16) -> bool
     ensures { result ≡ is_area manager.now from count }
 {
-    manager.is_active() && manager.start == from && manager.length == count
+    manager.is_active() && manager.start() == from && manager.length() == count
 }
 
 /// Does a read of the range take the mail of this sync manager?
 #[tactic(auto, unfolding(crate::specs::Ranges::gives_mail))]
-fn gives_mail(manager: &SyncMan, from: u16, count: u16) -> bool
+fn gives_mail(manager: &PlannedSyncMan, from: u16, count: u16) -> bool
     ensures { result ≡ gives_mail from count manager.now }
 {
+    let record = manager.manager();
     is_area(manager, from, count)
-        && manager.is_mailbox()
-        && manager.master_reads()
-        && manager.is_full()
+        && record.is_mailbox()
+        && record.master_reads()
+        && record.is_full()
 }
 
 /// Does a write of the range put mail there?
 #[tactic(auto, unfolding(crate::specs::Ranges::takes_mail))]
-fn takes_mail(manager: &SyncMan, from: u16, count: u16) -> bool
+fn takes_mail(manager: &PlannedSyncMan, from: u16, count: u16) -> bool
     ensures { result ≡ takes_mail from count manager.now }
 {
+    let record = manager.manager();
     is_area(manager, from, count)
-        && manager.is_mailbox()
-        && manager.master_writes()
-        && !manager.is_full()
+        && record.is_mailbox()
+        && record.master_writes()
+        && !record.is_full()
 }
 
 /// The number of the first sync manager that gives its mail to a read of the range.
-fn first_giver(managers: &[SyncMan], from: u16, count: u16) -> Option<usize>
+fn first_giver(managers: &[PlannedSyncMan], from: u16, count: u16) -> Option<usize>
     ensures { result ≡ position (gives_mail from count) managers.now }
 {
     managers
@@ -136,7 +164,7 @@ fn first_giver(managers: &[SyncMan], from: u16, count: u16) -> Option<usize>
 }
 
 /// The number of the first sync manager that takes the mail of a write of the range.
-fn first_taker(managers: &[SyncMan], from: u16, count: u16) -> Option<usize>
+fn first_taker(managers: &[PlannedSyncMan], from: u16, count: u16) -> Option<usize>
     ensures { result ≡ position (takes_mail from count) managers.now }
 {
     managers
@@ -146,7 +174,7 @@ fn first_taker(managers: &[SyncMan], from: u16, count: u16) -> Option<usize>
 
 /// The number of the sync manager whose mailbox a read of the range empties.
 #[tactic(auto, unfolding(crate::specs::Ranges::emptied_by))]
-pub fn emptied_by(managers: &[SyncMan], from: u16, count: u16) -> Option<usize>
+pub fn emptied_by(managers: &[PlannedSyncMan], from: u16, count: u16) -> Option<usize>
     ensures { result ≡ emptied_by managers.now from count }
 {
     if meets_one(managers, from, count) {
@@ -158,7 +186,7 @@ pub fn emptied_by(managers: &[SyncMan], from: u16, count: u16) -> Option<usize>
 
 /// The number of the sync manager whose mailbox a write of the range fills.
 #[tactic(auto, unfolding(crate::specs::Ranges::filled_by))]
-pub fn filled_by(managers: &[SyncMan], from: u16, count: u16) -> Option<usize>
+pub fn filled_by(managers: &[PlannedSyncMan], from: u16, count: u16) -> Option<usize>
     ensures { result ≡ filled_by managers.now from count }
 {
     if meets_one(managers, from, count) {
@@ -169,7 +197,7 @@ pub fn filled_by(managers: &[SyncMan], from: u16, count: u16) -> Option<usize>
 }
 
 /// Is a read of the range served: of bytes that no area keeps from reads, or of a whole mailbox?
-pub fn serves_physical_read(managers: &[SyncMan], from: u16, count: u16) -> bool
+pub fn serves_physical_read(managers: &[PlannedSyncMan], from: u16, count: u16) -> bool
     ensures value { result ≡ serves_physical_read managers.now from count }
     ensures inside { IsTrue result → from + count ≤ MEMORY_SIZE }
 {
@@ -179,7 +207,7 @@ pub fn serves_physical_read(managers: &[SyncMan], from: u16, count: u16) -> bool
 
 /// May the master write the byte of a sync manager's record at an address: its activate byte, or its start,
 /// length and control bytes while it is not active? The records are those on arrival.
-fn sync_manager_takes(managers: &[SyncMan; 8], address: u32) -> bool
+fn sync_manager_takes(managers: &[PlannedSyncMan; 8], address: u32) -> bool
     ensures { (memory : List ℕ) → managers.now ≡ sync_managers_of memory → result ≡ (is_in_sync_manager address && is_writable_field memory address) }
 {
     if !within(
@@ -197,7 +225,7 @@ fn sync_manager_takes(managers: &[SyncMan; 8], address: u32) -> bool
 
 /// Does the byte at an address take what a physical command writes? The records are those on arrival.
 #[tactic(auto, unfolding(crate::specs::Ranges::takes_writes))]
-pub fn takes_writes(managers: &[SyncMan; 8], address: u32) -> bool
+pub fn takes_writes(managers: &[PlannedSyncMan; 8], address: u32) -> bool
     ensures { (memory : List ℕ) → managers.now ≡ sync_managers_of memory → result ≡ takes_writes memory address }
 {
     within(STATION_ADDRESS, WORD, address)
@@ -208,7 +236,7 @@ pub fn takes_writes(managers: &[SyncMan; 8], address: u32) -> bool
 }
 
 /// Does one byte of the range take what a physical command writes? The records are those on arrival.
-fn some_byte_takes_writes(managers: &[SyncMan; 8], from: u16, count: u16) -> bool
+fn some_byte_takes_writes(managers: &[PlannedSyncMan; 8], from: u16, count: u16) -> bool
     ensures { (memory : List ℕ) → managers.now ≡ sync_managers_of memory → result ≡ some_address (takes_writes memory) from count }
 {
     for place in 0..count {
@@ -221,7 +249,7 @@ fn some_byte_takes_writes(managers: &[SyncMan; 8], from: u16, count: u16) -> boo
 
 /// Has the range bytes that take a write, and no area that is kept from writes? The records are those on
 /// arrival.
-fn is_open_to_writes(managers: &[SyncMan; 8], from: u16, count: u16) -> bool
+fn is_open_to_writes(managers: &[PlannedSyncMan; 8], from: u16, count: u16) -> bool
     ensures { (memory : List ℕ) → managers.now ≡ sync_managers_of memory → result ≡ (not (meets_locked managers.now from count) && some_address (takes_writes memory) from count) }
 {
     !meets_locked(managers, from, count) && some_byte_takes_writes(managers, from, count)
@@ -229,7 +257,7 @@ fn is_open_to_writes(managers: &[SyncMan; 8], from: u16, count: u16) -> bool
 
 /// Is a write of the range served: of bytes that no area keeps from writes and of which one takes it, or of a
 /// whole mailbox? The records are those on arrival.
-pub fn serves_physical_write(managers: &[SyncMan; 8], from: u16, count: u16) -> bool
+pub fn serves_physical_write(managers: &[PlannedSyncMan; 8], from: u16, count: u16) -> bool
     ensures value { (memory : List ℕ) → managers.now ≡ sync_managers_of memory → result ≡ serves_physical_write memory managers.now from count }
     ensures inside { IsTrue result → from + count ≤ MEMORY_SIZE }
 {

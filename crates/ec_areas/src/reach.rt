@@ -5,12 +5,12 @@ ghost use Rattle.ec_regs.specs.declared.registers.TheConstants.{MEMORY_SIZE};
 ghost use Rattle.ec_areas.specs.Areas.{is_readable, is_writable};
 
 use crate::ranges::{meets_hidden, meets_locked};
-use ec_regs::SyncMan;
+use ec_regs::PlannedSyncMan;
 use ec_regs::registers::{MEMORY_SIZE, PROCESS_MEMORY};
 
 /// Are the bytes from `first` to `last` in the memory, and does no area hide one of them? Then FMMUs may read
 /// them all.
-pub(crate) fn are_readable(managers: &[SyncMan], first: u32, last: u32) -> bool
+pub(crate) fn are_readable(managers: &[PlannedSyncMan], first: u32, last: u32) -> bool
     requires { first ≤ last }
     ensures inside { IsTrue result → last < MEMORY_SIZE }
     ensures each { IsTrue result
@@ -22,7 +22,7 @@ pub(crate) fn are_readable(managers: &[SyncMan], first: u32, last: u32) -> bool
 
 /// Are the bytes from `first` to `last` in process memory, and does no area lock one of them? Then FMMUs may
 /// write them all.
-pub(crate) fn are_writable(managers: &[SyncMan], first: u32, last: u32) -> bool
+pub(crate) fn are_writable(managers: &[PlannedSyncMan], first: u32, last: u32) -> bool
     requires { first ≤ last }
     ensures inside { IsTrue result → last < MEMORY_SIZE }
     ensures each { IsTrue result

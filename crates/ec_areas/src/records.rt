@@ -5,7 +5,7 @@ ghost use Rattle.ec_regs.specs.declared.registers.TheConstants.{MEMORY_SIZE};
 ghost use Rattle.ec_areas.specs.Records.{fmmu_at, fmmus_of, sync_manager_at, sync_managers_of};
 
 use ec_regs::registers::{FMMU_BASE, FMMU_SIZE, SYNC_MANAGER_BASE, SYNC_MANAGER_SIZE};
-use ec_regs::{Fmmu, PlannedFmmu, SyncMan};
+use ec_regs::{Fmmu, PlannedFmmu, PlannedSyncMan, SyncMan};
 
 /// The FMMU with a number.
 #[tactic(auto, unfolding(crate::specs::Records::fmmu_at))]
@@ -51,20 +51,20 @@ pub fn sync_manager_at(memory: &[u8], number: usize) -> SyncMan
     )
 }
 
-/// All sync managers, by number.
+/// All sync managers, by number, with what they say of their areas.
 #[tactic(auto, unfolding(crate::specs::Records::sync_managers_of))]
-pub fn sync_managers_of(memory: &[u8]) -> [SyncMan; 8]
+pub fn sync_managers_of(memory: &[u8]) -> [PlannedSyncMan; 8]
     requires { length memory.now ≡ MEMORY_SIZE }
     ensures { result ≡ sync_managers_of memory.now }
 {
     [
-        sync_manager_at(memory, 0),
-        sync_manager_at(memory, 1),
-        sync_manager_at(memory, 2),
-        sync_manager_at(memory, 3),
-        sync_manager_at(memory, 4),
-        sync_manager_at(memory, 5),
-        sync_manager_at(memory, 6),
-        sync_manager_at(memory, 7),
+        PlannedSyncMan::new(sync_manager_at(memory, 0)),
+        PlannedSyncMan::new(sync_manager_at(memory, 1)),
+        PlannedSyncMan::new(sync_manager_at(memory, 2)),
+        PlannedSyncMan::new(sync_manager_at(memory, 3)),
+        PlannedSyncMan::new(sync_manager_at(memory, 4)),
+        PlannedSyncMan::new(sync_manager_at(memory, 5)),
+        PlannedSyncMan::new(sync_manager_at(memory, 6)),
+        PlannedSyncMan::new(sync_manager_at(memory, 7)),
     ]
 }

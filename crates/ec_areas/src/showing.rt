@@ -2,23 +2,25 @@
 //! manager, buffered mode).
 
 ghost use Rattle.std.specs.Prelude.{◌≡◌, ◌+◌, ◌*◌, ◌^◌, ◌<◌, ◌&&◌, Some};
+ghost use Rattle.std.specs.List.{list_any};
+ghost use Rattle.ec_regs.specs.SyncMan.{guards_outputs};
 ghost use Rattle.ec_areas.specs.Areas.{is_writable};
 ghost use Rattle.ec_areas.specs.Logical.{write_map, names};
 ghost use Rattle.ec_areas.specs.Met.{data_in};
-ghost use Rattle.ec_areas.specs.Showing.{last_byte, SaysOfLastBytes, written_number, MarksMet};
+ghost use Rattle.ec_areas.specs.Showing.{last_byte, reaches, SaysOfLastBytes};
 
 use crate::areas::is_writable;
 use crate::met::{Run, run_met};
-use ec_regs::{PlannedFmmu, SyncMan};
+use ec_regs::{PlannedFmmu, PlannedSyncMan};
 
 /// How many bits a byte has.
 const BYTE: usize = 8;
 
 /// The address of the last byte of an area.
-fn last_byte(area: &SyncMan) -> u32
+fn last_byte(area: &PlannedSyncMan) -> u32
     ensures { result ≡ last_byte area.now }
 {
-    (u32::from(area.start) + u32::from(area.length)).saturating_sub(1)
+    (u32::from(area.start()) + u32::from(area.length())).saturating_sub(1)
 }
 
 /// Has the run a bit in the byte at an address?
@@ -31,50 +33,47 @@ fn has_bit_in(run: Run, address: u32) -> bool
     run.physical < first + BYTE && first < run.physical + run.count
 }
 
-/// Marks each area with a bit of the run in its last byte, by number; the other marks stay.
-fn mark_met(managers: &[SyncMan; 8], run: Run, met: &mut [bool; 8])
-    requires some { 0 < run.count }
-    requires fits { run.physical + run.count < 2 ^ 21 }
-    ensures { MarksMet (λ byte. names (λ b. data_in (Some run) (8 * byte + b)) 8)
-        managers.now met.old met.new }
-{
-    for (i, area) in managers.iter().enumerate() {
-        met[i] |= has_bit_in(run, last_byte(area));
-    }
-}
-
-/// Marks each area of which a write through one FMMU would reach the last byte, if no area locked it.
-fn mark_through(
-    managers: &[SyncMan; 8],
-    fmmu: &PlannedFmmu,
-    address: u32,
-    count: usize,
-    met: &mut [bool; 8],
-)
-    ensures { MarksMet
-        (λ byte. names (λ b. written_number (8 * address) (8 * count) fmmu.now (8 * byte + b)) 8)
-        managers.now met.old met.new }
+/// Would a write of `count` bytes at the logical byte `address` reach the byte through one FMMU, if no area
+/// locked it?
+fn reaches(fmmu: &PlannedFmmu, address: u32, count: usize, byte: u32) -> bool
+    ensures { result ≡ reaches (8 * address) (8 * count) byte fmmu.now }
 {
     if !fmmu.writes() {
-        return;
+        return false;
     }
     match run_met(fmmu, address, count) {
-        Some(run) => mark_met(managers, run, met),
-        None => {}
+        Some(run) => has_bit_in(run, byte),
+        None => false,
     }
 }
 
-/// Is the last byte of an area written: does a write meet it, and does no area lock it?
-fn is_written(managers: &[SyncMan], area: &SyncMan, is_met: bool) -> bool
-    ensures { result ≡ (is_met && is_writable managers.now (last_byte area.now)) }
+/// Would it reach the byte through some FMMU?
+fn is_reached(fmmus: &[PlannedFmmu], address: u32, count: usize, byte: u32) -> bool
+    ensures { result ≡ list_any (reaches (8 * address) (8 * count) byte) fmmus.now }
 {
-    is_met && is_writable(managers, last_byte(area))
+    fmmus.iter().any(|fmmu| reaches(fmmu, address, count, byte))
+}
+
+/// Does the sync manager guard outputs, and does the write reach their last byte? All other areas are locked.
+fn is_last_written(
+    managers: &[PlannedSyncMan],
+    fmmus: &[PlannedFmmu],
+    address: u32,
+    count: usize,
+    area: &PlannedSyncMan,
+) -> bool
+    ensures { result
+        ≡ (guards_outputs area.now && list_any (reaches (8 * address) (8 * count) (last_byte area.now)) fmmus.now
+        && is_writable managers.now (last_byte area.now)) }
+{
+    let last = last_byte(area);
+    area.guards_outputs() && is_reached(fmmus, address, count, last) && is_writable(managers, last)
 }
 
 /// Of which active areas a write of `count` bytes at the logical byte `address` reaches the last byte, by
 /// number.
 pub fn last_bytes_written(
-    managers: &[SyncMan; 8],
+    managers: &[PlannedSyncMan; 8],
     fmmus: &[PlannedFmmu],
     address: u32,
     count: usize,
@@ -84,11 +83,8 @@ pub fn last_bytes_written(
         managers.now result }
 {
     let mut written = [false; 8];
-    for fmmu in fmmus {
-        mark_through(managers, fmmu, address, count, &mut written);
-    }
     for (i, area) in managers.iter().enumerate() {
-        written[i] = is_written(managers, area, written[i]);
+        written[i] = is_last_written(managers, fmmus, address, count, area);
     }
     written
 }

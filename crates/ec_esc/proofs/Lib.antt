@@ -10,3 +10,4 @@ pub mod PhysicalLemmas
 pub mod IdleLemmas
 pub mod EffectLemmas
 pub mod PlannedLemmas
+pub mod ExchangeLemmas

@@ -24,14 +24,14 @@ use crate::mailbox::fill_mailbox;
 use crate::planned::PlannedMemory;
 use crate::process::are_bytes;
 use ec_areas::{filled_by, status_address, takes_writes, within};
-use ec_regs::SyncMan;
+use ec_regs::PlannedSyncMan;
 use ec_regs::registers::AL_CONTROL;
 
 /// The status of a sync manager that was switched on or off.
 const EMPTY: u8 = 0x00;
 
 /// The records of the sync managers on arrival.
-fn arrived_records(memory: &PlannedMemory) -> [SyncMan; 8]
+fn arrived_records(memory: &PlannedMemory) -> [PlannedSyncMan; 8]
     ensures value { result ≡ sync_managers_of memory.now }
     ensures bytes { AreBytes memory.now }
     ensures size { length memory.now ≡ MEMORY_SIZE }
@@ -41,7 +41,7 @@ fn arrived_records(memory: &PlannedMemory) -> [SyncMan; 8]
 }
 
 /// Writes the byte at an address where it takes writes by the records on arrival; all else stays.
-fn write_byte(memory: &mut PlannedMemory, managers: &[SyncMan; 8], address: u16, byte: u8)
+fn write_byte(memory: &mut PlannedMemory, managers: &[PlannedSyncMan; 8], address: u16, byte: u8)
     requires { address < MEMORY_SIZE }
     ensures { (arrived : List ℕ) → managers.now ≡ sync_managers_of arrived → memory.new
         ≡ (if takes_writes arrived address then slice_set memory.old address byte else memory.old) }
@@ -52,7 +52,7 @@ fn write_byte(memory: &mut PlannedMemory, managers: &[SyncMan; 8], address: u16,
 }
 
 /// Writes the data from an address on, as far as the bytes there take writes by the records on arrival.
-fn write_run(memory: &mut PlannedMemory, managers: &[SyncMan; 8], from: u16, payload: &[u8])
+fn write_run(memory: &mut PlannedMemory, managers: &[PlannedSyncMan; 8], from: u16, payload: &[u8])
     requires size { length memory.old ≡ MEMORY_SIZE }
     requires bytes { AreBytes memory.old }
     requires records { managers.now ≡ sync_managers_of memory.old }
@@ -68,7 +68,12 @@ fn write_run(memory: &mut PlannedMemory, managers: &[SyncMan; 8], from: u16, pay
 }
 
 /// Writes the data from an address on as `write_run` does, and fills it with the bytes that stood there.
-fn swap_run(memory: &mut PlannedMemory, managers: &[SyncMan; 8], from: u16, payload: &mut [u8])
+fn swap_run(
+    memory: &mut PlannedMemory,
+    managers: &[PlannedSyncMan; 8],
+    from: u16,
+    payload: &mut [u8],
+)
     requires size { length memory.old ≡ MEMORY_SIZE }
     requires bytes { AreBytes memory.old }
     requires records { managers.now ≡ sync_managers_of memory.old }
@@ -88,7 +93,7 @@ fn swap_run(memory: &mut PlannedMemory, managers: &[SyncMan; 8], from: u16, payl
 }
 
 /// Was a sync manager switched on or off?
-fn is_switched(before: &SyncMan, after: &SyncMan) -> bool
+fn is_switched(before: &PlannedSyncMan, after: &PlannedSyncMan) -> bool
     ensures { result ≡ (if is_active before.now then not (is_active after.now) else is_active after.now) }
 {
     before.is_active() != after.is_active()
@@ -96,12 +101,13 @@ fn is_switched(before: &SyncMan, after: &SyncMan) -> bool
 
 /// Clears the status of each sync manager that a write switched on or off; all else stays. The records are those on
 /// arrival.
-fn settle(memory: &mut PlannedMemory, before: &[SyncMan; 8])
+fn settle(memory: &mut PlannedMemory, before: &[PlannedSyncMan; 8])
     ensures value { (arrived : List ℕ) → before.now ≡ sync_managers_of arrived → memory.new
         ≡ settled arrived memory.old }
     ensures size { length memory.new ≡ MEMORY_SIZE }
 {
-    let after = *memory.managers();
+    let managers = *memory.managers();
+    let after = &managers[..];
     for number in 0..8usize {
         if is_switched(&before[number], &after[number]) {
             memory.set_byte(status_address(number), EMPTY);
@@ -110,19 +116,24 @@ fn settle(memory: &mut PlannedMemory, before: &[SyncMan; 8])
 }
 
 /// Is the last byte of an area among the written ones of the range? The records are those on arrival.
-fn last_byte_written(before: &[SyncMan; 8], area: &SyncMan, from: u16, count: u16) -> bool
+fn last_byte_written(
+    before: &[PlannedSyncMan; 8],
+    area: &PlannedSyncMan,
+    from: u16,
+    count: u16,
+) -> bool
     ensures { (arrived : List ℕ) → before.now ≡ sync_managers_of arrived → result
         ≡ (within from count (last_byte area.now) && takes_writes arrived (last_byte area.now)) }
 {
-    let end = u32::from(area.start) + u32::from(area.length);
+    let end = u32::from(area.start()) + u32::from(area.length());
     let last = end.saturating_sub(1);
     within(from, count, last) && takes_writes(before, last)
 }
 
 /// Of which areas a write of the range reaches the last byte, by number. The first records are those on arrival.
 fn last_bytes_written(
-    before: &[SyncMan; 8],
-    after: &[SyncMan; 8],
+    before: &[PlannedSyncMan; 8],
+    after: &[PlannedSyncMan; 8],
     from: u16,
     count: u16,
 ) -> [bool; 8]
@@ -138,7 +149,7 @@ fn last_bytes_written(
 
 impl Controller {
     /// Shows the areas that a write of the range hands over. The records are those on arrival.
-    fn show_range(&mut self, before: &[SyncMan; 8], from: u16, count: u16)
+    fn show_range(&mut self, before: &[PlannedSyncMan; 8], from: u16, count: u16)
         ensures { (arrived : List ℕ) → before.now ≡ sync_managers_of arrived → self.new
             ≡ record self.old {
               shown = shown_after (is_written arrived from count) before.now
@@ -152,7 +163,7 @@ impl Controller {
 
     /// Fills the mailbox that a write of the range fills, if it fills one; all else stays. The records are those on
     /// arrival.
-    fn fill_range(&mut self, before: &[SyncMan; 8], from: u16, count: u16)
+    fn fill_range(&mut self, before: &[PlannedSyncMan; 8], from: u16, count: u16)
         ensures { self.new ≡ record self.old
             { memory = with_filled (filled_by before.now from count) self.old.memory } }
     {
@@ -173,7 +184,7 @@ impl Controller {
 
     /// What is left to do once the bytes of the range were written: statuses, shown bytes, mail and mark. The records
     /// are those on arrival.
-    fn finish_write(&mut self, before: &[SyncMan; 8], from: u16, count: u16)
+    fn finish_write(&mut self, before: &[PlannedSyncMan; 8], from: u16, count: u16)
         ensures { (arrived : List ℕ) → before.now ≡ sync_managers_of arrived
             → self.new ≡ finished arrived before.now from count self.old }
     {

@@ -14,7 +14,7 @@ use ec_areas::{fmmu_at, fmmus_of, sync_manager_at, sync_managers_of, write_mappe
 use ec_regs::registers::{
     FMMU_BASE, FMMU_COUNT, FMMU_SIZE, SYNC_MANAGER_BASE, SYNC_MANAGER_COUNT, SYNC_MANAGER_SIZE,
 };
-use ec_regs::{Memory, NoMemory, PlannedFmmu, SyncMan};
+use ec_regs::{Memory, NoMemory, PlannedFmmu, PlannedSyncMan};
 use std::alloc::Global;
 use std::marker::Model;
 
@@ -23,7 +23,7 @@ use std::marker::Model;
 pub(crate) struct PlannedMemory {
     memory: Memory,
     fmmus: [PlannedFmmu; 8],
-    managers: [SyncMan; 8],
+    managers: [PlannedSyncMan; 8],
 }
 
 impl Model for PlannedMemory {
@@ -63,7 +63,7 @@ fn renew_fmmus(fmmus: &mut [PlannedFmmu; 8], memory: &[u8], from: u16, count: u1
 }
 
 /// Decodes each sync manager of whose record a byte lies in the range that was written; the others stay.
-fn renew_managers(managers: &mut [SyncMan; 8], memory: &[u8], from: u16, count: u16)
+fn renew_managers(managers: &mut [PlannedSyncMan; 8], memory: &[u8], from: u16, count: u16)
     requires { length memory.now ≡ MEMORY_SIZE }
     ensures { (before : List ℕ) → managers.old ≡ sync_managers_of before
         → ChangesWithin from count before memory.now → managers.new ≡ sync_managers_of memory.now }
@@ -79,7 +79,7 @@ fn renew_managers(managers: &mut [SyncMan; 8], memory: &[u8], from: u16, count: 
     for number in 0..8usize {
         let at = SYNC_MANAGER_BASE + SYNC_MANAGER_SIZE * number as u16;
         if meets(at, SYNC_MANAGER_SIZE, from, count) {
-            managers[number] = sync_manager_at(memory, number);
+            managers[number] = PlannedSyncMan::new(sync_manager_at(memory, number));
         }
     }
 }
@@ -124,7 +124,7 @@ impl PlannedMemory {
     }
 
     /// All sync managers, by number.
-    pub(crate) fn managers(&self) -> &[SyncMan; 8]
+    pub(crate) fn managers(&self) -> &[PlannedSyncMan; 8]
         ensures value { result.now ≡ sync_managers_of self.now }
         ensures size { length self.now ≡ MEMORY_SIZE }
     {

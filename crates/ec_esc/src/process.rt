@@ -33,7 +33,7 @@ impl Controller {
     }
 
     /// What the types say of a controller and of a datagram that comes to it.
-    fn arrival(&self, frame: &FrameBuf, k: usize)
+    pub(crate) fn arrival(&self, frame: &FrameBuf, k: usize)
         requires { k < length frame.now }
         ensures { Arrives self.now (nth frame.now k) }
     {

@@ -35,7 +35,7 @@ impl Controller {
         requires { i < 8 }
         ensures { result ≡ sync_manager_at self.now.memory i }
     {
-        self.memory.managers()[i]
+        self.memory.managers()[i].manager()
     }
 
     /// The memory's bytes from an address on.

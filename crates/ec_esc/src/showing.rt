@@ -6,17 +6,19 @@ ghost use Rattle.ec_areas.specs.Showing.{SaysOfLastBytes};
 ghost use Rattle.ec_esc.specs.Writing.{hands_over, shown_after};
 
 use crate::controller::Controller;
-use ec_regs::SyncMan;
+use ec_regs::PlannedSyncMan;
 
 /// Is an area shown anew after a write: it became active, or it is buffered, the master writes it, and its last
 /// byte was written?
-fn hands_over(before: &SyncMan, after: &SyncMan, is_last_written: bool) -> bool
+fn hands_over(before: &PlannedSyncMan, after: &PlannedSyncMan, is_last_written: bool) -> bool
     ensures value { result ≡ hands_over (λ _. is_last_written) before.now after.now }
     ensures from { IsTrue result → PROCESS_MEMORY ≤ after.now.start }
     ensures to { IsTrue result → after.now.start + after.now.length ≤ MEMORY_SIZE }
 {
-    let is_written = is_last_written && after.is_buffered() && after.master_writes();
-    (is_written || !before.is_active()) && after.is_active()
+    if !after.is_active() {
+        return false;
+    }
+    !before.is_active() || is_last_written && after.guards_outputs()
 }
 
 impl Controller {
@@ -24,8 +26,8 @@ impl Controller {
     /// were, as they are now, and whether the last byte of each area was written, by number.
     pub(crate) fn show_written(
         &mut self,
-        before: &[SyncMan; 8],
-        after: &[SyncMan; 8],
+        before: &[PlannedSyncMan; 8],
+        after: &[PlannedSyncMan; 8],
         last_written: &[bool; 8],
     )
         ensures { (is_written : ℕ → Bool) → SaysOfLastBytes is_written after.now last_written.now → self.new ≡ record self.old { shown = shown_after is_written before.now after.now self.old.memory self.old.shown } }
@@ -33,8 +35,9 @@ impl Controller {
         // The sizes of memory and shown bytes are known of a controller of which a field is read.
         let _memory = &self.memory;
         for i in 0..8usize {
-            if hands_over(&before[i], &after[i], last_written[i]) {
-                self.show_area(&after[i]);
+            let area = &after[i];
+            if hands_over(&before[i], area, last_written[i]) {
+                self.show_area(&area.manager());
             }
         }
     }

@@ -1,16 +1,17 @@
 //! Logical commands that write: LWR and LRW (IEC 61158-4-12, FMMU).
 
-ghost use Rattle.std.specs.Prelude.{◌≡◌, ◌+◌, ◌<◌, length, slice_set};
+ghost use Rattle.std.specs.Prelude.{◌≡◌, ◌+◌, ◌<◌, length, slice_set, true};
 ghost use Rattle.ec_regs.specs.Bits.{AreBytes};
 ghost use Rattle.ec_wire.specs.Datagram.{blank, nth};
-ghost use Rattle.ec_areas.specs.Records.{sync_managers_of};
+ghost use Rattle.ec_areas.specs.Records.{fmmus_of, sync_managers_of};
+ghost use Rattle.ec_areas.specs.Apart.{are_apart};
 ghost use Rattle.ec_esc.specs.Stages.{if_served, written_state, logical_write, logical_exchange};
-ghost use Rattle.ec_esc.specs.Stages.{serves_write};
+ghost use Rattle.ec_esc.specs.Stages.{read_data, serves_read, serves_write};
 
 use crate::controller::Controller;
 use crate::process::are_bytes;
-use ec_areas::last_bytes_written;
-use ec_regs::SyncMan;
+use ec_areas::{are_apart, last_bytes_written};
+use ec_regs::PlannedSyncMan;
 use ec_wire::FrameBuf;
 
 /// What the working counter of an LRW gains for a read that is served.
@@ -48,11 +49,58 @@ impl Controller {
         ensures frame { frame.new ≡ slice_set frame.old k (logical_exchange self.old (nth frame.old k)).datagram }
         ensures state { self.new ≡ (logical_exchange self.old (nth frame.old k)).state }
     {
+        let counter = frame.counter(k);
+        let share = self.exchange_data(frame, k);
+        frame.set_counter(k, counter.wrapping_add(share));
+    }
+
+    /// Reads and writes the data of the datagram at `k`, each as on arrival, and says what its working counter
+    /// gains; all else stays.
+    fn exchange_data(&mut self, frame: &mut FrameBuf, k: usize) -> u16
+        requires { k < length frame.old }
+        ensures frame { frame.new
+            ≡ slice_set frame.old k (record (nth frame.old k) { payload = read_data self.old (nth frame.old k) }) }
+        ensures state { self.new ≡ written_state self.old (nth frame.old k) }
+        ensures share { result ≡ if_served (serves_read self.old (nth frame.old k)) 1
+            + if_served (serves_write self.old (nth frame.old k)) 2 }
+    {
+        if are_apart(self.memory.fmmus()) {
+            self.write_then_read(frame, k)
+        } else {
+            self.read_then_write(frame, k)
+        }
+    }
+
+    /// Does so where no bit that is read may be written: the read finds the memory as it was on arrival, and
+    /// the write needs no copy of the data.
+    fn write_then_read(&mut self, frame: &mut FrameBuf, k: usize) -> u16
+        requires inside { k < length frame.old }
+        requires apart { are_apart (fmmus_of self.old.memory) ≡ true }
+        ensures frame { frame.new
+            ≡ slice_set frame.old k (record (nth frame.old k) { payload = read_data self.old (nth frame.old k) }) }
+        ensures state { self.new ≡ written_state self.old (nth frame.old k) }
+        ensures share { result ≡ if_served (serves_read self.old (nth frame.old k)) 1
+            + if_served (serves_write self.old (nth frame.old k)) 2 }
+    {
+        self.arrival(frame, k);
+        let is_written = self.write_data(frame.address(k), frame.data(k));
+        let is_read = self.fill_data(frame, k);
+        exchange_share(is_read, is_written)
+    }
+
+    /// Does so whatever the FMMUs: the write takes a copy of the data that arrived.
+    fn read_then_write(&mut self, frame: &mut FrameBuf, k: usize) -> u16
+        requires { k < length frame.old }
+        ensures frame { frame.new
+            ≡ slice_set frame.old k (record (nth frame.old k) { payload = read_data self.old (nth frame.old k) }) }
+        ensures state { self.new ≡ written_state self.old (nth frame.old k) }
+        ensures share { result ≡ if_served (serves_read self.old (nth frame.old k)) 1
+            + if_served (serves_write self.old (nth frame.old k)) 2 }
+    {
         let arrived = frame.get(k);
         let is_read = self.fill_data(frame, k);
         let is_written = self.write_data(arrived.address, arrived.payload.as_slice());
-        let share = exchange_share(is_read, is_written);
-        frame.set_counter(k, arrived.counter.wrapping_add(share));
+        exchange_share(is_read, is_written)
     }
 
     /// Writes data to the memory where their logical address is writable, shows each area whose last byte was
@@ -70,7 +118,7 @@ impl Controller {
     }
 
     /// All sync managers, by number.
-    fn sync_managers(&self) -> [SyncMan; 8]
+    fn sync_managers(&self) -> [PlannedSyncMan; 8]
         ensures value { result ≡ sync_managers_of self.now.memory }
         ensures bytes { AreBytes self.now.memory }
     {
@@ -82,7 +130,7 @@ impl Controller {
 #[cfg(test)]
 mod tests {
     use super::*;
-    use ec_regs::{Fmmu, NoMemory};
+    use ec_regs::{Fmmu, NoMemory, SyncMan};
     use ec_wire::{Form, WireFault};
     use std::alloc::Global;
 

@@ -17,8 +17,8 @@ use crate::kind::HALF;
 use ec_app::Slave;
 use ec_esc::Controller;
 use ec_line::Kind;
-use ec_regs::SyncMan;
 use ec_regs::registers::PROCESS_MEMORY;
+use ec_regs::{PlannedSyncMan, SyncMan};
 
 /// An addressed item that goes where a cycle may not. It names the slave, the first one of the item's
 /// station, and the item's ADO.
@@ -113,18 +113,18 @@ fn first_of_station(line: &[Slave], station: u16) -> Option<usize>
 }
 
 /// All sync managers of a controller, by number.
-pub(crate) fn managers_of(controller: &Controller) -> [SyncMan; 8]
+pub(crate) fn managers_of(controller: &Controller) -> [PlannedSyncMan; 8]
     ensures { result ≡ sync_managers_of controller.now.memory }
 {
     [
-        controller.syncman(0),
-        controller.syncman(1),
-        controller.syncman(2),
-        controller.syncman(3),
-        controller.syncman(4),
-        controller.syncman(5),
-        controller.syncman(6),
-        controller.syncman(7),
+        PlannedSyncMan::new(controller.syncman(0)),
+        PlannedSyncMan::new(controller.syncman(1)),
+        PlannedSyncMan::new(controller.syncman(2)),
+        PlannedSyncMan::new(controller.syncman(3)),
+        PlannedSyncMan::new(controller.syncman(4)),
+        PlannedSyncMan::new(controller.syncman(5)),
+        PlannedSyncMan::new(controller.syncman(6)),
+        PlannedSyncMan::new(controller.syncman(7)),
     ]
 }
 
@@ -146,23 +146,23 @@ fn may_write(controller: &Controller, from: u16, count: usize) -> bool
 }
 
 /// Do they lie in one active buffered area that the master reads?
-fn lies_in_inputs(managers: &[SyncMan], from: u16, count: usize) -> bool
+fn lies_in_inputs(managers: &[PlannedSyncMan], from: u16, count: usize) -> bool
     requires { count ≤ MAX_DATA }
     ensures { result ≡ list_any (is_input_run from count) managers.now }
 {
     managers
         .iter()
-        .any(|manager| is_input_run(manager, from, count))
+        .any(|manager| is_input_run(&manager.manager(), from, count))
 }
 
 /// Do they lie in one active buffered area that the master writes?
-fn lies_in_outputs(managers: &[SyncMan], from: u16, count: usize) -> bool
+fn lies_in_outputs(managers: &[PlannedSyncMan], from: u16, count: usize) -> bool
     requires { count ≤ MAX_DATA }
     ensures { result ≡ list_any (is_output_run from count) managers.now }
 {
     managers
         .iter()
-        .any(|manager| is_output_run(manager, from, count))
+        .any(|manager| is_output_run(&manager.manager(), from, count))
 }
 
 /// Does the sync manager guard such an area that the master reads?

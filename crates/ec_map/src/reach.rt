@@ -10,7 +10,7 @@ use crate::place::managers_of;
 use ec_areas::{is_readable, is_writable};
 use ec_esc::Controller;
 use ec_regs::registers::FMMU_COUNT;
-use ec_regs::{Fmmu, SyncMan};
+use ec_regs::{Fmmu, PlannedSyncMan};
 
 /// How many FMMUs a slave has.
 const FMMUS: usize = FMMU_COUNT as usize;
@@ -44,7 +44,7 @@ fn shared_bytes(fmmu: &Fmmu, address: u32, count: usize) -> Option<Run>
 }
 
 /// Does the FMMU read a bit of a range of logical bytes?
-fn reads_through(managers: &[SyncMan], fmmu: &Fmmu, address: u32, count: usize) -> bool
+fn reads_through(managers: &[PlannedSyncMan], fmmu: &Fmmu, address: u32, count: usize) -> bool
     requires count { count ≤ MAX_DATA }
     requires range { address + count ≤ 2 ^ 32 }
     ensures { MatchBool result (ReadsSome managers.now fmmu.now address count)
@@ -65,7 +65,7 @@ fn reads_through(managers: &[SyncMan], fmmu: &Fmmu, address: u32, count: usize) 
 }
 
 /// Does the FMMU write a bit of a range of logical bytes?
-fn writes_through(managers: &[SyncMan], fmmu: &Fmmu, address: u32, count: usize) -> bool
+fn writes_through(managers: &[PlannedSyncMan], fmmu: &Fmmu, address: u32, count: usize) -> bool
     requires count { count ≤ MAX_DATA }
     requires range { address + count ≤ 2 ^ 32 }
     ensures { MatchBool result (WritesSome managers.now fmmu.now address count)

@@ -8,7 +8,6 @@ use Rattle.std.proofs.lemmas.Bool.Decides.{nat_tests}
 use Rattle.std.proofs.lemmas.Int.{ints}
 use Rattle.std.proofs.lemmas.Nat.Bits.{bit_at_and, bit_at_mask_inside, bit_at_mask_below, bit_at_ones, bit_at_ones_above, ones_shl, ones_shr}
 use Rattle.ec_regs.specs.declared.fmmu.Fmmu.{Fmmu}
-use Rattle.ec_regs.specs.declared.plan.Plan.{Plan}
 use Rattle.ec_regs.specs.Pairs.{IsPair, can_map, pair_count, first_logical, first_physical}
 use Rattle.ec_regs.specs.Plan.{Pairs, mask_at, mask_from, mask_to, mapped_plan, no_plan, plan_of}
 use Rattle.ec_regs.proofs.PairLemmas.{pair_count_mapped, pair_count_unmapped}
@@ -178,22 +177,3 @@ Pairs-plan_of f l p =
     let maps_not : ltb 0 (pair_count f) ≡ false = grind (arith, nat_tests) in
     rw maps_not ((λ pair. absurd (let h : false ≡ true = pair.mapped in cc)), (λ pair. absurd (let h : pair.0 < pair_count f = pair.1.mapped in omega arith))))
     (cases_lt 0 (pair_count f))
-
--- a plan says whether its FMMU maps
-pub is_mapped-plan_of : (f : Fmmu) → (plan_of f).is_mapped ≡ ltb 0 (pair_count f)
-unfolding plan_of
-is_mapped-plan_of f =
-    ⊎_elim (λ (maps : ltb 0 (pair_count f) ≡ true). rw maps refl) (λ (maps_not : ltb 0 (pair_count f) ≡ false). rw maps_not refl)
-    (cases_Bool (ltb 0 (pair_count f)))
-
--- an FMMU whose plan says that it maps does so
-pub Maps-is_mapped : (plan : Plan) (f : Fmmu) → plan ≡ plan_of f → plan.is_mapped ≡ true → Maps f
-Maps-is_mapped plan f is mapped =
-    let test : ltb 0 (pair_count f) ≡ true = sym (is_mapped-plan_of f) ∙ ap (λ (p : Plan). p.is_mapped) (sym is) ∙ mapped in
-    Maps-pair_count f (grind (arith, nat_tests))
-
--- and one whose plan says that it does not maps nothing
-pub pair_count-is_mapped : (plan : Plan) (f : Fmmu) → plan ≡ plan_of f → plan.is_mapped ≡ false → pair_count f ≡ 0
-pair_count-is_mapped plan f is mapped_not =
-    let test : ltb 0 (pair_count f) ≡ false = sym (is_mapped-plan_of f) ∙ ap (λ (p : Plan). p.is_mapped) (sym is) ∙ mapped_not in
-    grind (arith, nat_tests)

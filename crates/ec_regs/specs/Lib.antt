@@ -4,3 +4,4 @@ pub mod SyncMan
 pub mod Pairs
 pub mod Plan
 pub mod Al
+pub mod Guard

@@ -27,7 +27,9 @@ first_physical f = 8 * f.physical + f.bit
 
 -- may the FMMU map at all: it is active, has a byte, and its three bit fields name bits of a byte
 abbrev pub can_map : Fmmu → Bool
-can_map f = is_switched_on f && nat_le 1 f.length && nat_le f.start LAST_BIT && nat_le f.stop LAST_BIT && nat_le f.bit LAST_BIT
+can_map f =
+    is_switched_on f && nat_le 1 f.length && nat_le f.start LAST_BIT && nat_le f.stop LAST_BIT
+    && nat_le f.bit LAST_BIT
 
 -- how many pairs it has: from the start bit of the first byte to the stop bit of the last one, and none where
 -- that is below one

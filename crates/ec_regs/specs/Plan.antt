@@ -56,3 +56,9 @@ pub record Pairs (plan : Plan) (l p : ℕ) : Type 0 where
   pub ends : l / 8 < plan.logical + plan.length
   pub masked : bit_at (mask_at plan (l / 8 - plan.logical)) (l % 8) ≡ 1
   pub moved : pos (p + 8 * plan.logical) ≡ pos (l + 8 * plan.physical) +ℤ plan.distance
+
+-- an FMMU has this plan, and so many pairs
+pub record IsPlanned (f : Fmmu) (plan : Plan) (bits : ℕ) : Type 0 where
+  pub plan_is : plan ≡ plan_of f
+  pub bits_are : bits ≡ pair_count f
+  pub bound : bits < 2 ^ 20

@@ -75,7 +75,8 @@ impl Memory {
     /// Writes a run of bytes from an address on; all others stay.
     pub fn load(&mut self, address: u16, bytes: &[u8])
         requires { address + length bytes.now ≤ MEMORY_SIZE }
-        ensures value { self.new ≡ take address self.old ++ bytes.now ++ drop (address + length bytes.now) self.old }
+        ensures value { self.new
+            ≡ take address self.old ++ bytes.now ++ drop (address + length bytes.now) self.old }
         ensures size { length self.new ≡ MEMORY_SIZE }
     {
         let from = address as usize;

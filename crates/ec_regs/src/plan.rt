@@ -36,9 +36,6 @@ const UNMAPPED: Plan = Plan {
     distance: 0,
 };
 
-/// How many bits a byte has.
-const BYTE: u32 = 8;
-
 /// All bits of a byte.
 const ALL_BITS: u8 = 0xFF;
 
@@ -76,24 +73,27 @@ impl Fmmu {
 pub struct PlannedFmmu {
     fmmu: Fmmu,
     plan: Plan,
+    bits: u32,
 }
 
 impl Model for PlannedFmmu {
-    ghost use Rattle.std.specs.Prelude.{◌≡◌};
     ghost use Rattle.ec_regs.specs.declared.fmmu.Fmmu.{Fmmu};
-    ghost use Rattle.ec_regs.specs.Plan.{plan_of};
+    ghost use Rattle.ec_regs.specs.Pairs.{pair_count};
+    ghost use Rattle.ec_regs.specs.Plan.{plan_of, IsPlanned};
 
     ghost Value = { Fmmu };
 
     ghost view = { λ planned. planned.fmmu };
 
-    ghost invariant = { λ planned. planned.plan ≡ plan_of planned.fmmu };
+    ghost invariant = { λ planned. IsPlanned planned.fmmu planned.plan planned.bits };
 
-    ghost inverse = { λ f. record { fmmu = f; plan = plan_of f } };
+    ghost inverse = { λ f. record { fmmu = f; plan = plan_of f; bits = pair_count f } };
 
-    ghost use Rattle.std.proofs.Common.{ap, sym};
+    ghost use Rattle.std.proofs.Common.{ap, sym, ◌∙◌};
 
-    ghost inverse_ok = { λ planned is. ap (λ plan. record { fmmu = planned.fmmu; plan = plan }) (sym is) };
+    ghost inverse_ok = { λ planned is.
+        ap (λ plan. record { fmmu = planned.fmmu; plan = plan; bits = pair_count planned.fmmu }) (sym is.plan_is)
+        ∙ ap (λ bits. record { fmmu = planned.fmmu; plan = planned.plan; bits = bits }) (sym is.bits_are) };
 }
 
 impl PlannedFmmu {
@@ -107,6 +107,7 @@ impl PlannedFmmu {
         PlannedFmmu {
             fmmu,
             plan: fmmu.plan(),
+            bits: fmmu.mapped_bits(),
         }
     }
 
@@ -159,11 +160,7 @@ impl PlannedFmmu {
         ensures value { result ≡ pair_count self.now }
         ensures bound { result < 2 ^ 20 }
     {
-        if !self.plan.is_mapped {
-            return 0;
-        }
-        let end = BYTE * u32::from(self.fmmu.length - 1) + u32::from(self.fmmu.stop) + 1;
-        end - u32::from(self.fmmu.start)
+        self.bits
     }
 }
 

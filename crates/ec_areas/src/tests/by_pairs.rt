@@ -1,7 +1,7 @@
 //! Reads and writes through FMMUs bit by bit: slow and plain, to compare with.
 
 use crate::areas::{is_readable, is_writable};
-use ec_regs::{Fmmu, SyncMan};
+use ec_regs::{Fmmu, PlannedSyncMan};
 
 /// How many bits the logical range has.
 const LOGICAL_BITS: u64 = 0x8_0000_0000;
@@ -35,7 +35,7 @@ fn partner(fmmu: &Fmmu, address: u32, i: usize) -> Option<u32> {
 
 /// Fills the first `bits` data bits, fewer than 256, that a read reaches, and says whether there is one.
 pub(crate) fn read_by_pairs(
-    managers: &[SyncMan],
+    managers: &[PlannedSyncMan],
     fmmus: &[Fmmu],
     memory: &[u8],
     address: u32,
@@ -59,7 +59,7 @@ pub(crate) fn read_by_pairs(
 /// Writes the first `bits` data bits, fewer than 256, to the bytes of the memory from `first` on, and says
 /// whether one of them goes anywhere.
 pub(crate) fn write_by_pairs(
-    managers: &[SyncMan],
+    managers: &[PlannedSyncMan],
     fmmus: &[Fmmu],
     memory: &mut [u8],
     first: u32,
@@ -84,7 +84,7 @@ pub(crate) fn write_by_pairs(
 
 /// Does a write of the first `bits` data bits, fewer than 256, reach a bit of the byte at an address?
 pub(crate) fn reaches_by_pairs(
-    managers: &[SyncMan],
+    managers: &[PlannedSyncMan],
     fmmus: &[Fmmu],
     address: u32,
     bits: usize,

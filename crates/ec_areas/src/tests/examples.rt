@@ -3,7 +3,7 @@
 ghost use Rattle.ec_regs.specs.Bits.{AreBytes};
 
 use crate::{last_bytes_written, read_mapped, write_mapped};
-use ec_regs::{Fmmu, Memory, PlannedFmmu, SyncMan};
+use ec_regs::{Fmmu, Memory, PlannedFmmu, PlannedSyncMan, SyncMan};
 
 /// A sync manager that guards nothing.
 pub(crate) const NO_AREA: SyncMan = SyncMan {
@@ -34,9 +34,17 @@ pub(crate) const INPUTS: SyncMan = SyncMan {
 };
 
 /// The sync managers of a controller with those areas.
-pub(crate) fn areas() -> [SyncMan; 8] {
+pub(crate) fn areas() -> [PlannedSyncMan; 8] {
+    let no_area = PlannedSyncMan::new(NO_AREA);
     [
-        NO_AREA, NO_AREA, OUTPUTS, INPUTS, NO_AREA, NO_AREA, NO_AREA, NO_AREA,
+        no_area,
+        no_area,
+        PlannedSyncMan::new(OUTPUTS),
+        PlannedSyncMan::new(INPUTS),
+        no_area,
+        no_area,
+        no_area,
+        no_area,
     ]
 }
 
@@ -65,7 +73,7 @@ const WRITE: Fmmu = Fmmu {
 
 /// Writes through FMMUs, as a controller does.
 pub(crate) fn write(
-    managers: &[SyncMan; 8],
+    managers: &[PlannedSyncMan; 8],
     fmmus: &[PlannedFmmu],
     memory: &mut Memory,
     address: u32,

@@ -1,7 +1,10 @@
-use Rattle.std.proofs.Common.{◌≡◌, ℕ, ◌<◌, List, length, set, refl, sym, ◌∙◌, ap, arith}
+use Rattle.std.specs.Prelude.{not}
+use Rattle.std.proofs.Common.{◌≡◌, ℕ, ◌<◌, List, length, get_or, set, cond, refl, sym, ◌∙◌, ap, arith}
 use Rattle.std.proofs.lemmas.List.{length-set}
 use Rattle.ec_regs.specs.declared.registers.TheConstants.{MEMORY_SIZE}
 use Rattle.ec_areas.specs.Records.{sync_managers_of}
+use Rattle.ec_regs.specs.SyncMan.{is_active}
+use Rattle.ec_regs.specs.declared.sync_man.SyncMan.{SyncMan}
 use Rattle.ec_esc.specs.Writing.{is_switched}
 use Rattle.ec_areas.specs.Ranges.{status_address}
 use Rattle.ec_esc.proofs.SettledLemmas.{settled_to, settled_none, settled_more, settled_skip, settled_all, switched_by_records}
@@ -15,8 +18,12 @@ loop-number-init c = record { bytes = λ arrived _. settled_none arrived c.args.
 switched_is : (c : goal.Joined-is_switched) (arrived : List ℕ) → c.args.before.now ≡ sync_managers_of arrived
     → c.is_switched.result ≡ is_switched arrived c.args.memory.now c.loop-number.number
 switched_is c arrived before_is =
-    switched_by_records arrived c.args.memory.now c.args.before.now c.managers.result.now _ _ c.loop-number.number c.is_switched.result
-    c.loop-number-test.true before_is c.managers.ensures.value c.is_switched.ensures
+    let d = c.index-before-number.result in
+    let e = c.index-after-number.result in
+    let was = is_active (get_or c.args.before.now c.loop-number.number d) in
+    switched_by_records arrived c.args.memory.now c.args.before.now c.managers.result.now d e c.loop-number.number c.is_switched.result
+    c.loop-number-test.true before_is c.managers.ensures.value
+    (c.is_switched.ensures ∙ ap (λ (s : SyncMan). cond was (not (is_active s)) (is_active s)) c.index-after-number.is)
 
 pub loop-number-preserved : goal.loop-number-preserved
 loop-number-preserved c =

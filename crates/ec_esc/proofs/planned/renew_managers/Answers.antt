@@ -28,7 +28,7 @@ loop-number-preserved c =
     let below : number < 8 = c.loop-number-test.true in
     let size : length managers ≡ 8 = c.loop-number.invariant.size in
     elim c.if-meets.branch [
-      | then-meets w ↦ rw (w.managers-is, w.sync_manager_at.ensures) record {
+      | then-meets w ↦ rw (w.managers-is, w.new.ensures, w.sync_manager_at.ensures) record {
         size = length-set managers number (sync_manager_at memory number) ∙ size;
         renewed = λ before old_is changes.
             renewed_more number old managers (sync_manager_at memory) (c.loop-number.invariant.renewed before old_is changes) (omega arith);

@@ -17,16 +17,13 @@ loop-i-init c = record {
   rest = λ _ _. refl;
 }
 
--- what stands past the end of a list of sync managers
-abbrev blank : SyncMan
-blank = record { start = 0; length = 0; control = 0; status = 0; activate = 0; pdi = 0 }
-
 -- is the area at i handed over
 handed_is : (c : goal.Joined-hands_over) (is_written : ℕ → Bool) → SaysOfLastBytes is_written c.args.after.now c.args.last_written.now
-    → c.hands_over.result ≡ hands_over is_written (get_or c.args.before.now c.loop-i.i blank) (get_or c.args.after.now c.loop-i.i blank)
+    → c.hands_over.result
+    ≡ hands_over is_written (get_or c.args.before.now c.loop-i.i c.index-before-i.result) (get_or c.args.after.now c.loop-i.i c.index-after-i.result)
 handed_is c is_written says =
     c.hands_over.ensures.value
-    ∙ hands_over_at is_written c.args.before.now c.args.after.now c.args.last_written.now c.loop-i.i blank blank (omega arith) says
+    ∙ hands_over_at is_written c.args.before.now c.args.after.now c.args.last_written.now c.loop-i.i c.index-before-i.result c.index-after-i.result (omega arith) says
 
 pub loop-i-preserved : goal.loop-i-preserved
 loop-i-preserved c =
@@ -37,19 +34,20 @@ loop-i-preserved c =
     let memory_size : length memory ≡ MEMORY_SIZE = ap (λ (s : ControllerState). length s.memory) (sym c.self.view_is) ∙ c.self.invariant.0 in
     elim c.if-hands_over.branch [
       | then-hands_over w ↦
-          let area : SyncMan = get_or after i blank in
+          let area : SyncMan = get_or after i c.index-after-i.result in
           let active : is_active area ≡ true = (both (is_active area) _ (sym c.hands_over.ensures.value ∙ w.if-hands_over.true)).0 in
           let starts : PROCESS_MEMORY ≤ area.start = c.hands_over.ensures.from w.if-hands_over.true in
           let ends : area.start + area.length ≤ MEMORY_SIZE = c.hands_over.ensures.to w.if-hands_over.true in
           let now : c.if-hands_over.self ≡ record c.args.self.now { shown = with_area_shown area memory c.loop-i.self.shown } =
           w.self-is ∙ w.show_area.ensures
+          ∙ ap (λ (s : SyncMan). record c.loop-i.self { shown = with_area_shown s c.loop-i.self.memory c.loop-i.self.shown }) w.manager.ensures
           ∙ ap (λ (s : ControllerState). record s { shown = with_area_shown area s.memory c.loop-i.self.shown }) c.loop-i.invariant.kept
           in
           rw now record {
             kept = refl;
             size = length-with_area_shown area memory c.loop-i.self.shown starts ends memory_size c.loop-i.invariant.size ∙ c.loop-i.invariant.size;
             rest = λ is_written says.
-                shown_after_more is_written before after memory c.loop-i.self.shown i blank blank (omega arith) (omega arith)
+                shown_after_more is_written before after memory c.loop-i.self.shown i c.index-before-i.result c.index-after-i.result (omega arith) (omega arith)
                 (sym (handed_is c is_written says) ∙ w.if-hands_over.true) active starts ends memory_size c.loop-i.invariant.size
                 ∙ c.loop-i.invariant.rest is_written says;
           }
@@ -57,7 +55,7 @@ loop-i-preserved c =
         kept = c.loop-i.invariant.kept;
         size = c.loop-i.invariant.size;
         rest = λ is_written says.
-            shown_after_skip is_written before after memory c.loop-i.self.shown i blank blank (omega arith) (omega arith) (sym (handed_is c is_written says) ∙ w.if-hands_over.false)
+            shown_after_skip is_written before after memory c.loop-i.self.shown i c.index-before-i.result c.index-after-i.result (omega arith) (omega arith) (sym (handed_is c is_written says) ∙ w.if-hands_over.false)
             ∙ c.loop-i.invariant.rest is_written says;
       }
     ]

@@ -1,0 +1,175 @@
+//! What a sync manager keeps off its area: its record read once, in the form that datagrams use (IEC
+//! 61158-4-12, sync manager entity).
+
+ghost use Rattle.std.specs.Prelude.{◌≡◌, ◌+◌, ◌≤◌, IsTrue};
+ghost use Rattle.ec_regs.specs.declared.registers.TheConstants.{PROCESS_MEMORY, MEMORY_SIZE};
+
+use crate::sync_man::SyncMan;
+use std::marker::Model;
+
+/// What a sync manager does with its area; nothing where it is not active.
+#[derive(Clone, Copy, Debug, PartialEq, Eq)]
+pub struct Guard {
+    /// Does it guard an area?
+    pub is_active: bool,
+    /// Is the area kept from reads: a mailbox, or an area that the master writes?
+    pub keeps_reads_off: bool,
+    /// Is it kept from writes: a mailbox, or an area that the master reads?
+    pub keeps_writes_off: bool,
+    /// Is it a buffered area that the master writes?
+    pub guards_outputs: bool,
+}
+
+impl SyncMan {
+    ghost use Rattle.ec_regs.specs.Guard.{guard_of};
+
+    /// What the record says of its area.
+    pub fn guard(&self) -> Guard
+        ensures { result ≡ guard_of self.now }
+    {
+        let is_active = self.is_active();
+        Guard {
+            is_active,
+            keeps_reads_off: is_active && (self.is_mailbox() || self.master_writes()),
+            keeps_writes_off: is_active && (self.is_mailbox() || self.master_reads()),
+            guards_outputs: self.guards_outputs(),
+        }
+    }
+}
+
+/// A sync manager with what it says of its area, made when the record is written and used by each datagram
+/// that comes by. Contracts see the record.
+#[derive(Clone, Copy, Debug)]
+pub struct PlannedSyncMan {
+    manager: SyncMan,
+    guard: Guard,
+}
+
+impl Model for PlannedSyncMan {
+    ghost use Rattle.std.specs.Prelude.{◌≡◌};
+    ghost use Rattle.ec_regs.specs.declared.sync_man.SyncMan.{SyncMan};
+    ghost use Rattle.ec_regs.specs.Guard.{guard_of};
+
+    ghost Value = { SyncMan };
+
+    ghost view = { λ planned. planned.manager };
+
+    ghost invariant = { λ planned. planned.guard ≡ guard_of planned.manager };
+
+    ghost inverse = { λ s. record { manager = s; guard = guard_of s } };
+
+    ghost use Rattle.std.proofs.Common.{ap, sym};
+
+    ghost inverse_ok = { λ planned is.
+        ap (λ guard. record { manager = planned.manager; guard = guard }) (sym is) };
+}
+
+impl PlannedSyncMan {
+    ghost use Rattle.ec_regs.specs.Guard.{keeps_reads_off, keeps_writes_off};
+    ghost use Rattle.ec_regs.specs.SyncMan.{is_active, guards_outputs};
+
+    /// The record with what it says of its area.
+    pub fn new(manager: SyncMan) -> PlannedSyncMan
+        ensures { result ≡ manager }
+    {
+        PlannedSyncMan {
+            manager,
+            guard: manager.guard(),
+        }
+    }
+
+    /// The record.
+    pub fn manager(&self) -> SyncMan
+        ensures { result ≡ self.now }
+    {
+        self.manager
+    }
+
+    /// The first address of its area.
+    pub fn start(&self) -> u16
+        ensures { result ≡ self.now.start }
+    {
+        self.manager.start
+    }
+
+    /// How many bytes its area has.
+    pub fn length(&self) -> u16
+        ensures { result ≡ self.now.length }
+    {
+        self.manager.length
+    }
+
+    /// Does the sync manager guard an area (see `SyncMan::is_active`)?
+    pub fn is_active(&self) -> bool
+        ensures value { result ≡ is_active self.now }
+    {
+        self.guard.is_active
+    }
+
+    /// Does it guard an area that is kept from reads: a mailbox, or an area that the master writes?
+    pub fn keeps_reads_off(&self) -> bool
+        ensures { result ≡ keeps_reads_off self.now }
+    {
+        self.guard.keeps_reads_off
+    }
+
+    /// Does it guard one that is kept from writes: a mailbox, or an area that the master reads?
+    pub fn keeps_writes_off(&self) -> bool
+        ensures { result ≡ keeps_writes_off self.now }
+    {
+        self.guard.keeps_writes_off
+    }
+
+    /// Does it guard outputs, a buffered area that the master writes?
+    pub fn guards_outputs(&self) -> bool
+        ensures { result ≡ guards_outputs self.now }
+    {
+        self.guard.guards_outputs
+    }
+}
+
+#[cfg(test)]
+mod tests {
+    use super::*;
+
+    /// 16 bytes from 0x1000, buffered, read by the master, enabled.
+    const INPUTS: SyncMan = SyncMan {
+        start: 0x1000,
+        length: 16,
+        control: 0x00,
+        status: 0x00,
+        activate: 0x01,
+        pdi: 0x00,
+    };
+
+    #[test]
+    fn areas_are_kept_from_what_does_not_belong_there(rt: HostRuntime) {
+        for (control, reads_off, writes_off, outputs) in [
+            (0x00, false, true, false),
+            (0x04, true, false, true),
+            (0x02, true, true, false),
+            (0x06, true, true, false),
+        ] {
+            let planned = PlannedSyncMan::new(SyncMan { control, ..INPUTS });
+            assert!(rt; planned.is_active());
+            assert_eq!(rt; planned.keeps_reads_off(), reads_off, "{control}");
+            assert_eq!(rt; planned.keeps_writes_off(), writes_off, "{control}");
+            assert_eq!(rt; planned.guards_outputs(), outputs, "{control}");
+        }
+    }
+
+    #[test]
+    fn a_sync_manager_that_is_switched_off_keeps_nothing_off(rt: HostRuntime) {
+        let off = SyncMan {
+            control: 0x06,
+            activate: 0x00,
+            ..INPUTS
+        };
+        let planned = PlannedSyncMan::new(off);
+        assert_eq!(rt; planned.manager(), off);
+        assert!(rt; !planned.is_active());
+        assert!(rt; !planned.keeps_reads_off());
+        assert!(rt; !planned.keeps_writes_off());
+        assert!(rt; !planned.guards_outputs());
+    }
+}
