@@ -1,5 +1,6 @@
 -- What the master writes through FMMUs that are apart from those for reading is no bit that it reads.
-use Rattle.std.proofs.Common.{◌≡◌, ℕ, ◌+◌, ◌<◌, Bool, true, false, ◌||◌, leb, List, length, get_or, Option, None, Some, sym, ◌∙◌, ap, refl, arith, ⊎_elim}
+use Rattle.std.proofs.Common.{◌≡◌, ℕ, ◌+◌, ◌<◌, Bool, true, false, ◌||◌, leb, List, length, get_or, Option}
+use Rattle.std.proofs.Common.{None, Some, sym, ◌∙◌, ap, refl, arith, ⊎_elim}
 use Rattle.std.specs.Prelude.{not}
 use Rattle.std.specs.List.{list_all}
 use Rattle.std.proofs.lemmas.Bool.{cases_Bool, false≢true}
@@ -38,7 +39,8 @@ shared_by_none f g l m p apart first second =
     let in_one : first.0 < pair_count f = one.mapped in
     let in_two : second.0 < pair_count g = two.mapped in
     ⊎_elim
-    (λ (before : leb (first_physical f + pair_count f) (first_physical g) ≡ true). absurd (grind (arith, nat_tests)))
+    (λ (before : leb (first_physical f + pair_count f) (first_physical g)
+    ≡ true). absurd (grind (arith, nat_tests)))
     (λ (other : leb (first_physical f + pair_count f) (first_physical g) ≡ false).
     let behind : leb (first_physical g + pair_count g) (first_physical f) ≡ true =
     sym (ap (λ b. b || leb (first_physical g + pair_count g) (first_physical f)) other) ∙ apart in
@@ -60,9 +62,11 @@ unwritten managers fmmus l p from n apart is_read =
           let g = writer.1 in
           let from_writers : is_apart_from_writers f fmmus ≡ true =
           implied (reads f) (is_apart_from_writers f fmmus) reader.4.for_reading
-          (passed_at (λ h. not (reads h) || is_apart_from_writers h fmmus) fmmus reader.0 f reader.2 reader.3 apart) in
+          (passed_at (λ h. not (reads h) || is_apart_from_writers h fmmus) fmmus reader.0 f reader.2
+          reader.3 apart) in
           let none : share_none f g ≡ true =
           implied (writes g) (share_none f g) writer.4.for_writing
-          (passed_at (λ h. not (writes h) || share_none f h) fmmus writer.0 g writer.2 writer.3 from_writers) in
+          (passed_at (λ h. not (writes h) || share_none f h) fmmus writer.0 g writer.2 writer.3
+          from_writers) in
           absurd (false≢true (shared_by_none f g l (from + i) p none reader.4.mapped writer.4.mapped))
     ] refl

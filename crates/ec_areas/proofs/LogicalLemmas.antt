@@ -1,5 +1,7 @@
 -- Where reads through FMMUs go: the partial functions and the sets of pairs, and one FMMU more.
-use Rattle.std.proofs.Common.{◌≡◌, ℕ, zero, suc, ◌+◌, ◌/◌, ◌<◌, ◌≤◌, Bool, true, false, cond, ltb, ◌&&◌, ◌||◌, List, [], ◌∷◌, length, get_or, drop, Option, None, Some, sym, ◌∙◌, ap, refl, arith, add-one, drop-cons, ⊎_elim}
+use Rattle.std.proofs.Common.{◌≡◌, ℕ, zero, suc, ◌+◌, ◌/◌, ◌<◌, ◌≤◌, Bool, true, false, cond, ltb, ◌&&◌}
+use Rattle.std.proofs.Common.{◌||◌, List, [], ◌∷◌, length, get_or, drop, Option, None, Some, sym, ◌∙◌, ap}
+use Rattle.std.proofs.Common.{refl, arith, add-one, drop-cons, ⊎_elim}
 use Rattle.std.specs.Option.{IsSome}
 use Rattle.std.proofs.lemmas.Bool.{cases_Bool}
 use Rattle.std.proofs.lemmas.Bool.Decides.{nat_tests}
@@ -13,7 +15,8 @@ use Rattle.ec_regs.proofs.BitLemmas.{with_bits_none, with_bits_same_places, with
 use Rattle.ec_regs.proofs.PairLemmas.{physical_of-IsPair, IsPair-physical_of}
 use Rattle.ec_areas.specs.declared.logical.TheConstants.{LOGICAL_BITS}
 use Rattle.ec_areas.specs.Areas.{is_readable}
-use Rattle.ec_areas.specs.Logical.{IsReadablePair, IsReadable, place_if, read_place, read_map, read_places, names, NamesPairs}
+use Rattle.ec_areas.specs.Logical.{IsReadablePair, IsReadable, place_if, read_place, read_map, read_places}
+use Rattle.ec_areas.specs.Logical.{names, NamesPairs}
 use Rattle.ec_areas.specs.declared.met.Run.{Run}
 use Rattle.ec_areas.specs.Met.{physical_in}
 use Rattle.ec_areas.proofs.NamesLemmas.{names_same, names_nowhere, names-later}
@@ -21,7 +24,8 @@ use Rattle.ec_areas.proofs.NamesLemmas.{names_same, names_nowhere, names-later}
 -- ---- one FMMU: the set and the partial function
 
 -- a place that was kept is a place that passes
-pub place_if-some : (test : ℕ → Bool) (o : Option ℕ) (p : ℕ) → place_if test o ≡ Some p → (o ≡ Some p) × (test p ≡ true)
+pub place_if-some : (test : ℕ → Bool) (o : Option ℕ) (p : ℕ) → place_if test o ≡ Some p → (o
+    ≡ Some p) × (test p ≡ true)
 place_if-some test None p e = absurd (cc)
 place_if-some test (Some x) p e =
     ⊎_elim
@@ -43,11 +47,13 @@ both true b e = (refl, e)
 both false b e = absurd (cc)
 
 -- what a read through an FMMU takes is a readable pair
-pub IsReadablePair-read_place : (managers : List SyncMan) (f : Fmmu) (l p : ℕ) → read_place managers f l ≡ Some p
+pub IsReadablePair-read_place : (managers : List SyncMan) (f : Fmmu) (l p : ℕ) → read_place managers f l
+    ≡ Some p
     → IsReadablePair managers f l p
 unfolding read_place
 IsReadablePair-read_place managers f l p e =
-    let parts = if_some (reads f && ltb l LOGICAL_BITS) (place_if (λ q. is_readable managers (q / 8)) (physical_of f l)) p e in
+    let parts = if_some (reads f && ltb l LOGICAL_BITS) (place_if (λ q. is_readable managers (q / 8))
+    (physical_of f l)) p e in
     let conditions = both (reads f) (ltb l LOGICAL_BITS) parts.0 in
     let kept = place_if-some (λ q. is_readable managers (q / 8)) (physical_of f l) p parts.1 in
     let below : ltb l LOGICAL_BITS ≡ true = conditions.1 in
@@ -63,19 +69,22 @@ pub read_place-IsReadablePair : (managers : List SyncMan) (f : Fmmu) (l p : ℕ)
     → read_place managers f l ≡ Some p
 unfolding read_place
 read_place-IsReadablePair managers f l p pair =
-    let below : ltb l LOGICAL_BITS ≡ true = let h : l < LOGICAL_BITS = pair.exists in grind (arith, nat_tests) in
+    let below : ltb l LOGICAL_BITS ≡ true = let h : l < LOGICAL_BITS =
+    pair.exists in grind (arith, nat_tests) in
     let is : physical_of f l ≡ Some p = physical_of-IsPair f l p pair.mapped in
     rw (pair.for_reading, below, is, pair.allowed) refl
 
 -- ---- all FMMUs
 
 -- what a read takes is a readable pair of some FMMU
-pub IsReadable-read_map : (managers : List SyncMan) (fmmus : List Fmmu) (l p : ℕ) → read_map managers fmmus l ≡ Some p
+pub IsReadable-read_map : (managers : List SyncMan) (fmmus : List Fmmu) (l p : ℕ)
+    → read_map managers fmmus l ≡ Some p
     → IsReadable managers fmmus l p
 unfolding read_map
 IsReadable-read_map managers [] l p e = absurd (cc)
 IsReadable-read_map managers (f ∷ fs) l p e =
-    let P : Option ℕ → Type 0 = λ o. read_map managers fs l ≡ o → later (read_place managers f l) o ≡ Some p → IsReadable managers (f ∷ fs) l p in
+    let P : Option ℕ → Type 0 = λ o. read_map managers fs l ≡ o → later (read_place managers f l) o
+    ≡ Some p → IsReadable managers (f ∷ fs) l p in
     elim (read_map managers fs l) as P [
       | None ↦ λ _ here. (0, f, omega arith, refl, IsReadablePair-read_place managers f l p here)
       | Some q ↦ λ behind here.
@@ -94,23 +103,28 @@ later_some_right o None none = absurd (cc)
 later_some_right o (Some q) some = refl
 
 -- where FMMU number k has a readable pair a read takes one
-read_map_some_at : (managers : List SyncMan) (fmmus : List Fmmu) (l p k : ℕ) (f : Fmmu) → k < length fmmus → get_or fmmus k f ≡ f
+read_map_some_at : (managers : List SyncMan) (fmmus : List Fmmu) (l p k : ℕ) (f : Fmmu)
+    → k < length fmmus → get_or fmmus k f ≡ f
     → IsReadablePair managers f l p → IsSome (read_map managers fmmus l)
 unfolding read_map
 read_map_some_at managers [] l p k f inside is pair = absurd (omega arith)
 read_map_some_at managers (g ∷ gs) l p zero f inside is pair =
-    let here : read_place managers g l ≡ Some p = ap (λ h. read_place managers h l) is ∙ read_place-IsReadablePair managers f l p pair in
+    let here : read_place managers g l ≡ Some p = ap (λ h. read_place managers h l) is
+    ∙ read_place-IsReadablePair managers f l p pair in
     rw here (later_some_left p (read_map managers gs l))
 read_map_some_at managers (g ∷ gs) l p (suc k) f inside is pair =
-    later_some_right (read_place managers g l) (read_map managers gs l) (read_map_some_at managers gs l p k f (omega arith) is pair)
+    later_some_right (read_place managers g l) (read_map managers gs l)
+    (read_map_some_at managers gs l p k f (omega arith) is pair)
 
 -- and so where some FMMU has one
-pub read_map-IsReadable : (managers : List SyncMan) (fmmus : List Fmmu) (l p : ℕ) → IsReadable managers fmmus l p
+pub read_map-IsReadable : (managers : List SyncMan) (fmmus : List Fmmu) (l p : ℕ)
+    → IsReadable managers fmmus l p
     → IsSome (read_map managers fmmus l)
 read_map-IsReadable managers fmmus l p h = read_map_some_at managers fmmus l p h.0 h.1 h.2 h.3 h.4
 
 -- so the map has the readable pairs
-pub NamesPairs-read_map : (managers : List SyncMan) (fmmus : List Fmmu) → NamesPairs (read_map managers fmmus) (IsReadable managers fmmus)
+pub NamesPairs-read_map : (managers : List SyncMan) (fmmus : List Fmmu)
+    → NamesPairs (read_map managers fmmus) (IsReadable managers fmmus)
 NamesPairs-read_map managers fmmus = record {
   is_paired = λ l p e. IsReadable-read_map managers fmmus l p e;
   is_found = λ l p paired. read_map-IsReadable managers fmmus l p paired;
@@ -119,35 +133,45 @@ NamesPairs-read_map managers fmmus = record {
 -- ---- a loop over the FMMUs
 
 -- the FMMUs from one on: that one, and then those behind it
-read_map-drop : (managers : List SyncMan) (fmmus : List Fmmu) (k l : ℕ) (f : Fmmu) → k < length fmmus → f ≡ get_or fmmus k f
-    → read_map managers (drop k fmmus) l ≡ later (read_place managers f l) (read_map managers (drop (k + 1) fmmus) l)
+read_map-drop : (managers : List SyncMan) (fmmus : List Fmmu) (k l : ℕ) (f : Fmmu) → k < length fmmus
+    → f ≡ get_or fmmus k f
+    → read_map managers (drop k fmmus) l ≡ later (read_place managers f l) (read_map managers (drop
+    (k + 1) fmmus) l)
 unfolding read_map
 read_map-drop managers fmmus k l f inside is =
     rw (add-one, drop-cons fmmus k f inside)
     (ap (λ g. later (read_place managers g l) (read_map managers (drop (suc k) fmmus) l)) (sym is))
 
 -- one FMMU more has been read through: those behind it are left to do
-pub read_map_more : (managers : List SyncMan) (fmmus : List Fmmu) (k from : ℕ) (f : Fmmu) (xs ys zs : List ℕ) → k < length fmmus
+pub read_map_more : (managers : List SyncMan) (fmmus : List Fmmu) (k from : ℕ) (f : Fmmu)
+    (xs ys zs : List ℕ) → k < length fmmus
     → f ≡ get_or fmmus k f → zs ≡ with_bits xs ys (λ i. read_place managers f (from + i))
-    → with_bits zs ys (read_places managers (drop (k + 1) fmmus) from) ≡ with_bits xs ys (read_places managers (drop k fmmus) from)
+    → with_bits zs ys (read_places managers (drop (k + 1) fmmus) from)
+    ≡ with_bits xs ys (read_places managers (drop k fmmus) from)
 read_map_more managers fmmus k from f xs ys zs inside is read =
     rw read
-    (with_bits-with_bits xs ys (λ i. read_place managers f (from + i)) (read_places managers (drop (k + 1) fmmus) from)
-    ∙ with_bits_same_places xs ys (λ i. later (read_place managers f (from + i)) (read_places managers (drop (k + 1) fmmus) from i))
+    (with_bits-with_bits xs ys (λ i. read_place managers f (from + i)) (read_places managers (drop
+    (k + 1) fmmus) from)
+    ∙ with_bits_same_places xs ys (λ i. later (read_place managers f (from + i)) (read_places managers
+    (drop (k + 1) fmmus) from i))
     (read_places managers (drop k fmmus) from)
     (λ i _. sym (read_map-drop managers fmmus k (from + i) f inside is)))
 
 -- behind the last FMMU nothing is left to do
-pub read_map_done : (managers : List SyncMan) (fmmus : List Fmmu) (k from : ℕ) (xs ys : List ℕ) → length fmmus ≤ k → AreBytes xs
+pub read_map_done : (managers : List SyncMan) (fmmus : List Fmmu) (k from : ℕ) (xs ys : List ℕ)
+    → length fmmus ≤ k → AreBytes xs
     → with_bits xs ys (read_places managers (drop k fmmus) from) ≡ xs
 unfolding read_map
 read_map_done managers fmmus k from xs ys past are =
-    with_bits_none xs ys (read_places managers (drop k fmmus) from) are (λ i _. rw (drop_all k fmmus past) refl)
+    with_bits_none xs ys (read_places managers (drop k fmmus) from) are (λ i _. rw
+    (drop_all k fmmus past) refl)
 
 -- is a bit mapped by the FMMUs from one on: by that one, or by those behind it
-pub names_more_fmmu : (managers : List SyncMan) (fmmus : List Fmmu) (k from n : ℕ) (f : Fmmu) → k < length fmmus → f ≡ get_or fmmus k f
+pub names_more_fmmu : (managers : List SyncMan) (fmmus : List Fmmu) (k from n : ℕ) (f : Fmmu)
+    → k < length fmmus → f ≡ get_or fmmus k f
     → names (read_places managers (drop k fmmus) from) n
-    ≡ (names (λ i. read_place managers f (from + i)) n || names (read_places managers (drop (k + 1) fmmus) from) n)
+    ≡ (names (λ i. read_place managers f (from + i)) n || names (read_places managers (drop
+    (k + 1) fmmus) from) n)
 names_more_fmmu managers fmmus k from n f inside is =
     names_same (read_places managers (drop k fmmus) from)
     (λ i. later (read_place managers f (from + i)) (read_places managers (drop (k + 1) fmmus) from i)) n
@@ -164,13 +188,15 @@ names_no_fmmu managers fmmus k from n past =
 -- ---- one FMMU and its run
 
 -- through an FMMU that is not for reading nothing is read
-pub read_place_not_for_reading : (managers : List SyncMan) (f : Fmmu) (l : ℕ) → reads f ≡ false → read_place managers f l ≡ None
+pub read_place_not_for_reading : (managers : List SyncMan) (f : Fmmu) (l : ℕ) → reads f ≡ false
+    → read_place managers f l ≡ None
 unfolding read_place
 read_place_not_for_reading managers f l not_reads = rw not_reads refl
 
 -- through any other it is the physical bit, if there is one and its byte may be read
 pub read_place_for_reading : (managers : List SyncMan) (f : Fmmu) (l : ℕ) → reads f ≡ true
-    → place_if (λ p. is_readable managers (p / 8)) (cond (ltb l LOGICAL_BITS) (physical_of f l) None) ≡ read_place managers f l
+    → place_if (λ p. is_readable managers (p / 8)) (cond (ltb l LOGICAL_BITS) (physical_of f l) None)
+    ≡ read_place managers f l
 unfolding read_place
 read_place_for_reading managers f l for_reading =
     ⊎_elim
@@ -183,10 +209,13 @@ pub read_place-run : (managers : List SyncMan) (f : Fmmu) (run : Option Run) (fr
     → physical_in run i ≡ cond (ltb (from + i) LOGICAL_BITS) (physical_of f (from + i)) None
     → place_if (λ p. is_readable managers (p / 8)) (physical_in run i) ≡ read_place managers f (from + i)
 read_place-run managers f run from i for_reading is =
-    ap (place_if (λ p. is_readable managers (p / 8))) is ∙ read_place_for_reading managers f (from + i) for_reading
+    ap (place_if (λ p. is_readable managers (p / 8))) is
+    ∙ read_place_for_reading managers f (from + i) for_reading
 
 -- a byte that may be read is in the memory
-pub is_readable-lt : (managers : List SyncMan) (address : ℕ) → is_readable managers address ≡ true → address < MEMORY_SIZE
+pub is_readable-lt : (managers : List SyncMan) (address : ℕ) → is_readable managers address ≡ true
+    → address < MEMORY_SIZE
 unfolding is_readable
 is_readable-lt managers address readable =
-    let inside : ltb address MEMORY_SIZE ≡ true = (both (ltb address MEMORY_SIZE) _ readable).0 in grind (arith, nat_tests)
+    let inside : ltb address MEMORY_SIZE ≡ true =
+    (both (ltb address MEMORY_SIZE) _ readable).0 in grind (arith, nat_tests)

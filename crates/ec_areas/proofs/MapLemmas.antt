@@ -1,6 +1,7 @@
--- Where the writes through all FMMUs go: the partial functions and the sets of pairs; what is mapped of a range; and bytes
--- that no write through an FMMU reaches.
-use Rattle.std.proofs.Common.{◌≡◌, ℕ, zero, suc, ◌+◌, ◌-◌, ◌/◌, ◌<◌, ◌≤◌, true, false, ltb, leb, eqb, ◌&&◌, List, [], ◌∷◌, length}
+-- Where the writes through all FMMUs go: the partial functions and the sets of pairs; what is mapped of a
+-- range; and bytes that no write through an FMMU reaches.
+use Rattle.std.proofs.Common.{◌≡◌, ℕ, zero, suc, ◌+◌, ◌-◌, ◌/◌, ◌<◌, ◌≤◌, true, false, ltb, leb, eqb, ◌&&◌}
+use Rattle.std.proofs.Common.{List, [], ◌∷◌, length}
 use Rattle.std.proofs.Common.{get_or, Option, None, Some, sym, ◌∙◌, ap, refl, arith, ⊎_elim}
 use Rattle.std.specs.Option.{is_some, IsSome}
 use Rattle.std.proofs.lemmas.Bool.{cases_Bool}
@@ -10,9 +11,11 @@ use Rattle.ec_regs.specs.declared.fmmu.Fmmu.{Fmmu}
 use Rattle.ec_regs.specs.declared.sync_man.SyncMan.{SyncMan}
 use Rattle.ec_regs.specs.declared.registers.TheConstants.{PROCESS_MEMORY, MEMORY_SIZE}
 use Rattle.ec_areas.specs.Areas.{is_writable, is_locked}
-use Rattle.ec_areas.specs.Logical.{IsWritablePair, IsWritable, write_target, write_place, number_within, write_map, target_map, names}
+use Rattle.ec_areas.specs.Logical.{IsWritablePair, IsWritable, write_target, write_place, number_within}
+use Rattle.ec_areas.specs.Logical.{write_map, target_map, names}
 use Rattle.ec_areas.proofs.LogicalLemmas.{both, if_some, later_some_left, later_some_right}
-use Rattle.ec_areas.proofs.WriteLemmas.{IsWritablePair-write_target, write_target-IsWritablePair, IsWritablePair-write_place, write_place-IsWritablePair}
+use Rattle.ec_areas.proofs.WriteLemmas.{IsWritablePair-write_target, write_target-IsWritablePair}
+use Rattle.ec_areas.proofs.WriteLemmas.{IsWritablePair-write_place, write_place-IsWritablePair}
 
 -- ---- what is mapped of a range
 
@@ -47,7 +50,12 @@ unfolding names
 names_some f zero mapped = absurd (cc)
 names_some f (suc n) mapped =
     ⊎_elim
-    (λ (before : names f n ≡ true). let found = names_some f n before in (found.0, omega (arith, found.1), found.2))
+    (λ (before : names f n ≡ true). let found = names_some f n before in (
+      found.0,
+      omega
+          (arith, found.1),
+      found.2,
+    ))
     (λ (not_before : names f n ≡ false). (n, omega arith, rw not_before at mapped))
     (cases_Bool (names f n))
 
@@ -65,7 +73,8 @@ names_none f n i none below =
 -- ---- a number within a range
 
 -- it is that of a bit of the range
-pub number_within-some : (from n i : ℕ) (o : Option ℕ) → number_within from n o ≡ Some i → (i < n) × (o ≡ Some (from + i))
+pub number_within-some : (from n i : ℕ) (o : Option ℕ) → number_within from n o ≡ Some i → (i < n) × (o
+    ≡ Some (from + i))
 number_within-some from n i None e = absurd (cc)
 number_within-some from n i (Some l) e =
     let parts = if_some (leb from l && ltb (l - from) n) (Some (l - from)) i e in
@@ -87,14 +96,16 @@ number_within-at from n i below =
 -- ---- what a physical bit takes
 
 -- it is a writable pair of some FMMU, within the range
-pub IsWritable-write_map : (managers : List SyncMan) (fmmus : List Fmmu) (from n p i : ℕ) → write_map managers fmmus from n p ≡ Some i
+pub IsWritable-write_map : (managers : List SyncMan) (fmmus : List Fmmu) (from n p i : ℕ)
+    → write_map managers fmmus from n p ≡ Some i
     → (i < n) × IsWritable managers fmmus (from + i) p
 unfolding write_map
 IsWritable-write_map managers [] from n p i e = absurd (cc)
 IsWritable-write_map managers (f ∷ fs) from n p i e =
     let here : Option ℕ = number_within from n (write_place managers f p) in
     let P : Option ℕ → Type 0 =
-    λ o. write_map managers fs from n p ≡ o → later here o ≡ Some i → (i < n) × IsWritable managers (f ∷ fs) (from + i) p in
+    λ o. write_map managers fs from n p ≡ o → later here o ≡ Some i
+    → (i < n) × IsWritable managers (f ∷ fs) (from + i) p in
     elim (write_map managers fs from n p) as P [
       | None ↦ λ _ at.
           let found = number_within-some from n i (write_place managers f p) at in
@@ -106,7 +117,8 @@ IsWritable-write_map managers (f ∷ fs) from n p i e =
     ] refl e
 
 -- where FMMU number k has a writable pair within the range, the physical bit takes one
-write_map_some_at : (managers : List SyncMan) (fmmus : List Fmmu) (from n p i k : ℕ) (f : Fmmu) → k < length fmmus → get_or fmmus k f ≡ f
+write_map_some_at : (managers : List SyncMan) (fmmus : List Fmmu) (from n p i k : ℕ) (f : Fmmu)
+    → k < length fmmus → get_or fmmus k f ≡ f
     → i < n → IsWritablePair managers f (from + i) p → IsSome (write_map managers fmmus from n p)
 unfolding write_map
 write_map_some_at managers [] from n p i k f inside is below pair = absurd (omega arith)
@@ -121,20 +133,24 @@ write_map_some_at managers (g ∷ gs) from n p i (suc k) f inside is below pair 
     (write_map_some_at managers gs from n p i k f (omega arith) is below pair)
 
 -- and so where some FMMU has one
-pub write_map-IsWritable : (managers : List SyncMan) (fmmus : List Fmmu) (from n p i : ℕ) → i < n → IsWritable managers fmmus (from + i) p
+pub write_map-IsWritable : (managers : List SyncMan) (fmmus : List Fmmu) (from n p i : ℕ) → i < n
+    → IsWritable managers fmmus (from + i) p
     → IsSome (write_map managers fmmus from n p)
-write_map-IsWritable managers fmmus from n p i below h = write_map_some_at managers fmmus from n p i h.0 h.1 h.2 h.3 below h.4
+write_map-IsWritable managers fmmus from n p i below h =
+    write_map_some_at managers fmmus from n p i h.0 h.1 h.2 h.3 below h.4
 
 -- ---- where a logical bit goes
 
 -- to a writable pair of some FMMU
-pub IsWritable-target_map : (managers : List SyncMan) (fmmus : List Fmmu) (l p : ℕ) → target_map managers fmmus l ≡ Some p
+pub IsWritable-target_map : (managers : List SyncMan) (fmmus : List Fmmu) (l p : ℕ)
+    → target_map managers fmmus l ≡ Some p
     → IsWritable managers fmmus l p
 unfolding target_map
 IsWritable-target_map managers [] l p e = absurd (cc)
 IsWritable-target_map managers (f ∷ fs) l p e =
     let P : Option ℕ → Type 0 =
-    λ o. target_map managers fs l ≡ o → later (write_target managers f l) o ≡ Some p → IsWritable managers (f ∷ fs) l p in
+    λ o. target_map managers fs l ≡ o → later (write_target managers f l) o ≡ Some p
+    → IsWritable managers (f ∷ fs) l p in
     elim (target_map managers fs l) as P [
       | None ↦ λ _ here. (0, f, omega arith, refl, IsWritablePair-write_target managers f l p here)
       | Some q ↦ λ behind here.
@@ -142,18 +158,22 @@ IsWritable-target_map managers (f ∷ fs) l p e =
           (suc found.0, found.1, omega arith, found.3, found.4)
     ] refl e
 
-target_map_some_at : (managers : List SyncMan) (fmmus : List Fmmu) (l p k : ℕ) (f : Fmmu) → k < length fmmus → get_or fmmus k f ≡ f
+target_map_some_at : (managers : List SyncMan) (fmmus : List Fmmu) (l p k : ℕ) (f : Fmmu)
+    → k < length fmmus → get_or fmmus k f ≡ f
     → IsWritablePair managers f l p → IsSome (target_map managers fmmus l)
 unfolding target_map
 target_map_some_at managers [] l p k f inside is pair = absurd (omega arith)
 target_map_some_at managers (g ∷ gs) l p zero f inside is pair =
-    let here : write_target managers g l ≡ Some p = ap (λ h. write_target managers h l) is ∙ write_target-IsWritablePair managers f l p pair in
+    let here : write_target managers g l ≡ Some p = ap (λ h. write_target managers h l) is
+    ∙ write_target-IsWritablePair managers f l p pair in
     rw here (later_some_left p (target_map managers gs l))
 target_map_some_at managers (g ∷ gs) l p (suc k) f inside is pair =
-    later_some_right (write_target managers g l) (target_map managers gs l) (target_map_some_at managers gs l p k f (omega arith) is pair)
+    later_some_right (write_target managers g l) (target_map managers gs l)
+    (target_map_some_at managers gs l p k f (omega arith) is pair)
 
 -- and somewhere where some FMMU has one
-pub target_map-IsWritable : (managers : List SyncMan) (fmmus : List Fmmu) (l p : ℕ) → IsWritable managers fmmus l p
+pub target_map-IsWritable : (managers : List SyncMan) (fmmus : List Fmmu) (l p : ℕ)
+    → IsWritable managers fmmus l p
     → IsSome (target_map managers fmmus l)
 target_map-IsWritable managers fmmus l p h = target_map_some_at managers fmmus l p h.0 h.1 h.2 h.3 h.4
 
@@ -166,8 +186,10 @@ write_map_none managers fmmus from n p none =
       | None ↦ λ _. refl
       | Some i ↦ λ e.
           let found = IsWritable-write_map managers fmmus from n p i e in
-          let gone : target_map managers fmmus (from + i) ≡ None = names_none (λ j. target_map managers fmmus (from + j)) n i none found.0 in
-          let some : is_some (target_map managers fmmus (from + i)) ≡ true = target_map-IsWritable managers fmmus (from + i) p found.1 in
+          let gone : target_map managers fmmus (from + i)
+          ≡ None = names_none (λ j. target_map managers fmmus (from + j)) n i none found.0 in
+          let some : is_some (target_map managers fmmus (from + i))
+          ≡ true = target_map-IsWritable managers fmmus (from + i) p found.1 in
           absurd (let no : false ≡ true = sym (ap is_some gone) ∙ some in cc)
     ] refl
 
@@ -184,7 +206,8 @@ writable_parts managers address writable =
     let high : ltb address MEMORY_SIZE ≡ true = ends.1 in
     let free : is_locked managers address ≡ false =
     ⊎_elim
-    (λ (locked : is_locked managers address ≡ true). absurd (let no : false ≡ true = rw locked at parts.1 in cc))
+    (λ (locked : is_locked managers address ≡ true). absurd (let no : false
+    ≡ true = rw locked at parts.1 in cc))
     (λ (open_ : is_locked managers address ≡ false). open_)
     (cases_Bool (is_locked managers address)) in
     (grind (arith, nat_tests), grind (arith, nat_tests), free)

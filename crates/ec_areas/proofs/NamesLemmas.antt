@@ -1,5 +1,6 @@
 -- Is one of the first n bits mapped: by a run, by one of two maps, by none.
-use Rattle.std.proofs.Common.{◌≡◌, ℕ, zero, suc, ◌<◌, ◌≤◌, Bool, true, false, ◌||◌, Option, None, Some, sym, ◌∙◌, ap, refl, arith, ⊎_elim}
+use Rattle.std.proofs.Common.{◌≡◌, ℕ, zero, suc, ◌<◌, ◌≤◌, Bool, true, false, ◌||◌, Option, None, Some, sym}
+use Rattle.std.proofs.Common.{◌∙◌, ap, refl, arith, ⊎_elim}
 use Rattle.std.specs.Option.{is_some}
 use Rattle.std.proofs.lemmas.Bool.{cases_lt}
 use Rattle.ec_regs.specs.Bits.{later}
@@ -26,7 +27,11 @@ names_same f g (suc n) same =
 pub names_nowhere : (f : ℕ → Option ℕ) (n : ℕ) → ((i : ℕ) → i < n → f i ≡ None) → names f n ≡ false
 unfolding names
 names_nowhere f zero none = refl
-names_nowhere f (suc n) none = rw (names_nowhere f n (λ i inside. none i (omega arith)), none n (omega arith)) refl
+names_nowhere f (suc n) none = rw (
+  names_nowhere f n (λ i inside. none i (omega arith)),
+  none n
+      (omega arith),
+) refl
 
 -- something is mapped where a bit is
 pub names_somewhere : (f : ℕ → Option ℕ) (n i p : ℕ) → i < n → f i ≡ Some p → names f n ≡ true
@@ -57,4 +62,5 @@ pub names-later : (f g : ℕ → Option ℕ) (n : ℕ) → names (λ i. later (f
 unfolding names
 names-later f g zero = refl
 names-later f g (suc n) =
-    rw (names-later f g n, is_some-later (f n) (g n)) (or_swap (names f n) (names g n) (is_some (f n)) (is_some (g n)))
+    rw (names-later f g n, is_some-later (f n) (g n)) (or_swap (names f n) (names g n) (is_some (f n))
+    (is_some (g n)))

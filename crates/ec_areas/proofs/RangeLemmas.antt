@@ -1,10 +1,14 @@
--- The records that a list holds by number, the bytes of a sync manager that take writes, and addresses one by one.
-use Rattle.std.proofs.Common.{◌≡◌, ℕ, zero, suc, ◌+◌, ◌-◌, ◌/◌, ◌%◌, ◌<◌, Bool, true, false, ◌&&◌, ◌||◌, eqb, ltb, List, [], ◌∷◌, ◌++◌, length, get_or, map-id, sym, ◌∙◌, ap, refl, arith}
+-- The records that a list holds by number, the bytes of a sync manager that take writes, and addresses one
+-- by one.
+use Rattle.std.proofs.Common.{◌≡◌, ℕ, zero, suc, ◌+◌, ◌-◌, ◌/◌, ◌%◌, ◌<◌, Bool, true, false, ◌&&◌, ◌||◌}
+use Rattle.std.proofs.Common.{eqb, ltb, List, [], ◌∷◌, ◌++◌, length, get_or, map-id, sym, ◌∙◌, ap, refl}
+use Rattle.std.proofs.Common.{arith}
 use Rattle.std.specs.Prelude.{not}
 use Rattle.std.specs.List.{list_any, range_with_len}
 use Rattle.std.proofs.lemmas.Bool.Decides.{nat_tests}
 use Rattle.std.proofs.lemmas.List.Folds.{list_any-append, list_any_at}
-use Rattle.std.proofs.lemmas.List.FromFn.{length-range_with_len, get_or-range_with_len, map-range_with_len_more}
+use Rattle.std.proofs.lemmas.List.FromFn.{length-range_with_len, get_or-range_with_len}
+use Rattle.std.proofs.lemmas.List.FromFn.{map-range_with_len_more}
 use Rattle.ec_regs.specs.declared.sync_man.SyncMan.{SyncMan}
 use Rattle.ec_regs.specs.SyncMan.{is_active}
 use Rattle.ec_areas.specs.Records.{sync_manager_at, sync_managers_of}
@@ -14,7 +18,8 @@ use Rattle.ec_areas.proofs.NamesLemmas.{or_false}
 -- ---- records by number
 
 -- the sync manager with a number is the element there
-pub get_or-sync_managers_of : (memory : List ℕ) (d : SyncMan) (i : ℕ) → i < 8 → get_or (sync_managers_of memory) i d ≡ sync_manager_at memory i
+pub get_or-sync_managers_of : (memory : List ℕ) (d : SyncMan) (i : ℕ) → i < 8
+    → get_or (sync_managers_of memory) i d ≡ sync_manager_at memory i
 unfolding sync_managers_of
 get_or-sync_managers_of memory d zero below = refl
 get_or-sync_managers_of memory d (suc zero) below = refl
@@ -24,20 +29,24 @@ get_or-sync_managers_of memory d (suc (suc (suc (suc zero)))) below = refl
 get_or-sync_managers_of memory d (suc (suc (suc (suc (suc zero))))) below = refl
 get_or-sync_managers_of memory d (suc (suc (suc (suc (suc (suc zero)))))) below = refl
 get_or-sync_managers_of memory d (suc (suc (suc (suc (suc (suc (suc zero))))))) below = refl
-get_or-sync_managers_of memory d (suc (suc (suc (suc (suc (suc (suc (suc i)))))))) below = absurd (omega arith)
+get_or-sync_managers_of memory d (suc (suc (suc (suc (suc (suc (suc (suc i)))))))) below =
+    absurd (omega arith)
 
 -- ---- a sync manager's bytes
 
 -- a byte before its status takes writes where it is not active
-pub takes_before_status : (memory : List ℕ) (managers : List SyncMan) (d : SyncMan) (address : ℕ) (active : Bool)
-    → managers ≡ sync_managers_of memory → is_in_sync_manager address ≡ true → (address - 2048) / 8 < 8 → (address - 2048) % 8 < 5
+pub takes_before_status : (memory : List ℕ) (managers : List SyncMan) (d : SyncMan) (address : ℕ)
+    (active : Bool)
+    → managers ≡ sync_managers_of memory → is_in_sync_manager address ≡ true → (address - 2048) / 8 < 8
+    → (address - 2048) % 8 < 5
     → active ≡ is_active (get_or managers ((address - 2048) / 8) d)
     → not active ≡ (is_in_sync_manager address && is_writable_field memory address)
 takes_before_status memory managers d address active managers_are inside number before active_is =
     let other : eqb ((address - 2048) % 8) 6 ≡ false = grind (arith, nat_tests) in
     let here : ltb ((address - 2048) % 8) 5 ≡ true = grind (arith, nat_tests) in
     let record_is : get_or managers ((address - 2048) / 8) d ≡ sync_manager_at memory ((address - 2048) / 8) =
-    ap (λ (ms : List SyncMan). get_or ms ((address - 2048) / 8) d) managers_are ∙ get_or-sync_managers_of memory d ((address - 2048) / 8) number in
+    ap (λ (ms : List SyncMan). get_or ms ((address - 2048) / 8) d) managers_are
+    ∙ get_or-sync_managers_of memory d ((address - 2048) / 8) number in
     rw (inside, other, here) (ap not (active_is ∙ ap is_active record_is))
 
 -- ---- some address of a range
@@ -55,7 +64,8 @@ unfolding some_address
 some_address_none test from = refl
 
 -- one address more
-pub some_address_more : (test : ℕ → Bool) (from n : ℕ) → some_address test from (n + 1) ≡ (some_address test from n || test (from + n))
+pub some_address_more : (test : ℕ → Bool) (from n : ℕ) → some_address test from (n + 1)
+    ≡ (some_address test from n || test (from + n))
 unfolding some_address
 some_address_more test from n =
     ap (list_any test) (range_more from n)
@@ -63,8 +73,10 @@ some_address_more test from n =
     ∙ ap (λ b. list_any test (range_with_len from n) || b) (or_false (test (from + n)))
 
 -- one that passes settles it
-pub some_address_at : (test : ℕ → Bool) (from n i : ℕ) → i < n → test (from + i) ≡ true → some_address test from n ≡ true
+pub some_address_at : (test : ℕ → Bool) (from n i : ℕ) → i < n → test (from + i) ≡ true
+    → some_address test from n ≡ true
 unfolding some_address
 some_address_at test from n i below passes =
     let inside : i < length (range_with_len from n) = rw (length-range_with_len from n) below in
-    list_any_at test (range_with_len from n) i 0 inside (ap test (get_or-range_with_len from n i 0 below) ∙ passes)
+    list_any_at test (range_with_len from n) i 0 inside (ap test
+    (get_or-range_with_len from n i 0 below) ∙ passes)

@@ -1,5 +1,6 @@
 -- The records in a memory depend on the registers alone.
-use Rattle.std.proofs.Common.{◌≡◌, ℕ, ◌+◌, ◌*◌, ◌<◌, ◌≤◌, List, length, get_or, take, drop, sym, ◌∙◌, ap, refl, arith}
+use Rattle.std.proofs.Common.{◌≡◌, ℕ, ◌+◌, ◌*◌, ◌<◌, ◌≤◌, List, length, get_or, take, drop, sym, ◌∙◌, ap}
+use Rattle.std.proofs.Common.{refl, arith}
 use Rattle.std.proofs.lemmas.List.{ext_get_or, length-take-le, length-drop}
 use Rattle.ec_regs.specs.Fmmu.{fmmu_of}
 use Rattle.ec_regs.specs.SyncMan.{sync_man_of}
@@ -31,15 +32,18 @@ run_same before after at n same fits =
 pub sync_manager_same : (before after : List ℕ) (i : ℕ) → SameRegisters before after → i < 8
     → sync_manager_at after i ≡ sync_manager_at before i
 unfolding sync_manager_at
-sync_manager_same before after i same below = ap sync_man_of (run_same before after (2048 + 8 * i) 8 same (omega arith))
+sync_manager_same before after i same below = ap sync_man_of (run_same before after (2048 + 8 * i) 8 same
+    (omega arith))
 
 -- each FMMU
-pub fmmu_same : (before after : List ℕ) (i : ℕ) → SameRegisters before after → i < 8 → fmmu_at after i ≡ fmmu_at before i
+pub fmmu_same : (before after : List ℕ) (i : ℕ) → SameRegisters before after → i < 8 → fmmu_at after i
+    ≡ fmmu_at before i
 unfolding fmmu_at
 fmmu_same before after i same below = ap fmmu_of (run_same before after (1536 + 16 * i) 16 same (omega arith))
 
 -- all sync managers
-pub sync_managers_same : (before after : List ℕ) → SameRegisters before after → sync_managers_of after ≡ sync_managers_of before
+pub sync_managers_same : (before after : List ℕ) → SameRegisters before after → sync_managers_of after
+    ≡ sync_managers_of before
 unfolding sync_managers_of
 sync_managers_same before after same =
     rw (

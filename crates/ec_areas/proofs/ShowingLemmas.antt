@@ -1,12 +1,15 @@
 -- Which bytes a write reaches through FMMUs: by the ends of runs, and by the areas that lock them.
-use Rattle.std.proofs.Common.{◌≡◌, ◌≢◌, ℕ, ◌+◌, ◌-◌, ◌*◌, ◌/◌, ◌<◌, ◌≤◌, Bool, true, false, cond, leb, ltb, ◌&&◌, ◌||◌, List, [], ◌∷◌, length, get_or, set, Option, None, Some, sym, ◌∙◌, ap, refl, arith, ⊎_elim}
+use Rattle.std.proofs.Common.{◌≡◌, ◌≢◌, ℕ, ◌+◌, ◌-◌, ◌*◌, ◌/◌, ◌<◌, ◌≤◌, Bool, true, false, cond, leb, ltb}
+use Rattle.std.proofs.Common.{◌&&◌, ◌||◌, List, [], ◌∷◌, length, get_or, set, Option, None, Some, sym, ◌∙◌}
+use Rattle.std.proofs.Common.{ap, refl, arith, ⊎_elim}
 use Rattle.std.specs.List.{list_any, slice_get}
 use Rattle.std.proofs.lemmas.List.{get_or-set_same, get_or-set_other}
 use Rattle.std.proofs.lemmas.List.Folds.{list_any_at}
 use Rattle.std.proofs.lemmas.Option.{get_or_from_slice_get, slice_get_within}
 use Rattle.std.proofs.lemmas.Bool.{cases_Bool, cases_lt, cases_eq, false≢true}
 use Rattle.std.proofs.lemmas.Bool.Decides.{nat_tests}
-use Rattle.ec_regs.specs.SyncMan.{is_enabled, is_buffered, is_mailbox, master_reads, master_writes, is_active, has_area_length}
+use Rattle.ec_regs.specs.SyncMan.{is_enabled, is_buffered, is_mailbox, master_reads, master_writes}
+use Rattle.ec_regs.specs.SyncMan.{is_active, has_area_length}
 use Rattle.ec_regs.specs.SyncMan.{is_in_process_memory, guards_outputs}
 use Rattle.ec_regs.specs.Pairs.{writes, logical_of, partner}
 use Rattle.ec_regs.specs.declared.fmmu.Fmmu.{Fmmu}
@@ -37,17 +40,21 @@ names-partner to at n byte some =
     rw (begins_is, ends_is)
     (⊎_elim
     (λ (before : to < 8 * byte).
-    names_somewhere (λ b. partner to at n (8 * byte + b)) 8 0 (at + (8 * byte - to)) (omega arith) (partner_inside to at n (8 * byte + 0) (8 * byte - to) (omega arith) (omega arith)))
+    names_somewhere (λ b. partner to at n (8 * byte + b)) 8 0 (at + (8 * byte - to)) (omega arith)
+    (partner_inside to at n (8 * byte + 0) (8 * byte - to) (omega arith) (omega arith)))
     (λ (inside : 8 * byte ≤ to).
-    names_somewhere (λ b. partner to at n (8 * byte + b)) 8 (to - 8 * byte) (at + 0) (omega arith) (partner_inside to at n (8 * byte + (to - 8 * byte)) 0 (omega arith) some))
+    names_somewhere (λ b. partner to at n (8 * byte + b)) 8 (to - 8 * byte) (at + 0) (omega arith)
+    (partner_inside to at n (8 * byte + (to - 8 * byte)) 0 (omega arith) some))
     (cases_lt to (8 * byte))))
     (λ (behind : to + n ≤ 8 * byte).
     let ends_is : ltb (8 * byte) (to + n) ≡ false = grind (arith, nat_tests) in
-    rw (begins_is, ends_is) (names_nowhere (λ b. partner to at n (8 * byte + b)) 8 (λ b _. partner_behind to at n (8 * byte + b) (omega arith))))
+    rw (begins_is, ends_is) (names_nowhere (λ b. partner to at n (8 * byte + b)) 8
+    (λ b _. partner_behind to at n (8 * byte + b) (omega arith))))
     (cases_lt (8 * byte) (to + n)))
     (λ (late : 8 * byte + 8 ≤ to).
     let begins_is : ltb to (8 * byte + 8) ≡ false = grind (arith, nat_tests) in
-    rw begins_is (names_nowhere (λ b. partner to at n (8 * byte + b)) 8 (λ b below. partner_before to at n (8 * byte + b) (omega arith))))
+    rw begins_is (names_nowhere (λ b. partner to at n (8 * byte + b)) 8
+    (λ b below. partner_before to at n (8 * byte + b) (omega arith))))
     (cases_lt to (8 * byte + 8))
 
 -- a truth and another
@@ -74,18 +81,23 @@ chosen false false from n o = refl
 
 -- a bit of a byte takes what the FMMU has for it, if the byte may be written
 sources_of_byte : (managers : List SyncMan) (f : Fmmu) (from n byte b : ℕ) → b < 8
-    → sources managers f from n (8 * byte + b) ≡ cond (is_writable managers byte) (written_number from n f (8 * byte + b)) None
+    → sources managers f from n (8 * byte + b)
+    ≡ cond (is_writable managers byte) (written_number from n f (8 * byte + b)) None
 unfolding write_place
 sources_of_byte managers f from n byte b below =
     let place : (8 * byte + b) / 8 ≡ byte = omega arith in
-    ap (λ k. number_within from n (cond (writes f && is_writable managers k) (place_if (λ l. ltb l LOGICAL_BITS) (logical_of f (8 * byte + b))) None)) place
-    ∙ chosen (writes f) (is_writable managers byte) from n (place_if (λ l. ltb l LOGICAL_BITS) (logical_of f (8 * byte + b)))
+    ap (λ k. number_within from n (cond (writes f && is_writable managers k) (place_if
+    (λ l. ltb l LOGICAL_BITS) (logical_of f (8 * byte + b))) None)) place
+    ∙ chosen (writes f) (is_writable managers byte) from n (place_if (λ l. ltb l LOGICAL_BITS)
+    (logical_of f (8 * byte + b)))
 
 -- does a write reach a byte through one FMMU
 names_of_byte : (managers : List SyncMan) (f : Fmmu) (from n byte : ℕ)
-    → names (λ b. sources managers f from n (8 * byte + b)) 8 ≡ (names (λ b. written_number from n f (8 * byte + b)) 8 && is_writable managers byte)
+    → names (λ b. sources managers f from n (8 * byte + b)) 8
+    ≡ (names (λ b. written_number from n f (8 * byte + b)) 8 && is_writable managers byte)
 names_of_byte managers f from n byte =
-    names_same (λ b. sources managers f from n (8 * byte + b)) (λ b. cond (is_writable managers byte) (written_number from n f (8 * byte + b)) None) 8
+    names_same (λ b. sources managers f from n (8 * byte + b)) (λ b. cond (is_writable managers byte)
+    (written_number from n f (8 * byte + b)) None) 8
     (λ b below. sources_of_byte managers f from n byte b below)
     ∙ names_if (is_writable managers byte) (λ b. written_number from n f (8 * byte + b))
 
@@ -99,43 +111,53 @@ and_distributes false b c = refl
 -- a write reaches a byte where it would do so through some FMMU, and the byte may be written
 pub names-write_map : (managers : List SyncMan) (fmmus : List Fmmu) (from n byte : ℕ)
     → names (λ b. write_map managers fmmus from n (8 * byte + b)) 8
-    ≡ (list_any (λ f. names (λ b. written_number from n f (8 * byte + b)) 8) fmmus && is_writable managers byte)
+    ≡ (list_any (λ f. names (λ b. written_number from n f
+    (8 * byte + b)) 8) fmmus && is_writable managers byte)
 unfolding write_map
 names-write_map managers [] from n byte = names_nowhere (λ b. None) 8 (λ b _. refl)
 names-write_map managers (f ∷ fs) from n byte =
-    names-later (λ b. sources managers f from n (8 * byte + b)) (λ b. write_map managers fs from n (8 * byte + b)) 8
-    ∙ ap (λ rest. names (λ b. sources managers f from n (8 * byte + b)) 8 || rest) (names-write_map managers fs from n byte)
-    ∙ ap (λ first. first || (list_any (λ g. names (λ b. written_number from n g (8 * byte + b)) 8) fs && is_writable managers byte)) (names_of_byte managers f from n byte)
-    ∙ and_distributes (names (λ b. written_number from n f (8 * byte + b)) 8) (list_any (λ g. names (λ b. written_number from n g (8 * byte + b)) 8) fs) (is_writable managers byte)
+    names-later (λ b. sources managers f from n (8 * byte + b)) (λ b. write_map managers fs from n
+    (8 * byte + b)) 8
+    ∙ ap (λ rest. names (λ b. sources managers f from n (8 * byte + b)) 8 || rest)
+    (names-write_map managers fs from n byte)
+    ∙ ap (λ first. first || (list_any (λ g. names (λ b. written_number from n g
+    (8 * byte + b)) 8) fs && is_writable managers byte)) (names_of_byte managers f from n byte)
+    ∙ and_distributes (names (λ b. written_number from n f (8 * byte + b)) 8) (list_any (λ g. names
+    (λ b. written_number from n g (8 * byte + b)) 8) fs) (is_writable managers byte)
 
 -- ---- one FMMU and its run
 
 -- through an FMMU that is not for writing nothing is written
-pub written_number_not_for_writing : (from n : ℕ) (f : Fmmu) (p : ℕ) → writes f ≡ false → written_number from n f p ≡ None
+pub written_number_not_for_writing : (from n : ℕ) (f : Fmmu) (p : ℕ) → writes f ≡ false
+    → written_number from n f p ≡ None
 written_number_not_for_writing from n f p not_writes = rw not_writes refl
 
 -- through any other it is what the run has for the physical bit
 pub written_number-run : (run : Option Run) (from n : ℕ) (f : Fmmu) (p : ℕ) → writes f ≡ true
-    → data_in run p ≡ number_within from n (place_if (λ l. ltb l LOGICAL_BITS) (logical_of f p)) → data_in run p ≡ written_number from n f p
+    → data_in run p ≡ number_within from n (place_if (λ l. ltb l LOGICAL_BITS) (logical_of f p))
+    → data_in run p ≡ written_number from n f p
 written_number-run run from n f p for_writing is = rw for_writing is
 
 -- ---- areas, one after the other
 
 -- one answer more
-pub answered_more : (xs : List Bool) (i j : ℕ) (old new answer : Bool) → i < length xs → get_or xs j false ≡ cond (ltb j i) answer old
+pub answered_more : (xs : List Bool) (i j : ℕ) (old new answer : Bool) → i < length xs
+    → get_or xs j false ≡ cond (ltb j i) answer old
     → (j ≡ i → new ≡ answer) → get_or (set xs i new) j false ≡ cond (ltb j (i + 1)) answer old
 answered_more xs i j old new answer inside so_far same =
     ⊎_elim
     (λ (here : j ≡ i).
     let now : ltb j (i + 1) ≡ true = grind (arith, nat_tests) in
-    ap (λ k. get_or (set xs i new) k false) here ∙ get_or-set_same xs i new false inside ∙ same here ∙ ap (λ b. cond b answer old) (sym now))
+    ap (λ k. get_or (set xs i new) k false) here ∙ get_or-set_same xs i new false inside ∙ same here
+    ∙ ap (λ b. cond b answer old) (sym now))
     (λ (other : j ≢ i).
     let same_test : ltb j i ≡ ltb j (i + 1) = grind (arith, nat_tests) in
     get_or-set_other xs i j new false other ∙ so_far ∙ ap (λ b. cond b answer old) same_test)
     (cases_eq j i)
 
 -- the element at i is the sync manager with that number
-pub told_here : (managers : List SyncMan) (i : ℕ) (d s : SyncMan) (has : Bool) (test : SyncMan → Bool) → slice_get managers i ≡ Some s
+pub told_here : (managers : List SyncMan) (i : ℕ) (d s : SyncMan) (has : Bool) (test : SyncMan → Bool)
+    → slice_get managers i ≡ Some s
     → has ≡ test (get_or managers i d) → has ≡ test s
 told_here managers i d s has test here told = told ∙ ap test (get_or_from_slice_get managers i s d here)
 
@@ -172,14 +194,20 @@ area_some s has =
     (cases_Bool (is_mailbox s))
 
 -- so its last byte is locked
-locked_last : (managers : List SyncMan) (i : ℕ) (s : SyncMan) → slice_get managers i ≡ Some s → is_active s ≡ true
+locked_last : (managers : List SyncMan) (i : ℕ) (s : SyncMan) → slice_get managers i ≡ Some s
+    → is_active s ≡ true
     → guards_outputs s ≡ false → is_writable managers (last_byte s) ≡ false
 unfolding is_active is_writable locks
 locked_last managers i s here active outputs =
-    let parts = both (is_enabled s && (is_buffered s || is_mailbox s) && (master_reads s || master_writes s) && has_area_length s) (is_in_process_memory s) active in
-    let some : 1 ≤ s.length = area_some s (both (is_enabled s && (is_buffered s || is_mailbox s) && (master_reads s || master_writes s)) (has_area_length s) parts.0).1 in
-    let off : (is_mailbox s || master_reads s) ≡ true = kept_off (is_enabled s) (is_buffered s) (is_mailbox s) (master_reads s) (master_writes s) (has_area_length s) (is_in_process_memory s) active outputs in
-    let guarded : guards s (last_byte s) ≡ true = guards_from s (last_byte s) active (omega arith) (omega arith) in
+    let parts = both (is_enabled s && (is_buffered s || is_mailbox s) &&
+    (master_reads s || master_writes s) && has_area_length s) (is_in_process_memory s) active in
+    let some : 1 ≤ s.length = area_some s (both (is_enabled s && (is_buffered s || is_mailbox s) &&
+    (master_reads s || master_writes s)) (has_area_length s) parts.0).1 in
+    let off : (is_mailbox s || master_reads s)
+    ≡ true = kept_off (is_enabled s) (is_buffered s) (is_mailbox s) (master_reads s)
+    (master_writes s) (has_area_length s) (is_in_process_memory s) active outputs in
+    let guarded : guards s (last_byte s) ≡ true =
+    guards_from s (last_byte s) active (omega arith) (omega arith) in
     let locks_it : locks s (last_byte s) ≡ true = rw (guarded, off) refl in
     let locked : is_locked managers (last_byte s) ≡ true =
     list_any_at (λ t. locks t (last_byte s)) managers i s (slice_get_within managers i s here)
@@ -187,13 +215,17 @@ locked_last managers i s here active outputs =
     rw locked (and_false_right (leb PROCESS_MEMORY (last_byte s) && ltb (last_byte s) MEMORY_SIZE))
 
 -- what is asked of an area that is active is asked of outputs alone
-pub written_outputs : (managers : List SyncMan) (i : ℕ) (s : SyncMan) (reached : Bool) → slice_get managers i ≡ Some s
+pub written_outputs : (managers : List SyncMan) (i : ℕ) (s : SyncMan) (reached : Bool)
+    → slice_get managers i ≡ Some s
     → is_active s ≡ true
-    → (guards_outputs s && reached && is_writable managers (last_byte s)) ≡ (reached && is_writable managers (last_byte s))
+    → (guards_outputs s && reached && is_writable managers (last_byte s))
+    ≡ (reached && is_writable managers (last_byte s))
 written_outputs managers i s reached here active =
     ⊎_elim
-    (λ (outputs : guards_outputs s ≡ true). ap (λ b. b && reached && is_writable managers (last_byte s)) outputs)
+    (λ (outputs : guards_outputs s ≡ true). ap (λ b. b && reached && is_writable managers
+    (last_byte s)) outputs)
     (λ (other : guards_outputs s ≡ false).
     let locked = locked_last managers i s here active other in
-    ap (λ b. b && reached && is_writable managers (last_byte s)) other ∙ sym (ap (λ b. reached && b) locked ∙ and_false_right reached))
+    ap (λ b. b && reached && is_writable managers (last_byte s)) other
+    ∙ sym (ap (λ b. reached && b) locked ∙ and_false_right reached))
     (cases_Bool (guards_outputs s))

@@ -90,7 +90,8 @@ status_address i = SYNC_MANAGER_BASE + SYNC_MANAGER_SIZE * i + STATUS_OFFSET
 abbrev pub is_writable_field : List ℕ → ℕ → Bool
 is_writable_field memory address =
     sync_manager_offset address == ACTIVATE_OFFSET
-    || (nat_lt (sync_manager_offset address) STATUS_OFFSET && not (is_active (sync_manager_at memory (sync_manager_number address))))
+    || (nat_lt (sync_manager_offset address) STATUS_OFFSET
+    && not (is_active (sync_manager_at memory (sync_manager_number address))))
 
 -- does a byte of the memory take what a physical command writes: the station address, AL control, the FMMUs,
 -- the fields of sync managers, and process memory
@@ -117,4 +118,5 @@ serves_physical_read managers from n =
 abbrev pub serves_physical_write : List ℕ → List SyncMan → ℕ → ℕ → Bool
 serves_physical_write memory managers from n =
     is_range from n
-    && ((not (meets_locked managers from n) && some_address (takes_writes memory) from n) || is_some (filled_by managers from n))
+    && ((not (meets_locked managers from n) && some_address (takes_writes memory) from n)
+    || is_some (filled_by managers from n))

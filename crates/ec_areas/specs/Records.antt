@@ -15,13 +15,17 @@ fmmu_at memory i = fmmu_of (take FMMU_SIZE (drop (FMMU_BASE + FMMU_SIZE * i) mem
 -- all FMMUs, by number
 unfoldable pub fmmus_of : List ℕ → List Fmmu
 fmmus_of memory =
-    fmmu_at memory 0 ∷ fmmu_at memory 1 ∷ fmmu_at memory 2 ∷ fmmu_at memory 3 ∷ fmmu_at memory 4 ∷ fmmu_at memory 5 ∷ fmmu_at memory 6 ∷ fmmu_at memory 7 ∷ []
+    fmmu_at memory 0 ∷ fmmu_at memory 1 ∷ fmmu_at memory 2 ∷ fmmu_at memory 3
+    ∷ fmmu_at memory 4 ∷ fmmu_at memory 5 ∷ fmmu_at memory 6 ∷ fmmu_at memory 7 ∷ []
 
 -- the sync manager with a number, 0 to 7
 unfoldable pub sync_manager_at : List ℕ → ℕ → SyncMan
-sync_manager_at memory i = sync_man_of (take SYNC_MANAGER_SIZE (drop (SYNC_MANAGER_BASE + SYNC_MANAGER_SIZE * i) memory))
+sync_manager_at memory i =
+    sync_man_of (take SYNC_MANAGER_SIZE (drop (SYNC_MANAGER_BASE + SYNC_MANAGER_SIZE * i) memory))
 
 -- all sync managers, by number
 unfoldable pub sync_managers_of : List ℕ → List SyncMan
 sync_managers_of memory =
-    sync_manager_at memory 0 ∷ sync_manager_at memory 1 ∷ sync_manager_at memory 2 ∷ sync_manager_at memory 3 ∷ sync_manager_at memory 4 ∷ sync_manager_at memory 5 ∷ sync_manager_at memory 6 ∷ sync_manager_at memory 7 ∷ []
+    sync_manager_at memory 0 ∷ sync_manager_at memory 1 ∷ sync_manager_at memory 2
+    ∷ sync_manager_at memory 3 ∷ sync_manager_at memory 4 ∷ sync_manager_at memory 5
+    ∷ sync_manager_at memory 6 ∷ sync_manager_at memory 7 ∷ []

@@ -7,7 +7,8 @@ ghost use Rattle.ec_regs.specs.declared.registers.TheConstants.{MEMORY_SIZE};
 ghost use Rattle.ec_areas.specs.Records.{sync_managers_of};
 ghost use Rattle.ec_areas.specs.Ranges.{status_address};
 ghost use Rattle.ec_regs.specs.SyncMan.{is_mailbox, master_reads, master_writes};
-ghost use Rattle.ec_areas.specs.Ranges.{within, is_range, overlaps, meets, meets_hidden, meets_locked, meets_one};
+ghost use Rattle.ec_areas.specs.Ranges.{within, is_range, overlaps, meets, meets_hidden, meets_locked};
+ghost use Rattle.ec_areas.specs.Ranges.{meets_one};
 ghost use Rattle.ec_areas.specs.Ranges.{is_area, gives_mail, takes_mail, emptied_by, filled_by};
 ghost use Rattle.ec_areas.specs.Ranges.{serves_physical_read, serves_physical_write, is_in_sync_manager};
 ghost use Rattle.ec_areas.specs.Ranges.{is_writable_field, takes_writes, some_address};
@@ -208,7 +209,8 @@ pub fn serves_physical_read(managers: &[PlannedSyncMan], from: u16, count: u16) 
 /// May the master write the byte of a sync manager's record at an address: its activate byte, or its start,
 /// length and control bytes while it is not active? The records are those on arrival.
 fn sync_manager_takes(managers: &[PlannedSyncMan; 8], address: u32) -> bool
-    ensures { (memory : List ℕ) → managers.now ≡ sync_managers_of memory → result ≡ (is_in_sync_manager address && is_writable_field memory address) }
+    ensures { (memory : List ℕ) → managers.now ≡ sync_managers_of memory → result
+        ≡ (is_in_sync_manager address && is_writable_field memory address) }
 {
     if !within(
         SYNC_MANAGER_BASE,
@@ -226,7 +228,8 @@ fn sync_manager_takes(managers: &[PlannedSyncMan; 8], address: u32) -> bool
 /// Does the byte at an address take what a physical command writes? The records are those on arrival.
 #[tactic(auto, unfolding(crate::specs::Ranges::takes_writes))]
 pub fn takes_writes(managers: &[PlannedSyncMan; 8], address: u32) -> bool
-    ensures { (memory : List ℕ) → managers.now ≡ sync_managers_of memory → result ≡ takes_writes memory address }
+    ensures { (memory : List ℕ) → managers.now ≡ sync_managers_of memory → result
+        ≡ takes_writes memory address }
 {
     within(STATION_ADDRESS, WORD, address)
         || within(AL_CONTROL, WORD, address)
@@ -237,7 +240,8 @@ pub fn takes_writes(managers: &[PlannedSyncMan; 8], address: u32) -> bool
 
 /// Does one byte of the range take what a physical command writes? The records are those on arrival.
 fn some_byte_takes_writes(managers: &[PlannedSyncMan; 8], from: u16, count: u16) -> bool
-    ensures { (memory : List ℕ) → managers.now ≡ sync_managers_of memory → result ≡ some_address (takes_writes memory) from count }
+    ensures { (memory : List ℕ) → managers.now ≡ sync_managers_of memory → result
+        ≡ some_address (takes_writes memory) from count }
 {
     for place in 0..count {
         if takes_writes(managers, u32::from(from) + u32::from(place)) {
@@ -250,7 +254,8 @@ fn some_byte_takes_writes(managers: &[PlannedSyncMan; 8], from: u16, count: u16)
 /// Has the range bytes that take a write, and no area that is kept from writes? The records are those on
 /// arrival.
 fn is_open_to_writes(managers: &[PlannedSyncMan; 8], from: u16, count: u16) -> bool
-    ensures { (memory : List ℕ) → managers.now ≡ sync_managers_of memory → result ≡ (not (meets_locked managers.now from count) && some_address (takes_writes memory) from count) }
+    ensures { (memory : List ℕ) → managers.now ≡ sync_managers_of memory → result
+        ≡ (not (meets_locked managers.now from count) && some_address (takes_writes memory) from count) }
 {
     !meets_locked(managers, from, count) && some_byte_takes_writes(managers, from, count)
 }
@@ -258,7 +263,8 @@ fn is_open_to_writes(managers: &[PlannedSyncMan; 8], from: u16, count: u16) -> b
 /// Is a write of the range served: of bytes that no area keeps from writes and of which one takes it, or of a
 /// whole mailbox? The records are those on arrival.
 pub fn serves_physical_write(managers: &[PlannedSyncMan; 8], from: u16, count: u16) -> bool
-    ensures value { (memory : List ℕ) → managers.now ≡ sync_managers_of memory → result ≡ serves_physical_write memory managers.now from count }
+    ensures value { (memory : List ℕ) → managers.now ≡ sync_managers_of memory → result
+        ≡ serves_physical_write memory managers.now from count }
     ensures inside { IsTrue result → from + count ≤ MEMORY_SIZE }
 {
     is_range(from, count)

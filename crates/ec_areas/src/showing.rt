@@ -63,7 +63,8 @@ fn is_last_written(
     area: &PlannedSyncMan,
 ) -> bool
     ensures { result
-        ≡ (guards_outputs area.now && list_any (reaches (8 * address) (8 * count) (last_byte area.now)) fmmus.now
+        ≡ (guards_outputs area.now && list_any (reaches (8 * address) (8 * count)
+        (last_byte area.now)) fmmus.now
         && is_writable managers.now (last_byte area.now)) }
 {
     let last = last_byte(area);

@@ -1,11 +1,13 @@
 -- What the application finds after it wrote: runs of the memory, AL status, and the status byte of a mailbox.
-use Rattle.std.proofs.Common.{◌≡◌, ℕ, ◌+◌, ◌-◌, ◌*◌, ◌/◌, ◌%◌, ◌^◌, ◌<◌, ◌≤◌, true, List, [], ◌∷◌, ◌++◌, length, get_or, take, drop, ◌∙◌, ap, arith, length-append}
+use Rattle.std.proofs.Common.{◌≡◌, ℕ, ◌+◌, ◌-◌, ◌*◌, ◌/◌, ◌%◌, ◌^◌, ◌<◌, ◌≤◌, true, List, [], ◌∷◌, ◌++◌}
+use Rattle.std.proofs.Common.{length, get_or, take, drop, ◌∙◌, ap, arith, length-append}
 use Rattle.std.specs.Prelude.{replicate}
 use Rattle.std.specs.Int.{w16, to_le_bytes}
 use Rattle.std.proofs.Math.ListN.{get_or-append}
 use Rattle.std.proofs.Math.Seq.{take-append-add}
 use Rattle.std.proofs.lemmas.Bool.Decides.{nat_tests}
-use Rattle.std.proofs.lemmas.List.{get_or-take, get_or-drop, get_or-append_right, length-take-le, length-drop, take-replicate}
+use Rattle.std.proofs.lemmas.List.{get_or-take, get_or-drop, get_or-append_right, length-take-le}
+use Rattle.std.proofs.lemmas.List.{length-drop, take-replicate}
 use Rattle.ec_regs.specs.Al.{status_byte, status_of}
 use Rattle.ec_regs.specs.declared.al.AlStatus.{AlStatus}
 use Rattle.ec_regs.specs.declared.registers.TheConstants.{AL_STATUS, AL_STATUS_CODE, MEMORY_SIZE}
@@ -20,25 +22,42 @@ use Rattle.ec_areas.specs.Ranges.{status_address}
 -- ---- a run of a list replaced
 
 -- its length stays
-pub length-with_run : (xs ys : List ℕ) (at : ℕ) → at + length ys ≤ length xs → length (with_run xs at ys) ≡ length xs
+pub length-with_run : (xs ys : List ℕ) (at : ℕ) → at + length ys ≤ length xs
+    → length (with_run xs at ys) ≡ length xs
 length-with_run xs ys at inside =
-    omega
-    (arith, length-append (take at xs ++ ys) (drop (at + length ys) xs), length-append (take at xs) ys, length-take-le at xs (omega arith), length-drop (at + length ys) xs)
+    omega (
+      arith,
+      length-append (take at xs ++ ys) (drop (at + length ys) xs),
+      length-append
+          (take at xs) ys,
+      length-take-le at xs (omega arith),
+      length-drop (at + length ys) xs,
+    )
 
 -- the elements before the run stay
-pub get_or-with_run_before : (xs ys : List ℕ) (at k : ℕ) → k < at → at ≤ length xs → get_or (with_run xs at ys) k 0 ≡ get_or xs k 0
+pub get_or-with_run_before : (xs ys : List ℕ) (at k : ℕ) → k < at → at ≤ length xs
+    → get_or (with_run xs at ys) k 0 ≡ get_or xs k 0
 get_or-with_run_before xs ys at k before inside =
     let front : length (take at xs) ≡ at = length-take-le at xs inside in
-    get_or-append (take at xs ++ ys) (drop (at + length ys) xs) 0 k (omega (arith, length-append (take at xs) ys))
+    get_or-append (take at xs ++ ys) (drop (at + length ys) xs) 0 k (omega (
+      arith,
+      length-append
+          (take at xs) ys,
+    ))
     ∙ get_or-append (take at xs) ys 0 k (omega arith)
     ∙ get_or-take at xs k 0 before
 
 -- those of the run are the new ones
-get_or-with_run_inside : (xs ys : List ℕ) (at k : ℕ) → at ≤ length xs → k < length ys → get_or (with_run xs at ys) (at + k) 0 ≡ get_or ys k 0
+get_or-with_run_inside : (xs ys : List ℕ) (at k : ℕ) → at ≤ length xs → k < length ys
+    → get_or (with_run xs at ys) (at + k) 0 ≡ get_or ys k 0
 get_or-with_run_inside xs ys at k inside within =
     let front : length (take at xs) ≡ at = length-take-le at xs inside in
     let place : at + k - at ≡ k = omega arith in
-    get_or-append (take at xs ++ ys) (drop (at + length ys) xs) 0 (at + k) (omega (arith, length-append (take at xs) ys))
+    get_or-append (take at xs ++ ys) (drop (at + length ys) xs) 0 (at + k) (omega (
+      arith,
+      length-append
+          (take at xs) ys,
+    ))
     ∙ get_or-append_right (take at xs) ys at (at + k) 0 front (omega arith)
     ∙ ap (λ j. get_or ys j 0) place
 
@@ -61,19 +80,22 @@ pub al_status-with_al : (c : ControllerState) (status : AlStatus) (code : ℕ) �
 al_status-with_al c status code size =
     let bytes : List ℕ = status_byte status ∷ 0 ∷ [] in
     let first : List ℕ = with_run c.memory AL_STATUS bytes in
-    let first_size : length first ≡ length c.memory = length-with_run c.memory bytes AL_STATUS (omega arith) in
+    let first_size : length first ≡ length c.memory =
+    length-with_run c.memory bytes AL_STATUS (omega arith) in
     ap status_of
     (get_or-with_run_before first (to_le_bytes w16 code) AL_STATUS_CODE AL_STATUS (omega arith) (omega arith)
     ∙ get_or-with_run_inside c.memory bytes AL_STATUS 0 (omega arith) (omega arith))
     ∙ status_of-status_byte status
 
 -- and so is the AL status code
-pub al_status_code-with_al : (c : ControllerState) (status : AlStatus) (code : ℕ) → length c.memory ≡ MEMORY_SIZE → code < 2 ^ 16
+pub al_status_code-with_al : (c : ControllerState) (status : AlStatus) (code : ℕ) → length c.memory
+    ≡ MEMORY_SIZE → code < 2 ^ 16
     → al_status_code (with_al c status code) ≡ code
 al_status_code-with_al c status code size small =
     let bytes : List ℕ = status_byte status ∷ 0 ∷ [] in
     let first : List ℕ = with_run c.memory AL_STATUS bytes in
-    let first_size : length first ≡ length c.memory = length-with_run c.memory bytes AL_STATUS (omega arith) in
+    let first_size : length first ≡ length c.memory =
+    length-with_run c.memory bytes AL_STATUS (omega arith) in
     let spelt : List ℕ = to_le_bytes w16 code in
     let low : get_or (with_run first AL_STATUS_CODE spelt) AL_STATUS_CODE 0 ≡ code % 256 =
     get_or-with_run_inside first spelt AL_STATUS_CODE 0 (omega arith) (omega arith) in
@@ -91,7 +113,8 @@ mailbox_length-le s active mailbox = grind (arith, nat_tests)
 -- the status of a sync manager stands in the memory
 sync_manager_at-status : (m : List ℕ) (i : ℕ) → (sync_manager_at m i).status ≡ get_or m (status_address i) 0
 unfolding sync_manager_at
-sync_manager_at-status m i = get_or-take 8 (drop (2048 + 8 * i) m) 5 0 (omega arith) ∙ get_or-drop (2048 + 8 * i) m 5 0
+sync_manager_at-status m i = get_or-take 8 (drop (2048 + 8 * i) m) 5 0 (omega arith)
+    ∙ get_or-drop (2048 + 8 * i) m 5 0
 
 -- a mail and zeros up to the longest length begin with the mail as it fills its area
 pub take-padded : (s : SyncMan) (mail : List ℕ) → length mail ≤ s.length → s.length ≤ 128

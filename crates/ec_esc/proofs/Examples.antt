@@ -1,17 +1,27 @@
--- The definitions, computed on small controllers: what FMMUs and areas let the master reach, and when an area is shown.
+-- The definitions, computed on small controllers: what FMMUs and areas let the master reach, and when an
+-- area is shown.
 use Rattle.std.proofs.Common.{◌≡◌, ℕ, true, false, eqb, List, [], ◌∷◌, ◌++◌, replicate, Some, None, refl}
 use Rattle.ec_regs.specs.Pairs.{partner, pair_count}
 use Rattle.ec_regs.specs.declared.fmmu.Fmmu.{Fmmu}
 use Rattle.ec_regs.specs.declared.sync_man.SyncMan.{SyncMan}
 use Rattle.ec_regs.specs.SyncMan.{is_active}
 use Rattle.ec_areas.specs.Areas.{guards, hides, locks, is_readable, is_writable}
-use Rattle.ec_areas.specs.Logical.{read_place, write_place, write_target, read_map, write_map, target_map, read_places, target_places, names}
-use Rattle.ec_areas.specs.Ranges.{meets, emptied_by, filled_by, gives_mail, takes_mail, takes_writes, some_address, serves_physical_read, serves_physical_write}
+use Rattle.ec_areas.specs.Logical.{read_place, write_place, write_target, read_map, write_map, target_map}
+use Rattle.ec_areas.specs.Logical.{read_places, target_places, names}
+use Rattle.ec_areas.specs.Ranges.{meets, emptied_by, filled_by, gives_mail, takes_mail, takes_writes}
+use Rattle.ec_areas.specs.Ranges.{some_address, serves_physical_read, serves_physical_write}
 use Rattle.ec_esc.specs.Writing.{shown_after, is_shown_anew}
 
 -- a buffered area with this control byte
 abbrev area : ℕ → ℕ → ℕ → SyncMan
-area start size control = record { start = start; length = size; control = control; status = 0; activate = 1; pdi = 0 }
+area start size control = record {
+  start = start;
+  length = size;
+  control = control;
+  status = 0;
+  activate = 1;
+  pdi = 0;
+}
 
 -- an FMMU that maps a run of logical bits onto memory from bit 0 of a byte on
 abbrev fmmu : ℕ → ℕ → ℕ → ℕ → ℕ → ℕ → Fmmu
@@ -98,11 +108,13 @@ memory = replicate 4096 0 ++ 170 ∷ 187 ∷ []
 abbrev outputs : List SyncMan
 outputs = area 4096 2 4 ∷ []
 
-first_byte_shows_nothing : shown_after (λ address. eqb address 4096) outputs outputs memory (0 ∷ 0 ∷ []) ≡ 0 ∷ 0 ∷ []
+first_byte_shows_nothing : shown_after (λ address. eqb address 4096) outputs outputs memory (0 ∷ 0 ∷ [])
+    ≡ 0 ∷ 0 ∷ []
 unfolding shown_after is_shown_anew guards is_active
 first_byte_shows_nothing = refl
 
-last_byte_shows_all : shown_after (λ address. eqb address 4097) outputs outputs memory (0 ∷ 0 ∷ []) ≡ 170 ∷ 187 ∷ []
+last_byte_shows_all : shown_after (λ address. eqb address 4097) outputs outputs memory (0 ∷ 0 ∷ [])
+    ≡ 170 ∷ 187 ∷ []
 unfolding shown_after is_shown_anew guards is_active
 last_byte_shows_all = refl
 
@@ -116,7 +128,9 @@ new_area_is_shown = refl
 
 -- a mailbox of 16 bytes at 0x1800 that the master writes, and one at 0x1880 that it reads, empty and full
 abbrev mailboxes : ℕ → List SyncMan
-mailboxes status = record (area 6144 16 6) { status = status } ∷ record (area 6272 16 2) { status = status } ∷ []
+mailboxes status = record (area 6144 16 6) { status = status } ∷ record (area 6272 16 2) {
+  status = status;
+} ∷ []
 
 a_part_fills_nothing : serves_physical_write [] (mailboxes 0) 6144 15 ≡ false
 unfolding filled_by takes_mail meets is_active some_address

@@ -1,5 +1,6 @@
 -- What a write leaves that writes nothing, or no register: statuses, shown bytes and the mark.
-use Rattle.std.proofs.Common.{◌≡◌, ℕ, zero, suc, ◌+◌, ◌-◌, ◌*◌, ◌/◌, ◌%◌, ◌<◌, ◌≤◌, Bool, true, false, ◌&&◌, ◌||◌, cond, eqb, leb, ltb, List, [], ◌∷◌, length, get_or}
+use Rattle.std.proofs.Common.{◌≡◌, ℕ, zero, suc, ◌+◌, ◌-◌, ◌*◌, ◌/◌, ◌%◌, ◌<◌, ◌≤◌, Bool, true, false, ◌&&◌}
+use Rattle.std.proofs.Common.{◌||◌, cond, eqb, leb, ltb, List, [], ◌∷◌, length, get_or}
 use Rattle.std.proofs.Common.{Option, None, Some, sym, ◌∙◌, ap, refl, arith, ⊎_elim}
 use Rattle.std.proofs.Math.Path.{fun_ext}
 use Rattle.std.proofs.lemmas.Bool.{cases_Bool}
@@ -22,7 +23,8 @@ use Rattle.ec_areas.proofs.MapLemmas.{names_nowhere}
 use Rattle.ec_areas.proofs.RecordLemmas.{SameRegisters, sync_manager_same, sync_managers_same}
 use Rattle.ec_areas.proofs.RunLemmas.{get_or-with_bits_kept}
 use Rattle.ec_esc.specs.State.{ControllerState, IsController}
-use Rattle.ec_esc.specs.Writing.{is_switched, settled, settled_byte, hands_over, is_shown_anew, shown_byte, shown_after}
+use Rattle.ec_esc.specs.Writing.{is_switched, settled, settled_byte, hands_over, is_shown_anew, shown_byte}
+use Rattle.ec_esc.specs.Writing.{shown_after}
 use Rattle.ec_esc.specs.Writing.{with_filled}
 use Rattle.ec_esc.specs.Pass.{Half, touches, nothing, written_by}
 use Rattle.ec_esc.proofs.SettledLemmas.{and_false}
@@ -35,10 +37,12 @@ switched_self true = refl
 switched_self false = refl
 
 -- a sync manager that stays is not switched
-switched_same : (before after : List ℕ) (i : ℕ) → SameRegisters before after → i < 8 → is_switched before after i ≡ false
+switched_same : (before after : List ℕ) (i : ℕ) → SameRegisters before after → i < 8
+    → is_switched before after i ≡ false
 switched_same before after i same below =
     let s : SyncMan = sync_manager_at before i in
-    ap (λ (t : SyncMan). cond (is_active s) (not (is_active t)) (is_active t)) (sync_manager_same before after i same below)
+    ap (λ (t : SyncMan). cond (is_active s) (not (is_active t)) (is_active t))
+    (sync_manager_same before after i same below)
     ∙ switched_self (is_active s)
 
 -- a byte of a sync manager's record is that of one of eight
@@ -58,15 +62,21 @@ settled_same before after same =
     let steady : settled_byte before after a ≡ get_or after a 0 =
     ⊎_elim
     (λ (register : is_in_sync_manager a ≡ true).
-    rw (switched_same before after (sync_manager_number a) same (number_below a register), and_false (is_in_sync_manager a && eqb (sync_manager_offset a) 5)) refl)
+    rw (
+      switched_same before after (sync_manager_number a) same (number_below a register),
+      and_false
+          (is_in_sync_manager a && eqb (sync_manager_offset a) 5),
+    ) refl)
     (λ (elsewhere : is_in_sync_manager a ≡ false). rw elsewhere refl)
     (cases_Bool (is_in_sync_manager a)) in
-    get_or-map-range_with_len (settled_byte before after) 0 (length after) a a 0 (omega arith) (omega arith) ∙ steady)
+    get_or-map-range_with_len (settled_byte before after) 0 (length after) a a 0 (omega arith)
+    (omega arith) ∙ steady)
 
 -- ---- shown bytes
 
 -- they depend on what is said of each address
-pub shown_after_same : (f g : ℕ → Bool) (befores afters : List SyncMan) (memory shown : List ℕ) → ((a : ℕ) → f a ≡ g a)
+pub shown_after_same : (f g : ℕ → Bool) (befores afters : List SyncMan) (memory shown : List ℕ)
+    → ((a : ℕ) → f a ≡ g a)
     → shown_after f befores afters memory shown ≡ shown_after g befores afters memory shown
 shown_after_same f g befores afters memory shown same =
     ap (λ (h : ℕ → Bool). shown_after h befores afters memory shown) (fun_ext same)
@@ -80,13 +90,15 @@ hands_over_nothing s =
     (cases_Bool (is_active s))
 
 -- so no byte is shown anew
-shown_anew_nothing : (managers : List SyncMan) (a : ℕ) → is_shown_anew (λ _. false) managers managers a ≡ false
+shown_anew_nothing : (managers : List SyncMan) (a : ℕ) → is_shown_anew (λ _. false) managers managers a
+    ≡ false
 unfolding is_shown_anew
 shown_anew_nothing [] a = refl
 shown_anew_nothing (s ∷ ss) a = rw (hands_over_nothing s, shown_anew_nothing ss a) refl
 
 -- and all shown bytes stay
-pub shown_after_nothing : (managers : List SyncMan) (memory shown : List ℕ) → shown_after (λ _. false) managers managers memory shown ≡ shown
+pub shown_after_nothing : (managers : List SyncMan) (memory shown : List ℕ)
+    → shown_after (λ _. false) managers managers memory shown ≡ shown
 unfolding shown_after
 shown_after_nothing managers memory shown =
     let byte = shown_byte (λ _. false) managers managers memory shown in
@@ -108,10 +120,12 @@ same_registers : (c : ControllerState) → length c.memory ≡ MEMORY_SIZE → S
 same_registers c size = record { size = refl; room = omega arith; bytes = λ a below. refl }
 
 -- a write of nothing leaves the controller
-pub written_by_nothing : (c : ControllerState) (payload : List ℕ) → AreBytes c.memory → length c.memory ≡ MEMORY_SIZE
+pub written_by_nothing : (c : ControllerState) (payload : List ℕ) → AreBytes c.memory → length c.memory
+    ≡ MEMORY_SIZE
     → written_by nothing payload c ≡ c
 written_by_nothing c payload are size =
-    let kept : with_bits c.memory payload (λ _. None) ≡ c.memory = with_bits_none c.memory payload (λ _. None) are (λ i inside. refl) in
+    let kept : with_bits c.memory payload (λ _. None)
+    ≡ c.memory = with_bits_none c.memory payload (λ _. None) are (λ i inside. refl) in
     let steady : settled c.memory (with_bits c.memory payload (λ _. None)) ≡ c.memory =
     ap (settled c.memory) kept ∙ settled_same c.memory c.memory (same_registers c size) in
     let managers = sync_managers_of c.memory in
@@ -120,25 +134,32 @@ written_by_nothing c payload are size =
       shown = shown_after (touches (λ _. None)) managers (sync_managers_of m) m c.shown;
       written = c.written || touches (λ _. None) AL_CONTROL;
     } in
-    let untouched : (a : ℕ) → touches (λ _. None) a ≡ false = λ a. names_nowhere (λ _. None) 8 (λ i below. refl) in
+    let untouched : (a : ℕ) → touches (λ _. None) a
+    ≡ false = λ a. names_nowhere (λ _. None) 8 (λ i below. refl) in
     let shown : shown_after (touches (λ _. None)) managers managers c.memory c.shown ≡ c.shown =
     shown_after_same (touches (λ _. None)) (λ _. false) managers managers c.memory c.shown untouched
     ∙ shown_after_nothing managers c.memory c.shown in
     let mark : (c.written || touches (λ _. None) AL_CONTROL) ≡ c.written =
     ap (λ b. c.written || b) (untouched AL_CONTROL) ∙ or_nothing c.written in
     ap F steady
-    ∙ ap (λ (s : List ℕ). record { memory = c.memory; shown = s; written = c.written || touches (λ _. None) AL_CONTROL }) shown
+    ∙ ap (λ (s : List ℕ). record {
+      memory = c.memory;
+      shown = s;
+      written = c.written || touches (λ _. None) AL_CONTROL;
+    }) shown
     ∙ ap (λ (w : Bool). record { memory = c.memory; shown = c.shown; written = w }) mark
 
 -- data that take nothing stay
-pub taken_nothing : (payload memory : List ℕ) → AreBytes payload → with_bits payload memory (λ _. None) ≡ payload
+pub taken_nothing : (payload memory : List ℕ) → AreBytes payload → with_bits payload memory (λ _. None)
+    ≡ payload
 taken_nothing payload memory are = with_bits_none payload memory (λ _. None) are (λ i inside. refl)
 
 -- ---- a write that reaches no register and fills no mailbox
 
 -- registers stay
 pub registers_kept : (c : ControllerState) (payload : List ℕ) (places : ℕ → Option ℕ) → IsController c
-    → ((p : ℕ) → p / 8 < PROCESS_MEMORY → places p ≡ None) → SameRegisters c.memory (with_bits c.memory payload places)
+    → ((p : ℕ) → p / 8 < PROCESS_MEMORY → places p ≡ None)
+    → SameRegisters c.memory (with_bits c.memory payload places)
 registers_kept c payload places controller none =
     let size = controller.memory_size in
     record {
@@ -155,7 +176,8 @@ pub written_plain : (c : ControllerState) (half : Half) (payload : List ℕ) →
     → written_by half payload c
     ≡ record c {
       memory = with_bits c.memory payload half.places;
-      shown = shown_after (touches half.places) (sync_managers_of c.memory) (sync_managers_of c.memory) (with_bits c.memory payload half.places) c.shown;
+      shown = shown_after (touches half.places) (sync_managers_of c.memory) (sync_managers_of c.memory)
+          (with_bits c.memory payload half.places) c.shown;
     }
 written_plain c half payload controller no_mail none =
     let memory : List ℕ = with_bits c.memory payload half.places in
@@ -170,7 +192,8 @@ written_plain c half payload controller no_mail none =
       written = w;
     } in
     let touched = c.written || touches half.places AL_CONTROL in
-    ap (λ (o : Option ℕ). F o (settled c.memory memory) (sync_managers_of (settled c.memory memory)) touched) no_mail
+    ap (λ (o : Option ℕ). F o (settled c.memory memory) (sync_managers_of
+    (settled c.memory memory)) touched) no_mail
     ∙ ap (λ (m : List ℕ). F None m (sync_managers_of m) touched) (settled_same c.memory memory same)
     ∙ ap (λ (ms : List SyncMan). F None memory ms touched) (sync_managers_same c.memory memory same)
     ∙ ap (F None memory managers) (ap (λ b. c.written || b) mark ∙ or_nothing c.written)

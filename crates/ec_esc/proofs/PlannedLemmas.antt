@@ -1,5 +1,7 @@
 -- Records that are kept decoded: which of them stay when bytes of a memory change.
-use Rattle.std.proofs.Common.{◌≡◌, ℕ, zero, suc, ◌+◌, ◌*◌, ◌/◌, ◌<◌, ◌≤◌, false, ◌&&◌, ltb, List, length, get_or, set, take, drop, sym, ◌∙◌, ap, refl, arith, ⊎_elim, below_more, get_or-set_same, get_or-set_other}
+use Rattle.std.proofs.Common.{◌≡◌, ℕ, zero, suc, ◌+◌, ◌*◌, ◌/◌, ◌<◌, ◌≤◌, false, ◌&&◌, ltb, List, length}
+use Rattle.std.proofs.Common.{get_or, set, take, drop, sym, ◌∙◌, ap, refl, arith, ⊎_elim, below_more}
+use Rattle.std.proofs.Common.{get_or-set_same, get_or-set_other}
 use Rattle.std.proofs.lemmas.Bool.{and_cases, le-ltb, ltb-false}
 use Rattle.std.proofs.lemmas.List.{ext_get_or, length-take-le, length-drop}
 use Rattle.ec_regs.specs.Bits.{AreBytes, with_bits}
@@ -32,7 +34,8 @@ registers_stay memory payload managers fmmus from n size are = record {
   bytes = λ a below.
       get_or-with_bits_kept memory payload (write_map managers fmmus from n) a are
       (λ b bit.
-      let byte : (8 * a + b) / 8 < 4096 = omega arith in write_map_register managers fmmus from n (8 * a + b) byte);
+      let byte : (8 * a + b) / 8 < 4096 = omega arith in write_map_register managers fmmus from n
+      (8 * a + b) byte);
 }
 
 -- ---- records outside a range that was written
@@ -60,7 +63,8 @@ run_stays before after from n at size changes inside apart =
     ∙ sym (get_or-run before at size k below))
 
 -- so an FMMU stays of whose record no byte changes
-pub fmmu_stays : (before after : List ℕ) (from n number : ℕ) → ChangesWithin from n before after → length before ≡ MEMORY_SIZE
+pub fmmu_stays : (before after : List ℕ) (from n number : ℕ) → ChangesWithin from n before after
+    → length before ≡ MEMORY_SIZE
     → number < 8 → (ltb (1536 + 16 * number) (from + n) && ltb from (1536 + 16 * number + 16)) ≡ false
     → fmmu_at after number ≡ fmmu_at before number
 unfolding fmmu_at
@@ -68,7 +72,8 @@ fmmu_stays before after from n number changes size below apart =
     ap fmmu_of (run_stays before after from n (1536 + 16 * number) 16 changes (omega arith) apart)
 
 -- and a sync manager
-pub manager_stays : (before after : List ℕ) (from n number : ℕ) → ChangesWithin from n before after → length before ≡ MEMORY_SIZE
+pub manager_stays : (before after : List ℕ) (from n number : ℕ) → ChangesWithin from n before after
+    → length before ≡ MEMORY_SIZE
     → number < 8 → (ltb (2048 + 8 * number) (from + n) && ltb from (2048 + 8 * number + 8)) ≡ false
     → sync_manager_at after number ≡ sync_manager_at before number
 unfolding sync_manager_at
@@ -100,7 +105,8 @@ pub renewed_none : {T : Type 0} (old : List T) (now : ℕ → T) → RenewedTo 0
 renewed_none old now = record { done = λ d j below. absurd (omega arith); waiting = λ d j behind. refl }
 
 -- one more that is decoded
-pub renewed_more : {T : Type 0} (n : ℕ) (old new : List T) (now : ℕ → T) → RenewedTo n old new now → n < length new
+pub renewed_more : {T : Type 0} (n : ℕ) (old new : List T) (now : ℕ → T) → RenewedTo n old new now
+    → n < length new
     → RenewedTo (n + 1) old (set new n (now n)) now
 renewed_more {T} n old new now so_far inside = record {
   done = λ d.
@@ -115,14 +121,16 @@ pub renewed_kept : {T : Type 0} (n : ℕ) (old new : List T) (now : ℕ → T) �
     → ((d : T) → get_or old n d ≡ now n) → RenewedTo (n + 1) old new now
 renewed_kept {T} n old new now so_far same = record {
   done = λ d.
-      below_more (λ (j : ℕ). get_or new j d ≡ now j) n (so_far.done d) (so_far.waiting d n (omega arith) ∙ same d);
+      below_more (λ (j : ℕ). get_or new j d ≡ now j) n (so_far.done d) (so_far.waiting d n (omega arith)
+      ∙ same d);
   waiting = λ d j behind. so_far.waiting d j (omega arith);
 }
 
 -- ---- all eight of them
 
 -- the FMMU with a number is the element there
-pub get_or-fmmus_of : (memory : List ℕ) (d : Fmmu) (i : ℕ) → i < 8 → get_or (fmmus_of memory) i d ≡ fmmu_at memory i
+pub get_or-fmmus_of : (memory : List ℕ) (d : Fmmu) (i : ℕ) → i < 8 → get_or (fmmus_of memory) i d
+    ≡ fmmu_at memory i
 unfolding fmmus_of
 get_or-fmmus_of memory d zero below = refl
 get_or-fmmus_of memory d (suc zero) below = refl
@@ -144,7 +152,8 @@ unfolding sync_managers_of
 length-sync_managers_of memory = refl
 
 -- FMMUs of which all are decoded anew are those of the memory
-pub fmmus_renewed : (old new : List Fmmu) (memory : List ℕ) → RenewedTo 8 old new (fmmu_at memory) → length new ≡ 8
+pub fmmus_renewed : (old new : List Fmmu) (memory : List ℕ) → RenewedTo 8 old new (fmmu_at memory)
+    → length new ≡ 8
     → new ≡ fmmus_of memory
 fmmus_renewed old new memory all size =
     let d : Fmmu = fmmu_at memory 0 in
@@ -153,7 +162,8 @@ fmmus_renewed old new memory all size =
     let below : j < 8 = omega arith in all.done d j below ∙ sym (get_or-fmmus_of memory d j below))
 
 -- and so are sync managers
-pub managers_renewed : (old new : List SyncMan) (memory : List ℕ) → RenewedTo 8 old new (sync_manager_at memory) → length new ≡ 8
+pub managers_renewed : (old new : List SyncMan) (memory : List ℕ)
+    → RenewedTo 8 old new (sync_manager_at memory) → length new ≡ 8
     → new ≡ sync_managers_of memory
 managers_renewed old new memory all size =
     let d : SyncMan = sync_manager_at memory 0 in
@@ -162,27 +172,31 @@ managers_renewed old new memory all size =
     let below : j < 8 = omega arith in all.done d j below ∙ sym (get_or-sync_managers_of memory d j below))
 
 -- all FMMUs stay where a range meets none of their bytes
-pub fmmus_stay : (before after : List ℕ) (from n : ℕ) → ChangesWithin from n before after → length before ≡ MEMORY_SIZE
+pub fmmus_stay : (before after : List ℕ) (from n : ℕ) → ChangesWithin from n before after
+    → length before ≡ MEMORY_SIZE
     → (ltb 1536 (from + n) && ltb from 1664) ≡ false → fmmus_of before ≡ fmmus_of after
 fmmus_stay before after from n changes size apart =
     fmmus_renewed (fmmus_of before) (fmmus_of before) after
     (record {
       done = λ d j below.
           get_or-fmmus_of before d j below
-          ∙ sym (fmmu_stays before after from n j changes size below (apart_within from n (1536 + 16 * j) 16 1664 (omega arith) 1536 (omega arith) apart));
+          ∙ sym (fmmu_stays before after from n j changes size below (apart_within from n
+          (1536 + 16 * j) 16 1664 (omega arith) 1536 (omega arith) apart));
       waiting = λ d j behind. refl;
     })
     (length-fmmus_of before)
 
 -- and so do all sync managers
-pub managers_stay : (before after : List ℕ) (from n : ℕ) → ChangesWithin from n before after → length before ≡ MEMORY_SIZE
+pub managers_stay : (before after : List ℕ) (from n : ℕ) → ChangesWithin from n before after
+    → length before ≡ MEMORY_SIZE
     → (ltb 2048 (from + n) && ltb from 2112) ≡ false → sync_managers_of before ≡ sync_managers_of after
 managers_stay before after from n changes size apart =
     managers_renewed (sync_managers_of before) (sync_managers_of before) after
     (record {
       done = λ d j below.
           get_or-sync_managers_of before d j below
-          ∙ sym (manager_stays before after from n j changes size below (apart_within from n (2048 + 8 * j) 8 2112 (omega arith) 2048 (omega arith) apart));
+          ∙ sym (manager_stays before after from n j changes size below (apart_within from n
+          (2048 + 8 * j) 8 2112 (omega arith) 2048 (omega arith) apart));
       waiting = λ d j behind. refl;
     })
     (length-sync_managers_of before)

@@ -1,5 +1,7 @@
 -- The status bytes of sync managers that a write switched on or off are cleared one after the other.
-use Rattle.std.proofs.Common.{◌≡◌, ◌≢◌, ℕ, ◌+◌, ◌<◌, Bool, true, false, ◌&&◌, leb, ltb, eqb, cond, List, length, get_or, set, sym, ◌∙◌, ap, refl, arith, ⊎_elim, get_or-set_same, get_or-set_other}
+use Rattle.std.proofs.Common.{◌≡◌, ◌≢◌, ℕ, ◌+◌, ◌<◌, Bool, true, false, ◌&&◌, leb, ltb, eqb, cond, List}
+use Rattle.std.proofs.Common.{length, get_or, set, sym, ◌∙◌, ap, refl, arith, ⊎_elim, get_or-set_same}
+use Rattle.std.proofs.Common.{get_or-set_other}
 use Rattle.std.proofs.lemmas.Bool.{cases_eq, cases_Bool}
 use Rattle.std.proofs.lemmas.Bool.Decides.{nat_tests}
 use Rattle.std.proofs.lemmas.List.{ext_get_or}
@@ -21,7 +23,8 @@ is_status a = is_in_sync_manager a && eqb (sync_manager_offset a) 5
 -- the byte at an address once the first n sync managers are settled
 abbrev pub settled_to : List ℕ → List ℕ → ℕ → ℕ → ℕ
 settled_to before after n a =
-    cond ((is_status a && is_switched before after (sync_manager_number a)) && ltb (sync_manager_number a) n) 0 (get_or after a 0)
+    cond ((is_status a && is_switched before after (sync_manager_number a)) && ltb
+    (sync_manager_number a) n) 0 (get_or after a 0)
 
 -- what is so and false is false
 pub and_false : (b : Bool) → (b && false) ≡ false
@@ -57,13 +60,15 @@ status_of n below =
     rw (low, high, offset) refl
 
 -- one sync manager more changes its own status byte alone
-settled_other : (before after : List ℕ) (n a : ℕ) → a ≢ status_address n → settled_to before after n a ≡ settled_to before after (n + 1) a
+settled_other : (before after : List ℕ) (n a : ℕ) → a ≢ status_address n → settled_to before after n a
+    ≡ settled_to before after (n + 1) a
 settled_other before after n a other =
     ⊎_elim
     (λ (status : is_status a ≡ true).
     let place : a ≡ status_address (sync_manager_number a) = status_is a status in
     let apart : sync_manager_number a ≢ n = λ e. other (place ∙ ap (λ (i : ℕ). status_address i) e) in
-    let same : ltb (sync_manager_number a) n ≡ ltb (sync_manager_number a) (n + 1) = grind (arith, nat_tests) in
+    let same : ltb (sync_manager_number a) n ≡ ltb (sync_manager_number a) (n + 1) =
+    grind (arith, nat_tests) in
     rw same refl)
     (λ (plain : is_status a ≡ false). rw plain refl)
     (cases_Bool (is_status a))
@@ -77,7 +82,8 @@ settled_more before after now n below inside switched so_far a =
     (λ (here : a ≡ status_address n).
     let number : sync_manager_number (status_address n) ≡ n = omega arith in
     let next : ltb n (n + 1) ≡ true = grind (arith, nat_tests) in
-    rw here (get_or-set_same now (status_address n) 0 0 inside ∙ rw (status_of n below, number, switched, next) refl))
+    rw here (get_or-set_same now (status_address n) 0 0 inside
+    ∙ rw (status_of n below, number, switched, next) refl))
     (λ (other : a ≢ status_address n).
     get_or-set_other now (status_address n) a 0 0 other ∙ so_far a ∙ settled_other before after n a other)
     (cases_eq a (status_address n))
@@ -99,7 +105,8 @@ settled_to_all : (before after : List ℕ) (a : ℕ) → settled_to before after
 settled_to_all before after a =
     ⊎_elim
     (λ (status : is_status a ≡ true).
-    let inside = both (leb 2048 a) (ltb a 2112) (both (is_in_sync_manager a) (eqb (sync_manager_offset a) 5) status).0 in
+    let inside = both (leb 2048 a) (ltb a 2112) (both (is_in_sync_manager a) (eqb
+    (sync_manager_offset a) 5) status).0 in
     let high : ltb a 2112 ≡ true = inside.1 in
     let below : ltb (sync_manager_number a) 8 ≡ true = grind (arith, nat_tests) in
     rw (below, and_true (is_status a && is_switched before after (sync_manager_number a))) refl)
@@ -107,32 +114,43 @@ settled_to_all before after a =
     (cases_Bool (is_status a))
 
 -- all are settled
-pub settled_all : (before after zs : List ℕ) → length zs ≡ length after → ((a : ℕ) → get_or zs a 0 ≡ settled_to before after 8 a) → zs ≡ settled before after
+pub settled_all : (before after zs : List ℕ) → length zs ≡ length after → ((a : ℕ) → get_or zs a 0
+    ≡ settled_to before after 8 a) → zs ≡ settled before after
 unfolding settled
 settled_all before after zs size bytes_are =
-    ext_get_or 0 zs (settled before after) (size ∙ sym (length-map-range_with_len (settled_byte before after) 0 (length after)))
+    ext_get_or 0 zs (settled before after) (size
+    ∙ sym (length-map-range_with_len (settled_byte before after) 0 (length after)))
     (λ a inside.
     bytes_are a
     ∙ settled_to_all before after a
-    ∙ sym (get_or-map-range_with_len (settled_byte before after) 0 (length after) a a 0 (omega arith) (omega arith)))
+    ∙ sym (get_or-map-range_with_len (settled_byte before after) 0 (length after) a a 0 (omega arith)
+    (omega arith)))
 
 -- the records of the memory before and of the memory after say which sync managers were switched
-pub switched_by_records : (arrived now : List ℕ) (before after : List SyncMan) (d e : SyncMan) (n : ℕ) (answer : Bool) → n < 8
+pub switched_by_records : (arrived now : List ℕ) (before after : List SyncMan) (d e : SyncMan) (n : ℕ)
+    (answer : Bool) → n < 8
     → before ≡ sync_managers_of arrived → after ≡ sync_managers_of now
-    → answer ≡ cond (is_active (get_or before n d)) (not (is_active (get_or after n e))) (is_active (get_or after n e))
+    → answer ≡ cond (is_active (get_or before n d)) (not (is_active (get_or after n e))) (is_active
+    (get_or after n e))
     → answer ≡ is_switched arrived now n
 switched_by_records arrived now before after d e n answer below before_is after_is told =
-    let was : get_or before n d ≡ sync_manager_at arrived n = ap (λ (ms : List SyncMan). get_or ms n d) before_is ∙ get_or-sync_managers_of arrived d n below in
-    let stands : get_or after n e ≡ sync_manager_at now n = ap (λ (ms : List SyncMan). get_or ms n e) after_is ∙ get_or-sync_managers_of now e n below in
+    let was : get_or before n d ≡ sync_manager_at arrived n =
+    ap (λ (ms : List SyncMan). get_or ms n d) before_is ∙ get_or-sync_managers_of arrived d n below in
+    let stands : get_or after n e ≡ sync_manager_at now n =
+    ap (λ (ms : List SyncMan). get_or ms n e) after_is ∙ get_or-sync_managers_of now e n below in
     told
-    ∙ ap (λ (s : SyncMan). cond (is_active s) (not (is_active (get_or after n e))) (is_active (get_or after n e))) was
-    ∙ ap (λ (s : SyncMan). cond (is_active (sync_manager_at arrived n)) (not (is_active s)) (is_active s)) stands
+    ∙ ap (λ (s : SyncMan). cond (is_active s) (not (is_active (get_or after n e))) (is_active
+    (get_or after n e))) was
+    ∙ ap (λ (s : SyncMan). cond (is_active (sync_manager_at arrived n)) (not (is_active s))
+    (is_active s)) stands
 
 -- the status byte of a sync manager that was not switched stays
-pub get_or-settled_steady : (before after : List ℕ) (n : ℕ) → n < 8 → status_address n < length after → is_switched before after n ≡ false
+pub get_or-settled_steady : (before after : List ℕ) (n : ℕ) → n < 8 → status_address n < length after
+    → is_switched before after n ≡ false
     → get_or (settled before after) (status_address n) 0 ≡ get_or after (status_address n) 0
 unfolding settled
 get_or-settled_steady before after n below inside steady =
     let number : sync_manager_number (status_address n) ≡ n = omega arith in
-    get_or-map-range_with_len (settled_byte before after) 0 (length after) (status_address n) (status_address n) 0 inside (omega arith)
+    get_or-map-range_with_len (settled_byte before after) 0 (length after) (status_address n)
+    (status_address n) 0 inside (omega arith)
     ∙ rw (status_of n below, number, steady) refl

@@ -14,17 +14,20 @@ use Rattle.ec_esc.specs.Writing.{shown_after}
 abbrev shown_state : ControllerState → DatagramRecord → List SyncMan → List Fmmu → List ℕ → ControllerState
 shown_state c d managers fmmus memory = record c {
   memory = memory;
-  shown = shown_after (λ byte. names (λ b. write_map managers fmmus (8 * d.address) (8 * length d.payload) (8 * byte + b)) 8) managers managers memory c.shown;
+  shown = shown_after (λ byte. names (λ b. write_map managers fmmus (8 * d.address)
+      (8 * length d.payload) (8 * byte + b)) 8) managers managers memory c.shown;
 }
 
 -- it is the state after a logical write where the memory was written through the controller's own FMMUs
-pub shown_state-written : (c : ControllerState) (d : DatagramRecord) (managers : List SyncMan) (fmmus : List Fmmu) (memory : List ℕ)
+pub shown_state-written : (c : ControllerState) (d : DatagramRecord) (managers : List SyncMan)
+    (fmmus : List Fmmu) (memory : List ℕ)
     → managers ≡ sync_managers_of c.memory → fmmus ≡ fmmus_of c.memory
     → memory ≡ with_bits c.memory d.payload (write_map managers fmmus (8 * d.address) (8 * length d.payload))
     → shown_state c d managers fmmus memory ≡ written_state c d
 shown_state-written c d managers fmmus memory managers_is fmmus_is memory_is =
     let written : List SyncMan → List Fmmu → ControllerState =
-    λ ms fs. shown_state c d ms fs (with_bits c.memory d.payload (write_map ms fs (8 * d.address) (8 * length d.payload)))
+    λ ms fs. shown_state c d ms fs (with_bits c.memory d.payload (write_map ms fs (8 * d.address)
+    (8 * length d.payload)))
     in
     ap (shown_state c d managers fmmus) memory_is
     ∙ ap (λ ms. written ms fmmus) managers_is

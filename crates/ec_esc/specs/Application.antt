@@ -1,15 +1,19 @@
--- The application's side of a controller: AL control and AL status, outputs and inputs, and mail (IEC 61158-4-12, sync
--- manager, and IEC 61158-6-12, AL management). What it writes stands in the memory alone, where the wire reads it; what it is
--- shown stays.
-use Rattle.std.specs.Prelude.{ℕ, ◌+◌, ◌-◌, ◌*◌, Bool, false, ◌==◌, ◌&&◌, not, nat_le, if◌then◌else◌, Option, None, Some, List, [], ◌∷◌, ◌++◌, length, take, drop, slice_index, slice_range, replicate}
+-- The application's side of a controller: AL control and AL status, outputs and inputs, and mail (IEC
+-- 61158-4-12, sync manager, and IEC 61158-6-12, AL management). What it writes stands in the memory alone,
+-- where the wire reads it; what it is shown stays.
+use Rattle.std.specs.Prelude.{ℕ, ◌+◌, ◌-◌, ◌*◌, Bool, false, ◌==◌, ◌&&◌, not, nat_le, if◌then◌else◌, Option}
+use Rattle.std.specs.Prelude.{None, Some, List, [], ◌∷◌, ◌++◌, length, take, drop, slice_index, slice_range}
+use Rattle.std.specs.Prelude.{replicate}
 use Rattle.std.specs.Int.{w16, to_le_bytes}
 use Rattle.ec_regs.specs.Al.{status_byte, status_of}
 use Rattle.ec_regs.specs.declared.al.AlStatus.{AlStatus}
 use Rattle.ec_regs.specs.declared.sync_man.SyncMan.{SyncMan}
-use Rattle.ec_regs.specs.declared.registers.TheConstants.{AL_CONTROL, AL_STATUS, AL_STATUS_CODE, PROCESS_MEMORY}
+use Rattle.ec_regs.specs.declared.registers.TheConstants.{AL_CONTROL, AL_STATUS, AL_STATUS_CODE}
+use Rattle.ec_regs.specs.declared.registers.TheConstants.{PROCESS_MEMORY}
 use Rattle.ec_esc.specs.declared.application.AreaFault.{AreaFault}
 use Rattle.ec_esc.specs.declared.application.AreaFault.TheVariants.{NotActive, WrongKind, WrongLength, Busy}
-use Rattle.ec_regs.specs.SyncMan.{guards_outputs, is_active, is_buffered, is_mailbox, master_reads, master_writes}
+use Rattle.ec_regs.specs.SyncMan.{guards_outputs, is_active, is_buffered, is_mailbox, master_reads}
+use Rattle.ec_regs.specs.SyncMan.{master_writes}
 use Rattle.ec_esc.specs.Writing.{with_emptied, with_filled}
 use Rattle.ec_regs.specs.SyncMan.{is_full}
 use Rattle.ec_areas.specs.Records.{sync_manager_at}
@@ -27,9 +31,9 @@ with_control_taken c = record c { written = false }
 
 -- the controller with this AL status, whose high byte is 0, and this AL status code, its low byte first
 abbrev pub with_al : ControllerState → AlStatus → ℕ → ControllerState
-with_al c status code = record c {
-  memory = with_run (with_run c.memory AL_STATUS (status_byte status ∷ 0 ∷ [])) AL_STATUS_CODE (to_le_bytes w16 code);
-}
+with_al c status code =
+    let with_status = with_run c.memory AL_STATUS (status_byte status ∷ 0 ∷ []) in
+    record c { memory = with_run with_status AL_STATUS_CODE (to_le_bytes w16 code) }
 
 -- its AL status and its AL status code
 abbrev pub al_status : ControllerState → AlStatus

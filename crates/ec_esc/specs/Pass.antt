@@ -1,7 +1,8 @@
--- The pass of a frame through a controller. The command of a datagram says which memory bits its data take and which
--- data bits the memory takes; one rule carries that out (IEC 61158-4-12, processing of datagrams, physical memory
--- access and the FMMU). The next datagram finds the memory as it was left.
-use Rattle.std.specs.Prelude.{ℕ, ◌+◌, ◌-◌, ◌*◌, ◌/◌, ◌%◌, Bool, true, false, ◌==◌, ◌&&◌, ◌||◌, if◌then◌else◌, Option, None, Some}
+-- The pass of a frame through a controller. The command of a datagram says which memory bits its data take
+-- and which data bits the memory takes; one rule carries that out (IEC 61158-4-12, processing of datagrams,
+-- physical memory access and the FMMU). The next datagram finds the memory as it was left.
+use Rattle.std.specs.Prelude.{ℕ, ◌+◌, ◌-◌, ◌*◌, ◌/◌, ◌%◌, Bool, true, false, ◌==◌, ◌&&◌, ◌||◌}
+use Rattle.std.specs.Prelude.{if◌then◌else◌, Option, None, Some}
 use Rattle.std.specs.Prelude.{List, [], ◌∷◌, length, slice_index}
 use Rattle.ec_regs.specs.Bits.{bit, with_bits}
 use Rattle.ec_regs.specs.declared.registers.TheConstants.{STATION_ADDRESS, AL_CONTROL}
@@ -12,7 +13,8 @@ use Rattle.ec_wire.specs.declared.command.Addressing.TheVariants.{Nobody, Place,
 use Rattle.ec_wire.specs.declared.command.Command.{Command}
 use Rattle.ec_areas.specs.Records.{fmmus_of, sync_managers_of}
 use Rattle.ec_areas.specs.Logical.{read_places, target_places, write_map, names}
-use Rattle.ec_areas.specs.Ranges.{within, takes_writes, serves_physical_read, serves_physical_write, emptied_by, filled_by}
+use Rattle.ec_areas.specs.Ranges.{within, takes_writes, serves_physical_read, serves_physical_write}
+use Rattle.ec_areas.specs.Ranges.{emptied_by, filled_by}
 use Rattle.ec_esc.specs.State.{ControllerState, word_at}
 use Rattle.ec_esc.specs.Writing.{settled, shown_after, with_emptied, with_filled}
 
@@ -24,7 +26,8 @@ read_sources c address = read_places (sync_managers_of c.memory) (fmmus_of c.mem
 
 -- the data bit of each memory bit, where a writable pair names it
 abbrev pub write_sources : ControllerState → ℕ → ℕ → ℕ → Option ℕ
-write_sources c address count = write_map (sync_managers_of c.memory) (fmmus_of c.memory) (8 * address) (8 * count)
+write_sources c address count =
+    write_map (sync_managers_of c.memory) (fmmus_of c.memory) (8 * address) (8 * count)
 
 -- is there a readable pair in the range
 abbrev pub serves_read : ControllerState → ℕ → ℕ → Bool
@@ -74,8 +77,8 @@ is_addressed Station c address = adp_of address == word_at c.memory STATION_ADDR
 is_addressed All c address = true
 is_addressed Logical c address = true
 
--- one way between the data and the memory: the bit that each bit of its end is taken from, what the working counter
--- gains, and the sync manager whose mailbox is emptied or filled
+-- one way between the data and the memory: the bit that each bit of its end is taken from, what the working
+-- counter gains, and the sync manager whose mailbox is emptied or filled
 pub record Half : Type 0 where
   pub places : ℕ → Option ℕ
   pub gain : ℕ
@@ -92,7 +95,8 @@ where_served served half = if served then half else nothing
 -- what the data take
 abbrev pub read_half : Addressing → ControllerState → ℕ → ℕ → Half
 read_half Logical c address count =
-    where_served (serves_read c address count) (record { places = read_sources c address; gain = 1; mail = None })
+    where_served (serves_read c address count)
+    (record { places = read_sources c address; gain = 1; mail = None })
 read_half All c address count =
     let from = ado_of address in
     where_served (serves_range_read c from count)
@@ -145,14 +149,15 @@ datagram_after e c d = record d {
   counter = counter_after d (e.reading.gain + e.writing.gain);
 }
 
--- the controller once its memory took data bits: the statuses of sync managers that this switched, the areas that it
--- shows anew, the mailbox that it fills, and the mark of AL control
+-- the controller once its memory took data bits: the statuses of sync managers that this switched, the
+-- areas that it shows anew, the mailbox that it fills, and the mark of AL control
 abbrev pub written_by : Half → List ℕ → ControllerState → ControllerState
 written_by half payload c =
     let memory = settled c.memory (with_bits c.memory payload half.places) in
+    let before = sync_managers_of c.memory in
     record {
       memory = with_filled half.mail memory;
-      shown = shown_after (touches half.places) (sync_managers_of c.memory) (sync_managers_of memory) memory c.shown;
+      shown = shown_after (touches half.places) before (sync_managers_of memory) memory c.shown;
       written = c.written || touches half.places AL_CONTROL;
     }
 

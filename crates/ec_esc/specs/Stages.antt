@@ -1,12 +1,15 @@
--- Stages of the code, which its private contracts cite and nothing above: a read, a write and both at once of a logical
--- datagram and of a range, where the controller is addressed; and a physical write once its bytes stand in the memory.
-use Rattle.std.specs.Prelude.{ℕ, ◌+◌, ◌*◌, ◌%◌, ◌<◌, Bool, ◌==◌, ◌&&◌, ◌||◌, if◌then◌else◌, Option, None, List, length}
+-- Stages of the code, which its private contracts cite and nothing above: a read, a write and both at once
+-- of a logical datagram and of a range, where the controller is addressed; and a physical write once its
+-- bytes stand in the memory.
+use Rattle.std.specs.Prelude.{ℕ, ◌+◌, ◌*◌, ◌%◌, ◌<◌, Bool, ◌==◌, ◌&&◌, ◌||◌, if◌then◌else◌, Option, None}
+use Rattle.std.specs.Prelude.{List, length}
 use Rattle.ec_regs.specs.Bits.{AreBytes, with_bits}
 use Rattle.ec_regs.specs.declared.registers.TheConstants.{STATION_ADDRESS, AL_CONTROL}
 use Rattle.ec_regs.specs.declared.sync_man.SyncMan.{SyncMan}
 use Rattle.ec_wire.specs.Datagram.{DatagramRecord, adp, ado}
 use Rattle.ec_wire.specs.declared.command.Command.{Command}
-use Rattle.ec_wire.specs.declared.command.Command.TheVariants.{Aprd, Apwr, Aprw, Fprd, Fpwr, Fprw, Brd, Bwr, Lrd, Lwr, Lrw}
+use Rattle.ec_wire.specs.declared.command.Command.TheVariants.{Aprd, Apwr, Aprw, Fprd, Fpwr, Fprw, Brd, Bwr}
+use Rattle.ec_wire.specs.declared.command.Command.TheVariants.{Lrd, Lwr, Lrw}
 use Rattle.ec_areas.specs.Records.{sync_managers_of}
 use Rattle.ec_areas.specs.Logical.{names}
 use Rattle.ec_areas.specs.Ranges.{within, takes_writes, filled_by}
@@ -82,7 +85,8 @@ written_memory c d = with_bits c.memory d.payload (write_sources c d)
 abbrev pub writes_byte : ControllerState → DatagramRecord → ℕ → Bool
 writes_byte c d address = names (λ b. write_sources c d (8 * address + b)) 8
 
--- the controller after a logical write; it reaches process memory alone, so no area becomes active or inactive
+-- the controller after a logical write; it reaches process memory alone, so no area becomes active or
+-- inactive
 abbrev pub written_state : ControllerState → DatagramRecord → ControllerState
 written_state c d =
     let managers = sync_managers_of c.memory in
@@ -91,7 +95,8 @@ written_state c d =
 
 -- LRD: the data take the readable bits; 1 is counted where there is one
 abbrev pub logical_read : ControllerState → DatagramRecord → DatagramRecord
-logical_read c d = record d { payload = read_data c d; counter = counter_after d (if_served (serves_read c d) 1) }
+logical_read c d =
+    record d { payload = read_data c d; counter = counter_after d (if_served (serves_read c d) 1) }
 
 -- LWR: the memory takes the writable bits; 1 is counted where there is one
 abbrev pub logical_write : ControllerState → DatagramRecord → Passed
@@ -103,7 +108,10 @@ logical_write c d = record {
 -- LRW: both, each on what arrived; 1 is counted for the read and 2 for the write
 abbrev pub logical_exchange : ControllerState → DatagramRecord → Passed
 logical_exchange c d = record {
-  datagram = record d { payload = read_data c d; counter = counter_after d (if_served (serves_read c d) 1 + if_served (serves_write c d) 2) };
+  datagram = record d {
+    payload = read_data c d;
+    counter = counter_after d (if_served (serves_read c d) 1 + if_served (serves_write c d) 2);
+  };
   state = written_state c d;
 }
 
@@ -138,7 +146,10 @@ range_written c d =
 abbrev pub physical_read : (ℕ → Option ℕ) → ControllerState → DatagramRecord → Passed
 physical_read sources c d =
     if serves_range_read c d
-    then record { datagram = record d { payload = with_bits d.payload c.memory sources; counter = counter_after d 1 }; state = read_out c d }
+    then record {
+      datagram = record d { payload = with_bits d.payload c.memory sources; counter = counter_after d 1 };
+      state = read_out c d;
+    }
     else no_change c d
 
 -- a write: where it is served the memory takes the data, and 1 is counted

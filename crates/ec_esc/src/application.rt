@@ -1,6 +1,6 @@
-//! The application's side of a controller: AL control and AL status (IEC 61158-6-12, AL management), and the areas
-//! of its sync managers (IEC 61158-4-12, sync manager). What the application writes stands in the memory alone,
-//! where the wire reads it; the bytes that it is shown stay.
+//! The application's side of a controller: AL control and AL status (IEC 61158-6-12, AL management), and
+//! the areas of its sync managers (IEC 61158-4-12, sync manager). What the application writes stands in the
+//! memory alone, where the wire reads it; the bytes that it is shown stay.
 
 ghost use Rattle.std.specs.Prelude.{true, false, ◌≡◌, ◌+◌, ◌-◌, ◌<◌, ◌≤◌, IfOk};
 ghost use Rattle.std.specs.Prelude.{OnOk, OnErr, Some, ◌++◌, length, slice_index, option_map, replicate};
@@ -9,8 +9,10 @@ ghost use Rattle.ec_regs.specs.declared.registers.TheConstants.{PROCESS_MEMORY, 
 ghost use Rattle.ec_regs.specs.SyncMan.{is_full};
 ghost use Rattle.ec_areas.specs.Records.{sync_manager_at};
 ghost use Rattle.ec_esc.specs.State.{word_at};
-ghost use Rattle.ec_esc.specs.Application.{new_control, with_control_taken, with_al, al_status, al_status_code, outputs_of};
-ghost use Rattle.ec_esc.specs.Application.{put_inputs_fault, with_inputs, take_mail_fault, mail_of, with_mail_taken, put_mail_fault, with_mail_put};
+ghost use Rattle.ec_esc.specs.Application.{new_control, with_control_taken, with_al, al_status};
+ghost use Rattle.ec_esc.specs.Application.{al_status_code, outputs_of};
+ghost use Rattle.ec_esc.specs.Application.{put_inputs_fault, with_inputs, take_mail_fault, mail_of};
+ghost use Rattle.ec_esc.specs.Application.{with_mail_taken, put_mail_fault, with_mail_put};
 
 use crate::controller::Controller;
 use arrayvec::ArrayVec;
@@ -20,8 +22,8 @@ use ec_regs::{AlStatus, LONGEST_MAILBOX, SyncMan};
 /// The longest mail, in bytes: the whole of the longest mailbox.
 pub const LONGEST_MAIL: usize = LONGEST_MAILBOX as usize;
 
-/// Why the application may not use an area as it asked to (IEC 61158-4-12, sync manager, buffered mode and mailbox
-/// mode). Where several hold, the first of them in this order is told.
+/// Why the application may not use an area as it asked to (IEC 61158-4-12, sync manager, buffered mode and
+/// mailbox mode). Where several hold, the first of them in this order is told.
 #[derive(Clone, Copy, PartialEq, Eq, Debug)]
 pub enum AreaFault {
     /// The sync manager is not active: it guards no area.
@@ -109,8 +111,8 @@ impl Controller {
         u16::from_le_bytes([self.byte(address), self.byte(address + 1)])
     }
 
-    /// AL control (IEC 61158-6-12, AL control), if the master wrote it since the last such call, or `None`; the mark
-    /// that it was written is cleared, and all else stays.
+    /// AL control (IEC 61158-6-12, AL control), if the master wrote it since the last such call, or `None`;
+    /// the mark that it was written is cleared, and all else stays.
     pub fn take_control(&mut self) -> Option<u16>
         ensures value { result ≡ new_control self.old }
         ensures state { self.new ≡ with_control_taken self.old }
@@ -120,8 +122,8 @@ impl Controller {
         is_new.then_some(self.word(AL_CONTROL))
     }
 
-    /// Sets AL status, whose high byte becomes 0, and the AL status code, which tells why a request was refused
-    /// (IEC 61158-6-12, AL status and AL status code); all else stays.
+    /// Sets AL status, whose high byte becomes 0, and the AL status code, which tells why a request was
+    /// refused (IEC 61158-6-12, AL status and AL status code); all else stays.
     pub fn set_al(&mut self, status: AlStatus, code: u16)
         ensures state { self.new ≡ with_al self.old status code }
         ensures status { al_status self.new ≡ status }
@@ -142,8 +144,8 @@ impl Controller {
         )
     }
 
-    /// The outputs in the area of a sync manager, 0 to 7, as the application is shown them, or `None` where it guards
-    /// no buffered area that the master writes (IEC 61158-4-12, sync manager, buffered mode).
+    /// The outputs in the area of a sync manager, 0 to 7, as the application is shown them, or `None` where
+    /// it guards no buffered area that the master writes (IEC 61158-4-12, sync manager, buffered mode).
     pub fn outputs(&self, sm: usize) -> Option<&[u8]>
         requires { sm < 8 }
         ensures { option_map (λ bytes. bytes.now) result ≡ outputs_of self.now sm }
@@ -156,8 +158,9 @@ impl Controller {
         }
     }
 
-    /// Writes the inputs of a sync manager, 0 to 7: all bytes of its area, which is buffered and which the master reads
-    /// (IEC 61158-4-12, sync manager, buffered mode); all else stays. On an error nothing changes.
+    /// Writes the inputs of a sync manager, 0 to 7: all bytes of its area, which is buffered and which the
+    /// master reads (IEC 61158-4-12, sync manager, buffered mode); all else stays. On an error nothing
+    /// changes.
     pub fn put_inputs(&mut self, sm: usize, bytes: &[u8]) -> Result<(), AreaFault>
         requires { sm < 8 }
         ensures ok { OnOk result (self.new ≡ with_inputs self.old sm bytes.now) }
@@ -170,8 +173,9 @@ impl Controller {
         Ok(())
     }
 
-    /// Takes the mail of the master from the mailbox of a sync manager, 0 to 7: gives its whole area, 16 to 128 bytes,
-    /// and marks it empty (IEC 61158-4-12, sync manager, mailbox mode); all else stays. On an error nothing changes.
+    /// Takes the mail of the master from the mailbox of a sync manager, 0 to 7: gives its whole area, 16 to
+    /// 128 bytes, and marks it empty (IEC 61158-4-12, sync manager, mailbox mode); all else stays. On an
+    /// error nothing changes.
     pub fn take_mail(&mut self, sm: usize) -> Result<ArrayVec<u8, LONGEST_MAIL>, AreaFault>
         requires { sm < 8 }
         ensures mail { IfOk result (λ mail. mail.items
@@ -189,9 +193,9 @@ impl Controller {
         Ok(mail)
     }
 
-    /// Puts a mail for the master into the mailbox of a sync manager, 0 to 7: its area takes the bytes and zeros after
-    /// them, and it is marked full (IEC 61158-4-12, sync manager, mailbox mode); all else stays. On an error nothing
-    /// changes.
+    /// Puts a mail for the master into the mailbox of a sync manager, 0 to 7: its area takes the bytes and
+    /// zeros after them, and it is marked full (IEC 61158-4-12, sync manager, mailbox mode); all else
+    /// stays. On an error nothing changes.
     pub fn put_mail(&mut self, sm: usize, bytes: &[u8]) -> Result<(), AreaFault>
         requires { sm < 8 }
         ensures ok { OnOk result (self.new ≡ with_mail_put self.old sm bytes.now) }
@@ -226,8 +230,8 @@ mod tests {
         }
     }
 
-    /// The controller of station 0x1203: a mailbox that the master writes (0) and one that it reads (1), one byte of
-    /// outputs (2), which is 12, and two bytes of inputs (3).
+    /// The controller of station 0x1203: a mailbox that the master writes (0) and one that it reads (1),
+    /// one byte of outputs (2), which is 12, and two bytes of inputs (3).
     fn controller(alloc: Global) -> Result<Controller, NoMemory> {
         let mut slave = Controller::new(alloc, 0x1203)?;
         slave.load(0x1000, &[0x12]);

@@ -47,8 +47,8 @@ fn zeros(alloc: Global, count: usize) -> Result<Vec<u8>, AllocError>
 impl Controller {
     ghost use Rattle.ec_esc.specs.State.{IsFresh, with_area_shown, with_fmmu, with_sync_manager, with_bytes};
 
-    /// A controller with this station address, in Init; all else of it is 0. It fails only where the allocator
-    /// has no room for its 20,480 bytes.
+    /// A controller with this station address, in Init; all else of it is 0. It fails only where the
+    /// allocator has no room for its 20,480 bytes.
     pub fn new(alloc: Global, station: u16) -> Result<Controller, NoMemory>
         ensures { IfOk result (IsFresh station) }
     {
@@ -93,7 +93,9 @@ impl Controller {
     pub(crate) fn show_area(&mut self, manager: &SyncMan)
         requires from { PROCESS_MEMORY ≤ manager.now.start }
         requires to { manager.now.start + manager.now.length ≤ MEMORY_SIZE }
-        ensures { self.new ≡ record self.old { shown = with_area_shown manager.now self.old.memory self.old.shown } }
+        ensures { self.new ≡ record self.old {
+          shown = with_area_shown manager.now self.old.memory self.old.shown;
+        } }
     {
         let from = manager.start as usize;
         let size = manager.length as usize;
@@ -102,8 +104,8 @@ impl Controller {
         self.shown[place..place + size].copy_from_slice(area);
     }
 
-    /// Sets the record of a sync manager with status 0. Where it is active then, its area is shown as it stands in
-    /// the memory; all else stays.
+    /// Sets the record of a sync manager with status 0. Where it is active then, its area is shown as it
+    /// stands in the memory; all else stays.
     pub fn set_syncman(&mut self, i: usize, manager: &SyncMan)
         requires { i < 8 }
         ensures { self.new ≡ with_sync_manager self.old i (record manager.now { status = 0 }) }

@@ -1,4 +1,5 @@
-//! A mailbox is filled and emptied: bit 3 of its sync manager's status byte (IEC 61158-4-12, sync manager, mailbox mode).
+//! A mailbox is filled and emptied: bit 3 of its sync manager's status byte (IEC 61158-4-12, sync manager,
+//! mailbox mode).
 
 ghost use Rattle.std.specs.Prelude.{◌≡◌, ◌<◌, Some, length};
 ghost use Rattle.ec_regs.specs.declared.registers.TheConstants.{MEMORY_SIZE};

@@ -1,5 +1,5 @@
-//! The physical commands: reads, writes and exchanges of a range of addresses, by the controller's place on the line,
-//! by its station address, or by all (IEC 61158-4-12, physical memory access).
+//! The physical commands: reads, writes and exchanges of a range of addresses, by the controller's place on
+//! the line, by its station address, or by all (IEC 61158-4-12, physical memory access).
 
 ghost use Rattle.std.specs.Prelude.{◌≡◌, ◌+◌, ◌*◌, ◌/◌, ◌%◌, ◌≤◌};
 ghost use Rattle.std.specs.Prelude.{◌<◌, length, slice_set, slice_index, true, IsTrue};
@@ -10,7 +10,8 @@ ghost use Rattle.ec_areas.specs.Records.{sync_managers_of};
 ghost use Rattle.ec_areas.specs.Ranges.{emptied_by};
 ghost use Rattle.ec_areas.specs.Ranges.{status_address};
 ghost use Rattle.ec_esc.specs.Stages.{is_first, is_station, read_out, physical_read};
-ghost use Rattle.ec_esc.specs.Stages.{range_written, physical_write, physical_exchange, if_addressed, counted_up};
+ghost use Rattle.ec_esc.specs.Stages.{range_written, physical_write, physical_exchange, if_addressed};
+ghost use Rattle.ec_esc.specs.Stages.{counted_up};
 ghost use Rattle.ec_wire.specs.Datagram.{adp, ado};
 ghost use Rattle.ec_esc.specs.Writing.{with_emptied};
 ghost use Rattle.ec_esc.specs.Stages.{serves_range_read, range_sources};
@@ -144,8 +145,8 @@ impl Controller {
         }
     }
 
-    /// Counts a read of the datagram at `k` whose data were filled, and empties the mailbox that it takes, if it takes
-    /// one; all else stays.
+    /// Counts a read of the datagram at `k` whose data were filled, and empties the mailbox that it takes,
+    /// if it takes one; all else stays.
     fn finish_read(&mut self, frame: &mut FrameBuf, k: usize)
         requires at { k < length frame.old }
         requires inside { ado (nth frame.old k) + length (nth frame.old k).payload ≤ MEMORY_SIZE }
@@ -181,7 +182,8 @@ impl Controller {
             ≡ slice_set frame.old k (physical_read (broadcast_sources self.old (nth frame.old k)) self.old
             (nth frame.old k)).datagram }
         ensures state { self.new
-            ≡ (physical_read (broadcast_sources self.old (nth frame.old k)) self.old (nth frame.old k)).state }
+            ≡ (physical_read (broadcast_sources self.old (nth frame.old k)) self.old
+            (nth frame.old k)).state }
     {
         if self.serves_read(frame, k) {
             self.merge_data(frame, k);
@@ -254,7 +256,8 @@ impl Controller {
         }
     }
 
-    /// A read and a write of the range of the datagram at `k`, each where it is served; all other datagrams stay.
+    /// A read and a write of the range of the datagram at `k`, each where it is served; all other datagrams
+    /// stay.
     fn physical_exchange(&mut self, frame: &mut FrameBuf, k: usize)
         requires { k < length frame.old }
         ensures frame { frame.new
@@ -298,7 +301,8 @@ impl Controller {
         }
     }
 
-    /// The pass of the AP command at `k`: the controller that finds ADP 0 is addressed, and each counts it up.
+    /// The pass of the AP command at `k`: the controller that finds ADP 0 is addressed, and each counts it
+    /// up.
     pub(crate) fn by_position(&mut self, frame: &mut FrameBuf, k: usize, access: Access)
         requires { k < length frame.old }
         ensures frame { frame.new

@@ -1,9 +1,10 @@
-//! What a physical write leaves in a controller: the bytes that it wrote, the status of sync managers that it switched
-//! or filled, the shown bytes, and the mark that AL control was written (IEC 61158-4-12, physical memory access, sync
-//! manager).
+//! What a physical write leaves in a controller: the bytes that it wrote, the status of sync managers that
+//! it switched or filled, the shown bytes, and the mark that AL control was written (IEC 61158-4-12,
+//! physical memory access, sync manager).
 
 ghost use Rattle.std.specs.Prelude.{◌≡◌, ◌+◌, ◌-◌, ◌*◌, ◌/◌, ◌<◌, ◌≤◌, ◌&&◌};
-ghost use Rattle.std.specs.Prelude.{◌||◌, not, ℕ, List, length, slice_set, slice_index, if◌then◌else◌, IsTrue};
+ghost use Rattle.std.specs.Prelude.{◌||◌, not, ℕ, List, length, slice_set, slice_index, if◌then◌else◌};
+ghost use Rattle.std.specs.Prelude.{IsTrue};
 ghost use Rattle.std.specs.Int.{bit_at};
 ghost use Rattle.ec_regs.specs.Bits.{AreBytes, with_bits};
 ghost use Rattle.ec_regs.specs.declared.registers.TheConstants.{MEMORY_SIZE, AL_CONTROL};
@@ -99,8 +100,8 @@ fn is_switched(before: &PlannedSyncMan, after: &PlannedSyncMan) -> bool
     before.is_active() != after.is_active()
 }
 
-/// Clears the status of each sync manager that a write switched on or off; all else stays. The records are those on
-/// arrival.
+/// Clears the status of each sync manager that a write switched on or off; all else stays. The records are
+/// those on arrival.
 fn settle(memory: &mut PlannedMemory, before: &[PlannedSyncMan; 8])
     ensures value { (arrived : List ℕ) → before.now ≡ sync_managers_of arrived → memory.new
         ≡ settled arrived memory.old }
@@ -130,7 +131,8 @@ fn last_byte_written(
     within(from, count, last) && takes_writes(before, last)
 }
 
-/// Of which areas a write of the range reaches the last byte, by number. The first records are those on arrival.
+/// Of which areas a write of the range reaches the last byte, by number. The first records are those on
+/// arrival.
 fn last_bytes_written(
     before: &[PlannedSyncMan; 8],
     after: &[PlannedSyncMan; 8],
@@ -161,8 +163,8 @@ impl Controller {
         self.show_written(before, &after, &reached);
     }
 
-    /// Fills the mailbox that a write of the range fills, if it fills one; all else stays. The records are those on
-    /// arrival.
+    /// Fills the mailbox that a write of the range fills, if it fills one; all else stays. The records are
+    /// those on arrival.
     fn fill_range(&mut self, before: &[PlannedSyncMan; 8], from: u16, count: u16)
         ensures { self.new ≡ record self.old
             { memory = with_filled (filled_by before.now from count) self.old.memory } }
@@ -182,8 +184,8 @@ impl Controller {
         }
     }
 
-    /// What is left to do once the bytes of the range were written: statuses, shown bytes, mail and mark. The records
-    /// are those on arrival.
+    /// What is left to do once the bytes of the range were written: statuses, shown bytes, mail and mark.
+    /// The records are those on arrival.
     fn finish_write(&mut self, before: &[PlannedSyncMan; 8], from: u16, count: u16)
         ensures { (arrived : List ℕ) → before.now ≡ sync_managers_of arrived
             → self.new ≡ finished arrived before.now from count self.old }

@@ -21,8 +21,8 @@ pub(crate) fn are_bytes(bytes: &[u8])
 }
 
 impl Controller {
-    /// One pass of a frame: its datagrams are processed from left to right, and each finds the memory as the one
-    /// before left it. NOP, BRW, ARMW and FRMW go through unchanged.
+    /// One pass of a frame: its datagrams are processed from left to right, and each finds the memory as
+    /// the one before left it. NOP, BRW, ARMW and FRMW go through unchanged.
     pub fn process(&mut self, frame: &mut FrameBuf)
         ensures frame { frame.new ≡ (frame_pass self.old frame.old).frame }
         ensures state { self.new ≡ (frame_pass self.old frame.old).state }
@@ -81,7 +81,9 @@ impl Controller {
     /// whether there is such a bit; all else stays.
     pub(crate) fn fill_data(&self, frame: &mut FrameBuf, k: usize) -> bool
         requires { k < length frame.old }
-        ensures frame { frame.new ≡ slice_set frame.old k (record (nth frame.old k) { payload = read_data self.now (nth frame.old k) }) }
+        ensures frame { frame.new ≡ slice_set frame.old k (record (nth frame.old k) {
+          payload = read_data self.now (nth frame.old k);
+        }) }
         ensures served { result ≡ serves_read self.now (nth frame.old k) }
     {
         let managers = self.memory.managers();

@@ -11,8 +11,8 @@ use ec_regs::registers::{PROCESS_MEMORY, STATION_ADDRESS};
 use ec_regs::{Fmmu, SyncMan};
 
 impl Controller {
-    /// The station address, by which FP commands name the slave (IEC 61158-4-12, station address). (Its clause
-    /// `controller` is what a proof knows of every controller.)
+    /// The station address, by which FP commands name the slave (IEC 61158-4-12, station address). (Its
+    /// clause `controller` is what a proof knows of every controller.)
     pub fn station(&self) -> u16
         ensures value { result ≡ word_at self.now.memory STATION_ADDRESS }
         ensures controller { IsController self.now }

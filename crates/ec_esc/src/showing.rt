@@ -8,8 +8,8 @@ ghost use Rattle.ec_esc.specs.Writing.{hands_over, shown_after};
 use crate::controller::Controller;
 use ec_regs::PlannedSyncMan;
 
-/// Is an area shown anew after a write: it became active, or it is buffered, the master writes it, and its last
-/// byte was written?
+/// Is an area shown anew after a write: it became active, or it is buffered, the master writes it, and its
+/// last byte was written?
 fn hands_over(before: &PlannedSyncMan, after: &PlannedSyncMan, is_last_written: bool) -> bool
     ensures value { result ≡ hands_over (λ _. is_last_written) before.now after.now }
     ensures from { IsTrue result → PROCESS_MEMORY ≤ after.now.start }
@@ -22,15 +22,18 @@ fn hands_over(before: &PlannedSyncMan, after: &PlannedSyncMan, is_last_written: 
 }
 
 impl Controller {
-    /// Shows each area that is handed over after a write, as it stands in the memory: the sync managers as they
-    /// were, as they are now, and whether the last byte of each area was written, by number.
+    /// Shows each area that is handed over after a write, as it stands in the memory: the sync managers as
+    /// they were, as they are now, and whether the last byte of each area was written, by number.
     pub(crate) fn show_written(
         &mut self,
         before: &[PlannedSyncMan; 8],
         after: &[PlannedSyncMan; 8],
         last_written: &[bool; 8],
     )
-        ensures { (is_written : ℕ → Bool) → SaysOfLastBytes is_written after.now last_written.now → self.new ≡ record self.old { shown = shown_after is_written before.now after.now self.old.memory self.old.shown } }
+        ensures { (is_written : ℕ → Bool) → SaysOfLastBytes is_written after.now last_written.now
+            → self.new ≡ record self.old {
+              shown = shown_after is_written before.now after.now self.old.memory self.old.shown;
+            } }
     {
         // The sizes of memory and shown bytes are known of a controller of which a field is read.
         let _memory = &self.memory;

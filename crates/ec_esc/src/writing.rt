@@ -33,7 +33,8 @@ impl Controller {
     /// The pass of an LWR at `k`; all others stay.
     pub(crate) fn logical_write(&mut self, frame: &mut FrameBuf, k: usize)
         requires { k < length frame.old }
-        ensures frame { frame.new ≡ slice_set frame.old k (logical_write self.old (nth frame.old k)).datagram }
+        ensures frame { frame.new ≡ slice_set frame.old k (logical_write self.old
+            (nth frame.old k)).datagram }
         ensures state { self.new ≡ (logical_write self.old (nth frame.old k)).state }
     {
         let counter = frame.counter(k);
@@ -42,11 +43,12 @@ impl Controller {
         }
     }
 
-    /// The pass of an LRW at `k`: the read sees the memory, and the write takes the data, as they were on arrival;
-    /// all others stay.
+    /// The pass of an LRW at `k`: the read sees the memory, and the write takes the data, as they were on
+    /// arrival; all others stay.
     pub(crate) fn logical_exchange(&mut self, frame: &mut FrameBuf, k: usize)
         requires { k < length frame.old }
-        ensures frame { frame.new ≡ slice_set frame.old k (logical_exchange self.old (nth frame.old k)).datagram }
+        ensures frame { frame.new ≡ slice_set frame.old k (logical_exchange self.old
+            (nth frame.old k)).datagram }
         ensures state { self.new ≡ (logical_exchange self.old (nth frame.old k)).state }
     {
         let counter = frame.counter(k);
@@ -54,12 +56,14 @@ impl Controller {
         frame.set_counter(k, counter.wrapping_add(share));
     }
 
-    /// Reads and writes the data of the datagram at `k`, each as on arrival, and says what its working counter
-    /// gains; all else stays.
+    /// Reads and writes the data of the datagram at `k`, each as on arrival, and says what its working
+    /// counter gains; all else stays.
     fn exchange_data(&mut self, frame: &mut FrameBuf, k: usize) -> u16
         requires { k < length frame.old }
         ensures frame { frame.new
-            ≡ slice_set frame.old k (record (nth frame.old k) { payload = read_data self.old (nth frame.old k) }) }
+            ≡ slice_set frame.old k (record (nth frame.old k) {
+              payload = read_data self.old (nth frame.old k);
+            }) }
         ensures state { self.new ≡ written_state self.old (nth frame.old k) }
         ensures share { result ≡ if_served (serves_read self.old (nth frame.old k)) 1
             + if_served (serves_write self.old (nth frame.old k)) 2 }
@@ -77,7 +81,9 @@ impl Controller {
         requires inside { k < length frame.old }
         requires apart { are_apart (fmmus_of self.old.memory) ≡ true }
         ensures frame { frame.new
-            ≡ slice_set frame.old k (record (nth frame.old k) { payload = read_data self.old (nth frame.old k) }) }
+            ≡ slice_set frame.old k (record (nth frame.old k) {
+              payload = read_data self.old (nth frame.old k);
+            }) }
         ensures state { self.new ≡ written_state self.old (nth frame.old k) }
         ensures share { result ≡ if_served (serves_read self.old (nth frame.old k)) 1
             + if_served (serves_write self.old (nth frame.old k)) 2 }
@@ -92,7 +98,9 @@ impl Controller {
     fn read_then_write(&mut self, frame: &mut FrameBuf, k: usize) -> u16
         requires { k < length frame.old }
         ensures frame { frame.new
-            ≡ slice_set frame.old k (record (nth frame.old k) { payload = read_data self.old (nth frame.old k) }) }
+            ≡ slice_set frame.old k (record (nth frame.old k) {
+              payload = read_data self.old (nth frame.old k);
+            }) }
         ensures state { self.new ≡ written_state self.old (nth frame.old k) }
         ensures share { result ≡ if_served (serves_read self.old (nth frame.old k)) 1
             + if_served (serves_write self.old (nth frame.old k)) 2 }
@@ -103,11 +111,18 @@ impl Controller {
         exchange_share(is_read, is_written)
     }
 
-    /// Writes data to the memory where their logical address is writable, shows each area whose last byte was
-    /// written, and says whether there is a writable bit. The first data byte stands at the logical byte `address`.
+    /// Writes data to the memory where their logical address is writable, shows each area whose last byte
+    /// was written, and says whether there is a writable bit. The first data byte stands at the logical
+    /// byte `address`.
     fn write_data(&mut self, address: u32, payload: &[u8]) -> bool
-        ensures state { self.new ≡ written_state self.old (record blank { address = address; payload = payload.now }) }
-        ensures served { result ≡ serves_write self.old (record blank { address = address; payload = payload.now }) }
+        ensures state { self.new ≡ written_state self.old (record blank {
+          address = address;
+          payload = payload.now;
+        }) }
+        ensures served { result ≡ serves_write self.old (record blank {
+          address = address;
+          payload = payload.now;
+        }) }
     {
         let managers = self.sync_managers();
         let fmmus = self.memory.fmmus();

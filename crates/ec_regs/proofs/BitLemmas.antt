@@ -1,5 +1,6 @@
 -- What `with_bits` leaves in each bit, and that a list of bytes with those bits is it.
-use Rattle.std.proofs.Common.{◌≡◌, ◌≢◌, ℕ, zero, suc, ◌+◌, ◌*◌, ◌/◌, ◌%◌, ◌^◌, ◌<◌, ◌≤◌, List, length, get_or, set, Option, None, Some, sym, ◌∙◌, ap, refl, arith, ⊎_elim}
+use Rattle.std.proofs.Common.{◌≡◌, ◌≢◌, ℕ, zero, suc, ◌+◌, ◌*◌, ◌/◌, ◌%◌, ◌^◌, ◌<◌, ◌≤◌, List, length}
+use Rattle.std.proofs.Common.{get_or, set, Option, None, Some, sym, ◌∙◌, ap, refl, arith, ⊎_elim}
 use Rattle.std.specs.Prelude.{bit_and, bit_or}
 use Rattle.std.specs.Int.{bit_at, w8, bit_not}
 use Rattle.std.specs.Option.{option_map_or}
@@ -7,7 +8,8 @@ use Rattle.std.proofs.lemmas.Bool.{cases_lt, cases_eq}
 use Rattle.std.proofs.lemmas.List.{ext_get_or, get_or_past, length-set, get_or-set_same, get_or-set_other}
 use Rattle.std.proofs.lemmas.List.FromFn.{length-map-range_with_len, get_or-map-range_with_len}
 use Rattle.std.proofs.lemmas.Nat.{or_lt, and_le_l}
-use Rattle.std.proofs.lemmas.Nat.Bits.{bit_at-lt, bit_at-zero, same_from_bits_below, bit_at_set_same, bit_at_set_other, bit_at_clear_same, bit_at_clear_other}
+use Rattle.std.proofs.lemmas.Nat.Bits.{bit_at-lt, bit_at-zero, same_from_bits_below, bit_at_set_same}
+use Rattle.std.proofs.lemmas.Nat.Bits.{bit_at_set_other, bit_at_clear_same, bit_at_clear_other}
 use Rattle.ec_regs.specs.Bits.{AreBytes, bit, byte_of_bits, placed_bit, with_bits, later, ChangesBit}
 
 -- ---- bits
@@ -40,15 +42,27 @@ same_from_list_bits xs ys e x_bytes y_bytes same =
 
 -- eight bits make a byte
 pub byte_of_bits-lt : (b : ℕ → ℕ) → ((i : ℕ) → b i < 2) → byte_of_bits b < 256
-byte_of_bits-lt b below = omega (arith, below 0, below 1, below 2, below 3, below 4, below 5, below 6, below 7)
+byte_of_bits-lt b below = omega (
+  arith,
+  below 0,
+  below 1,
+  below 2,
+  below 3,
+  below 4,
+  below 5,
+  below 6,
+  below 7,
+)
 
 -- and they are its bits
-pub bit_at-byte_of_bits : (b : ℕ → ℕ) → ((i : ℕ) → b i < 2) → (i : ℕ) → i < 8 → bit_at (byte_of_bits b) i ≡ b i
+pub bit_at-byte_of_bits : (b : ℕ → ℕ) → ((i : ℕ) → b i < 2) → (i : ℕ) → i < 8
+    → bit_at (byte_of_bits b) i ≡ b i
 bit_at-byte_of_bits b below zero h = omega (arith, below 0)
 bit_at-byte_of_bits b below (suc zero) h = omega (arith, below 0, below 1)
 bit_at-byte_of_bits b below (suc (suc zero)) h = omega (arith, below 0, below 1, below 2)
 bit_at-byte_of_bits b below (suc (suc (suc zero))) h = omega (arith, below 0, below 1, below 2, below 3)
-bit_at-byte_of_bits b below (suc (suc (suc (suc zero)))) h = omega (arith, below 0, below 1, below 2, below 3, below 4)
+bit_at-byte_of_bits b below (suc (suc (suc (suc zero)))) h =
+    omega (arith, below 0, below 1, below 2, below 3, below 4)
 bit_at-byte_of_bits b below (suc (suc (suc (suc (suc zero))))) h =
     omega (arith, below 0, below 1, below 2, below 3, below 4, below 5)
 bit_at-byte_of_bits b below (suc (suc (suc (suc (suc (suc zero)))))) h =
@@ -63,7 +77,8 @@ bit_at-byte_of_bits b below (suc (suc (suc (suc (suc (suc (suc (suc i)))))))) h 
 pub placed_bit-lt : (xs ys : List ℕ) (place : ℕ → Option ℕ) (i : ℕ) → placed_bit xs ys place i < 2
 unfolding placed_bit
 placed_bit-lt xs ys place i =
-    elim (place i) as (λ o. option_map_or (bit ys) o (bit xs i) < 2) [ None ↦ bit-lt xs i | Some p ↦ bit-lt ys p ]
+    elim (place i) as (λ o. option_map_or (bit ys) o
+    (bit xs i) < 2) [ None ↦ bit-lt xs i | Some p ↦ bit-lt ys p ]
 
 -- a bit with a place is taken from there
 pub placed_bit_taken : (xs ys : List ℕ) (place : ℕ → Option ℕ) (i p : ℕ) → place i ≡ Some p
@@ -96,7 +111,8 @@ pub get_or-with_bits : (xs ys : List ℕ) (place : ℕ → Option ℕ) (k : ℕ)
     → get_or (with_bits xs ys place) k 0 ≡ byte_of_bits (λ b. placed_bit xs ys place (8 * k + b))
 unfolding with_bits
 get_or-with_bits xs ys place k inside =
-    get_or-map-range_with_len (λ j. byte_of_bits (λ b. placed_bit xs ys place (8 * j + b))) 0 (length xs) k k 0 inside
+    get_or-map-range_with_len (λ j. byte_of_bits (λ b. placed_bit xs ys place (8 * j + b))) 0
+    (length xs) k k 0 inside
     (omega arith)
 
 -- the list is of bytes, whatever it is made of
@@ -116,13 +132,16 @@ pub bit-with_bits : (xs ys : List ℕ) (place : ℕ → Option ℕ) (i : ℕ) �
 bit-with_bits xs ys place i inside =
     let here : 8 * (i / 8) + i % 8 ≡ i = omega arith in
     ap (λ x. bit_at x (i % 8)) (get_or-with_bits xs ys place (i / 8) (omega arith))
-    ∙ bit_at-byte_of_bits (λ b. placed_bit xs ys place (8 * (i / 8) + b)) (λ b. placed_bit-lt xs ys place (8 * (i / 8) + b)) (i % 8) (omega arith)
+    ∙ bit_at-byte_of_bits (λ b. placed_bit xs ys place (8 * (i / 8) + b)) (λ b. placed_bit-lt xs ys place
+    (8 * (i / 8) + b)) (i % 8) (omega arith)
     ∙ ap (placed_bit xs ys place) here
 
 -- a bit with a place is taken from there
-pub bit-with_bits_taken : (xs ys : List ℕ) (place : ℕ → Option ℕ) (i p : ℕ) → i < 8 * length xs → place i ≡ Some p
+pub bit-with_bits_taken : (xs ys : List ℕ) (place : ℕ → Option ℕ) (i p : ℕ) → i < 8 * length xs
+    → place i ≡ Some p
     → bit (with_bits xs ys place) i ≡ bit ys p
-bit-with_bits_taken xs ys place i p inside e = bit-with_bits xs ys place i inside ∙ placed_bit_taken xs ys place i p e
+bit-with_bits_taken xs ys place i p inside e = bit-with_bits xs ys place i inside
+    ∙ placed_bit_taken xs ys place i p e
 
 -- a bit without one is kept
 pub bit-with_bits_kept : (xs ys : List ℕ) (place : ℕ → Option ℕ) (i : ℕ) → place i ≡ None
@@ -131,7 +150,8 @@ bit-with_bits_kept xs ys place i e =
     ⊎_elim
     (λ (inside : i < 8 * length xs). bit-with_bits xs ys place i inside ∙ placed_bit_kept xs ys place i e)
     (λ (past : 8 * length xs ≤ i).
-    bit_past (with_bits xs ys place) i (omega (arith, length-with_bits xs ys place)) ∙ sym (bit_past xs i past))
+    bit_past (with_bits xs ys place) i (omega (arith, length-with_bits xs ys place))
+    ∙ sym (bit_past xs i past))
     (cases_lt i (8 * length xs))
 
 -- a list of bytes of that length with those bits is it
@@ -148,11 +168,13 @@ with_bits_only zs xs ys place e are bits_are =
 pub with_bits_none : (xs ys : List ℕ) (place : ℕ → Option ℕ) → AreBytes xs
     → ((i : ℕ) → i < 8 * length xs → place i ≡ None) → with_bits xs ys place ≡ xs
 with_bits_none xs ys place are none =
-    sym (with_bits_only xs xs ys place refl are (λ i inside. sym (placed_bit_kept xs ys place i (none i inside))))
+    sym (with_bits_only xs xs ys place refl are (λ i inside. sym (placed_bit_kept xs ys place i
+    (none i inside))))
 
 -- equal placed bits give equal lists, even if they are taken from two sources
 pub with_bits_same_bits : (xs ys zs : List ℕ) (f g : ℕ → Option ℕ)
-    → ((i : ℕ) → i < 8 * length xs → placed_bit xs ys f i ≡ placed_bit xs zs g i) → with_bits xs ys f ≡ with_bits xs zs g
+    → ((i : ℕ) → i < 8 * length xs → placed_bit xs ys f i ≡ placed_bit xs zs g i) → with_bits xs ys f
+    ≡ with_bits xs zs g
 with_bits_same_bits xs ys zs f g same =
     with_bits_only (with_bits xs ys f) xs zs g (length-with_bits xs ys f) (AreBytes-with_bits xs ys f)
     (λ i inside. bit-with_bits xs ys f i inside ∙ same i inside)
@@ -168,7 +190,8 @@ placed_bit-with_bits : (xs ys : List ℕ) (f g : ℕ → Option ℕ) (i : ℕ) �
     → placed_bit (with_bits xs ys f) ys g i ≡ placed_bit xs ys (λ j. later (f j) (g j)) i
 unfolding placed_bit
 placed_bit-with_bits xs ys f g i inside =
-    elim (g i) as (λ o. option_map_or (bit ys) o (bit (with_bits xs ys f) i) ≡ option_map_or (bit ys) (later (f i) o) (bit xs i))
+    elim (g i) as (λ o. option_map_or (bit ys) o (bit (with_bits xs ys f) i)
+    ≡ option_map_or (bit ys) (later (f i) o) (bit xs i))
     [ None ↦ bit-with_bits xs ys f i inside | Some p ↦ refl ]
 
 -- so bits that are placed one way and then another are placed once, by the later place where there is one
@@ -178,7 +201,8 @@ with_bits-with_bits xs ys f g =
     let len : length (with_bits xs ys f) ≡ length xs = length-with_bits xs ys f in
     with_bits_only (with_bits (with_bits xs ys f) ys g) xs ys (λ i. later (f i) (g i))
     (length-with_bits (with_bits xs ys f) ys g ∙ len) (AreBytes-with_bits (with_bits xs ys f) ys g)
-    (λ i inside. bit-with_bits (with_bits xs ys f) ys g i (omega arith) ∙ placed_bit-with_bits xs ys f g i inside)
+    (λ i inside. bit-with_bits (with_bits xs ys f) ys g i (omega arith)
+    ∙ placed_bit-with_bits xs ys f g i inside)
 
 -- ---- later
 
@@ -208,14 +232,16 @@ AreBytes-set zs at new are byte k =
     (cases_eq k at)
 
 -- the bits of the written byte are those of the byte
-pub bit-set_same : (zs : List ℕ) (at new i : ℕ) → at < length zs → i / 8 ≡ at → bit (set zs at new) i ≡ bit_at new (i % 8)
+pub bit-set_same : (zs : List ℕ) (at new i : ℕ) → at < length zs → i / 8 ≡ at → bit (set zs at new) i
+    ≡ bit_at new (i % 8)
 bit-set_same zs at new i inside here =
     ap (λ k. bit_at (get_or (set zs at new) k 0) (i % 8)) here
     ∙ ap (λ x. bit_at x (i % 8)) (get_or-set_same zs at new 0 inside)
 
 -- all others stay
 pub bit-set_other : (zs : List ℕ) (at new i : ℕ) → i / 8 ≢ at → bit (set zs at new) i ≡ bit zs i
-bit-set_other zs at new i elsewhere = ap (λ x. bit_at x (i % 8)) (get_or-set_other zs at (i / 8) new 0 elsewhere)
+bit-set_other zs at new i elsewhere = ap (λ x. bit_at x (i % 8)) (get_or-set_other zs at
+    (i / 8) new 0 elsewhere)
 
 -- ---- one bit more, for a loop that goes bit by bit
 
@@ -246,15 +272,18 @@ with_bits_more zs xs ys f g q p new so_far inside taken kept change =
     let len : length zs ≡ length xs = ap length so_far ∙ length-with_bits xs ys f in
     let are : AreBytes zs = λ k. rw so_far (AreBytes-with_bits xs ys f k) in
     let within : q / 8 < length zs = omega arith in
-    with_bits_only (set zs (q / 8) new) xs ys g (length-set zs (q / 8) new ∙ len) (AreBytes-set zs (q / 8) new are change.byte)
+    with_bits_only (set zs (q / 8) new) xs ys g (length-set zs (q / 8) new
+    ∙ len) (AreBytes-set zs (q / 8) new are change.byte)
     (λ i i_inside.
     ⊎_elim
     (λ (here : i ≡ q).
-    bit-set_same zs (q / 8) new i within (ap (λ x. x / 8) here) ∙ ap (λ x. bit_at new (x % 8)) here ∙ change.changed
+    bit-set_same zs (q / 8) new i within (ap (λ x. x / 8) here) ∙ ap (λ x. bit_at new (x % 8)) here
+    ∙ change.changed
     ∙ sym (placed_bit_taken xs ys g i p (ap g here ∙ taken)))
     (λ (elsewhere : i ≢ q).
     let before : bit zs i ≡ placed_bit xs ys g i =
-    ap (λ z. bit z i) so_far ∙ bit-with_bits xs ys f i i_inside ∙ placed_bit_same_place xs ys f g i (sym (kept i elsewhere))
+    ap (λ z. bit z i) so_far ∙ bit-with_bits xs ys f i i_inside
+    ∙ placed_bit_same_place xs ys f g i (sym (kept i elsewhere))
     in ⊎_elim
     (λ (same_byte : i / 8 ≡ q / 8).
     bit-set_same zs (q / 8) new i within same_byte ∙ change.others (i % 8) (omega arith) (omega arith)
@@ -269,14 +298,17 @@ pub with_bits_more_set : (zs xs ys : List ℕ) (f g : ℕ → Option ℕ) (q p :
     → set zs (q / 8) (bit_or (get_or zs (q / 8) 0) (1 * 2 ^ (q % 8) % 2 ^ 8)) ≡ with_bits xs ys g
 with_bits_more_set zs xs ys f g q p so_far inside taken kept one =
     let byte : get_or zs (q / 8) 0 < 256 = rw so_far (AreBytes-with_bits xs ys f (q / 8)) in
-    with_bits_more zs xs ys f g q p (bit_or (get_or zs (q / 8) 0) (1 * 2 ^ (q % 8) % 2 ^ 8)) so_far inside taken kept
+    with_bits_more zs xs ys f g q p (bit_or (get_or zs (q / 8) 0) (1 * 2 ^
+    (q % 8) % 2 ^ 8)) so_far inside taken kept
     (rw one (ChangesBit-set (get_or zs (q / 8) 0) (q % 8) byte (omega arith)))
 
 -- and where it is 0 and the code clears bit q
 pub with_bits_more_clear : (zs xs ys : List ℕ) (f g : ℕ → Option ℕ) (q p : ℕ) → zs ≡ with_bits xs ys f
     → q < 8 * length xs → g q ≡ Some p → ((i : ℕ) → i ≢ q → g i ≡ f i) → bit ys p ≡ 0
-    → set zs (q / 8) (bit_and (get_or zs (q / 8) 0) (bit_not w8 (1 * 2 ^ (q % 8) % 2 ^ 8))) ≡ with_bits xs ys g
+    → set zs (q / 8) (bit_and (get_or zs (q / 8) 0) (bit_not w8 (1 * 2 ^ (q % 8) % 2 ^ 8)))
+    ≡ with_bits xs ys g
 with_bits_more_clear zs xs ys f g q p so_far inside taken kept none =
     let byte : get_or zs (q / 8) 0 < 256 = rw so_far (AreBytes-with_bits xs ys f (q / 8)) in
-    with_bits_more zs xs ys f g q p (bit_and (get_or zs (q / 8) 0) (bit_not w8 (1 * 2 ^ (q % 8) % 2 ^ 8))) so_far inside taken kept
+    with_bits_more zs xs ys f g q p (bit_and (get_or zs (q / 8) 0) (bit_not w8 (1 * 2 ^
+    (q % 8) % 2 ^ 8))) so_far inside taken kept
     (rw none (ChangesBit-clear (get_or zs (q / 8) 0) (q % 8) byte (omega arith)))

@@ -1,9 +1,11 @@
 -- The pairs of an FMMU as a set and as two partial functions, and one pair more.
-use Rattle.std.proofs.Common.{◌≡◌, ◌≢◌, ℕ, ◌+◌, ◌-◌, ◌*◌, ◌<◌, ◌≤◌, true, false, cond, ltb, leb, None, Some, sym, ◌∙◌, ap, refl, arith, ⊎_elim}
+use Rattle.std.proofs.Common.{◌≡◌, ◌≢◌, ℕ, ◌+◌, ◌-◌, ◌*◌, ◌<◌, ◌≤◌, true, false, cond, ltb, leb, None, Some}
+use Rattle.std.proofs.Common.{sym, ◌∙◌, ap, refl, arith, ⊎_elim}
 use Rattle.std.proofs.lemmas.Bool.{cases_lt}
 use Rattle.std.proofs.lemmas.Bool.Decides.{nat_tests}
 use Rattle.ec_regs.specs.declared.fmmu.Fmmu.{Fmmu}
-use Rattle.ec_regs.specs.Pairs.{IsPair, pair_count, can_map, first_logical, first_physical, partner, physical_of, logical_of}
+use Rattle.ec_regs.specs.Pairs.{IsPair, pair_count, can_map, first_logical, first_physical, partner}
+use Rattle.ec_regs.specs.Pairs.{physical_of, logical_of}
 
 -- ---- the partner of a bit in a run
 
@@ -33,20 +35,25 @@ partner_behind from to n i behind =
 -- a run of no bits has no partners
 pub partner_none : (from to i : ℕ) → partner from to 0 i ≡ None
 partner_none from to i =
-    ⊎_elim (λ (before : i < from). partner_before from to 0 i before) (λ (behind : from ≤ i). partner_behind from to 0 i (omega arith))
+    ⊎_elim (λ (before : i < from). partner_before from to 0 i before) (λ
+    (behind : from ≤ i). partner_behind from to 0 i (omega arith))
     (cases_lt i from)
 
 -- a bit with a partner is a bit of the run
-pub partner_is : (from to n i p : ℕ) → partner from to n i ≡ Some p → (j : ℕ) × (j < n) × (i ≡ from + j) × (p ≡ to + j)
+pub partner_is : (from to n i p : ℕ) → partner from to n i ≡ Some p → (j : ℕ) × (j < n) × (i
+    ≡ from + j) × (p ≡ to + j)
 partner_is from to n i p e =
     ⊎_elim
-    (λ (before : i < from). absurd (let none : partner from to n i ≡ None = partner_before from to n i before in cc))
+    (λ (before : i < from). absurd (let none : partner from to n i
+    ≡ None = partner_before from to n i before in cc))
     (λ (starts : from ≤ i).
     ⊎_elim
     (λ (inside : i < from + n).
-    let some : partner from to n i ≡ Some (to + (i - from)) = partner_inside from to n i (i - from) (omega arith) (omega arith) in
+    let some : partner from to n i ≡ Some (to + (i - from)) =
+    partner_inside from to n i (i - from) (omega arith) (omega arith) in
     (i - from, omega arith, omega arith, cc))
-    (λ (behind : from + n ≤ i). absurd (let none : partner from to n i ≡ None = partner_behind from to n i behind in cc))
+    (λ (behind : from + n ≤ i). absurd (let none : partner from to n i
+    ≡ None = partner_behind from to n i behind in cc))
     (cases_lt i (from + n)))
     (cases_lt i from)
 
@@ -72,7 +79,8 @@ partner_more_other from to n i other =
 -- ---- pairs
 
 -- an FMMU that may map has the bits from its start bit to its stop bit
-pub pair_count_mapped : (f : Fmmu) → can_map f ≡ true → pair_count f ≡ 8 * (f.length - 1) + f.stop + 1 - f.start
+pub pair_count_mapped : (f : Fmmu) → can_map f ≡ true → pair_count f
+    ≡ 8 * (f.length - 1) + f.stop + 1 - f.start
 unfolding pair_count
 pair_count_mapped f e = ap (λ b. cond b (8 * (f.length - 1) + f.stop + 1 - f.start) 0) e
 
@@ -84,7 +92,8 @@ pair_count_unmapped f e = ap (λ b. cond b (8 * (f.length - 1) + f.stop + 1 - f.
 -- the physical bit of a pair is that of its logical bit
 pub physical_of-IsPair : (f : Fmmu) (l p : ℕ) → IsPair f l p → physical_of f l ≡ Some p
 physical_of-IsPair f l p (j, at) =
-    partner_inside (first_logical f) (first_physical f) (pair_count f) l j at.logical at.mapped ∙ ap Some (sym at.physical)
+    partner_inside (first_logical f) (first_physical f) (pair_count f) l j at.logical at.mapped
+    ∙ ap Some (sym at.physical)
 
 -- and a logical bit with a physical bit is a pair with it
 pub IsPair-physical_of : (f : Fmmu) (l p : ℕ) → physical_of f l ≡ Some p → IsPair f l p
@@ -96,7 +105,8 @@ IsPair-physical_of f l p e =
 -- the logical bit of a pair is that of its physical bit
 pub logical_of-IsPair : (f : Fmmu) (l p : ℕ) → IsPair f l p → logical_of f p ≡ Some l
 logical_of-IsPair f l p (j, at) =
-    partner_inside (first_physical f) (first_logical f) (pair_count f) p j at.physical at.mapped ∙ ap Some (sym at.logical)
+    partner_inside (first_physical f) (first_logical f) (pair_count f) p j at.physical at.mapped
+    ∙ ap Some (sym at.logical)
 
 -- and a physical bit with a logical bit is a pair with it
 pub IsPair-logical_of : (f : Fmmu) (l p : ℕ) → logical_of f p ≡ Some l → IsPair f l p

@@ -18,7 +18,9 @@ code_of Op = 8
 abbrev pub state_of : ℕ → Option AlState
 state_of code =
     if code == 1 then Some Init else
-    (if code == 2 then Some PreOp else (if code == 4 then Some SafeOp else (if code == 8 then Some Op else None)))
+    (if code == 2 then Some PreOp else
+    (if code == 4 then Some SafeOp else
+    (if code == 8 then Some Op else None)))
 
 -- the byte of a status: the code of its state, and 16 where an error stands
 abbrev pub status_byte : AlStatus → ℕ

@@ -29,7 +29,8 @@ placed_bit xs ys place i = option_map_or (bit ys) (place i) (bit xs i)
 
 -- the bytes of xs, with each bit j for which `place j` is some p replaced by bit p of ys
 unfoldable pub with_bits : List ℕ → List ℕ → (ℕ → Option ℕ) → List ℕ
-with_bits xs ys place = map (λ k. byte_of_bits (λ b. placed_bit xs ys place (8 * k + b))) (range_with_len 0 (length xs))
+with_bits xs ys place =
+    map (λ k. byte_of_bits (λ b. placed_bit xs ys place (8 * k + b))) (range_with_len 0 (length xs))
 
 -- the second of two places where there is one, or else the first
 abbrev pub later : Option ℕ → Option ℕ → Option ℕ

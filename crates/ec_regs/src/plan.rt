@@ -92,7 +92,11 @@ impl Model for PlannedFmmu {
     ghost use Rattle.std.proofs.Common.{ap, sym, ◌∙◌};
 
     ghost inverse_ok = { λ planned is.
-        ap (λ plan. record { fmmu = planned.fmmu; plan = plan; bits = pair_count planned.fmmu }) (sym is.plan_is)
+        ap (λ plan. record {
+          fmmu = planned.fmmu;
+          plan = plan;
+          bits = pair_count planned.fmmu;
+        }) (sym is.plan_is)
         ∙ ap (λ bits. record { fmmu = planned.fmmu; plan = planned.plan; bits = bits }) (sym is.bits_are) };
 }
 

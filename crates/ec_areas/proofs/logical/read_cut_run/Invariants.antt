@@ -9,8 +9,10 @@ use Rattle.ec_areas.proofs.logical.read_cut_run.Given as goal
 abbrev pub invariant-loop-done : goal.invariant-loop-done
 invariant-loop-done l = record {
   within : l.done ≤ l.run.count;
-  bits : l.into ≡ with_bits l.initial.into l.memory (kept (is_readable l.managers) l.run.at l.run.physical l.done);
-  served : l.served ≡ names (kept (is_readable l.managers) l.run.at l.run.physical l.done) (8 * length l.initial.into);
+  bits : l.into ≡ with_bits l.initial.into l.memory (kept
+      (is_readable l.managers) l.run.at l.run.physical l.done);
+  served : l.served ≡ names (kept (is_readable l.managers) l.run.at l.run.physical l.done)
+      (8 * length l.initial.into);
 }
 
 abbrev pub decreases-loop-done : goal.decreases-loop-done

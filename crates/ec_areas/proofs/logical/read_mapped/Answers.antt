@@ -1,7 +1,9 @@
-use Rattle.std.proofs.Common.{◌≡◌, ◌+◌, ◌*◌, ◌<◌, ◌||◌, ℕ, Bool, length, drop, refl, sym, ◌∙◌, ap, subst, arith}
+use Rattle.std.proofs.Common.{◌≡◌, ◌+◌, ◌*◌, ◌<◌, ◌||◌, ℕ, Bool, length, drop, refl, sym, ◌∙◌, ap, subst}
+use Rattle.std.proofs.Common.{arith}
 use Rattle.ec_regs.proofs.BitLemmas.{AreBytes-with_bits}
 use Rattle.ec_areas.specs.Logical.{read_places, names}
-use Rattle.ec_areas.proofs.LogicalLemmas.{read_map_more, read_map_done, names_more_fmmu, names_no_fmmu, NamesPairs-read_map}
+use Rattle.ec_areas.proofs.LogicalLemmas.{read_map_more, read_map_done, names_more_fmmu, names_no_fmmu}
+use Rattle.ec_areas.proofs.LogicalLemmas.{NamesPairs-read_map}
 use Rattle.ec_areas.proofs.NamesLemmas.{or_true, or_false}
 use Rattle.ec_areas.proofs.logical.read_mapped.Goals as goal
 use Rattle.ec_areas.proofs.logical.read_mapped.Goals.{then-read_through, else-read_through}
@@ -21,14 +23,19 @@ loop-fmmu-preserved c =
     let same : 8 * length c.loop-fmmu.into ≡ bits = ap (λ n. 8 * n) c.loop-fmmu.auto.into in
     let here : Bool = c.read_through.result in
     let behind : Bool = names (read_places managers (drop (k + 1) fmmus) from) bits in
-    let P : ℕ → Type 0 = λ n. names (read_places managers (drop k fmmus) from) n ≡ (here || names (read_places managers (drop (k + 1) fmmus) from) n) in
+    let P : ℕ → Type 0 = λ n. names (read_places managers (drop k fmmus) from) n
+    ≡ (here || names (read_places managers (drop (k + 1) fmmus) from) n) in
     let more : P bits =
     subst P same
-    (names_more_fmmu managers fmmus k from (8 * length c.loop-fmmu.into) c.fmmu-item.result inside c.fmmu-item.is
-    ∙ ap (λ b. b || names (read_places managers (drop (k + 1) fmmus) from) (8 * length c.loop-fmmu.into)) (sym c.read_through.ensures.served))
+    (names_more_fmmu managers fmmus k from (8 * length c.loop-fmmu.into) c.fmmu-item.result inside
+    c.fmmu-item.is
+    ∙ ap (λ b. b || names (read_places managers (drop (k + 1) fmmus) from) (8 * length c.loop-fmmu.into))
+    (sym c.read_through.ensures.served))
     in record {
       bytes = λ j. rw c.read_through.ensures.bits (AreBytes-with_bits c.loop-fmmu.into memory _ j);
-      bits = read_map_more managers fmmus k from c.fmmu-item.result c.loop-fmmu.into memory c.read_through.new.into inside c.fmmu-item.is c.read_through.ensures.bits ∙ c.loop-fmmu.invariant.bits;
+      bits = read_map_more managers fmmus k from c.fmmu-item.result c.loop-fmmu.into memory
+          c.read_through.new.into inside c.fmmu-item.is c.read_through.ensures.bits
+          ∙ c.loop-fmmu.invariant.bits;
       served = elim c.if-read_through.branch [
         | then-read_through w ↦
             ap (λ b. b || behind) w.served-is ∙ sym (or_true c.loop-fmmu.served)
@@ -43,13 +50,15 @@ loop-fmmu-preserved c =
 
 pub returns-clause-bits : goal.returns-clause-bits
 returns-clause-bits c =
-    sym (read_map_done c.args.managers.now c.args.fmmus.now c.loop-fmmu.fmmu-index (8 * c.args.address) c.loop-fmmu.into c.args.memory.now
+    sym (read_map_done c.args.managers.now c.args.fmmus.now c.loop-fmmu.fmmu-index
+    (8 * c.args.address) c.loop-fmmu.into c.args.memory.now
     c.loop-fmmu-test.false c.loop-fmmu.invariant.bytes)
     ∙ c.loop-fmmu.invariant.bits
 
 pub returns-clause-served : goal.returns-clause-served
 returns-clause-served c =
-    sym (ap (λ b. c.loop-fmmu.served || b) (names_no_fmmu c.args.managers.now c.args.fmmus.now c.loop-fmmu.fmmu-index (8 * c.args.address) (8 * length c.args.into.now) c.loop-fmmu-test.false)
+    sym (ap (λ b. c.loop-fmmu.served || b) (names_no_fmmu c.args.managers.now c.args.fmmus.now
+    c.loop-fmmu.fmmu-index (8 * c.args.address) (8 * length c.args.into.now) c.loop-fmmu-test.false)
     ∙ or_false c.loop-fmmu.served)
     ∙ c.loop-fmmu.invariant.served
 

@@ -9,8 +9,10 @@ use Rattle.ec_areas.proofs.logical_write.write_cut_run.Given as goal
 abbrev pub invariant-loop-done : goal.invariant-loop-done
 invariant-loop-done l = record {
   within : l.done ≤ l.run.count;
-  bits : l.memory ≡ with_bits l.initial.memory l.payload (laid (is_writable l.managers) l.run.physical l.run.at l.done);
-  served : l.served ≡ names (kept (is_writable l.managers) l.run.at l.run.physical l.done) (8 * length l.payload);
+  bits : l.memory ≡ with_bits l.initial.memory l.payload (laid
+      (is_writable l.managers) l.run.physical l.run.at l.done);
+  served : l.served ≡ names (kept (is_writable l.managers) l.run.at l.run.physical l.done)
+      (8 * length l.payload);
 }
 
 abbrev pub decreases-loop-done : goal.decreases-loop-done

@@ -2,7 +2,8 @@ use Rattle.std.proofs.Common.{◌≡◌, ◌+◌, ◌*◌, ◌<◌, ◌||◌, Bo
 use Rattle.ec_regs.proofs.BitLemmas.{AreBytes-with_bits}
 use Rattle.ec_areas.specs.Logical.{target_places, names}
 use Rattle.ec_areas.proofs.NamesLemmas.{or_true, or_false}
-use Rattle.ec_areas.proofs.WriteLemmas.{write_map_more, write_map_done, names_more_target, names_no_target, NamesPairs-target_map, NamesPairs-write_map}
+use Rattle.ec_areas.proofs.WriteLemmas.{write_map_more, write_map_done, names_more_target, names_no_target}
+use Rattle.ec_areas.proofs.WriteLemmas.{NamesPairs-target_map, NamesPairs-write_map}
 use Rattle.ec_areas.proofs.logical_write.write_mapped.Goals as goal
 use Rattle.ec_areas.proofs.logical_write.write_mapped.Goals.{then-write_through, else-write_through}
 
@@ -19,11 +20,13 @@ loop-fmmu-preserved c =
     let here : Bool = c.write_through.result in
     let behind : Bool = names (target_places managers (drop (k + 1) fmmus) from) bits in
     let more : names (target_places managers (drop k fmmus) from) bits ≡ (here || behind) =
-    names_more_target managers fmmus k from bits f inside c.fmmu-item.is ∙ ap (λ b. b || behind) (sym c.write_through.ensures.served)
+    names_more_target managers fmmus k from bits f inside c.fmmu-item.is
+    ∙ ap (λ b. b || behind) (sym c.write_through.ensures.served)
     in record {
       bytes = λ j. rw c.write_through.ensures.bits (AreBytes-with_bits c.loop-fmmu.memory payload _ j);
       bits =
-          write_map_more managers fmmus k from bits f c.loop-fmmu.memory payload c.write_through.new.memory inside c.fmmu-item.is c.write_through.ensures.bits
+          write_map_more managers fmmus k from bits f c.loop-fmmu.memory payload
+          c.write_through.new.memory inside c.fmmu-item.is c.write_through.ensures.bits
           ∙ c.loop-fmmu.invariant.bits;
       served = elim c.if-write_through.branch [
         | then-write_through w ↦
@@ -39,13 +42,15 @@ loop-fmmu-preserved c =
 
 pub returns-clause-bits : goal.returns-clause-bits
 returns-clause-bits c =
-    sym (write_map_done c.args.managers.now c.args.fmmus.now c.loop-fmmu.fmmu-index (8 * c.args.address) (8 * length c.args.payload.now) c.loop-fmmu.memory c.args.payload.now
+    sym (write_map_done c.args.managers.now c.args.fmmus.now c.loop-fmmu.fmmu-index (8 * c.args.address)
+    (8 * length c.args.payload.now) c.loop-fmmu.memory c.args.payload.now
     c.loop-fmmu-test.false c.loop-fmmu.invariant.bytes)
     ∙ c.loop-fmmu.invariant.bits
 
 pub returns-clause-served : goal.returns-clause-served
 returns-clause-served c =
-    sym (ap (λ b. c.loop-fmmu.served || b) (names_no_target c.args.managers.now c.args.fmmus.now c.loop-fmmu.fmmu-index (8 * c.args.address) (8 * length c.args.payload.now) c.loop-fmmu-test.false)
+    sym (ap (λ b. c.loop-fmmu.served || b) (names_no_target c.args.managers.now c.args.fmmus.now
+    c.loop-fmmu.fmmu-index (8 * c.args.address) (8 * length c.args.payload.now) c.loop-fmmu-test.false)
     ∙ or_false c.loop-fmmu.served)
     ∙ c.loop-fmmu.invariant.served
 
@@ -53,4 +58,5 @@ pub returns-clause-target : goal.returns-clause-target
 returns-clause-target c = NamesPairs-target_map c.args.managers.now c.args.fmmus.now
 
 pub returns-clause-source : goal.returns-clause-source
-returns-clause-source c = NamesPairs-write_map c.args.managers.now c.args.fmmus.now (8 * c.args.address) (8 * length c.args.payload.now)
+returns-clause-source c = NamesPairs-write_map c.args.managers.now c.args.fmmus.now (8 * c.args.address)
+    (8 * length c.args.payload.now)

@@ -9,6 +9,8 @@ returns-then-offset-lt-STATUS_OFFSET c memory managers_are =
     let inside : is_in_sync_manager c.args.address ≡ true = sym c.within.ensures ∙ c.if-not-within.false in
     let base = c.from.ensures in
     let size = c.from-2.ensures in
-    let before : (c.args.address - 2048) % 8 < 5 = rw (base, c.from-3.ensures) at c.if-offset-lt-STATUS_OFFSET.true in
-    takes_before_status memory c.args.managers.now _ c.args.address c.is_active.result managers_are inside (grind (arith, nat_tests)) before
+    let before : (c.args.address - 2048) % 8 < 5 =
+    rw (base, c.from-3.ensures) at c.if-offset-lt-STATUS_OFFSET.true in
+    takes_before_status memory c.args.managers.now _ c.args.address c.is_active.result managers_are inside
+    (grind (arith, nat_tests)) before
     (rw (base, size) at c.is_active.ensures.value)

@@ -6,7 +6,8 @@ pub returns : goal.returns
 returns c =
     let old = c.args.into.now in
     let from = c.args.from in
-    copied_run c.copy_from_slice.new.self old c.args.memory.now from c.copy_from_slice.ensures.len (λ k. omega (arith, c.type_inv.into k))
+    copied_run c.copy_from_slice.new.self old c.args.memory.now from c.copy_from_slice.ensures.len
+    (λ k. omega (arith, c.type_inv.into k))
     (λ k inside.
     ap (λ (xs : List ℕ). get_or xs k 0) c.copy_from_slice.ensures.after
     ∙ get_or-run c.args.memory.now from (from + length old - from) k (omega arith))

@@ -7,7 +7,9 @@ pub returns : goal.returns
 returns c =
     let old = c.args.into.now in
     let from = c.args.from in
-    merged_run c.merge.new.into old c.args.memory.now from (omega arith) (λ k. omega (arith, c.type_inv.into k))
+    merged_run c.merge.new.into old c.args.memory.now from (omega arith) (λ k. omega
+    (arith, c.type_inv.into k))
     (λ k inside.
     c.merge.ensures k inside
-    ∙ ap (λ (b : ℕ). bit_or (get_or old k 0) b) (get_or-run c.args.memory.now from (from + length old - from) k (omega arith)))
+    ∙ ap (λ (b : ℕ). bit_or (get_or old k 0) b) (get_or-run c.args.memory.now from
+    (from + length old - from) k (omega arith)))

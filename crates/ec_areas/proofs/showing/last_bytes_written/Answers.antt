@@ -6,7 +6,8 @@ use Rattle.ec_regs.specs.SyncMan.{guards_outputs}
 use Rattle.ec_regs.specs.declared.sync_man.SyncMan.{SyncMan}
 use Rattle.ec_areas.specs.Areas.{is_writable}
 use Rattle.ec_areas.specs.Showing.{last_byte, reaches}
-use Rattle.ec_areas.proofs.ShowingLemmas.{names-write_map, answered_more, answered_all, told_here, written_outputs}
+use Rattle.ec_areas.proofs.ShowingLemmas.{names-write_map, answered_more, answered_all, told_here}
+use Rattle.ec_areas.proofs.ShowingLemmas.{written_outputs}
 use Rattle.ec_areas.proofs.showing.last_bytes_written.Goals as goal
 
 pub loop-i-preserved : goal.loop-i-preserved
@@ -14,8 +15,10 @@ loop-i-preserved c = record {
   size = length-set c.loop-i.written c.loop-i.i c.is_last_written.result ∙ c.loop-i.invariant.size;
   said = λ j s here.
       let managers = c.args.managers.now in
-      let test = λ (area : SyncMan). guards_outputs area && list_any (reaches (8 * c.args.address) (8 * c.args.count) (last_byte area)) c.args.fmmus.now && is_writable managers (last_byte area) in
-      answered_more c.loop-i.written c.loop-i.i j _ c.is_last_written.result (test s) (omega (arith, c.loop-i.invariant.size))
+      let test = λ (area : SyncMan). guards_outputs area && list_any (reaches (8 * c.args.address)
+      (8 * c.args.count) (last_byte area)) c.args.fmmus.now && is_writable managers (last_byte area) in
+      answered_more c.loop-i.written c.loop-i.i j _ c.is_last_written.result (test s) (omega
+      (arith, c.loop-i.invariant.size))
       (c.loop-i.invariant.said j s here)
       (λ now.
       told_here managers c.loop-i.i _ s c.is_last_written.result test

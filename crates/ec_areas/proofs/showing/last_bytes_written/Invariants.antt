@@ -12,5 +12,6 @@ invariant-loop-i l = record {
   size : length l.written ≡ 8;
   said : (j : ℕ) (s : SyncMan) → slice_get l.managers j ≡ Some s
       → get_or l.written j false
-      ≡ cond (ltb j l.i) (guards_outputs s && list_any (reaches (8 * l.address) (8 * l.count) (last_byte s)) l.fmmus && is_writable l.managers (last_byte s)) (get_or l.initial.written j false);
+      ≡ cond (ltb j l.i) (guards_outputs s && list_any (reaches (8 * l.address) (8 * l.count)
+      (last_byte s)) l.fmmus && is_writable l.managers (last_byte s)) (get_or l.initial.written j false);
 }

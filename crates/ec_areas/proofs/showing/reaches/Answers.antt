@@ -12,7 +12,8 @@ returns-then-not-writes c =
     let f = c.args.fmmu.now in
     let byte = c.args.byte in
     sym (names_nowhere (λ b. written_number from bits f (8 * byte + b)) 8
-    (λ b _. written_number_not_for_writing from bits f (8 * byte + b) (sym c.writes.ensures ∙ c.if-not-writes.true)))
+    (λ b _. written_number_not_for_writing from bits f (8 * byte + b) (sym c.writes.ensures
+    ∙ c.if-not-writes.true)))
 
 pub returns-in-Some : goal.returns-in-Some
 returns-in-Some c =
@@ -21,8 +22,10 @@ returns-in-Some c =
     let f = c.args.fmmu.now in
     let byte = c.args.byte in
     c.has_bit_in.ensures
-    ∙ names_same (λ b. data_in (Some c.in-Some.run') (8 * byte + b)) (λ b. written_number from bits f (8 * byte + b)) 8
-    (λ b _. written_number-run (Some c.in-Some.run') from bits f (8 * byte + b) (sym c.writes.ensures ∙ c.if-not-writes.false) (c.in-Some.ensures.data (8 * byte + b)))
+    ∙ names_same (λ b. data_in (Some c.in-Some.run') (8 * byte + b)) (λ b. written_number from bits f
+    (8 * byte + b)) 8
+    (λ b _. written_number-run (Some c.in-Some.run') from bits f (8 * byte + b) (sym c.writes.ensures
+    ∙ c.if-not-writes.false) (c.in-Some.ensures.data (8 * byte + b)))
 
 pub returns-in-None : goal.returns-in-None
 returns-in-None c =
@@ -31,4 +34,5 @@ returns-in-None c =
     let f = c.args.fmmu.now in
     let byte = c.args.byte in
     sym (names_nowhere (λ b. written_number from bits f (8 * byte + b)) 8
-    (λ b _. sym (written_number-run None from bits f (8 * byte + b) (sym c.writes.ensures ∙ c.if-not-writes.false) (c.in-None.ensures.data (8 * byte + b)))))
+    (λ b _. sym (written_number-run None from bits f (8 * byte + b) (sym c.writes.ensures
+    ∙ c.if-not-writes.false) (c.in-None.ensures.data (8 * byte + b)))))

@@ -11,5 +11,7 @@ use Rattle.ec_esc.proofs.physical_write.last_bytes_written.Given as goal
 abbrev pub invariant-loop-number : goal.invariant-loop-number
 invariant-loop-number l = record {
   size : length l.written ≡ 8;
-  said : (arrived : List ℕ) → l.before ≡ sync_managers_of arrived → (j : ℕ) (s : SyncMan) → j < l.number → slice_get l.after j ≡ Some s → get_or l.written j false ≡ (within l.from l.count (last_byte s) && takes_writes arrived (last_byte s));
+  said : (arrived : List ℕ) → l.before ≡ sync_managers_of arrived → (j : ℕ) (s : SyncMan) → j < l.number
+      → slice_get l.after j ≡ Some s → get_or l.written j false
+      ≡ (within l.from l.count (last_byte s) && takes_writes arrived (last_byte s));
 }

@@ -1,11 +1,13 @@
 use Rattle.std.proofs.Common.{◌≡◌, ℕ, ◌+◌, ◌<◌, length, get_or, refl, ◌∙◌, ap, arith}
 use Rattle.ec_areas.specs.Ranges.{takes_writes}
-use Rattle.ec_esc.proofs.WrittenLemmas.{written_byte, written_none, written_more, written_length, written_run, among, among_behind}
+use Rattle.ec_esc.proofs.WrittenLemmas.{written_byte, written_none, written_more, written_length}
+use Rattle.ec_esc.proofs.WrittenLemmas.{written_run, among, among_behind}
 use Rattle.ec_esc.proofs.physical_write.write_run.Goals as goal
 
 pub loop-place-init : goal.loop-place-init
 loop-place-init c = record {
-  bytes = λ a. written_none (takes_writes c.args.memory.now) c.args.memory.now c.args.payload.now c.args.from a;
+  bytes = λ a. written_none (takes_writes c.args.memory.now) c.args.memory.now c.args.payload.now
+      c.args.from a;
   size = refl;
 }
 
@@ -17,10 +19,12 @@ loop-place-preserved c =
     let step = c.write_byte.ensures arrived c.requires.records in
     record {
       bytes =
-          written_more (takes_writes arrived) arrived c.args.payload.now c.loop-place.memory c.write_byte.new.memory c.args.from c.loop-place.place
+          written_more (takes_writes arrived) arrived c.args.payload.now c.loop-place.memory
+          c.write_byte.new.memory c.args.from c.loop-place.place
           (get_or c.args.payload.now c.loop-place.place 0) c.loop-place.invariant.bytes inside refl step;
       size =
-          written_length (takes_writes arrived at) c.loop-place.memory c.write_byte.new.memory at (get_or c.args.payload.now c.loop-place.place 0) step
+          written_length (takes_writes arrived at) c.loop-place.memory c.write_byte.new.memory at
+          (get_or c.args.payload.now c.loop-place.place 0) step
           ∙ c.loop-place.invariant.size;
     }
 
@@ -33,6 +37,9 @@ returns-clause-written c =
     let payload = c.args.payload.now in
     let test = takes_writes arrived in
     let all : c.loop-place.place ≡ length payload = omega arith in
-    written_run (among test c.args.from (length payload)) c.loop-place.memory arrived payload c.args.from c.loop-place.invariant.size
-    c.requires.bytes (λ k. omega (arith, c.type_inv.payload k)) (λ a. among_behind test c.args.from (length payload) a)
-    (λ a. c.loop-place.invariant.bytes a ∙ ap (λ (n : ℕ). written_byte (among test c.args.from n) arrived payload c.args.from a) all)
+    written_run (among test c.args.from (length payload)) c.loop-place.memory arrived payload c.args.from
+    c.loop-place.invariant.size
+    c.requires.bytes (λ k. omega (arith, c.type_inv.payload k)) (λ a. among_behind test c.args.from
+    (length payload) a)
+    (λ a. c.loop-place.invariant.bytes a ∙ ap (λ (n : ℕ). written_byte
+    (among test c.args.from n) arrived payload c.args.from a) all)

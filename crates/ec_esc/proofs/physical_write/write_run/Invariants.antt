@@ -6,6 +6,7 @@ use Rattle.ec_esc.proofs.physical_write.write_run.Given as goal
 -- the bytes before the place are written
 abbrev pub invariant-loop-place : goal.invariant-loop-place
 invariant-loop-place l = record {
-  bytes : (a : ℕ) → get_or l.memory a 0 ≡ written_byte (among (takes_writes l.initial.memory) l.from l.place) l.initial.memory l.payload l.from a;
+  bytes : (a : ℕ) → get_or l.memory a 0 ≡ written_byte (among
+      (takes_writes l.initial.memory) l.from l.place) l.initial.memory l.payload l.from a;
   size : length l.memory ≡ length l.initial.memory;
 }

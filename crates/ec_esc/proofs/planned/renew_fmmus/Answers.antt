@@ -2,7 +2,8 @@ use Rattle.std.proofs.Common.{◌≡◌, ◌<◌, ℕ, List, length, get_or, sym
 use Rattle.std.proofs.lemmas.List.{length-set}
 use Rattle.ec_regs.specs.declared.fmmu.Fmmu.{Fmmu}
 use Rattle.ec_areas.specs.Records.{fmmu_at}
-use Rattle.ec_esc.proofs.PlannedLemmas.{renewed_none, renewed_more, renewed_kept, fmmus_renewed, fmmu_stays, fmmus_stay, get_or-fmmus_of}
+use Rattle.ec_esc.proofs.PlannedLemmas.{renewed_none, renewed_more, renewed_kept, fmmus_renewed, fmmu_stays}
+use Rattle.ec_esc.proofs.PlannedLemmas.{fmmus_stay, get_or-fmmus_of}
 use Rattle.ec_esc.proofs.planned.renew_fmmus.Goals as goal
 use Rattle.ec_esc.proofs.planned.renew_fmmus.Goals.{then-meets, else-meets}
 
@@ -30,7 +31,8 @@ loop-number-preserved c =
       | then-meets w ↦ rw (w.fmmus-is, w.new.ensures, w.fmmu_at.ensures) record {
         size = length-set fmmus number (fmmu_at memory number) ∙ size;
         renewed = λ before old_is changes.
-            renewed_more number old fmmus (fmmu_at memory) (c.loop-number.invariant.renewed before old_is changes) (omega arith);
+            renewed_more number old fmmus (fmmu_at memory)
+            (c.loop-number.invariant.renewed before old_is changes) (omega arith);
       }
       | else-meets w ↦ rw w.fmmus-is record {
         size = size;
@@ -39,8 +41,10 @@ loop-number-preserved c =
             let stays : fmmu_at memory number ≡ fmmu_at before number =
             fmmu_stays before memory c.args.from c.args.count number changes (omega (arith, c.requires)) below
             (sym c.meets-in-loop-number.ensures ∙ w.if-meets.false) in
-            renewed_kept number old fmmus (fmmu_at memory) (c.loop-number.invariant.renewed before old_is changes)
-            (λ d. ap (λ (fs : List Fmmu). get_or fs number d) old_is ∙ get_or-fmmus_of before d number below ∙ sym stays);
+            renewed_kept number old fmmus (fmmu_at memory)
+            (c.loop-number.invariant.renewed before old_is changes)
+            (λ d. ap (λ (fs : List Fmmu). get_or fs number d) old_is
+            ∙ get_or-fmmus_of before d number below ∙ sym stays);
       }
     ]
 

@@ -2,7 +2,8 @@ use Rattle.std.proofs.Common.{◌≡◌, ◌<◌, ℕ, List, length, get_or, sym
 use Rattle.std.proofs.lemmas.List.{length-set}
 use Rattle.ec_regs.specs.declared.sync_man.SyncMan.{SyncMan}
 use Rattle.ec_areas.specs.Records.{sync_manager_at}
-use Rattle.ec_esc.proofs.PlannedLemmas.{renewed_none, renewed_more, renewed_kept, managers_renewed, manager_stays, managers_stay}
+use Rattle.ec_esc.proofs.PlannedLemmas.{renewed_none, renewed_more, renewed_kept, managers_renewed}
+use Rattle.ec_esc.proofs.PlannedLemmas.{manager_stays, managers_stay}
 use Rattle.ec_areas.proofs.RangeLemmas.{get_or-sync_managers_of}
 use Rattle.ec_esc.proofs.planned.renew_managers.Goals as goal
 use Rattle.ec_esc.proofs.planned.renew_managers.Goals.{then-meets, else-meets}
@@ -10,7 +11,8 @@ use Rattle.ec_esc.proofs.planned.renew_managers.Goals.{then-meets, else-meets}
 pub returns-then-not-meets : goal.returns-then-not-meets
 returns-then-not-meets c before old_is changes =
     let length_is = changes.size in
-    old_is ∙ managers_stay before c.args.memory.now c.args.from c.args.count changes (omega (arith, c.requires))
+    old_is ∙ managers_stay before c.args.memory.now c.args.from c.args.count changes (omega
+    (arith, c.requires))
     (sym c.meets.ensures ∙ c.if-not-meets.true)
 
 pub loop-number-init : goal.loop-number-init
@@ -31,17 +33,21 @@ loop-number-preserved c =
       | then-meets w ↦ rw (w.managers-is, w.new.ensures, w.sync_manager_at.ensures) record {
         size = length-set managers number (sync_manager_at memory number) ∙ size;
         renewed = λ before old_is changes.
-            renewed_more number old managers (sync_manager_at memory) (c.loop-number.invariant.renewed before old_is changes) (omega arith);
+            renewed_more number old managers (sync_manager_at memory)
+            (c.loop-number.invariant.renewed before old_is changes) (omega arith);
       }
       | else-meets w ↦ rw w.managers-is record {
         size = size;
         renewed = λ before old_is changes.
             let length_is = changes.size in
             let stays : sync_manager_at memory number ≡ sync_manager_at before number =
-            manager_stays before memory c.args.from c.args.count number changes (omega (arith, c.requires)) below
+            manager_stays before memory c.args.from c.args.count number changes (omega
+            (arith, c.requires)) below
             (sym c.meets-in-loop-number.ensures ∙ w.if-meets.false) in
-            renewed_kept number old managers (sync_manager_at memory) (c.loop-number.invariant.renewed before old_is changes)
-            (λ d. ap (λ (fs : List SyncMan). get_or fs number d) old_is ∙ get_or-sync_managers_of before d number below ∙ sym stays);
+            renewed_kept number old managers (sync_manager_at memory)
+            (c.loop-number.invariant.renewed before old_is changes)
+            (λ d. ap (λ (fs : List SyncMan). get_or fs number d) old_is
+            ∙ get_or-sync_managers_of before d number below ∙ sym stays);
       }
     ]
 

@@ -16,6 +16,9 @@ returns c = λ b below.
       | then-byte-bytes w ↦ w.high-is
       | else-byte-bytes w ↦ w.high-is ∙ sym (get_or_past bytes (c.args.source / 8 + 1) 0 (omega arith))
     ] in
-    ap (λ byte. bit_at byte b) (c.window.ensures ∙ ap (λ upper. (upper * 2 ^ 8 + get_or bytes (c.args.source / 8) 0) / 2 ^ (c.args.source % 8) % 2 ^ 8) high)
-    ∙ bit_at-window bytes (c.args.source / 8) (c.args.source % 8) b (λ k. omega (arith, c.type_inv.bytes k)) (omega arith) below
+    ap (λ byte. bit_at byte b) (c.window.ensures
+    ∙ ap (λ upper. (upper * 2 ^ 8 + get_or bytes (c.args.source / 8) 0) / 2 ^
+    (c.args.source % 8) % 2 ^ 8) high)
+    ∙ bit_at-window bytes (c.args.source / 8) (c.args.source % 8) b (λ k. omega
+    (arith, c.type_inv.bytes k)) (omega arith) below
     ∙ ap (bit bytes) place

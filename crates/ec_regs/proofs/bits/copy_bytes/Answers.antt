@@ -1,4 +1,5 @@
-use Rattle.std.proofs.Common.{◌≡◌, ℕ, List, ◌+◌, ◌-◌, ◌*◌, ◌/◌, ◌%◌, ◌^◌, get_or, take, drop, sym, ◌∙◌, ap, arith, length-drop}
+use Rattle.std.proofs.Common.{◌≡◌, ℕ, List, ◌+◌, ◌-◌, ◌*◌, ◌/◌, ◌%◌, ◌^◌, get_or, take, drop, sym, ◌∙◌, ap}
+use Rattle.std.proofs.Common.{arith, length-drop}
 use Rattle.std.specs.Int.{bit_at}
 use Rattle.std.proofs.lemmas.List.{length-take-le}
 use Rattle.ec_regs.specs.Bits.{bit}
@@ -14,7 +15,8 @@ returns-then-shift-eq0 c =
     let from = c.args.source / 8 in
     let count = c.args.count in
     let size = length-take-le (at + count - at) (drop at into) (omega (arith, length-drop at into)) in
-    put_run into bytes c.copy_from_slice.new.self at (at + count - at) c.args.source count (omega arith) (λ k. omega (arith, c.type_inv.into k))
+    put_run into bytes c.copy_from_slice.new.self at (at + count - at) c.args.source count (omega arith)
+    (λ k. omega (arith, c.type_inv.into k))
     (omega (arith, c.copy_from_slice.ensures.len, size)) c.requires.at_inside
     (λ k b inside below.
     let place : 8 * (from + k) + b ≡ c.args.source + 8 * k + b = omega arith in
@@ -31,7 +33,8 @@ returns-else-shift-eq0 c =
     let shift = c.args.source % 8 in
     let count = c.args.count in
     let size = length-take-le (at + count - at) (drop at into) (omega (arith, length-drop at into)) in
-    put_run into bytes c.fill_shifted.new.into at (at + count - at) c.args.source count (omega arith) (λ k. omega (arith, c.type_inv.into k))
+    put_run into bytes c.fill_shifted.new.into at (at + count - at) c.args.source count (omega arith)
+    (λ k. omega (arith, c.type_inv.into k))
     (omega (arith, c.fill_shifted.auto.into, size)) c.requires.at_inside
     (λ k b inside below.
     let place : 8 * (from + k) + shift + b ≡ c.args.source + 8 * k + b = omega arith in

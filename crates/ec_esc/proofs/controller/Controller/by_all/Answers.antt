@@ -6,4 +6,5 @@ use Rattle.ec_esc.proofs.controller.Controller.by_all.Goals as goal
 pub returns-clause-frame : goal.returns-clause-frame
 returns-clause-frame c =
     counted_up-frame (access c.args.access c.args.self.now (nth c.args.frame.now c.args.k))
-    c.args.frame.now c.access.new.frame c.count_up.new.frame c.args.k c.requires c.access.ensures.frame c.count_up.ensures
+    c.args.frame.now c.access.new.frame c.count_up.new.frame c.args.k c.requires c.access.ensures.frame
+    c.count_up.ensures

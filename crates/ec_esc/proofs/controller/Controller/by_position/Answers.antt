@@ -6,5 +6,8 @@ use Rattle.ec_esc.proofs.controller.Controller.by_position.Goals as goal
 
 pub returns-clause-frame : goal.returns-clause-frame
 returns-clause-frame c =
-    counted_up-frame (if_addressed (is_first (nth c.args.frame.now c.args.k)) (access c.args.access c.args.self.now (nth c.args.frame.now c.args.k)) c.args.self.now (nth c.args.frame.now c.args.k))
-    c.args.frame.now c.where_first.new.frame c.count_up.new.frame c.args.k c.requires c.where_first.ensures.frame c.count_up.ensures
+    counted_up-frame (if_addressed (is_first (nth c.args.frame.now c.args.k))
+    (access c.args.access c.args.self.now (nth c.args.frame.now c.args.k)) c.args.self.now
+    (nth c.args.frame.now c.args.k))
+    c.args.frame.now c.where_first.new.frame c.count_up.new.frame c.args.k c.requires
+    c.where_first.ensures.frame c.count_up.ensures

@@ -13,8 +13,14 @@ returns-else-write_data-clause-frame c =
     let d : DatagramRecord = nth came k in
     let fits : d.counter < 65536 = omega (arith, c.counter-counter.type_inv, c.counter-counter.ensures) in
     let none : serves_write c.args.self.now d ≡ false =
-    ap (λ a. serves_write c.args.self.now (record blank { address = a; payload = d.payload })) (sym c.address.ensures)
-    ∙ ap (λ ys. serves_write c.args.self.now (record blank { address = c.address.result; payload = ys })) (sym c.data.ensures.value)
+    ap (λ a. serves_write c.args.self.now (record blank {
+      address = a;
+      payload = d.payload;
+    })) (sym c.address.ensures)
+    ∙ ap (λ ys. serves_write c.args.self.now (record blank {
+      address = c.address.result;
+      payload = ys;
+    })) (sym c.data.ensures.value)
     ∙ sym c.write_data.ensures.served ∙ c.if-write_data.false
     in
     sym (ap (λ b. set came k (record d { counter = counter_after d (if_served b 1) })) none

@@ -8,7 +8,8 @@ returns c = record {
   memory = λ address.
       rw c.set_byte-3.ensures.value
       (rw c.set_byte-2.ensures.value
-      (rw c.set_byte.ensures.value (fresh_memory c.in_ok-memory.memory c.args.station c.in_ok-memory.ensures.size c.in_ok-memory.ensures.zero address)));
+      (rw c.set_byte.ensures.value (fresh_memory c.in_ok-memory.memory c.args.station
+      c.in_ok-memory.ensures.size c.in_ok-memory.ensures.zero address)));
   shown_size = c.in_ok-zeros.ensures.size;
   shown = c.in_ok-zeros.ensures.zero;
   written = refl;

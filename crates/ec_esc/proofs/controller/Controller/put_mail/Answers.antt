@@ -18,11 +18,19 @@ returns-clause-ok c =
     c.load.ensures.value ∙ ap (λ (xs : List ℕ). with_run m s.start xs) area in
     c.mark_full.ensures
     ∙ ap
-    (λ (xs : List ℕ). record { memory = with_filled (Some c.args.sm) xs; shown = c.self.inside.shown.items; written = c.self.inside.written })
+    (λ (xs : List ℕ). record {
+      memory = with_filled (Some c.args.sm) xs;
+      shown = c.self.inside.shown.items;
+      written = c.self.inside.written;
+    })
     loaded
     ∙ ap
-    (λ (t : ControllerState). record t { memory = with_filled (Some c.args.sm) (with_run t.memory s.start (mail_area s mail)) })
+    (λ (t : ControllerState). record t {
+      memory = with_filled (Some c.args.sm) (with_run t.memory s.start (mail_area s mail));
+    })
     c.self.view_is
     ∙ ap
-    (λ (t : SyncMan). record c.args.self.now { memory = with_filled (Some c.args.sm) (with_run c.args.self.now.memory t.start (mail_area t mail)) })
+    (λ (t : SyncMan). record c.args.self.now {
+      memory = with_filled (Some c.args.sm) (with_run c.args.self.now.memory t.start (mail_area t mail));
+    })
     c.syncman-manager.ensures

@@ -8,8 +8,14 @@ returns-clause-share c =
     let d : DatagramRecord = nth c.args.frame.now c.args.k in
     let written : c.write_data-is_written.result ≡ serves_write c.args.self.now d =
     c.write_data-is_written.ensures.served
-    ∙ ap (λ ys. serves_write c.args.self.now (record blank { address = c.get-arrived.result.address; payload = ys })) c.as_slice.ensures.value
-    ∙ ap (λ (r : DatagramRecord). serves_write c.args.self.now (record blank { address = r.address; payload = r.payload })) c.get-arrived.ensures
+    ∙ ap (λ ys. serves_write c.args.self.now (record blank {
+      address = c.get-arrived.result.address;
+      payload = ys;
+    })) c.as_slice.ensures.value
+    ∙ ap (λ (r : DatagramRecord). serves_write c.args.self.now (record blank {
+      address = r.address;
+      payload = r.payload;
+    })) c.get-arrived.ensures
     in
     c.exchange_share.ensures
     ∙ ap (λ b. if_served b 1 + if_served c.write_data-is_written.result 2) c.fill_data-is_read.ensures.served

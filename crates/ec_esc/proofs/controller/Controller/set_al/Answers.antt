@@ -12,11 +12,16 @@ returns-clause-state c =
     let bytes : List ℕ = status_byte c.args.status ∷ 0 ∷ [] in
     let first : c.load.new.self ≡ with_run c.self.inside.memory AL_STATUS bytes =
     c.load.ensures.value ∙ ap (λ n. with_run c.self.inside.memory AL_STATUS (n ∷ 0 ∷ [])) c.byte.ensures in
-    let second : c.load-2.new.self ≡ with_run (with_run c.self.inside.memory AL_STATUS bytes) AL_STATUS_CODE (to_le_bytes w16 c.args.code) =
+    let second : c.load-2.new.self ≡ with_run (with_run c.self.inside.memory AL_STATUS bytes)
+    AL_STATUS_CODE (to_le_bytes w16 c.args.code) =
     c.load-2.ensures.value
     ∙ ap (λ (spelt : List ℕ). with_run c.load.new.self AL_STATUS_CODE spelt) c.to_le_bytes.ensures
     ∙ ap (λ (m : List ℕ). with_run m AL_STATUS_CODE (to_le_bytes w16 c.args.code)) first in
-    ap (λ (m : List ℕ). record { memory = m; shown = c.self.inside.shown.items; written = c.self.inside.written }) second
+    ap (λ (m : List ℕ). record {
+      memory = m;
+      shown = c.self.inside.shown.items;
+      written = c.self.inside.written;
+    }) second
     ∙ ap (λ (s : ControllerState). with_al s c.args.status c.args.code) c.self.view_is
 
 -- the memory has its size
@@ -25,8 +30,10 @@ size c = sym (ap (λ (s : ControllerState). length s.memory) c.self.view_is) ∙
 
 pub returns-clause-status : goal.returns-clause-status
 returns-clause-status c =
-    ap al_status (returns-clause-state c) ∙ al_status-with_al c.args.self.now c.args.status c.args.code (size c)
+    ap al_status (returns-clause-state c) ∙ al_status-with_al c.args.self.now c.args.status c.args.code
+    (size c)
 
 pub returns-clause-code : goal.returns-clause-code
 returns-clause-code c =
-    ap al_status_code (returns-clause-state c) ∙ al_status_code-with_al c.args.self.now c.args.status c.args.code (size c) c.ranges.code.fits
+    ap al_status_code (returns-clause-state c)
+    ∙ al_status_code-with_al c.args.self.now c.args.status c.args.code (size c) c.ranges.code.fits

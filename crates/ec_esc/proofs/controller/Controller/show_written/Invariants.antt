@@ -9,5 +9,7 @@ abbrev pub invariant-loop-i : goal.invariant-loop-i
 invariant-loop-i l = record {
   kept : l.self ≡ record l.initial.self { shown = l.self.shown };
   size : length l.self.shown ≡ PROCESS_MEMORY_SIZE;
-  rest : (is_written : ℕ → Bool) → SaysOfLastBytes is_written l.after l.last_written → shown_after is_written (drop l.i l.before) (drop l.i l.after) l.initial.self.memory l.self.shown ≡ shown_after is_written l.before l.after l.initial.self.memory l.initial.self.shown;
+  rest : (is_written : ℕ → Bool) → SaysOfLastBytes is_written l.after l.last_written
+      → shown_after is_written (drop l.i l.before) (drop l.i l.after) l.initial.self.memory l.self.shown
+      ≡ shown_after is_written l.before l.after l.initial.self.memory l.initial.self.shown;
 }

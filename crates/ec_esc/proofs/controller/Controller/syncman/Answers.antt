@@ -8,6 +8,7 @@ use Rattle.ec_esc.proofs.controller.Controller.syncman.Goals as goal
 pub returns : goal.returns
 returns c =
     c.manager.ensures
-    ∙ ap (λ (managers : List SyncMan). get_or managers c.args.i c.index-managers-i.result) c.managers.ensures.value
+    ∙ ap (λ (managers : List SyncMan). get_or managers c.args.i c.index-managers-i.result)
+    c.managers.ensures.value
     ∙ get_or-sync_managers_of c.self.inside.memory c.index-managers-i.result c.args.i c.requires
     ∙ ap (λ (s : ControllerState). sync_manager_at s.memory c.args.i) c.self.view_is

@@ -6,12 +6,19 @@ use Rattle.ec_esc.proofs.ExchangeLemmas.{read_data-written, serves_read-written}
 use Rattle.ec_esc.proofs.controller.Controller.write_then_read.Goals as goal
 
 -- the write is that of the datagram
-state_is : (c : goal.After-exchange_share) → c.write_data-is_written.new.self ≡ written_state c.args.self.now (nth c.args.frame.now c.args.k)
+state_is : (c : goal.After-exchange_share) → c.write_data-is_written.new.self
+    ≡ written_state c.args.self.now (nth c.args.frame.now c.args.k)
 state_is c =
     let d : DatagramRecord = nth c.args.frame.now c.args.k in
     c.write_data-is_written.ensures.state
-    ∙ ap (λ (a : ℕ). written_state c.args.self.now (record blank { address = a; payload = c.data.result.now })) c.address.ensures
-    ∙ ap (λ (ys : List ℕ). written_state c.args.self.now (record blank { address = d.address; payload = ys })) c.data.ensures.value
+    ∙ ap (λ (a : ℕ). written_state c.args.self.now (record blank {
+      address = a;
+      payload = c.data.result.now;
+    })) c.address.ensures
+    ∙ ap (λ (ys : List ℕ). written_state c.args.self.now (record blank {
+      address = d.address;
+      payload = ys;
+    })) c.data.ensures.value
 
 pub returns-clause-frame : goal.returns-clause-frame
 returns-clause-frame c =
@@ -34,8 +41,14 @@ returns-clause-share c =
     ∙ serves_read-written c.args.self.now d fits.memory_size fits.memory in
     let written : c.write_data-is_written.result ≡ serves_write c.args.self.now d =
     c.write_data-is_written.ensures.served
-    ∙ ap (λ (a : ℕ). serves_write c.args.self.now (record blank { address = a; payload = c.data.result.now })) c.address.ensures
-    ∙ ap (λ (ys : List ℕ). serves_write c.args.self.now (record blank { address = d.address; payload = ys })) c.data.ensures.value in
+    ∙ ap (λ (a : ℕ). serves_write c.args.self.now (record blank {
+      address = a;
+      payload = c.data.result.now;
+    })) c.address.ensures
+    ∙ ap (λ (ys : List ℕ). serves_write c.args.self.now (record blank {
+      address = d.address;
+      payload = ys;
+    })) c.data.ensures.value in
     c.exchange_share.ensures
     ∙ ap (λ b. if_served b 1 + if_served c.write_data-is_written.result 2) read
     ∙ ap (λ b. if_served (serves_read c.args.self.now d) 1 + if_served b 2) written

@@ -14,7 +14,8 @@ invariant_of-self c =
     record {
       size = c.load.ensures.size;
       fmmus_are =
-          c.renew_fmmus.ensures memory c.self.invariant.fmmus_are changes ∙ ap fmmus_of c.bytes-bytes.ensures.value;
+          c.renew_fmmus.ensures memory c.self.invariant.fmmus_are changes
+          ∙ ap fmmus_of c.bytes-bytes.ensures.value;
       managers_are =
           c.renew_managers.ensures memory c.self.invariant.managers_are changes
           ∙ ap sync_managers_of c.bytes-bytes.ensures.value;

@@ -9,16 +9,19 @@ use Rattle.ec_esc.proofs.planned.PlannedMemory.write_mapped.Goals as goal
 
 -- the memory keeps its size
 size : (c : goal.After-write_mapped) → length c.write_mapped.new.memory ≡ MEMORY_SIZE
-size c = ap length c.write_mapped.ensures.bits ∙ length-with_bits c.self.inside.memory c.args.payload.now _ ∙ c.self.invariant.size
+size c = ap length c.write_mapped.ensures.bits
+    ∙ length-with_bits c.self.inside.memory c.args.payload.now _ ∙ c.self.invariant.size
 
 pub invariant_of-self : goal.invariant_of-self
 invariant_of-self c =
     let memory : List ℕ = c.self.inside.memory in
     let are : AreBytes memory = subst AreBytes (sym c.self.view_is) c.requires in
-    let same = registers_stay memory c.args.payload.now c.self.inside.managers c.self.inside.fmmus (8 * c.args.address) (8 * length c.args.payload.now) c.self.invariant.size are in
+    let same = registers_stay memory c.args.payload.now c.self.inside.managers c.self.inside.fmmus
+    (8 * c.args.address) (8 * length c.args.payload.now) c.self.invariant.size are in
     record {
       size = size c;
-      fmmus_are = c.self.invariant.fmmus_are ∙ sym (ap fmmus_of c.write_mapped.ensures.bits ∙ fmmus_same memory _ same);
+      fmmus_are = c.self.invariant.fmmus_are ∙ sym (ap fmmus_of c.write_mapped.ensures.bits
+          ∙ fmmus_same memory _ same);
       managers_are =
           c.self.invariant.managers_are
           ∙ sym (ap sync_managers_of c.write_mapped.ensures.bits ∙ sync_managers_same memory _ same);

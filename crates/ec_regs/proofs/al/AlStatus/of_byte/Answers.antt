@@ -12,5 +12,6 @@ returns c =
     let byte = c.args.byte in
     let state : c.unwrap_or.result ≡ unwrap_or (state_of (byte % 16)) Init =
     c.unwrap_or.ensures ∙ ap (λ o. unwrap_or o Init) (c.from_code.ensures ∙ ap state_of (and_mask byte 4)) in
-    let error = c.contains.ensures tt ∙ ap (λ n. eqb (bit_and n 16) 16) (c.from_bits_retain.ensures tt) ∙ has_flag byte 4 in
+    let error = c.contains.ensures tt ∙ ap (λ n. eqb (bit_and n 16) 16) (c.from_bits_retain.ensures tt)
+    ∙ has_flag byte 4 in
     cc

@@ -4,12 +4,16 @@ use Rattle.std.proofs.lemmas.Int.{ints}
 use Rattle.ec_regs.specs.Pairs.{pair_count, IsPair}
 use Rattle.ec_regs.specs.declared.plan.Plan.{Plan}
 use Rattle.ec_regs.specs.Plan.{Pairs, mask_from}
-use Rattle.ec_regs.proofs.PlanLemmas.{Maps-pair_count, mask_from_is, mask_to_is, distance_is, mapped_plan_is, no_plan_is, Pairs-plan_of, taken_at_one, taken_elsewhere}
+use Rattle.ec_regs.proofs.PlanLemmas.{Maps-pair_count, mask_from_is, mask_to_is, distance_is}
+use Rattle.ec_regs.proofs.PlanLemmas.{mapped_plan_is, no_plan_is, Pairs-plan_of, taken_at_one}
+use Rattle.ec_regs.proofs.PlanLemmas.{taken_elsewhere}
 use Rattle.ec_regs.proofs.fmmu.Fmmu.plan.Goals as goal
-use Rattle.ec_regs.proofs.fmmu.Fmmu.plan.Goals.{then-is_one_byte, else-is_one_byte, then-is_one_byte-2, else-is_one_byte-2}
+use Rattle.ec_regs.proofs.fmmu.Fmmu.plan.Goals.{then-is_one_byte, else-is_one_byte, then-is_one_byte-2}
+use Rattle.ec_regs.proofs.fmmu.Fmmu.plan.Goals.{else-is_one_byte-2}
 
 pub returns-then-mapped_bits-eq0-clause-value : goal.returns-then-mapped_bits-eq0-clause-value
-returns-then-mapped_bits-eq0-clause-value c = no_plan_is c.args.self.now (sym c.mapped_bits.ensures.value ∙ c.if-mapped_bits-eq0.true)
+returns-then-mapped_bits-eq0-clause-value c = no_plan_is c.args.self.now
+    (sym c.mapped_bits.ensures.value ∙ c.if-mapped_bits-eq0.true)
 
 pub overflow_shl-first : goal.overflow_shl-first
 overflow_shl-first c = (Maps-pair_count c.args.self.now (omega arith)).start

@@ -8,4 +8,5 @@ returns-clause-value c = search rules
 
 pub returns-clause-written_back : goal.returns-clause-written_back
 returns-clause-written_back c =
-    ap sync_man_bytes (returns-clause-value c) ∙ sync_man_bytes-sync_man_of c.args.bytes.now c.told-bytes c.fits-bytes
+    ap sync_man_bytes (returns-clause-value c)
+    ∙ sync_man_bytes-sync_man_of c.args.bytes.now c.told-bytes c.fits-bytes
