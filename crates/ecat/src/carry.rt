@@ -1,7 +1,7 @@
 //! A frame on its way over a ring, and what the master reads of it.
 
-use ec_merge::{JoinFault, join_frames};
 use ec_master::calm;
+use ec_merge::{JoinFault, join_frames};
 use ec_ring::{Ring, Travel};
 use ec_wire::FrameBuf;
 

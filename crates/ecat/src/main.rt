@@ -18,7 +18,6 @@ mod udp;
 mod vectors;
 
 use act::act;
-use udp::act_udp;
 use ecat_args::{Args, ArgsFault};
 use ecat_source::{Bytes, Counted};
 use ecat_udp::UdpLine;
@@ -26,6 +25,7 @@ use std::net::Net;
 use std::process::ExitCode;
 use std::rt::{Env, Files};
 use std::{env, fs, io};
+use udp::act_udp;
 
 /// The words of the command line are no command.
 const BAD_ARGUMENTS: u8 = 2;

@@ -1,8 +1,12 @@
 //! What the commands print and answer, over bytes in place. A test accepts want of memory as an answer, so
 //! that each allocation can be made to fail in turn.
 
+ghost use Rattle.std.specs.Prelude.{◌≡◌, false};
+ghost use Rattle.ecat.specs.Commands.{is_udp};
+
 mod checking;
 mod cycles;
+mod failing;
 mod objects;
 mod packets;
 mod rings;
@@ -34,7 +38,9 @@ fn answers<S: Source>(
     status: u8,
     out: &[u8],
     err: &[u8],
-) {
+)
+    requires { is_udp args.now ≡ false }
+{
     let mut printed = Cursor::new([0u8; ROOM]);
     let mut complained = Cursor::new([0u8; ROOM]);
     let answer = act(rt.alloc(), args, source, &mut printed, &mut complained);

@@ -24,13 +24,7 @@ impl From<CycleFault> for Failure {
 }
 
 /// Does `udp`, whose scene is open as `source` and whose packets `line` carries, and answers the exit status.
-pub fn act_udp<S, L, W, V>(
-    alloc: Global,
-    source: &mut S,
-    line: L,
-    out: &mut W,
-    err: &mut V,
-) -> u8
+pub fn act_udp<S, L, W, V>(alloc: Global, source: &mut S, line: L, out: &mut W, err: &mut V) -> u8
 where
     S: Source,
     L: PacketLine + Drop,

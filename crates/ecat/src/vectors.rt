@@ -18,7 +18,8 @@ use crate::scene_rows::{
     unmapped_read_is_unchanged,
 };
 use crate::slave_rows::{
-    an_error_stands_until_acknowledged, mails_are_answered_once, states_are_refused_with_their_codes,
+    an_error_stands_until_acknowledged, mails_are_answered_once,
+    states_are_refused_with_their_codes,
 };
 use std::alloc::Global;
 use std::io::Write;

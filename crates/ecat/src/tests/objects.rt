@@ -84,7 +84,8 @@ fn a_slave_in_init_answers_no_mail(rt: HostRuntime) {
 
 #[test]
 fn a_mail_finds_its_way_round_a_broken_cable(rt: HostRuntime) {
-    let scene = b"slave 0x1001\nstate 2\nsm 0 0x1800 32 mailbox-write\nsm 1 0x1880 32 mailbox-read\n\
+    let scene =
+        b"slave 0x1001\nstate 2\nsm 0 0x1800 32 mailbox-write\nsm 1 0x1880 32 mailbox-read\n\
         object 0x1018 1 4 ro 2\nlink 0 down\n";
     let out = b"value 0x00000002\n";
     transfers(&rt, scene, (0x1001, 0x1018, 1), None, 0, out);
@@ -92,7 +93,8 @@ fn a_mail_finds_its_way_round_a_broken_cable(rt: HostRuntime) {
 
 #[test]
 fn a_slave_that_no_copy_reaches_is_no_slave(rt: HostRuntime) {
-    let scene = b"slave 0x1001\nstate 2\nsm 0 0x1800 32 mailbox-write\nsm 1 0x1880 32 mailbox-read\n\
+    let scene =
+        b"slave 0x1001\nstate 2\nsm 0 0x1800 32 mailbox-write\nsm 1 0x1880 32 mailbox-read\n\
         object 0x1018 1 4 ro 2\nlink 0 down\nlink 1 down\n";
     let out = b"fault NoSlave\n";
     transfers(&rt, scene, (0x1001, 0x1018, 1), None, 1, out);
@@ -100,7 +102,8 @@ fn a_slave_that_no_copy_reaches_is_no_slave(rt: HostRuntime) {
 
 #[test]
 fn actions_items_and_weathers_are_passed_over(rt: HostRuntime) {
-    let scene = b"slave 0x1001\nstate 2\nsm 0 0x1800 32 mailbox-write\nsm 1 0x1880 32 mailbox-read\n\
+    let scene =
+        b"slave 0x1001\nstate 2\nsm 0 0x1800 32 mailbox-write\nsm 1 0x1880 32 mailbox-read\n\
         object 0x1018 1 4 ro 2\nstep\nbrd 0x0130 0000\nweather 0 0 ab a\n";
     let out = b"value 0x00000002\n";
     transfers(&rt, scene, (0x1001, 0x1018, 1), None, 0, out);

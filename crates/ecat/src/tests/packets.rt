@@ -147,7 +147,14 @@ fn a_frame_that_was_not_sent_is_a_stranger(rt: HostRuntime) {
 #[test]
 fn a_scene_with_actions_or_weathers_is_not_for_packets(rt: HostRuntime) {
     let said = b"scene: actions\n";
-    goes(&rt, b"slave 0x1001\nstep\n", Fake::new(Way::Loses), 1, said, b"");
+    goes(
+        &rt,
+        b"slave 0x1001\nstep\n",
+        Fake::new(Way::Loses),
+        1,
+        said,
+        b"",
+    );
     let weather = b"slave 0x1001\nbrd 0x0130 0000\nweather - - - a\n";
     goes(&rt, weather, Fake::new(Way::Loses), 1, said, b"");
 }
@@ -173,7 +180,13 @@ fn a_faulty_scene_and_a_reader_that_fails_are_named(rt: HostRuntime) {
     let mut out = Cursor::new([0u8; ROOM]);
     let mut err = Cursor::new([0u8; ROOM]);
     let line = Fake::new(Way::Fails);
-    let answer = act_udp(rt.alloc(), &mut FailsAt::new(EXAMPLE, 7, 1), line, &mut out, &mut err);
+    let answer = act_udp(
+        rt.alloc(),
+        &mut FailsAt::new(EXAMPLE, 7, 1),
+        line,
+        &mut out,
+        &mut err,
+    );
     if written(&err) != b"scene: NoMemory\n".as_slice() {
         assert_eq!(rt; written(&err), b"file: Read\n".as_slice());
     }

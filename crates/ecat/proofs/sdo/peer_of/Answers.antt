@@ -14,9 +14,10 @@ unfolding is_active
 active_mailbox m a d all same =
     let both : is_active m && is_mailbox m ≡ true = (and_parts (is_active m && is_mailbox m) d all).0 in
     let active : is_active m ≡ true = (and_parts (is_active m) (is_mailbox m) both).0 in
-    let mailbox : is_mailbox m ≡ true = (and_parts (is_active m) (is_mailbox m) both).1 in
-    (let least : 16 ≤ m.length = grind (arith, nat_tests) in omega (arith, least, same),
-     let most : m.length ≤ 128 = grind (arith, nat_tests) in omega (arith, most, same))
+    let mailbox : is_mailbox m ≡ true = (and_parts (is_active m) (is_mailbox m) both).1 in (
+      let least : 16 ≤ m.length = grind (arith, nat_tests) in omega (arith, least, same),
+      let most : m.length ≤ 128 = grind (arith, nat_tests) in omega (arith, most, same),
+    )
 
 pub returns : goal.returns
 returns c = record {

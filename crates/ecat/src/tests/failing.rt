@@ -1,0 +1,137 @@
+//! Reads and writes that fail, each in turn.
+
+ghost use Rattle.std.specs.Prelude.{◌≡◌, false};
+ghost use Rattle.ecat.specs.Commands.{is_udp};
+
+use super::{ROOM, written};
+use crate::act::act;
+use crate::udp::act_udp;
+use ec_master::PortFault;
+use ecat_args::Args;
+use ecat_source::{Bytes, FailsAt};
+use ecat_udp::{PacketLine, Socket};
+use std::alloc::Global;
+use std::io::{self, Cursor, Write};
+
+/// Two slaves with a broken cable between them; what `run` prints of them is three lines.
+const EXAMPLE: &[u8] = b"slave 0x1001\nstate 8\nsm 2 0x1000 1 write\nsm 3 0x1100 1 read\n\
+    fmmu 0 0x10000 1 0 7 0x1000 0 write\nfmmu 1 0x10000 1 0 7 0x1100 0 read\nmem 0x1100 12\n\
+    slave 0x1002\nstate 4\nlink 1 down\nlrw 0x10000 ff\nbrd 0x0130 0000\n";
+
+const RUN: Args<'static> = Args::Run { scene: "s" };
+
+const SDO: Args<'static> = Args::Sdo {
+    scene: "s",
+    station: 0x1001,
+    index: 0x1018,
+    sub: 1,
+    value: None,
+};
+
+/// How many bytes a read gives.
+const PIECE: usize = 50;
+
+/// An output whose write after so many fails.
+#[derive(Drop)]
+struct Stops {
+    left: usize,
+}
+
+impl Write for Stops {
+    fn write(&mut self, bytes: &[u8]) -> io::Result<usize> {
+        if self.left == 0 {
+            return Err(io::Error::from(io::ErrorKind::BrokenPipe));
+        }
+        self.left -= 1;
+        Ok(bytes.len())
+    }
+
+    fn flush(&mut self) -> io::Result<()> {
+        Ok(())
+    }
+}
+
+/// A line over which no packet comes.
+#[derive(Drop)]
+struct Silent;
+
+impl PacketLine for Silent {
+    ghost failed = { λ line. 0 };
+
+    fn send(&mut self, _from: Socket, _to: Socket, _bytes: &[u8]) -> Result<(), PortFault> {
+        Ok(())
+    }
+
+    fn receive(&mut self, _at: Socket, _into: &mut [u8; 1501]) -> Result<Option<usize>, PortFault> {
+        Ok(None)
+    }
+
+    fn failures(&self) -> u64 {
+        0
+    }
+}
+
+/// The status of a command whose write after so many fails.
+fn status_after_writes(alloc: Global, args: &Args<'_>, writes: usize) -> u8
+    requires { is_udp args.now ≡ false }
+{
+    let mut err = Cursor::new([0u8; ROOM]);
+    let mut out = Stops { left: writes };
+    act(alloc, args, &mut Bytes::new(EXAMPLE), &mut out, &mut err)
+}
+
+/// The status of a command whose read after so many fails.
+fn status_after_reads(alloc: Global, args: &Args<'_>, reads: u64) -> u8
+    requires { is_udp args.now ≡ false }
+{
+    let mut out = Cursor::new([0u8; ROOM]);
+    let mut err = Cursor::new([0u8; ROOM]);
+    let mut source = FailsAt::new(EXAMPLE, PIECE, reads);
+    act(alloc, args, &mut source, &mut out, &mut err)
+}
+
+#[test]
+fn each_write_that_fails_ends_a_run(rt: HostRuntime) {
+    for writes in 0..3usize {
+        assert_eq!(rt;
+            status_after_writes(rt.alloc(), &RUN, writes),
+            3,
+            "write {writes}"
+        );
+    }
+}
+
+#[test]
+fn a_write_that_fails_ends_a_transfer_and_the_worked_rows(rt: HostRuntime) {
+    assert_eq!(rt; status_after_writes(rt.alloc(), &SDO, 0), 3);
+    assert_eq!(rt; status_after_writes(rt.alloc(), &Args::Vectors, 0), 3);
+    assert_eq!(rt; status_after_writes(rt.alloc(), &Args::Vectors, 25), 3);
+}
+
+#[test]
+fn each_read_that_fails_ends_a_command(rt: HostRuntime) {
+    for reads in 1..6u64 {
+        assert_eq!(rt;
+            status_after_reads(rt.alloc(), &RUN, reads),
+            3,
+            "read {reads}"
+        );
+        assert_eq!(rt;
+            status_after_reads(rt.alloc(), &SDO, reads),
+            3,
+            "read {reads}"
+        );
+    }
+}
+
+#[test]
+fn each_write_that_fails_ends_a_cycle_over_packets(rt: HostRuntime) {
+    for writes in 0..4usize {
+        let mut err = Cursor::new([0u8; ROOM]);
+        let mut out = Stops { left: writes };
+        let mut source = Bytes::new(EXAMPLE);
+        let answer = act_udp(rt.alloc(), &mut source, Silent, &mut out, &mut err);
+        assert_eq!(rt; answer, 3, "write {writes}");
+        assert!(rt; !written(&err).is_empty());
+    }
+}
