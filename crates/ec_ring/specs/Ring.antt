@@ -1,6 +1,7 @@
 -- A ring seen from outside: its slaves in their order on the line, and which links are up.
 use Rattle.std.specs.Prelude.{ℕ, List, ◌∷◌, map, slice_set}
 use Rattle.ec_app.specs.Lending.{with_controller}
+use Rattle.ec_app.specs.Slave.{step}
 use Rattle.ec_app.specs.State.{SlaveState}
 use Rattle.ec_esc.specs.State.{ControllerState}
 use Rattle.ec_ring.specs.declared.links.Links.{Links}
@@ -25,6 +26,10 @@ with_controllers slaves _ = slaves
 -- this ring with other controllers on its line
 abbrev pub with_line : RingState → List ControllerState → RingState
 with_line r line = record r { slaves = with_controllers r.slaves line }
+
+-- this ring once each slave has taken its step
+abbrev pub stepped : RingState → RingState
+stepped r = record r { slaves = map step r.slaves }
 
 -- this ring with another slave at a place
 abbrev pub with_slave : RingState → ℕ → SlaveState → RingState

@@ -9,7 +9,7 @@ ghost use Rattle.ec_esc.specs.Pass.{frame_pass};
 ghost use Rattle.ec_line.specs.Trip.{circulated};
 ghost use Rattle.ec_ring.specs.Lending.{LendsSlave};
 ghost use Rattle.ec_ring.specs.Links.{is_up};
-ghost use Rattle.ec_ring.specs.Ring.{controllers, line_of, with_controllers, with_line};
+ghost use Rattle.ec_ring.specs.Ring.{controllers, line_of, stepped, with_controllers, with_line};
 ghost use Rattle.ec_ring.specs.Walk.{is_circulating, piece_pass, walked_from_a, walked_from_b, walked};
 
 use crate::links::{Links, MAX_SLAVES};
@@ -98,7 +98,7 @@ impl Ring {
 
     /// Lets each slave take its step, at most one request and one mail (`Slave::step`).
     pub fn step_all(&mut self)
-        ensures { self.new ≡ record self.old { slaves = map step self.old.slaves } }
+        ensures { self.new ≡ stepped self.old }
     {
         step_each(self.slaves.as_mut_slice());
     }

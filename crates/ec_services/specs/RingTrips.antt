@@ -1,17 +1,12 @@
 -- A ring of simulated slaves as the ports of a master: a frame travels over it under the ring's own links,
 -- and then every slave takes its step.
-use Rattle.std.specs.Prelude.{◌≡◌, List, map, Result, Ok}
+use Rattle.std.specs.Prelude.{◌≡◌, List, Result, Ok}
 use Rattle.ec_wire.specs.Datagram.{DatagramRecord}
-use Rattle.ec_app.specs.Slave.{step}
-use Rattle.ec_ring.specs.Ring.{RingState, line_of, with_line}
+use Rattle.ec_ring.specs.Ring.{RingState, line_of, stepped, with_line}
 use Rattle.ec_ring.specs.Travel.{travelled}
 use Rattle.ec_ring.specs.declared.weather.Came.{Came}
 use Rattle.ec_master.specs.Travelled.{calm}
 use Rattle.ec_master.specs.declared.ports.PortFault.{PortFault}
-
--- the ring once each slave has taken its step
-abbrev pub stepped : RingState → RingState
-stepped r = record r { slaves = map step r.slaves }
 
 -- copy A goes first, under the same links as copy B, and none is lost on its last hop
 abbrev pub RingTrips : RingState → List DatagramRecord → Result Came PortFault → RingState → Type 0

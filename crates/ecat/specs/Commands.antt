@@ -1,9 +1,10 @@
 -- Which commands go over packets.
 use Rattle.std.specs.Prelude.{Bool, true, false}
 use Rattle.ecat_args.specs.declared.args.Args.{Args}
-use Rattle.ecat_args.specs.declared.args.Args.TheVariants.{Udp}
+use Rattle.ecat_args.specs.declared.args.Args.TheVariants.{Udp, Serve}
 
--- is the command `udp`
-abbrev pub is_udp : Args → Bool
-is_udp (Udp scene port) = true
-is_udp _ = false
+-- is the command `udp` or `serve`
+abbrev pub goes_over_packets : Args → Bool
+goes_over_packets (Udp scene port) = true
+goes_over_packets (Serve scene port packets) = true
+goes_over_packets _ = false

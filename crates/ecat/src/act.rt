@@ -1,7 +1,7 @@
 //! The commands over a source and two writers.
 
 ghost use Rattle.std.specs.Prelude.{◌≡◌, false};
-ghost use Rattle.ecat.specs.Commands.{is_udp};
+ghost use Rattle.ecat.specs.Commands.{goes_over_packets};
 
 use crate::check::check;
 use crate::run::run;
@@ -52,13 +52,13 @@ impl From<io::Error> for Failure {
     }
 }
 
-/// Does a command but `udp`, whose file is open as `source`, and answers the exit status.
+/// Does a command but `udp` and `serve`, whose file is open as `source`, and answers the exit status.
 pub fn act<S, W, V>(alloc: Global, args: &Args<'_>, source: &mut S, out: &mut W, err: &mut V) -> u8
 where
     S: Source,
     W: Write,
     V: Write,
-    requires { is_udp args.now ≡ false }
+    requires { goes_over_packets args.now ≡ false }
 {
     let done = match args {
         Args::Check { .. } => check(alloc, source, out),
@@ -80,7 +80,7 @@ where
             sdo(alloc, &asked, source, out)
         }
         Args::Vectors => vectors(alloc, out),
-        Args::Udp { .. } => unreachable!(),
+        Args::Udp { .. } | Args::Serve { .. } => unreachable!(),
     };
     match done {
         Ok(status) => status,

@@ -12,6 +12,7 @@ mod print;
 mod run;
 mod scene_rows;
 mod sdo;
+mod serve;
 mod show;
 mod slave_rows;
 mod udp;
@@ -19,11 +20,13 @@ mod vectors;
 
 use act::act;
 use ecat_args::{Args, ArgsFault};
-use ecat_source::{Bytes, Counted};
+use ecat_serve::{BindFault, UdpEnds};
+use ecat_source::{Bytes, Counted, Source};
 use ecat_udp::UdpLine;
+use serve::{Service, act_serve};
 use std::net::Net;
 use std::process::ExitCode;
-use std::rt::{Env, Files};
+use std::rt::{Env, Files, Stdin};
 use std::{env, fs, io};
 use udp::act_udp;
 
@@ -34,11 +37,11 @@ const BAD_ARGUMENTS: u8 = 2;
 const FAILED: u8 = 3;
 
 fn main(rt: HostRuntime) -> ExitCode {
-    ExitCode::from(start(&rt, &mut rt.stdout(), &mut rt.stderr()))
+    ExitCode::from(start(&rt, rt.stdin(), &mut rt.stdout(), &mut rt.stderr()))
 }
 
 /// Reads the command line, opens the file that it names, and does the command.
-fn start<R, W, V>(rt: &R, out: &mut W, err: &mut V) -> u8
+fn start<R, W, V>(rt: &R, input: Stdin, out: &mut W, err: &mut V) -> u8
 where
     R: Env + Files + Net + AllocGlobal,
     W: io::Write,
@@ -63,7 +66,7 @@ where
         }
     }
     match Args::read(rt.alloc(), texts.as_slice()) {
-        Ok(args) => open(rt, &args, out, err),
+        Ok(args) => open(rt, &args, input, out, err),
         Err(ArgsFault::NoMemory) => no_memory(err),
         Err(ArgsFault::BadNumber) => bad_arguments(err),
         Err(ArgsFault::Line(error)) => {
@@ -74,7 +77,7 @@ where
 }
 
 /// Opens the file of a command, if it has one, and does the command.
-fn open<R, W, V>(rt: &R, args: &Args<'_>, out: &mut W, err: &mut V) -> u8
+fn open<R, W, V>(rt: &R, args: &Args<'_>, input: Stdin, out: &mut W, err: &mut V) -> u8
 where
     R: Files + Net + AllocGlobal,
     W: io::Write,
@@ -85,7 +88,8 @@ where
         Args::Check { scene }
         | Args::Run { scene }
         | Args::Sdo { scene, .. }
-        | Args::Udp { scene, .. } => *scene,
+        | Args::Udp { scene, .. }
+        | Args::Serve { scene, .. } => *scene,
         Args::Vectors => return act(rt.alloc(), args, &mut Bytes::new(b""), out, err),
     };
     let Ok(file) = fs::open(rt, path) else {
@@ -97,7 +101,40 @@ where
             Ok(line) => act_udp(rt.alloc(), &mut source, line, out, err),
             Err(_) => failed(b"socket: Bind\n", err),
         },
+        Args::Serve { port, packets, .. } => {
+            let service = Service {
+                port: *port,
+                packets: *packets,
+            };
+            serve_at(rt, service, input, &mut source, out, err)
+        }
         _ => act(rt.alloc(), args, &mut source, out, err),
+    }
+}
+
+/// Opens the ends of a line and serves it. The service ends with the input where no number of packets ends it.
+fn serve_at<R, S, W, V>(
+    rt: &R,
+    service: Service,
+    input: Stdin,
+    source: &mut S,
+    out: &mut W,
+    err: &mut V,
+) -> u8
+where
+    R: Net + AllocGlobal,
+    S: Source,
+    W: io::Write,
+    V: io::Write,
+{
+    let awaited = match service.packets {
+        Some(_) => None,
+        None => Some(input),
+    };
+    match UdpEnds::bind(rt, rt.alloc(), service.port, awaited) {
+        Ok(mut ends) => act_serve(rt.alloc(), source, service, &mut ends, out, err),
+        Err(BindFault::NoMemory) => failed(b"socket: NoMemory\n", err),
+        Err(_) => failed(b"socket: Bind\n", err),
     }
 }
 

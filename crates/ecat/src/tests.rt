@@ -2,7 +2,7 @@
 //! that each allocation can be made to fail in turn.
 
 ghost use Rattle.std.specs.Prelude.{◌≡◌, false};
-ghost use Rattle.ecat.specs.Commands.{is_udp};
+ghost use Rattle.ecat.specs.Commands.{goes_over_packets};
 
 mod checking;
 mod cycles;
@@ -11,6 +11,7 @@ mod objects;
 mod packets;
 mod rings;
 mod running;
+mod serving;
 mod showing;
 mod worked;
 
@@ -39,7 +40,7 @@ fn answers<S: Source>(
     out: &[u8],
     err: &[u8],
 )
-    requires { is_udp args.now ≡ false }
+    requires { goes_over_packets args.now ≡ false }
 {
     let mut printed = Cursor::new([0u8; ROOM]);
     let mut complained = Cursor::new([0u8; ROOM]);

@@ -3,11 +3,11 @@ use Rattle.std.specs.Prelude.{◌≡◌, ◌≢◌, ◌⊎◌, List, [], Some, N
 use Rattle.clap.specs.Words.{IsAmong, Text, fault_of, kind_of, subcommand_of, takes}
 use Rattle.clap.specs.declared.error.Error.{Error}
 use Rattle.clap.specs.declared.error.kind.ErrorKind.TheVariants.{OutOfMemory}
-use Rattle.ecat_args.specs.Given.{Given, IsComplete, index_in, port_in, station_in, sub_in}
-use Rattle.ecat_args.specs.Given.{value_in, word_in}
+use Rattle.ecat_args.specs.Given.{Given, IsComplete, index_in, packets_in, port_in, station_in}
+use Rattle.ecat_args.specs.Given.{sub_in, value_in, word_in}
 use Rattle.ecat_args.specs.Line.{line}
 use Rattle.ecat_args.specs.declared.args.Args.{Args}
-use Rattle.ecat_args.specs.declared.args.Args.TheVariants.{Show, Check, Run, Sdo, Udp, Vectors}
+use Rattle.ecat_args.specs.declared.args.Args.TheVariants.{Show, Check, Run, Sdo, Udp, Serve, Vectors}
 use Rattle.ecat_args.specs.declared.args.ArgsFault.{ArgsFault}
 use Rattle.ecat_args.specs.declared.args.ArgsFault.TheVariants.{Line, BadNumber, NoMemory}
 
@@ -26,6 +26,9 @@ Says (Sdo scene station index sub value) given =
 Says (Udp scene port) given =
     (given.0 ≡ codes "udp") × (word_in given (codes "SCENE") ≡ Some scene.now)
     × (port_in given ≡ Some port)
+Says (Serve scene port packets) given =
+    (given.0 ≡ codes "serve") × (word_in given (codes "SCENE") ≡ Some scene.now)
+    × (port_in given ≡ Some port) × (packets_in given ≡ Some packets)
 Says Vectors given = given.0 ≡ codes "vectors"
 
 -- a word of the command that has to be a number or a value is none in its range
@@ -34,6 +37,7 @@ HasBadNumber given =
     ((given.0 ≡ codes "sdo") × ((station_in given ≡ None) ⊎ (index_in given ≡ None)
     ⊎ (sub_in given ≡ None) ⊎ (value_in given ≡ None)))
     ⊎ ((given.0 ≡ codes "udp") × (port_in given ≡ None))
+    ⊎ ((given.0 ≡ codes "serve") × ((port_in given ≡ None) ⊎ (packets_in given ≡ None)))
 
 -- clap's definition of the line takes the words, and what it gives of them is complete and
 -- satisfies P

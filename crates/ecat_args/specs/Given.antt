@@ -38,8 +38,8 @@ value_by (Some word) = option_map (λ value. Some value) (value_of word)
 abbrev pub value_in : Given → Option (Option Value)
 value_in given = value_by (word_in given (codes "VALUE"))
 
--- the port of `udp`: where no word was given it is EtherCAT's own, 0x88a4, and `None` says that
--- the word is no port
+-- the port of `udp` and of `serve`: where no word was given it is EtherCAT's own, 0x88a4, and
+-- `None` says that the word is no port
 abbrev pub port_by : Option Text → Option ℕ
 port_by None = Some 0x88a4
 port_by (Some word) = number_within 1024 65534 word
@@ -47,10 +47,19 @@ port_by (Some word) = number_within 1024 65534 word
 abbrev pub port_in : Given → Option ℕ
 port_in given = port_by (word_in given (codes "P"))
 
+-- how many packets `serve` takes: where no word was given there is no such number, and `None` says
+-- that the word is none
+abbrev pub packets_by : Option Text → Option (Option ℕ)
+packets_by None = Some None
+packets_by (Some word) = option_map (λ n. Some n) (number_within 1 4294967295 word)
+
+abbrev pub packets_in : Given → Option (Option ℕ)
+packets_in given = packets_by (word_in given (codes "N"))
+
 -- the names of the commands
 abbrev pub command_names : List Text
 command_names = codes "show" ∷ codes "check" ∷ codes "run" ∷ codes "sdo" ∷ codes "udp"
-    ∷ codes "vectors" ∷ []
+    ∷ codes "serve" ∷ codes "vectors" ∷ []
 
 -- the names of the words that a command needs
 abbrev pub needed_words : Text → List Text
@@ -61,9 +70,10 @@ needed_words command =
     else if bytes_eq command (codes "sdo")
     then codes "SCENE" ∷ codes "STATION" ∷ codes "INDEX" ∷ codes "SUB" ∷ []
     else if bytes_eq command (codes "udp") then codes "SCENE" ∷ []
+    else if bytes_eq command (codes "serve") then codes "SCENE" ∷ []
     else []
 
--- the command is one of the six, and the words that it needs were given
+-- the command is one of the seven, and the words that it needs were given
 abbrev pub IsComplete : Given → Type 0
 IsComplete given = (list_any (bytes_eq given.0) command_names ≡ true)
     × (list_all (λ name. is_some (word_in given name)) (needed_words given.0) ≡ true)

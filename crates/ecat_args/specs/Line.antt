@@ -1,4 +1,4 @@
--- The command line of `ecat`, in clap's own words: six commands, of which one has to be given.
+-- The command line of `ecat`, in clap's own words: seven commands, of which one has to be given.
 use Rattle.std.specs.Prelude.{codes, true, Some}
 use Rattle.clap.specs.Words.{App, Rule, Text, new_app, new_rule, with_rule, with_subcommand}
 
@@ -24,23 +24,37 @@ sdo_line = with_rule (with_rule (with_rule (with_rule (with_rule (new_app (codes
     (needed_rule (codes "SCENE"))) (needed_rule (codes "STATION"))) (needed_rule (codes "INDEX")))
     (needed_rule (codes "SUB"))) (new_rule (codes "VALUE"))
 
+-- `--port P`
+abbrev pub port_rule : Rule
+port_rule = record (new_rule (codes "P")) { long = Some (codes "port") }
+
 -- `udp SCENE [--port P]`
 abbrev pub udp_line : App
-udp_line = with_rule (with_rule (new_app (codes "udp")) (needed_rule (codes "SCENE")))
-    (record (new_rule (codes "P")) { long = Some (codes "port") })
+udp_line = with_rule (with_rule (new_app (codes "udp")) (needed_rule (codes "SCENE"))) port_rule
+
+-- `--packets N`
+abbrev pub packets_rule : Rule
+packets_rule = record (new_rule (codes "N")) { long = Some (codes "packets") }
+
+-- `serve SCENE [--port P] [--packets N]`
+abbrev pub serve_line : App
+serve_line = with_rule (with_rule (with_rule (new_app (codes "serve"))
+    (needed_rule (codes "SCENE"))) port_rule) packets_rule
 
 -- `vectors`
 abbrev pub vectors_line : App
 vectors_line = new_app (codes "vectors")
 
--- the program's name, after which a command has to follow
+-- a line after which a command has to follow
+abbrev pub needs_command : App → App
+needs_command app = record app { top = record app.top { subcommand_required = true } }
+
+-- the program's name, and then a command
 abbrev pub ecat_line : App
-ecat_line =
-    let ecat = new_app (codes "ecat") in
-    record ecat { top = record ecat.top { subcommand_required = true } }
+ecat_line = needs_command (new_app (codes "ecat"))
 
 -- the whole line
 unfoldable pub line : App
 line = with_subcommand (with_subcommand (with_subcommand (with_subcommand (with_subcommand
-    (with_subcommand ecat_line show_line.top) check_line.top) run_line.top) sdo_line.top)
-    udp_line.top) vectors_line.top
+    (with_subcommand (with_subcommand ecat_line show_line.top) check_line.top) run_line.top)
+    sdo_line.top) udp_line.top) serve_line.top) vectors_line.top

@@ -4,7 +4,7 @@ ghost use Rattle.std.specs.Prelude.{option_map};
 ghost use Rattle.clap.specs.Words.{first_of, found_of, rows_of};
 ghost use Rattle.clap.specs.Walk.{texts};
 ghost use Rattle.ecat_args.specs.Answer.{Explains, HasBadNumber, Says, Takes};
-ghost use Rattle.ecat_args.specs.Given.{IsComplete, port_by, value_by};
+ghost use Rattle.ecat_args.specs.Given.{IsComplete, packets_by, port_by, value_by};
 
 use crate::line::line;
 use crate::number::{Value, number, value_of};
@@ -20,6 +20,9 @@ const LEAST_PORT: u32 = 1024;
 
 /// The greatest port of the end A: the end B has the port after it.
 const GREATEST_PORT: u32 = 65534;
+
+/// The least number of packets after which `serve` ends.
+const LEAST_PACKETS: u32 = 1;
 
 /// A command of the program, with its texts and numbers.
 #[derive(Clone, Copy, Debug, PartialEq, Eq)]
@@ -58,6 +61,15 @@ pub enum Args<'a> {
         scene: &'a str,
         /// The port of the line's end A, 1024 to 65534. The end B has the next one.
         port: u16,
+    },
+    /// `serve SCENE [--port P] [--packets N]`: puts the line of a scene on the network.
+    Serve {
+        /// The path of the scene.
+        scene: &'a str,
+        /// The port of the line's end A, 1024 to 65534. The end B has the next one.
+        port: u16,
+        /// After how many packets it ends, one at least; without it at the end of the input.
+        packets: Option<u32>,
     },
     /// `vectors`: runs the worked rows.
     Vectors,
@@ -119,7 +131,7 @@ impl<'a> Args<'a> {
     }
 }
 
-// What a command says, unless a number is bad. After the names of the other five it is `vectors`.
+// What a command says, unless a number is bad. After the names of the other six it is `vectors`.
 fn command<'a>(name: &str, given: &ArgMatches<'a>) -> Option<Args<'a>>
     requires { IsComplete (name.now, rows_of (found_of given.now)) }
     ensures { MatchOption result (HasBadNumber (name.now, rows_of (found_of given.now)))
@@ -137,6 +149,7 @@ fn command<'a>(name: &str, given: &ArgMatches<'a>) -> Option<Args<'a>>
         }),
         "sdo" => sdo(given),
         "udp" => udp(given),
+        "serve" => serve(given),
         _ => Some(Args::Vectors),
     }
 }
@@ -201,12 +214,37 @@ fn udp<'a>(given: &ArgMatches<'a>) -> Option<Args<'a>>
     })
 }
 
-// The port of `udp`, or EtherCAT's own, unless it is bad.
+// What `serve` says, unless a number is bad.
+fn serve<'a>(given: &ArgMatches<'a>) -> Option<Args<'a>>
+    requires { IsComplete (codes "serve", rows_of (found_of given.now)) }
+    ensures { MatchOption result (HasBadNumber (codes "serve", rows_of (found_of given.now)))
+        (λ args. Says args (codes "serve", rows_of (found_of given.now))) }
+{
+    let port = port_given(given)?;
+    let packets = packets_given(given)?;
+    Some(Args::Serve {
+        scene: text(given, "SCENE"),
+        port,
+        packets,
+    })
+}
+
+// The port of the end A, or EtherCAT's own, unless it is bad.
 fn port_given(given: &ArgMatches<'_>) -> Option<u16>
     ensures { result ≡ port_by (first_of (codes "P") (rows_of (found_of given.now))) }
 {
     match word(given, "P") {
         Some(text) => Some(number(text, LEAST_PORT, GREATEST_PORT)? as u16),
         None => Some(DEFAULT_PORT),
+    }
+}
+
+// The number of packets, if one was given, unless it is bad.
+fn packets_given(given: &ArgMatches<'_>) -> Option<Option<u32>>
+    ensures { result ≡ packets_by (first_of (codes "N") (rows_of (found_of given.now))) }
+{
+    match word(given, "N") {
+        Some(text) => Some(Some(number(text, LEAST_PACKETS, u32::MAX)?)),
+        None => Some(None),
     }
 }

@@ -6,14 +6,36 @@
 //! ecat run SCENE
 //! ecat sdo SCENE STATION INDEX SUB [VALUE]
 //! ecat udp SCENE [--port P]
+//! ecat serve SCENE [--port P] [--packets N]
 //! ecat vectors
 //! ```
 //!
 //! A number is decimal digits, or `0x` and hexadecimal digits of either case. `VALUE` is `0x` and
 //! exactly 2, 4 or 8 hexadecimal digits, which give its size.
+//!
+//! A use, which the test `words_are_read_as_the_page_shows` tries; `rt` is what `main` is given:
+//!
+//! ```text
+//! let alloc = rt.alloc();
+//! let words = ["ecat", "serve", "a.scene", "--packets", "100"];
+//! let text = match Args::read(alloc, &words) {
+//!     Ok(Args::Serve { scene, port, .. }) => format!(in alloc; "{scene} on {port}"),
+//!     Ok(_) => format!(in alloc; "another command"),
+//!     Err(ArgsFault::Line(error)) => format!(in alloc; "{error}"),
+//!     Err(ArgsFault::BadNumber) => format!(in alloc; "a bad number"),
+//!     Err(ArgsFault::NoMemory) => format!(in alloc; "no memory"),
+//! };
+//! ```
+//!
+//! The text is `a.scene on 34980`.
+//!
+//! `Args::read` answers exactly the command that clap's own definition of the line gives for the
+//! words, and each fault where that definition or a number's range is not met. Only the texts of
+//! help and of errors have no contract.
 #![tactic(auto)]
 
 mod args;
+mod help;
 mod line;
 mod number;
 

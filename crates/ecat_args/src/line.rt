@@ -1,10 +1,11 @@
 //! The command line, in clap's words.
 ghost use Rattle.std.specs.Prelude.{◌≡◌, IfOk, codes, false};
-ghost use Rattle.clap.specs.Words.{app_of, new_rule, rule_of};
+ghost use Rattle.clap.specs.Words.{app_of, new_app, new_rule, rule_of};
 ghost use Rattle.clap.specs.declared.builder.command.Command.TheViews.{out-Command as fields_of};
-ghost use Rattle.ecat_args.specs.Line.{needed_rule, line, show_line, check_line, run_line};
-ghost use Rattle.ecat_args.specs.Line.{sdo_line, udp_line, vectors_line};
+ghost use Rattle.ecat_args.specs.Line.{needed_rule, packets_rule, port_rule, line, show_line};
+ghost use Rattle.ecat_args.specs.Line.{check_line, run_line, sdo_line, udp_line, serve_line, vectors_line};
 
+use crate::help;
 use clap::{Arg, Command};
 use std::alloc::{AllocError, Global};
 
@@ -36,14 +37,50 @@ fn scene<'a>(alloc: Global) -> Arg<'a>
     )
 }
 
+// The port of the line's end A.
+fn port<'a>(alloc: Global) -> Arg<'a>
+    ensures rule { rule_of result ≡ port_rule }
+    ensures local { result.global ≡ false }
+{
+    let port = optional(
+        alloc,
+        "P",
+        "The port of the line's end A, 1024 to 65534; 34980 if not given",
+    );
+    port.long("port")
+}
+
+// How many packets are served.
+fn packets<'a>(alloc: Global) -> Arg<'a>
+    ensures rule { rule_of result ≡ packets_rule }
+    ensures local { result.global ≡ false }
+{
+    let packets = optional(
+        alloc,
+        "N",
+        "After how many packets it ends, 1 to 4294967295; at the input's end if not given",
+    );
+    packets.long("packets")
+}
+
+// A command with no words so far: its line in the list of commands, and what its help tells.
+fn command<'a>(alloc: Global, name: &'a str, about: &'a str, text: &'a str) -> Command<'a>
+    ensures line { app_of result ≡ new_app name.entry.now }
+    ensures local { (fields_of result).has_globals ≡ false }
+{
+    Command::new(alloc, name)
+        .about(about)
+        .long_about(text)
+        .after_help(help::STATUSES)
+}
+
 // `show FILE`
 fn show<'a>(alloc: Global) -> Result<Command<'a>, AllocError>
     ensures line { IfOk result (λ c. app_of c ≡ show_line) }
     ensures local { IfOk result (λ c. (fields_of c).has_globals ≡ false) }
 {
-    Command::new(alloc, "show")
-        .about("Prints the frames of a capture")
-        .arg(needed(alloc, "FILE", "The capture, a pcap file"))
+    let file = needed(alloc, "FILE", "The capture, a pcap file");
+    command(alloc, "show", "Prints the frames of a capture", help::SHOW).arg(file)
 }
 
 // `check SCENE`
@@ -51,9 +88,8 @@ fn check<'a>(alloc: Global) -> Result<Command<'a>, AllocError>
     ensures line { IfOk result (λ c. app_of c ≡ check_line) }
     ensures local { IfOk result (λ c. (fields_of c).has_globals ≡ false) }
 {
-    Command::new(alloc, "check")
-        .about("Says whether the slaves of a scene fit together on one line")
-        .arg(scene(alloc))
+    let about = "Says whether the slaves of a scene fit together on one line";
+    command(alloc, "check", about, help::CHECK).arg(scene(alloc))
 }
 
 // `run SCENE`
@@ -61,9 +97,8 @@ fn run<'a>(alloc: Global) -> Result<Command<'a>, AllocError>
     ensures line { IfOk result (λ c. app_of c ≡ run_line) }
     ensures local { IfOk result (λ c. (fields_of c).has_globals ≡ false) }
 {
-    Command::new(alloc, "run")
-        .about("Does the actions of a scene, and then its work")
-        .arg(scene(alloc))
+    let about = "Does the actions of a scene, and then its work";
+    command(alloc, "run", about, help::RUN).arg(scene(alloc))
 }
 
 // `sdo SCENE STATION INDEX SUB [VALUE]`
@@ -79,8 +114,8 @@ fn sdo<'a>(alloc: Global) -> Result<Command<'a>, AllocError>
         "VALUE",
         "What to write: 0x and 2, 4 or 8 hexadecimal digits",
     );
-    Command::new(alloc, "sdo")
-        .about("Reads an object of a slave, or writes VALUE to it")
+    let about = "Reads an object of a slave, or writes VALUE to it";
+    command(alloc, "sdo", about, help::SDO)
         .arg(scene(alloc))?
         .arg(station)?
         .arg(index)?
@@ -93,15 +128,22 @@ fn udp<'a>(alloc: Global) -> Result<Command<'a>, AllocError>
     ensures line { IfOk result (λ c. app_of c ≡ udp_line) }
     ensures local { IfOk result (λ c. (fields_of c).has_globals ≡ false) }
 {
-    let port = optional(
-        alloc,
-        "P",
-        "The port of the line's end A, 1024 to 65534; 34980 if not given",
-    );
-    Command::new(alloc, "udp")
-        .about("Does the work of a scene through UDP sockets")
+    let about = "Does the work of a scene through UDP sockets";
+    command(alloc, "udp", about, help::UDP)
         .arg(scene(alloc))?
-        .arg(port.long("port"))
+        .arg(port(alloc))
+}
+
+// `serve SCENE [--port P] [--packets N]`
+fn serve<'a>(alloc: Global) -> Result<Command<'a>, AllocError>
+    ensures line { IfOk result (λ c. app_of c ≡ serve_line) }
+    ensures local { IfOk result (λ c. (fields_of c).has_globals ≡ false) }
+{
+    let about = "Puts the line of a scene on the network, behind UDP sockets";
+    command(alloc, "serve", about, help::SERVE)
+        .arg(scene(alloc))?
+        .arg(port(alloc))?
+        .arg(packets(alloc))
 }
 
 // `vectors`
@@ -109,20 +151,21 @@ fn vectors<'a>(alloc: Global) -> Command<'a>
     ensures line { app_of result ≡ vectors_line }
     ensures local { (fields_of result).has_globals ≡ false }
 {
-    Command::new(alloc, "vectors").about("Runs the worked rows")
+    command(alloc, "vectors", "Runs the worked rows", help::VECTORS)
 }
 
 /// The whole command line.
 pub(crate) fn line<'a>(alloc: Global) -> Result<Command<'a>, AllocError>
     ensures { IfOk result (λ c. app_of c ≡ line) }
 {
-    Command::new(alloc, "ecat")
-        .about("An EtherCAT master and a ring of slaves")
+    let about = "An EtherCAT master and a ring of slaves";
+    command(alloc, "ecat", about, help::ECAT)
         .subcommand_required(true)
         .subcommand(show(alloc)?)?
         .subcommand(check(alloc)?)?
         .subcommand(run(alloc)?)?
         .subcommand(sdo(alloc)?)?
         .subcommand(udp(alloc)?)?
+        .subcommand(serve(alloc)?)?
         .subcommand(vectors(alloc))
 }

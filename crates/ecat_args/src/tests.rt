@@ -1,4 +1,6 @@
 //! Rows of command lines, and what they give.
+mod door;
+mod help;
 mod lines;
 mod memory;
 mod numbers;

@@ -1,7 +1,7 @@
 //! Reads and writes that fail, each in turn.
 
 ghost use Rattle.std.specs.Prelude.{◌≡◌, false};
-ghost use Rattle.ecat.specs.Commands.{is_udp};
+ghost use Rattle.ecat.specs.Commands.{goes_over_packets};
 
 use super::{ROOM, written};
 use crate::act::act;
@@ -73,7 +73,7 @@ impl PacketLine for Silent {
 
 /// The status of a command whose write after so many fails.
 fn status_after_writes(alloc: Global, args: &Args<'_>, writes: usize) -> u8
-    requires { is_udp args.now ≡ false }
+    requires { goes_over_packets args.now ≡ false }
 {
     let mut err = Cursor::new([0u8; ROOM]);
     let mut out = Stops { left: writes };
@@ -82,7 +82,7 @@ fn status_after_writes(alloc: Global, args: &Args<'_>, writes: usize) -> u8
 
 /// The status of a command whose read after so many fails.
 fn status_after_reads(alloc: Global, args: &Args<'_>, reads: u64) -> u8
-    requires { is_udp args.now ≡ false }
+    requires { goes_over_packets args.now ≡ false }
 {
     let mut out = Cursor::new([0u8; ROOM]);
     let mut err = Cursor::new([0u8; ROOM]);

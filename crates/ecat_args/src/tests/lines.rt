@@ -1,6 +1,6 @@
-//! The six commands, and lines that are none of them.
+//! The seven commands, and lines that are none of them.
 use super::{Refusal, read};
-use crate::{Args, ArgsFault, Value};
+use crate::{Args, Value};
 use clap::error::ErrorKind;
 
 #[test]
@@ -71,6 +71,78 @@ fn udp_takes_a_port_or_uses_34980(rt: HostRuntime) {
 }
 
 #[test]
+fn serve_takes_a_port_or_uses_34980(rt: HostRuntime) {
+    let alloc = rt.alloc();
+    let own = Args::Serve {
+        scene: "a.scene",
+        port: 34980,
+        packets: None,
+    };
+    assert_eq!(rt; read(alloc, &["ecat", "serve", "a.scene"]), Ok(own));
+    let other = Args::Serve {
+        scene: "a.scene",
+        port: 4000,
+        packets: None,
+    };
+    assert_eq!(rt;
+        read(alloc, &["ecat", "serve", "a.scene", "--port", "4000"]),
+        Ok(other)
+    );
+    assert_eq!(rt;
+        read(alloc, &["ecat", "serve", "--port=4000", "a.scene"]),
+        Ok(other)
+    );
+}
+
+#[test]
+fn serve_takes_a_number_of_packets_or_none(rt: HostRuntime) {
+    let alloc = rt.alloc();
+    let packets = Args::Serve {
+        scene: "a.scene",
+        port: 34980,
+        packets: Some(100),
+    };
+    assert_eq!(rt;
+        read(alloc, &["ecat", "serve", "a.scene", "--packets", "100"]),
+        Ok(packets)
+    );
+    let both = Args::Serve {
+        scene: "a.scene",
+        port: 4000,
+        packets: Some(100),
+    };
+    assert_eq!(rt;
+        read(
+            alloc,
+            &[
+                "ecat",
+                "serve",
+                "--packets=0x64",
+                "a.scene",
+                "--port",
+                "4000"
+            ]
+        ),
+        Ok(both)
+    );
+    assert_eq!(rt;
+        read(
+            alloc,
+            &[
+                "ecat",
+                "serve",
+                "--port",
+                "4000",
+                "--packets",
+                "100",
+                "a.scene"
+            ]
+        ),
+        Ok(both)
+    );
+}
+
+#[test]
 fn words_after_two_hyphens_are_texts(rt: HostRuntime) {
     let alloc = rt.alloc();
     assert_eq!(rt;
@@ -99,8 +171,16 @@ fn a_missing_word_is_refused(rt: HostRuntime) {
     assert_eq!(rt; read(alloc, &["ecat", "run"]), missing);
     assert_eq!(rt; read(alloc, &["ecat", "sdo", "a.scene", "1", "2"]), missing);
     assert_eq!(rt; read(alloc, &["ecat", "udp", "--port", "4000"]), missing);
-    let no_port = Err(Refusal::Line(ErrorKind::InvalidValue));
-    assert_eq!(rt; read(alloc, &["ecat", "udp", "a.scene", "--port"]), no_port);
+    assert_eq!(rt; read(alloc, &["ecat", "serve", "--packets", "1"]), missing);
+    let no_value = Err(Refusal::Line(ErrorKind::InvalidValue));
+    assert_eq!(rt;
+        read(alloc, &["ecat", "udp", "a.scene", "--port"]),
+        no_value
+    );
+    assert_eq!(rt;
+        read(alloc, &["ecat", "serve", "a.scene", "--packets"]),
+        no_value
+    );
 }
 
 #[test]
@@ -120,6 +200,10 @@ fn a_word_too_many_is_refused(rt: HostRuntime) {
         read(alloc, &["ecat", "run", "a.scene", "--port", "4000"]),
         unexpected
     );
+    assert_eq!(rt;
+        read(alloc, &["ecat", "udp", "a.scene", "--packets", "1"]),
+        unexpected
+    );
     let twice = Err(Refusal::Line(ErrorKind::ArgumentConflict));
     assert_eq!(rt;
         read(
@@ -128,21 +212,11 @@ fn a_word_too_many_is_refused(rt: HostRuntime) {
         ),
         twice
     );
-}
-
-#[test]
-fn a_call_for_help_is_a_refusal_with_the_text(rt: HostRuntime) {
-    let alloc = rt.alloc();
-    let help = Err(Refusal::Line(ErrorKind::DisplayHelp));
-    assert_eq!(rt; read(alloc, &["ecat", "--help"]), help);
-    assert_eq!(rt; read(alloc, &["ecat", "-h"]), help);
-    assert_eq!(rt; read(alloc, &["ecat", "help"]), help);
-    assert_eq!(rt; read(alloc, &["ecat", "sdo", "--help"]), help);
-    match Args::read(alloc, &["ecat", "help", "sdo"]) {
-        Err(ArgsFault::Line(error)) => {
-            let text = format!(in alloc; "{error}").expect(&rt, "memory");
-            assert!(rt; text.contains("Usage: ecat sdo <SCENE> <STATION> <INDEX> <SUB> [VALUE]"));
-        }
-        _ => panic!(rt; "help is no command"),
-    }
+    assert_eq!(rt;
+        read(
+            alloc,
+            &["ecat", "serve", "s", "--packets", "1", "--packets", "2"]
+        ),
+        twice
+    );
 }

@@ -37,6 +37,22 @@ fn port(alloc: Global, text: &str) -> Result<u16, Refusal> {
     }
 }
 
+/// What `serve` reads as its port.
+fn port_of_serve(alloc: Global, text: &str) -> Result<u16, Refusal> {
+    match read(alloc, &["ecat", "serve", "a.scene", "--port", text])? {
+        Args::Serve { port, .. } => Ok(port),
+        _ => Err(Refusal::Other),
+    }
+}
+
+/// What `serve` reads as its number of packets.
+fn packets(alloc: Global, text: &str) -> Result<Option<u32>, Refusal> {
+    match read(alloc, &["ecat", "serve", "a.scene", "--packets", text])? {
+        Args::Serve { packets, .. } => Ok(packets),
+        _ => Err(Refusal::Other),
+    }
+}
+
 #[test]
 fn station_and_index_end_at_65535(rt: HostRuntime) {
     let alloc = rt.alloc();
@@ -79,6 +95,60 @@ fn port_is_from_1024_to_65534(rt: HostRuntime) {
     assert_eq!(rt; port(alloc, "0xfffe"), Ok(65534));
     assert_eq!(rt; port(alloc, "65535"), Err(Refusal::BadNumber));
     assert_eq!(rt; port(alloc, "x"), Err(Refusal::BadNumber));
+}
+
+#[test]
+fn port_of_serve_is_that_of_udp(rt: HostRuntime) {
+    let alloc = rt.alloc();
+    for text in ["1023", "65535", "x", "0x400g", ""] {
+        assert_eq!(rt;
+            port_of_serve(alloc, text),
+            Err(Refusal::BadNumber),
+            "{text:?}"
+        );
+    }
+    assert_eq!(rt; port_of_serve(alloc, "1024"), Ok(1024));
+    assert_eq!(rt; port_of_serve(alloc, "0xfffe"), Ok(65534));
+}
+
+#[test]
+fn packets_are_from_1_to_4294967295(rt: HostRuntime) {
+    let alloc = rt.alloc();
+    for text in [
+        "0",
+        "0x0",
+        "4294967296",
+        "0x100000000",
+        "-",
+        "+1",
+        "1.5",
+        "",
+    ] {
+        assert_eq!(rt; packets(alloc, text), Err(Refusal::BadNumber), "{text:?}");
+    }
+    assert_eq!(rt; packets(alloc, "1"), Ok(Some(1)));
+    assert_eq!(rt; packets(alloc, "4294967295"), Ok(Some(4294967295)));
+    assert_eq!(rt; packets(alloc, "0xffffffff"), Ok(Some(4294967295)));
+}
+
+#[test]
+fn a_bad_number_of_serve_is_found_beside_a_good_one(rt: HostRuntime) {
+    let alloc = rt.alloc();
+    let bad = Err(Refusal::BadNumber);
+    assert_eq!(rt;
+        read(
+            alloc,
+            &["ecat", "serve", "s", "--port", "1", "--packets", "1"]
+        ),
+        bad
+    );
+    assert_eq!(rt;
+        read(
+            alloc,
+            &["ecat", "serve", "s", "--port", "4000", "--packets", "0"]
+        ),
+        bad
+    );
 }
 
 #[test]

@@ -1,14 +1,16 @@
-use Rattle.std.proofs.Common.{◌≡◌, rules}
+use Rattle.std.proofs.Common.{◌≡◌, ◌∙◌, ap}
 use Rattle.std.proofs.lemmas.Result.{IfOk-weaker}
+use Rattle.clap.specs.Simple.{app_of_fields}
 use Rattle.clap.specs.Words.{app_of}
-use Rattle.ecat_args.specs.Line.{ecat_line, line}
+use Rattle.ecat_args.specs.Line.{ecat_line, line, needs_command}
 use Rattle.ecat_args.proofs.LineLemmas.{app_of-subcommand}
 use Rattle.ecat_args.proofs.line.line.Goals as goal
 
 pub returns : goal.returns
 unfolding line
 returns c =
-    let start : app_of c.subcommand_required.result ≡ ecat_line = search rules in
+    let start : app_of c.subcommand_required.result ≡ ecat_line =
+    ap app_of_fields c.subcommand_required.ensures ∙ ap needs_command c.command.ensures.line in
     let show = app_of-subcommand c.in_ok-subcommand.ensures start c.in_ok-show.ensures.line
     c.in_ok-show.ensures.local in
     let check = app_of-subcommand c.in_ok-subcommand-2.ensures show c.in_ok-check.ensures.line
@@ -19,6 +21,8 @@ returns c =
     c.in_ok-sdo.ensures.local in
     let udp = app_of-subcommand c.in_ok-subcommand-5.ensures sdo c.in_ok-udp.ensures.line
     c.in_ok-udp.ensures.local in
-    IfOk-weaker c.subcommand-6.result _ _
-    (λ r added. app_of-subcommand added udp c.vectors.ensures.line c.vectors.ensures.local)
-    c.subcommand-6.ensures
+    let serve = app_of-subcommand c.in_ok-subcommand-6.ensures udp c.in_ok-serve.ensures.line
+    c.in_ok-serve.ensures.local in
+    IfOk-weaker c.subcommand-7.result _ _
+    (λ r added. app_of-subcommand added serve c.vectors.ensures.line c.vectors.ensures.local)
+    c.subcommand-7.ensures

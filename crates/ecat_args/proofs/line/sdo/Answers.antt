@@ -1,14 +1,11 @@
-use Rattle.std.proofs.Common.{◌≡◌, codes, false, rules}
 use Rattle.std.proofs.lemmas.Result.{IfOk-weaker}
-use Rattle.clap.specs.Words.{app_of, new_app}
-use Rattle.clap.specs.declared.builder.command.Command.TheViews.{out-Command as fields_of}
 use Rattle.ecat_args.proofs.LineLemmas.{app_of-arg, has_globals-arg}
 use Rattle.ecat_args.proofs.line.sdo.Goals as goal
 
 pub returns-clause-line : goal.returns-clause-line
 returns-clause-line c =
-    let start : app_of c.about.result ≡ new_app (codes "sdo") = search rules in
-    let scene = app_of-arg c.in_ok-arg.ensures start c.scene.ensures.rule c.scene.ensures.local in
+    let scene = app_of-arg c.in_ok-arg.ensures c.command.ensures.line c.scene.ensures.rule
+    c.scene.ensures.local in
     let station =
     app_of-arg c.in_ok-arg-2.ensures scene c.needed-station.ensures.rule c.needed-station.ensures.local in
     let index = app_of-arg c.in_ok-arg-3.ensures station c.needed-index.ensures.rule
@@ -19,8 +16,7 @@ returns-clause-line c =
 
 pub returns-clause-local : goal.returns-clause-local
 returns-clause-local c =
-    let start : (fields_of c.about.result).has_globals ≡ false = search rules in
-    let scene = has_globals-arg c.in_ok-arg.ensures start c.scene.ensures.local in
+    let scene = has_globals-arg c.in_ok-arg.ensures c.command.ensures.local c.scene.ensures.local in
     let station = has_globals-arg c.in_ok-arg-2.ensures scene c.needed-station.ensures.local in
     let index = has_globals-arg c.in_ok-arg-3.ensures station c.needed-index.ensures.local in
     let sub = has_globals-arg c.in_ok-arg-4.ensures index c.needed-sub.ensures.local in

@@ -1,0 +1,115 @@
+//! Calls for help, and the texts that they give.
+use super::{Refusal, read};
+use crate::{Args, ArgsFault};
+use clap::error::ErrorKind;
+use std::alloc::{AllocError, Global};
+
+/// What `ecat --help` prints.
+const HELP: &str = "\
+An EtherCAT master and a ring of simulated slaves. A scene is a text file with
+the slaves of a ring and the work that is done with it. A number is decimal
+digits, or 0x and hexadecimal digits. The help of a command has more.
+
+Examples:
+  ecat show scenes/startup.pcap
+  ecat check scenes/check/accepted.scene
+  ecat run scenes/run/example.scene
+  ecat sdo scenes/sdo/objects.scene 0x1001 0x1018 1
+  ecat udp scenes/run/example.scene --port 4000
+  ecat serve scenes/serve/line.scene --packets 100
+  ecat vectors
+  ecat help sdo
+
+Usage: ecat <COMMAND>
+
+Commands:
+  show     Prints the frames of a capture
+  check    Says whether the slaves of a scene fit together on one line
+  run      Does the actions of a scene, and then its work
+  sdo      Reads an object of a slave, or writes VALUE to it
+  udp      Does the work of a scene through UDP sockets
+  serve    Puts the line of a scene on the network, behind UDP sockets
+  vectors  Runs the worked rows
+  help     Print this message or the help of the given subcommand(s)
+
+Options:
+  -h, --help
+          Print help (see a summary with '-h')
+
+Exit status:
+  0  all is well
+  1  the content is refused, or the cycle is not good
+  2  the words are no command
+  3  a file, a socket, the output or memory failed
+";
+
+/// What `ecat serve --help` prints.
+const HELP_OF_SERVE: &str = "\
+Puts the simulated line of a scene on the network: its end A on 127.0.0.1 and
+the port P, its end B on the next port. Each packet that is a frame in the UDP
+form walks from the end where it came in. What comes back leaves from the end
+where it arrives, to whoever spoke there last. Prints where it serves, and at
+its end the counts packets, frames and dropped, and the areas of the slaves.
+It ends after N packets, or without --packets at the end of standard input.
+A scene with actions or weathers is refused; its items are passed over.
+
+Example:
+  ecat serve scenes/serve/line.scene --packets 100
+
+Usage: ecat serve [OPTIONS] <SCENE>
+
+Arguments:
+  <SCENE>
+          A file with the slaves of a ring and its work
+
+Options:
+      --port <P>
+          The port of the line's end A, 1024 to 65534; 34980 if not given
+
+      --packets <N>
+          After how many packets it ends, 1 to 4294967295; at the input's end if not given
+
+  -h, --help
+          Print help (see a summary with '-h')
+
+Exit status:
+  0  all is well
+  1  the content is refused, or the cycle is not good
+  2  the words are no command
+  3  a file, a socket, the output or memory failed
+";
+
+/// The text of the error that the words give, if they give one.
+fn text_of(alloc: Global, words: &[&str]) -> Result<String, AllocError> {
+    match Args::read(alloc, words) {
+        Err(ArgsFault::Line(error)) => format!(in alloc; "{error}"),
+        _ => Ok(String::new(alloc)),
+    }
+}
+
+#[test]
+fn a_call_for_help_is_a_refusal(rt: HostRuntime) {
+    let alloc = rt.alloc();
+    let help = Err(Refusal::Line(ErrorKind::DisplayHelp));
+    assert_eq!(rt; read(alloc, &["ecat", "--help"]), help);
+    assert_eq!(rt; read(alloc, &["ecat", "-h"]), help);
+    assert_eq!(rt; read(alloc, &["ecat", "help"]), help);
+    assert_eq!(rt; read(alloc, &["ecat", "sdo", "--help"]), help);
+    assert_eq!(rt; read(alloc, &["ecat", "help", "serve"]), help);
+    let text = text_of(alloc, &["ecat", "help", "sdo"]).expect(&rt, "memory");
+    assert!(rt; text.contains("Usage: ecat sdo <SCENE> <STATION> <INDEX> <SUB> [VALUE]"));
+}
+
+#[test]
+fn help_shows_commands_statuses_and_examples(rt: HostRuntime) {
+    let alloc = rt.alloc();
+    let text = text_of(alloc, &["ecat", "--help"]).expect(&rt, "memory");
+    assert!(rt; text.as_str() == HELP, "{text}");
+}
+
+#[test]
+fn help_of_a_command_shows_what_it_does(rt: HostRuntime) {
+    let alloc = rt.alloc();
+    let text = text_of(alloc, &["ecat", "serve", "--help"]).expect(&rt, "memory");
+    assert!(rt; text.as_str() == HELP_OF_SERVE, "{text}");
+}

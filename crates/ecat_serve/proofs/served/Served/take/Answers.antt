@@ -1,0 +1,40 @@
+-- A frame is answered, and any other packet is dropped.
+use Rattle.std.proofs.Common.{◌≡◌, Ok, Err, inl, inr, refl, sym, List}
+use Rattle.std.proofs.lemmas.Result.{err_from_is_err_and}
+use Rattle.ec_wire.specs.Datagram.{DatagramRecord}
+use Rattle.ecat_serve.proofs.served.Served.take.Goals as goal
+
+pub returns-in_ok-reply-in-Ok : goal.returns-in_ok-reply-in-Ok
+returns-in_ok-reply-in-Ok g c =
+    inl (record {
+      frame = c.in-Ok.frame;
+      spelt = c.in-Ok.ensures.found;
+      arrival = c.walk-arrival.result;
+      walks = rw (← c.hear.ensures) c.walk-arrival.ensures;
+      sent = Ok tt;
+      replies = c.in_ok-reply-in-Ok.ensures;
+      ends_as = refl;
+    })
+
+pub returns-in_err-reply-in-Ok : goal.returns-in_err-reply-in-Ok
+returns-in_err-reply-in-Ok g c =
+    let p = err_from_is_err_and c.from_residual.result c.from_residual.ensures.1 in
+    inl (record {
+      frame = c.in-Ok.frame;
+      spelt = c.in-Ok.ensures.found;
+      arrival = c.walk-arrival.result;
+      walks = rw (← c.hear.ensures) c.walk-arrival.ensures;
+      sent = Err c.in_err-reply-in-Ok.field-0.0;
+      replies = c.in_err-reply-in-Ok.ensures;
+      ends_as = rw (p.1, p.2) refl;
+    })
+
+pub returns-in-Err : goal.returns-in-Err
+returns-in-Err g c =
+    inr (record {
+      no_frame = λ (frame : List DatagramRecord) spelt.
+          absurd (let no : Err c.in-Err.field-0 ≡ Ok frame = c.in-Err.ensures.only_found frame spelt in cc);
+      ends_as = refl;
+      leaves = rw (c.step_all.ensures, ← c.self.view_is) refl;
+      stays = refl;
+    })

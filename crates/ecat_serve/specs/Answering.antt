@@ -1,0 +1,49 @@
+-- What a packet gets back: a frame walks over the line from the end where it came in (IEC 61158-4-12, a
+-- slave's ports), and what arrives goes to whoever spoke last at the end where it arrives.
+use Rattle.std.specs.Prelude.{◌≡◌, ℕ, ◌==◌, ◌&&◌, not, is_none, List, Option, None, Some, map, length}
+use Rattle.std.specs.Prelude.{Result, Ok}
+use Rattle.std.specs.declared.net.socket_addr.SocketAddr.{SocketAddr}
+use Rattle.ec_wire.specs.Datagram.{DatagramRecord}
+use Rattle.ec_wire.specs.Spelling.{spelling}
+use Rattle.ec_master.specs.declared.ports.PortFault.{PortFault}
+use Rattle.ec_ring.specs.Links.{is_up}
+use Rattle.ec_ring.specs.Ring.{RingState, line_of, stepped, with_line}
+use Rattle.ec_ring.specs.Walk.{walked}
+use Rattle.ec_ring.specs.declared.links.Links.{Links}
+use Rattle.ec_ring.specs.declared.port.Port.{Port}
+use Rattle.ecat_serve.specs.Ends.{Sends}
+use Rattle.ecat_serve.specs.State.{ServedState, peer_at}
+
+-- the links under which frames walk are the ring's, but the last one is down while nobody has ever spoken to
+-- end B: it is the last port of a real line, and empty
+abbrev pub AreServed : ServedState → Links → Type 0
+AreServed s links = (k : ℕ) → is_up links k
+    ≡ (is_up s.ring.links k && not (is_none s.peer_b && (k == length s.ring.slaves)))
+
+-- what arrives of a frame, and where
+abbrev pub Arrival : Type 0
+Arrival = Option (List DatagramRecord × Port)
+
+-- a frame walks from an end over the line, and then each slave takes its step
+pub record Walks (before : ServedState) (from : Port) (frame : List DatagramRecord) (arrival : Arrival)
+    (later : ServedState) : Type 0 where
+  pub links : Links
+  pub served : AreServed before links
+  pub arrives : arrival ≡ (walked from links frame (line_of before.ring)).arrived
+  pub leaves : later ≡ record before {
+    ring = stepped (with_line before.ring (walked from links frame (line_of before.ring)).line);
+  }
+
+-- the packet of a frame is sent from an end to somebody; where there is nobody, nothing is
+abbrev pub SendsTo : {E : Type 0} → Sends E → E → Port → Option SocketAddr → List DatagramRecord
+    → Result (Unit {0}) PortFault → E → Type 0
+SendsTo sends before from None frame result later = (result ≡ Ok tt) × (later ≡ before)
+SendsTo sends before from (Some peer) frame result later =
+    sends before from peer (spelling frame) result later
+
+-- what arrives leaves from the end where it arrives, to whoever spoke last there; what is lost leaves nowhere
+abbrev pub Replies : {E : Type 0} → Sends E → ServedState → Arrival → E → Result (Unit {0}) PortFault → E
+    → Type 0
+Replies sends served None before result later = (result ≡ Ok tt) × (later ≡ before)
+Replies sends served (Some arrived) before result later =
+    SendsTo sends before arrived.1 (peer_at served arrived.1) arrived.0 result later

@@ -1,0 +1,4 @@
+pub mod State
+pub mod Ends
+pub mod Answering
+pub mod Rounds

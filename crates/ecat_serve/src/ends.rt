@@ -1,0 +1,45 @@
+//! The two ends of a line, at which anybody may speak.
+
+ghost use Rattle.std.specs.Prelude.{◌≤◌, IfOk, IfSome};
+ghost use Rattle.ecat_serve.specs.Ends.{Receives, Sends};
+ghost use Rattle.ecat_serve.specs.declared.ends.TheConstants.{PACKET_ROOM};
+
+use ec_master::PortFault;
+use ec_ring::Port;
+use ec_wire::MAX_FRAME;
+use std::net::SocketAddr;
+
+/// How many bytes of a packet are received: one more than the longest frame has, so that a packet of which
+/// a part is cut off fills them and is no frame.
+pub const PACKET_ROOM: usize = MAX_FRAME + 1;
+
+/// A packet that came in.
+#[derive(Clone, Copy, PartialEq, Eq, Debug)]
+pub struct Arrived {
+    /// The end where it came in.
+    pub at: Port,
+    /// Who sent it.
+    pub from: SocketAddr,
+    /// How many bytes of the room it has.
+    pub count: usize,
+}
+
+/// The two ends of a line: end A before its first slave, end B behind its last. An implementation says which
+/// packets come and what a send does; nothing else is known of either.
+pub trait Ends {
+    /// The receives that these ends can make: the ends before, the answer, the room behind it, the ends after.
+    ghost receives: { Receives Self };
+
+    /// The sends: the ends before, an end, whom it sends to, the packet, the answer, the ends after.
+    ghost sends: { Sends Self };
+
+    /// Waits for a packet at either end, and receives it into the front of the room; `None` where no more is
+    /// to come. A packet that is longer than the room fills it.
+    fn receive(&mut self, into: &mut [u8; 1501]) -> Result<Option<Arrived>, PortFault>
+        ensures run { receives self.old result into.new self.new }
+        ensures room { IfOk result (λ found. IfSome found (λ arrived. arrived.count ≤ PACKET_ROOM)) };
+
+    /// Sends a packet from an end to somebody.
+    fn send(&mut self, from: Port, to: SocketAddr, bytes: &[u8]) -> Result<(), PortFault>
+        ensures run { sends self.old from to bytes.now result self.new };
+}

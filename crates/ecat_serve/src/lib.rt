@@ -1,0 +1,43 @@
+#![tactic(auto)]
+//! A simulated line on the network, so that a master which somebody else wrote can be tried against slaves
+//! that are proved to behave, with cables that break on demand.
+//!
+//! - `Served`: a ring to whose two ends anybody may speak. It keeps who spoke last at each end.
+//! - `Ends`: what the two ends are asked, a receive that waits at both and a send. It is a trait, so that
+//!   packets can also come from memory.
+//! - `UdpEnds`: two UDP sockets on 127.0.0.1, which end with standard input where they are given one.
+//!
+//! A packet that is a frame in the UDP form walks from the end where it came in, under the ring's own links;
+//! then each slave takes its step, and what arrives leaves from the end where it arrives, to whoever spoke
+//! last there. While nobody has ever spoken to end B, the last link counts as down, as the last port of a real
+//! line that is empty: so a master with one port gets its answers at end A. Any other packet is dropped, and
+//! who sent it has not spoken.
+//!
+//! One use, which the test `a_frame_gets_its_answer_and_rubbish_none` tries:
+//!
+//! ```text
+//! let mut ends = UdpEnds::bind(&rt, rt.alloc(), port, None)?;
+//! let mut served = Served::new(ring);
+//! let counts = served.serve(&mut ends, 1)?;
+//! ```
+//!
+//! What is promised, of all ends:
+//!
+//! - each packet gets back what the walk gives, and the slaves are those behind the walk and the step
+//!   (`Served::serve_one`, `IsRound` in `specs/Rounds.antt`);
+//! - rounds follow one another until so many packets have come, none is to come, or a call fails, and each
+//!   packet is counted once (`Served::serve`, `Serves`);
+//! - a service takes no memory: it is handed no allocator.
+//!
+//! Of the packets that come to a socket nothing is stated: they are up to the system.
+
+pub mod ends;
+pub mod served;
+pub mod sockets;
+
+pub use ends::{Arrived, Ends, PACKET_ROOM};
+pub use served::{Counts, Round, Served};
+pub use sockets::{BindFault, UdpEnds};
+
+#[cfg(test)]
+mod tests;

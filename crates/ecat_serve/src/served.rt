@@ -1,0 +1,201 @@
+//! A line that is served to whoever speaks to its ends.
+
+ghost use Rattle.std.specs.Prelude.{◌≡◌, ◌+◌, ◌^◌, ◌<◌, ◌≤◌, ◌⊎◌, IfOk, None};
+ghost use Rattle.ec_wire.specs.Datagram.{DatagramRecord};
+ghost use Rattle.ec_wire.specs.Fault.{IsSpelt};
+ghost use Rattle.ec_wire.specs.declared.fault.Form.TheVariants.{Udp};
+ghost use Rattle.ecat_serve.specs.Answering.{AreServed, Replies, Walks};
+ghost use Rattle.ecat_serve.specs.Rounds.{IsAnswered, IsDropped, IsRound, Serves, round_of};
+ghost use Rattle.ecat_serve.specs.State.{peer_at, spoken};
+
+use crate::ends::{Arrived, Ends, PACKET_ROOM};
+use ec_master::PortFault;
+use ec_ring::{Links, Port, Ring, Travel};
+use ec_wire::{Form, FrameBuf};
+use std::marker::Model;
+use std::net::SocketAddr;
+
+/// How a round ends in which no call failed.
+#[derive(Clone, Copy, PartialEq, Eq, Debug)]
+pub enum Round {
+    /// A frame came in and has walked.
+    Frame,
+    /// A packet came in that is no frame.
+    Dropped,
+    /// No more packets are to come.
+    Ended,
+}
+
+/// How many packets have come in.
+#[derive(Clone, Copy, PartialEq, Eq, Debug)]
+pub struct Counts {
+    /// Those that were frames.
+    pub frames: u64,
+    /// Those that were dropped, since they were none.
+    pub dropped: u64,
+}
+
+impl Counts {
+    /// All of them. What would be past the greatest number is that number.
+    pub fn packets(&self) -> u64
+        ensures { self.now.frames + self.now.dropped < 2 ^ 64 → result ≡ self.now.frames + self.now.dropped }
+    {
+        self.frames.saturating_add(self.dropped)
+    }
+}
+
+/// A ring whose two ends anybody may speak to, and who spoke last at each of them. Contracts see these three.
+#[derive(Drop)]
+pub struct Served {
+    ring: Ring,
+    peer_a: Option<SocketAddr>,
+    peer_b: Option<SocketAddr>,
+}
+
+impl Model for Served {
+    ghost use Rattle.ecat_serve.specs.State.{ServedState};
+
+    ghost Value = { ServedState };
+
+    ghost view = { λ s. record { ring = s.ring; peer_a = s.peer_a; peer_b = s.peer_b } };
+}
+
+impl Served {
+    /// A ring to whose ends nobody has spoken yet.
+    pub fn new(ring: Ring) -> Served
+        ensures ring { result.ring ≡ ring }
+        ensures peer_a { result.peer_a ≡ None }
+        ensures peer_b { result.peer_b ≡ None }
+    {
+        Served {
+            ring,
+            peer_a: None,
+            peer_b: None,
+        }
+    }
+
+    /// The ring.
+    pub fn ring(&self) -> &Ring
+        ensures { result.now ≡ self.now.ring }
+    {
+        &self.ring
+    }
+
+    /// Serves at most so many packets, one after the other; ends before that where no more are to come, and at
+    /// the first call of the ends that fails. The answer is how many packets have come in. It takes no memory.
+    pub fn serve<E: Ends>(&mut self, ends: &mut E, most: u64) -> Result<Counts, PortFault>
+        ensures serves { Serves E.receives E.sends most (record { frames = 0; dropped = 0 }) self.old ends.old
+            result self.new ends.new }
+        ensures counted { IfOk result (λ counts. counts.frames + counts.dropped ≤ most) }
+    {
+        let mut counts = Counts {
+            frames: 0,
+            dropped: 0,
+        };
+        for _round in 0..most {
+            match self.serve_one(ends)? {
+                Round::Frame => counts.frames += 1,
+                Round::Dropped => counts.dropped += 1,
+                Round::Ended => return Ok(counts),
+            }
+        }
+        Ok(counts)
+    }
+
+    /// Waits for one packet, and answers it where it is a frame in the UDP form: who sent it has spoken at the
+    /// end where it came in; the frame walks from there under the ring's own links, the last of which is down
+    /// while nobody has ever spoken to end B; each slave takes its step; and what arrives is sent from the end
+    /// where it arrives to whoever spoke last there, if anybody did. A packet that is no frame is dropped, and
+    /// each slave takes its step. It takes no memory.
+    pub fn serve_one<E: Ends>(&mut self, ends: &mut E) -> Result<Round, PortFault>
+        ensures { IsRound E.receives E.sends self.old ends.old result self.new ends.new }
+    {
+        let mut room = [0; PACKET_ROOM];
+        match ends.receive(&mut room)? {
+            Some(arrived) => self.take(ends, &arrived, &room[..arrived.count]),
+            None => Ok(Round::Ended),
+        }
+    }
+
+    /// Answers a packet, or drops it.
+    fn take<E: Ends>(
+        &mut self,
+        ends: &mut E,
+        arrived: &Arrived,
+        packet: &[u8],
+    ) -> Result<Round, PortFault>
+        ensures { IsAnswered E.sends arrived.now packet.now self.old ends.old result self.new ends.new
+            ⊎ IsDropped packet.now self.old ends.old result self.new ends.new }
+    {
+        match FrameBuf::read(packet, Form::Udp) {
+            Ok(frame) => {
+                self.hear(arrived);
+                let arrival = self.walk(arrived.at, frame);
+                self.reply(ends, arrival)?;
+                Ok(Round::Frame)
+            }
+            Err(_) => {
+                self.ring.step_all();
+                Ok(Round::Dropped)
+            }
+        }
+    }
+
+    /// Keeps who spoke at an end.
+    fn hear(&mut self, arrived: &Arrived)
+        ensures { self.new ≡ spoken self.old arrived.now.at arrived.now.from }
+    {
+        match arrived.at {
+            Port::A => self.peer_a = Some(arrived.from),
+            Port::B => self.peer_b = Some(arrived.from),
+        }
+    }
+
+    /// The links under which a frame walks now.
+    fn links(&self) -> Links
+        ensures { AreServed self.now result }
+    {
+        let mut links = self.ring.links();
+        if self.peer_b.is_none() {
+            links.set(self.ring.slaves().len(), false);
+        }
+        links
+    }
+
+    /// Lets a frame walk, and then each slave take its step.
+    fn walk(&mut self, from: Port, frame: FrameBuf) -> Option<(FrameBuf, Port)>
+        ensures { Walks self.old from frame result self.new }
+    {
+        let links = self.links();
+        let arrival = self.ring.walk(from, frame, &links);
+        self.ring.step_all();
+        arrival
+    }
+
+    /// Sends what arrived to whoever spoke last at the end where it arrived.
+    fn reply<E: Ends>(
+        &self,
+        ends: &mut E,
+        arrival: Option<(FrameBuf, Port)>,
+    ) -> Result<(), PortFault>
+        ensures { Replies E.sends self.now arrival ends.old result ends.new }
+    {
+        let Some((frame, port)) = arrival else {
+            return Ok(());
+        };
+        match self.peer(port) {
+            Some(peer) => ends.send(port, peer, frame.bytes()),
+            None => Ok(()),
+        }
+    }
+
+    /// Who spoke last at an end.
+    fn peer(&self, port: Port) -> Option<SocketAddr>
+        ensures { result ≡ peer_at self.now port }
+    {
+        match port {
+            Port::A => self.peer_a,
+            Port::B => self.peer_b,
+        }
+    }
+}

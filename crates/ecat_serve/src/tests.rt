@@ -1,0 +1,7 @@
+//! A line that is served: in memory, where a call may fail, and over real sockets.
+
+mod faults;
+mod line;
+mod memory;
+mod packets;
+mod real;
