@@ -48,7 +48,7 @@ get_or-with_run_before xs ys at k before inside =
     ∙ get_or-take at xs k 0 before
 
 -- those of the run are the new ones
-get_or-with_run_inside : (xs ys : List ℕ) (at k : ℕ) → at ≤ length xs → k < length ys
+pub get_or-with_run_inside : (xs ys : List ℕ) (at k : ℕ) → at ≤ length xs → k < length ys
     → get_or (with_run xs at ys) (at + k) 0 ≡ get_or ys k 0
 get_or-with_run_inside xs ys at k inside within =
     let front : length (take at xs) ≡ at = length-take-le at xs inside in

@@ -1,24 +1,20 @@
 -- The rule carries out what the stages of the code do, command by command.
-use Rattle.std.proofs.Common.{◌≡◌, ℕ, zero, suc, ◌+◌, ◌-◌, ◌*◌, ◌/◌, ◌%◌, ◌<◌, ◌≤◌, Bool, true, false, ◌&&◌}
-use Rattle.std.proofs.Common.{◌||◌, cond, eqb, leb, ltb}
-use Rattle.std.proofs.Common.{List, [], ◌∷◌, length, get_or, Option, None, Some, sym, ◌∙◌, ap, refl, arith}
+use Rattle.std.proofs.Common.{◌≡◌, ℕ, ◌+◌, ◌-◌, ◌*◌, ◌/◌, ◌%◌, ◌<◌, Bool, true, false, ◌&&◌}
+use Rattle.std.proofs.Common.{◌||◌, cond}
+use Rattle.std.proofs.Common.{List, length, Option, None, Some, sym, ◌∙◌, ap, refl, arith}
 use Rattle.std.proofs.Common.{⊎_elim}
 use Rattle.std.proofs.Math.Path.{fun_ext}
-use Rattle.std.specs.Prelude.{not}
-use Rattle.std.specs.List.{filter, position, list_any}
 use Rattle.std.specs.Option.{is_some}
 use Rattle.std.proofs.lemmas.Bool.{cases_Bool}
-use Rattle.std.proofs.lemmas.Bool.Decides.{nat_tests}
 use Rattle.ec_regs.specs.Bits.{AreBytes, with_bits}
 use Rattle.ec_regs.specs.declared.sync_man.SyncMan.{SyncMan}
-use Rattle.ec_regs.specs.declared.registers.TheConstants.{MEMORY_SIZE, PROCESS_MEMORY, AL_CONTROL}
-use Rattle.ec_regs.proofs.BitLemmas.{length-with_bits, with_bits_none, with_bits_same_places}
+use Rattle.ec_regs.specs.declared.registers.TheConstants.{PROCESS_MEMORY, AL_CONTROL}
+use Rattle.ec_regs.proofs.BitLemmas.{length-with_bits, with_bits_none}
 use Rattle.ec_wire.specs.Command.{counts_adp}
 use Rattle.ec_wire.specs.Datagram.{DatagramRecord, adp, ado}
 use Rattle.ec_wire.specs.declared.command.Command.{Command}
 use Rattle.ec_wire.specs.declared.command.Command.TheVariants.{Nop, Aprd, Apwr, Aprw, Fprd, Fpwr, Fprw, Brd}
 use Rattle.ec_wire.specs.declared.command.Command.TheVariants.{Bwr, Brw, Lrd, Lwr, Lrw, Armw, Frmw}
-use Rattle.ec_areas.specs.Logical.{names}
 use Rattle.ec_areas.specs.Ranges.{within, takes_writes}
 use Rattle.ec_areas.specs.Records.{sync_managers_of, fmmus_of}
 use Rattle.ec_areas.proofs.MapLemmas.{names_nowhere, names_none, names_at, write_map_none, write_map_register}
@@ -28,13 +24,13 @@ use Rattle.ec_areas.proofs.RunLemmas.{get_or-with_bits_kept}
 use Rattle.ec_esc.specs.State.{ControllerState}
 use Rattle.ec_esc.specs.Writing.{settled, shown_after, with_emptied, with_filled}
 use Rattle.ec_esc.specs.Pass.{Passed, Half, nothing, where_served, effect, touches, counter_after}
-use Rattle.ec_esc.specs.Pass.{datagram_after, written_by, read_by, applied, pass}
+use Rattle.ec_esc.specs.Pass.{written_by, read_by, pass}
 use Rattle.ec_esc.specs.Stages.{read_sources, write_sources, serves_read, serves_write, range_sources}
 use Rattle.ec_esc.specs.Stages.{broadcast_sources, range_targets}
 use Rattle.ec_esc.specs.Stages.{serves_range_read, serves_range_write, read_mailbox, written_mailbox}
-use Rattle.ec_esc.specs.Stages.{Arrives, pass_by, no_change, if_served, if_addressed, is_first, is_station}
-use Rattle.ec_esc.specs.Stages.{physical_read, physical_write, physical_exchange, read_out}
-use Rattle.ec_esc.specs.Stages.{is_written, finished, range_written, written_state, counted_up}
+use Rattle.ec_esc.specs.Stages.{Arrives, pass_by, no_change, if_served, is_first, is_station}
+use Rattle.ec_esc.specs.Stages.{read_out}
+use Rattle.ec_esc.specs.Stages.{is_written, range_written, written_state, counted_up}
 use Rattle.ec_esc.proofs.IdleLemmas.{settled_same, shown_after_same, written_by_nothing, taken_nothing}
 use Rattle.ec_esc.proofs.IdleLemmas.{or_nothing}
 

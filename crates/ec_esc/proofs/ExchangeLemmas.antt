@@ -1,6 +1,6 @@
 -- A read after a write, where no FMMU for reading meets one for writing: it finds what it would find before.
 use Rattle.std.proofs.Common.{◌≡◌, ℕ, ◌+◌, ◌*◌, true, List, length, Option, None, Some, ◌∙◌, ap, refl}
-use Rattle.ec_regs.specs.Bits.{AreBytes, bit, placed_bit, with_bits}
+use Rattle.ec_regs.specs.Bits.{AreBytes, placed_bit, with_bits}
 use Rattle.ec_regs.specs.declared.fmmu.Fmmu.{Fmmu}
 use Rattle.ec_regs.specs.declared.registers.TheConstants.{MEMORY_SIZE}
 use Rattle.ec_regs.specs.declared.sync_man.SyncMan.{SyncMan}

@@ -1,22 +1,19 @@
 -- What a write leaves that writes nothing, or no register: statuses, shown bytes and the mark.
-use Rattle.std.proofs.Common.{◌≡◌, ℕ, zero, suc, ◌+◌, ◌-◌, ◌*◌, ◌/◌, ◌%◌, ◌<◌, ◌≤◌, Bool, true, false, ◌&&◌}
+use Rattle.std.proofs.Common.{◌≡◌, ℕ, ◌+◌, ◌*◌, ◌/◌, ◌<◌, Bool, true, false, ◌&&◌}
 use Rattle.std.proofs.Common.{◌||◌, cond, eqb, leb, ltb, List, [], ◌∷◌, length, get_or}
-use Rattle.std.proofs.Common.{Option, None, Some, sym, ◌∙◌, ap, refl, arith, ⊎_elim}
+use Rattle.std.proofs.Common.{Option, None, ◌∙◌, ap, refl, arith, ⊎_elim}
 use Rattle.std.proofs.Math.Path.{fun_ext}
 use Rattle.std.proofs.lemmas.Bool.{cases_Bool}
 use Rattle.std.proofs.lemmas.Bool.Decides.{nat_tests}
 use Rattle.std.proofs.lemmas.List.{ext_get_or}
 use Rattle.std.proofs.lemmas.List.FromFn.{length-map-range_with_len, get_or-map-range_with_len}
 use Rattle.std.specs.Prelude.{not}
-use Rattle.std.specs.Option.{is_some}
-use Rattle.ec_regs.specs.Bits.{AreBytes, bit, with_bits}
+use Rattle.ec_regs.specs.Bits.{AreBytes, with_bits}
 use Rattle.ec_regs.specs.SyncMan.{is_active, is_buffered, master_writes}
 use Rattle.ec_regs.specs.declared.sync_man.SyncMan.{SyncMan}
 use Rattle.ec_regs.specs.declared.registers.TheConstants.{MEMORY_SIZE, PROCESS_MEMORY, AL_CONTROL}
 use Rattle.ec_regs.proofs.BitLemmas.{length-with_bits, with_bits_none}
-use Rattle.ec_areas.specs.Areas.{guards}
-use Rattle.ec_areas.specs.Logical.{names}
-use Rattle.ec_areas.specs.Ranges.{within, is_in_sync_manager, sync_manager_number, sync_manager_offset}
+use Rattle.ec_areas.specs.Ranges.{is_in_sync_manager, sync_manager_number, sync_manager_offset}
 use Rattle.ec_areas.specs.Records.{sync_manager_at, sync_managers_of}
 use Rattle.ec_areas.proofs.LogicalLemmas.{both}
 use Rattle.ec_areas.proofs.MapLemmas.{names_nowhere}

@@ -1,15 +1,14 @@
 -- A datagram is changed in steps, and a physical read or write is done once all of them are.
-use Rattle.std.proofs.Common.{◌≡◌, ℕ, ◌+◌, ◌*◌, ◌%◌, ◌<◌, ◌≤◌, Bool, true, cond, List, length, get_or, set}
+use Rattle.std.proofs.Common.{◌≡◌, ℕ, ◌+◌, ◌*◌, ◌%◌, ◌<◌, ◌≤◌, Bool, true, cond, List, length, set}
 use Rattle.std.proofs.Common.{Option, sym, ◌∙◌, ap, subst, arith}
 use Rattle.std.proofs.lemmas.List.{set-set, get_or-set_same}
 use Rattle.ec_regs.specs.declared.registers.TheConstants.{MEMORY_SIZE}
-use Rattle.std.specs.Int.{bit_at}
 use Rattle.ec_regs.specs.declared.sync_man.SyncMan.{SyncMan}
-use Rattle.ec_regs.specs.Bits.{AreBytes, with_bits}
+use Rattle.ec_regs.specs.Bits.{with_bits}
 use Rattle.ec_regs.proofs.BitLemmas.{length-with_bits}
 use Rattle.ec_wire.specs.Datagram.{DatagramRecord, nth, blank}
 use Rattle.ec_areas.specs.Records.{sync_managers_of}
-use Rattle.ec_areas.specs.Ranges.{takes_writes, emptied_by, filled_by}
+use Rattle.ec_areas.specs.Ranges.{takes_writes, emptied_by}
 use Rattle.ec_esc.specs.State.{ControllerState}
 use Rattle.ec_esc.specs.Stages.{no_change, if_served, physical_exchange, counted_up, read_out}
 use Rattle.ec_esc.specs.Stages.{physical_read, range_written}
@@ -18,9 +17,7 @@ use Rattle.ec_esc.specs.Writing.{with_emptied}
 use Rattle.ec_esc.specs.Stages.{range_sources, serves_range_read, serves_range_write}
 use Rattle.ec_esc.specs.Pass.{Passed, counter_after}
 use Rattle.ec_esc.specs.Stages.{finished}
-use Rattle.ec_esc.specs.Writing.{settled}
-use Rattle.ec_areas.specs.Ranges.{status_address}
-use Rattle.ec_esc.proofs.WrittenLemmas.{places_from, among, written_front}
+use Rattle.ec_esc.proofs.WrittenLemmas.{places_from, among}
 
 -- ---- one datagram of a frame
 

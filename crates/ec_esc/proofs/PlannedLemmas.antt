@@ -1,26 +1,33 @@
 -- Records that are kept decoded: which of them stay when bytes of a memory change.
-use Rattle.std.proofs.Common.{◌≡◌, ℕ, zero, suc, ◌+◌, ◌*◌, ◌/◌, ◌<◌, ◌≤◌, false, ◌&&◌, ltb, List, length}
+use Rattle.std.proofs.Common.{◌≡◌, ℕ, zero, suc, ◌+◌, ◌*◌, ◌/◌, ◌%◌, ◌<◌, ◌≤◌, false, ◌&&◌, ltb, List, []}
+use Rattle.std.proofs.Common.{◌∷◌, length}
 use Rattle.std.proofs.Common.{get_or, set, take, drop, sym, ◌∙◌, ap, refl, arith, ⊎_elim, below_more}
 use Rattle.std.proofs.Common.{get_or-set_same, get_or-set_other}
 use Rattle.std.proofs.lemmas.Bool.{and_cases, le-ltb, ltb-false}
 use Rattle.std.proofs.lemmas.List.{ext_get_or, length-take-le, length-drop}
+use Rattle.std.specs.Option.{is_some}
+use Rattle.ec_regs.specs.Al.{state_of, status_byte}
 use Rattle.ec_regs.specs.Bits.{AreBytes, with_bits}
 use Rattle.ec_regs.specs.Fmmu.{fmmu_of}
 use Rattle.ec_regs.specs.SyncMan.{sync_man_of}
+use Rattle.ec_regs.specs.declared.al.AlStatus.{AlStatus}
 use Rattle.ec_regs.specs.declared.fmmu.Fmmu.{Fmmu}
-use Rattle.ec_regs.specs.declared.registers.TheConstants.{MEMORY_SIZE}
+use Rattle.ec_regs.specs.declared.registers.TheConstants.{AL_STATUS, MEMORY_SIZE}
 use Rattle.ec_regs.specs.declared.sync_man.SyncMan.{SyncMan}
 use Rattle.ec_regs.proofs.BitLemmas.{length-with_bits}
+use Rattle.ec_regs.proofs.AlLemmas.{state_of-status_byte}
 use Rattle.ec_areas.specs.Logical.{write_map}
+use Rattle.ec_areas.specs.Ranges.{takes_writes}
 use Rattle.ec_areas.specs.Records.{fmmu_at, fmmus_of, sync_manager_at, sync_managers_of}
 use Rattle.ec_areas.proofs.RangeLemmas.{get_or-sync_managers_of}
 use Rattle.ec_areas.proofs.MapLemmas.{write_map_register}
 use Rattle.ec_areas.proofs.RecordLemmas.{SameRegisters}
 use Rattle.ec_areas.proofs.RunLemmas.{get_or-run, get_or-with_bits_kept}
 use Rattle.ec_esc.specs.Planned.{ChangesWithin}
-use Rattle.ec_esc.specs.State.{with_run}
+use Rattle.ec_esc.specs.State.{NamesState, with_run}
 use Rattle.ec_esc.proofs.SettledLemmas.{and_false}
 use Rattle.ec_esc.proofs.ApplicationLemmas.{length-with_run, get_or-with_run_before, get_or-with_run_behind}
+use Rattle.ec_esc.proofs.ApplicationLemmas.{get_or-with_run_inside}
 
 -- ---- a write through FMMUs
 
@@ -37,6 +44,26 @@ registers_stay memory payload managers fmmus from n size are = record {
       let byte : (8 * a + b) / 8 < 4096 = omega arith in write_map_register managers fmmus from n
       (8 * a + b) byte);
 }
+
+-- ---- AL status
+
+-- it names a state where its byte is that of a memory in which it does
+pub status_stays : (before after : List ℕ) → get_or after AL_STATUS 0 ≡ get_or before AL_STATUS 0
+    → NamesState before → NamesState after
+status_stays before after same named = ap (λ (byte : ℕ). is_some (state_of (byte % 16))) same ∙ named
+
+-- it names the state of the status that was set
+pub status_names : (memory : List ℕ) (status : AlStatus) → length memory ≡ MEMORY_SIZE
+    → NamesState (with_run memory AL_STATUS (status_byte status ∷ 0 ∷ []))
+status_names memory status size =
+    ap (λ (byte : ℕ). is_some (state_of (byte % 16)))
+    (get_or-with_run_inside memory (status_byte status ∷ 0 ∷ []) AL_STATUS 0 (omega arith) (omega arith))
+    ∙ ap is_some (state_of-status_byte status)
+
+-- it takes no write
+pub status_takes_none : (memory : List ℕ) → takes_writes memory AL_STATUS ≡ false
+unfolding takes_writes
+status_takes_none memory = refl
 
 -- ---- records outside a range that was written
 

@@ -18,19 +18,16 @@ get_or-set xs i v k inside =
     ≡ false = grind (arith, nat_tests) in rw (other, get_or-set_other xs i k v 0 elsewhere) refl)
     (cases_eq k i)
 
--- a memory of zeros in which the station address and AL status were written
+-- a memory of zeros but for AL status, in which the station address was written
 pub fresh_memory : (m : List ℕ) (station : ℕ) → length m ≡ MEMORY_SIZE → ((address : ℕ)
-    → get_or m address 0 ≡ 0)
-    → (address : ℕ) → get_or (set (set (set m AL_STATUS 1) (STATION_ADDRESS + 1)
-    (station / 256)) STATION_ADDRESS (station % 256)) address 0 ≡ fresh_byte station address
+    → get_or m address 0 ≡ cond (eqb address AL_STATUS) 1 0)
+    → (address : ℕ) → get_or (set (set m (STATION_ADDRESS + 1) (station / 256)) STATION_ADDRESS
+    (station % 256)) address 0 ≡ fresh_byte station address
 unfolding fresh_byte
-fresh_memory m station size zero address =
-    let first : List ℕ = set m AL_STATUS 1 in
-    let second : List ℕ = set first (STATION_ADDRESS + 1) (station / 256) in
-    let first_size : length first ≡ length m = length-set m AL_STATUS 1 in
-    let second_size : length second ≡ length first = length-set first (STATION_ADDRESS + 1) (station / 256) in
-    get_or-set second STATION_ADDRESS (station % 256) address (omega arith)
+fresh_memory m station size bytes address =
+    let first : List ℕ = set m (STATION_ADDRESS + 1) (station / 256) in
+    let first_size : length first ≡ length m = length-set m (STATION_ADDRESS + 1) (station / 256) in
+    get_or-set first STATION_ADDRESS (station % 256) address (omega arith)
     ∙ ap (cond (eqb address STATION_ADDRESS) (station % 256))
-    (get_or-set first (STATION_ADDRESS + 1) (station / 256) address (omega arith)
-    ∙ ap (cond (eqb address (STATION_ADDRESS + 1)) (station / 256))
-    (get_or-set m AL_STATUS 1 address (omega arith) ∙ ap (cond (eqb address AL_STATUS) 1) (zero address)))
+    (get_or-set m (STATION_ADDRESS + 1) (station / 256) address (omega arith)
+    ∙ ap (cond (eqb address (STATION_ADDRESS + 1)) (station / 256)) (bytes address))

@@ -1,7 +1,7 @@
 -- The application's side of a controller: AL control and AL status, outputs and inputs, and mail (IEC
 -- 61158-4-12, sync manager, and IEC 61158-6-12, AL management). What it writes stands in the memory alone,
 -- where the wire reads it; what it is shown stays.
-use Rattle.std.specs.Prelude.{ℕ, ◌+◌, ◌-◌, ◌*◌, Bool, false, ◌==◌, ◌&&◌, not, nat_le, if◌then◌else◌, Option}
+use Rattle.std.specs.Prelude.{ℕ, ◌+◌, ◌-◌, false, ◌==◌, ◌&&◌, not, nat_le, if◌then◌else◌, Option}
 use Rattle.std.specs.Prelude.{None, Some, List, [], ◌∷◌, ◌++◌, length, take, drop, slice_index, slice_range}
 use Rattle.std.specs.Prelude.{replicate}
 use Rattle.std.specs.Int.{w16, to_le_bytes}

@@ -3,7 +3,7 @@
 -- physical memory access and the FMMU). The next datagram finds the memory as it was left.
 use Rattle.std.specs.Prelude.{ℕ, ◌+◌, ◌-◌, ◌*◌, ◌/◌, ◌%◌, Bool, true, false, ◌==◌, ◌&&◌, ◌||◌}
 use Rattle.std.specs.Prelude.{if◌then◌else◌, Option, None, Some}
-use Rattle.std.specs.Prelude.{List, [], ◌∷◌, length, slice_index}
+use Rattle.std.specs.Prelude.{List, [], ◌∷◌, length}
 use Rattle.ec_regs.specs.Bits.{bit, with_bits}
 use Rattle.ec_regs.specs.declared.registers.TheConstants.{STATION_ADDRESS, AL_CONTROL}
 use Rattle.ec_wire.specs.Command.{addressing, reads, writes, counts_adp}

@@ -1,16 +1,18 @@
--- A controller keeps the records of its memory decoded (IEC 61158-4-12, register layout); and where a write
--- changes the memory.
+-- A controller keeps the records of its memory decoded (IEC 61158-4-12, register layout), and its AL status
+-- names a state (IEC 61158-6-12, AL status); and where a write changes the memory.
 use Rattle.std.specs.Prelude.{◌≡◌, ℕ, ◌+◌, ◌<◌, ◌≤◌, List, length, slice_index}
 use Rattle.ec_regs.specs.declared.fmmu.Fmmu.{Fmmu}
 use Rattle.ec_regs.specs.declared.registers.TheConstants.{MEMORY_SIZE}
 use Rattle.ec_regs.specs.declared.sync_man.SyncMan.{SyncMan}
 use Rattle.ec_areas.specs.Records.{fmmus_of, sync_managers_of}
+use Rattle.ec_esc.specs.State.{NamesState}
 
--- these FMMUs and sync managers are those whose records stand in the memory
-pub record IsDecoded (memory : List ℕ) (fmmus : List Fmmu) (managers : List SyncMan) : Type 0 where
+-- these FMMUs and sync managers are those whose records stand in the memory, and AL status names a state
+pub record IsPlanned (memory : List ℕ) (fmmus : List Fmmu) (managers : List SyncMan) : Type 0 where
   pub size : length memory ≡ MEMORY_SIZE
   pub fmmus_are : fmmus ≡ fmmus_of memory
   pub managers_are : managers ≡ sync_managers_of memory
+  pub status : NamesState memory
 
 -- two memories of one length whose bytes are the same but for some of the n from an address on
 pub record ChangesWithin (from n : ℕ) (before after : List ℕ) : Type 0 where

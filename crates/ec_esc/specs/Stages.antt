@@ -1,7 +1,7 @@
 -- Stages of the code, which its private contracts cite and nothing above: a read, a write and both at once
 -- of a logical datagram and of a range, where the controller is addressed; and a physical write once its
 -- bytes stand in the memory.
-use Rattle.std.specs.Prelude.{ℕ, ◌+◌, ◌*◌, ◌%◌, ◌<◌, Bool, ◌==◌, ◌&&◌, ◌||◌, if◌then◌else◌, Option, None}
+use Rattle.std.specs.Prelude.{◌≡◌, ℕ, ◌+◌, ◌*◌, ◌%◌, ◌<◌, Bool, ◌==◌, ◌&&◌, ◌||◌, if◌then◌else◌, Option}
 use Rattle.std.specs.Prelude.{List, length}
 use Rattle.ec_regs.specs.Bits.{AreBytes, with_bits}
 use Rattle.ec_regs.specs.declared.registers.TheConstants.{STATION_ADDRESS, AL_CONTROL}
@@ -56,6 +56,10 @@ abbrev pub written_mailbox : ControllerState → DatagramRecord → Option ℕ
 written_mailbox c d = rule.written_mailbox c (ado d) (length d.payload)
 
 -- ---- stages
+
+-- these are the sync managers of some memory: what a write knows of the records on arrival
+abbrev pub AreArrived : List SyncMan → Type 0
+AreArrived managers = (arrived : List ℕ) × (managers ≡ sync_managers_of arrived)
 
 -- what arrives: a controller, data that are bytes, and a working counter of 16 bits
 pub record Arrives (c : ControllerState) (d : DatagramRecord) : Type 0 where

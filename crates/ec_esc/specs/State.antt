@@ -1,7 +1,9 @@
 -- A controller is its memory, what its application sees of process memory, and a mark that AL control was
 -- written (IEC 61158-4-12, slave controller; the mark stands for the AL event of IEC 61158-6-12).
-use Rattle.std.specs.Prelude.{◌≡◌, ◌==◌, ℕ, ◌+◌, ◌-◌, ◌*◌, ◌/◌, ◌%◌, Bool, false, if◌then◌else◌, List, ◌++◌}
-use Rattle.std.specs.Prelude.{length, take, drop, slice_index}
+use Rattle.std.specs.Prelude.{◌≡◌, ◌==◌, ℕ, ◌+◌, ◌-◌, ◌*◌, ◌/◌, ◌%◌, Bool, true, false, if◌then◌else◌, List}
+use Rattle.std.specs.Prelude.{◌++◌, length, take, drop, slice_index}
+use Rattle.std.specs.Option.{is_some}
+use Rattle.ec_regs.specs.Al.{state_of}
 use Rattle.ec_regs.specs.Bits.{AreBytes}
 use Rattle.ec_regs.specs.Fmmu.{fmmu_bytes}
 use Rattle.ec_regs.specs.SyncMan.{sync_man_bytes}
@@ -29,6 +31,10 @@ pub record IsController (c : ControllerState) : Type 0 where
 -- the word at an address of a memory, its low byte first
 abbrev pub word_at : List ℕ → ℕ → ℕ
 word_at memory address = slice_index memory address + 256 * slice_index memory (address + 1)
+
+-- AL status names a state: its four lowest bits are the code of one
+abbrev pub NamesState : List ℕ → Type 0
+NamesState memory = is_some (state_of (slice_index memory AL_STATUS % 16)) ≡ true
 
 -- ---- the state at first
 

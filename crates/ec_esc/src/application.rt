@@ -2,10 +2,11 @@
 //! the areas of its sync managers (IEC 61158-4-12, sync manager). What the application writes stands in the
 //! memory alone, where the wire reads it; the bytes that it is shown stay.
 
-ghost use Rattle.std.specs.Prelude.{true, false, ◌≡◌, ◌+◌, ◌-◌, ◌<◌, ◌≤◌, IfOk};
+ghost use Rattle.std.specs.Prelude.{true, false, ◌≡◌, ◌+◌, ◌-◌, ◌%◌, ◌<◌, ◌≤◌, IfOk};
 ghost use Rattle.std.specs.Prelude.{OnOk, OnErr, Some, ◌++◌, length, slice_index, option_map, replicate};
 ghost use Rattle.std.specs.Result.{result_err};
-ghost use Rattle.ec_regs.specs.declared.registers.TheConstants.{PROCESS_MEMORY, MEMORY_SIZE};
+ghost use Rattle.ec_regs.specs.declared.registers.TheConstants.{AL_STATUS, PROCESS_MEMORY, MEMORY_SIZE};
+ghost use Rattle.ec_regs.specs.Al.{state_of};
 ghost use Rattle.ec_regs.specs.SyncMan.{is_full};
 ghost use Rattle.ec_areas.specs.Records.{sync_manager_at};
 ghost use Rattle.ec_esc.specs.State.{word_at};
@@ -16,7 +17,7 @@ ghost use Rattle.ec_esc.specs.Application.{with_mail_taken, put_mail_fault, with
 
 use crate::controller::Controller;
 use arrayvec::ArrayVec;
-use ec_regs::registers::{AL_CONTROL, AL_STATUS, AL_STATUS_CODE};
+use ec_regs::registers::{AL_CONTROL, AL_STATUS_CODE};
 use ec_regs::{AlStatus, LONGEST_MAILBOX, SyncMan};
 
 /// The longest mail, in bytes: the whole of the longest mailbox.
@@ -39,6 +40,7 @@ pub enum AreaFault {
 /// Are these bytes inputs of the sync manager?
 fn check_inputs(manager: &SyncMan, bytes: &[u8]) -> Result<(), AreaFault>
     ensures err { result_err result ≡ put_inputs_fault manager.now bytes.now }
+    ensures from { OnOk result (PROCESS_MEMORY ≤ manager.now.start) }
     ensures to { OnOk result (manager.now.start + length bytes.now ≤ MEMORY_SIZE) }
 {
     if !manager.is_active() {
@@ -129,19 +131,17 @@ impl Controller {
         ensures status { al_status self.new ≡ status }
         ensures code { al_status_code self.new ≡ code }
     {
-        self.memory.load(AL_STATUS, &[status.byte(), 0]);
+        self.memory.set_al_status(status);
         self.memory.load(AL_STATUS_CODE, &code.to_le_bytes());
     }
 
-    /// AL status and the AL status code (IEC 61158-6-12).
+    /// AL status and the AL status code (IEC 61158-6-12). AL status of a controller always names a state.
     pub fn al(&self) -> (AlStatus, u16)
         ensures status { result.0 ≡ al_status self.now }
+        ensures named { state_of (slice_index self.now.memory AL_STATUS % 16) ≡ Some result.0.state }
         ensures code { result.1 ≡ al_status_code self.now }
     {
-        (
-            AlStatus::of_byte(self.byte(AL_STATUS)),
-            self.word(AL_STATUS_CODE),
-        )
+        (self.memory.al_status(), self.word(AL_STATUS_CODE))
     }
 
     /// The outputs in the area of a sync manager, 0 to 7, as the application is shown them, or `None` where
@@ -209,148 +209,5 @@ impl Controller {
             .load(manager.start, &area[..manager.length as usize]);
         self.mark_full(sm);
         Ok(())
-    }
-}
-
-#[cfg(test)]
-mod tests {
-    use super::*;
-    use ec_regs::{AlState, Fmmu, NoMemory};
-    use std::alloc::Global;
-
-    /// A sync manager that is enabled, with status 0.
-    fn area(start: u16, length: u16, control: u8) -> SyncMan {
-        SyncMan {
-            start,
-            length,
-            control,
-            status: 0x00,
-            activate: 0x01,
-            pdi: 0x00,
-        }
-    }
-
-    /// The controller of station 0x1203: a mailbox that the master writes (0) and one that it reads (1),
-    /// one byte of outputs (2), which is 12, and two bytes of inputs (3).
-    fn controller(alloc: Global) -> Result<Controller, NoMemory> {
-        let mut slave = Controller::new(alloc, 0x1203)?;
-        slave.load(0x1000, &[0x12]);
-        slave.set_syncman(0, &area(0x1800, 16, 0x06));
-        slave.set_syncman(1, &area(0x1880, 16, 0x02));
-        slave.set_syncman(2, &area(0x1000, 1, 0x04));
-        slave.set_syncman(3, &area(0x1100, 2, 0x00));
-        Ok(slave)
-    }
-
-    #[test]
-    fn station_is_the_word_at_0x10(rt: HostRuntime) {
-        let slave = controller(rt.alloc()).expect(&rt, "memory");
-        assert_eq!(rt; slave.station(), 0x1203);
-    }
-
-    #[test]
-    fn fmmu_is_read_as_it_was_set(rt: HostRuntime) {
-        let mut slave = controller(rt.alloc()).expect(&rt, "memory");
-        let fmmu = Fmmu {
-            logical: 0x0001_0000,
-            length: 1,
-            start: 0,
-            stop: 7,
-            physical: 0x1100,
-            bit: 0,
-            kind: 1,
-            activate: 1,
-            reserved: [0; 3],
-        };
-        slave.set_fmmu(5, &fmmu);
-        assert_eq!(rt; slave.fmmu(5), fmmu);
-    }
-
-    #[test]
-    fn control_is_taken_once(rt: HostRuntime) {
-        let mut slave = controller(rt.alloc()).expect(&rt, "memory");
-        assert_eq!(rt; slave.take_control(), None);
-        slave.memory.load(0x0120, &[0x12, 0x34]);
-        slave.written = true;
-        assert_eq!(rt; slave.take_control(), Some(0x3412));
-        assert_eq!(rt; slave.take_control(), None);
-    }
-
-    #[test]
-    fn al_is_read_as_it_was_set(rt: HostRuntime) {
-        let mut slave = controller(rt.alloc()).expect(&rt, "memory");
-        let init = AlStatus {
-            state: AlState::Init,
-            error: false,
-        };
-        assert_eq!(rt; slave.al(), (init, 0));
-        let refused = AlStatus {
-            state: AlState::Op,
-            error: true,
-        };
-        slave.set_al(refused, 0x0011);
-        assert_eq!(rt;
-            slave.bytes(0x0130, 6),
-            &[0x18, 0x00, 0x00, 0x00, 0x11, 0x00][..]
-        );
-        assert_eq!(rt; slave.al(), (refused, 0x0011));
-    }
-
-    #[test]
-    fn outputs_are_the_shown_bytes_of_what_the_master_writes(rt: HostRuntime) {
-        let slave = controller(rt.alloc()).expect(&rt, "memory");
-        assert_eq!(rt; slave.outputs(2), Some(&[0x12][..]));
-        assert_eq!(rt; slave.outputs(0), None);
-        assert_eq!(rt; slave.outputs(3), None);
-        assert_eq!(rt; slave.outputs(4), None);
-    }
-
-    #[test]
-    fn inputs_are_in_the_memory_and_not_shown(rt: HostRuntime) {
-        let mut slave = controller(rt.alloc()).expect(&rt, "memory");
-        assert_eq!(rt; slave.put_inputs(3, &[0xAA, 0xBB]), Ok(()));
-        assert_eq!(rt; slave.bytes(0x1100, 2), &[0xAA, 0xBB][..]);
-        assert_eq!(rt; slave.shown_bytes(0x1100, 2), &[0x00, 0x00][..]);
-    }
-
-    #[test]
-    fn inputs_go_to_a_whole_area_of_their_kind(rt: HostRuntime) {
-        let mut slave = controller(rt.alloc()).expect(&rt, "memory");
-        assert_eq!(rt; slave.put_inputs(3, &[0xAA]), Err(AreaFault::WrongLength));
-        assert_eq!(rt; slave.put_inputs(2, &[0xAA]), Err(AreaFault::WrongKind));
-        assert_eq!(rt; slave.put_inputs(4, &[]), Err(AreaFault::NotActive));
-    }
-
-    #[test]
-    fn mail_is_taken_from_a_full_mailbox_that_the_master_writes(rt: HostRuntime) {
-        let mut slave = controller(rt.alloc()).expect(&rt, "memory");
-        slave.load(0x1800, &[0x01, 0x02, 0x03]);
-        assert_eq!(rt; slave.take_mail(0).err(), Some(AreaFault::Busy));
-        assert_eq!(rt; slave.take_mail(1).err(), Some(AreaFault::WrongKind));
-        slave.memory.set_byte(0x0805, 0x0B);
-        let mail = slave.take_mail(0).expect(&rt, "mail");
-        let whole = [1, 2, 3, 0, 0, 0, 0, 0, 0, 0, 0, 0, 0, 0, 0, 0];
-        assert_eq!(rt; mail.as_slice(), &whole[..]);
-        assert_eq!(rt; slave.byte(0x0805), 0x03);
-        assert_eq!(rt; slave.take_mail(0).err(), Some(AreaFault::Busy));
-    }
-
-    #[test]
-    fn mail_is_put_with_zeros_after_it_and_fills_the_mailbox(rt: HostRuntime) {
-        let mut slave = controller(rt.alloc()).expect(&rt, "memory");
-        slave.load(0x1880, &[0xFF; 16]);
-        assert_eq!(rt; slave.put_mail(1, &[0x01, 0x02, 0x03]), Ok(()));
-        let whole = [1, 2, 3, 0, 0, 0, 0, 0, 0, 0, 0, 0, 0, 0, 0, 0];
-        assert_eq!(rt; slave.bytes(0x1880, 16), &whole[..]);
-        assert_eq!(rt; slave.byte(0x080D), 0x08);
-    }
-
-    #[test]
-    fn full_mailbox_takes_no_mail(rt: HostRuntime) {
-        let mut slave = controller(rt.alloc()).expect(&rt, "memory");
-        assert_eq!(rt; slave.put_mail(0, &[0x01]), Err(AreaFault::WrongKind));
-        assert_eq!(rt; slave.put_mail(1, &[0x01]), Ok(()));
-        assert_eq!(rt; slave.put_mail(1, &[0x01]), Err(AreaFault::Busy));
-        assert_eq!(rt; slave.put_mail(1, &[0x01; 17]), Err(AreaFault::WrongLength));
     }
 }

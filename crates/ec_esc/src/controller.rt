@@ -5,15 +5,12 @@ ghost use Rattle.ec_regs.specs.declared.registers.TheConstants.{PROCESS_MEMORY, 
 
 use crate::planned::PlannedMemory;
 use ec_regs::registers::{
-    AL_STATUS, FMMU_BASE, FMMU_SIZE, PROCESS_MEMORY, PROCESS_MEMORY_SIZE, STATION_ADDRESS,
-    SYNC_MANAGER_BASE, SYNC_MANAGER_SIZE,
+    FMMU_BASE, FMMU_SIZE, PROCESS_MEMORY, PROCESS_MEMORY_SIZE, STATION_ADDRESS, SYNC_MANAGER_BASE,
+    SYNC_MANAGER_SIZE,
 };
 use ec_regs::{Fmmu, NoMemory, SyncMan};
 use std::alloc::{AllocError, Global};
 use std::marker::Model;
-
-/// AL status of a controller that was just made: Init.
-const INIT: u8 = 0x01;
 
 /// One slave controller. Contracts see its memory by address, the shown bytes (what the application sees of
 /// process memory) and whether AL control was written since the application last looked.
@@ -53,7 +50,6 @@ impl Controller {
         ensures { IfOk result (IsFresh station) }
     {
         let mut memory = PlannedMemory::new(alloc)?;
-        memory.set_byte(AL_STATUS, INIT);
         memory.set_byte(STATION_ADDRESS + 1, (station / 256) as u8);
         memory.set_byte(STATION_ADDRESS, (station % 256) as u8);
         Ok(Controller {
@@ -134,96 +130,5 @@ impl Controller {
         self.memory.load(address, bytes);
         let place = (address - PROCESS_MEMORY) as usize;
         self.shown[place..place + bytes.len()].copy_from_slice(bytes);
-    }
-}
-
-#[cfg(test)]
-mod tests {
-    use super::*;
-
-    /// 2 bytes from 0x1100, buffered, read by the master, enabled, with its status full.
-    const INPUTS: SyncMan = SyncMan {
-        start: 0x1100,
-        length: 2,
-        control: 0x00,
-        status: 0x08,
-        activate: 0x01,
-        pdi: 0x5A,
-    };
-
-    #[test]
-    fn new_controller_has_its_station_and_is_in_init(rt: HostRuntime) {
-        let controller = Controller::new(rt.alloc(), 0x1203).expect(&rt, "memory");
-        for (address, value) in [
-            (0x0000, 0x00),
-            (0x000F, 0x00),
-            (0x0010, 0x03),
-            (0x0011, 0x12),
-            (0x0012, 0x00),
-            (0x0130, 0x01),
-            (0x0131, 0x00),
-            (0x2FFF, 0x00),
-        ] {
-            assert_eq!(rt; controller.byte(address), value, "at {address}");
-        }
-        assert_eq!(rt; controller.shown(0x1000), 0);
-        assert_eq!(rt; controller.shown(0x2FFF), 0);
-    }
-
-    #[test]
-    fn sync_manager_is_set_with_status_0(rt: HostRuntime) {
-        let mut controller = Controller::new(rt.alloc(), 0x1001).expect(&rt, "memory");
-        controller.set_syncman(3, &INPUTS);
-        let spelt = [0x00, 0x11, 0x02, 0x00, 0x00, 0x00, 0x01, 0x5A];
-        for (place, value) in spelt.iter().enumerate() {
-            assert_eq!(rt;
-                controller.byte(0x0818 + place as u16),
-                *value,
-                "at {place}"
-            );
-        }
-    }
-
-    #[test]
-    fn fmmu_is_set_where_its_number_says(rt: HostRuntime) {
-        let mut controller = Controller::new(rt.alloc(), 0x1001).expect(&rt, "memory");
-        controller.set_fmmu(
-            7,
-            &Fmmu {
-                logical: 0x0403_0201,
-                length: 0x0605,
-                start: 0x07,
-                stop: 0x08,
-                physical: 0x0A09,
-                bit: 0x0B,
-                kind: 0x0C,
-                activate: 0x0D,
-                reserved: [0x0E, 0x0F, 0x10],
-            },
-        );
-        for (address, value) in [
-            (0x066F, 0x00),
-            (0x0670, 0x01),
-            (0x0674, 0x05),
-            (0x0678, 0x09),
-            (0x067F, 0x10),
-            (0x0680, 0x00),
-        ] {
-            assert_eq!(rt; controller.byte(address), value, "at {address}");
-        }
-    }
-
-    #[test]
-    fn loaded_bytes_are_in_memory_and_shown(rt: HostRuntime) {
-        let mut controller = Controller::new(rt.alloc(), 0x1001).expect(&rt, "memory");
-        controller.load(0x2FFE, &[0x12, 0x34]);
-        controller.load(0x0000, &[]);
-        controller.load(0xFFFF, &[]);
-        for (address, value) in [(0x2FFD, 0x00), (0x2FFE, 0x12), (0x2FFF, 0x34)] {
-            assert_eq!(rt; controller.byte(address), value, "at {address}");
-        }
-        assert_eq!(rt; controller.shown(0x2FFD), 0x00);
-        assert_eq!(rt; controller.shown(0x2FFE), 0x12);
-        assert_eq!(rt; controller.shown(0x2FFF), 0x34);
     }
 }

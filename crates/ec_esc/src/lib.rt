@@ -3,7 +3,7 @@
 //!
 //! A `Controller` is its memory, the bytes that its application is shown, and a mark that AL control was
 //! written. It keeps the FMMUs and sync managers of the memory decoded (`planned`), so that no datagram
-//! decodes them.
+//! decodes them; and its AL status always names a state.
 //!
 //! - `Controller::new` makes one with a station address, in Init.
 //! - `process` is one pass of a frame: its datagrams from left to right, each on the memory that the one
@@ -20,14 +20,15 @@
 
 mod application;
 mod controller;
+mod logical;
 mod mailbox;
 mod physical;
-mod physical_write;
 mod planned;
 mod process;
 mod reading;
 mod showing;
-mod writing;
+#[cfg(test)]
+mod tests;
 
 pub use application::{AreaFault, LONGEST_MAIL};
 pub use controller::Controller;

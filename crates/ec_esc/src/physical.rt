@@ -1,26 +1,35 @@
 //! The physical commands: reads, writes and exchanges of a range of addresses, by the controller's place on
-//! the line, by its station address, or by all (IEC 61158-4-12, physical memory access).
+//! the line, by its station address, or by all (IEC 61158-4-12, physical memory access). A write leaves more
+//! than the bytes that it wrote: the status of sync managers that it switched or filled, the shown bytes, and
+//! the mark that AL control was written (IEC 61158-4-12, sync manager).
 
-ghost use Rattle.std.specs.Prelude.{◌≡◌, ◌+◌, ◌*◌, ◌/◌, ◌%◌, ◌≤◌};
-ghost use Rattle.std.specs.Prelude.{◌<◌, length, slice_set, slice_index, true, IsTrue};
-ghost use Rattle.ec_regs.specs.Bits.{with_bits};
-ghost use Rattle.ec_regs.specs.declared.registers.TheConstants.{MEMORY_SIZE};
-ghost use Rattle.ec_wire.specs.Datagram.{nth};
+ghost use Rattle.std.specs.Prelude.{◌≡◌, ◌+◌, ◌*◌, ◌/◌, ◌%◌, ◌≤◌, ◌<◌, length, slice_set, true};
+ghost use Rattle.std.specs.Prelude.{IsTrue, ◌-◌, ◌&&◌, ◌||◌, not, ℕ, List, if◌then◌else◌};
+ghost use Rattle.ec_regs.specs.Bits.{with_bits, AreBytes};
+ghost use Rattle.ec_regs.specs.declared.registers.TheConstants.{MEMORY_SIZE, AL_CONTROL};
+ghost use Rattle.ec_wire.specs.Datagram.{nth, adp, ado, DatagramRecord};
 ghost use Rattle.ec_areas.specs.Records.{sync_managers_of};
-ghost use Rattle.ec_areas.specs.Ranges.{emptied_by};
-ghost use Rattle.ec_areas.specs.Ranges.{status_address};
-ghost use Rattle.ec_esc.specs.Stages.{is_first, is_station, read_out, physical_read};
-ghost use Rattle.ec_esc.specs.Stages.{range_written, physical_write, physical_exchange, if_addressed};
-ghost use Rattle.ec_esc.specs.Stages.{counted_up};
-ghost use Rattle.ec_wire.specs.Datagram.{adp, ado};
-ghost use Rattle.ec_esc.specs.Writing.{with_emptied};
-ghost use Rattle.ec_esc.specs.Stages.{serves_range_read, range_sources};
-ghost use Rattle.ec_esc.specs.Stages.{broadcast_sources, serves_range_write};
+ghost use Rattle.ec_areas.specs.Ranges.{within, takes_writes, filled_by};
+ghost use Rattle.ec_esc.specs.Stages.{is_first, is_station, read_out, physical_read, range_written};
+ghost use Rattle.ec_esc.specs.Stages.{physical_write, physical_exchange, if_addressed, counted_up};
+ghost use Rattle.ec_esc.specs.Stages.{serves_range_read, range_sources, broadcast_sources};
+ghost use Rattle.ec_esc.specs.Stages.{serves_range_write, access as access_of, AreArrived, is_written};
+ghost use Rattle.ec_esc.specs.Stages.{finished};
+ghost use Rattle.ec_esc.specs.Writing.{settled, shown_after, with_filled};
 ghost use Rattle.ec_esc.specs.Pass.{counter_after};
-ghost use Rattle.ec_esc.specs.Stages.{access as access_of};
+ghost use Rattle.ec_regs.specs.SyncMan.{is_active};
+ghost use Rattle.ec_areas.specs.Showing.{last_byte, SaysOfLastBytes};
 
 use crate::controller::Controller;
-use ec_areas::{copy_run, emptied_by, merge_run, serves_physical_read, serves_physical_write};
+use crate::mailbox::fill_mailbox;
+use crate::planned::PlannedMemory;
+use crate::process::are_bytes;
+use ec_areas::{
+    copy_run, emptied_by, filled_by, merge_run, serves_physical_read, serves_physical_write,
+    status_address, takes_writes, within,
+};
+use ec_regs::PlannedSyncMan;
+use ec_regs::registers::AL_CONTROL;
 use ec_wire::FrameBuf;
 
 /// How many values each half of a physical command's address has.
@@ -31,6 +40,9 @@ const SERVED: u16 = 1;
 
 /// What the write of an exchange adds to it.
 const EXCHANGED: u16 = 2;
+
+/// The status of a sync manager that was switched on or off.
+const EMPTY: u8 = 0x00;
 
 /// What a physical command does with the range that it addresses.
 #[derive(Clone, Copy, Debug, PartialEq, Eq)]
@@ -92,6 +104,196 @@ fn count_up(frame: &mut FrameBuf, k: usize)
 {
     let adp = adp(frame, k);
     frame.set_adp(k, adp.wrapping_add(1));
+}
+
+/// The records of the sync managers on arrival.
+fn arrived_records(memory: &PlannedMemory) -> [PlannedSyncMan; 8]
+    ensures value { result ≡ sync_managers_of memory.now }
+    ensures bytes { AreBytes memory.now }
+    ensures size { length memory.now ≡ MEMORY_SIZE }
+{
+    are_bytes(memory.bytes());
+    *memory.managers()
+}
+
+/// Writes the byte at an address where it takes writes by the records on arrival; all else stays.
+fn write_byte(memory: &mut PlannedMemory, managers: &[PlannedSyncMan; 8], address: u16, byte: u8)
+    requires inside { address < MEMORY_SIZE }
+    requires records { AreArrived managers.now }
+    ensures { (arrived : List ℕ) → managers.now ≡ sync_managers_of arrived → memory.new
+        ≡ (if takes_writes arrived address then slice_set memory.old address byte else memory.old) }
+{
+    if takes_writes(managers, u32::from(address)) {
+        memory.set_byte(address, byte);
+    }
+}
+
+/// Writes the data from an address on, as far as the bytes there take writes by the records on arrival.
+fn write_run(memory: &mut PlannedMemory, managers: &[PlannedSyncMan; 8], from: u16, payload: &[u8])
+    requires size { length memory.old ≡ MEMORY_SIZE }
+    requires bytes { AreBytes memory.old }
+    requires records { managers.now ≡ sync_managers_of memory.old }
+    requires inside { from + length payload.now ≤ MEMORY_SIZE }
+    ensures size { length memory.new ≡ MEMORY_SIZE }
+    ensures written { memory.new
+        ≡ with_bits memory.old payload.now (λ p. if within from (length payload.now) (p / 8) && takes_writes
+        memory.old (p / 8) then Some (p - 8 * from) else None) }
+{
+    for (place, byte) in payload.iter().enumerate() {
+        write_byte(memory, managers, from + place as u16, *byte);
+    }
+}
+
+/// Writes the data from an address on as `write_run` does, and fills it with the bytes that stood there.
+fn swap_run(
+    memory: &mut PlannedMemory,
+    managers: &[PlannedSyncMan; 8],
+    from: u16,
+    payload: &mut [u8],
+)
+    requires size { length memory.old ≡ MEMORY_SIZE }
+    requires bytes { AreBytes memory.old }
+    requires records { managers.now ≡ sync_managers_of memory.old }
+    requires inside { from + length payload.old ≤ MEMORY_SIZE }
+    ensures size { length memory.new ≡ MEMORY_SIZE }
+    ensures written { memory.new
+        ≡ with_bits memory.old payload.old (λ p. if within from (length payload.old) (p / 8) && takes_writes
+        memory.old (p / 8) then Some (p - 8 * from) else None) }
+    ensures read { payload.new ≡ with_bits payload.old memory.old (λ i. Some (8 * from + i)) }
+{
+    for place in 0..payload.len() {
+        let address = from + place as u16;
+        let found = memory.byte(address);
+        write_byte(memory, managers, address, payload[place]);
+        payload[place] = found;
+    }
+}
+
+/// Was a sync manager switched on or off?
+fn is_switched(before: &PlannedSyncMan, after: &PlannedSyncMan) -> bool
+    ensures { result ≡ (if is_active before.now then not (is_active after.now) else is_active after.now) }
+{
+    before.is_active() != after.is_active()
+}
+
+/// Clears the status of each sync manager that a write switched on or off; all else stays. The records are
+/// those on arrival.
+fn settle(memory: &mut PlannedMemory, before: &[PlannedSyncMan; 8])
+    ensures value { (arrived : List ℕ) → before.now ≡ sync_managers_of arrived → memory.new
+        ≡ settled arrived memory.old }
+    ensures size { length memory.new ≡ MEMORY_SIZE }
+{
+    let managers = *memory.managers();
+    let after = &managers[..];
+    for number in 0..8usize {
+        if is_switched(&before[number], &after[number]) {
+            memory.set_byte(status_address(number), EMPTY);
+        }
+    }
+}
+
+/// Is the last byte of an area among the written ones of the range? The records are those on arrival.
+fn last_byte_written(
+    before: &[PlannedSyncMan; 8],
+    area: &PlannedSyncMan,
+    from: u16,
+    count: u16,
+) -> bool
+    ensures { (arrived : List ℕ) → before.now ≡ sync_managers_of arrived → result
+        ≡ (within from count (last_byte area.now) && takes_writes arrived (last_byte area.now)) }
+{
+    let end = u32::from(area.start()) + u32::from(area.length());
+    let last = end.saturating_sub(1);
+    within(from, count, last) && takes_writes(before, last)
+}
+
+/// Of which areas a write of the range reaches the last byte, by number. The first records are those on
+/// arrival.
+fn last_bytes_written(
+    before: &[PlannedSyncMan; 8],
+    after: &[PlannedSyncMan; 8],
+    from: u16,
+    count: u16,
+) -> [bool; 8]
+    ensures { (arrived : List ℕ) → before.now ≡ sync_managers_of arrived
+        → SaysOfLastBytes (is_written arrived from count) after.now result }
+{
+    let mut written = [false; 8];
+    for (number, area) in after.iter().enumerate() {
+        written[number] = last_byte_written(before, area, from, count);
+    }
+    written
+}
+
+impl Controller {
+    /// Shows the areas that a write of the range hands over. The records are those on arrival.
+    fn show_range(&mut self, before: &[PlannedSyncMan; 8], from: u16, count: u16)
+        ensures { (arrived : List ℕ) → before.now ≡ sync_managers_of arrived → self.new
+            ≡ record self.old {
+              shown = shown_after (is_written arrived from count) before.now
+                  (sync_managers_of self.old.memory) self.old.memory self.old.shown;
+            } }
+    {
+        let after = *self.memory.managers();
+        let reached = last_bytes_written(before, &after, from, count);
+        self.show_written(before, &after, &reached);
+    }
+
+    /// Fills the mailbox that a write of the range fills, if it fills one; all else stays. The records are
+    /// those on arrival.
+    fn fill_range(&mut self, before: &[PlannedSyncMan; 8], from: u16, count: u16)
+        ensures { self.new ≡ record self.old
+            { memory = with_filled (filled_by before.now from count) self.old.memory } }
+    {
+        match filled_by(before, from, count) {
+            Some(number) => fill_mailbox(&mut self.memory, number),
+            None => {}
+        }
+    }
+
+    /// Marks that AL control was written, where its first byte lies in the range; all else stays.
+    fn mark_range(&mut self, from: u16, count: u16)
+        ensures { self.new ≡ record self.old { written = self.old.written || within from count AL_CONTROL } }
+    {
+        if within(from, count, u32::from(AL_CONTROL)) {
+            self.written = true;
+        }
+    }
+
+    /// What is left to do once the bytes of the range were written: statuses, shown bytes, mail and mark.
+    /// The records are those on arrival.
+    fn finish_write(&mut self, before: &[PlannedSyncMan; 8], from: u16, count: u16)
+        ensures { (arrived : List ℕ) → before.now ≡ sync_managers_of arrived
+            → self.new ≡ finished arrived before.now from count self.old }
+    {
+        settle(&mut self.memory, before);
+        self.show_range(before, from, count);
+        self.fill_range(before, from, count);
+        self.mark_range(from, count);
+    }
+
+    /// A write of the data from an address on, with all that it leaves.
+    fn write_range(&mut self, from: u16, payload: &[u8])
+        requires { from + length payload.now ≤ MEMORY_SIZE }
+        ensures { (d : DatagramRecord) → ado d ≡ from → d.payload ≡ payload.now → self.new
+            ≡ range_written self.old d }
+    {
+        let before = arrived_records(&self.memory);
+        write_run(&mut self.memory, &before, from, payload);
+        self.finish_write(&before, from, payload.len() as u16);
+    }
+
+    /// The same, and the data are filled with the bytes that stood there.
+    fn swap_range(&mut self, from: u16, payload: &mut [u8])
+        requires { from + length payload.old ≤ MEMORY_SIZE }
+        ensures state { (d : DatagramRecord) → ado d ≡ from → d.payload ≡ payload.old → self.new
+            ≡ range_written self.old d }
+        ensures read { payload.new ≡ with_bits payload.old self.old.memory (λ i. Some (8 * from + i)) }
+    {
+        let before = arrived_records(&self.memory);
+        swap_run(&mut self.memory, &before, from, payload);
+        self.finish_write(&before, from, payload.len() as u16);
+    }
 }
 
 impl Controller {
@@ -340,247 +542,5 @@ impl Controller {
     {
         self.access(frame, k, access);
         count_up(frame, k);
-    }
-}
-
-#[cfg(test)]
-mod tests {
-    use super::*;
-    use ec_regs::{NoMemory, SyncMan};
-    use ec_wire::{Form, WireFault};
-    use std::alloc::Global;
-
-    /// 16 bytes from 0x1800, a mailbox that the master writes.
-    const MAIL_OUT: SyncMan = SyncMan {
-        start: 0x1800,
-        length: 16,
-        control: 0x06,
-        status: 0x00,
-        activate: 0x01,
-        pdi: 0x00,
-    };
-
-    /// The controller of station 0x1001.
-    fn controller(alloc: Global) -> Result<Controller, NoMemory> {
-        Controller::new(alloc, 0x1001)
-    }
-
-    /// The frame that these bytes spell, once it has passed.
-    fn passed(controller: &mut Controller, bytes: &[u8]) -> Result<FrameBuf, WireFault> {
-        let mut frame = FrameBuf::read(bytes, Form::Ethernet)?;
-        controller.process(&mut frame);
-        Ok(frame)
-    }
-
-    #[test]
-    fn broadcast_and_station_reads_pass_one_after_the_other(rt: HostRuntime) {
-        let mut slave = controller(rt.alloc()).expect(&rt, "memory");
-        let sent = [
-            0x1C, 0x10, 0x07, 0x00, 0x00, 0x00, 0x30, 0x01, 0x02, 0x80, 0x00, 0x00, 0x00, 0x00,
-            0x00, 0x00, 0x04, 0x01, 0x01, 0x10, 0x10, 0x00, 0x02, 0x00, 0x00, 0x00, 0x00, 0x00,
-            0x00, 0x00,
-        ];
-        let back = [
-            0x1C, 0x10, 0x07, 0x00, 0x01, 0x00, 0x30, 0x01, 0x02, 0x80, 0x00, 0x00, 0x01, 0x00,
-            0x01, 0x00, 0x04, 0x01, 0x01, 0x10, 0x10, 0x00, 0x02, 0x00, 0x00, 0x00, 0x01, 0x10,
-            0x01, 0x00,
-        ];
-        let frame = passed(&mut slave, &sent).expect(&rt, "a frame");
-        assert_eq!(rt; frame.bytes(), &back[..]);
-    }
-
-    #[test]
-    fn second_controller_is_addressed_by_position_65535(rt: HostRuntime) {
-        let mut first = controller(rt.alloc()).expect(&rt, "memory");
-        let mut second = Controller::new(rt.alloc(), 0x1002).expect(&rt, "memory");
-        let sent = [
-            0x0E, 0x10, 0x01, 0x00, 0xFF, 0xFF, 0x10, 0x00, 0x02, 0x00, 0x00, 0x00, 0x00, 0x00,
-            0x00, 0x00,
-        ];
-        let back = [
-            0x0E, 0x10, 0x01, 0x00, 0x01, 0x00, 0x10, 0x00, 0x02, 0x00, 0x00, 0x00, 0x02, 0x10,
-            0x01, 0x00,
-        ];
-        let mut frame = passed(&mut first, &sent).expect(&rt, "a frame");
-        second.process(&mut frame);
-        assert_eq!(rt; frame.bytes(), &back[..]);
-    }
-
-    #[test]
-    fn exchange_reads_what_stood_there_and_counts_three(rt: HostRuntime) {
-        let mut slave = controller(rt.alloc()).expect(&rt, "memory");
-        let sent = [
-            0x0E, 0x10, 0x06, 0x00, 0x01, 0x10, 0x10, 0x00, 0x02, 0x00, 0x00, 0x00, 0x05, 0x20,
-            0x00, 0x00,
-        ];
-        let back = [
-            0x0E, 0x10, 0x06, 0x00, 0x01, 0x10, 0x10, 0x00, 0x02, 0x00, 0x00, 0x00, 0x01, 0x10,
-            0x03, 0x00,
-        ];
-        let frame = passed(&mut slave, &sent).expect(&rt, "a frame");
-        assert_eq!(rt; frame.bytes(), &back[..]);
-        assert_eq!(rt; slave.byte(0x0010), 0x05);
-        assert_eq!(rt; slave.byte(0x0011), 0x20);
-    }
-
-    #[test]
-    fn al_status_takes_no_write(rt: HostRuntime) {
-        let mut slave = controller(rt.alloc()).expect(&rt, "memory");
-        let sent = [
-            0x0E, 0x10, 0x05, 0x00, 0x01, 0x10, 0x30, 0x01, 0x02, 0x00, 0x00, 0x00, 0x08, 0x08,
-            0x00, 0x00,
-        ];
-        let frame = passed(&mut slave, &sent).expect(&rt, "a frame");
-        assert_eq!(rt; frame.bytes(), &sent[..]);
-        assert_eq!(rt; slave.byte(0x0130), 0x01);
-        assert_eq!(rt; slave.byte(0x0131), 0x00);
-    }
-
-    #[test]
-    fn write_changes_the_bytes_that_take_it_alone(rt: HostRuntime) {
-        let mut slave = controller(rt.alloc()).expect(&rt, "memory");
-        let sent = [
-            0x10, 0x10, 0x05, 0x00, 0x01, 0x10, 0x11, 0x00, 0x04, 0x00, 0x00, 0x00, 0x22, 0x33,
-            0x44, 0x55, 0x00, 0x00,
-        ];
-        let frame = passed(&mut slave, &sent).expect(&rt, "a frame");
-        assert_eq!(rt; frame.counter(0), 1);
-        for (address, value) in [
-            (0x0010, 0x01),
-            (0x0011, 0x22),
-            (0x0012, 0x00),
-            (0x0013, 0x00),
-            (0x0014, 0x00),
-        ] {
-            assert_eq!(rt; slave.byte(address), value, "at {address}");
-        }
-    }
-
-    #[test]
-    fn full_mailbox_takes_no_write(rt: HostRuntime) {
-        let mut slave = controller(rt.alloc()).expect(&rt, "memory");
-        slave.set_syncman(0, &MAIL_OUT);
-        let short = [
-            0x1B, 0x10, 0x05, 0x00, 0x01, 0x10, 0x00, 0x18, 0x0F, 0x00, 0x00, 0x00, 0x01, 0x02,
-            0x03, 0x04, 0x05, 0x06, 0x07, 0x08, 0x09, 0x0A, 0x0B, 0x0C, 0x0D, 0x0E, 0x0F, 0x00,
-            0x00,
-        ];
-        let whole = [
-            0x1C, 0x10, 0x05, 0x00, 0x01, 0x10, 0x00, 0x18, 0x10, 0x00, 0x00, 0x00, 0x01, 0x02,
-            0x03, 0x04, 0x05, 0x06, 0x07, 0x08, 0x09, 0x0A, 0x0B, 0x0C, 0x0D, 0x0E, 0x0F, 0x10,
-            0x00, 0x00,
-        ];
-        let frame = passed(&mut slave, &short).expect(&rt, "a frame");
-        assert_eq!(rt; frame.counter(0), 0);
-        assert_eq!(rt; slave.byte(0x0805), 0x00);
-        let frame = passed(&mut slave, &whole).expect(&rt, "a frame");
-        assert_eq!(rt; frame.counter(0), 1);
-        assert_eq!(rt; slave.byte(0x0805), 0x08);
-        assert_eq!(rt; slave.byte(0x180F), 0x10);
-        let frame = passed(&mut slave, &whole).expect(&rt, "a frame");
-        assert_eq!(rt; frame.counter(0), 0);
-    }
-
-    #[test]
-    fn empty_mailbox_gives_no_read(rt: HostRuntime) {
-        let mut slave = controller(rt.alloc()).expect(&rt, "memory");
-        let mail_in = SyncMan {
-            start: 0x1880,
-            control: 0x02,
-            ..MAIL_OUT
-        };
-        slave.set_syncman(1, &mail_in);
-        let sent = [
-            0x1C, 0x10, 0x04, 0x00, 0x01, 0x10, 0x80, 0x18, 0x10, 0x00, 0x00, 0x00, 0x01, 0x02,
-            0x03, 0x04, 0x05, 0x06, 0x07, 0x08, 0x09, 0x0A, 0x0B, 0x0C, 0x0D, 0x0E, 0x0F, 0x10,
-            0x00, 0x00,
-        ];
-        let frame = passed(&mut slave, &sent).expect(&rt, "a frame");
-        assert_eq!(rt; frame.bytes(), &sent[..]);
-    }
-
-    #[test]
-    fn outputs_are_shown_once_their_last_byte_is_written(rt: HostRuntime) {
-        let mut slave = controller(rt.alloc()).expect(&rt, "memory");
-        let outputs = SyncMan {
-            start: 0x1000,
-            length: 2,
-            control: 0x04,
-            ..MAIL_OUT
-        };
-        slave.set_syncman(2, &outputs);
-        let first = [
-            0x0D, 0x10, 0x05, 0x00, 0x01, 0x10, 0x00, 0x10, 0x01, 0x00, 0x00, 0x00, 0xAA, 0x00,
-            0x00,
-        ];
-        let last = [
-            0x0D, 0x10, 0x05, 0x00, 0x01, 0x10, 0x01, 0x10, 0x01, 0x00, 0x00, 0x00, 0xBB, 0x00,
-            0x00,
-        ];
-        let frame = passed(&mut slave, &first).expect(&rt, "a frame");
-        assert_eq!(rt; frame.counter(0), 1);
-        assert_eq!(rt; slave.shown_bytes(0x1000, 2), &[0x00, 0x00][..]);
-        let frame = passed(&mut slave, &last).expect(&rt, "a frame");
-        assert_eq!(rt; frame.counter(0), 1);
-        assert_eq!(rt; slave.shown_bytes(0x1000, 2), &[0xAA, 0xBB][..]);
-    }
-
-    #[test]
-    fn sync_manager_is_switched_on_by_a_write(rt: HostRuntime) {
-        let mut slave = controller(rt.alloc()).expect(&rt, "memory");
-        slave.load(0x1000, &[0x12]);
-        let sent = [
-            0x14, 0x10, 0x05, 0x00, 0x01, 0x10, 0x10, 0x08, 0x08, 0x00, 0x00, 0x00, 0x00, 0x10,
-            0x01, 0x00, 0x04, 0x00, 0x01, 0x00, 0x00, 0x00,
-        ];
-        let frame = passed(&mut slave, &sent).expect(&rt, "a frame");
-        assert_eq!(rt; frame.counter(0), 1);
-        assert!(rt; slave.syncman(2).is_active());
-        assert_eq!(rt; slave.shown(0x1000), 0x12);
-    }
-
-    #[test]
-    fn broadcast_read_ors_the_bytes_into_the_data(rt: HostRuntime) {
-        let mut slave = controller(rt.alloc()).expect(&rt, "memory");
-        slave.load(0x1000, &[0x12, 0x0C]);
-        let sent = [
-            0x0E, 0x10, 0x07, 0x00, 0x00, 0x00, 0x00, 0x10, 0x02, 0x00, 0x00, 0x00, 0x01, 0xF0,
-            0x00, 0x00,
-        ];
-        let back = [
-            0x0E, 0x10, 0x07, 0x00, 0x01, 0x00, 0x00, 0x10, 0x02, 0x00, 0x00, 0x00, 0x13, 0xFC,
-            0x01, 0x00,
-        ];
-        let frame = passed(&mut slave, &sent).expect(&rt, "a frame");
-        assert_eq!(rt; frame.bytes(), &back[..]);
-    }
-
-    #[test]
-    fn broadcast_write_reaches_al_control(rt: HostRuntime) {
-        let mut slave = controller(rt.alloc()).expect(&rt, "memory");
-        let sent = [
-            0x0E, 0x10, 0x08, 0x00, 0x00, 0x00, 0x20, 0x01, 0x02, 0x00, 0x00, 0x00, 0x02, 0x00,
-            0x00, 0x00,
-        ];
-        let back = [
-            0x0E, 0x10, 0x08, 0x00, 0x01, 0x00, 0x20, 0x01, 0x02, 0x00, 0x00, 0x00, 0x02, 0x00,
-            0x01, 0x00,
-        ];
-        let frame = passed(&mut slave, &sent).expect(&rt, "a frame");
-        assert_eq!(rt; frame.bytes(), &back[..]);
-        assert_eq!(rt; slave.byte(0x0120), 0x02);
-        assert_eq!(rt; slave.byte(0x0121), 0x00);
-    }
-
-    #[test]
-    fn command_for_another_station_goes_through(rt: HostRuntime) {
-        let mut slave = controller(rt.alloc()).expect(&rt, "memory");
-        let sent = [
-            0x0E, 0x10, 0x05, 0x00, 0x02, 0x10, 0x20, 0x01, 0x02, 0x00, 0x00, 0x00, 0x02, 0x00,
-            0x00, 0x00,
-        ];
-        let frame = passed(&mut slave, &sent).expect(&rt, "a frame");
-        assert_eq!(rt; frame.bytes(), &sent[..]);
-        assert_eq!(rt; slave.byte(0x0120), 0x00);
     }
 }

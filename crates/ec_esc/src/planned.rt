@@ -1,10 +1,12 @@
 //! A controller's memory with the records in it decoded (IEC 61158-4-12, register layout). Each datagram asks
-//! for FMMUs and sync managers, so a record is decoded once: when a byte of it changes.
+//! for FMMUs and sync managers, so a record is decoded once: when a byte of it changes. AL status is written
+//! as a status alone, so it always names a state.
 
-ghost use Rattle.std.specs.Prelude.{◌≡◌, ◌+◌, ◌*◌, ◌<◌, ◌≤◌, ◌&&◌, nat_lt, ℕ, List, IfOk, length};
-ghost use Rattle.std.specs.Prelude.{slice_index, slice_set};
+ghost use Rattle.std.specs.Prelude.{◌≡◌, ◌≢◌, ◌==◌, ◌+◌, ◌*◌, ◌%◌, ◌<◌, ◌≤◌, ◌&&◌, nat_lt, ℕ, List, [], ◌∷◌};
+ghost use Rattle.std.specs.Prelude.{IfOk, Some, if◌then◌else◌, length, slice_index, slice_set};
+ghost use Rattle.ec_regs.specs.Al.{state_of, status_byte, status_of};
 ghost use Rattle.ec_regs.specs.Bits.{AreBytes, with_bits};
-ghost use Rattle.ec_regs.specs.declared.registers.TheConstants.{MEMORY_SIZE};
+ghost use Rattle.ec_regs.specs.declared.registers.TheConstants.{AL_STATUS, MEMORY_SIZE};
 ghost use Rattle.ec_areas.specs.Logical.{write_map, target_places, names};
 ghost use Rattle.ec_areas.specs.Records.{fmmus_of, sync_managers_of};
 ghost use Rattle.ec_esc.specs.Planned.{ChangesWithin};
@@ -12,9 +14,10 @@ ghost use Rattle.ec_esc.specs.State.{with_run};
 
 use ec_areas::{fmmu_at, fmmus_of, sync_manager_at, sync_managers_of, write_mapped};
 use ec_regs::registers::{
-    FMMU_BASE, FMMU_COUNT, FMMU_SIZE, SYNC_MANAGER_BASE, SYNC_MANAGER_COUNT, SYNC_MANAGER_SIZE,
+    AL_STATUS, FMMU_BASE, FMMU_COUNT, FMMU_SIZE, SYNC_MANAGER_BASE, SYNC_MANAGER_COUNT,
+    SYNC_MANAGER_SIZE,
 };
-use ec_regs::{Memory, NoMemory, PlannedFmmu, PlannedSyncMan};
+use ec_regs::{AlState, AlStatus, Memory, NoMemory, PlannedFmmu, PlannedSyncMan};
 use std::alloc::Global;
 use std::marker::Model;
 
@@ -28,13 +31,13 @@ pub(crate) struct PlannedMemory {
 
 impl Model for PlannedMemory {
     ghost use Rattle.std.specs.Prelude.{ℕ, List};
-    ghost use Rattle.ec_esc.specs.Planned.{IsDecoded};
+    ghost use Rattle.ec_esc.specs.Planned.{IsPlanned};
 
     ghost Value = { List ℕ };
 
     ghost view = { λ m. m.memory };
 
-    ghost invariant = { λ m. IsDecoded m.memory m.fmmus m.managers };
+    ghost invariant = { λ m. IsPlanned m.memory m.fmmus m.managers };
 }
 
 /// Does a range share a byte with the `size` bytes from `at` on?
@@ -85,12 +88,15 @@ fn renew_managers(managers: &mut [PlannedSyncMan; 8], memory: &[u8], from: u16, 
 }
 
 impl PlannedMemory {
-    /// A memory whose bytes are all 0. It fails only where the allocator has no room for it.
+    /// A memory whose AL status is Init, and whose other bytes are 0. It fails only where the allocator has
+    /// no room for it.
     pub(crate) fn new(alloc: Global) -> Result<PlannedMemory, NoMemory>
         ensures size { IfOk result (λ m. length m ≡ MEMORY_SIZE) }
-        ensures zero { IfOk result (λ m. (address : ℕ) → slice_index m address ≡ 0) }
+        ensures bytes { IfOk result (λ m. (address : ℕ)
+            → slice_index m address ≡ (if address == AL_STATUS then 1 else 0)) }
     {
-        let memory = Memory::new(alloc)?;
+        let mut memory = Memory::new(alloc)?;
+        memory.set_byte(AL_STATUS, AlState::Init.code());
         let fmmus = fmmus_of(memory.bytes());
         let managers = sync_managers_of(memory.bytes());
         Ok(PlannedMemory {
@@ -131,9 +137,26 @@ impl PlannedMemory {
         &self.managers
     }
 
-    /// Writes the byte at an address; all others stay.
+    /// AL status, which names a state.
+    pub(crate) fn al_status(&self) -> AlStatus
+        ensures value { result ≡ status_of (slice_index self.now AL_STATUS) }
+        ensures named { state_of (slice_index self.now AL_STATUS % 16) ≡ Some result.state }
+    {
+        AlStatus::of_byte(self.memory.byte(AL_STATUS))
+    }
+
+    /// Sets AL status, whose high byte becomes 0; all else stays.
+    pub(crate) fn set_al_status(&mut self, status: AlStatus)
+        ensures value { self.new ≡ with_run self.old AL_STATUS (status_byte status ∷ 0 ∷ []) }
+        ensures size { length self.new ≡ MEMORY_SIZE }
+    {
+        self.memory.load(AL_STATUS, &[status.byte(), 0]);
+    }
+
+    /// Writes the byte at an address, which is not that of AL status; all others stay.
     pub(crate) fn set_byte(&mut self, address: u16, value: u8)
-        requires { address < MEMORY_SIZE }
+        requires inside { address < MEMORY_SIZE }
+        requires apart { address ≢ AL_STATUS }
         ensures value { self.new ≡ slice_set self.old address value }
         ensures size { length self.new ≡ MEMORY_SIZE }
     {
@@ -143,9 +166,10 @@ impl PlannedMemory {
         renew_managers(&mut self.managers, bytes, address, 1);
     }
 
-    /// Writes a run of bytes from an address on; all others stay.
+    /// Writes a run of bytes from an address behind AL status on; all others stay.
     pub(crate) fn load(&mut self, address: u16, bytes: &[u8])
-        requires { address + length bytes.now ≤ MEMORY_SIZE }
+        requires inside { address + length bytes.now ≤ MEMORY_SIZE }
+        requires behind { AL_STATUS < address }
         ensures value { self.new ≡ with_run self.old address bytes.now }
         ensures size { length self.new ≡ MEMORY_SIZE }
     {

@@ -10,13 +10,12 @@ use Rattle.ec_esc.proofs.controller.Controller.set_al.Goals as goal
 pub returns-clause-state : goal.returns-clause-state
 returns-clause-state c =
     let bytes : List ℕ = status_byte c.args.status ∷ 0 ∷ [] in
-    let first : c.load.new.self ≡ with_run c.self.inside.memory AL_STATUS bytes =
-    c.load.ensures.value ∙ ap (λ n. with_run c.self.inside.memory AL_STATUS (n ∷ 0 ∷ [])) c.byte.ensures in
-    let second : c.load-2.new.self ≡ with_run (with_run c.self.inside.memory AL_STATUS bytes)
+    let second : c.load.new.self ≡ with_run (with_run c.self.inside.memory AL_STATUS bytes)
     AL_STATUS_CODE (to_le_bytes w16 c.args.code) =
-    c.load-2.ensures.value
-    ∙ ap (λ (spelt : List ℕ). with_run c.load.new.self AL_STATUS_CODE spelt) c.to_le_bytes.ensures
-    ∙ ap (λ (m : List ℕ). with_run m AL_STATUS_CODE (to_le_bytes w16 c.args.code)) first in
+    c.load.ensures.value
+    ∙ ap (λ (spelt : List ℕ). with_run c.set_al_status.new.self AL_STATUS_CODE spelt) c.to_le_bytes.ensures
+    ∙ ap (λ (m : List ℕ). with_run m AL_STATUS_CODE (to_le_bytes w16 c.args.code))
+    c.set_al_status.ensures.value in
     ap (λ (m : List ℕ). record {
       memory = m;
       shown = c.self.inside.shown.items;
@@ -25,7 +24,7 @@ returns-clause-state c =
     ∙ ap (λ (s : ControllerState). with_al s c.args.status c.args.code) c.self.view_is
 
 -- the memory has its size
-size : (c : goal.After-load-2) → length c.args.self.now.memory ≡ MEMORY_SIZE
+size : (c : goal.After-load) → length c.args.self.now.memory ≡ MEMORY_SIZE
 size c = sym (ap (λ (s : ControllerState). length s.memory) c.self.view_is) ∙ c.self.invariant.0
 
 pub returns-clause-status : goal.returns-clause-status

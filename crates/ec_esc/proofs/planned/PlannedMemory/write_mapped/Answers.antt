@@ -1,10 +1,10 @@
-use Rattle.std.proofs.Common.{◌≡◌, ◌*◌, List, ℕ, length, sym, ◌∙◌, ap, subst}
+use Rattle.std.proofs.Common.{◌≡◌, ◌*◌, List, ℕ, length, get_or, sym, ◌∙◌, ap, subst, arith}
 use Rattle.ec_regs.specs.Bits.{AreBytes}
-use Rattle.ec_regs.specs.declared.registers.TheConstants.{MEMORY_SIZE}
+use Rattle.ec_regs.specs.declared.registers.TheConstants.{AL_STATUS, MEMORY_SIZE}
 use Rattle.ec_regs.proofs.BitLemmas.{length-with_bits}
 use Rattle.ec_areas.specs.Records.{fmmus_of, sync_managers_of}
 use Rattle.ec_areas.proofs.RecordLemmas.{fmmus_same, sync_managers_same}
-use Rattle.ec_esc.proofs.PlannedLemmas.{registers_stay}
+use Rattle.ec_esc.proofs.PlannedLemmas.{registers_stay, status_stays}
 use Rattle.ec_esc.proofs.planned.PlannedMemory.write_mapped.Goals as goal
 
 -- the memory keeps its size
@@ -25,6 +25,11 @@ invariant_of-self c =
       managers_are =
           c.self.invariant.managers_are
           ∙ sym (ap sync_managers_of c.write_mapped.ensures.bits ∙ sync_managers_same memory _ same);
+      status =
+          status_stays memory c.write_mapped.new.memory
+          (ap (λ (m : List ℕ). get_or m AL_STATUS 0) c.write_mapped.ensures.bits
+          ∙ same.bytes AL_STATUS (omega arith))
+          c.self.invariant.status;
     }
 
 pub returns-clause-size : goal.returns-clause-size

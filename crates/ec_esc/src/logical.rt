@@ -1,0 +1,173 @@
+//! The logical commands: LRD, LWR and LRW (IEC 61158-4-12, FMMU).
+
+ghost use Rattle.std.specs.Prelude.{◌≡◌, ◌+◌, ◌<◌, length, slice_set, true};
+ghost use Rattle.ec_regs.specs.Bits.{AreBytes};
+ghost use Rattle.ec_wire.specs.Datagram.{blank, nth};
+ghost use Rattle.ec_areas.specs.Records.{fmmus_of, sync_managers_of};
+ghost use Rattle.ec_areas.specs.Apart.{are_apart};
+ghost use Rattle.ec_esc.specs.Stages.{if_served, written_state, logical_read, logical_write};
+ghost use Rattle.ec_esc.specs.Stages.{logical_exchange, read_data, serves_read, serves_write};
+
+use crate::controller::Controller;
+use crate::process::are_bytes;
+use ec_areas::{are_apart, last_bytes_written, read_mapped};
+use ec_regs::PlannedSyncMan;
+use ec_wire::FrameBuf;
+
+/// What the working counter gains for a read that is served.
+const READ_SHARE: u16 = 1;
+
+/// What it gains for a write that is served, where that comes alone.
+const LONE_WRITE_SHARE: u16 = 1;
+
+/// What it gains for the write of an LRW.
+const WRITE_SHARE: u16 = 2;
+
+/// What the working counter of an LRW gains, by whether its read and its write are served.
+fn exchange_share(is_read: bool, is_written: bool) -> u16
+    ensures { result ≡ if_served is_read 1 + if_served is_written 2 }
+{
+    let read = if is_read { READ_SHARE } else { 0 };
+    let write = if is_written { WRITE_SHARE } else { 0 };
+    read + write
+}
+
+impl Controller {
+    /// The pass of an LRD at `k`; all others stay.
+    pub(crate) fn logical_read(&self, frame: &mut FrameBuf, k: usize)
+        requires { k < length frame.old }
+        ensures { frame.new ≡ slice_set frame.old k (logical_read self.now (nth frame.old k)) }
+    {
+        let counter = frame.counter(k);
+        if self.fill_data(frame, k) {
+            frame.set_counter(k, counter.wrapping_add(READ_SHARE));
+        }
+    }
+
+    /// Fills the data of the datagram at `k` from the memory where its logical address is readable, and says
+    /// whether there is such a bit; all else stays.
+    fn fill_data(&self, frame: &mut FrameBuf, k: usize) -> bool
+        requires { k < length frame.old }
+        ensures frame { frame.new ≡ slice_set frame.old k (record (nth frame.old k) {
+          payload = read_data self.now (nth frame.old k);
+        }) }
+        ensures served { result ≡ serves_read self.now (nth frame.old k) }
+    {
+        let managers = self.memory.managers();
+        let fmmus = self.memory.fmmus();
+        let memory = self.memory.bytes();
+        let address = frame.address(k);
+        read_mapped(managers, fmmus, memory, address, frame.data_mut(k))
+    }
+
+    /// The pass of an LWR at `k`; all others stay.
+    pub(crate) fn logical_write(&mut self, frame: &mut FrameBuf, k: usize)
+        requires { k < length frame.old }
+        ensures frame { frame.new ≡ slice_set frame.old k (logical_write self.old
+            (nth frame.old k)).datagram }
+        ensures state { self.new ≡ (logical_write self.old (nth frame.old k)).state }
+    {
+        let counter = frame.counter(k);
+        if self.write_data(frame.address(k), frame.data(k)) {
+            frame.set_counter(k, counter.wrapping_add(LONE_WRITE_SHARE));
+        }
+    }
+
+    /// The pass of an LRW at `k`: the read sees the memory, and the write takes the data, as they were on
+    /// arrival; all others stay.
+    pub(crate) fn logical_exchange(&mut self, frame: &mut FrameBuf, k: usize)
+        requires { k < length frame.old }
+        ensures frame { frame.new ≡ slice_set frame.old k (logical_exchange self.old
+            (nth frame.old k)).datagram }
+        ensures state { self.new ≡ (logical_exchange self.old (nth frame.old k)).state }
+    {
+        let counter = frame.counter(k);
+        let share = self.exchange_data(frame, k);
+        frame.set_counter(k, counter.wrapping_add(share));
+    }
+
+    /// Reads and writes the data of the datagram at `k`, each as on arrival, and says what its working
+    /// counter gains; all else stays.
+    fn exchange_data(&mut self, frame: &mut FrameBuf, k: usize) -> u16
+        requires { k < length frame.old }
+        ensures frame { frame.new
+            ≡ slice_set frame.old k (record (nth frame.old k) {
+              payload = read_data self.old (nth frame.old k);
+            }) }
+        ensures state { self.new ≡ written_state self.old (nth frame.old k) }
+        ensures share { result ≡ if_served (serves_read self.old (nth frame.old k)) 1
+            + if_served (serves_write self.old (nth frame.old k)) 2 }
+    {
+        if are_apart(self.memory.fmmus()) {
+            self.write_then_read(frame, k)
+        } else {
+            self.read_then_write(frame, k)
+        }
+    }
+
+    /// Does so where no bit that is read may be written: the read finds the memory as it was on arrival, and
+    /// the write needs no copy of the data.
+    fn write_then_read(&mut self, frame: &mut FrameBuf, k: usize) -> u16
+        requires inside { k < length frame.old }
+        requires apart { are_apart (fmmus_of self.old.memory) ≡ true }
+        ensures frame { frame.new
+            ≡ slice_set frame.old k (record (nth frame.old k) {
+              payload = read_data self.old (nth frame.old k);
+            }) }
+        ensures state { self.new ≡ written_state self.old (nth frame.old k) }
+        ensures share { result ≡ if_served (serves_read self.old (nth frame.old k)) 1
+            + if_served (serves_write self.old (nth frame.old k)) 2 }
+    {
+        self.arrival(frame, k);
+        let is_written = self.write_data(frame.address(k), frame.data(k));
+        let is_read = self.fill_data(frame, k);
+        exchange_share(is_read, is_written)
+    }
+
+    /// Does so whatever the FMMUs: the write takes a copy of the data that arrived.
+    fn read_then_write(&mut self, frame: &mut FrameBuf, k: usize) -> u16
+        requires { k < length frame.old }
+        ensures frame { frame.new
+            ≡ slice_set frame.old k (record (nth frame.old k) {
+              payload = read_data self.old (nth frame.old k);
+            }) }
+        ensures state { self.new ≡ written_state self.old (nth frame.old k) }
+        ensures share { result ≡ if_served (serves_read self.old (nth frame.old k)) 1
+            + if_served (serves_write self.old (nth frame.old k)) 2 }
+    {
+        let arrived = frame.get(k);
+        let is_read = self.fill_data(frame, k);
+        let is_written = self.write_data(arrived.address, arrived.payload.as_slice());
+        exchange_share(is_read, is_written)
+    }
+
+    /// Writes data to the memory where their logical address is writable, shows each area whose last byte
+    /// was written, and says whether there is a writable bit. The first data byte stands at the logical
+    /// byte `address`.
+    fn write_data(&mut self, address: u32, payload: &[u8]) -> bool
+        ensures state { self.new ≡ written_state self.old (record blank {
+          address = address;
+          payload = payload.now;
+        }) }
+        ensures served { result ≡ serves_write self.old (record blank {
+          address = address;
+          payload = payload.now;
+        }) }
+    {
+        let managers = self.sync_managers();
+        let fmmus = self.memory.fmmus();
+        let last_written = last_bytes_written(&managers, fmmus, address, payload.len());
+        let served = self.memory.write_mapped(address, payload);
+        self.show_written(&managers, &managers, &last_written);
+        served
+    }
+
+    /// All sync managers, by number.
+    fn sync_managers(&self) -> [PlannedSyncMan; 8]
+        ensures value { result ≡ sync_managers_of self.now.memory }
+        ensures bytes { AreBytes self.now.memory }
+    {
+        are_bytes(self.memory.bytes());
+        *self.memory.managers()
+    }
+}
