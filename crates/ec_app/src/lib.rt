@@ -2,18 +2,32 @@
 //! One EtherCAT slave: a controller and its application, which changes state when the master asks, or
 //! refuses, and answers the master's mails (IEC 61158-6-12).
 //!
-//! - `Slave`: the controller, the objects and what the application keeps. `Slave::step` answers one request
-//!   for a state and then one mail: `al_step` and `mail_step`, each a table whose first fitting row decides.
-//!   `roles` says what the first four sync managers are for.
-//! - `Objects`: the object dictionary, a list of at most 32 entries, no two of one index and subindex;
-//!   `Value`, what an object holds, and `Rights`, what a master may do with it.
-//! - `Sdo`: one service data object, the eight bytes by which a value is asked for, written and answered.
-//!   Every eight bytes are one SDO, and are written again as they were read.
-//! - `Mail`: an SDO in its mailbox and CoE headers. `Mail::read` answers the mail that the bytes begin with
-//!   or their first fault; no mail's bytes begin another's (`mail::one_mail`).
+//! A controller alone only moves bytes; a master that brings up a line needs somebody behind it who answers.
+//! One use, which `tests/door.rt` tries: frames pass the controller, `step` does what they asked for, and the
+//! next frames read the answers.
 //!
-//! One use: `Slave::new` makes a slave, `controller_mut` lets its sync managers be set and frames pass,
-//! `step` does what the frames asked for, and the next frames read the answers.
+//! ```text
+//! // A write of 8, Op, to AL control of the slave 0x1001.
+//! let asked = [
+//!     14, 0x10, 5, 0, 0x01, 0x10, 0x20, 0x01, 2, 0, 0, 0, 8, 0, 0, 0,
+//! ];
+//! let mut slave = Slave::new(rt.alloc(), 0x1001, Objects::new(), 0, 0)?;
+//! let mut frame = FrameBuf::read(&asked, Form::Udp)?;
+//! slave.controller_mut().process(&mut frame);
+//! slave.step();
+//! let (status, code) = slave.controller().al();
+//! ```
+//!
+//! It is refused: `status` is Init with the error bit, and `code` is 0x0011. What is promised:
+//!
+//! - [`Slave::step`] answers one request for a state and then one mail: `al_step` and `mail_step`, each a
+//!   table whose first fitting row decides. `roles` says what the first four sync managers are for.
+//! - [`Objects`] is the object dictionary, at most 32 entries, no two of one index and subindex; [`Value`] is
+//!   what an object holds, and [`Rights`] what a master may do with it.
+//! - Every eight bytes are one [`Sdo`], by which a value is asked for, written and answered, and are written
+//!   again as they were read.
+//! - [`Mail::read`] answers the mail that the bytes begin with or their first fault (`found`, `good`,
+//!   `fault`, `only`); no mail's bytes begin another's (`mail::one_mail`).
 //!
 //! What its contracts speak of stands in specs/: a slave and its step (`State`, `Slave`), the two machines
 //! (`AlStep`, `MailStep`), the sync managers' parts (`Roles`), and the words of mails, SDOs, objects and

@@ -1,6 +1,7 @@
 //! The worked rows of objects' mails and of states, with the bytes written out by hand.
 
 mod al_requests;
+mod door;
 mod mail_answers;
 mod mail_layout;
 mod mailboxes;

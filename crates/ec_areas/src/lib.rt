@@ -1,18 +1,36 @@
 #![tactic(auto)]
 //! What of a slave controller's memory the master may reach (IEC 61158-4-12, sync manager and FMMU).
 //!
-//! - `areas`: what the areas of sync managers keep from reads and writes through FMMUs.
-//! - `records`: the FMMUs and sync managers whose records stand in a memory.
-//! - `met`: the run of bits that an FMMU and the data of a logical command share.
-//! - `reach`: whether FMMUs reach all bytes of a run.
-//! - `logical`, `logical_write`: what logical commands read and write through FMMUs, run by run.
-//! - `apart`: whether FMMUs for reading and for writing share no bit of the memory.
-//! - `showing`: which areas a logical write shows.
-//! - `ranges`: which ranges physical commands may read and write, and which mailboxes they empty and fill.
-//! - `runs`: the bytes of a range, copied or or-ed into data.
+//! FMMUs lay logical bits on physical ones, and the areas of active sync managers keep bytes from reads and
+//! from writes; a mailbox is read and written whole. This crate decides that in one place, run of bits by run
+//! of bits, for the pass of a frame as for the checker. One use, which `tests/examples.rt` tries in
+//! `a_read_moves_ten_bits_up_by_three`; `READ` lays ten bits from bit 6 of 0x1100 on at bit 3 of the logical
+//! byte 0x00010000, and `areas()` has two bytes of inputs at 0x1100:
 //!
-//! All of it works on memories and records; a controller, which has them, is in the crate above. What the
-//! contracts speak of stands in specs/, under the same names.
+//! ```text
+//! let mut memory = Memory::new(rt.alloc()).expect(&rt, "memory");
+//! memory.load(0x1100, &[0xC0, 0x5A]);
+//! let fmmus = [PlannedFmmu::new(READ)];
+//! let mut data = [0x00, 0x00];
+//! assert!(rt; read_mapped(&areas(), &fmmus, memory.bytes(), 0x0001_0000, &mut data));
+//! assert_eq!(rt; data, [0x58, 0x0B]);
+//! ```
+//!
+//! What is promised:
+//!
+//! - [`read_mapped`], [`write_mapped`]: a bit moves exactly where an FMMU has a readable or writable pair
+//!   with it, from or to the place of such a pair; all else stays; the answer tells whether any bit moved
+//!   (clauses `bits`, `served`; `pair`, `target`, `source`);
+//! - [`are_apart`]: whether FMMUs for reading and for writing share no bit of the memory;
+//! - [`serves_physical_read`], [`serves_physical_write`]: which ranges a physical command may read and write;
+//!   [`emptied_by`], [`filled_by`]: which mailbox that empties and fills;
+//! - [`last_bytes_written`]: of which active areas a logical write reaches the last byte; [`copy_run`],
+//!   [`merge_run`]: the bytes of a range, copied or or-ed into data.
+//!
+//! All of it works on memories and records; a controller, which has them, is in the crate above. Inside,
+//! `areas` says what sync managers keep off, `records` reads the records out of a memory, `met` and `reach`
+//! find the run that an FMMU and the data share. What the contracts speak of stands in specs/, under the same
+//! names.
 
 mod apart;
 mod areas;

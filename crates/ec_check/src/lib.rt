@@ -2,9 +2,25 @@
 //! The mapping checker: is a line of slaves mapped so that a master's cycle reads each bit of the process
 //! image from one place, and writes it without reading it elsewhere (IEC 61158-4-12, FMMU and sync manager)?
 //!
-//! [`check`] tests seven rules in their order, and answers the first that the line breaks, with the smallest
-//! numbers and the lowest address or bit. It works on runs of bits, never bit by bit, and takes no memory.
-//! [`fit_line`] is the law that says what an accepted line gives a cycle.
+//! The promises about cycles hold of such lines, and whether a line is one can be told before the first
+//! cycle. One use, which `tests/door.rt` tries; `outputs` and `writer` of `tests/line.rt` fill in the records
+//! of an area that the master writes, by start and length, and of an FMMU:
+//!
+//! ```text
+//! let mut slave = Slave::new(rt.alloc(), 0x1001, Objects::new(), 2, 0)?;
+//! slave.controller_mut().set_syncman(2, &outputs(0x1000, 2));
+//! slave.controller_mut().set_fmmu(0, &writer(BYTE, 1, 0x1001));
+//! slave.controller_mut().set_fmmu(1, &writer(BYTE, 1, 0x1002));
+//! let verdict = check(&[slave]);
+//! ```
+//!
+//! The second FMMU lies behind the area: `verdict` is `OutsideArea` of slave 0, FMMU 1, address 0x1002. What
+//! is promised:
+//!
+//! - [`check`] is Ok exactly where none of seven rules is broken (`accepted`), and else names the first that
+//!   is, in their order, with the smallest numbers and the lowest address or bit (`refused`). It works on
+//!   runs of bits, never bit by bit, and takes no memory.
+//! - [`fit_line`] is the law that says what an accepted line gives a cycle.
 //!
 //! - `fault`: why a line is refused.
 //! - `stations`, `fmmus`, `areas`, `outside`, `twice_written`, `twice_read`, `crossed`: the rules, in this

@@ -2,12 +2,30 @@
 //! What a master asks of a line of slaves in its cycles, and whether the line is mapped for it (IEC
 //! 61158-4-12).
 //!
+//! A working counter tells something only to who knows what it should be: this crate says which requests may
+//! be made of a line and what each adds to its counter. One use, which `tests/door.rt` tries; `exchanging` of
+//! `tests/line.rt` makes a slave that reads and writes one logical byte:
+//!
+//! ```text
+//! let first = exchanging(rt.alloc(), 0x1001, BYTE)?;
+//! let second = exchanging(rt.alloc(), 0x1002, BYTE + 1)?;
+//! let line = [first, second];
+//! check(&line)?;
+//! let item = Item::new(Kind::Lrw, BYTE, &[0xFF, 0xFF])?;
+//! check_item(&line, &item)?;
+//! let count = expected(&line, &item);
+//! ```
+//!
+//! Each slave counts 1 for the read and 2 for the write, and `count` is 6. What is promised:
+//!
 //! - [`Item`] is one thing that is asked in each cycle: a logical read, write or exchange, a broadcast read
 //!   of registers, or a read or write that is addressed to a station ([`Kind`]). It becomes a datagram, and
 //!   takes the answer.
-//! - [`check`] tells whether a line is mapped as a cycle needs it, and [`check_item`] whether an addressed
-//!   item reads or writes where it may.
-//! - [`expected`] is what a line adds to the working counter of an item.
+//! - [`check`], of the crate below, tells whether a line is mapped as a cycle needs it, and [`check_item`]
+//!   whether an addressed item reads or writes where it may (`accepted`, `refused`).
+//! - [`expected`] is what a line adds to the working counter of an item, modulo 65,536.
+//! - The laws [`placed_item`], [`accepted_items`], [`shares_are_gains`] and [`shares_by_pairs`] tie these to
+//!   what a pass of each slave does.
 //!
 //! Nothing here takes memory. What the contracts speak of stands in specs/: an item and its datagram
 //! (`Item`), where an addressed item may go (`Place`), and a slave's share in the counter (`Share`).

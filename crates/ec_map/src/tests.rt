@@ -1,5 +1,6 @@
 //! Items, where they may go, and what a line adds to their counters.
 
+mod door;
 mod expected;
 mod items;
 mod line;

@@ -2,4 +2,5 @@
 
 mod cut;
 mod cycle;
+mod door;
 mod many;

@@ -369,41 +369,4 @@ mod tests {
         let found = fault(&sent, &sent, &b).expect(&rt, "spelt");
         assert_eq!(rt; found, Some(JoinFault::StrangerB(0)));
     }
-
-    /// How the 255 changes of one byte of the BRD fare as copy a: how many are spelt, strangers and joined.
-    fn changes_at(at: usize) -> (u32, u32, u32)
-        requires { at < 16 }
-    {
-        let mut spelt = 0u32;
-        let mut strangers = 0u32;
-        let mut joined = 0u32;
-        for change in 1..=255u8 {
-            let changed = with_byte(&BRD, at, BRD[at] ^ change);
-            let Ok(sent) = frame(&BRD) else { continue };
-            let Ok(a) = frame(&changed) else { continue };
-            spelt = spelt.wrapping_add(1);
-            match join_frames(&sent, Some(&a), None) {
-                Err(JoinFault::StrangerA(0)) => strangers = strangers.wrapping_add(1),
-                Err(_) => {}
-                Ok(_) => joined = joined.wrapping_add(1),
-            }
-        }
-        (spelt, strangers, joined)
-    }
-
-    #[test]
-    fn changes_of_one_byte_are_strangers_or_joined(rt: HostRuntime) {
-        let mut spelt = 0u32;
-        let mut strangers = 0u32;
-        let mut joined = 0u32;
-        for at in 0..16usize {
-            let (x, y, z) = changes_at(at);
-            spelt = spelt.wrapping_add(x);
-            strangers = strangers.wrapping_add(y);
-            joined = joined.wrapping_add(z);
-        }
-        assert_eq!(rt; spelt, 2820);
-        assert_eq!(rt; strangers, 779);
-        assert_eq!(rt; joined, 2041);
-    }
 }

@@ -3,6 +3,7 @@
 mod breaks;
 mod by_hand;
 mod circulating;
+mod door;
 mod limit;
 mod line;
 mod weather;

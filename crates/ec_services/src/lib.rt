@@ -2,17 +2,33 @@
 //! What a master does to bring up a line: it numbers the slaves, asks for their states, and reads and writes
 //! their objects, over any two ports (IEC 61158-6-12, AL management and SDO services).
 //!
-//! - `assign_stations` gives each slave its station address by its place.
-//! - `request_state` asks a slave for a state, and waits until it is there or refuses, with its code.
-//! - `sdo_upload` and `sdo_download` read and write an object of a `Peer` by one mail and its answer.
-//! - `RingPorts`: a ring of simulated slaves as two ports, where every slave takes its step after each trip.
+//! Before a line cycles, its slaves have no addresses and stand in Init; these calls do what is done once,
+//! with no memory taken. One use, which `tests/door.rt` tries; `slave` and `alone` of `tests/line.rt` make a
+//! slave with two mailboxes, and a ring of it as ports, and `peer` of `tests/peer.rt` says where the
+//! mailboxes are:
+//!
+//! ```text
+//! let mut objects = Objects::new();
+//! objects.add(0x1018, 1, Rights::ReadOnly, Value::Four(2))?;
+//! let slave = slave(&rt, rt.alloc(), AlState::Init, objects);
+//! let mut ports = alone(&rt, rt.alloc(), slave);
+//! let count = assign_stations(&mut ports, 0x1001)?;
+//! request_state(&mut ports, 0x1001, AlState::PreOp, 10)?;
+//! let mut peer = peer();
+//! let vendor = sdo_upload(&mut ports, &mut peer, 0x1018, 1, 3)?;
+//! ```
+//!
+//! What is promised, of each call in its clause `service`:
+//!
+//! - [`assign_stations`] gives each slave its station address by its place.
+//! - [`request_state`] asks a slave for a state, and waits until it is there or refuses, with its code.
+//! - [`sdo_upload`] and [`sdo_download`] read and write an object of a [`Peer`] by one mail and its answer.
+//! - [`RingPorts`] is a ring of simulated slaves as two ports, where every slave takes its step after each
+//!   trip.
 //!
 //! Each service is a talk of questions: a datagram goes out alone in a frame, and a table says what its
-//! answer decides (specs/: `Ask`, and one file for each service). So contracts name each frame that goes
-//! out, and each fault by the answer that it comes of.
-//!
-//! One use: `RingPorts::new(ring)`, then `assign_stations(&mut ports, 0x1001)?`, then for each slave
-//! `request_state(&mut ports, station, AlState::PreOp, 10)?`. None of this takes memory.
+//! answer decides (specs/: `Ask`, and one file for each service). So contracts name each frame that goes out,
+//! and each fault by the answer that it comes of.
 
 mod ask;
 mod fault;

@@ -3,6 +3,7 @@
 mod answers;
 mod asked;
 mod counted;
+mod door;
 mod fates;
 mod line;
 mod objects;

@@ -1,11 +1,33 @@
 #![tactic(auto)]
 //! EtherCAT frames (IEC 61158-4-12, the frame and datagram structures): reading, editing and writing
-//! them in place, with no allocation.
+//! them in place, with no allocation. A master, a slave and a tool that shows captures need the same bytes
+//! read in the same way, so nothing but this crate knows where a field lies.
 //!
 //! A [`FrameBuf`] is at most 1,500 bytes that are always the spelling of a frame; contracts see it as the
-//! list of its datagrams' records. [`FrameBuf::read`] takes exactly the bytes that spell a frame and
-//! names the first fault of all others; the setters and [`FrameBuf::data_mut`] replace one field of one
-//! datagram and leave all else.
+//! list of its datagrams' records. One use, which `tests/door.rt` tries:
+//!
+//! ```text
+//! let mut payload = ArrayVec::new();
+//! payload.try_extend_from_slice(&[0x08, 0x00])?;
+//! let mut frame = FrameBuf::of(&Datagram {
+//!     command: Command::Brd,
+//!     index: 1,
+//!     address: 0x0130_0000,
+//!     circulating: false,
+//!     irq: 0,
+//!     payload,
+//!     counter: 0,
+//! });
+//! frame.set_counter(0, 1);
+//! let again = FrameBuf::read(frame.bytes(), Form::Udp)?;
+//! ```
+//!
+//! What is promised:
+//!
+//! - [`FrameBuf::read`] takes exactly the bytes that spell a frame, and names the first fault of all others
+//!   (`found`, `only_found`, `fault`, `only_fault`); no two frames have one spelling ([`one_spelling`]);
+//! - each setter, and [`FrameBuf::data_mut`], replaces one field of one datagram and leaves all else;
+//! - [`FrameBuf::push`] adds a datagram behind the others, or leaves the frame as it is where none fits.
 
 mod cells;
 mod command;

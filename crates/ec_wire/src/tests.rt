@@ -1,6 +1,6 @@
 //! The worked rows of the frame format, with the bytes written out by hand.
 
+mod door;
 mod editing;
 mod grammar;
 mod largest;
-mod spoiled;

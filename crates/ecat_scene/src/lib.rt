@@ -1,8 +1,26 @@
 #![tactic(auto)]
 //! Scenes: the plain text that describes a line of slaves and what is done with it.
 //!
-//! [`Scene::read`] takes the whole text and answers a [`Scene`], plain data from which the program
-//! builds its slaves, or the first faulty line with what is wrong in it.
+//! A line of slaves takes dozens of register writes to set up; a scene says them in a dozen lines that a
+//! person reads. [`Scene::read`] takes the whole text and answers a [`Scene`], plain data from which the
+//! program builds its slaves, or the first faulty line with what is wrong in it. One use, which
+//! `tests/door.rt` tries:
+//!
+//! ```text
+//! let text = b"slave 0x1001\nsm 3 0x1100 1 read\nlrd 0x10000 00\nlink 1 down";
+//! match Scene::read(rt.alloc(), text) {
+//!     Ok(scene) => {
+//!         assert_eq!(rt; scene.slaves.len(), 1);
+//!         assert_eq!(rt; scene.items.len(), 1);
+//!         assert_eq!(rt; scene.links_down.as_slice(), [1].as_slice());
+//!     }
+//!     Err(fault) => assert_eq!(rt; fault, SceneFault::NoMemory),
+//! }
+//! ```
+//!
+//! What is promised: any bytes are taken; `TooLong` comes exactly of more than 65,536 bytes; and what is
+//! answered is in the ranges that its types state, the numbers of FMMUs and sync managers below 8, and loaded
+//! bytes inside the process memory. Which fault a text has is tested.
 //!
 //! - `scene`: what a scene is; `fault`: what can be wrong with its text.
 //! - `reader`: the lines in their order; `slave_lines`, `work_lines`: what each of them says.

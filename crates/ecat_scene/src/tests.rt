@@ -5,6 +5,7 @@ use crate::{Action, LineFault, MAX_TEXT, Scene, SceneFault, Setting};
 use ec_regs::{Fmmu, SyncMan};
 use std::process::Abort;
 
+mod door;
 mod faults;
 mod slaves;
 mod works;

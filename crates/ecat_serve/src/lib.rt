@@ -9,9 +9,9 @@
 //!
 //! A packet that is a frame in the UDP form walks from the end where it came in, under the ring's own links;
 //! then each slave takes its step, and what arrives leaves from the end where it arrives, to whoever spoke
-//! last there. While nobody has ever spoken to end B, the last link counts as down, as the last port of a real
-//! line that is empty: so a master with one port gets its answers at end A. Any other packet is dropped, and
-//! who sent it has not spoken.
+//! last there. While nobody has ever spoken to end B, the last link counts as down, as the last port of a
+//! real line that is empty: so a master with one port gets its answers at end A. Any other packet is dropped,
+//! and who sent it has not spoken.
 //!
 //! One use, which the test `a_frame_gets_its_answer_and_rubbish_none` tries:
 //!

@@ -20,8 +20,19 @@
 //! A packet that does not come, or is no frame in the UDP form, is a lost copy. The first call that fails
 //! ends the trip.
 //!
-//! One use: `UdpLine::bind(&rt, 34980)` opens the sockets, `UdpPorts::new(ring, line)` puts a ring behind
-//! them, `run_cycle(&mut ports, &mut work, &expected)` runs a cycle, and `ports.ring()` shows the slaves.
+//! One use, which `tests/real.rt` tries in `a_cycle_goes_over_real_sockets`: `UdpLine::bind(&rt, 34980)`
+//! opens the sockets, where that port is free; then a ring stands behind them, and a cycle runs.
+//!
+//! ```text
+//! let mut ports = UdpPorts::new(ring(&rt, rt.alloc()), line);
+//! for _cycle in 0..3usize {
+//!     let mut work = work(&rt);
+//!     let verdict = run_cycle(&mut ports, &mut work, &EXPECTED);
+//!     assert_eq!(rt; verdict, Ok(Verdict::Good));
+//!     assert_eq!(rt; left(&rt, &work), ([0x12, 0x34], 6));
+//! }
+//! assert_eq!(rt; taken(&rt, ports.ring()), [0x5A, 0xA5]);
+//! ```
 //!
 //! What is promised:
 //!

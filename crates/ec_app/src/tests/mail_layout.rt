@@ -1,8 +1,8 @@
-//! The bytes of mails, both ways, and the first fault of bytes that are none.
+//! The bytes of mails, both ways.
 
 ghost use Rattle.std.specs.Prelude.{◌≡◌};
 
-use crate::mail::{Mail, MailFault, REQUEST, RESPONSE};
+use crate::mail::{Mail, REQUEST, RESPONSE};
 use crate::sdo::Sdo;
 use crate::value::Value;
 use std::test::Fail;
@@ -118,61 +118,4 @@ fn mail_of_another_sender_is_written_without_its_address(rt: HostRuntime) -> Res
     assert_eq!(rt; read.counter, 1);
     assert_eq!(rt; read.write(), UPLOAD);
     Ok(())
-}
-
-#[test]
-fn mail_cut_short_is_short(rt: HostRuntime) {
-    for cut in 0..16 {
-        assert_eq!(rt;
-            Mail::read(&UPLOAD[..cut]),
-            Err(MailFault::Short),
-            "cut to {cut}"
-        );
-    }
-}
-
-/// How often each answer came.
-#[derive(Clone, Copy, PartialEq, Eq, Debug, Default)]
-struct Answers {
-    good: u32,
-    short: u32,
-    wrong_type: u32,
-    bad_counter: u32,
-    reserved: u32,
-    wrong_length: u32,
-}
-
-impl Answers {
-    fn count(&mut self, bytes: &[u8]) {
-        let answer = match Mail::read(bytes) {
-            Ok(_) => &mut self.good,
-            Err(MailFault::Short) => &mut self.short,
-            Err(MailFault::WrongType) => &mut self.wrong_type,
-            Err(MailFault::BadCounter) => &mut self.bad_counter,
-            Err(MailFault::Reserved) => &mut self.reserved,
-            Err(MailFault::WrongLength) => &mut self.wrong_length,
-        };
-        *answer = answer.wrapping_add(1);
-    }
-}
-
-#[test]
-fn each_changed_byte_is_taken_or_refused_by_name(rt: HostRuntime) {
-    let mut answers = Answers::default();
-    for place in 0..16usize {
-        for change in 1..=255u8 {
-            let mut bytes = UPLOAD;
-            bytes[place] ^= change;
-            answers.count(&bytes);
-        }
-    }
-    let wanted = Answers {
-        good: 3069,
-        short: 0,
-        wrong_type: 148,
-        bad_counter: 1,
-        reserved: 352,
-        wrong_length: 510,
-    };
-    assert_eq!(rt; answers, wanted);
 }

@@ -197,23 +197,3 @@ fn answer_is_read_out_once_and_leaves_the_mailbox_empty(rt: HostRuntime) -> Resu
     assert_eq!(rt; collected(&rt, &mut slave), None);
     Ok(())
 }
-
-#[test]
-fn object_stays_after_each_changed_mail(rt: HostRuntime) -> Result<(), Fail> {
-    for place in 0..16usize {
-        for change in 1..=255u8 {
-            let mut slave = mailing_slave(&rt, rt.alloc(), one_object()?);
-            let mut bytes = UPLOAD;
-            bytes[place] ^= change;
-            post(&rt, &mut slave, &bytes);
-            slave.step();
-            assert_eq!(rt; slave.controller().byte(REQUESTS_STATUS), 0x00);
-            assert_eq!(rt; slave.objects().count(), 1);
-            assert_eq!(rt;
-                slave.objects().get(0x1018, 1),
-                Some((Rights::ReadOnly, Value::Four(2)))
-            );
-        }
-    }
-    Ok(())
-}

@@ -11,7 +11,7 @@ use std::alloc::Global;
 use std::process::Abort;
 
 /// A buffered area of one byte.
-fn area(start: u16, control: u8) -> SyncMan {
+pub(super) fn area(start: u16, control: u8) -> SyncMan {
     SyncMan {
         start,
         length: 1,
@@ -23,7 +23,7 @@ fn area(start: u16, control: u8) -> SyncMan {
 }
 
 /// An FMMU of one byte.
-fn byte(logical: u32, physical: u16, kind: u8) -> Fmmu {
+pub(super) fn byte(logical: u32, physical: u16, kind: u8) -> Fmmu {
     Fmmu {
         logical,
         length: 1,

@@ -1,0 +1,3 @@
+//! Whole uses; the rows of each part stand beside it.
+
+mod door;
