@@ -1,14 +1,28 @@
 #![tactic(auto)]
-//! One EtherCAT slave controller and what it does with a frame (IEC 61158-4-12).
+//! One EtherCAT slave controller and what it does with a frame (IEC 61158-4-12). All that a master learns of
+//! a slave, and all that it hands to it, goes through such a pass.
 //!
 //! A `Controller` is its memory, the bytes that its application is shown, and a mark that AL control was
 //! written. It keeps the FMMUs and sync managers of the memory decoded (`planned`), so that no datagram
-//! decodes them; and its AL status always names a state.
+//! decodes them; and its AL status always names a state. One use, which `tests/door.rt` tries; `INPUTS` and
+//! `READ` of `tests.rt` are the records of an area of one byte and of an FMMU that maps it, and `sent` is an
+//! LRD of that byte:
 //!
-//! - `Controller::new` makes one with a station address, in Init.
-//! - `process` is one pass of a frame: its datagrams from left to right, each on the memory that the one
-//!   before left.
-//! - `set_fmmu`, `set_syncman` and `load` set records and process memory from the application's side.
+//! ```text
+//! let mut slave = Controller::new(rt.alloc(), 0x1001)?;
+//! slave.set_syncman(3, &INPUTS);
+//! slave.set_fmmu(0, &READ);
+//! slave.load(0x1100, &[0x12]);
+//! let mut frame = FrameBuf::read(&sent, Form::Udp)?;
+//! slave.process(&mut frame);
+//! ```
+//!
+//! The frame has 0x12 and the counter 1 now. What is promised:
+//!
+//! - `process` is one pass of a frame (`frame`, `state`): its datagrams from left to right, each on the
+//!   memory that the one before left, and each by the table of its command (`specs/Pass.antt`).
+//! - `Controller::new` makes one with a station address, in Init; `set_fmmu`, `set_syncman` and `load` set
+//!   records and process memory from the application's side.
 //! - `byte`, `bytes`, `shown`, `shown_bytes`, `station`, `syncman` and `fmmu` read the memory, the shown
 //!   bytes and the records.
 //! - `take_control`, `set_al` and `al` are the application's AL control and AL status; `outputs`,

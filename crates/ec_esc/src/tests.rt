@@ -3,6 +3,7 @@
 
 mod application;
 mod controller;
+mod door;
 mod logical_read;
 mod logical_write;
 mod physical;

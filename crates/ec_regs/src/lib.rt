@@ -1,6 +1,31 @@
 #![tactic(auto)]
 //! The registers of an EtherCAT slave controller (IEC 61158-4-12).
 //!
+//! Master and slave speak of a slave's memory by these records and addresses, and nothing but this crate
+//! knows how they are spelt. One use, which `tests/door.rt` tries:
+//!
+//! ```text
+//! let fmmu = Fmmu {
+//!     logical: 0x0001_0000,
+//!     length: 2,
+//!     start: 3,
+//!     stop: 4,
+//!     physical: 0x1100,
+//!     bit: 6,
+//!     kind: 1,
+//!     activate: 1,
+//!     reserved: [0; 3],
+//! };
+//! let record = fmmu.write();
+//! let plan = fmmu.plan();
+//! let place = fmmu.physical_of(fmmu.first_logical());
+//! ```
+//!
+//! The record is 16 bytes, which `Fmmu::read` reads again. The plan is of two logical bytes, whose bits from
+//! bit 3 of the first (F8) to bit 4 of the last (1F) lie 3 bits further on in memory; `place` is bit 6 of
+//! byte 0x1100. What is promised: records equal their bytes both ways (`read`, `write`), a plan tells exactly
+//! the mapped pairs of bits (`plan`, `pairs`), and each test of a record is the word that specs/ has for it.
+//!
 //! - `registers`: addresses and sizes, by the standard's names.
 //! - `fmmu`: the FMMU record, its bytes both ways, and the pairs of logical and physical bits that it maps.
 //! - `sync_man`: the sync manager record and its bytes both ways.
@@ -29,3 +54,6 @@ pub use guard::{Guard, PlannedSyncMan};
 pub use memory::{Memory, NoMemory};
 pub use plan::{Plan, PlannedFmmu};
 pub use sync_man::{LONGEST_MAILBOX, MAILBOX_FULL, SHORTEST_MAILBOX, SyncMan, SyncManControl};
+
+#[cfg(test)]
+mod tests;
