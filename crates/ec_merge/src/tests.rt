@@ -1,3 +1,6 @@
-//! Whole uses; the rows of each part stand beside it.
+//! Copies joined, with the bytes written out by hand.
 
+mod bytes;
 mod door;
+mod frames;
+mod merge;

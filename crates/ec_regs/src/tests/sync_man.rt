@@ -1,0 +1,40 @@
+//! The record of a sync manager.
+
+use crate::{SyncMan, SyncManControl};
+use bitflags::Flags;
+
+#[test]
+fn flags_are_the_bits_of_the_standard(rt: HostRuntime) {
+    assert_eq!(rt; SyncManControl::MAILBOX.bits(), 0x02);
+    assert_eq!(rt; SyncManControl::WRITE.bits(), 0x04);
+}
+
+#[test]
+fn record_is_spelt_field_by_field(rt: HostRuntime) {
+    let record = SyncMan {
+        start: 0x1100,
+        length: 1,
+        control: 0x00,
+        status: 0x00,
+        activate: 0x01,
+        pdi: 0x00,
+    };
+    let spelt = [0x00, 0x11, 0x01, 0x00, 0x00, 0x00, 0x01, 0x00];
+    assert_eq!(rt; record.write(), spelt);
+    assert_eq!(rt; SyncMan::read(&spelt), record);
+}
+
+#[test]
+fn each_byte_of_a_record_belongs_to_one_field(rt: HostRuntime) {
+    let spelt = [0x01, 0x02, 0x03, 0x04, 0x05, 0x06, 0x07, 0x08];
+    let record = SyncMan {
+        start: 0x0201,
+        length: 0x0403,
+        control: 0x05,
+        status: 0x06,
+        activate: 0x07,
+        pdi: 0x08,
+    };
+    assert_eq!(rt; SyncMan::read(&spelt), record);
+    assert_eq!(rt; record.write(), spelt);
+}
