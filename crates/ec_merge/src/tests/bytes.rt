@@ -1,5 +1,7 @@
 //! Runs of data, joined in place.
 
+ghost use Rattle.std.specs.Prelude.{◌≡◌, ◌≤◌, length};
+
 use crate::join_bytes;
 
 /// The most data of a datagram.

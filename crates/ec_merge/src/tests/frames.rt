@@ -1,5 +1,7 @@
 //! Frames, joined, and strangers.
 
+ghost use Rattle.std.specs.Prelude.{◌<◌};
+
 use crate::{JoinFault, join_frames};
 use ec_wire::{Form, FrameBuf, WireFault};
 
