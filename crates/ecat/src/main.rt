@@ -112,7 +112,8 @@ where
     }
 }
 
-/// Opens the ends of a line and serves it. The service ends with the input where no number of packets ends it.
+/// Opens the ends of a line and serves it. The service ends with the input where no number of packets ends
+/// it.
 fn serve_at<R, S, W, V>(
     rt: &R,
     service: Service,

@@ -14,8 +14,8 @@ Receives E = E → Result (Option Arrived) PortFault → List ℕ → E → Type
 abbrev pub Sends : Type 0 → Type 1
 Sends E = E → Port → SocketAddr → List ℕ → Result (Unit {0}) PortFault → E → Type 0
 
--- of what comes at a socket nothing is stated, nor of what becomes of a packet that is sent: both are up to the
--- system
+-- of what comes at a socket nothing is stated, nor of what becomes of a packet that is sent: both are up to
+-- the system
 abbrev pub any_receive : {E : Type 0} → Receives E
 any_receive before answer room later = ⊤
 

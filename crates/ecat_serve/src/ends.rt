@@ -27,7 +27,8 @@ pub struct Arrived {
 /// The two ends of a line: end A before its first slave, end B behind its last. An implementation says which
 /// packets come and what a send does; nothing else is known of either.
 pub trait Ends {
-    /// The receives that these ends can make: the ends before, the answer, the room behind it, the ends after.
+    /// The receives that these ends can make: the ends before, the answer, the room behind it, the ends
+    /// after.
     ghost receives: { Receives Self };
 
     /// The sends: the ends before, an end, whom it sends to, the packet, the answer, the ends after.

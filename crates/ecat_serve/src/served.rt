@@ -81,8 +81,9 @@ impl Served {
         &self.ring
     }
 
-    /// Serves at most so many packets, one after the other; ends before that where no more are to come, and at
-    /// the first call of the ends that fails. The answer is how many packets have come in. It takes no memory.
+    /// Serves at most so many packets, one after the other; ends before that where no more are to come, and
+    /// at the first call of the ends that fails. The answer is how many packets have come in. It takes no
+    /// memory.
     pub fn serve<E: Ends>(&mut self, ends: &mut E, most: u64) -> Result<Counts, PortFault>
         ensures serves { Serves E.receives E.sends most (record { frames = 0; dropped = 0 }) self.old ends.old
             result self.new ends.new }
@@ -102,11 +103,11 @@ impl Served {
         Ok(counts)
     }
 
-    /// Waits for one packet, and answers it where it is a frame in the UDP form: who sent it has spoken at the
-    /// end where it came in; the frame walks from there under the ring's own links, the last of which is down
-    /// while nobody has ever spoken to end B; each slave takes its step; and what arrives is sent from the end
-    /// where it arrives to whoever spoke last there, if anybody did. A packet that is no frame is dropped, and
-    /// each slave takes its step. It takes no memory.
+    /// Waits for one packet, and answers it where it is a frame in the UDP form: who sent it has spoken at
+    /// the end where it came in; the frame walks from there under the ring's own links, the last of which is
+    /// down while nobody has ever spoken to end B; each slave takes its step; and what arrives is sent from
+    /// the end where it arrives to whoever spoke last there, if anybody did. A packet that is no frame is
+    /// dropped, and each slave takes its step. It takes no memory.
     pub fn serve_one<E: Ends>(&mut self, ends: &mut E) -> Result<Round, PortFault>
         ensures { IsRound E.receives E.sends self.old ends.old result self.new ends.new }
     {
