@@ -1,13 +1,11 @@
 pub mod ShowLemmas
-pub mod WritingLemmas
 pub mod StateLemmas
 pub mod PassLemmas
 pub mod ApplicationLemmas
 pub mod Examples
 pub mod WrittenLemmas
 pub mod SettledLemmas
-pub mod PhysicalLemmas
 pub mod IdleLemmas
-pub mod EffectLemmas
+pub mod ServedLemmas
 pub mod PlannedLemmas
 pub mod ExchangeLemmas

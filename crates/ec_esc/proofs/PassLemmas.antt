@@ -1,94 +1,191 @@
--- A frame in which one datagram has passed, and one datagram more.
-use Rattle.std.proofs.Common.{◌≡◌, ◌⊎◌, inl, inr, ℕ, suc, ◌+◌, ◌%◌, ◌<◌, ◌≤◌, true, List, [], ◌∷◌, ◌++◌}
-use Rattle.std.proofs.Common.{length, get_or, set, take, drop, sym, ◌∙◌, ap, refl, arith, add-one}
-use Rattle.std.proofs.Common.{drop-cons, append_assoc}
-use Rattle.std.proofs.lemmas.List.{set-set, set-get_or, get_or-set_same, take_more, length-take-le}
+-- A datagram has passed once it was served and its ADP was counted up; and a frame in which some have passed,
+-- and one datagram more.
+use Rattle.std.proofs.Common.{◌≡◌, ◌⊎◌, inl, inr, ℕ, suc, ◌+◌, ◌*◌, ◌%◌, ◌<◌, ◌≤◌, Bool, true, false, cond}
+use Rattle.std.proofs.Common.{List, [], ◌∷◌, ◌++◌, length, get_or, set, take, drop, sym, ◌∙◌, ap, subst}
+use Rattle.std.proofs.Common.{refl, arith, add-one, drop-cons, append_assoc}
+use Rattle.std.proofs.lemmas.Bool.{false≢true}
+use Rattle.std.proofs.lemmas.List.{take_more, length-take-le}
 use Rattle.std.proofs.lemmas.List.{append-nil, length-append, length-drop, drop_all, take_all}
 use Rattle.std.proofs.Math.Seq.{set-append_seam, get_or-append_seam}
-use Rattle.ec_wire.specs.Datagram.{DatagramRecord, nth, blank}
+use Rattle.ec_wire.specs.Command.{addressing, reads, writes, counts_adp}
+use Rattle.ec_wire.specs.Datagram.{DatagramRecord, adp, ado, ado_of, nth, blank}
+use Rattle.ec_wire.specs.declared.command.Addressing.{Addressing}
+use Rattle.ec_wire.specs.declared.command.Addressing.TheVariants.{Nobody, Place, Station, All, Logical}
 use Rattle.ec_wire.specs.declared.command.Command.{Command}
-use Rattle.ec_wire.specs.declared.command.Command.TheVariants.{Nop, Brw, Armw, Frmw}
+use Rattle.ec_wire.specs.declared.command.Command.TheVariants.{Nop, Aprd, Apwr, Aprw, Fprd, Fpwr, Fprw, Bwr}
+use Rattle.ec_wire.specs.declared.command.Command.TheVariants.{Brw, Armw, Frmw}
 use Rattle.ec_esc.specs.State.{ControllerState}
-use Rattle.ec_esc.specs.Stages.{Arrives}
-use Rattle.ec_esc.proofs.EffectLemmas.{pass_staged}
-use Rattle.ec_esc.specs.Stages.{no_change, read_data, if_served, logical_read, pass_by}
-use Rattle.ec_esc.specs.Stages.{serves_read}
-use Rattle.ec_esc.specs.Pass.{Passed, PassedFrame, counter_after, pass, frame_pass}
+use Rattle.ec_esc.specs.Pass.{Half, Effect, nothing, only_reads, where_served, read_half, write_half, effect}
+use Rattle.ec_esc.specs.Pass.{is_addressed, range_sources, range_read, range_write, only_writes, served, state_after, Arrives}
+use Rattle.ec_esc.specs.Pass.{IsServed}
+use Rattle.ec_esc.specs.Pass.{Passed, PassedFrame, pass, frame_pass}
+use Rattle.ec_esc.proofs.ServedLemmas.{nth-set, set-put, IsServed-nothing}
 
 -- ---- one datagram
 
--- a datagram whose data were filled and whose counter was then set
-pub filled_and_counted : (c : ControllerState) (rs filled raised : List DatagramRecord) (k n : ℕ)
-    → k < length rs
-    → filled ≡ set rs k (record (nth rs k) { payload = read_data c (nth rs k) }) → raised
-    ≡ set filled k (record (nth filled k) { counter = n })
-    → raised ≡ set rs k (record (nth rs k) { payload = read_data c (nth rs k); counter = n })
-filled_and_counted c rs filled raised k n inside filled_is raised_is =
-    let full : DatagramRecord = record (nth rs k) { payload = read_data c (nth rs k) } in
-    raised_is
-    ∙ ap (λ (f : List DatagramRecord). set f k (record (nth f k) { counter = n })) filled_is
-    ∙ ap (λ (e : DatagramRecord). set (set rs k full) k (record e {
-      counter = n;
-    })) (get_or-set_same rs k full blank inside)
-    ∙ set-set rs k full (record full { counter = n })
+-- what the rule makes of a datagram whose command is known
+abbrev passed_as : Command → ControllerState → DatagramRecord → Passed
+passed_as x c d =
+    let e = effect x c d.address (length d.payload) in
+    record {
+      datagram = record (served e c d) {
+        address = cond (counts_adp x) ((adp d + 1) % 65536 + 65536 * ado d) d.address;
+      };
+      state = state_after e c d.payload;
+    }
 
--- a datagram whose data were filled and whose counter was raised has passed
-pub counted_read : (c : ControllerState) (rs filled raised : List DatagramRecord) (k n : ℕ) → k < length rs
-    → filled ≡ set rs k (record (nth rs k) { payload = read_data c (nth rs k) })
-    → serves_read c (nth rs k) ≡ true
-    → n ≡ ((nth rs k).counter + 1) % 65536 → raised ≡ set filled k (record (nth filled k) { counter = n })
-    → raised ≡ set rs k (logical_read c (nth rs k))
-counted_read c rs filled raised k n inside filled_is served n_is raised_is =
+pass_is : (x : Command) (c : ControllerState) (d : DatagramRecord) → d.command ≡ x → passed_as x c d
+    ≡ pass c d
+unfolding pass
+pass_is x c d is = ap (λ (y : Command). passed_as y c d) (sym is)
+
+-- a half of a command that addresses others
+unread : (r : Bool) (a : Addressing) (c : ControllerState) (address count : ℕ)
+    → is_addressed a c address ≡ false → where_served r (read_half a c address count) ≡ nothing
+unread false a c address count others = refl
+unread true Nobody c address count others = refl
+unread true Place c address count others = rw others refl
+unread true Station c address count others = rw others refl
+unread true All c address count others = absurd (false≢true (sym others))
+unread true Logical c address count others = absurd (false≢true (sym others))
+
+untaken : (w : Bool) (a : Addressing) (n : ℕ) (c : ControllerState) (address count : ℕ)
+    → is_addressed a c address ≡ false → where_served w (write_half a n c address count) ≡ nothing
+untaken false a n c address count others = refl
+untaken true Nobody n c address count others = refl
+untaken true Place n c address count others = rw others refl
+untaken true Station n c address count others = rw others refl
+untaken true All n c address count others = absurd (false≢true (sym others))
+untaken true Logical n c address count others = absurd (false≢true (sym others))
+
+-- so nothing is served
+pub IsServed-others : (x : Command) (rs : List DatagramRecord) (k : ℕ) (c : ControllerState)
+    → Arrives c (nth rs k) → is_addressed (addressing x) c (nth rs k).address ≡ false
+    → IsServed (effect x c (nth rs k).address (length (nth rs k).payload)) k rs c rs c
+IsServed-others x rs k c fits others =
     let d : DatagramRecord = nth rs k in
-    let count : n ≡ (d.counter + if_served (serves_read c d) 1) % 65536 = n_is
-    ∙ ap (λ b. (d.counter + if_served b 1) % 65536) (sym served) in
-    filled_and_counted c rs filled raised k n inside filled_is raised_is
-    ∙ ap (λ m. set rs k (record d { payload = read_data c d; counter = m })) count
+    let reading = unread (reads x) (addressing x) c d.address (length d.payload) others in
+    let writing = untaken (writes x) (addressing x) (cond (reads x) 2 1) c d.address (length d.payload) others in
+    let both : only_reads nothing ≡ effect x c d.address (length d.payload) =
+    sym (ap (λ (h : Half). record {
+      reading = h;
+      writing = (effect x c d.address (length d.payload)).writing;
+    }) reading ∙ ap (λ (h : Half). record { reading = nothing; writing = h }) writing) in
+    subst (λ (e : Effect). IsServed e k rs c rs c) both (IsServed-nothing rs k c fits)
 
--- a datagram that counts nothing keeps its counter
-pub counted_nothing : (d : DatagramRecord) → d.counter < 65536 → record d { counter = counter_after d 0 } ≡ d
-counted_nothing d fits = let same : (d.counter + 0) % 65536
-    ≡ d.counter = omega arith in ap (λ n. record d { counter = n }) same
+-- a datagram that was served and whose ADP was then counted up has passed
+pub passed_counted : (x : Command) (rs done counted : List DatagramRecord) (k : ℕ) (c after : ControllerState)
+    → k < length rs → (nth rs k).command ≡ x → counts_adp x ≡ true
+    → IsServed (effect x c (nth rs k).address (length (nth rs k).payload)) k rs c done after
+    → counted ≡ set done k (record (nth done k) {
+      address = (adp (nth done k) + 1) % 65536 + 65536 * ado (nth done k);
+    })
+    → counted ≡ set rs k (pass c (nth rs k)).datagram
+passed_counted x rs done counted k c after inside is counts told counted_is =
+    let d : DatagramRecord = nth rs k in
+    let e : Effect = effect x c d.address (length d.payload) in
+    let up : DatagramRecord → DatagramRecord = λ r. record r {
+      address = (adp r + 1) % 65536 + 65536 * ado r;
+    } in
+    set-put rs done counted k (served e c d) (up (nth done k)) told.frame counted_is
+    ∙ ap (λ (r : DatagramRecord). set rs k (up r)) (nth-set rs done k (served e c d) inside told.frame)
+    ∙ ap (λ (b : Bool). set rs k (record (served e c d) {
+      address = cond b ((adp d + 1) % 65536 + 65536 * ado d) d.address;
+    })) (sym counts)
+    ∙ ap (λ (p : Passed). set rs k p.datagram) (pass_is x c d is)
 
--- what does as the command at k says is its pass: the frame, and the controller
-pub passed-frame : (c : ControllerState) (rs after : List DatagramRecord) (k : ℕ) (x : Command)
-    → Arrives c (nth rs k) → (nth rs k).command ≡ x
-    → after ≡ set rs k (pass_by x c (nth rs k)).datagram → after ≡ set rs k (pass c (nth rs k)).datagram
-passed-frame c rs after k x fits is after_is =
-    after_is ∙ ap (λ (p : Passed). set rs k p.datagram) (pass_staged x c (nth rs k) fits is)
+-- and one whose ADP stays has passed once it was served
+pub passed_uncounted : (x : Command) (rs done : List DatagramRecord) (k : ℕ) (c after : ControllerState)
+    → (nth rs k).command ≡ x → counts_adp x ≡ false
+    → IsServed (effect x c (nth rs k).address (length (nth rs k).payload)) k rs c done after
+    → done ≡ set rs k (pass c (nth rs k)).datagram
+passed_uncounted x rs done k c after is stays told =
+    let d : DatagramRecord = nth rs k in
+    let e : Effect = effect x c d.address (length d.payload) in
+    told.frame
+    ∙ ap (λ (b : Bool). set rs k (record (served e c d) {
+      address = cond b ((adp d + 1) % 65536 + 65536 * ado d) d.address;
+    })) (sym stays)
+    ∙ ap (λ (p : Passed). set rs k p.datagram) (pass_is x c d is)
 
-pub passed-state : (c after : ControllerState) (d : DatagramRecord) (x : Command) → Arrives c d
-    → d.command ≡ x
-    → after ≡ (pass_by x c d).state → after ≡ (pass c d).state
-passed-state c after d x fits is after_is = after_is
-    ∙ ap (λ (p : Passed). p.state) (pass_staged x c d fits is)
+-- the controller then
+pub passed_state : (x : Command) (rs done : List DatagramRecord) (k : ℕ) (c after : ControllerState)
+    → (nth rs k).command ≡ x
+    → IsServed (effect x c (nth rs k).address (length (nth rs k).payload)) k rs c done after
+    → after ≡ (pass c (nth rs k)).state
+passed_state x rs done k c after is told =
+    told.state ∙ ap (λ (p : Passed). p.state) (pass_is x c (nth rs k) is)
 
--- four commands do nothing
-pass_nothing : (c : ControllerState) (d : DatagramRecord) (x : Command) → (x ≡ Nop) ⊎ ((x ≡ Brw) ⊎ ((x
-    ≡ Armw) ⊎ (x ≡ Frmw)))
-    → pass_by x c d ≡ no_change c d
-unfolding pass_by
-pass_nothing c d x (inl e) = ap (λ (y : Command). pass_by y c d) e
-pass_nothing c d x (inr (inl e)) = ap (λ (y : Command). pass_by y c d) e
-pass_nothing c d x (inr (inr (inl e))) = ap (λ (y : Command). pass_by y c d) e
-pass_nothing c d x (inr (inr (inr e))) = ap (λ (y : Command). pass_by y c d) e
+-- ---- what a command does that addresses the controller
 
--- a datagram put where it stands changes nothing
-pub set_nth : (rs : List DatagramRecord) (k : ℕ) → set rs k (nth rs k) ≡ rs
-set_nth rs k = set-get_or rs k blank
+-- it addresses the controller under its own name
+addressed_as : (x y : Command) (c : ControllerState) (address : ℕ) → x ≡ y
+    → is_addressed (addressing x) c address ≡ true → is_addressed (addressing y) c address ≡ true
+addressed_as x y c address is addressed =
+    ap (λ (z : Command). is_addressed (addressing z) c address) (sym is) ∙ addressed
 
--- a datagram of one of those four has passed as it stands: the frame, and the controller
-pub unpassed-frame : (c : ControllerState) (rs : List DatagramRecord) (k : ℕ) (x : Command)
-    → Arrives c (nth rs k) → (nth rs k).command ≡ x
-    → (x ≡ Nop) ⊎ ((x ≡ Brw) ⊎ ((x ≡ Armw) ⊎ (x ≡ Frmw))) → rs ≡ set rs k (pass c (nth rs k)).datagram
-unpassed-frame c rs k x fits is idle =
-    passed-frame c rs rs k x fits is (sym (ap (λ (p : Passed). set rs k p.datagram) (pass_nothing c
-    (nth rs k) x idle) ∙ set_nth rs k))
+-- a read of a range
+pub effect_read : (x : Command) (c : ControllerState) (address n : ℕ) → (x ≡ Aprd) ⊎ (x ≡ Fprd)
+    → is_addressed (addressing x) c address ≡ true
+    → effect x c address n
+    ≡ only_reads (range_read true (range_sources (ado_of address)) c (ado_of address) n)
+effect_read x c address n (inl is) addressed =
+    ap (λ (y : Command). effect y c address n) is
+    ∙ ap (λ b. only_reads (range_read b (range_sources (ado_of address)) c (ado_of address) n))
+    (addressed_as x Aprd c address is addressed)
+effect_read x c address n (inr is) addressed =
+    ap (λ (y : Command). effect y c address n) is
+    ∙ ap (λ b. only_reads (range_read b (range_sources (ado_of address)) c (ado_of address) n))
+    (addressed_as x Fprd c address is addressed)
 
-pub unpassed-state : (c : ControllerState) (d : DatagramRecord) (x : Command) → Arrives c d → d.command ≡ x
-    → (x ≡ Nop) ⊎ ((x ≡ Brw) ⊎ ((x ≡ Armw) ⊎ (x ≡ Frmw))) → c ≡ (pass c d).state
-unpassed-state c d x fits is idle = passed-state c c d x fits is (sym (ap (λ (p : Passed). p.state)
-    (pass_nothing c d x idle)))
+-- a write of one
+pub effect_write : (x : Command) (c : ControllerState) (address n : ℕ)
+    → (x ≡ Apwr) ⊎ ((x ≡ Fpwr) ⊎ (x ≡ Bwr))
+    → is_addressed (addressing x) c address ≡ true
+    → effect x c address n ≡ only_writes (range_write true 1 c (ado_of address) n)
+effect_write x c address n (inl is) addressed =
+    ap (λ (y : Command). effect y c address n) is
+    ∙ ap (λ b. only_writes (range_write b 1 c (ado_of address) n)) (addressed_as x Apwr c address is addressed)
+effect_write x c address n (inr (inl is)) addressed =
+    ap (λ (y : Command). effect y c address n) is
+    ∙ ap (λ b. only_writes (range_write b 1 c (ado_of address) n)) (addressed_as x Fpwr c address is addressed)
+effect_write x c address n (inr (inr is)) addressed = ap (λ (y : Command). effect y c address n) is
+
+-- both
+pub effect_exchange : (x : Command) (c : ControllerState) (address n : ℕ) → (x ≡ Aprw) ⊎ (x ≡ Fprw)
+    → is_addressed (addressing x) c address ≡ true
+    → effect x c address n ≡ record {
+      reading = range_read true (range_sources (ado_of address)) c (ado_of address) n;
+      writing = range_write true 2 c (ado_of address) n;
+    }
+effect_exchange x c address n (inl is) addressed =
+    ap (λ (y : Command). effect y c address n) is
+    ∙ ap (λ b. record {
+      reading = range_read b (range_sources (ado_of address)) c (ado_of address) n;
+      writing = range_write b 2 c (ado_of address) n;
+    }) (addressed_as x Aprw c address is addressed)
+effect_exchange x c address n (inr is) addressed =
+    ap (λ (y : Command). effect y c address n) is
+    ∙ ap (λ b. record {
+      reading = range_read b (range_sources (ado_of address)) c (ado_of address) n;
+      writing = range_write b 2 c (ado_of address) n;
+    }) (addressed_as x Fprw c address is addressed)
+
+-- a command whose effect is another's is served as that
+pub IsServed-as : (e f : Effect) (k : ℕ) (rs : List DatagramRecord) (c : ControllerState)
+    (after : List DatagramRecord) (left : ControllerState) → e ≡ f → IsServed f k rs c after left
+    → IsServed e k rs c after left
+IsServed-as e f k rs c after left same told =
+    subst (λ (g : Effect). IsServed g k rs c after left) (sym same) told
+
+-- no command that addresses nobody addresses the controller
+pub addresses_somebody : (x : Command) (c : ControllerState) (address : ℕ)
+    → (x ≡ Nop) ⊎ ((x ≡ Brw) ⊎ ((x ≡ Armw) ⊎ (x ≡ Frmw)))
+    → is_addressed (addressing x) c address ≡ true → false ≡ true
+addresses_somebody x c address (inl is) addressed = addressed_as x Nop c address is addressed
+addresses_somebody x c address (inr (inl is)) addressed = addressed_as x Brw c address is addressed
+addresses_somebody x c address (inr (inr (inl is))) addressed = addressed_as x Armw c address is addressed
+addresses_somebody x c address (inr (inr (inr is))) addressed = addressed_as x Frmw c address is addressed
 
 -- ---- frames
 

@@ -2,5 +2,4 @@ pub mod State
 pub mod Writing
 pub mod Pass
 pub mod Application
-pub mod Stages
 pub mod Planned

@@ -32,6 +32,7 @@
 //! and of a frame (`Pass`), what a write leaves beside the bytes that it wrote (`Writing`), and the
 //! application's side (`Application`); and below, in `ec_areas`, what of a memory the master may reach.
 
+mod addressing;
 mod application;
 mod controller;
 mod logical;
@@ -41,6 +42,8 @@ mod planned;
 mod process;
 mod reading;
 mod showing;
+mod writing;
+
 #[cfg(test)]
 mod tests;
 

@@ -1,12 +1,13 @@
 //! The logical commands: LRD, LWR and LRW (IEC 61158-4-12, FMMU).
 
-ghost use Rattle.std.specs.Prelude.{◌≡◌, ◌+◌, ◌<◌, length, slice_set, true};
-ghost use Rattle.ec_regs.specs.Bits.{AreBytes};
-ghost use Rattle.ec_wire.specs.Datagram.{blank, nth};
+ghost use Rattle.std.specs.Prelude.{◌≡◌, ◌+◌, ◌<◌, ℕ, length, slice_set, true};
+ghost use Rattle.std.specs.Prelude.{if◌then◌else◌};
+ghost use Rattle.ec_regs.specs.Bits.{AreBytes, with_bits};
+ghost use Rattle.ec_wire.specs.Datagram.{nth};
 ghost use Rattle.ec_areas.specs.Records.{fmmus_of, sync_managers_of};
 ghost use Rattle.ec_areas.specs.Apart.{are_apart};
-ghost use Rattle.ec_esc.specs.Stages.{if_served, written_state, logical_read, logical_write};
-ghost use Rattle.ec_esc.specs.Stages.{logical_exchange, read_data, serves_read, serves_write};
+ghost use Rattle.ec_esc.specs.Pass.{read_sources, serves_read, serves_write, mapped_read, mapped_write};
+ghost use Rattle.ec_esc.specs.Pass.{only_reads, only_writes, written_by, Arrives, IsServed};
 
 use crate::controller::Controller;
 use crate::process::are_bytes;
@@ -25,7 +26,7 @@ const WRITE_SHARE: u16 = 2;
 
 /// What the working counter of an LRW gains, by whether its read and its write are served.
 fn exchange_share(is_read: bool, is_written: bool) -> u16
-    ensures { result ≡ if_served is_read 1 + if_served is_written 2 }
+    ensures { result ≡ (if is_read then 1 else 0) + (if is_written then 2 else 0) }
 {
     let read = if is_read { READ_SHARE } else { 0 };
     let write = if is_written { WRITE_SHARE } else { 0 };
@@ -33,10 +34,13 @@ fn exchange_share(is_read: bool, is_written: bool) -> u16
 }
 
 impl Controller {
-    /// The pass of an LRD at `k`; all others stay.
+    /// LRD: a read of the datagram at `k` through FMMUs; all others stay.
     pub(crate) fn logical_read(&self, frame: &mut FrameBuf, k: usize)
-        requires { k < length frame.old }
-        ensures { frame.new ≡ slice_set frame.old k (logical_read self.now (nth frame.old k)) }
+        requires inside { k < length frame.old }
+        requires arrives { Arrives self.now (nth frame.old k) }
+        ensures { IsServed (only_reads (mapped_read self.now (nth frame.old k).address
+            (length (nth frame.old k).payload)))
+            k frame.old self.now frame.new self.now }
     {
         let counter = frame.counter(k);
         if self.fill_data(frame, k) {
@@ -49,9 +53,11 @@ impl Controller {
     fn fill_data(&self, frame: &mut FrameBuf, k: usize) -> bool
         requires { k < length frame.old }
         ensures frame { frame.new ≡ slice_set frame.old k (record (nth frame.old k) {
-          payload = read_data self.now (nth frame.old k);
+          payload = with_bits (nth frame.old k).payload
+              self.now.memory (read_sources self.now (nth frame.old k).address);
         }) }
-        ensures served { result ≡ serves_read self.now (nth frame.old k) }
+        ensures served { result ≡ serves_read self.now (nth frame.old k).address
+            (length (nth frame.old k).payload) }
     {
         let managers = self.memory.managers();
         let fmmus = self.memory.fmmus();
@@ -60,12 +66,13 @@ impl Controller {
         read_mapped(managers, fmmus, memory, address, frame.data_mut(k))
     }
 
-    /// The pass of an LWR at `k`; all others stay.
+    /// LWR: a write of the datagram at `k` through FMMUs; all others stay.
     pub(crate) fn logical_write(&mut self, frame: &mut FrameBuf, k: usize)
-        requires { k < length frame.old }
-        ensures frame { frame.new ≡ slice_set frame.old k (logical_write self.old
-            (nth frame.old k)).datagram }
-        ensures state { self.new ≡ (logical_write self.old (nth frame.old k)).state }
+        requires inside { k < length frame.old }
+        requires arrives { Arrives self.old (nth frame.old k) }
+        ensures { IsServed (only_writes (mapped_write 1 self.old (nth frame.old k).address
+            (length (nth frame.old k).payload)))
+            k frame.old self.old frame.new self.new }
     {
         let counter = frame.counter(k);
         if self.write_data(frame.address(k), frame.data(k)) {
@@ -73,13 +80,15 @@ impl Controller {
         }
     }
 
-    /// The pass of an LRW at `k`: the read sees the memory, and the write takes the data, as they were on
-    /// arrival; all others stay.
+    /// LRW: both of the datagram at `k`; the read sees the memory, and the write takes the data, as they were
+    /// on arrival; all others stay.
     pub(crate) fn logical_exchange(&mut self, frame: &mut FrameBuf, k: usize)
-        requires { k < length frame.old }
-        ensures frame { frame.new ≡ slice_set frame.old k (logical_exchange self.old
-            (nth frame.old k)).datagram }
-        ensures state { self.new ≡ (logical_exchange self.old (nth frame.old k)).state }
+        requires inside { k < length frame.old }
+        requires arrives { Arrives self.old (nth frame.old k) }
+        ensures { IsServed (record {
+          reading = mapped_read self.old (nth frame.old k).address (length (nth frame.old k).payload);
+          writing = mapped_write 2 self.old (nth frame.old k).address (length (nth frame.old k).payload);
+        }) k frame.old self.old frame.new self.new }
     {
         let counter = frame.counter(k);
         let share = self.exchange_data(frame, k);
@@ -90,13 +99,15 @@ impl Controller {
     /// counter gains; all else stays.
     fn exchange_data(&mut self, frame: &mut FrameBuf, k: usize) -> u16
         requires { k < length frame.old }
-        ensures frame { frame.new
-            ≡ slice_set frame.old k (record (nth frame.old k) {
-              payload = read_data self.old (nth frame.old k);
-            }) }
-        ensures state { self.new ≡ written_state self.old (nth frame.old k) }
-        ensures share { result ≡ if_served (serves_read self.old (nth frame.old k)) 1
-            + if_served (serves_write self.old (nth frame.old k)) 2 }
+        ensures frame { frame.new ≡ slice_set frame.old k (record (nth frame.old k) {
+          payload = with_bits (nth frame.old k).payload
+              self.old.memory (read_sources self.old (nth frame.old k).address);
+        }) }
+        ensures state { self.new ≡ written_by (mapped_write 2 self.old (nth frame.old k).address
+            (length (nth frame.old k).payload)) (nth frame.old k).payload self.old }
+        ensures share { result
+            ≡ (mapped_read self.old (nth frame.old k).address (length (nth frame.old k).payload)).gain
+            + (mapped_write 2 self.old (nth frame.old k).address (length (nth frame.old k).payload)).gain }
     {
         if are_apart(self.memory.fmmus()) {
             self.write_then_read(frame, k)
@@ -110,13 +121,15 @@ impl Controller {
     fn write_then_read(&mut self, frame: &mut FrameBuf, k: usize) -> u16
         requires inside { k < length frame.old }
         requires apart { are_apart (fmmus_of self.old.memory) ≡ true }
-        ensures frame { frame.new
-            ≡ slice_set frame.old k (record (nth frame.old k) {
-              payload = read_data self.old (nth frame.old k);
-            }) }
-        ensures state { self.new ≡ written_state self.old (nth frame.old k) }
-        ensures share { result ≡ if_served (serves_read self.old (nth frame.old k)) 1
-            + if_served (serves_write self.old (nth frame.old k)) 2 }
+        ensures frame { frame.new ≡ slice_set frame.old k (record (nth frame.old k) {
+          payload = with_bits (nth frame.old k).payload
+              self.old.memory (read_sources self.old (nth frame.old k).address);
+        }) }
+        ensures state { self.new ≡ written_by (mapped_write 2 self.old (nth frame.old k).address
+            (length (nth frame.old k).payload)) (nth frame.old k).payload self.old }
+        ensures share { result
+            ≡ (mapped_read self.old (nth frame.old k).address (length (nth frame.old k).payload)).gain
+            + (mapped_write 2 self.old (nth frame.old k).address (length (nth frame.old k).payload)).gain }
     {
         self.arrival(frame, k);
         let is_written = self.write_data(frame.address(k), frame.data(k));
@@ -127,13 +140,15 @@ impl Controller {
     /// Does so whatever the FMMUs: the write takes a copy of the data that arrived.
     fn read_then_write(&mut self, frame: &mut FrameBuf, k: usize) -> u16
         requires { k < length frame.old }
-        ensures frame { frame.new
-            ≡ slice_set frame.old k (record (nth frame.old k) {
-              payload = read_data self.old (nth frame.old k);
-            }) }
-        ensures state { self.new ≡ written_state self.old (nth frame.old k) }
-        ensures share { result ≡ if_served (serves_read self.old (nth frame.old k)) 1
-            + if_served (serves_write self.old (nth frame.old k)) 2 }
+        ensures frame { frame.new ≡ slice_set frame.old k (record (nth frame.old k) {
+          payload = with_bits (nth frame.old k).payload
+              self.old.memory (read_sources self.old (nth frame.old k).address);
+        }) }
+        ensures state { self.new ≡ written_by (mapped_write 2 self.old (nth frame.old k).address
+            (length (nth frame.old k).payload)) (nth frame.old k).payload self.old }
+        ensures share { result
+            ≡ (mapped_read self.old (nth frame.old k).address (length (nth frame.old k).payload)).gain
+            + (mapped_write 2 self.old (nth frame.old k).address (length (nth frame.old k).payload)).gain }
     {
         let arrived = frame.get(k);
         let is_read = self.fill_data(frame, k);
@@ -145,14 +160,9 @@ impl Controller {
     /// was written, and says whether there is a writable bit. The first data byte stands at the logical
     /// byte `address`.
     fn write_data(&mut self, address: u32, payload: &[u8]) -> bool
-        ensures state { self.new ≡ written_state self.old (record blank {
-          address = address;
-          payload = payload.now;
-        }) }
-        ensures served { result ≡ serves_write self.old (record blank {
-          address = address;
-          payload = payload.now;
-        }) }
+        ensures state { (n : ℕ) → self.new
+            ≡ written_by (mapped_write n self.old address (length payload.now)) payload.now self.old }
+        ensures served { result ≡ serves_write self.old address (length payload.now) }
     {
         let managers = self.sync_managers();
         let fmmus = self.memory.fmmus();

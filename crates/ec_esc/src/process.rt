@@ -1,14 +1,14 @@
-//! What a controller does with a frame: each datagram goes to what its command does (IEC 61158-4-12,
-//! processing of datagrams).
+//! What a controller does with a frame: each datagram that addresses it goes to what its command does
+//! (IEC 61158-4-12, processing of datagrams).
 
-ghost use Rattle.std.specs.Prelude.{◌≡◌, ◌<◌, length, slice_set};
+ghost use Rattle.std.specs.Prelude.{◌≡◌, ◌<◌, length, slice_set, true};
 ghost use Rattle.ec_regs.specs.Bits.{AreBytes};
-ghost use Rattle.ec_esc.specs.Stages.{Arrives};
+ghost use Rattle.ec_wire.specs.Command.{addressing};
 ghost use Rattle.ec_wire.specs.Datagram.{nth};
-ghost use Rattle.ec_esc.specs.Pass.{pass, frame_pass};
+ghost use Rattle.ec_esc.specs.Pass.{pass, frame_pass, effect, is_addressed, Arrives, IsServed};
 
+use crate::addressing::count_up;
 use crate::controller::Controller;
-use crate::physical::Access;
 use ec_wire::{Command, FrameBuf};
 
 /// What the type of a slice says of it: each element is a byte.
@@ -48,15 +48,39 @@ impl Controller {
         ensures state { self.new ≡ (pass self.old (nth frame.old k)).state }
     {
         self.arrival(frame, k);
-        match frame.command(k) {
-            Command::Aprd => self.by_position(frame, k, Access::Read),
-            Command::Apwr => self.by_position(frame, k, Access::Write),
-            Command::Aprw => self.by_position(frame, k, Access::Exchange),
-            Command::Fprd => self.by_station(frame, k, Access::Read),
-            Command::Fpwr => self.by_station(frame, k, Access::Write),
-            Command::Fprw => self.by_station(frame, k, Access::Exchange),
-            Command::Brd => self.by_all(frame, k, Access::Merge),
-            Command::Bwr => self.by_all(frame, k, Access::Write),
+        let command = frame.command(k);
+        self.serve(command, frame, k);
+        if command.counts_adp() {
+            count_up(frame, k);
+        }
+    }
+
+    /// Serves the datagram at `k`, whose command this is, where it addresses the controller; its address, and
+    /// all others, stay.
+    fn serve(&mut self, command: Command, frame: &mut FrameBuf, k: usize)
+        requires inside { k < length frame.old }
+        requires arrives { Arrives self.old (nth frame.old k) }
+        ensures { IsServed (effect command self.old (nth frame.old k).address
+            (length (nth frame.old k).payload)) k frame.old self.old frame.new self.new }
+    {
+        if self.is_addressed(command.addressing(), frame, k) {
+            self.carry_out(command, frame, k);
+        }
+    }
+
+    /// Does so where it addresses the controller.
+    fn carry_out(&mut self, command: Command, frame: &mut FrameBuf, k: usize)
+        requires inside { k < length frame.old }
+        requires arrives { Arrives self.old (nth frame.old k) }
+        requires addressed { is_addressed (addressing command) self.old (nth frame.old k).address ≡ true }
+        ensures { IsServed (effect command self.old (nth frame.old k).address
+            (length (nth frame.old k).payload)) k frame.old self.old frame.new self.new }
+    {
+        match command {
+            Command::Aprd | Command::Fprd => self.range_read(frame, k),
+            Command::Apwr | Command::Fpwr | Command::Bwr => self.range_write(frame, k),
+            Command::Aprw | Command::Fprw => self.range_exchange(frame, k),
+            Command::Brd => self.broadcast_read(frame, k),
             Command::Lrd => self.logical_read(frame, k),
             Command::Lwr => self.logical_write(frame, k),
             Command::Lrw => self.logical_exchange(frame, k),

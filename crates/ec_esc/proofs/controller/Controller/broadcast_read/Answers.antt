@@ -1,30 +1,24 @@
-use Rattle.std.proofs.Common.{◌≡◌, true, sym, ◌∙◌}
-use Rattle.ec_wire.specs.Datagram.{nth}
-use Rattle.ec_esc.specs.Stages.{broadcast_sources, serves_range_read}
-use Rattle.ec_esc.proofs.PhysicalLemmas.{filled_inside, physical_read-frame, physical_read-state}
+use Rattle.std.proofs.Common.{sym, ◌∙◌}
+use Rattle.ec_wire.specs.Datagram.{nth, ado}
+use Rattle.ec_esc.specs.Pass.{broadcast_sources}
+use Rattle.ec_esc.proofs.ServedLemmas.{filled_inside, IsServed-range_read, IsServed-unread}
 use Rattle.ec_esc.proofs.controller.Controller.broadcast_read.Goals as goal
 
 pub finish_read-requires-clause-inside : goal.finish_read-requires-clause-inside
 finish_read-requires-clause-inside c =
-    filled_inside (broadcast_sources c.args.self.now
-    (nth c.args.frame.now c.args.k)) c.args.self.now c.args.frame.now c.merge_data.new.frame c.args.k
-    c.requires
+    filled_inside (broadcast_sources c.args.self.now (ado (nth c.args.frame.now c.args.k))) c.args.self.now
+    c.args.frame.now c.merge_data.new.frame c.args.k c.requires.inside
     c.merge_data.ensures (c.serves_read.ensures.inside c.if-serves_read.true)
 
-pub returns-then-serves_read-clause-frame : goal.returns-then-serves_read-clause-frame
-returns-then-serves_read-clause-frame c =
-    let served : serves_range_read c.args.self.now (nth c.args.frame.now c.args.k)
-    ≡ true = sym c.serves_read.ensures.value ∙ c.if-serves_read.true in
-    physical_read-frame (broadcast_sources c.args.self.now
-    (nth c.args.frame.now c.args.k)) c.args.self.now c.args.frame.now c.merge_data.new.frame
-    c.finish_read.new.frame c.args.k c.requires
-    served c.merge_data.ensures c.finish_read.ensures.frame
+pub returns-then-serves_read : goal.returns-then-serves_read
+returns-then-serves_read c =
+    IsServed-range_read (broadcast_sources c.args.self.now (ado (nth c.args.frame.now c.args.k)))
+    c.args.self.now c.finish_read.new.self c.args.frame.now c.merge_data.new.frame c.finish_read.new.frame
+    c.args.k c.requires.inside c.requires.arrives (sym c.serves_read.ensures.value ∙ c.if-serves_read.true)
+    c.merge_data.ensures c.finish_read.ensures.frame c.finish_read.ensures.state
 
-pub returns-then-serves_read-clause-state : goal.returns-then-serves_read-clause-state
-returns-then-serves_read-clause-state c =
-    let served : serves_range_read c.args.self.now (nth c.args.frame.now c.args.k)
-    ≡ true = sym c.serves_read.ensures.value ∙ c.if-serves_read.true in
-    physical_read-state (broadcast_sources c.args.self.now
-    (nth c.args.frame.now c.args.k)) c.args.self.now c.finish_read.new.self c.args.frame.now
-    c.merge_data.new.frame c.args.k c.requires
-    served c.merge_data.ensures c.finish_read.ensures.state
+pub returns-else-serves_read : goal.returns-else-serves_read
+returns-else-serves_read c =
+    IsServed-unread (broadcast_sources c.args.self.now (ado (nth c.args.frame.now c.args.k)))
+    c.args.self.now c.args.frame.now c.args.k c.requires.arrives
+    (sym c.serves_read.ensures.value ∙ c.if-serves_read.false)

@@ -1,22 +1,32 @@
-use Rattle.std.proofs.Common.{◌+◌, ◌%◌, set, ◌∙◌, ap}
+use Rattle.std.proofs.Common.{◌≡◌, ◌+◌, ◌%◌, ℕ, List, length, set, sym, ◌∙◌, ap}
+use Rattle.ec_regs.specs.Bits.{with_bits}
 use Rattle.ec_wire.specs.Datagram.{DatagramRecord, nth}
-use Rattle.ec_esc.specs.Stages.{read_data}
-use Rattle.ec_esc.specs.Pass.{counter_after}
-use Rattle.ec_esc.proofs.PassLemmas.{filled_and_counted}
+use Rattle.ec_esc.specs.Pass.{Effect, mapped_read, mapped_write, written_by}
+use Rattle.ec_esc.proofs.ServedLemmas.{IsServed-both, raised_from, read_placed, read_by_mapped}
 use Rattle.ec_esc.proofs.controller.Controller.logical_exchange.Goals as goal
 
-pub returns-clause-frame : goal.returns-clause-frame
-returns-clause-frame c =
-    let came = c.args.frame.now in
+pub returns : goal.returns
+returns c =
+    let s = c.args.self.now in
+    let rs = c.args.frame.now in
     let k = c.args.k in
-    let d : DatagramRecord = nth came k in
-    filled_and_counted c.args.self.now came c.exchange_data-share.new.frame c.set_counter.new.self k _
-    c.requires c.exchange_data-share.ensures.frame c.set_counter.ensures
-    ∙ ap (λ m. set came k (record d {
-      payload = read_data c.args.self.now d;
-      counter = (m + c.exchange_data-share.result) % 65536;
-    })) c.counter-counter.ensures
-    ∙ ap (λ n. set came k (record d {
-      payload = read_data c.args.self.now d;
-      counter = counter_after d n;
-    })) c.exchange_data-share.ensures.share
+    let d : DatagramRecord = nth rs k in
+    let n = length d.payload in
+    let e : Effect = record { reading = mapped_read s d.address n; writing = mapped_write 2 s d.address n } in
+    let filled = c.exchange_data-share.new.frame in
+    let filled_is : filled ≡ set rs k (record d { payload = with_bits d.payload s.memory e.reading.places }) =
+    c.exchange_data-share.ensures.frame
+    ∙ ap (λ (p : List ℕ). set rs k (record d { payload = p })) (read_placed s d.address d.payload
+    c.requires.arrives.payload) in
+    let raised_is : c.set_counter.new.self ≡ set filled k (record (nth filled k) {
+      counter = (c.counter-counter.result + (e.reading.gain + e.writing.gain)) % 65536;
+    }) = c.set_counter.ensures
+    ∙ ap (λ (m : ℕ). set filled k (record (nth filled k) {
+      counter = (c.counter-counter.result + m) % 65536;
+    })) c.exchange_data-share.ensures.share in
+    IsServed-both e s c.exchange_data-share.new.self rs filled c.set_counter.new.self k c.requires.inside
+    filled_is
+    (raised_from e.reading.places (e.reading.gain + e.writing.gain) c.counter-counter.result s rs filled
+    c.set_counter.new.self k c.requires.inside filled_is c.counter-counter.ensures raised_is)
+    (c.exchange_data-share.ensures.state
+    ∙ sym (read_by_mapped s (written_by e.writing d.payload s) d.address n))

@@ -1,28 +1,29 @@
-use Rattle.std.proofs.Common.{◌≡◌, ◌<◌, false, set, sym, ◌∙◌, ap, arith}
-use Rattle.ec_wire.specs.Datagram.{DatagramRecord, blank, nth}
-use Rattle.ec_esc.specs.Stages.{if_served}
-use Rattle.ec_esc.specs.Stages.{serves_write}
-use Rattle.ec_esc.specs.Pass.{counter_after}
-use Rattle.ec_esc.proofs.PassLemmas.{counted_nothing, set_nth}
+use Rattle.std.proofs.Common.{◌+◌, ◌%◌, set, sym, ◌∙◌, ap}
+use Rattle.ec_wire.specs.Datagram.{nth}
+use Rattle.ec_esc.proofs.ServedLemmas.{mapped_as, serves_as, IsServed-mapped_write, IsServed-unwritten}
 use Rattle.ec_esc.proofs.controller.Controller.logical_write.Goals as goal
 
-pub returns-else-write_data-clause-frame : goal.returns-else-write_data-clause-frame
-returns-else-write_data-clause-frame c =
-    let came = c.args.frame.now in
+pub returns-then-write_data : goal.returns-then-write_data
+returns-then-write_data c =
+    let s = c.args.self.now in
+    let rs = c.args.frame.now in
     let k = c.args.k in
-    let d : DatagramRecord = nth came k in
-    let fits : d.counter < 65536 = omega (arith, c.counter-counter.type_inv, c.counter-counter.ensures) in
-    let none : serves_write c.args.self.now d ≡ false =
-    ap (λ a. serves_write c.args.self.now (record blank {
-      address = a;
-      payload = d.payload;
-    })) (sym c.address.ensures)
-    ∙ ap (λ ys. serves_write c.args.self.now (record blank {
-      address = c.address.result;
-      payload = ys;
-    })) (sym c.data.ensures.value)
-    ∙ sym c.write_data.ensures.served ∙ c.if-write_data.false
-    in
-    sym (ap (λ b. set came k (record d { counter = counter_after d (if_served b 1) })) none
-    ∙ ap (set came k) (counted_nothing d fits)
-    ∙ set_nth came k)
+    let served = serves_as s c.write_data.result c.address.result c.data.result.now (nth rs k)
+    c.address.ensures c.data.ensures.value c.write_data.ensures.served in
+    IsServed-mapped_write s c.write_data.new.self rs c.set_counter.new.self k c.requires.arrives
+    (sym served ∙ c.if-write_data.true)
+    (c.set_counter.ensures
+    ∙ ap (λ n. set rs k (record (nth rs k) { counter = (n + 1) % 65536 })) c.counter-counter.ensures)
+    (mapped_as 1 s c.write_data.new.self c.address.result c.data.result.now (nth rs k) c.address.ensures
+    c.data.ensures.value (c.write_data.ensures.state 1))
+
+pub returns-else-write_data : goal.returns-else-write_data
+returns-else-write_data c =
+    let s = c.args.self.now in
+    let rs = c.args.frame.now in
+    let k = c.args.k in
+    let served = serves_as s c.write_data.result c.address.result c.data.result.now (nth rs k)
+    c.address.ensures c.data.ensures.value c.write_data.ensures.served in
+    IsServed-unwritten s c.write_data.new.self rs k c.requires.arrives (sym served ∙ c.if-write_data.false)
+    (mapped_as 1 s c.write_data.new.self c.address.result c.data.result.now (nth rs k) c.address.ensures
+    c.data.ensures.value (c.write_data.ensures.state 1))

@@ -1,13 +1,16 @@
-use Rattle.std.proofs.Common.{◌≡◌, true, sym, ◌∙◌}
-use Rattle.ec_wire.specs.Datagram.{nth}
-use Rattle.ec_esc.specs.Stages.{serves_range_read}
-use Rattle.ec_esc.proofs.PhysicalLemmas.{physical_exchange-frame}
+use Rattle.std.proofs.Common.{sym, ◌∙◌}
+use Rattle.ec_esc.proofs.ServedLemmas.{IsServed-exchange, IsServed-taken}
 use Rattle.ec_esc.proofs.controller.Controller.served_exchange.Goals as goal
 
-pub returns-then-serves_read-clause-frame : goal.returns-then-serves_read-clause-frame
-returns-then-serves_read-clause-frame c =
-    let reads : serves_range_read c.args.self.now (nth c.args.frame.now c.args.k)
-    ≡ true = sym c.serves_read.ensures.value ∙ c.if-serves_read.true in
-    physical_exchange-frame c.args.self.now c.args.frame.now c.swap_data.new.frame
-    c.add_to_counter.new.frame c.args.k c.requires.at
-    c.requires.served reads c.swap_data.ensures.frame c.add_to_counter.ensures
+pub returns-then-serves_read : goal.returns-then-serves_read
+returns-then-serves_read c =
+    IsServed-exchange c.args.self.now c.swap_data.new.self c.args.frame.now c.swap_data.new.frame
+    c.add_to_counter.new.frame c.args.k c.requires.inside c.requires.served
+    (sym c.serves_read.ensures.value ∙ c.if-serves_read.true) c.swap_data.ensures.frame
+    c.add_to_counter.ensures (c.swap_data.ensures.state 2)
+
+pub returns-else-serves_read : goal.returns-else-serves_read
+returns-else-serves_read c =
+    IsServed-taken c.args.self.now c.take_data.new.self c.args.frame.now c.add_to_counter-else-serves_read.new.frame
+    c.args.k c.requires.arrives (sym c.serves_read.ensures.value ∙ c.if-serves_read.false)
+    c.add_to_counter-else-serves_read.ensures (c.take_data.ensures 2)

@@ -1,30 +1,26 @@
 use Rattle.std.proofs.Common.{◌≡◌, ℕ, List, length, ◌∙◌, ap, arith}
 use Rattle.ec_areas.specs.Records.{sync_managers_of}
+use Rattle.ec_regs.specs.declared.sync_man.SyncMan.{SyncMan}
+use Rattle.ec_esc.specs.Pass.{range_taken, written_by}
 use Rattle.ec_esc.specs.State.{ControllerState}
-use Rattle.ec_esc.proofs.PhysicalLemmas.{with_written, range_written_by}
+use Rattle.ec_esc.proofs.ServedLemmas.{range_state, written_range}
 use Rattle.ec_esc.proofs.controller.Controller.swap_range.Goals as goal
 
 pub returns-clause-state : goal.returns-clause-state
-returns-clause-state c d from_is payload_is =
-    let entry = c.args.self.now in
-    let memory_is : c.self.inside.memory ≡ entry.memory =
-    ap (λ (s : ControllerState). s.memory) c.self.view_is in
-    let before_is : c.arrived_records-before.result ≡ sync_managers_of entry.memory =
-    c.arrived_records-before.ensures.value ∙ ap (λ (m : List ℕ). sync_managers_of m) memory_is in
-    let after_is : c.swap_run.new.memory ≡ with_written entry.memory c.args.from c.args.payload.now =
-    c.swap_run.ensures.written ∙ ap (λ (m : List ℕ). with_written m c.args.from c.args.payload.now)
-    memory_is in
-    let start : List ℕ → ControllerState = λ m. record {
-      memory = m;
+returns-clause-state c n =
+    let came : ControllerState = record {
+      memory = c.self.inside.memory;
       shown = c.self.inside.shown.items;
       written = c.self.inside.written;
     } in
-    let start_is : start c.swap_run.new.memory
-    ≡ record entry { memory = with_written entry.memory c.args.from c.args.payload.now } =
-    ap start after_is ∙ ap (λ (s : ControllerState). record s {
-      memory = with_written entry.memory c.args.from c.args.payload.now;
-    }) c.self.view_is in
-    range_written_by entry (start c.swap_run.new.memory) c.finish_write.new.self
-    c.arrived_records-before.result c.args.from (length c.swap_run.new.payload)
-    c.args.payload.now d before_is start_is (omega arith)
-    (c.finish_write.ensures entry.memory before_is) from_is payload_is
+    let from = c.args.from in
+    let payload : List ℕ = c.args.payload.now in
+    let before_is = c.arrived_records-before.ensures.value in
+    let count_is : length c.swap_run.new.payload ≡ length payload = omega arith in
+    c.finish_write.ensures came.memory before_is
+    ∙ ap (λ (m : ℕ). range_state came c.arrived_records-before.result from m c.swap_run.new.memory) count_is
+    ∙ ap (λ (ms : List SyncMan). range_state came ms from (length payload) c.swap_run.new.memory) before_is
+    ∙ ap (range_state came (sync_managers_of came.memory) from (length payload)) c.swap_run.ensures.written
+    ∙ written_range came from payload n
+    ∙ ap (λ (s : ControllerState). written_by (range_taken n s from (length payload)) payload s)
+    c.self.view_is

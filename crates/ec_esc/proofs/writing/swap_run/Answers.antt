@@ -4,7 +4,7 @@ use Rattle.ec_areas.specs.Ranges.{takes_writes}
 use Rattle.ec_areas.proofs.RunLemmas.{copied_run, AreBytes-run}
 use Rattle.ec_esc.proofs.WrittenLemmas.{written_byte, written_none, written_more, written_length}
 use Rattle.ec_esc.proofs.WrittenLemmas.{written_run, written_waiting, among, among_behind}
-use Rattle.ec_esc.proofs.physical.swap_run.Goals as goal
+use Rattle.ec_esc.proofs.writing.swap_run.Goals as goal
 
 pub loop-place-init : goal.loop-place-init
 loop-place-init c = record {

@@ -9,8 +9,8 @@ use Rattle.ec_esc.specs.Writing.{is_switched}
 use Rattle.ec_areas.specs.Ranges.{status_address}
 use Rattle.ec_esc.proofs.SettledLemmas.{settled_to, settled_none, settled_more, settled_skip, settled_all}
 use Rattle.ec_esc.proofs.SettledLemmas.{switched_by_records}
-use Rattle.ec_esc.proofs.physical.settle.Goals as goal
-use Rattle.ec_esc.proofs.physical.settle.Goals.{then-is_switched, else-is_switched}
+use Rattle.ec_esc.proofs.writing.settle.Goals as goal
+use Rattle.ec_esc.proofs.writing.settle.Goals.{then-is_switched, else-is_switched}
 
 pub loop-number-init : goal.loop-number-init
 loop-number-init c = record { bytes = λ arrived _. settled_none arrived c.args.memory.now; size = refl }

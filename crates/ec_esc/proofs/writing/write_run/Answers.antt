@@ -2,7 +2,7 @@ use Rattle.std.proofs.Common.{◌≡◌, ℕ, ◌+◌, ◌<◌, length, get_or, 
 use Rattle.ec_areas.specs.Ranges.{takes_writes}
 use Rattle.ec_esc.proofs.WrittenLemmas.{written_byte, written_none, written_more, written_length}
 use Rattle.ec_esc.proofs.WrittenLemmas.{written_run, among, among_behind}
-use Rattle.ec_esc.proofs.physical.write_run.Goals as goal
+use Rattle.ec_esc.proofs.writing.write_run.Goals as goal
 
 pub loop-place-init : goal.loop-place-init
 loop-place-init c = record {

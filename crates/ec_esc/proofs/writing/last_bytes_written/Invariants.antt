@@ -5,7 +5,7 @@ use Rattle.std.proofs.Common.{Some}
 use Rattle.ec_areas.specs.Records.{sync_managers_of}
 use Rattle.ec_areas.specs.Ranges.{within, takes_writes}
 use Rattle.ec_areas.specs.Showing.{last_byte}
-use Rattle.ec_esc.proofs.physical.last_bytes_written.Given as goal
+use Rattle.ec_esc.proofs.writing.last_bytes_written.Given as goal
 
 -- of the areas before this one it is known whether their last byte is written
 abbrev pub invariant-loop-number : goal.invariant-loop-number

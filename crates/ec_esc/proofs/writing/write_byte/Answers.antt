@@ -3,7 +3,7 @@ use Rattle.std.proofs.lemmas.Bool.{false≢true}
 use Rattle.ec_areas.specs.Ranges.{takes_writes}
 use Rattle.ec_regs.specs.declared.registers.TheConstants.{AL_STATUS}
 use Rattle.ec_esc.proofs.PlannedLemmas.{status_takes_none}
-use Rattle.ec_esc.proofs.physical.write_byte.Goals as goal
+use Rattle.ec_esc.proofs.writing.write_byte.Goals as goal
 
 pub set_byte-requires-clause-apart : goal.set_byte-requires-clause-apart
 set_byte-requires-clause-apart c is_status =

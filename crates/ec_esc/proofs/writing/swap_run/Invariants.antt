@@ -2,7 +2,7 @@ use Rattle.std.proofs.Common.{◌≡◌, ◌+◌, ◌<◌, ◌≤◌, ℕ, lengt
 use Rattle.ec_regs.specs.Bits.{AreBytes}
 use Rattle.ec_areas.specs.Ranges.{takes_writes}
 use Rattle.ec_esc.proofs.WrittenLemmas.{written_byte, among}
-use Rattle.ec_esc.proofs.physical.swap_run.Given as goal
+use Rattle.ec_esc.proofs.writing.swap_run.Given as goal
 
 -- the bytes before the place are written and read, and the others wait
 abbrev pub invariant-loop-place : goal.invariant-loop-place

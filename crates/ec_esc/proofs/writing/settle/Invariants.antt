@@ -1,7 +1,7 @@
 use Rattle.std.proofs.Common.{◌≡◌, ℕ, List, length, get_or}
 use Rattle.ec_areas.specs.Records.{sync_managers_of}
 use Rattle.ec_esc.proofs.SettledLemmas.{settled_to}
-use Rattle.ec_esc.proofs.physical.settle.Given as goal
+use Rattle.ec_esc.proofs.writing.settle.Given as goal
 
 -- the sync managers before this one are settled
 abbrev pub invariant-loop-number : goal.invariant-loop-number

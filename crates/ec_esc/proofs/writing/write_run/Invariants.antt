@@ -1,7 +1,7 @@
 use Rattle.std.proofs.Common.{◌≡◌, ℕ, length, get_or}
 use Rattle.ec_areas.specs.Ranges.{takes_writes}
 use Rattle.ec_esc.proofs.WrittenLemmas.{written_byte, among}
-use Rattle.ec_esc.proofs.physical.write_run.Given as goal
+use Rattle.ec_esc.proofs.writing.write_run.Given as goal
 
 -- the bytes before the place are written
 abbrev pub invariant-loop-place : goal.invariant-loop-place

@@ -1,0 +1,37 @@
+//! Whom a datagram addresses: the controller that finds ADP 0, the one whose station address is the ADP, or
+//! all of them (IEC 61158-4-12, address modes).
+
+ghost use Rattle.std.specs.Prelude.{◌≡◌, ◌+◌, ◌*◌, ◌%◌, ◌<◌, length, slice_set};
+ghost use Rattle.ec_wire.specs.Datagram.{nth, adp, ado};
+ghost use Rattle.ec_esc.specs.Pass.{is_addressed};
+
+use crate::controller::Controller;
+use ec_wire::{Addressing, FrameBuf};
+
+/// Counts the ADP of the datagram at `k` up, modulo 65536; all else stays.
+pub(crate) fn count_up(frame: &mut FrameBuf, k: usize)
+    requires { k < length frame.old }
+    ensures { frame.new
+        ≡ slice_set frame.old k (record (nth frame.old k) {
+          address = (adp (nth frame.old k) + 1) % 65536 +
+              65536 * ado (nth frame.old k);
+        }) }
+{
+    let adp = frame.adp(k);
+    frame.set_adp(k, adp.wrapping_add(1));
+}
+
+impl Controller {
+    /// Does the datagram at `k`, whose command addresses so, address the controller?
+    pub(crate) fn is_addressed(&self, addressing: Addressing, frame: &FrameBuf, k: usize) -> bool
+        requires { k < length frame.now }
+        ensures { result ≡ is_addressed addressing self.now (nth frame.now k).address }
+    {
+        match addressing {
+            Addressing::Nobody => false,
+            Addressing::Place => frame.adp(k) == 0,
+            Addressing::Station => frame.adp(k) == self.station(),
+            Addressing::All | Addressing::Logical => true,
+        }
+    }
+}
