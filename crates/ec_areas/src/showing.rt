@@ -16,8 +16,8 @@ use ec_regs::{PlannedFmmu, PlannedSyncMan};
 /// How many bits a byte has.
 const BYTE: usize = 8;
 
-/// The address of the last byte of an area.
-fn last_byte(area: &PlannedSyncMan) -> u32
+/// The address of the last byte of an area that is not empty.
+pub fn last_byte(area: &PlannedSyncMan) -> u32
     ensures { result ≡ last_byte area.now }
 {
     (u32::from(area.start()) + u32::from(area.length())).saturating_sub(1)

@@ -1,6 +1,6 @@
 -- A datagram of a frame is served in steps, on its data, its counter and its address; what is served that
 -- does nothing; and what a write through FMMUs and one of a range leave.
-use Rattle.std.proofs.Common.{◌≡◌, ◌≢◌, ℕ, ◌+◌, ◌-◌, ◌*◌, ◌/◌, ◌%◌, ◌<◌, ◌≤◌, Bool, true, false, ◌&&◌}
+use Rattle.std.proofs.Common.{◌≡◌, ℕ, ◌+◌, ◌-◌, ◌*◌, ◌/◌, ◌%◌, ◌<◌, ◌≤◌, Bool, true, false, ◌&&◌}
 use Rattle.std.proofs.Common.{◌||◌, cond, List, length, set, Option, None, Some, sym, ◌∙◌, ap, subst, refl}
 use Rattle.std.proofs.Common.{arith, ⊎_elim}
 use Rattle.std.proofs.Math.Path.{fun_ext}

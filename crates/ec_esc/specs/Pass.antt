@@ -226,8 +226,8 @@ pub record Arrives (c : ControllerState) (d : DatagramRecord) : Type 0 where
 
 -- the datagram at k of a frame is served, its address aside: the frame and the controller, before and after
 pub record IsServed
-  (e : Effect) (k : ℕ) (before : List DatagramRecord) (c : ControllerState)
-  (after : List DatagramRecord) (left : ControllerState) : Type 0 where
+    (e : Effect) (k : ℕ) (before : List DatagramRecord) (c : ControllerState)
+    (after : List DatagramRecord) (left : ControllerState) : Type 0 where
   pub frame : after ≡ slice_set before k (served e c (nth before k))
   pub state : left ≡ state_after e c (nth before k).payload
 

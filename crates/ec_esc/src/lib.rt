@@ -42,10 +42,9 @@ mod planned;
 mod process;
 mod reading;
 mod showing;
-mod writing;
-
 #[cfg(test)]
 mod tests;
+mod writing;
 
 pub use application::{AreaFault, LONGEST_MAIL};
 pub use controller::Controller;

@@ -17,7 +17,7 @@ use crate::controller::Controller;
 use crate::mailbox::fill_mailbox;
 use crate::planned::PlannedMemory;
 use crate::process::are_bytes;
-use ec_areas::{filled_by, status_address, takes_writes, within};
+use ec_areas::{filled_by, last_byte, status_address, takes_writes, within};
 use ec_regs::PlannedSyncMan;
 use ec_regs::registers::AL_CONTROL;
 
@@ -118,8 +118,7 @@ fn last_byte_written(
     ensures { (arrived : List ℕ) → before.now ≡ sync_managers_of arrived → result
         ≡ is_written arrived from count (last_byte area.now) }
 {
-    let end = u32::from(area.start()) + u32::from(area.length());
-    let last = end.saturating_sub(1);
+    let last = last_byte(area);
     within(from, count, last) && takes_writes(before, last)
 }
 

@@ -1,4 +1,4 @@
-use Rattle.std.proofs.Common.{◌≡◌, true, false, length, refl, sym, ◌∙◌, subst, None}
+use Rattle.std.proofs.Common.{◌≡◌, true, length, refl, sym, ◌∙◌, subst, None}
 use Rattle.ec_wire.specs.Datagram.{DatagramRecord, nth}
 use Rattle.ec_esc.specs.Pass.{Half, where_served, only_reads, read_sources, serves_read, IsServed}
 use Rattle.ec_esc.proofs.ServedLemmas.{IsServed-read, IsServed-unmapped, raised_from}

@@ -1,4 +1,4 @@
-use Rattle.std.proofs.Common.{◌≡◌, true, false, length, sym, ◌∙◌, subst}
+use Rattle.std.proofs.Common.{true, length, sym, ◌∙◌, subst}
 use Rattle.ec_wire.specs.Datagram.{DatagramRecord, nth, ado}
 use Rattle.ec_esc.specs.Pass.{Half, where_served, range_sources, range_read, range_taken, IsServed}
 use Rattle.ec_esc.proofs.controller.Controller.range_exchange.Goals as goal

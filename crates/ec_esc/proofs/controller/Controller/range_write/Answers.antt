@@ -1,4 +1,4 @@
-use Rattle.std.proofs.Common.{sym, ◌∙◌, ap}
+use Rattle.std.proofs.Common.{sym, ◌∙◌}
 use Rattle.ec_esc.proofs.ServedLemmas.{IsServed-range_write, IsServed-untaken}
 use Rattle.ec_esc.proofs.controller.Controller.range_write.Goals as goal
 

@@ -1,7 +1,7 @@
-use Rattle.std.proofs.Common.{◌≡◌, ◌+◌, ℕ, Bool, List, length, set, sym, ◌∙◌, ap}
+use Rattle.std.proofs.Common.{◌≡◌, ℕ, List, length, set, sym, ◌∙◌, ap}
 use Rattle.ec_regs.specs.Bits.{with_bits}
 use Rattle.ec_wire.specs.Datagram.{DatagramRecord, nth}
-use Rattle.ec_esc.specs.Pass.{read_sources, serves_read, serves_write, mapped_write, written_by}
+use Rattle.ec_esc.specs.Pass.{read_sources, serves_read, mapped_write, written_by}
 use Rattle.ec_esc.specs.State.{ControllerState}
 use Rattle.ec_esc.proofs.ExchangeLemmas.{read_after, serves_after}
 use Rattle.ec_esc.proofs.ServedLemmas.{mapped_state, written_mapped, mapped_as, serves_as, shares}
