@@ -1,11 +1,14 @@
 //! What keeps a line from being mapped.
 
+use thiserror::Error;
+
 /// Why a line is refused: the rule that it breaks, and where. Slaves, FMMUs and sync managers are numbered
 /// from 0, and bits are 8 * byte address + bit. The variants stand in the order in which the rules are
 /// tested.
-#[derive(Clone, Copy, PartialEq, Eq, Debug)]
+#[derive(Clone, Copy, PartialEq, Eq, Debug, Error)]
 pub enum MapFault {
     /// Two slaves have one station address.
+    #[error("TwinStation slave {slave} slave {later_slave}")]
     TwinStation {
         /// The first of them.
         slave: usize,
@@ -14,6 +17,7 @@ pub enum MapFault {
     },
     /// An active FMMU has a type that is neither 1 (read) nor 2 (write), a bit field above 7, no bit, or a
     /// bit past the logical range or the memory.
+    #[error("BadFmmu slave {slave} fmmu {fmmu}")]
     BadFmmu {
         /// Its slave.
         slave: usize,
@@ -21,6 +25,7 @@ pub enum MapFault {
         fmmu: usize,
     },
     /// Two active areas of a slave share a byte.
+    #[error("AreasMeet slave {slave} sm {sync_manager} sm {later_sync_manager} address {address:#06x}")]
     AreasMeet {
         /// The slave.
         slave: usize,
@@ -32,6 +37,7 @@ pub enum MapFault {
         address: u16,
     },
     /// An FMMU does not lie in one area of its kind.
+    #[error("OutsideArea slave {slave} fmmu {fmmu} address {address:#06x}")]
     OutsideArea {
         /// Its slave.
         slave: usize,
@@ -41,6 +47,7 @@ pub enum MapFault {
         address: u16,
     },
     /// Two FMMUs of a slave write one physical bit.
+    #[error("TwiceWritten slave {slave} fmmu {fmmu} fmmu {later_fmmu} bit {bit}")]
     TwiceWritten {
         /// The slave.
         slave: usize,
@@ -52,6 +59,7 @@ pub enum MapFault {
         bit: u64,
     },
     /// Two FMMUs of the line read one logical bit.
+    #[error("TwiceRead slave {slave} fmmu {fmmu} slave {later_slave} fmmu {later_fmmu} bit {bit}")]
     TwiceRead {
         /// The slave of the first FMMU.
         slave: usize,
@@ -65,6 +73,7 @@ pub enum MapFault {
         bit: u64,
     },
     /// A logical bit is read from one slave and written to another.
+    #[error("ReadAndWritten slave {reader} fmmu {reader_fmmu} slave {writer} fmmu {writer_fmmu} bit {bit}")]
     ReadAndWritten {
         /// The slave that it is read from.
         reader: usize,

@@ -110,7 +110,7 @@ pub fn report<W: Write, V: Write>(failure: &Failure, out: &mut W, err: &mut V) -
 }
 
 /// Writes a line to `err`; a fault of that is passed over.
-fn failed<V: Write>(err: &mut V, line: &[u8]) -> u8 {
+pub fn failed<V: Write>(err: &mut V, line: &[u8]) -> u8 {
     let _ = err.write_all(line);
     FAILED
 }

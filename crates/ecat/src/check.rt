@@ -48,62 +48,7 @@ pub fn refuse<W: Write>(
 
 /// Prints why a line is refused.
 fn print_map_fault<W: Write>(fault: &MapFault, lines: &mut Lines<'_, W>) -> io::Result<()> {
-    match *fault {
-        MapFault::TwinStation { slave, later_slave } => lines.text(format_args!(
-            "refused: TwinStation slave {slave} slave {later_slave}"
-        ))?,
-        MapFault::BadFmmu { slave, fmmu } => {
-            lines.text(format_args!("refused: BadFmmu slave {slave} fmmu {fmmu}"))?
-        }
-        MapFault::AreasMeet {
-            slave,
-            sync_manager,
-            later_sync_manager,
-            address,
-        } => {
-            lines.text(format_args!("refused: AreasMeet slave {slave} "))?;
-            lines.text(format_args!("sm {sync_manager} sm {later_sync_manager} "))?;
-            lines.text(format_args!("address {address:#06x}"))?
-        }
-        MapFault::OutsideArea {
-            slave,
-            fmmu,
-            address,
-        } => {
-            lines.text(format_args!("refused: OutsideArea slave {slave} fmmu {fmmu} "))?;
-            lines.text(format_args!("address {address:#06x}"))?
-        }
-        MapFault::TwiceWritten {
-            slave,
-            fmmu,
-            later_fmmu,
-            bit,
-        } => {
-            lines.text(format_args!("refused: TwiceWritten slave {slave} "))?;
-            lines.text(format_args!("fmmu {fmmu} fmmu {later_fmmu} bit {bit}"))?
-        }
-        MapFault::TwiceRead {
-            slave,
-            fmmu,
-            later_slave,
-            later_fmmu,
-            bit,
-        } => {
-            lines.text(format_args!("refused: TwiceRead slave {slave} fmmu {fmmu} "))?;
-            lines.text(format_args!("slave {later_slave} fmmu {later_fmmu} bit {bit}"))?
-        }
-        MapFault::ReadAndWritten {
-            reader,
-            reader_fmmu,
-            writer,
-            writer_fmmu,
-            bit,
-        } => {
-            lines.text(format_args!("refused: ReadAndWritten "))?;
-            lines.text(format_args!("slave {reader} fmmu {reader_fmmu} "))?;
-            lines.text(format_args!("slave {writer} fmmu {writer_fmmu} bit {bit}"))?
-        }
-    }
+    lines.text(format_args!("refused: {fault}"))?;
     lines.end()
 }
 
@@ -113,15 +58,10 @@ fn print_place_fault<W: Write>(
     fault: &PlaceFault,
     lines: &mut Lines<'_, W>,
 ) -> io::Result<()> {
-    match *fault {
-        PlaceFault::OutsideRead { slave, address } => {
-            lines.text(format_args!("refused: OutsideRead item {number} "))?;
-            lines.text(format_args!("slave {slave} address {address:#06x}"))?
-        }
-        PlaceFault::OutsideWrite { slave, address } => {
-            lines.text(format_args!("refused: OutsideWrite item {number} "))?;
-            lines.text(format_args!("slave {slave} address {address:#06x}"))?
-        }
-    }
+    let (name, slave, address) = match *fault {
+        PlaceFault::OutsideRead { slave, address } => ("OutsideRead", slave, address),
+        PlaceFault::OutsideWrite { slave, address } => ("OutsideWrite", slave, address),
+    };
+    lines.text(format_args!("refused: {name} item {number} slave {slave} address {address:#06x}"))?;
     lines.end()
 }

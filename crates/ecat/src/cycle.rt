@@ -1,12 +1,11 @@
 //! The cycle of a scene: its items go over the ring, and what they bring back is printed.
 
-ghost use Rattle.std.specs.Prelude.{◌≡◌, map};
+ghost use Rattle.std.specs.Prelude.{◌≡◌, length, map, take};
 ghost use Rattle.ec_check.specs.Line.{controllers};
 ghost use Rattle.ec_map.specs.Share.{expected_of};
 
 use crate::act::{Failure, GOOD, REFUSED};
 use crate::print::Lines;
-use arrayvec::ArrayVec;
 use ec_app::Slave;
 use ec_map::{Item, Kind, expected};
 use ec_master::{MAX_ITEMS, Verdict, Work, ring_cycle, weather_cycle};
@@ -33,24 +32,25 @@ pub fn cycle<W: Write>(
     lines: &mut Lines<'_, W>,
 ) -> io::Result<u8> {
     let expected = all_expected(ring.slaves(), work);
+    let count = work.len();
     let mut status = GOOD;
     if weathers.is_empty() {
         ring_cycle(ring, work);
     } else {
-        let verdict = weather_cycle(ring, weathers, expected.as_slice(), work);
+        let verdict = weather_cycle(ring, weathers, &expected[..count], work);
         status = print_verdict(verdict, lines)?;
     }
-    print_items(work, expected.as_slice(), lines)?;
+    print_items(work, &expected, lines)?;
     Ok(status)
 }
 
-/// What the line adds to the working counter of each item.
-pub fn all_expected(line: &[Slave], work: &Work) -> ArrayVec<u16, MAX_ITEMS>
-    ensures { result.items ≡ map (expected_of (controllers line.now)) work.now }
+/// What the line adds to the working counter of each item, by the item's number; 0 where a work has no item.
+pub fn all_expected(line: &[Slave], work: &Work) -> [u16; MAX_ITEMS]
+    ensures { take (length work.now) result ≡ map (expected_of (controllers line.now)) work.now }
 {
-    let mut all = ArrayVec::new();
+    let mut all = [0; MAX_ITEMS];
     for k in 0..work.len() {
-        all.push(expected(line, work.item(k)));
+        all[k] = expected(line, work.item(k));
     }
     all
 }
@@ -78,10 +78,10 @@ pub fn print_verdict<W: Write>(verdict: Verdict, lines: &mut Lines<'_, W>) -> io
 /// Prints a line for each item of the work, with what was expected of its working counter.
 pub fn print_items<W: Write>(
     work: &Work,
-    expected: &[u16],
+    expected: &[u16; MAX_ITEMS],
     lines: &mut Lines<'_, W>,
 ) -> io::Result<()> {
-    for k in 0..work.len().min(expected.len()) {
+    for k in 0..work.len() {
         print_item(k, work.item(k), expected[k], lines)?;
     }
     Ok(())

@@ -22,6 +22,15 @@ pub fn scene_of<S: Source>(alloc: Global, source: &mut S) -> Result<Scene, Failu
     }
 }
 
+/// Reads the scene of a source for a line that packets reach, which can have no actions and no weathers.
+pub fn scene_for_packets<S: Source>(alloc: Global, source: &mut S) -> Result<Scene, Failure> {
+    let scene = scene_of(alloc, source)?;
+    if !scene.actions.is_empty() || !scene.weathers.is_empty() {
+        return Err(Failure::Actions);
+    }
+    Ok(scene)
+}
+
 /// Sets up a controller, line by line.
 fn set_up(controller: &mut Controller, settings: &[Setting]) {
     for setting in settings {

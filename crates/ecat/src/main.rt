@@ -18,7 +18,7 @@ mod slave_rows;
 mod udp;
 mod vectors;
 
-use act::act;
+use act::{act, failed};
 use ecat_args::{Args, ArgsFault};
 use ecat_serve::{BindFault, UdpEnds};
 use ecat_source::{Bytes, Counted, Source};
@@ -32,9 +32,6 @@ use udp::act_udp;
 
 /// The words of the command line are no command.
 const BAD_ARGUMENTS: u8 = 2;
-
-/// A file, the output or memory failed.
-const FAILED: u8 = 3;
 
 fn main(rt: HostRuntime) -> ExitCode {
     ExitCode::from(start(&rt, rt.stdin(), &mut rt.stdout(), &mut rt.stderr()))
@@ -93,13 +90,13 @@ where
         Args::Vectors => return act(rt.alloc(), args, &mut Bytes::new(b""), out, err),
     };
     let Ok(file) = fs::open(rt, path) else {
-        return failed(b"file: Open\n", err);
+        return failed(err, b"file: Open\n");
     };
     let mut source = Counted::new(file);
     match args {
         Args::Udp { port, .. } => match UdpLine::bind(rt, *port) {
             Ok(line) => act_udp(rt.alloc(), &mut source, line, out, err),
-            Err(_) => failed(b"socket: Bind\n", err),
+            Err(_) => failed(err, b"socket: Bind\n"),
         },
         Args::Serve { port, packets, .. } => {
             let service = Service {
@@ -134,19 +131,13 @@ where
     };
     match UdpEnds::bind(rt, rt.alloc(), service.port, awaited) {
         Ok(mut ends) => act_serve(rt.alloc(), source, service, &mut ends, out, err),
-        Err(BindFault::NoMemory) => failed(b"socket: NoMemory\n", err),
-        Err(_) => failed(b"socket: Bind\n", err),
+        Err(BindFault::NoMemory) => failed(err, b"socket: NoMemory\n"),
+        Err(_) => failed(err, b"socket: Bind\n"),
     }
 }
 
-/// Writes the line of what failed.
-fn failed<V: io::Write>(line: &[u8], err: &mut V) -> u8 {
-    let _ = err.write_all(line);
-    FAILED
-}
-
 fn no_memory<V: io::Write>(err: &mut V) -> u8 {
-    failed(b"arguments: NoMemory\n", err)
+    failed(err, b"arguments: NoMemory\n")
 }
 
 fn bad_arguments<V: io::Write>(err: &mut V) -> u8 {

@@ -7,11 +7,15 @@ use crate::cycle::{cycle, work_of};
 use crate::line::{ring_of, scene_of, weathers_of};
 use crate::print::Lines;
 use ec_app::Slave;
+use ec_regs::registers::SYNC_MANAGER_COUNT;
 use ec_ring::Ring;
 use ecat_scene::Action;
 use ecat_source::Source;
 use std::alloc::Global;
 use std::io::{self, Write};
+
+/// How many sync managers a slave has.
+const SYNC_MANAGERS: usize = SYNC_MANAGER_COUNT as usize;
 
 /// Runs the scene that the source holds: its frames and steps in their order; if it has items, one cycle of
 /// them, where the line as it then is and the items are accepted; then a line for each active buffered area
@@ -67,7 +71,7 @@ fn act_on<W: Write>(
 /// The line of each active buffered area of a slave that the master writes.
 fn areas<W: Write>(number: usize, slave: &Slave, lines: &mut Lines<'_, W>) -> io::Result<()> {
     let controller = slave.controller();
-    for index in 0..8usize {
+    for index in 0..SYNC_MANAGERS {
         let manager = controller.syncman(index);
         if manager.guards_outputs() {
             lines.text(format_args!("slave {number} sm {index} open "))?;

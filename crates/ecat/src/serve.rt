@@ -1,7 +1,7 @@
 //! `ecat serve`: the line of a scene, for a master that somebody else wrote.
 
 use crate::act::{Failure, GOOD, report};
-use crate::line::{ring_of, scene_of};
+use crate::line::{ring_of, scene_for_packets};
 use crate::print::Lines;
 use crate::run::print_areas;
 use ec_master::PortFault;
@@ -61,10 +61,7 @@ where
     E: Ends,
     W: Write,
 {
-    let scene = scene_of(alloc, source)?;
-    if !scene.actions.is_empty() || !scene.weathers.is_empty() {
-        return Err(Failure::Actions);
-    }
+    let scene = scene_for_packets(alloc, source)?;
     let ring = ring_of(alloc, scene.slaves, scene.links_down.as_slice())?;
     let mut served = Served::new(ring);
     let mut lines = Lines::new(out);

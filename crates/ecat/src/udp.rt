@@ -5,7 +5,7 @@ ghost use Rattle.std.specs.Prelude.{◌≡◌, length};
 use crate::act::{Failure, GOOD, REFUSED, report};
 use crate::check::refuse;
 use crate::cycle::{all_expected, print_items, print_verdict, work_of};
-use crate::line::{ring_of, scene_of};
+use crate::line::{ring_of, scene_for_packets};
 use crate::print::Lines;
 use crate::run::print_areas;
 use ec_master::{CycleFault, Work, run_cycle};
@@ -46,10 +46,7 @@ where
     L: PacketLine + Drop,
     W: Write,
 {
-    let scene = scene_of(alloc, source)?;
-    if !scene.actions.is_empty() || !scene.weathers.is_empty() {
-        return Err(Failure::Actions);
-    }
+    let scene = scene_for_packets(alloc, source)?;
     let ring = ring_of(alloc, scene.slaves, scene.links_down.as_slice())?;
     let mut ports = UdpPorts::new(ring, line);
     let mut lines = Lines::new(out);
@@ -72,8 +69,9 @@ fn cycle<L: PacketLine + Drop, W: Write>(
     lines: &mut Lines<'_, W>,
 ) -> Result<u8, Failure> {
     let expected = all_expected(ports.ring().slaves(), work);
-    let verdict = run_cycle(ports, work, expected.as_slice())?;
+    let count = work.len();
+    let verdict = run_cycle(ports, work, &expected[..count])?;
     let status = print_verdict(verdict, lines)?;
-    print_items(work, expected.as_slice(), lines)?;
+    print_items(work, &expected, lines)?;
     Ok(status)
 }

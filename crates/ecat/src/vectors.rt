@@ -54,13 +54,17 @@ pub fn vectors<W: Write>(alloc: Global, out: &mut W) -> Result<u8, Failure> {
         (25, an_error_stands_until_acknowledged(alloc)?),
         (26, states_are_refused_with_their_codes(alloc)?),
     ];
-    let mut lines = Lines::new(out);
+    print_rows(&rows, &mut Lines::new(out))
+}
+
+/// Prints a line for each row, by its number, and answers the status.
+fn print_rows<W: Write>(rows: &[(u32, bool)], lines: &mut Lines<'_, W>) -> Result<u8, Failure> {
     let mut status = GOOD;
     for (number, good) in rows {
-        let word = if good { "ok" } else { "wrong" };
+        let word = if *good { "ok" } else { "wrong" };
         lines.text(format_args!("row {number} {word}"))?;
         lines.end()?;
-        if !good {
+        if !*good {
             status = REFUSED;
         }
     }

@@ -7,7 +7,11 @@ use crate::reader::Reader;
 use crate::scene::{FmmuSetting, Load, MAX_SLAVES, SceneSlave, Setting, SyncManSetting};
 use bitflags::Flags;
 use ec_app::{ObjectFault, Objects, Rights, Value};
-use ec_regs::{AlState, Fmmu, SyncMan, SyncManControl};
+use ec_regs::registers::{MEMORY_SIZE, PROCESS_MEMORY};
+use ec_regs::{AlState, Fmmu, FmmuType, SyncMan, SyncManControl};
+
+/// The first address behind the memory.
+const MEMORY_END: usize = MEMORY_SIZE as usize;
 
 impl Reader {
     /// `slave STATION`
@@ -123,7 +127,7 @@ impl Reader {
             stop: byte(stop)?,
             physical: word(physical)?,
             bit: byte(bit)?,
-            kind,
+            kind: kind.bits(),
             activate: 1,
             reserved: [0; 3],
         };
@@ -142,7 +146,7 @@ impl Reader {
         test_bytes(row)?;
         let address = word(address)?;
         let bytes = bytes(self.alloc, row)?;
-        if address < 0x1000 || usize::from(address) + bytes.len() > 0x3000 {
+        if address < PROCESS_MEMORY || usize::from(address) + bytes.len() > MEMORY_END {
             return Err(Stop::Fault(LineFault::OutOfRange));
         }
         let setting = Setting::Load(Load { address, bytes });
@@ -183,12 +187,12 @@ fn control_of(kind: &[u8]) -> Result<SyncManControl, LineFault> {
     }
 }
 
-/// The type byte of an FMMU.
-fn type_of(kind: &[u8]) -> Result<u8, LineFault> {
+/// What the master does through an FMMU.
+fn type_of(kind: &[u8]) -> Result<FmmuType, LineFault> {
     match kind {
-        b"read" => Ok(1),
-        b"write" => Ok(2),
-        b"both" => Ok(3),
+        b"read" => Ok(FmmuType::READ),
+        b"write" => Ok(FmmuType::WRITE),
+        b"both" => Ok(FmmuType::READ.union(FmmuType::WRITE)),
         _ => Err(LineFault::BadNumber),
     }
 }

@@ -8,6 +8,9 @@ use ec_map::{Item, Kind};
 use ec_wire::{Form, FrameBuf};
 use std::alloc::Global;
 
+/// Where the ADO stands in the address of an addressed item, above the station, in bits.
+const ADO_AT: u32 = 16;
+
 /// What a weather line says of lost copies.
 #[derive(Clone, Copy)]
 struct Losses {
@@ -96,7 +99,7 @@ impl Reader {
         test_bytes(row)?;
         let station = word(station)?;
         let address = word(address)?;
-        self.add_item(kind, u32::from(address) << 16 | u32::from(station), row)
+        self.add_item(kind, u32::from(address) << ADO_AT | u32::from(station), row)
     }
 
     /// Adds an item of these data if there is one.
