@@ -6,4 +6,5 @@ mod mail_answers;
 mod mail_layout;
 mod mailboxes;
 mod master;
+mod objects;
 mod sdo_layout;

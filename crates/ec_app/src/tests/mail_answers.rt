@@ -1,8 +1,9 @@
 //! What a slave answers to a good mail, row by row: each row met, and the row before it just missed.
 
-use crate::tests::master::{answered, mailing_slave};
-use crate::{ObjectFault, Objects, Rights, Value};
-use std::test::Fail;
+use crate::tests::master::{assert_answered, assert_object, assert_same, mailing_slave};
+use crate::{ObjectFault, Objects, Rights, Slave, Value};
+use std::alloc::Global;
+use std::process::Abort;
 
 /// 0x1018:01, which may be read, 0x2000:00 and 0x2000:01, which may be read and written, and 0x2001:00, which
 /// may be written.
@@ -23,24 +24,33 @@ fn are_unchanged(held: &Objects) -> bool {
         && held.get(0x2001, 0) == Some((Rights::WriteOnly, Value::Four(7)))
 }
 
+/// A slave in Pre-Op with both mailboxes and these objects.
+fn slave(rt: &impl Abort, alloc: Global) -> Slave {
+    mailing_slave(rt, alloc, objects().ok().expect(rt, "objects"))
+}
+
 /// A mail of counter 1 with this SDO, a request (0x20) or a response (0x30).
 fn mail(service: u8, sdo: [u8; 8]) -> [u8; 16] {
     let [a, b, c, d, e, f, g, h] = sdo;
     [0x0A, 0, 0, 0, 0, 0x13, 0, service, a, b, c, d, e, f, g, h]
 }
 
+/// Asserts that this is the answer of such a slave to a mail, and that the objects hold what they held.
+fn assert_kept(rt: &impl Abort, alloc: Global, mail: &[u8; 16], wanted: Option<[u8; 16]>) {
+    let mut slave = slave(rt, alloc);
+    assert_answered(rt, &mut slave, mail, wanted);
+    assert!(rt; are_unchanged(slave.objects()), "mail {mail:?}");
+}
+
 #[test]
-fn response_and_abort_have_no_answer(rt: HostRuntime) -> Result<(), Fail> {
+fn response_and_abort_have_no_answer(rt: HostRuntime) {
     for (service, sdo) in [
         (0x30, [0x40, 0x18, 0x10, 0x01, 0, 0, 0, 0]),
         (0x30, [0x2B, 0x00, 0x20, 0x00, 0x34, 0x12, 0, 0]),
         (0x20, [0x80, 0x18, 0x10, 0x01, 0, 0, 0x02, 0x06]),
     ] {
-        let mut slave = mailing_slave(&rt, rt.alloc(), objects()?);
-        assert_eq!(rt; answered(&rt, &mut slave, &mail(service, sdo)), None);
-        assert!(rt; are_unchanged(slave.objects()));
+        assert_kept(&rt, rt.alloc(), &mail(service, sdo), None);
     }
-    Ok(())
 }
 
 /// Requests, and the codes of the aborts that refuse them: in each the row before its own just misses.
@@ -66,23 +76,17 @@ const REFUSED: [([u8; 8], u32); 12] = [
 ];
 
 #[test]
-fn refused_request_has_an_abort_and_changes_nothing(rt: HostRuntime) -> Result<(), Fail> {
+fn refused_request_has_an_abort_and_changes_nothing(rt: HostRuntime) {
     for (request, code) in REFUSED {
-        let mut slave = mailing_slave(&rt, rt.alloc(), objects()?);
         let [_, low, high, sub, ..] = request;
         let [a, b, c, d] = code.to_le_bytes();
-        assert_eq!(rt;
-            answered(&rt, &mut slave, &mail(0x20, request)),
-            Some(mail(0x20, [0x80, low, high, sub, a, b, c, d])),
-            "{request:?}"
-        );
-        assert!(rt; are_unchanged(slave.objects()), "{request:?}");
+        let abort = mail(0x20, [0x80, low, high, sub, a, b, c, d]);
+        assert_kept(&rt, rt.alloc(), &mail(0x20, request), Some(abort));
     }
-    Ok(())
 }
 
 #[test]
-fn upload_has_the_value_as_its_answer_and_changes_nothing(rt: HostRuntime) -> Result<(), Fail> {
+fn upload_has_the_value_as_its_answer_and_changes_nothing(rt: HostRuntime) {
     for (request, answer) in [
         (
             [0x40, 0x18, 0x10, 0x01, 0, 0, 0, 0],
@@ -97,19 +101,18 @@ fn upload_has_the_value_as_its_answer_and_changes_nothing(rt: HostRuntime) -> Re
             [0x4F, 0x00, 0x20, 0x01, 0x9A, 0, 0, 0],
         ),
     ] {
-        let mut slave = mailing_slave(&rt, rt.alloc(), objects()?);
-        assert_eq!(rt;
-            answered(&rt, &mut slave, &mail(0x20, request)),
-            Some(mail(0x30, answer))
+        assert_kept(
+            &rt,
+            rt.alloc(),
+            &mail(0x20, request),
+            Some(mail(0x30, answer)),
         );
-        assert!(rt; are_unchanged(slave.objects()));
     }
-    Ok(())
 }
 
 #[test]
-fn download_changes_the_object_that_it_names(rt: HostRuntime) -> Result<(), Fail> {
-    let mut slave = mailing_slave(&rt, rt.alloc(), objects()?);
+fn download_changes_the_object_that_it_names(rt: HostRuntime) {
+    let mut slave = slave(&rt, rt.alloc());
     let download = [
         0x0A, 0x00, 0x00, 0x00, 0x00, 0x13, 0x00, 0x20, 0x2B, 0x00, 0x20, 0x00, 0x34, 0x12, 0x00,
         0x00,
@@ -118,28 +121,22 @@ fn download_changes_the_object_that_it_names(rt: HostRuntime) -> Result<(), Fail
         0x0A, 0x00, 0x00, 0x00, 0x00, 0x13, 0x00, 0x30, 0x60, 0x00, 0x20, 0x00, 0x00, 0x00, 0x00,
         0x00,
     ];
-    assert_eq!(rt; answered(&rt, &mut slave, &download), Some(answer));
-    let held = slave.objects();
-    assert_eq!(rt; held.count(), 4);
-    assert_eq!(rt;
-        held.get(0x1018, 1),
-        Some((Rights::ReadOnly, Value::Four(2)))
+    assert_answered(&rt, &mut slave, &download, Some(answer));
+    assert_same(&rt, slave.objects().count(), 4);
+    assert_object(&rt, &slave, (0x1018, 1), (Rights::ReadOnly, Value::Four(2)));
+    assert_object(&rt, &slave, (0x2000, 0), (Rights::Both, Value::Two(0x1234)));
+    assert_object(&rt, &slave, (0x2000, 1), (Rights::Both, Value::One(0x9A)));
+    assert_object(
+        &rt,
+        &slave,
+        (0x2001, 0),
+        (Rights::WriteOnly, Value::Four(7)),
     );
-    assert_eq!(rt;
-        held.get(0x2000, 0),
-        Some((Rights::Both, Value::Two(0x1234)))
-    );
-    assert_eq!(rt; held.get(0x2000, 1), Some((Rights::Both, Value::One(0x9A))));
-    assert_eq!(rt;
-        held.get(0x2001, 0),
-        Some((Rights::WriteOnly, Value::Four(7)))
-    );
-    Ok(())
 }
 
 #[test]
-fn write_only_object_takes_a_download(rt: HostRuntime) -> Result<(), Fail> {
-    let mut slave = mailing_slave(&rt, rt.alloc(), objects()?);
+fn write_only_object_takes_a_download(rt: HostRuntime) {
+    let mut slave = slave(&rt, rt.alloc());
     let download = [
         0x0A, 0x00, 0x00, 0x00, 0x00, 0x13, 0x00, 0x20, 0x23, 0x01, 0x20, 0x00, 0x04, 0x03, 0x02,
         0x01,
@@ -148,17 +145,18 @@ fn write_only_object_takes_a_download(rt: HostRuntime) -> Result<(), Fail> {
         0x0A, 0x00, 0x00, 0x00, 0x00, 0x13, 0x00, 0x30, 0x60, 0x01, 0x20, 0x00, 0x00, 0x00, 0x00,
         0x00,
     ];
-    assert_eq!(rt; answered(&rt, &mut slave, &download), Some(answer));
-    assert_eq!(rt;
-        slave.objects().get(0x2001, 0),
-        Some((Rights::WriteOnly, Value::Four(0x0102_0304)))
+    assert_answered(&rt, &mut slave, &download, Some(answer));
+    assert_object(
+        &rt,
+        &slave,
+        (0x2001, 0),
+        (Rights::WriteOnly, Value::Four(0x0102_0304)),
     );
-    Ok(())
 }
 
 #[test]
-fn answer_has_the_counter_alone_of_the_headers_of_its_mail(rt: HostRuntime) -> Result<(), Fail> {
-    let mut slave = mailing_slave(&rt, rt.alloc(), objects()?);
+fn answer_has_the_counter_alone_of_the_headers_of_its_mail(rt: HostRuntime) {
+    let mut slave = slave(&rt, rt.alloc());
     let upload = [
         0x0A, 0x00, 0x34, 0x12, 0x85, 0x73, 0x67, 0x21, 0x40, 0x00, 0x20, 0x01, 0x00, 0x00, 0x00,
         0x00,
@@ -167,6 +165,5 @@ fn answer_has_the_counter_alone_of_the_headers_of_its_mail(rt: HostRuntime) -> R
         0x0A, 0x00, 0x00, 0x00, 0x00, 0x73, 0x00, 0x30, 0x4F, 0x00, 0x20, 0x01, 0x9A, 0x00, 0x00,
         0x00,
     ];
-    assert_eq!(rt; answered(&rt, &mut slave, &upload), Some(answer));
-    Ok(())
+    assert_answered(&rt, &mut slave, &upload, Some(answer));
 }

@@ -4,6 +4,7 @@ ghost use Rattle.std.specs.Prelude.{◌≡◌};
 
 use crate::mail::{Mail, REQUEST, RESPONSE};
 use crate::sdo::Sdo;
+use crate::tests::master::assert_same;
 use crate::value::Value;
 use std::test::Fail;
 
@@ -29,7 +30,7 @@ fn mail(service: u8, counter: u8, sdo: Sdo) -> Mail
 }
 
 #[test]
-fn request_is_spelt_header_by_header(rt: HostRuntime) -> Result<(), Fail> {
+fn request_is_spelt_header_by_header(rt: HostRuntime) {
     let upload = mail(
         REQUEST,
         1,
@@ -38,13 +39,12 @@ fn request_is_spelt_header_by_header(rt: HostRuntime) -> Result<(), Fail> {
             sub: 1,
         },
     );
-    assert_eq!(rt; upload.write(), UPLOAD);
-    assert_eq!(rt; Mail::read(&UPLOAD)?, upload);
-    Ok(())
+    assert_same(&rt, upload.write(), UPLOAD);
+    assert_same(&rt, Mail::read(&UPLOAD), Ok(upload));
 }
 
 #[test]
-fn response_differs_by_its_service(rt: HostRuntime) -> Result<(), Fail> {
+fn response_differs_by_its_service(rt: HostRuntime) {
     let answer = mail(
         RESPONSE,
         1,
@@ -58,13 +58,12 @@ fn response_differs_by_its_service(rt: HostRuntime) -> Result<(), Fail> {
         0x0A, 0x00, 0x00, 0x00, 0x00, 0x13, 0x00, 0x30, 0x43, 0x18, 0x10, 0x01, 0x02, 0x00, 0x00,
         0x00,
     ];
-    assert_eq!(rt; answer.write(), answered);
-    assert_eq!(rt; Mail::read(&answered)?, answer);
-    Ok(())
+    assert_same(&rt, answer.write(), answered);
+    assert_same(&rt, Mail::read(&answered), Ok(answer));
 }
 
 #[test]
-fn abort_carries_its_counter(rt: HostRuntime) -> Result<(), Fail> {
+fn abort_carries_its_counter(rt: HostRuntime) {
     let abort = mail(
         REQUEST,
         2,
@@ -78,13 +77,12 @@ fn abort_carries_its_counter(rt: HostRuntime) -> Result<(), Fail> {
         0x0A, 0x00, 0x00, 0x00, 0x00, 0x23, 0x00, 0x20, 0x80, 0x00, 0x20, 0x00, 0x00, 0x00, 0x02,
         0x06,
     ];
-    assert_eq!(rt; abort.write(), aborted);
-    assert_eq!(rt; Mail::read(&aborted)?, abort);
-    Ok(())
+    assert_same(&rt, abort.write(), aborted);
+    assert_same(&rt, Mail::read(&aborted), Ok(abort));
 }
 
 #[test]
-fn bytes_after_a_mail_are_padding(rt: HostRuntime) -> Result<(), Fail> {
+fn bytes_after_a_mail_are_padding(rt: HostRuntime) {
     let padded = [
         0x0A, 0x00, 0x00, 0x00, 0x00, 0x13, 0x00, 0x20, 0x2B, 0x00, 0x20, 0x00, 0x34, 0x12, 0x00,
         0x00, 0xFF, 0x01, 0x02,
@@ -98,9 +96,8 @@ fn bytes_after_a_mail_are_padding(rt: HostRuntime) -> Result<(), Fail> {
             value: Value::Two(0x1234),
         },
     );
-    assert_eq!(rt; Mail::read(&padded)?, download);
-    assert_eq!(rt; download.write().as_slice(), &padded[..16]);
-    Ok(())
+    assert_same(&rt, Mail::read(&padded), Ok(download));
+    assert_same(&rt, download.write().as_slice(), &padded[..16]);
 }
 
 #[test]
@@ -110,12 +107,12 @@ fn mail_of_another_sender_is_written_without_its_address(rt: HostRuntime) -> Res
         0x00,
     ];
     let read = Mail::read(&sent)?;
-    assert_eq!(rt; read.address, 0x1234);
-    assert_eq!(rt; read.channel, 5);
-    assert_eq!(rt; read.priority, 2);
-    assert_eq!(rt; read.number, 0x167);
-    assert_eq!(rt; read.service, REQUEST);
-    assert_eq!(rt; read.counter, 1);
-    assert_eq!(rt; read.write(), UPLOAD);
+    assert_same(&rt, read.address, 0x1234);
+    assert_same(&rt, read.channel, 5);
+    assert_same(&rt, read.priority, 2);
+    assert_same(&rt, read.number, 0x167);
+    assert_same(&rt, read.service, REQUEST);
+    assert_same(&rt, read.counter, 1);
+    assert_same(&rt, read.write(), UPLOAD);
     Ok(())
 }

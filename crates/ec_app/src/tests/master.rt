@@ -4,11 +4,13 @@ ghost use Rattle.std.specs.Prelude.{◌≡◌, ◌<◌, length};
 ghost use Rattle.ec_app.specs.Lending.{with_controller};
 ghost use Rattle.ec_esc.specs.Pass.{frame_pass};
 
-use crate::{Objects, Slave};
+use crate::{Objects, Rights, Slave, Value};
 use arrayvec::ArrayVec;
+use ec_regs::registers::MEMORY_SIZE;
 use ec_regs::{AlState, SyncMan};
 use ec_wire::{Command, Datagram, FrameBuf};
 use std::alloc::Global;
+use std::fmt::Debug;
 use std::process::Abort;
 
 /// The slave's station address.
@@ -97,6 +99,45 @@ fn passed(
 /// The counter that an FPWR of these bytes comes back with.
 pub fn written(rt: &impl Abort, slave: &mut Slave, address: u16, bytes: &[u8]) -> u16 {
     passed(rt, slave, Command::Fpwr, address, bytes).counter(0)
+}
+
+// What the tests assert stands in functions, which are proved once: an assertion that stands in a test is
+// proved again in each, which takes longer than all else of it.
+
+/// Asserts that what was found is what was wanted.
+pub fn assert_same<T: PartialEq + Debug + Drop>(rt: &impl Abort, found: T, wanted: T) {
+    assert_eq!(rt; found, wanted);
+}
+
+/// Asserts that the slave has this AL status and AL status code once it answered to this AL control.
+pub fn assert_asked(rt: &impl Abort, slave: &mut Slave, control: u16, wanted: (u8, u16)) {
+    assert_eq!(rt; asked(rt, slave, control), wanted, "control {control}");
+}
+
+/// Asserts that this is the slave's answer to a mail, or that there is none.
+pub fn assert_answered(
+    rt: &impl Abort,
+    slave: &mut Slave,
+    mail: &[u8; 16],
+    wanted: Option<[u8; 16]>,
+) {
+    assert_eq!(rt; answered(rt, slave, mail), wanted, "mail {mail:?}");
+}
+
+/// Asserts that this byte stands in the slave's memory.
+pub fn assert_byte(rt: &impl Abort, slave: &Slave, address: u16, wanted: u8) {
+    assert!(rt; address < MEMORY_SIZE);
+    assert_eq!(rt; slave.controller().byte(address), wanted, "at {address}");
+}
+
+/// Asserts that an object of the slave has these rights and this value.
+pub fn assert_object(rt: &impl Abort, slave: &Slave, place: (u16, u8), wanted: (Rights, Value)) {
+    let (index, sub) = place;
+    assert_eq!(rt;
+        slave.objects().get(index, sub),
+        Some(wanted),
+        "object {place:?}"
+    );
 }
 
 /// AL status and the AL status code once the master wrote this AL control and the slave stepped.

@@ -1,6 +1,7 @@
 //! The bytes of SDOs, both ways.
 
 use crate::sdo::Sdo;
+use crate::tests::master::assert_same;
 use crate::value::Value;
 
 /// The nine rows of commands, each with the SDO that it spells.
@@ -80,8 +81,8 @@ const ROWS: [([u8; 8], Sdo); 9] = [
 #[test]
 fn each_row_is_read_and_written(rt: HostRuntime) {
     for (bytes, sdo) in ROWS {
-        assert_eq!(rt; Sdo::read(&bytes), sdo);
-        assert_eq!(rt; sdo.write(), bytes);
+        assert_same(&rt, Sdo::read(&bytes), sdo);
+        assert_same(&rt, sdo.write(), bytes);
     }
 }
 
@@ -94,7 +95,7 @@ fn unused_data_that_is_not_zero_makes_another_sdo(rt: HostRuntime) {
         [0x60, 0x00, 0x20, 0x00, 0x00, 0x00, 0x00, 0x01],
         [0x21, 0x00, 0x20, 0x00, 0x08, 0x00, 0x00, 0x00],
     ] {
-        assert_eq!(rt; Sdo::read(&bytes), Sdo::Other(bytes));
-        assert_eq!(rt; Sdo::Other(bytes).write(), bytes);
+        assert_same(&rt, Sdo::read(&bytes), Sdo::Other(bytes));
+        assert_same(&rt, Sdo::Other(bytes).write(), bytes);
     }
 }

@@ -1,6 +1,6 @@
 //! A new controller, and the calls that set its records and its process memory.
 
-use crate::Controller;
+use super::{assert_memory, assert_same, assert_shown, new_controller};
 use ec_regs::{Fmmu, SyncMan};
 
 /// 2 bytes from 0x1100, buffered, read by the master, enabled, with its status full.
@@ -15,7 +15,7 @@ const INPUTS: SyncMan = SyncMan {
 
 #[test]
 fn new_controller_has_its_station_and_is_in_init(rt: HostRuntime) {
-    let controller = Controller::new(rt.alloc(), 0x1203).expect(&rt, "memory");
+    let controller = new_controller(&rt, rt.alloc(), 0x1203);
     for (address, value) in [
         (0x0000, 0x00),
         (0x000F, 0x00),
@@ -26,29 +26,23 @@ fn new_controller_has_its_station_and_is_in_init(rt: HostRuntime) {
         (0x0131, 0x00),
         (0x2FFF, 0x00),
     ] {
-        assert_eq!(rt; controller.byte(address), value, "at {address}");
+        assert_memory(&rt, &controller, address, &[value]);
     }
-    assert_eq!(rt; controller.shown(0x1000), 0);
-    assert_eq!(rt; controller.shown(0x2FFF), 0);
+    assert_shown(&rt, &controller, 0x1000, &[0]);
+    assert_shown(&rt, &controller, 0x2FFF, &[0]);
 }
 
 #[test]
 fn sync_manager_is_set_with_status_0(rt: HostRuntime) {
-    let mut controller = Controller::new(rt.alloc(), 0x1001).expect(&rt, "memory");
+    let mut controller = new_controller(&rt, rt.alloc(), 0x1001);
     controller.set_syncman(3, &INPUTS);
     let spelt = [0x00, 0x11, 0x02, 0x00, 0x00, 0x00, 0x01, 0x5A];
-    for (place, value) in spelt.iter().enumerate() {
-        assert_eq!(rt;
-            controller.byte(0x0818 + place as u16),
-            *value,
-            "at {place}"
-        );
-    }
+    assert_memory(&rt, &controller, 0x0818, &spelt);
 }
 
 #[test]
 fn fmmu_is_set_where_its_number_says(rt: HostRuntime) {
-    let mut controller = Controller::new(rt.alloc(), 0x1001).expect(&rt, "memory");
+    let mut controller = new_controller(&rt, rt.alloc(), 0x1001);
     controller.set_fmmu(
         7,
         &Fmmu {
@@ -71,20 +65,18 @@ fn fmmu_is_set_where_its_number_says(rt: HostRuntime) {
         (0x067F, 0x10),
         (0x0680, 0x00),
     ] {
-        assert_eq!(rt; controller.byte(address), value, "at {address}");
+        assert_memory(&rt, &controller, address, &[value]);
     }
 }
 
 #[test]
 fn loaded_bytes_are_in_memory_and_shown(rt: HostRuntime) {
-    let mut controller = Controller::new(rt.alloc(), 0x1001).expect(&rt, "memory");
+    let mut controller = new_controller(&rt, rt.alloc(), 0x1001);
     controller.load(0x2FFE, &[0x12, 0x34]);
     controller.load(0x0000, &[]);
     controller.load(0xFFFF, &[]);
-    for (address, value) in [(0x2FFD, 0x00), (0x2FFE, 0x12), (0x2FFF, 0x34)] {
-        assert_eq!(rt; controller.byte(address), value, "at {address}");
-    }
-    assert_eq!(rt; controller.shown(0x2FFD), 0x00);
-    assert_eq!(rt; controller.shown(0x2FFE), 0x12);
-    assert_eq!(rt; controller.shown(0x2FFF), 0x34);
+    assert_memory(&rt, &controller, 0x2FFD, &[0x00, 0x12, 0x34]);
+    assert_shown(&rt, &controller, 0x2FFD, &[0x00, 0x12, 0x34]);
+    assert_same(&rt, controller.byte(0x2FFE), 0x12);
+    assert_same(&rt, controller.shown(0x2FFE), 0x12);
 }

@@ -1,9 +1,10 @@
 //! LRD, frames of several datagrams, and commands that do nothing.
 
-use super::{INPUTS, READ, passed};
-use crate::{Controller, NoMemory};
+use super::{INPUTS, READ, assert_back, new_controller};
+use crate::Controller;
 use ec_regs::{Fmmu, SyncMan};
 use std::alloc::Global;
+use std::process::Abort;
 
 /// 16 bytes from 0x1100, buffered, read by the master, enabled.
 const WIDE_INPUTS: SyncMan = SyncMan {
@@ -17,37 +18,47 @@ const LRD_OF_ONE_BYTE: [u8; 15] = [
 ];
 
 /// The controller of station 0x1001 with 12 34 at 0x1100, and these records.
-fn controller(alloc: Global, manager: &SyncMan, fmmu: &Fmmu) -> Result<Controller, NoMemory> {
-    let mut controller = Controller::new(alloc, 0x1001)?;
+fn controller(rt: &impl Abort, alloc: Global, manager: &SyncMan, fmmu: &Fmmu) -> Controller {
+    let mut controller = new_controller(rt, alloc, 0x1001);
     controller.load(0x1100, &[0x12, 0x34]);
     controller.set_syncman(3, manager);
     controller.set_fmmu(0, fmmu);
-    Ok(controller)
+    controller
+}
+
+/// Asserts that such a controller sends the one frame on as the other.
+fn assert_read(
+    rt: &impl Abort,
+    alloc: Global,
+    records: (&SyncMan, &Fmmu),
+    sent: &[u8],
+    back: &[u8],
+) {
+    let (manager, fmmu) = records;
+    let mut slave = controller(rt, alloc, manager, fmmu);
+    assert_back(rt, &mut slave, sent, back);
 }
 
 #[test]
 fn lrd_reads_the_mapped_byte_and_counts_one(rt: HostRuntime) {
     let two_bytes = Fmmu { length: 2, ..READ };
-    let mut slave = controller(rt.alloc(), &WIDE_INPUTS, &two_bytes).expect(&rt, "memory");
     let sent = [
         0x0D, 0x10, 0x0A, 0x00, 0x01, 0x00, 0x01, 0x00, 0x01, 0x00, 0x00, 0x00, 0x00, 0x00, 0x00,
     ];
     let back = [
         0x0D, 0x10, 0x0A, 0x00, 0x01, 0x00, 0x01, 0x00, 0x01, 0x00, 0x00, 0x00, 0x34, 0x01, 0x00,
     ];
-    let frame = passed(&mut slave, &sent).expect(&rt, "a frame");
-    assert_eq!(rt; frame.bytes(), &back[..]);
+    assert_read(&rt, rt.alloc(), (&WIDE_INPUTS, &two_bytes), &sent, &back);
 }
 
 #[test]
 fn frame_is_unchanged_where_nothing_is_mapped(rt: HostRuntime) {
-    let mut slave = Controller::new(rt.alloc(), 0x1001).expect(&rt, "memory");
+    let mut slave = new_controller(&rt, rt.alloc(), 0x1001);
     let sent = [
         0x10, 0x10, 0x0A, 0x07, 0x00, 0x00, 0x01, 0x00, 0x04, 0x00, 0x00, 0x00, 0x00, 0x00, 0x00,
         0x00, 0x00, 0x00,
     ];
-    let frame = passed(&mut slave, &sent).expect(&rt, "a frame");
-    assert_eq!(rt; frame.bytes(), &sent[..]);
+    assert_back(&rt, &mut slave, &sent, &sent);
 }
 
 #[test]
@@ -62,7 +73,7 @@ fn bits_beside_the_mapped_ones_stay_as_sent(rt: HostRuntime) {
         length: 1,
         ..WIDE_INPUTS
     };
-    let mut slave = controller(rt.alloc(), &one_byte, &four_bits).expect(&rt, "memory");
+    let mut slave = controller(&rt, rt.alloc(), &one_byte, &four_bits);
     slave.load(0x1100, &[0x0B]);
     let zeros = [
         0x0E, 0x10, 0x0A, 0x00, 0x00, 0x00, 0x01, 0x00, 0x02, 0x00, 0x00, 0x00, 0x00, 0x00, 0x00,
@@ -72,8 +83,7 @@ fn bits_beside_the_mapped_ones_stay_as_sent(rt: HostRuntime) {
         0x0E, 0x10, 0x0A, 0x00, 0x00, 0x00, 0x01, 0x00, 0x02, 0x00, 0x00, 0x00, 0xC0, 0x02, 0x01,
         0x00,
     ];
-    let frame = passed(&mut slave, &zeros).expect(&rt, "a frame");
-    assert_eq!(rt; frame.bytes(), &from_zeros[..]);
+    assert_back(&rt, &mut slave, &zeros, &from_zeros);
     let ones = [
         0x0E, 0x10, 0x0A, 0x00, 0x00, 0x00, 0x01, 0x00, 0x02, 0x00, 0x00, 0x00, 0xFF, 0xFF, 0x00,
         0x00,
@@ -82,13 +92,12 @@ fn bits_beside_the_mapped_ones_stay_as_sent(rt: HostRuntime) {
         0x0E, 0x10, 0x0A, 0x00, 0x00, 0x00, 0x01, 0x00, 0x02, 0x00, 0x00, 0x00, 0xFF, 0xFE, 0x01,
         0x00,
     ];
-    let frame = passed(&mut slave, &ones).expect(&rt, "a frame");
-    assert_eq!(rt; frame.bytes(), &from_ones[..]);
+    assert_back(&rt, &mut slave, &ones, &from_ones);
 }
 
 #[test]
 fn later_fmmu_prevails_where_two_map_a_bit(rt: HostRuntime) {
-    let mut slave = controller(rt.alloc(), &WIDE_INPUTS, &READ).expect(&rt, "memory");
+    let mut slave = controller(&rt, rt.alloc(), &WIDE_INPUTS, &READ);
     slave.set_fmmu(
         1,
         &Fmmu {
@@ -99,8 +108,7 @@ fn later_fmmu_prevails_where_two_map_a_bit(rt: HostRuntime) {
     let back = [
         0x0D, 0x10, 0x0A, 0x00, 0x00, 0x00, 0x01, 0x00, 0x01, 0x00, 0x00, 0x00, 0x34, 0x01, 0x00,
     ];
-    let frame = passed(&mut slave, &LRD_OF_ONE_BYTE).expect(&rt, "a frame");
-    assert_eq!(rt; frame.bytes(), &back[..]);
+    assert_back(&rt, &mut slave, &LRD_OF_ONE_BYTE, &back);
 }
 
 #[test]
@@ -135,9 +143,8 @@ fn fmmus_and_areas_that_serve_no_read_leave_the_frame(rt: HostRuntime) {
         (mailbox, READ),
         (outputs, READ),
     ] {
-        let mut slave = controller(rt.alloc(), &manager, &fmmu).expect(&rt, "memory");
-        let frame = passed(&mut slave, &LRD_OF_ONE_BYTE).expect(&rt, "a frame");
-        assert_eq!(rt; frame.bytes(), &LRD_OF_ONE_BYTE[..]);
+        let sent = &LRD_OF_ONE_BYTE;
+        assert_read(&rt, rt.alloc(), (&manager, &fmmu), sent, sent);
     }
 }
 
@@ -177,9 +184,7 @@ fn sync_managers_that_are_not_active_hide_nothing(rt: HostRuntime) {
         unknown_mode,
         past_the_memory,
     ] {
-        let mut slave = controller(rt.alloc(), &manager, &READ).expect(&rt, "memory");
-        let frame = passed(&mut slave, &LRD_OF_ONE_BYTE).expect(&rt, "a frame");
-        assert_eq!(rt; frame.bytes(), &back[..]);
+        assert_read(&rt, rt.alloc(), (&manager, &READ), &LRD_OF_ONE_BYTE, &back);
     }
 }
 
@@ -189,25 +194,27 @@ fn registers_are_read_through_fmmus_too(rt: HostRuntime) {
         physical: 0x0130,
         ..READ
     };
-    let mut slave = controller(rt.alloc(), &WIDE_INPUTS, &al_status).expect(&rt, "memory");
     let back = [
         0x0D, 0x10, 0x0A, 0x00, 0x00, 0x00, 0x01, 0x00, 0x01, 0x00, 0x00, 0x00, 0x01, 0x01, 0x00,
     ];
-    let frame = passed(&mut slave, &LRD_OF_ONE_BYTE).expect(&rt, "a frame");
-    assert_eq!(rt; frame.bytes(), &back[..]);
+    assert_read(
+        &rt,
+        rt.alloc(),
+        (&WIDE_INPUTS, &al_status),
+        &LRD_OF_ONE_BYTE,
+        &back,
+    );
 }
 
 #[test]
 fn counter_65535_becomes_0(rt: HostRuntime) {
-    let mut slave = controller(rt.alloc(), &WIDE_INPUTS, &READ).expect(&rt, "memory");
     let sent = [
         0x0D, 0x10, 0x0A, 0x00, 0x00, 0x00, 0x01, 0x00, 0x01, 0x00, 0x00, 0x00, 0x00, 0xFF, 0xFF,
     ];
     let back = [
         0x0D, 0x10, 0x0A, 0x00, 0x00, 0x00, 0x01, 0x00, 0x01, 0x00, 0x00, 0x00, 0x12, 0x00, 0x00,
     ];
-    let frame = passed(&mut slave, &sent).expect(&rt, "a frame");
-    assert_eq!(rt; frame.bytes(), &back[..]);
+    assert_read(&rt, rt.alloc(), (&WIDE_INPUTS, &READ), &sent, &back);
 }
 
 #[test]
@@ -217,7 +224,6 @@ fn logical_range_ends_without_a_wrap(rt: HostRuntime) {
         length: 2,
         ..READ
     };
-    let mut slave = controller(rt.alloc(), &WIDE_INPUTS, &last_byte).expect(&rt, "memory");
     let sent = [
         0x0E, 0x10, 0x0A, 0x00, 0xFF, 0xFF, 0xFF, 0xFF, 0x02, 0x00, 0x00, 0x00, 0x00, 0x00, 0x00,
         0x00,
@@ -226,13 +232,11 @@ fn logical_range_ends_without_a_wrap(rt: HostRuntime) {
         0x0E, 0x10, 0x0A, 0x00, 0xFF, 0xFF, 0xFF, 0xFF, 0x02, 0x00, 0x00, 0x00, 0x12, 0x00, 0x01,
         0x00,
     ];
-    let frame = passed(&mut slave, &sent).expect(&rt, "a frame");
-    assert_eq!(rt; frame.bytes(), &back[..]);
+    assert_read(&rt, rt.alloc(), (&WIDE_INPUTS, &last_byte), &sent, &back);
 }
 
 #[test]
 fn each_datagram_of_a_frame_is_processed(rt: HostRuntime) {
-    let mut slave = controller(rt.alloc(), &WIDE_INPUTS, &READ).expect(&rt, "memory");
     let sent = [
         0x1A, 0x10, 0x0A, 0x00, 0x00, 0x00, 0x01, 0x00, 0x01, 0x80, 0x00, 0x00, 0x00, 0x00, 0x00,
         0x0A, 0x01, 0x00, 0x00, 0x01, 0x00, 0x01, 0x00, 0x00, 0x00, 0xFF, 0x05, 0x00,
@@ -241,17 +245,15 @@ fn each_datagram_of_a_frame_is_processed(rt: HostRuntime) {
         0x1A, 0x10, 0x0A, 0x00, 0x00, 0x00, 0x01, 0x00, 0x01, 0x80, 0x00, 0x00, 0x12, 0x01, 0x00,
         0x0A, 0x01, 0x00, 0x00, 0x01, 0x00, 0x01, 0x00, 0x00, 0x00, 0x12, 0x06, 0x00,
     ];
-    let frame = passed(&mut slave, &sent).expect(&rt, "a frame");
-    assert_eq!(rt; frame.bytes(), &back[..]);
+    assert_read(&rt, rt.alloc(), (&WIDE_INPUTS, &READ), &sent, &back);
 }
 
 #[test]
 fn other_commands_go_through_unchanged(rt: HostRuntime) {
-    let mut slave = controller(rt.alloc(), &WIDE_INPUTS, &READ).expect(&rt, "memory");
+    let mut slave = controller(&rt, rt.alloc(), &WIDE_INPUTS, &READ);
     for command in [0x00, 0x09, 0x0D, 0x0E] {
         let mut sent = LRD_OF_ONE_BYTE;
         sent[2] = command;
-        let frame = passed(&mut slave, &sent).expect(&rt, "a frame");
-        assert_eq!(rt; frame.bytes(), &sent[..]);
+        assert_back(&rt, &mut slave, &sent, &sent);
     }
 }

@@ -1,9 +1,13 @@
 //! The physical commands: ranges that are read, written or both.
 
-use super::{OUTPUTS, passed};
-use crate::{Controller, NoMemory};
+use super::{
+    OUTPUTS, assert_back, assert_counted, assert_memory, assert_same, assert_shown, new_controller,
+    passed,
+};
 use ec_regs::SyncMan;
-use std::alloc::Global;
+
+/// The station address of a slave.
+const STATION: u16 = 0x1001;
 
 /// 16 bytes from 0x1800, a mailbox that the master writes.
 const MAIL_OUT: SyncMan = SyncMan {
@@ -13,14 +17,9 @@ const MAIL_OUT: SyncMan = SyncMan {
     ..OUTPUTS
 };
 
-/// The controller of station 0x1001.
-fn controller(alloc: Global) -> Result<Controller, NoMemory> {
-    Controller::new(alloc, 0x1001)
-}
-
 #[test]
 fn broadcast_and_station_reads_pass_one_after_the_other(rt: HostRuntime) {
-    let mut slave = controller(rt.alloc()).expect(&rt, "memory");
+    let mut slave = new_controller(&rt, rt.alloc(), STATION);
     let sent = [
         0x1C, 0x10, 0x07, 0x00, 0x00, 0x00, 0x30, 0x01, 0x02, 0x80, 0x00, 0x00, 0x00, 0x00, 0x00,
         0x00, 0x04, 0x01, 0x01, 0x10, 0x10, 0x00, 0x02, 0x00, 0x00, 0x00, 0x00, 0x00, 0x00, 0x00,
@@ -29,14 +28,13 @@ fn broadcast_and_station_reads_pass_one_after_the_other(rt: HostRuntime) {
         0x1C, 0x10, 0x07, 0x00, 0x01, 0x00, 0x30, 0x01, 0x02, 0x80, 0x00, 0x00, 0x01, 0x00, 0x01,
         0x00, 0x04, 0x01, 0x01, 0x10, 0x10, 0x00, 0x02, 0x00, 0x00, 0x00, 0x01, 0x10, 0x01, 0x00,
     ];
-    let frame = passed(&mut slave, &sent).expect(&rt, "a frame");
-    assert_eq!(rt; frame.bytes(), &back[..]);
+    assert_back(&rt, &mut slave, &sent, &back);
 }
 
 #[test]
 fn second_controller_is_addressed_by_position_65535(rt: HostRuntime) {
-    let mut first = controller(rt.alloc()).expect(&rt, "memory");
-    let mut second = Controller::new(rt.alloc(), 0x1002).expect(&rt, "memory");
+    let mut first = new_controller(&rt, rt.alloc(), STATION);
+    let mut second = new_controller(&rt, rt.alloc(), 0x1002);
     let sent = [
         0x0E, 0x10, 0x01, 0x00, 0xFF, 0xFF, 0x10, 0x00, 0x02, 0x00, 0x00, 0x00, 0x00, 0x00, 0x00,
         0x00,
@@ -45,14 +43,14 @@ fn second_controller_is_addressed_by_position_65535(rt: HostRuntime) {
         0x0E, 0x10, 0x01, 0x00, 0x01, 0x00, 0x10, 0x00, 0x02, 0x00, 0x00, 0x00, 0x02, 0x10, 0x01,
         0x00,
     ];
-    let mut frame = passed(&mut first, &sent).expect(&rt, "a frame");
+    let mut frame = passed(&rt, &mut first, &sent);
     second.process(&mut frame);
-    assert_eq!(rt; frame.bytes(), &back[..]);
+    assert_same(&rt, frame.bytes(), &back[..]);
 }
 
 #[test]
 fn exchange_reads_what_stood_there_and_counts_three(rt: HostRuntime) {
-    let mut slave = controller(rt.alloc()).expect(&rt, "memory");
+    let mut slave = new_controller(&rt, rt.alloc(), STATION);
     let sent = [
         0x0E, 0x10, 0x06, 0x00, 0x01, 0x10, 0x10, 0x00, 0x02, 0x00, 0x00, 0x00, 0x05, 0x20, 0x00,
         0x00,
@@ -61,48 +59,37 @@ fn exchange_reads_what_stood_there_and_counts_three(rt: HostRuntime) {
         0x0E, 0x10, 0x06, 0x00, 0x01, 0x10, 0x10, 0x00, 0x02, 0x00, 0x00, 0x00, 0x01, 0x10, 0x03,
         0x00,
     ];
-    let frame = passed(&mut slave, &sent).expect(&rt, "a frame");
-    assert_eq!(rt; frame.bytes(), &back[..]);
-    assert_eq!(rt; slave.byte(0x0010), 0x05);
-    assert_eq!(rt; slave.byte(0x0011), 0x20);
+    assert_back(&rt, &mut slave, &sent, &back);
+    assert_memory(&rt, &slave, 0x0010, &[0x05]);
+    assert_memory(&rt, &slave, 0x0011, &[0x20]);
 }
 
 #[test]
 fn al_status_takes_no_write(rt: HostRuntime) {
-    let mut slave = controller(rt.alloc()).expect(&rt, "memory");
+    let mut slave = new_controller(&rt, rt.alloc(), STATION);
     let sent = [
         0x0E, 0x10, 0x05, 0x00, 0x01, 0x10, 0x30, 0x01, 0x02, 0x00, 0x00, 0x00, 0x08, 0x08, 0x00,
         0x00,
     ];
-    let frame = passed(&mut slave, &sent).expect(&rt, "a frame");
-    assert_eq!(rt; frame.bytes(), &sent[..]);
-    assert_eq!(rt; slave.byte(0x0130), 0x01);
-    assert_eq!(rt; slave.byte(0x0131), 0x00);
+    assert_back(&rt, &mut slave, &sent, &sent);
+    assert_memory(&rt, &slave, 0x0130, &[0x01]);
+    assert_memory(&rt, &slave, 0x0131, &[0x00]);
 }
 
 #[test]
 fn write_changes_the_bytes_that_take_it_alone(rt: HostRuntime) {
-    let mut slave = controller(rt.alloc()).expect(&rt, "memory");
+    let mut slave = new_controller(&rt, rt.alloc(), STATION);
     let sent = [
         0x10, 0x10, 0x05, 0x00, 0x01, 0x10, 0x11, 0x00, 0x04, 0x00, 0x00, 0x00, 0x22, 0x33, 0x44,
         0x55, 0x00, 0x00,
     ];
-    let frame = passed(&mut slave, &sent).expect(&rt, "a frame");
-    assert_eq!(rt; frame.counter(0), 1);
-    for (address, value) in [
-        (0x0010, 0x01),
-        (0x0011, 0x22),
-        (0x0012, 0x00),
-        (0x0013, 0x00),
-        (0x0014, 0x00),
-    ] {
-        assert_eq!(rt; slave.byte(address), value, "at {address}");
-    }
+    assert_counted(&rt, &mut slave, &sent, 1);
+    assert_memory(&rt, &slave, 0x0010, &[0x01, 0x22, 0x00, 0x00, 0x00]);
 }
 
 #[test]
 fn full_mailbox_takes_no_write(rt: HostRuntime) {
-    let mut slave = controller(rt.alloc()).expect(&rt, "memory");
+    let mut slave = new_controller(&rt, rt.alloc(), STATION);
     slave.set_syncman(0, &MAIL_OUT);
     let short = [
         0x1B, 0x10, 0x05, 0x00, 0x01, 0x10, 0x00, 0x18, 0x0F, 0x00, 0x00, 0x00, 0x01, 0x02, 0x03,
@@ -112,20 +99,17 @@ fn full_mailbox_takes_no_write(rt: HostRuntime) {
         0x1C, 0x10, 0x05, 0x00, 0x01, 0x10, 0x00, 0x18, 0x10, 0x00, 0x00, 0x00, 0x01, 0x02, 0x03,
         0x04, 0x05, 0x06, 0x07, 0x08, 0x09, 0x0A, 0x0B, 0x0C, 0x0D, 0x0E, 0x0F, 0x10, 0x00, 0x00,
     ];
-    let frame = passed(&mut slave, &short).expect(&rt, "a frame");
-    assert_eq!(rt; frame.counter(0), 0);
-    assert_eq!(rt; slave.byte(0x0805), 0x00);
-    let frame = passed(&mut slave, &whole).expect(&rt, "a frame");
-    assert_eq!(rt; frame.counter(0), 1);
-    assert_eq!(rt; slave.byte(0x0805), 0x08);
-    assert_eq!(rt; slave.byte(0x180F), 0x10);
-    let frame = passed(&mut slave, &whole).expect(&rt, "a frame");
-    assert_eq!(rt; frame.counter(0), 0);
+    assert_counted(&rt, &mut slave, &short, 0);
+    assert_memory(&rt, &slave, 0x0805, &[0x00]);
+    assert_counted(&rt, &mut slave, &whole, 1);
+    assert_memory(&rt, &slave, 0x0805, &[0x08]);
+    assert_memory(&rt, &slave, 0x180F, &[0x10]);
+    assert_counted(&rt, &mut slave, &whole, 0);
 }
 
 #[test]
 fn empty_mailbox_gives_no_read(rt: HostRuntime) {
-    let mut slave = controller(rt.alloc()).expect(&rt, "memory");
+    let mut slave = new_controller(&rt, rt.alloc(), STATION);
     let mail_in = SyncMan {
         start: 0x1880,
         control: 0x02,
@@ -136,13 +120,12 @@ fn empty_mailbox_gives_no_read(rt: HostRuntime) {
         0x1C, 0x10, 0x04, 0x00, 0x01, 0x10, 0x80, 0x18, 0x10, 0x00, 0x00, 0x00, 0x01, 0x02, 0x03,
         0x04, 0x05, 0x06, 0x07, 0x08, 0x09, 0x0A, 0x0B, 0x0C, 0x0D, 0x0E, 0x0F, 0x10, 0x00, 0x00,
     ];
-    let frame = passed(&mut slave, &sent).expect(&rt, "a frame");
-    assert_eq!(rt; frame.bytes(), &sent[..]);
+    assert_back(&rt, &mut slave, &sent, &sent);
 }
 
 #[test]
 fn outputs_are_shown_once_their_last_byte_is_written(rt: HostRuntime) {
-    let mut slave = controller(rt.alloc()).expect(&rt, "memory");
+    let mut slave = new_controller(&rt, rt.alloc(), STATION);
     let outputs = SyncMan {
         start: 0x1000,
         length: 2,
@@ -156,31 +139,28 @@ fn outputs_are_shown_once_their_last_byte_is_written(rt: HostRuntime) {
     let last = [
         0x0D, 0x10, 0x05, 0x00, 0x01, 0x10, 0x01, 0x10, 0x01, 0x00, 0x00, 0x00, 0xBB, 0x00, 0x00,
     ];
-    let frame = passed(&mut slave, &first).expect(&rt, "a frame");
-    assert_eq!(rt; frame.counter(0), 1);
-    assert_eq!(rt; slave.shown_bytes(0x1000, 2), &[0x00, 0x00][..]);
-    let frame = passed(&mut slave, &last).expect(&rt, "a frame");
-    assert_eq!(rt; frame.counter(0), 1);
-    assert_eq!(rt; slave.shown_bytes(0x1000, 2), &[0xAA, 0xBB][..]);
+    assert_counted(&rt, &mut slave, &first, 1);
+    assert_shown(&rt, &slave, 0x1000, &[0x00, 0x00]);
+    assert_counted(&rt, &mut slave, &last, 1);
+    assert_shown(&rt, &slave, 0x1000, &[0xAA, 0xBB]);
 }
 
 #[test]
 fn sync_manager_is_switched_on_by_a_write(rt: HostRuntime) {
-    let mut slave = controller(rt.alloc()).expect(&rt, "memory");
+    let mut slave = new_controller(&rt, rt.alloc(), STATION);
     slave.load(0x1000, &[0x12]);
     let sent = [
         0x14, 0x10, 0x05, 0x00, 0x01, 0x10, 0x10, 0x08, 0x08, 0x00, 0x00, 0x00, 0x00, 0x10, 0x01,
         0x00, 0x04, 0x00, 0x01, 0x00, 0x00, 0x00,
     ];
-    let frame = passed(&mut slave, &sent).expect(&rt, "a frame");
-    assert_eq!(rt; frame.counter(0), 1);
-    assert!(rt; slave.syncman(2).is_active());
-    assert_eq!(rt; slave.shown(0x1000), 0x12);
+    assert_counted(&rt, &mut slave, &sent, 1);
+    assert_same(&rt, slave.syncman(2).is_active(), true);
+    assert_shown(&rt, &slave, 0x1000, &[0x12]);
 }
 
 #[test]
 fn broadcast_read_ors_the_bytes_into_the_data(rt: HostRuntime) {
-    let mut slave = controller(rt.alloc()).expect(&rt, "memory");
+    let mut slave = new_controller(&rt, rt.alloc(), STATION);
     slave.load(0x1000, &[0x12, 0x0C]);
     let sent = [
         0x0E, 0x10, 0x07, 0x00, 0x00, 0x00, 0x00, 0x10, 0x02, 0x00, 0x00, 0x00, 0x01, 0xF0, 0x00,
@@ -190,13 +170,12 @@ fn broadcast_read_ors_the_bytes_into_the_data(rt: HostRuntime) {
         0x0E, 0x10, 0x07, 0x00, 0x01, 0x00, 0x00, 0x10, 0x02, 0x00, 0x00, 0x00, 0x13, 0xFC, 0x01,
         0x00,
     ];
-    let frame = passed(&mut slave, &sent).expect(&rt, "a frame");
-    assert_eq!(rt; frame.bytes(), &back[..]);
+    assert_back(&rt, &mut slave, &sent, &back);
 }
 
 #[test]
 fn broadcast_write_reaches_al_control(rt: HostRuntime) {
-    let mut slave = controller(rt.alloc()).expect(&rt, "memory");
+    let mut slave = new_controller(&rt, rt.alloc(), STATION);
     let sent = [
         0x0E, 0x10, 0x08, 0x00, 0x00, 0x00, 0x20, 0x01, 0x02, 0x00, 0x00, 0x00, 0x02, 0x00, 0x00,
         0x00,
@@ -205,20 +184,18 @@ fn broadcast_write_reaches_al_control(rt: HostRuntime) {
         0x0E, 0x10, 0x08, 0x00, 0x01, 0x00, 0x20, 0x01, 0x02, 0x00, 0x00, 0x00, 0x02, 0x00, 0x01,
         0x00,
     ];
-    let frame = passed(&mut slave, &sent).expect(&rt, "a frame");
-    assert_eq!(rt; frame.bytes(), &back[..]);
-    assert_eq!(rt; slave.byte(0x0120), 0x02);
-    assert_eq!(rt; slave.byte(0x0121), 0x00);
+    assert_back(&rt, &mut slave, &sent, &back);
+    assert_memory(&rt, &slave, 0x0120, &[0x02]);
+    assert_memory(&rt, &slave, 0x0121, &[0x00]);
 }
 
 #[test]
 fn command_for_another_station_goes_through(rt: HostRuntime) {
-    let mut slave = controller(rt.alloc()).expect(&rt, "memory");
+    let mut slave = new_controller(&rt, rt.alloc(), STATION);
     let sent = [
         0x0E, 0x10, 0x05, 0x00, 0x02, 0x10, 0x20, 0x01, 0x02, 0x00, 0x00, 0x00, 0x02, 0x00, 0x00,
         0x00,
     ];
-    let frame = passed(&mut slave, &sent).expect(&rt, "a frame");
-    assert_eq!(rt; frame.bytes(), &sent[..]);
-    assert_eq!(rt; slave.byte(0x0120), 0x00);
+    assert_back(&rt, &mut slave, &sent, &sent);
+    assert_memory(&rt, &slave, 0x0120, &[0x00]);
 }
