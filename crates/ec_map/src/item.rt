@@ -5,10 +5,10 @@ ghost use Rattle.std.specs.Result.{result_err};
 ghost use Rattle.ec_regs.specs.Bits.{bit};
 ghost use Rattle.ec_map.specs.Item.{item_fault, new_item};
 
-use crate::kind::{HALF, ItemFault, is_broadcast, is_in_range, is_logical};
+use crate::kind::{ItemFault, is_broadcast, is_in_range, is_logical};
 use arrayvec::ArrayVec;
 use ec_line::Kind;
-use ec_wire::{Datagram, MAX_DATA};
+use ec_wire::{Datagram, MAX_DATA, address_of};
 use std::marker::Model;
 
 /// What a master asks in each cycle, with the data and the counter of the last answer. Contracts see its
@@ -183,7 +183,7 @@ impl Item {
         ensures { result ≡ wire_address self.now }
     {
         if is_broadcast(self.kind) {
-            u32::from(self.adp) + HALF * self.address
+            address_of(self.adp, self.address as u16)
         } else {
             self.address
         }

@@ -6,12 +6,10 @@ ghost use Rattle.ec_map.specs.Item.{is_logical, is_broadcast, is_in_range};
 
 use ec_line::Kind;
 use ec_regs::registers::{MEMORY_SIZE, PROCESS_MEMORY};
+use ec_wire::ado_of;
 
 /// How many logical bytes there are: one for each 32-bit address.
 const LOGICAL_BYTES: u64 = 0x1_0000_0000;
-
-/// How many values each half of an addressed item's address has.
-pub(crate) const HALF: u32 = 0x1_0000;
 
 /// Why there is no such item.
 #[derive(Clone, Copy, PartialEq, Eq, Debug)]
@@ -46,6 +44,6 @@ pub(crate) fn is_in_range(kind: Kind, address: u32, length: usize) -> bool
     match kind {
         Kind::Lrd | Kind::Lwr | Kind::Lrw => u64::from(address) + length <= LOGICAL_BYTES,
         Kind::Brd => u64::from(address) + length <= u64::from(PROCESS_MEMORY),
-        Kind::Fprd | Kind::Fpwr => u64::from(address / HALF) + length <= u64::from(MEMORY_SIZE),
+        Kind::Fprd | Kind::Fpwr => u64::from(ado_of(address)) + length <= u64::from(MEMORY_SIZE),
     }
 }

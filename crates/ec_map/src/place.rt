@@ -13,12 +13,12 @@ ghost use Rattle.ec_map.specs.Place.{may_read, may_write, HasNoStation, IsFirstO
 ghost use Rattle.ec_map.specs.Place.{IsPlaced};
 
 use crate::item::Item;
-use crate::kind::HALF;
 use ec_app::Slave;
 use ec_esc::Controller;
 use ec_line::Kind;
 use ec_regs::registers::PROCESS_MEMORY;
 use ec_regs::{PlannedSyncMan, SyncMan};
+use ec_wire::{ado_of, adp_of};
 
 /// An addressed item that goes where a cycle may not. It names the slave, the first one of the item's
 /// station, and the item's ADO.
@@ -89,14 +89,14 @@ fn check_write(line: &[Slave], item: &Item) -> Result<(), PlaceFault>
 pub(crate) fn station_named(item: &Item) -> u16
     ensures { result ≡ station_named item.now }
 {
-    (item.address() % HALF) as u16
+    adp_of(item.address())
 }
 
 /// The first byte of the memory that it names.
 pub(crate) fn ado_named(item: &Item) -> u16
     ensures { result ≡ ado_named item.now }
 {
-    (item.address() / HALF) as u16
+    ado_of(item.address())
 }
 
 /// The first slave with a station address.

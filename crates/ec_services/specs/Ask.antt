@@ -1,6 +1,6 @@
 -- A service asks one question after the other: a datagram goes out alone in a frame, and what comes back of
 -- it decides the service, or the next question is asked.
-use Rattle.std.specs.Prelude.{◌≡◌, ℕ, ◌+◌, ◌*◌, ◌==◌, nat_lt, false, Option, None, Some, List, [], ◌∷◌}
+use Rattle.std.specs.Prelude.{◌≡◌, ℕ, ◌==◌, nat_lt, false, Option, None, Some, List, [], ◌∷◌}
 use Rattle.std.specs.Prelude.{Result, Ok, Err}
 use Rattle.ec_wire.specs.Datagram.{DatagramRecord, nth}
 use Rattle.ec_wire.specs.declared.command.Command.{Command}
@@ -14,10 +14,6 @@ use Rattle.ec_services.specs.declared.fault.MasterFault.{MasterFault}
 use Rattle.ec_services.specs.declared.fault.MasterFault.TheVariants.{NoSlave, BadAnswer, Port, Stranger}
 
 -- ---- the datagram
-
--- the address of a physical command: the ADP, and the ADO in a slave's memory
-abbrev pub physical : ℕ → ℕ → ℕ
-physical adp ado = adp + 65536 * ado
 
 -- a datagram with these data, its index and its working counter 0
 abbrev pub request : Command → ℕ → List ℕ → DatagramRecord

@@ -2,7 +2,7 @@
 -- of requests is written, and its mailbox of answers is read until a mail is there.
 use Rattle.std.specs.Prelude.{◌≡◌, ◌≤◌, ℕ, ◌+◌, ◌-◌, ◌==◌, nat_lt, if◌then◌else◌, Option, None, Some}
 use Rattle.std.specs.Prelude.{List, [], ◌∷◌, ◌++◌, replicate, Result, Ok, Err}
-use Rattle.ec_wire.specs.Datagram.{DatagramRecord}
+use Rattle.ec_wire.specs.Datagram.{DatagramRecord, address_of}
 use Rattle.ec_wire.specs.declared.command.Command.TheVariants.{Fprd, Fpwr}
 use Rattle.ec_app.specs.Mail.{mail_bytes}
 use Rattle.ec_app.specs.Table.{first_fitting}
@@ -10,7 +10,7 @@ use Rattle.ec_app.specs.declared.mail.Mail.{Mail}
 use Rattle.ec_app.specs.declared.mail.TheConstants.{MAIL_SIZE, REQUEST}
 use Rattle.ec_app.specs.declared.sdo.Sdo.{Sdo}
 use Rattle.ec_master.specs.Ports.{Trips}
-use Rattle.ec_services.specs.Ask.{physical, request, Answer, told_by, Asks, Question, Talks, write_decides}
+use Rattle.ec_services.specs.Ask.{request, Answer, told_by, Asks, Question, Talks, write_decides}
 use Rattle.ec_services.specs.declared.fault.MasterFault.{MasterFault}
 use Rattle.ec_services.specs.declared.fault.MasterFault.TheVariants.{NoAnswer, BadAnswer}
 use Rattle.ec_regs.specs.declared.sync_man.TheConstants.{SHORTEST_MAILBOX, LONGEST_MAILBOX}
@@ -47,7 +47,7 @@ request_mail peer sdo = record {
 -- the mail and zeros after it fill the mailbox of requests
 abbrev pub mail_write : Peer → Sdo → DatagramRecord
 mail_write peer sdo =
-    request Fpwr (physical peer.station peer.to.start)
+    request Fpwr (address_of peer.station peer.to.start)
     (mail_bytes (request_mail peer sdo) ++ replicate (peer.to.length - MAIL_SIZE) 0)
 
 -- the counter after this one; after 7 comes 1
@@ -72,7 +72,7 @@ pub record IsPosted {P : Type 0} (trips : Trips P) (before : P) (peer : Peer) (s
 
 -- the mailbox of answers is read, whole
 abbrev pub mail_read : Peer → DatagramRecord
-mail_read peer = request Fprd (physical peer.station peer.from.start) (replicate peer.from.length 0)
+mail_read peer = request Fprd (address_of peer.station peer.from.start) (replicate peer.from.length 0)
 
 -- a read that no slave serves finds no mail yet; one that a slave serves brings a mail
 abbrev pub mail_decides : Answer → Result (Option (List DatagramRecord)) MasterFault

@@ -3,24 +3,24 @@
 use Rattle.std.specs.Prelude.{ℕ, ◌+◌, ◌%◌, ◌==◌, nat_lt, Option, None, Some, [], ◌∷◌, drop, replicate}
 use Rattle.std.specs.Prelude.{Result, Ok, Err, slice_index}
 use Rattle.std.specs.Int.{w16, from_le_bytes}
-use Rattle.ec_wire.specs.Datagram.{DatagramRecord}
+use Rattle.ec_wire.specs.Datagram.{DatagramRecord, address_of}
 use Rattle.ec_wire.specs.declared.command.Command.TheVariants.{Fprd, Fpwr}
 use Rattle.ec_regs.specs.Al.{code_of, status_of}
 use Rattle.ec_regs.specs.declared.al.AlState.{AlState}
 use Rattle.ec_regs.specs.declared.registers.TheConstants.{AL_CONTROL, AL_STATUS}
 use Rattle.ec_app.specs.Table.{first_fitting}
 use Rattle.ec_master.specs.Ports.{Trips}
-use Rattle.ec_services.specs.Ask.{physical, request, Answer, told_by, Question, Talks, write}
+use Rattle.ec_services.specs.Ask.{request, Answer, told_by, Question, Talks, write}
 use Rattle.ec_services.specs.declared.fault.MasterFault.{MasterFault}
 use Rattle.ec_services.specs.declared.fault.MasterFault.TheVariants.{NoSlave, Refused, NoAnswer, BadAnswer}
 
 -- the state is asked for, and a standing error is acknowledged
 abbrev pub control_write : ℕ → AlState → DatagramRecord
-control_write station state = request Fpwr (physical station AL_CONTROL) ((code_of state + 16) ∷ 0 ∷ [])
+control_write station state = request Fpwr (address_of station AL_CONTROL) ((code_of state + 16) ∷ 0 ∷ [])
 
 -- AL status, two reserved bytes and the AL status code are read
 abbrev pub status_read : ℕ → DatagramRecord
-status_read station = request Fprd (physical station AL_STATUS) (replicate 6 0)
+status_read station = request Fprd (address_of station AL_STATUS) (replicate 6 0)
 
 -- what AL status decides for one who asked for a state: no slave or more than one answered, the slave refused
 -- with a code, or it is in that state

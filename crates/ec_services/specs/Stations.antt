@@ -4,14 +4,14 @@ use Rattle.std.specs.Prelude.{◌≡◌, ℕ, zero, suc, ◌+◌, ◌-◌, ◌%�
 use Rattle.std.specs.Prelude.{None, Some}
 use Rattle.std.specs.Prelude.{List, [], ◌∷◌, Result, Ok, Err, is_none}
 use Rattle.std.specs.Int.{w16, to_le_bytes}
-use Rattle.ec_wire.specs.Datagram.{DatagramRecord, nth}
+use Rattle.ec_wire.specs.Datagram.{DatagramRecord, address_of, nth}
 use Rattle.ec_wire.specs.declared.command.Command.TheVariants.{Apwr, Brd}
 use Rattle.ec_regs.specs.declared.registers.TheConstants.{STATION_ADDRESS, AL_STATUS}
 use Rattle.ec_app.specs.Table.{first_fitting}
 use Rattle.ec_ring.specs.declared.links.TheConstants.{MAX_SLAVES}
 use Rattle.ec_ring.specs.declared.weather.Came.{Came}
 use Rattle.ec_master.specs.Ports.{Trips}
-use Rattle.ec_services.specs.Ask.{physical, request, Answer, told_by, Asks, Question, Talks, write}
+use Rattle.ec_services.specs.Ask.{request, Answer, told_by, Asks, Question, Talks, write}
 use Rattle.ec_services.specs.declared.fault.MasterFault.{MasterFault}
 use Rattle.ec_services.specs.declared.fault.MasterFault.TheVariants.{NoSlave, BadAnswer, Broken}
 
@@ -19,7 +19,7 @@ use Rattle.ec_services.specs.declared.fault.MasterFault.TheVariants.{NoSlave, Ba
 
 -- the broadcast read of AL status
 abbrev pub status_broadcast : DatagramRecord
-status_broadcast = request Brd (physical 0 AL_STATUS) (0 ∷ 0 ∷ [])
+status_broadcast = request Brd (address_of 0 AL_STATUS) (0 ∷ 0 ∷ [])
 
 -- how many slaves counted on a copy; none on one that is missing
 abbrev pub counted_on : Option (List DatagramRecord) → ℕ
@@ -58,7 +58,7 @@ adp_of_place place = (65536 - place) % 65536
 -- the slave at a place is given a station address
 abbrev pub station_write : ℕ → ℕ → DatagramRecord
 station_write place station =
-    request Apwr (physical (adp_of_place place) STATION_ADDRESS) (to_le_bytes w16 station)
+    request Apwr (address_of (adp_of_place place) STATION_ADDRESS) (to_le_bytes w16 station)
 
 -- so many slaves from a place on are given rising addresses
 abbrev pub station_writes : ℕ → ℕ → ℕ → List (Question ℕ)

@@ -2,7 +2,7 @@
 
 ghost use Rattle.std.specs.Prelude.{◌≡◌, ◌≤◌, ◌<◌, IfOk, Err, length};
 ghost use Rattle.ec_wire.specs.Datagram.{record_of};
-ghost use Rattle.ec_services.specs.Ask.{physical, request, Asks, IsAsked, told_by, write, write_decides};
+ghost use Rattle.ec_services.specs.Ask.{request, Asks, IsAsked, told_by, write, write_decides};
 ghost use Rattle.ec_services.specs.Ask.{done};
 ghost use Rattle.ec_services.specs.declared.fault.MasterFault.TheVariants.{Port};
 
@@ -20,13 +20,6 @@ pub(crate) struct Back {
     pub(crate) came: Came,
     /// The frame of the one datagram that they join to.
     pub(crate) joined: FrameBuf,
-}
-
-/// The ADP and the ADO of a physical command (IEC 61158-4-12, physical addressing).
-pub(crate) fn physical(adp: u16, ado: u16) -> u32
-    ensures { result ≡ physical adp ado }
-{
-    u32::from(adp) + 65536 * u32::from(ado)
 }
 
 /// A datagram with these data, its index and its working counter 0.

@@ -9,13 +9,13 @@ ghost use Rattle.ec_services.specs.Mailbox.{mail_read};
 ghost use Rattle.ec_services.specs.Mailbox.{mail_decides, mail_question, Fetches};
 ghost use Rattle.ec_services.specs.declared.fault.MasterFault.TheVariants.{NoAnswer, Port};
 
-use crate::ask::{Back, ask, physical, request, written};
+use crate::ask::{Back, ask, request, written};
 use crate::fault::MasterFault;
 use ec_app::mail::{MAIL_SIZE, REQUEST};
 use ec_app::{Mail, Sdo};
 use ec_master::Ports;
 use ec_regs::LONGEST_MAILBOX;
-use ec_wire::{Command, Datagram, FrameBuf};
+use ec_wire::{Command, Datagram, FrameBuf, address_of};
 
 /// Room for the area of a mailbox.
 const ROOM: usize = LONGEST_MAILBOX as usize;
@@ -66,7 +66,7 @@ fn mail_write(peer: &Peer, sdo: &Sdo) -> Datagram
     };
     let mut area = [0; ROOM];
     area[..MAIL_SIZE].copy_from_slice(&mail.write());
-    let address = physical(peer.station, peer.to.start);
+    let address = address_of(peer.station, peer.to.start);
     request(Command::Fpwr, address, &area[..usize::from(peer.to.length)])
 }
 
@@ -99,7 +99,7 @@ fn mail_read(peer: &Peer) -> Datagram
     ensures { record_of result ≡ mail_read peer.now }
 {
     let area = [0; ROOM];
-    let address = physical(peer.station, peer.from.start);
+    let address = address_of(peer.station, peer.from.start);
     request(
         Command::Fprd,
         address,

@@ -6,13 +6,13 @@ ghost use Rattle.ec_services.specs.Ask.{IsAsked, Talks, done, write};
 ghost use Rattle.ec_services.specs.States.{control_write, status_decides, status_question, IsRequested};
 ghost use Rattle.ec_services.specs.declared.fault.MasterFault.TheVariants.{NoAnswer, Port};
 
-use crate::ask::{Back, ask, physical, request, write};
+use crate::ask::{Back, ask, request, write};
 use crate::fault::MasterFault;
 use byteorder::{ByteOrder, LittleEndian};
 use ec_master::Ports;
 use ec_regs::registers::{AL_CONTROL, AL_STATUS};
 use ec_regs::{AlState, AlStatus};
-use ec_wire::Command;
+use ec_wire::{Command, address_of};
 
 /// Bit 4 of AL control: the master acknowledges an error.
 const ACKNOWLEDGE: u8 = 0x10;
@@ -30,7 +30,7 @@ fn write_control<P: Ports>(ports: &mut P, station: u16, state: AlState) -> Resul
     ensures counted { result ≡ Err Port → P.failed ports.old < P.failed ports.new }
     ensures never_lower { P.failed ports.old ≤ P.failed ports.new }
 {
-    let address = physical(station, AL_CONTROL);
+    let address = address_of(station, AL_CONTROL);
     let sent = request(Command::Fpwr, address, &[state.code() + ACKNOWLEDGE, 0]);
     write(ports, &sent)
 }
@@ -67,7 +67,7 @@ fn read_status<P: Ports>(
     ensures counted { result ≡ Err Port → P.failed ports.old < P.failed ports.new }
     ensures never_lower { P.failed ports.old ≤ P.failed ports.new }
 {
-    let address = physical(station, AL_STATUS);
+    let address = address_of(station, AL_STATUS);
     let sent = request(Command::Fprd, address, &[0; STATUS_BYTES]);
     status_decides(&ask(ports, &sent)?, state)
 }

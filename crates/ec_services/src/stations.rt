@@ -10,12 +10,12 @@ ghost use Rattle.ec_services.specs.Stations.{status_broadcast, counted_on, is_br
 ghost use Rattle.ec_services.specs.Stations.{adp_of_place, station_write, AreAssigned, IsCounted};
 ghost use Rattle.ec_services.specs.declared.fault.MasterFault.TheVariants.{Port};
 
-use crate::ask::{Back, ask, physical, request, write};
+use crate::ask::{Back, ask, request, write};
 use crate::fault::MasterFault;
 use ec_master::Ports;
 use ec_regs::registers::{AL_STATUS, STATION_ADDRESS};
 use ec_ring::{Came, MAX_SLAVES};
-use ec_wire::{Command, FrameBuf};
+use ec_wire::{Command, FrameBuf, address_of};
 
 /// How many slaves counted on a copy.
 fn counted_on(copy: &Option<FrameBuf>) -> u16
@@ -59,7 +59,7 @@ fn count_slaves<P: Ports>(ports: &mut P) -> Result<u16, MasterFault>
     ensures counted { result ≡ Err Port → P.failed ports.old < P.failed ports.new }
     ensures never_lower { P.failed ports.old ≤ P.failed ports.new }
 {
-    let sent = request(Command::Brd, physical(0, AL_STATUS), &[0; 2]);
+    let sent = request(Command::Brd, address_of(0, AL_STATUS), &[0; 2]);
     slave_count(&ask(ports, &sent)?)
 }
 
@@ -70,7 +70,7 @@ fn write_station<P: Ports>(ports: &mut P, place: u16, station: u16) -> Result<()
     ensures counted { result ≡ Err Port → P.failed ports.old < P.failed ports.new }
     ensures never_lower { P.failed ports.old ≤ P.failed ports.new }
 {
-    let address = physical(place.wrapping_neg(), STATION_ADDRESS);
+    let address = address_of(place.wrapping_neg(), STATION_ADDRESS);
     let sent = request(Command::Apwr, address, &station.to_le_bytes());
     write(ports, &sent)
 }

@@ -3,7 +3,7 @@
 use Rattle.std.proofs.Common.{◌≡◌, ℕ, ◌+◌, ◌*◌, ◌/◌, ◌%◌, ◌<◌, ◌^◌, ◌==◌, ◌&&◌, ◌⊎◌, Bool, true, false, not}
 use Rattle.std.proofs.Common.{nat_lt, Some, None, List, [], ◌∷◌, ◌++◌, length, take, drop, get_or, refl, sym}
 use Rattle.std.proofs.Common.{ap, ◌∙◌, subst, inl, inr, arith}
-use Rattle.std.specs.Prelude.{All, Result, Ok, Err, IfOk, IfErr}
+use Rattle.std.specs.Prelude.{All, Result, Ok, Err, IsErr, IfErr}
 use Rattle.std.specs.Int.{w16, from_le_bytes}
 use Rattle.std.proofs.lemmas.Bool.{true≢false, false≢true}
 use Rattle.std.proofs.lemmas.Bool.Decides.{nat_tests}
@@ -365,17 +365,8 @@ one_fault form bytes f g a b =
       ]
     ]
 
--- What is found where it is spelt and a fault where it is the first one is the only answer.
-pub only_found-decoded : (form : Form) (bytes : List ℕ) (r : Result (List DatagramRecord) WireFault)
-    → IfOk r (λ rs. IsSpelt form bytes rs) → IfErr r (λ f. IsFirstFault form bytes f)
-    → (rs : List DatagramRecord) → IsSpelt form bytes rs → r ≡ Ok rs
-only_found-decoded form bytes (Ok ss) found failed rs spelt = ap Ok (one_value form bytes ss rs found spelt)
-only_found-decoded form bytes (Err f) found failed rs spelt =
-    absurd (spelt_no_fault form bytes rs f spelt failed)
-
-pub only_fault-decoded : (form : Form) (bytes : List ℕ) (r : Result (List DatagramRecord) WireFault)
-    → IfOk r (λ rs. IsSpelt form bytes rs) → IfErr r (λ f. IsFirstFault form bytes f) → (f : WireFault)
-    → IsFirstFault form bytes f → r ≡ Err f
-only_fault-decoded form bytes (Ok ss) found failed f first =
-    absurd (spelt_no_fault form bytes ss f found first)
-only_fault-decoded form bytes (Err g) found failed f first = ap Err (one_fault form bytes g f failed first)
+-- A fault that is the first one is the only answer.
+pub only_fault : {A : Type 0} (form : Form) (bytes : List ℕ) (r : Result A WireFault) → IsErr r
+    → IfErr r (λ f. IsFirstFault form bytes f) → (f : WireFault) → IsFirstFault form bytes f → r ≡ Err f
+only_fault form bytes (Ok a) is failed f first = cc
+only_fault form bytes (Err g) is failed f first = ap Err (one_fault form bytes g f failed first)

@@ -8,7 +8,7 @@ use Rattle.std.specs.Int.{w16, to_le_bytes}
 use Rattle.std.proofs.lemmas.Bool.{true≢false}
 use Rattle.std.proofs.lemmas.Bool.Decides.{nat_tests}
 use Rattle.std.proofs.lemmas.List.{append_assoc, append-nil, length-append, length-drop, take-append-drop}
-use Rattle.std.proofs.lemmas.List.{drop-drop, map-append, length-take-le, take-take}
+use Rattle.std.proofs.lemmas.List.{drop-drop, map-append, length-take-le, take-take, take_at}
 use Rattle.std.proofs.lemmas.List.Elements.{All-push, All-nil}
 use Rattle.std.proofs.lemmas.List.Sums.{sum_by_push}
 use Rattle.std.proofs.Math.ListN.{drop_of_length-le}
@@ -18,10 +18,13 @@ use Rattle.ec_wire.specs.Spelling.{datagram, body, body_length, front, header, s
 use Rattle.ec_wire.specs.Frame.{starts_from, records_at, Keeps}
 use Rattle.ec_wire.specs.Fault.{first_of, header_word, stated_length, frame_end, header_tests, header_fault}
 use Rattle.ec_wire.specs.Fault.{datagram_tests, datagram_fault, FailsWithin, AreSpelt, IsSpeltBefore}
+use Rattle.ec_wire.specs.Fault.{MayStandBehind, IsSpelt, IsOutline}
+use Rattle.ec_wire.specs.declared.fault.Form.{Form}
 use Rattle.ec_wire.specs.declared.fault.WireFault.{WireFault}
 use Rattle.ec_wire.proofs.DatagramLemmas.{AreBytes, Passes, datagram-record_at, Fits-record_at, AreBytes-drop}
 use Rattle.ec_wire.proofs.DatagramLemmas.{le_bytes_first}
-use Rattle.ec_wire.proofs.SpellingLemmas.{length-body, length-front, length-starts_from}
+use Rattle.ec_wire.proofs.SpellingLemmas.{length-body, length-front, length-starts_from, length-spelling}
+use Rattle.ec_wire.proofs.SpellingLemmas.{records_at-keeps}
 use Rattle.ec_wire.proofs.WriteLemmas.{is_nil-push, body-push, front-push, starts_from-push, Keeps-made}
 use Rattle.ec_wire.proofs.FrameLemmas.{twelve_each}
 
@@ -295,20 +298,43 @@ IsSpeltBefore-spelt bytes starts rs all none spelt = record {
       ∙ ap (λ xs. xs ++ drop (frame_end bytes) bytes) (spelling-spelt bytes starts rs all none spelt);
 }
 
--- the frame that keeps the bytes' datagrams
-pub Keeps-spelt : (bytes starts cells zeros : List ℕ) (rs : List DatagramRecord) → AreBytes bytes
-    → header_fault bytes ≡ None → AreSpelt (take (frame_end bytes) bytes) starts rs → length zeros ≡ 1500
-    → cells ≡ take (frame_end bytes) bytes ++ drop (0 + length (take (frame_end bytes) bytes)) zeros
-    → Keeps cells (frame_end bytes) starts rs
+-- the outline of a frame whose datagrams begin at these places
+pub IsOutline-spelt : (form : Form) (bytes starts : List ℕ) (rs : List DatagramRecord) → AreBytes bytes
+    → header_fault bytes ≡ None → AreSpelt (take (frame_end bytes) bytes) starts rs
+    → MayStandBehind form (drop (frame_end bytes) bytes) → IsOutline form bytes rs (frame_end bytes) starts
+IsOutline-spelt form bytes starts rs all none spelt behind = record {
+  spelt = (drop (frame_end bytes) bytes, IsSpeltBefore-spelt bytes starts rs all none spelt, behind);
+  end_is = ap (λ n. 2 + n) (stated-body bytes rs all none spelt.split);
+  starts_are = spelt.starts_are;
+}
+
+-- Cells that begin with the bytes up to the frame's end keep its datagrams, whatever stood there before.
+pub Keeps-outline : (form : Form) (bytes : List ℕ) (rs : List DatagramRecord) (end : ℕ)
+    (starts cells before : List ℕ) → IsOutline form bytes rs end starts → length before ≡ 1500
+    → cells ≡ take end bytes ++ drop (0 + length (take end bytes)) before → Keeps cells end starts rs
 unfolding spelling
-Keeps-spelt bytes starts cells zeros rs all none spelt long made =
-    let h = HeaderGoesOn-none bytes all none in
-    let count = stated-body bytes rs all none spelt.split in
-    let size = length-take-le (frame_end bytes) bytes h.whole in
-    let left = length-drop (0 + length (take (frame_end bytes) bytes)) zeros in
-    let rest = drop (0 + length (take (frame_end bytes) bytes)) zeros in
-    let whole = length-append (take (frame_end bytes) bytes) rest in
-    Keeps-made cells (frame_end bytes) starts rs rest (IsFrameValue-spelt bytes starts rs all none spelt)
-    (made ∙ ap (λ xs. xs ++ rest) (spelling-spelt bytes starts rs all none spelt)
-    ∙ append_assoc (header (body_length rs)) (body rs) rest)
-    spelt.starts_are (ap (λ n. 2 + n) count) (ap length made ∙ whole ∙ (let room = h.room in omega arith))
+Keeps-outline form bytes rs end starts cells before outline long made =
+    let spelt = outline.spelt.1 in
+    let whole : take end bytes ≡ spelling rs =
+    ap (λ xs. take end xs) spelt.split
+    ∙ take_at (spelling rs) outline.spelt.0 end (length-spelling rs ∙ sym outline.end_is) in
+    let size : length (take end bytes) ≡ end =
+    ap length whole ∙ length-spelling rs ∙ sym outline.end_is in
+    let behind = drop (0 + length (take end bytes)) before in
+    let left = length-drop (0 + length (take end bytes)) before in
+    let all = length-append (take end bytes) behind in
+    let room = spelt.value.room in
+    let end_is = outline.end_is in
+    Keeps-made cells end starts rs behind spelt.value
+    (made ∙ ap (λ xs. xs ++ behind) whole ∙ append_assoc (header (body_length rs)) (body rs) behind)
+    outline.starts_are end_is (ap length made ∙ all ∙ omega arith)
+
+-- What is seen of such cells is what the bytes spell.
+pub IsSpelt-outline : (form : Form) (bytes : List ℕ) (rs : List DatagramRecord) (end : ℕ)
+    (starts cells before : List ℕ) → IsOutline form bytes rs end starts → length before ≡ 1500
+    → cells ≡ take end bytes ++ drop (0 + length (take end bytes)) before
+    → IsSpelt form bytes (records_at cells starts)
+IsSpelt-outline form bytes rs end starts cells before outline long made =
+    let kept = Keeps-outline form bytes rs end starts cells before outline long made in
+    let P : List DatagramRecord → Type 0 = IsSpelt form bytes in
+    subst P (sym (records_at-keeps cells end starts rs kept)) outline.spelt

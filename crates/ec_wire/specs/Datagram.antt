@@ -67,6 +67,10 @@ adp_of address = address % 65536
 abbrev pub ado_of : ℕ → ℕ
 ado_of address = address / 65536
 
+-- the address of both halves
+abbrev pub address_of : ℕ → ℕ → ℕ
+address_of adp ado = adp + 65536 * ado
+
 -- those of a datagram
 abbrev pub adp : DatagramRecord → ℕ
 adp r = adp_of r.address

@@ -5,7 +5,7 @@ use Rattle.std.specs.Prelude.{Some, None, List, [], ◌∷◌, ◌++◌, length,
 use Rattle.std.specs.Prelude.{if◌then◌else◌}
 use Rattle.std.specs.Int.{w16, from_le_bytes}
 use Rattle.ec_wire.specs.Datagram.{DatagramRecord, Fits}
-use Rattle.ec_wire.specs.Spelling.{is_nil, front, body, spelling, IsFrameValue}
+use Rattle.ec_wire.specs.Spelling.{is_nil, front, body, body_length, spelling, IsFrameValue}
 use Rattle.ec_wire.specs.Frame.{starts_from}
 use Rattle.ec_wire.specs.Decoding.{length_field, data_length, says_more}
 use Rattle.ec_wire.specs.declared.fault.Form.{Form}
@@ -114,4 +114,11 @@ pub record AreSpelt (frame : List ℕ) (starts : List ℕ) (rs : List DatagramRe
   pub some : is_nil rs ≡ false
   pub fits : All Fits rs
   pub split : drop 2 frame ≡ body rs
+  pub starts_are : starts ≡ starts_from 2 rs
+
+-- The bytes are a frame of this value in this form, it ends there, and its datagrams begin at these places.
+pub record IsOutline (form : Form) (bytes : List ℕ) (rs : List DatagramRecord) (end : ℕ)
+    (starts : List ℕ) : Type 0 where
+  pub spelt : IsSpelt form bytes rs
+  pub end_is : end ≡ 2 + body_length rs
   pub starts_are : starts ≡ starts_from 2 rs

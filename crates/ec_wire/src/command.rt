@@ -54,6 +54,9 @@ pub enum Command {
     Frmw,
 }
 
+/// The highest code of a command.
+pub(crate) const LAST_CODE: u8 = 14;
+
 impl Command {
     /// The command of a code from the wire, 0 to 14; a higher code has none.
     #[tactic(auto, unfolding(crate::specs::Datagram::command_of))]

@@ -1,6 +1,7 @@
 ghost use Rattle.std.specs.Prelude.{◌≡◌, ◌≤◌};
 
 use crate::command::Command;
+use crate::layout::OVERHEAD;
 use arrayvec::ArrayVec;
 
 /// The most data bytes that a datagram may carry: those that fill a frame alone.
@@ -39,6 +40,6 @@ impl Datagram {
         let _address = self.address;
         let _irq = self.irq;
         let _counter = self.counter;
-        12 + self.payload.len()
+        OVERHEAD + self.payload.len()
     }
 }

@@ -3,7 +3,8 @@ ghost use Rattle.std.specs.Borrow.{sem};
 ghost use Rattle.ec_wire.specs.Datagram.{nth, with_adp};
 ghost use Rattle.ec_wire.specs.Lending.{LendsData};
 
-use crate::frame::{ADDRESS, FrameBuf, HEAD, IRQ, LENGTH};
+use crate::frame::FrameBuf;
+use crate::layout::{ADDRESS, HEAD, IRQ, LENGTH};
 use crate::write::length_field;
 
 impl FrameBuf {

@@ -4,44 +4,22 @@ ghost use Rattle.ec_wire.specs.Datagram.{nth, record_of, adp, ado};
 ghost use Rattle.ec_wire.specs.Spelling.{spelling, IsFrameValue};
 ghost use Rattle.ec_wire.specs.Frame.{start_of};
 
+use crate::address::{ado_of, adp_of};
 use crate::cells::Cells;
 use crate::command::Command;
 use crate::datagram::{Datagram, MAX_DATA};
+use crate::layout::{ADDRESS, CIRCULATING, HEAD, INDEX, IRQ, LENGTH, LENGTHS, OVERHEAD};
 use arrayvec::ArrayVec;
 use std::marker::Model;
 
 /// The most bytes of a frame: an Ethernet payload.
 pub const MAX_FRAME: usize = 1500;
 
+/// Room for a packet: one byte more than a frame has, so that a longer packet is seen to be none.
+pub const PACKET_ROOM: usize = MAX_FRAME + 1;
+
 /// The most datagrams of a frame: each takes at least twelve bytes.
 pub const MAX_DATAGRAMS: usize = 124;
-
-/// Where the fields of a datagram begin, in bytes from its command.
-const INDEX: usize = 1;
-
-pub(crate) const ADDRESS: usize = 2;
-
-pub(crate) const LENGTH: usize = 6;
-
-pub(crate) const IRQ: usize = 8;
-
-/// How many values each half of an address has.
-const HALF: u32 = 0x1_0000;
-
-/// The bytes of a datagram before its data.
-pub(crate) const HEAD: usize = 10;
-
-/// What a datagram takes beside its data: its head, and two bytes of the working counter.
-pub(crate) const OVERHEAD: usize = HEAD + 2;
-
-/// The length field: the data length is what is below this,
-pub(crate) const LENGTHS: u16 = 1 << 11;
-
-/// then come three reserved bits, the circulating bit
-pub(crate) const CIRCULATING: u16 = 1 << 14;
-
-/// and the more bit.
-pub(crate) const MORE: u16 = 1 << 15;
 
 /// A frame in place: at least one datagram, at most 1,500 bytes, always spelt as IEC 61158-4-12
 /// says. Contracts see it as the list of its datagrams' records.
@@ -86,8 +64,8 @@ impl FrameBuf {
     pub(crate) fn start(&self, k: usize) -> usize
         requires { k < length self.now }
         ensures value { result ≡ start_of self.now k }
-        ensures room { result + 12 + length (nth self.now k).payload ≤ 1500 }
-        ensures count { length self.now ≤ 124 }
+        ensures room { result + OVERHEAD + length (nth self.now k).payload ≤ MAX_FRAME }
+        ensures count { length self.now ≤ MAX_DATAGRAMS }
     {
         usize::from(self.starts[k])
     }
@@ -134,7 +112,7 @@ impl FrameBuf {
         requires { k < length self.now }
         ensures { result ≡ adp (nth self.now k) }
     {
-        (self.address(k) % HALF) as u16
+        adp_of(self.address(k))
     }
 
     /// The high half of the address of the datagram at `k`: of a physical command the ADO, the first address
@@ -143,7 +121,7 @@ impl FrameBuf {
         requires { k < length self.now }
         ensures { result ≡ ado (nth self.now k) }
     {
-        (self.address(k) / HALF) as u16
+        ado_of(self.address(k))
     }
 
     /// The circulating bit of the datagram at `k`.

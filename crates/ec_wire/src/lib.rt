@@ -26,22 +26,26 @@
 //!
 //! - [`FrameBuf::read`] takes exactly the bytes that spell a frame, and names the first fault of all others
 //!   (`found`, `only_found`, `fault`, `only_fault`); no two frames have one spelling ([`one_spelling`]);
+//! - [`FrameBuf::refill`] reads the same into a frame that is kept, which a fault leaves as it is;
 //! - each setter, and [`FrameBuf::data_mut`], replaces one field of one datagram and leaves all else;
 //! - [`FrameBuf::push`] adds a datagram behind the others, or leaves the frame as it is where none fits.
 
+mod address;
 mod cells;
 mod command;
 mod datagram;
 mod edit;
 mod fault;
 mod frame;
+mod layout;
 mod read;
 mod write;
 
+pub use address::{address_of, ado_of, adp_of};
 pub use command::{Addressing, Command};
 pub use datagram::{Datagram, MAX_DATA};
 pub use fault::{FaultKind, Form, WireFault};
-pub use frame::{FrameBuf, MAX_DATAGRAMS, MAX_FRAME};
+pub use frame::{FrameBuf, MAX_DATAGRAMS, MAX_FRAME, PACKET_ROOM};
 pub use read::one_spelling;
 pub use write::Full;
 

@@ -4,3 +4,4 @@ mod door;
 mod editing;
 mod grammar;
 mod largest;
+mod refilling;

@@ -5,7 +5,10 @@ ghost use Rattle.ec_wire.specs.Spelling.{datagram, bit_of, body_length};
 
 use crate::cells::Cells;
 use crate::datagram::Datagram;
-use crate::frame::{ADDRESS, CIRCULATING, FrameBuf, HEAD, IRQ, LENGTH, MAX_FRAME, MORE};
+use crate::frame::{FrameBuf, MAX_FRAME};
+use crate::layout::{
+    ADDRESS, CIRCULATING, COMMANDS, HEAD, HEADER, IRQ, LENGTH, MORE, OVERHEAD, TYPE,
+};
 use arrayvec::ArrayVec;
 
 /// The frame has no room for one more datagram.
@@ -20,20 +23,17 @@ pub(crate) fn length_field(length: usize, circulating: bool, more: bool) -> u16
     length as u16 + CIRCULATING * u16::from(circulating) + MORE * u16::from(more)
 }
 
-/// Type 1, EtherCAT commands, in the frame's header.
-const TYPE_1: u16 = 1 << 12;
-
-/// The frame's header: the length of all datagrams, and type 1.
+/// The frame's header: the length of all datagrams, and the type of EtherCAT commands.
 fn header_field(length: usize) -> u16
     requires { length < 2048 }
     ensures { result ≡ length + 4096 }
 {
-    length as u16 + TYPE_1
+    length as u16 + TYPE * COMMANDS
 }
 
 /// Writes a datagram's bytes from `at` on; `more` says that another one follows it.
 fn write_datagram(cells: &mut Cells<MAX_FRAME>, at: usize, written: &Datagram, more: bool)
-    requires { at + 12 + length written.now.payload.items ≤ 1500 }
+    requires { at + OVERHEAD + length written.now.payload.items ≤ MAX_FRAME }
     ensures { cells.new.bytes ≡ take at cells.old.bytes
         ++ (datagram more (record_of written.now)
         ++ drop (at + datagram_length (record_of written.now)) cells.old.bytes) }
@@ -56,12 +56,12 @@ impl FrameBuf {
         let length = datagram.wire_length();
         let mut cells = Cells::new();
         cells.put(0, &header_field(length).to_le_bytes());
-        write_datagram(&mut cells, 2, datagram, false);
+        write_datagram(&mut cells, HEADER, datagram, false);
         let mut starts = ArrayVec::new();
-        starts.push(2);
+        starts.push(HEADER as u16);
         FrameBuf {
             cells,
-            size: 2 + length,
+            size: HEADER + length,
             starts,
         }
     }
@@ -83,7 +83,7 @@ impl FrameBuf {
         let field = length_field(self.data_len(last), self.circulating(last), true);
         self.cells.put(field_at, &field.to_le_bytes());
         write_datagram(&mut self.cells, at, datagram, false);
-        self.cells.put(0, &header_field(end - 2).to_le_bytes());
+        self.cells.put(0, &header_field(end - HEADER).to_le_bytes());
         self.starts.push(at as u16);
         self.size = end;
         Ok(())

@@ -2,16 +2,11 @@
 
 ghost use Rattle.std.specs.Prelude.{◌≤◌, IfOk, IfSome};
 ghost use Rattle.ecat_serve.specs.Ends.{Receives, Sends};
-ghost use Rattle.ecat_serve.specs.declared.ends.TheConstants.{PACKET_ROOM};
+ghost use Rattle.ec_wire.specs.declared.frame.TheConstants.{PACKET_ROOM};
 
 use ec_master::PortFault;
 use ec_ring::Port;
-use ec_wire::MAX_FRAME;
 use std::net::SocketAddr;
-
-/// How many bytes of a packet are received: one more than the longest frame has, so that a packet of which
-/// a part is cut off fills them and is no frame.
-pub const PACKET_ROOM: usize = MAX_FRAME + 1;
 
 /// A packet that came in.
 #[derive(Clone, Copy, PartialEq, Eq, Debug)]

@@ -35,7 +35,7 @@ pub mod ends;
 pub mod served;
 pub mod sockets;
 
-pub use ends::{Arrived, Ends, PACKET_ROOM};
+pub use ends::{Arrived, Ends};
 pub use served::{Counts, Round, Served};
 pub use sockets::{BindFault, UdpEnds};
 

@@ -8,10 +8,10 @@ ghost use Rattle.ecat_serve.specs.Answering.{AreServed, Replies, Walks};
 ghost use Rattle.ecat_serve.specs.Rounds.{IsAnswered, IsDropped, IsRound, Serves, round_of};
 ghost use Rattle.ecat_serve.specs.State.{peer_at, spoken};
 
-use crate::ends::{Arrived, Ends, PACKET_ROOM};
+use crate::ends::{Arrived, Ends};
 use ec_master::PortFault;
 use ec_ring::{Links, Port, Ring, Travel};
-use ec_wire::{Form, FrameBuf};
+use ec_wire::{Form, FrameBuf, PACKET_ROOM};
 use std::marker::Model;
 use std::net::SocketAddr;
 

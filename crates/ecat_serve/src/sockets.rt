@@ -2,7 +2,7 @@
 
 ghost use Rattle.std.specs.Prelude.{◌≡◌, ◌≤◌, ◌⊎◌, ◌↔◌, Err, IfOk, IfSome};
 ghost use Rattle.ecat_serve.specs.Ends.{any_receive, any_send};
-ghost use Rattle.ecat_serve.specs.declared.ends.TheConstants.{PACKET_ROOM};
+ghost use Rattle.ec_wire.specs.declared.frame.TheConstants.{PACKET_ROOM};
 
 use crate::ends::{Arrived, Ends};
 use ec_master::PortFault;

@@ -48,7 +48,7 @@ pub mod line;
 pub mod ports;
 pub mod sockets;
 
-pub use line::{PACKET_ROOM, PacketLine, Socket};
+pub use line::{PacketLine, Socket};
 pub use ports::UdpPorts;
 pub use sockets::{BindFault, UdpLine};
 

@@ -1,15 +1,10 @@
 //! What carries the packets between a master and the ends of its line.
 
 ghost use Rattle.std.specs.Prelude.{◌≡◌, ◌≤◌, ◌<◌, ℕ, IfOk, IfSome, IsErr};
-ghost use Rattle.ecat_udp.specs.declared.line.TheConstants.{PACKET_ROOM};
+ghost use Rattle.ec_wire.specs.declared.frame.TheConstants.{PACKET_ROOM};
 
 use ec_master::PortFault;
 use ec_ring::Port;
-use ec_wire::MAX_FRAME;
-
-/// How many bytes of a packet are received: one more than the longest frame has, so that a packet of which
-/// a part is cut off fills them and is no frame.
-pub const PACKET_ROOM: usize = MAX_FRAME + 1;
 
 /// The sockets between which packets go: one at each port of the master, and one at each end of the line.
 #[derive(Clone, Copy, PartialEq, Eq, Debug)]

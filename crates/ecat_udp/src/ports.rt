@@ -7,10 +7,10 @@ ghost use Rattle.ec_wire.specs.declared.fault.Form.TheVariants.{Udp};
 ghost use Rattle.ecat_udp.specs.Sockets.{master_at, line_at};
 ghost use Rattle.ecat_udp.specs.Trips.{any_trip, after_copy, IsWalkedOnce, IsWalked};
 
-use crate::line::{PACKET_ROOM, PacketLine, Socket};
+use crate::line::{PacketLine, Socket};
 use ec_master::{PortFault, Ports};
 use ec_ring::{Came, Port, Ring, Travel};
-use ec_wire::{Form, FrameBuf};
+use ec_wire::{Form, FrameBuf, PACKET_ROOM};
 use std::marker::Model;
 
 /// A master's two ports whose frames go out in packets, and behind them the ring that answers. Contracts see

@@ -91,3 +91,18 @@ fn a_datagram_fills_a_frame_alone(rt: HostRuntime) -> Result<(), Fail> {
     edited_is_read_again(&rt, &mut frame);
     Ok(())
 }
+
+#[test]
+fn frames_of_124_and_of_one_are_read_into_one_place(rt: HostRuntime) -> Result<(), Fail> {
+    let many = many(&rt);
+    let one = wide(&rt);
+    let mut kept = one.copy();
+    kept.refill(many.bytes(), Form::Udp)?;
+    assert_eq!(rt; kept.count(), 124);
+    assert_eq!(rt; kept.bytes(), many.bytes());
+    kept.refill(one.bytes(), Form::Udp)?;
+    assert_eq!(rt; kept.count(), 1);
+    assert_eq!(rt; kept.data(0).len(), MAX_DATA);
+    assert_eq!(rt; kept.bytes(), one.bytes());
+    Ok(())
+}

@@ -2,8 +2,9 @@
 
 ghost use Rattle.std.specs.Prelude.{◌≡◌, ◌≤◌, ◌<◌, IsErr};
 
-use crate::{PACKET_ROOM, PacketLine, Socket};
+use crate::{PacketLine, Socket};
 use ec_master::PortFault;
+use ec_wire::PACKET_ROOM;
 
 /// A call of a line.
 #[derive(Clone, Copy, PartialEq, Eq, Debug)]

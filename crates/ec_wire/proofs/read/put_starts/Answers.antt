@@ -6,10 +6,10 @@ use Rattle.ec_wire.specs.Fault.{datagram_fault}
 use Rattle.ec_wire.proofs.DatagramLemmas.{AreBytes}
 use Rattle.ec_wire.proofs.ReadLemmas.{Reached-start, Reached-more, AreSpelt-last, starts-room, not_false}
 use Rattle.ec_wire.proofs.ReadLemmas.{not_true}
-use Rattle.ec_wire.proofs.read.datagram_starts.Goals as goal
+use Rattle.ec_wire.proofs.read.put_starts.Goals as goal
 
 pub loop-ahead-init : goal.loop-ahead-init
-loop-ahead-init c = Reached-start _ _ c.requires.some c.new-starts.ensures
+loop-ahead-init c = Reached-start _ _ c.requires.some c.requires.none
 
 pub push-requires : goal.push-requires
 push-requires c =

@@ -1,0 +1,40 @@
+//! The two halves of a physical command's address (IEC 61158-4-12, physical addressing).
+ghost use Rattle.std.specs.Prelude.{◌≡◌};
+ghost use Rattle.ec_wire.specs.Datagram.{address_of, adp_of, ado_of};
+
+/// How many values each half has.
+const HALF: u32 = 0x1_0000;
+
+/// The address of this ADP and this ADO.
+pub fn address_of(adp: u16, ado: u16) -> u32
+    ensures { result ≡ address_of adp ado }
+{
+    u32::from(adp) + HALF * u32::from(ado)
+}
+
+/// The ADP of an address, which names the slave: the low half.
+pub fn adp_of(address: u32) -> u16
+    ensures { result ≡ adp_of address }
+{
+    (address % HALF) as u16
+}
+
+/// The ADO of an address, the first address in the slave's memory: the high half.
+pub fn ado_of(address: u32) -> u16
+    ensures { result ≡ ado_of address }
+{
+    (address / HALF) as u16
+}
+
+#[cfg(test)]
+mod tests {
+    use super::*;
+
+    #[test]
+    fn an_address_is_put_together_and_split(rt: HostRuntime) {
+        let address = address_of(0x1001, 0x0130);
+        assert_eq!(rt; address, 0x0130_1001);
+        assert_eq!(rt; adp_of(address), 0x1001);
+        assert_eq!(rt; ado_of(address), 0x0130);
+    }
+}
