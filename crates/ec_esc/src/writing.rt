@@ -1,6 +1,6 @@
-//! The write of a range of addresses by a physical command (IEC 61158-4-12, physical memory access). It leaves
-//! more than the bytes that it wrote: the status of sync managers that it switched or filled, the shown bytes,
-//! and the mark that AL control was written (IEC 61158-4-12, sync manager).
+//! The write of a range of addresses by a physical command (IEC 61158-4-12, physical memory access). It
+//! leaves more than the bytes that it wrote: the status of sync managers that it switched or filled, the
+//! shown bytes, and the mark that AL control was written (IEC 61158-4-12, sync manager).
 
 ghost use Rattle.std.specs.Prelude.{◌≡◌, ◌+◌, ◌*◌, ◌/◌, ◌-◌, ◌≤◌, ◌<◌, ◌&&◌, ◌||◌, not, ℕ, List, length};
 ghost use Rattle.std.specs.Prelude.{if◌then◌else◌, slice_set, Some, None};

@@ -5,11 +5,8 @@ use crate::number::{bytes, double_word, number, test_bytes, word};
 use crate::reader::{NamedLink, Reader};
 use crate::scene::{Action, MAX_ACTIONS, MAX_ITEMS, MAX_WEATHERS, SceneWeather};
 use ec_map::{Item, Kind};
-use ec_wire::{Form, FrameBuf};
+use ec_wire::{Form, FrameBuf, address_of};
 use std::alloc::Global;
-
-/// Where the ADO stands in the address of an addressed item, above the station, in bits.
-const ADO_AT: u32 = 16;
 
 /// What a weather line says of lost copies.
 #[derive(Clone, Copy)]
@@ -99,7 +96,7 @@ impl Reader {
         test_bytes(row)?;
         let station = word(station)?;
         let address = word(address)?;
-        self.add_item(kind, u32::from(address) << ADO_AT | u32::from(station), row)
+        self.add_item(kind, address_of(station, address), row)
     }
 
     /// Adds an item of these data if there is one.
