@@ -11,9 +11,10 @@ ghost use Rattle.ec_esc.specs.Pass.{only_reads, only_writes, written_by, Arrives
 
 use crate::controller::Controller;
 use crate::process::are_bytes;
+use arrayvec::ArrayVec;
 use ec_areas::{are_apart, last_bytes_written, read_mapped};
 use ec_regs::PlannedSyncMan;
-use ec_wire::FrameBuf;
+use ec_wire::{FrameBuf, MAX_DATA};
 
 /// What the working counter gains for a read that is served.
 const READ_SHARE: u16 = 1;
@@ -150,9 +151,11 @@ impl Controller {
             ≡ (mapped_read self.old (nth frame.old k).address (length (nth frame.old k).payload)).gain
             + (mapped_write 2 self.old (nth frame.old k).address (length (nth frame.old k).payload)).gain }
     {
-        let arrived = frame.get(k);
+        let address = frame.address(k);
+        let mut arrived: ArrayVec<u8, MAX_DATA> = ArrayVec::new();
+        arrived.try_extend_from_slice(frame.data(k)).unwrap();
         let is_read = self.fill_data(frame, k);
-        let is_written = self.write_data(arrived.address, arrived.payload.as_slice());
+        let is_written = self.write_data(address, arrived.as_slice());
         exchange_share(is_read, is_written)
     }
 
