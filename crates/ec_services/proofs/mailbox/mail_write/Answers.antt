@@ -10,7 +10,8 @@ use Rattle.ec_services.proofs.mailbox.mail_write.Goals as goal
 pub returns : goal.returns
 returns c =
     c.request.ensures
-    ∙ rw (c.address_of-address.ensures, c.from.ensures, c.copy_from_slice.ensures.after, c.write.ensures.value)
+    ∙ rw
+    (c.address_of-address.ensures, c.from.ensures, c.copy_from_slice.ensures.after, c.write.ensures.value)
     (ap (request Fpwr (address_of c.args.peer.now.station c.args.peer.now.to.start))
     (mail_area c.args.peer.now.to.length (mail_bytes (request_mail c.args.peer.now c.args.sdo.now))
     (sym (ap length (c.copy_from_slice.ensures.after ∙ c.write.ensures.value))
