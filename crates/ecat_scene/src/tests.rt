@@ -3,6 +3,7 @@
 
 use crate::{Action, LineFault, MAX_TEXT, Scene, SceneFault, Setting};
 use ec_regs::{Fmmu, SyncMan};
+use std::fmt::Debug;
 use std::process::Abort;
 
 mod door;
@@ -14,13 +15,19 @@ const FIRST: &[u8] =
     b"slave 0x1001\nsm 3 0x1100 1 read\nfmmu 0 0x10000 1 0 7 0x1100 0 read\nmem 0x1100 12\n\
     frame 0d100a000000010001000000000000";
 
-/// Whether the text is refused with this fault in this line.
-fn refused(rt: &impl AllocGlobal, text: &[u8], line: usize, fault: LineFault) -> bool {
+/// Asserts that the text is refused with this fault in this line.
+fn refused(rt: &(impl AllocGlobal + Abort), text: &[u8], line: usize, fault: LineFault) {
     match Scene::read(rt.alloc(), text) {
-        Err(SceneFault::NoMemory) => true,
-        Err(found) => found == SceneFault::Line { line, fault },
-        Ok(_) => false,
+        Err(SceneFault::NoMemory) => {}
+        Err(found) => assert_eq!(rt; found, SceneFault::Line { line, fault }),
+        Ok(_) => panic!(rt; "the text is taken"),
     }
+}
+
+/// Asserts that what was found is what was wanted. An assertion that stands in a test is proved again in
+/// each, which takes longer than all else of it; this one is proved once.
+fn assert_same<T: PartialEq + Debug + Drop>(rt: &impl Abort, found: T, wanted: T) {
+    assert_eq!(rt; found, wanted);
 }
 
 fn taken(rt: &(impl AllocGlobal + Abort), text: &[u8]) -> Option<Scene> {
@@ -39,7 +46,7 @@ fn the_first_scene_is_taken_as_it_stands(rt: HostRuntime) {
         return;
     };
     assert_eq!(rt; scene.slaves.len(), 1);
-    assert_eq!(rt; scene.slaves[0].station, 0x1001);
+    assert_same(&rt, scene.slaves[0].station, 0x1001);
     let settings = scene.slaves[0].settings.as_slice();
     let [
         Setting::SyncMan(manager),
@@ -57,8 +64,8 @@ fn the_first_scene_is_taken_as_it_stands(rt: HostRuntime) {
         activate: 1,
         pdi: 0,
     };
-    assert_eq!(rt; manager.index, 3);
-    assert_eq!(rt; manager.record, input);
+    assert_same(&rt, manager.index, 3);
+    assert_same(&rt, manager.record, input);
     let read = Fmmu {
         logical: 0x10000,
         length: 1,
@@ -70,17 +77,17 @@ fn the_first_scene_is_taken_as_it_stands(rt: HostRuntime) {
         activate: 1,
         reserved: [0; 3],
     };
-    assert_eq!(rt; fmmu.index, 0);
-    assert_eq!(rt; fmmu.record, read);
-    assert_eq!(rt; load.address, 0x1100);
-    assert_eq!(rt; load.bytes.as_slice(), [0x12].as_slice());
+    assert_same(&rt, fmmu.index, 0);
+    assert_same(&rt, fmmu.record, read);
+    assert_same(&rt, load.address, 0x1100);
+    assert_same(&rt, load.bytes.as_slice(), [0x12].as_slice());
     let wanted = [
         0x0d, 0x10, 0x0a, 0x00, 0x00, 0x00, 0x01, 0x00, 0x01, 0x00, 0x00, 0x00, 0x00, 0x00, 0x00,
     ];
     let [Action::Frame(frame)] = scene.actions.as_slice() else {
         panic!(rt; "one frame");
     };
-    assert_eq!(rt; frame.bytes(), wanted.as_slice());
+    assert_same(&rt, frame.bytes(), wanted.as_slice());
 }
 
 #[test]
@@ -88,11 +95,11 @@ fn comments_blank_lines_and_spaces_are_nothing(rt: HostRuntime) {
     let text = b"# a line\n\n   \n  slave   4097  \n#slave\n";
     if let Some(scene) = taken(&rt, text) {
         assert_eq!(rt; scene.slaves.len(), 1);
-        assert_eq!(rt; scene.slaves[0].station, 4097);
+        assert_same(&rt, scene.slaves[0].station, 4097);
     }
     if let Some(scene) = taken(&rt, b"") {
-        assert_eq!(rt; scene.slaves.len(), 0);
-        assert_eq!(rt; scene.actions.len(), 0);
+        assert_same(&rt, scene.slaves.len(), 0);
+        assert_same(&rt, scene.actions.len(), 0);
     }
 }
 
@@ -119,128 +126,112 @@ fn the_four_kinds_and_three_types_are_known(rt: HostRuntime) {
             count += 1;
         }
     }
-    assert_eq!(rt; controls, [0x06, 0x02, 0x04, 0x00, 2, 3]);
+    assert_same(&rt, controls, [0x06, 0x02, 0x04, 0x00, 2, 3]);
 }
 
 #[test]
 fn bytes_that_are_no_text_come_first(rt: HostRuntime) {
-    assert!(rt; refused(&rt, b"slave 1\r\n", 1, LineFault::NotText));
-    assert!(rt; refused(&rt, b"slave 1\n# \x7f", 2, LineFault::NotText));
-    assert!(rt; refused(&rt, b"\tslave", 1, LineFault::NotText));
-    assert!(rt; refused(&rt, b"nothing \xc3\xa9", 1, LineFault::NotText));
+    refused(&rt, b"slave 1\r\n", 1, LineFault::NotText);
+    refused(&rt, b"slave 1\n# \x7f", 2, LineFault::NotText);
+    refused(&rt, b"\tslave", 1, LineFault::NotText);
+    refused(&rt, b"nothing \xc3\xa9", 1, LineFault::NotText);
 }
 
 #[test]
 fn unknown_words_are_refused(rt: HostRuntime) {
-    assert!(rt; refused(&rt, b"\nslaves 1 2 3", 2, LineFault::UnknownWord));
-    assert!(rt; refused(&rt, b"links 0 down", 1, LineFault::UnknownWord));
-    assert!(rt; refused(&rt, b"SLAVE 1", 1, LineFault::UnknownWord));
+    refused(&rt, b"\nslaves 1 2 3", 2, LineFault::UnknownWord);
+    refused(&rt, b"links 0 down", 1, LineFault::UnknownWord);
+    refused(&rt, b"SLAVE 1", 1, LineFault::UnknownWord);
 }
 
 #[test]
 fn words_are_counted_before_they_are_read(rt: HostRuntime) {
-    assert!(rt; refused(&rt, b"slave", 1, LineFault::WrongCount));
-    assert!(rt; refused(&rt, b"slave x y", 1, LineFault::WrongCount));
-    assert!(rt; refused(&rt, b"sm 3", 1, LineFault::WrongCount));
-    assert!(rt; refused(&rt, b"fmmu 0 0 1 0 7 0x1000 0", 1, LineFault::WrongCount));
-    assert!(rt; refused(&rt, b"mem 0x1000", 1, LineFault::WrongCount));
+    refused(&rt, b"slave", 1, LineFault::WrongCount);
+    refused(&rt, b"slave x y", 1, LineFault::WrongCount);
+    refused(&rt, b"sm 3", 1, LineFault::WrongCount);
+    refused(&rt, b"fmmu 0 0 1 0 7 0x1000 0", 1, LineFault::WrongCount);
+    refused(&rt, b"mem 0x1000", 1, LineFault::WrongCount);
     let text =
         b"slave 0x1001\nsm 3 0x1100 1 read\nfmmu 0 0x10000 1 0 7 0x1100 0 read\nmem 0x1100 12\n\
         frame 0d100a0000000100010000000000 00";
-    assert!(rt; refused(&rt, text, 5, LineFault::WrongCount));
+    refused(&rt, text, 5, LineFault::WrongCount);
 }
 
 #[test]
 fn what_belongs_to_a_slave_needs_one(rt: HostRuntime) {
-    assert!(rt; refused(&rt, b"sm x y z kind", 1, LineFault::NoSlave));
-    assert!(rt; refused(&rt, b"fmmu 0 0 1 0 7 0x1000 0 read", 1, LineFault::NoSlave));
-    assert!(rt; refused(&rt, b"mem 0x1000 00\nslave 1", 1, LineFault::NoSlave));
+    refused(&rt, b"sm x y z kind", 1, LineFault::NoSlave);
+    refused(&rt, b"fmmu 0 0 1 0 7 0x1000 0 read", 1, LineFault::NoSlave);
+    refused(&rt, b"mem 0x1000 00\nslave 1", 1, LineFault::NoSlave);
 }
 
 #[test]
 fn numbers_and_names_have_their_form(rt: HostRuntime) {
-    assert!(rt; refused(&rt, b"slave 0x", 1, LineFault::BadNumber));
-    assert!(rt; refused(&rt, b"slave 0X1", 1, LineFault::BadNumber));
-    assert!(rt; refused(&rt, b"slave +1", 1, LineFault::BadNumber));
-    assert!(rt; refused(&rt, b"slave 1a", 1, LineFault::BadNumber));
-    assert!(rt;
-        refused(
-            &rt,
-            b"slave 99999999999999999999999999x",
-            1,
-            LineFault::BadNumber
-        )
+    refused(&rt, b"slave 0x", 1, LineFault::BadNumber);
+    refused(&rt, b"slave 0X1", 1, LineFault::BadNumber);
+    refused(&rt, b"slave +1", 1, LineFault::BadNumber);
+    refused(&rt, b"slave 1a", 1, LineFault::BadNumber);
+    refused(
+        &rt,
+        b"slave 99999999999999999999999999x",
+        1,
+        LineFault::BadNumber,
     );
-    assert!(rt;
-        refused(
-            &rt,
-            b"slave 1\nsm 9 0x1100 70000 Read",
-            2,
-            LineFault::BadNumber
-        )
+    refused(
+        &rt,
+        b"slave 1\nsm 9 0x1100 70000 Read",
+        2,
+        LineFault::BadNumber,
     );
-    assert!(rt;
-        refused(
-            &rt,
-            b"slave 1\nfmmu 9 0 1 0 7 0x1100 0 reads",
-            2,
-            LineFault::BadNumber
-        )
+    refused(
+        &rt,
+        b"slave 1\nfmmu 9 0 1 0 7 0x1100 0 reads",
+        2,
+        LineFault::BadNumber,
     );
-    assert!(rt; refused(&rt, b"slave 1\nmem 0 123", 2, LineFault::BadNumber));
-    assert!(rt; refused(&rt, b"slave 1\nmem 0 1g", 2, LineFault::BadNumber));
-    assert!(rt; refused(&rt, b"frame 0", 1, LineFault::BadNumber));
+    refused(&rt, b"slave 1\nmem 0 123", 2, LineFault::BadNumber);
+    refused(&rt, b"slave 1\nmem 0 1g", 2, LineFault::BadNumber);
+    refused(&rt, b"frame 0", 1, LineFault::BadNumber);
 }
 
 #[test]
 fn values_lie_in_their_range(rt: HostRuntime) {
-    assert!(rt; refused(&rt, b"slave 65536", 1, LineFault::OutOfRange));
-    assert!(rt;
-        refused(
-            &rt,
-            b"slave 99999999999999999999999999",
-            1,
-            LineFault::OutOfRange
-        )
+    refused(&rt, b"slave 65536", 1, LineFault::OutOfRange);
+    refused(
+        &rt,
+        b"slave 99999999999999999999999999",
+        1,
+        LineFault::OutOfRange,
     );
-    assert!(rt;
-        refused(
-            &rt,
-            b"slave 1\nsm 8 0x1100 1 read",
-            2,
-            LineFault::OutOfRange
-        )
+    refused(
+        &rt,
+        b"slave 1\nsm 8 0x1100 1 read",
+        2,
+        LineFault::OutOfRange,
     );
-    assert!(rt;
-        refused(
-            &rt,
-            b"slave 1\nsm 3 0x1100 65536 read",
-            2,
-            LineFault::OutOfRange
-        )
+    refused(
+        &rt,
+        b"slave 1\nsm 3 0x1100 65536 read",
+        2,
+        LineFault::OutOfRange,
     );
-    assert!(rt;
-        refused(
-            &rt,
-            b"slave 1\nfmmu 0 0x100000000 1 0 7 0 0 read",
-            2,
-            LineFault::OutOfRange
-        )
+    refused(
+        &rt,
+        b"slave 1\nfmmu 0 0x100000000 1 0 7 0 0 read",
+        2,
+        LineFault::OutOfRange,
     );
-    assert!(rt;
-        refused(
-            &rt,
-            b"slave 1\nfmmu 0 0 1 256 7 0 0 read",
-            2,
-            LineFault::OutOfRange
-        )
+    refused(
+        &rt,
+        b"slave 1\nfmmu 0 0 1 256 7 0 0 read",
+        2,
+        LineFault::OutOfRange,
     );
-    assert!(rt; refused(&rt, b"slave 1\nmem 0x0fff 00", 2, LineFault::OutOfRange));
-    assert!(rt; refused(&rt, b"slave 1\nmem 0x2fff 0000", 2, LineFault::OutOfRange));
-    assert!(rt; refused(&rt, b"slave 1\nmem 65536 00", 2, LineFault::OutOfRange));
+    refused(&rt, b"slave 1\nmem 0x0fff 00", 2, LineFault::OutOfRange);
+    refused(&rt, b"slave 1\nmem 0x2fff 0000", 2, LineFault::OutOfRange);
+    refused(&rt, b"slave 1\nmem 65536 00", 2, LineFault::OutOfRange);
     if let Some(scene) = taken(&rt, b"slave 0xFfFf\nmem 0x2fff 00") {
         assert_eq!(rt; scene.slaves.len(), 1);
-        assert_eq!(rt; scene.slaves[0].station, 0xffff);
+        assert_same(&rt, scene.slaves[0].station, 0xffff);
     }
 }
 
@@ -251,29 +242,29 @@ fn actions_are_32_at_most(rt: HostRuntime) {
         text[44 * k..44 * k + 39].copy_from_slice(b"frame 0e100701000030010200000000000000\n");
     }
     if let Some(scene) = taken(&rt, &text) {
-        assert_eq!(rt; scene.actions.len(), 32);
+        assert_same(&rt, scene.actions.len(), 32);
     }
     text[32 * 44..].copy_from_slice(b"frame 00");
-    assert!(rt; refused(&rt, &text, 193, LineFault::TooMany));
+    refused(&rt, &text, 193, LineFault::TooMany);
     text[32 * 44..].copy_from_slice(b"frame 0g");
-    assert!(rt; refused(&rt, &text, 193, LineFault::BadNumber));
+    refused(&rt, &text, 193, LineFault::BadNumber);
     text[32 * 44..].copy_from_slice(b"step\n\n\n\n");
-    assert!(rt; refused(&rt, &text, 193, LineFault::TooMany));
+    refused(&rt, &text, 193, LineFault::TooMany);
     text[32 * 44..].copy_from_slice(b"step 1\n\n");
-    assert!(rt; refused(&rt, &text, 193, LineFault::WrongCount));
+    refused(&rt, &text, 193, LineFault::WrongCount);
 }
 
 #[test]
 fn a_frame_line_is_a_frame(rt: HostRuntime) {
-    assert!(rt; refused(&rt, b"frame 0d10", 1, LineFault::BadFrame));
+    refused(&rt, b"frame 0d10", 1, LineFault::BadFrame);
     let text =
         b"slave 0x1001\nsm 3 0x1100 1 read\nfmmu 0 0x10000 1 0 7 0x1100 0 read\nmem 0x1100 12\nframe 0d10";
-    assert!(rt; refused(&rt, text, 5, LineFault::BadFrame));
+    refused(&rt, text, 5, LineFault::BadFrame);
     if let Some(scene) = taken(&rt, b"frame 0E100701000030010200000000000000ffff") {
         let [Action::Frame(frame)] = scene.actions.as_slice() else {
             panic!(rt; "one frame");
         };
-        assert_eq!(rt; frame.bytes().len(), 16);
+        assert_same(&rt, frame.bytes().len(), 16);
     }
 }
 
@@ -281,8 +272,8 @@ fn a_frame_line_is_a_frame(rt: HostRuntime) {
 fn a_text_has_65536_bytes_at_most(rt: HostRuntime) {
     let text = [b'\n'; MAX_TEXT + 1];
     let long = Scene::read(rt.alloc(), &text).err();
-    assert_eq!(rt; long, Some(SceneFault::TooLong));
+    assert_same(&rt, long, Some(SceneFault::TooLong));
     if let Some(scene) = taken(&rt, &text[..MAX_TEXT]) {
-        assert_eq!(rt; scene.slaves.len(), 0);
+        assert_same(&rt, scene.slaves.len(), 0);
     }
 }

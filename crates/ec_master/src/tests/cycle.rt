@@ -2,6 +2,7 @@
 
 ghost use Rattle.std.specs.Prelude.{◌≤◌};
 
+use super::assert_same;
 use crate::{CycleFault, PortFault, Ports, Verdict, Work, run_cycle};
 use ec_map::{Item, Kind};
 use ec_ring::Came;
@@ -135,35 +136,35 @@ fn left(rt: &impl Abort, item: &Item) -> (u8, u16) {
 fn good_answers_are_taken_from_either_place(rt: HostRuntime) {
     let mut ports = Fates::new([Fate::AnsweredA, Fate::AnsweredB, Fate::Fault]);
     let (verdict, left) = cycle(&rt, &mut ports);
-    assert_eq!(rt; verdict, Ok(Verdict::Good));
-    assert_eq!(rt; left, [(7, 1), (7, 1)]);
-    assert_eq!(rt; ports.failures(), 0);
+    assert_same(&rt, verdict, Ok(Verdict::Good));
+    assert_same(&rt, left, [(7, 1), (7, 1)]);
+    assert_same(&rt, ports.failures(), 0);
 }
 
 #[test]
 fn a_lost_answer_leaves_the_work(rt: HostRuntime) {
     let mut ports = Fates::new([Fate::AnsweredA, Fate::Lost, Fate::Fault]);
     let (verdict, left) = cycle(&rt, &mut ports);
-    assert_eq!(rt; verdict, Ok(Verdict::Short(1)));
-    assert_eq!(rt; left, [(0, 0), (0, 0)]);
+    assert_same(&rt, verdict, Ok(Verdict::Short(1)));
+    assert_same(&rt, left, [(0, 0), (0, 0)]);
 }
 
 #[test]
 fn a_stranger_ends_the_cycle(rt: HostRuntime) {
     let mut ports = Fates::new([Fate::AnsweredA, Fate::Stranger, Fate::Fault]);
     let (verdict, left) = cycle(&rt, &mut ports);
-    assert_eq!(rt; verdict, Err(CycleFault::Stranger));
-    assert_eq!(rt; left, [(0, 0), (0, 0)]);
-    assert_eq!(rt; ports.failures(), 0);
+    assert_same(&rt, verdict, Err(CycleFault::Stranger));
+    assert_same(&rt, left, [(0, 0), (0, 0)]);
+    assert_same(&rt, ports.failures(), 0);
 }
 
 #[test]
 fn the_first_fault_ends_the_cycle(rt: HostRuntime) {
     let mut ports = Fates::new([Fate::Fault, Fate::Stranger, Fate::Fault]);
     let (verdict, left) = cycle(&rt, &mut ports);
-    assert_eq!(rt; verdict, Err(CycleFault::Port));
-    assert_eq!(rt; left, [(0, 0), (0, 0)]);
-    assert_eq!(rt; ports.failures(), 1);
+    assert_same(&rt, verdict, Err(CycleFault::Port));
+    assert_same(&rt, left, [(0, 0), (0, 0)]);
+    assert_same(&rt, ports.failures(), 1);
 }
 
 /// Three items of a frame each.
@@ -180,9 +181,9 @@ fn a_fault_at_the_second_trip_is_the_last_trip(rt: HostRuntime) {
     let mut work = three_frames(&rt);
     assert_eq!(rt; work.len(), 3);
     let verdict = run_cycle(&mut ports, &mut work, &[1, 1, 1]);
-    assert_eq!(rt; verdict, Err(CycleFault::Port));
-    assert_eq!(rt; ports.next, 2);
-    assert_eq!(rt; ports.failures(), 1);
+    assert_same(&rt, verdict, Err(CycleFault::Port));
+    assert_same(&rt, ports.next, 2);
+    assert_same(&rt, ports.failures(), 1);
     assert_eq!(rt; work.len(), 3);
-    assert_eq!(rt; left(&rt, work.item(0)), (0, 0));
+    assert_same(&rt, left(&rt, work.item(0)), (0, 0));
 }

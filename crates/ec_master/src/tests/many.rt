@@ -2,6 +2,7 @@
 
 ghost use Rattle.std.specs.Prelude.{◌<◌, ◌≤◌};
 
+use super::assert_same;
 use crate::{Verdict, Work, ring_cycle, weather_cycle};
 use ec_app::{Objects, Slave};
 use ec_map::{Item, Kind};
@@ -116,8 +117,8 @@ fn slaves_passed_twice_count_over_what_is_expected(rt: HostRuntime) {
         b_first: false,
     };
     let expected = ec_map::expected(ring.slaves(), work.item(0));
-    assert_eq!(rt; expected, 768);
+    assert_same(&rt, expected, 768);
     let verdict = weather_cycle(&mut ring, &[weather], &[expected], &mut work);
-    assert_eq!(rt; verdict, Verdict::Over(0));
-    assert_eq!(rt; left(&rt, &work), (0xFF, 0xFF, 0));
+    assert_same(&rt, verdict, Verdict::Over(0));
+    assert_same(&rt, left(&rt, &work), (0xFF, 0xFF, 0));
 }

@@ -2,6 +2,7 @@
 
 ghost use Rattle.std.specs.Prelude.{◌≡◌};
 
+use super::assert_same;
 use crate::{Byte, Counter, Flag, Irq, Merge};
 
 /// The two copies in either place, which give one value.
@@ -32,79 +33,92 @@ fn beside_the_sent<M: Merge + Copy>(sent: M, a: M) -> M
 #[test]
 fn counters_add_their_distances_modulo_65536(rt: HostRuntime) {
     let joined = Counter::join(Counter(65535), Counter(1), Counter(0));
-    assert_eq!(rt; joined, Counter(2));
-    assert_eq!(rt;
+    assert_same(&rt, joined, Counter(2));
+    assert_same(
+        &rt,
         Counter::join(Counter(0), Counter(3), Counter(0)),
-        Counter(3)
+        Counter(3),
     );
-    assert_eq!(rt;
+    assert_same(
+        &rt,
         Counter::join(Counter(5), Counter(5), Counter(5)),
-        Counter(5)
+        Counter(5),
     );
 }
 
 #[test]
 fn a_bit_changes_where_it_does_in_some_copy(rt: HostRuntime) {
-    assert_eq!(rt; Byte::join(Byte(0xF0), Byte(0xF1), Byte(0x70)), Byte(0x71));
-    assert_eq!(rt;
+    assert_same(
+        &rt,
+        Byte::join(Byte(0xF0), Byte(0xF1), Byte(0x70)),
+        Byte(0x71),
+    );
+    assert_same(
+        &rt,
         Irq::join(Irq(0x00F0), Irq(0x80F0), Irq(0x0070)),
-        Irq(0x8070)
+        Irq(0x8070),
     );
 }
 
 #[test]
 fn a_flag_changes_where_it_does_in_some_copy(rt: HostRuntime) {
-    assert_eq!(rt;
+    assert_same(
+        &rt,
         Flag::join(Flag(false), Flag(false), Flag(true)),
-        Flag(true)
+        Flag(true),
     );
-    assert_eq!(rt;
+    assert_same(
+        &rt,
         Flag::join(Flag(true), Flag(false), Flag(true)),
-        Flag(false)
+        Flag(false),
     );
-    assert_eq!(rt; Flag::join(Flag(true), Flag(true), Flag(true)), Flag(true));
+    assert_same(
+        &rt,
+        Flag::join(Flag(true), Flag(true), Flag(true)),
+        Flag(true),
+    );
 }
 
 #[test]
 fn the_laws_hold_of_counters(rt: HostRuntime) {
     let (x, y) = either_way(Counter(65535), Counter(1), Counter(0));
-    assert_eq!(rt; x, Counter(2));
-    assert_eq!(rt; y, Counter(2));
+    assert_same(&rt, x, Counter(2));
+    assert_same(&rt, y, Counter(2));
     let (x, y) = in_either_group(Counter(10), Counter(11), Counter(12), Counter(13));
-    assert_eq!(rt; x, Counter(16));
-    assert_eq!(rt; y, Counter(16));
-    assert_eq!(rt; beside_the_sent(Counter(65535), Counter(4)), Counter(4));
+    assert_same(&rt, x, Counter(16));
+    assert_same(&rt, y, Counter(16));
+    assert_same(&rt, beside_the_sent(Counter(65535), Counter(4)), Counter(4));
 }
 
 #[test]
 fn the_laws_hold_of_bytes(rt: HostRuntime) {
     let (x, y) = either_way(Byte(0xF0), Byte(0xF1), Byte(0x70));
-    assert_eq!(rt; x, Byte(0x71));
-    assert_eq!(rt; y, Byte(0x71));
+    assert_same(&rt, x, Byte(0x71));
+    assert_same(&rt, y, Byte(0x71));
     let (x, y) = in_either_group(Byte(0xF0), Byte(0xF1), Byte(0x70), Byte(0xB0));
-    assert_eq!(rt; x, Byte(0x31));
-    assert_eq!(rt; y, Byte(0x31));
-    assert_eq!(rt; beside_the_sent(Byte(0xF0), Byte(0x0F)), Byte(0x0F));
+    assert_same(&rt, x, Byte(0x31));
+    assert_same(&rt, y, Byte(0x31));
+    assert_same(&rt, beside_the_sent(Byte(0xF0), Byte(0x0F)), Byte(0x0F));
 }
 
 #[test]
 fn the_laws_hold_of_flags(rt: HostRuntime) {
     let (x, y) = either_way(Flag(false), Flag(true), Flag(false));
-    assert_eq!(rt; x, Flag(true));
-    assert_eq!(rt; y, Flag(true));
+    assert_same(&rt, x, Flag(true));
+    assert_same(&rt, y, Flag(true));
     let (x, y) = in_either_group(Flag(true), Flag(true), Flag(false), Flag(true));
-    assert_eq!(rt; x, Flag(false));
-    assert_eq!(rt; y, Flag(false));
-    assert_eq!(rt; beside_the_sent(Flag(true), Flag(false)), Flag(false));
+    assert_same(&rt, x, Flag(false));
+    assert_same(&rt, y, Flag(false));
+    assert_same(&rt, beside_the_sent(Flag(true), Flag(false)), Flag(false));
 }
 
 #[test]
 fn the_laws_hold_of_event_requests(rt: HostRuntime) {
     let (x, y) = either_way(Irq(0x0100), Irq(0x0101), Irq(0x8000));
-    assert_eq!(rt; x, Irq(0x8001));
-    assert_eq!(rt; y, Irq(0x8001));
+    assert_same(&rt, x, Irq(0x8001));
+    assert_same(&rt, y, Irq(0x8001));
     let (x, y) = in_either_group(Irq(0), Irq(1), Irq(2), Irq(4));
-    assert_eq!(rt; x, Irq(7));
-    assert_eq!(rt; y, Irq(7));
-    assert_eq!(rt; beside_the_sent(Irq(0x00FF), Irq(0x0F0F)), Irq(0x0F0F));
+    assert_same(&rt, x, Irq(7));
+    assert_same(&rt, y, Irq(7));
+    assert_same(&rt, beside_the_sent(Irq(0x00FF), Irq(0x0F0F)), Irq(0x0F0F));
 }

@@ -1,12 +1,13 @@
 //! AL states and the byte of AL status.
 
+use super::assert_same;
 use crate::{AlBits, AlState, AlStatus};
 use bitflags::Flags;
 
 #[test]
 fn flags_are_the_bits_of_the_standard(rt: HostRuntime) {
-    assert_eq!(rt; AlBits::ERROR.bits(), 0x10);
-    assert_eq!(rt; AlBits::ACKNOWLEDGE.bits(), 0x10);
+    assert_same(&rt, AlBits::ERROR.bits(), 0x10);
+    assert_same(&rt, AlBits::ACKNOWLEDGE.bits(), 0x10);
 }
 
 #[test]
@@ -22,7 +23,7 @@ fn four_codes_are_states(rt: HostRuntime) {
     ] {
         assert_eq!(rt; AlState::from_code(code), state, "code {code}");
     }
-    assert_eq!(rt; AlState::SafeOp.code(), 4);
+    assert_same(&rt, AlState::SafeOp.code(), 4);
 }
 
 #[test]
@@ -31,24 +32,26 @@ fn error_is_bit_4_above_the_state(rt: HostRuntime) {
         state: AlState::Op,
         error: true,
     };
-    assert_eq!(rt; refused.byte(), 0x18);
-    assert_eq!(rt; AlStatus::of_byte(0x18), refused);
-    assert_eq!(rt;
+    assert_same(&rt, refused.byte(), 0x18);
+    assert_same(&rt, AlStatus::of_byte(0x18), refused);
+    assert_same(
+        &rt,
         AlStatus::of_byte(0x02),
         AlStatus {
             state: AlState::PreOp,
             error: false,
-        }
+        },
     );
 }
 
 #[test]
 fn bits_that_are_no_state_read_as_init(rt: HostRuntime) {
-    assert_eq!(rt;
+    assert_same(
+        &rt,
         AlStatus::of_byte(0x13),
         AlStatus {
             state: AlState::Init,
             error: true,
-        }
+        },
     );
 }

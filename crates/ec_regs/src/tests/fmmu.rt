@@ -1,5 +1,6 @@
 //! The record of an FMMU, and what it maps.
 
+use super::assert_same;
 use crate::{Fmmu, FmmuType};
 use bitflags::Flags;
 
@@ -19,8 +20,8 @@ const ACROSS_A_BYTE: Fmmu = Fmmu {
 
 #[test]
 fn flags_are_the_bits_of_the_standard(rt: HostRuntime) {
-    assert_eq!(rt; FmmuType::READ.bits(), 0x01);
-    assert_eq!(rt; FmmuType::WRITE.bits(), 0x02);
+    assert_same(&rt, FmmuType::READ.bits(), 0x01);
+    assert_same(&rt, FmmuType::WRITE.bits(), 0x02);
 }
 
 #[test]
@@ -29,8 +30,8 @@ fn record_is_spelt_field_by_field(rt: HostRuntime) {
         0x00, 0x00, 0x01, 0x00, 0x02, 0x00, 0x06, 0x01, 0x00, 0x11, 0x00, 0x01, 0x01, 0x00, 0x00,
         0x00,
     ];
-    assert_eq!(rt; ACROSS_A_BYTE.write(), spelt);
-    assert_eq!(rt; Fmmu::read(&spelt), ACROSS_A_BYTE);
+    assert_same(&rt, ACROSS_A_BYTE.write(), spelt);
+    assert_same(&rt, Fmmu::read(&spelt), ACROSS_A_BYTE);
 }
 
 #[test]
@@ -50,8 +51,8 @@ fn each_byte_of_a_record_belongs_to_one_field(rt: HostRuntime) {
         activate: 0x0D,
         reserved: [0x0E, 0x0F, 0x10],
     };
-    assert_eq!(rt; Fmmu::read(&spelt), record);
-    assert_eq!(rt; record.write(), spelt);
+    assert_same(&rt, Fmmu::read(&spelt), record);
+    assert_same(&rt, record.write(), spelt);
 }
 
 #[test]
@@ -80,15 +81,15 @@ fn type_and_activate_are_single_bits(rt: HostRuntime) {
 
 #[test]
 fn four_bits_across_a_byte(rt: HostRuntime) {
-    assert_eq!(rt; ACROSS_A_BYTE.mapped_bits(), 4);
-    assert_eq!(rt; ACROSS_A_BYTE.first_logical(), 524_294);
-    assert_eq!(rt; ACROSS_A_BYTE.first_physical(), 34_816);
-    assert_eq!(rt; ACROSS_A_BYTE.physical_of(524_293), None);
-    assert_eq!(rt; ACROSS_A_BYTE.physical_of(524_294), Some(34_816));
-    assert_eq!(rt; ACROSS_A_BYTE.physical_of(524_297), Some(34_819));
-    assert_eq!(rt; ACROSS_A_BYTE.physical_of(524_298), None);
-    assert_eq!(rt; ACROSS_A_BYTE.logical_of(34_815), None);
-    assert_eq!(rt; ACROSS_A_BYTE.logical_of(34_819), Some(524_297));
+    assert_same(&rt, ACROSS_A_BYTE.mapped_bits(), 4);
+    assert_same(&rt, ACROSS_A_BYTE.first_logical(), 524_294);
+    assert_same(&rt, ACROSS_A_BYTE.first_physical(), 34_816);
+    assert_same(&rt, ACROSS_A_BYTE.physical_of(524_293), None);
+    assert_same(&rt, ACROSS_A_BYTE.physical_of(524_294), Some(34_816));
+    assert_same(&rt, ACROSS_A_BYTE.physical_of(524_297), Some(34_819));
+    assert_same(&rt, ACROSS_A_BYTE.physical_of(524_298), None);
+    assert_same(&rt, ACROSS_A_BYTE.logical_of(34_815), None);
+    assert_same(&rt, ACROSS_A_BYTE.logical_of(34_819), Some(524_297));
 }
 
 /// The physical bit of a logical one, found by going through the mapped bits one after the other: they
@@ -175,6 +176,6 @@ fn an_fmmu_with_a_wrong_field_maps_nothing(rt: HostRuntime) {
         },
     ];
     for record in wrong {
-        assert_eq!(rt; record.mapped_bits(), 0);
+        assert_same(&rt, record.mapped_bits(), 0);
     }
 }

@@ -1,5 +1,6 @@
 //! What a sync manager keeps off its area.
 
+use super::assert_same;
 use crate::{PlannedSyncMan, SyncMan};
 
 /// 16 bytes from 0x1000, buffered, read by the master, enabled.
@@ -21,7 +22,7 @@ fn areas_are_kept_from_what_does_not_belong_there(rt: HostRuntime) {
         (0x06, true, true, false),
     ] {
         let planned = PlannedSyncMan::new(SyncMan { control, ..INPUTS });
-        assert!(rt; planned.is_active());
+        assert_same(&rt, planned.is_active(), true);
         assert_eq!(rt; planned.keeps_reads_off(), reads_off, "{control}");
         assert_eq!(rt; planned.keeps_writes_off(), writes_off, "{control}");
         assert_eq!(rt; planned.guards_outputs(), outputs, "{control}");
@@ -36,9 +37,9 @@ fn a_sync_manager_that_is_switched_off_keeps_nothing_off(rt: HostRuntime) {
         ..INPUTS
     };
     let planned = PlannedSyncMan::new(off);
-    assert_eq!(rt; planned.manager(), off);
-    assert!(rt; !planned.is_active());
-    assert!(rt; !planned.keeps_reads_off());
-    assert!(rt; !planned.keeps_writes_off());
-    assert!(rt; !planned.guards_outputs());
+    assert_same(&rt, planned.manager(), off);
+    assert_same(&rt, planned.is_active(), false);
+    assert_same(&rt, planned.keeps_reads_off(), false);
+    assert_same(&rt, planned.keeps_writes_off(), false);
+    assert_same(&rt, planned.guards_outputs(), false);
 }

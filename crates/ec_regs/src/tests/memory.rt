@@ -1,13 +1,14 @@
 //! The bytes of one controller.
 
+use super::assert_same;
 use crate::Memory;
 
 #[test]
 fn a_new_memory_is_there_and_all_zero(rt: HostRuntime) {
     let memory = Memory::new(rt.alloc()).expect(&rt, "memory for 12,288 bytes");
-    assert_eq!(rt; memory.byte(0x0000), 0);
-    assert_eq!(rt; memory.byte(0x2FFF), 0);
-    assert_eq!(rt; memory.bytes().len(), 12_288);
+    assert_same(&rt, memory.byte(0x0000), 0);
+    assert_same(&rt, memory.byte(0x2FFF), 0);
+    assert_same(&rt, memory.bytes().len(), 12_288);
 }
 
 #[test]

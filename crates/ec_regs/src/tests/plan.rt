@@ -1,5 +1,6 @@
 //! Plans of FMMUs.
 
+use super::assert_same;
 use crate::{Fmmu, Plan, PlannedFmmu};
 
 /// From bit 3 of logical byte 0x00010000 to bit 4 of the next, onto byte 0x1100 from bit 6 on; active.
@@ -37,7 +38,7 @@ fn a_run_over_two_bytes_has_a_mask_for_each(rt: HostRuntime) {
         last_mask: 0x1F,
         distance: 3,
     };
-    assert_eq!(rt; TEN_BITS.plan(), plan);
+    assert_same(&rt, TEN_BITS.plan(), plan);
     let back = Fmmu {
         start: 6,
         stop: 1,
@@ -50,7 +51,7 @@ fn a_run_over_two_bytes_has_a_mask_for_each(rt: HostRuntime) {
         distance: -3,
         ..plan
     };
-    assert_eq!(rt; back.plan(), moved_back);
+    assert_same(&rt, back.plan(), moved_back);
 }
 
 #[test]
@@ -62,7 +63,7 @@ fn a_run_in_one_byte_has_one_mask(rt: HostRuntime) {
         ..TEN_BITS
     };
     let plan = four_bits.plan();
-    assert_eq!(rt; (plan.first_mask, plan.last_mask), (0x3C, 0x3C));
+    assert_same(&rt, (plan.first_mask, plan.last_mask), (0x3C, 0x3C));
 }
 
 #[test]
@@ -73,7 +74,7 @@ fn bits_move_by_seven_at_most(rt: HostRuntime) {
             bit,
             ..TEN_BITS
         };
-        assert_eq!(rt; fmmu.plan().distance, distance);
+        assert_same(&rt, fmmu.plan().distance, distance);
     }
 }
 
@@ -91,18 +92,18 @@ fn an_fmmu_that_maps_nothing_has_the_empty_plan(rt: HostRuntime) {
     };
     for fmmu in [backwards, off] {
         let planned = PlannedFmmu::new(fmmu);
-        assert_eq!(rt; planned.plan(), NOTHING);
-        assert_eq!(rt; planned.mapped_bits(), 0);
+        assert_same(&rt, planned.plan(), NOTHING);
+        assert_same(&rt, planned.mapped_bits(), 0);
     }
 }
 
 #[test]
 fn a_planned_fmmu_tells_what_its_record_tells(rt: HostRuntime) {
     let planned = PlannedFmmu::new(TEN_BITS);
-    assert_eq!(rt; planned.fmmu(), TEN_BITS);
-    assert_eq!(rt; planned.plan(), TEN_BITS.plan());
-    assert_eq!(rt; planned.mapped_bits(), 10);
-    assert_eq!(rt; (planned.reads(), planned.writes()), (true, false));
-    assert_eq!(rt; planned.first_logical(), 524_291);
-    assert_eq!(rt; planned.first_physical(), 34_822);
+    assert_same(&rt, planned.fmmu(), TEN_BITS);
+    assert_same(&rt, planned.plan(), TEN_BITS.plan());
+    assert_same(&rt, planned.mapped_bits(), 10);
+    assert_same(&rt, (planned.reads(), planned.writes()), (true, false));
+    assert_same(&rt, planned.first_logical(), 524_291);
+    assert_same(&rt, planned.first_physical(), 34_822);
 }

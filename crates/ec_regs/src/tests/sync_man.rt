@@ -1,12 +1,13 @@
 //! The record of a sync manager.
 
+use super::assert_same;
 use crate::{SyncMan, SyncManControl};
 use bitflags::Flags;
 
 #[test]
 fn flags_are_the_bits_of_the_standard(rt: HostRuntime) {
-    assert_eq!(rt; SyncManControl::MAILBOX.bits(), 0x02);
-    assert_eq!(rt; SyncManControl::WRITE.bits(), 0x04);
+    assert_same(&rt, SyncManControl::MAILBOX.bits(), 0x02);
+    assert_same(&rt, SyncManControl::WRITE.bits(), 0x04);
 }
 
 #[test]
@@ -20,8 +21,8 @@ fn record_is_spelt_field_by_field(rt: HostRuntime) {
         pdi: 0x00,
     };
     let spelt = [0x00, 0x11, 0x01, 0x00, 0x00, 0x00, 0x01, 0x00];
-    assert_eq!(rt; record.write(), spelt);
-    assert_eq!(rt; SyncMan::read(&spelt), record);
+    assert_same(&rt, record.write(), spelt);
+    assert_same(&rt, SyncMan::read(&spelt), record);
 }
 
 #[test]
@@ -35,6 +36,6 @@ fn each_byte_of_a_record_belongs_to_one_field(rt: HostRuntime) {
         activate: 0x07,
         pdi: 0x08,
     };
-    assert_eq!(rt; SyncMan::read(&spelt), record);
-    assert_eq!(rt; record.write(), spelt);
+    assert_same(&rt, SyncMan::read(&spelt), record);
+    assert_same(&rt, record.write(), spelt);
 }

@@ -1,7 +1,7 @@
 //! One link down, none, and several: how far each copy gets and where it arrives.
 
 use crate::Port;
-use crate::tests::line::{THREE, arrived, calm, came, down, frame, ring, status};
+use crate::tests::line::{THREE, arrived, calm, came, down, frame, lost, ring, status};
 use crate::travel::Travel;
 use ec_regs::AlState;
 
@@ -50,7 +50,7 @@ fn copy_whose_first_link_is_down_is_lost(rt: HostRuntime) {
     let links = down(&[0]);
     let all_by_b = status(0x03, 0x40, 0x0E, 0x03);
     let copy_a = ring.walk(Port::A, frame(&rt, &SENT), &links);
-    assert!(rt; copy_a.is_none());
+    lost(&rt, &copy_a);
     let copy_b = ring.walk(Port::B, frame(&rt, &SENT), &links);
     arrived(&rt, copy_b, &all_by_b, Port::B);
     let links = down(&[3]);
@@ -58,7 +58,7 @@ fn copy_whose_first_link_is_down_is_lost(rt: HostRuntime) {
     let copy_a = ring.walk(Port::A, frame(&rt, &SENT), &links);
     arrived(&rt, copy_a, &all_by_a, Port::A);
     let copy_b = ring.walk(Port::B, frame(&rt, &SENT), &links);
-    assert!(rt; copy_b.is_none());
+    lost(&rt, &copy_b);
 }
 
 #[test]
@@ -78,19 +78,19 @@ fn one_slave_is_served_by_the_copy_that_reaches_it(rt: HostRuntime) {
     let by_b = status(0x01, 0x40, 0x08, 0x01);
     let links = down(&[0]);
     let copy_a = ring.walk(Port::A, frame(&rt, &SENT), &links);
-    assert!(rt; copy_a.is_none());
+    lost(&rt, &copy_a);
     let copy_b = ring.walk(Port::B, frame(&rt, &SENT), &links);
     arrived(&rt, copy_b, &by_b, Port::B);
     let links = down(&[1]);
     let copy_a = ring.walk(Port::A, frame(&rt, &SENT), &links);
     arrived(&rt, copy_a, &by_a, Port::A);
     let copy_b = ring.walk(Port::B, frame(&rt, &SENT), &links);
-    assert!(rt; copy_b.is_none());
+    lost(&rt, &copy_b);
     let links = down(&[0, 1]);
     let copy_a = ring.walk(Port::A, frame(&rt, &SENT), &links);
-    assert!(rt; copy_a.is_none());
+    lost(&rt, &copy_a);
     let copy_b = ring.walk(Port::B, frame(&rt, &SENT), &links);
-    assert!(rt; copy_b.is_none());
+    lost(&rt, &copy_b);
 }
 
 #[test]
@@ -107,9 +107,9 @@ fn with_no_slave_the_only_link_carries_or_loses_both(rt: HostRuntime) {
     arrived(&rt, copy_b, &sent, Port::A);
     let links = down(&[0]);
     let copy_a = ring.walk(Port::A, frame(&rt, &sent), &links);
-    assert!(rt; copy_a.is_none());
+    lost(&rt, &copy_a);
     let copy_b = ring.walk(Port::B, frame(&rt, &sent), &links);
-    assert!(rt; copy_b.is_none());
+    lost(&rt, &copy_b);
 }
 
 #[test]

@@ -1,7 +1,7 @@
 //! The circulating bit, which a copy gets as it turns round at a closed port 0.
 
 use crate::Port;
-use crate::tests::line::{arrived, down, frame, ring, status};
+use crate::tests::line::{arrived, down, frame, lost, ring, status};
 use ec_regs::AlState;
 
 /// The frame as it is sent, circulating already.
@@ -14,9 +14,9 @@ fn circulating_frame_is_destroyed_where_it_turns_round(rt: HostRuntime) {
     let mut ring = ring(&rt, rt.alloc(), &[AlState::Op]);
     let links = down(&[0]);
     let copy_a = ring.walk(Port::A, frame(&rt, &CIRCULATING), &links);
-    assert!(rt; copy_a.is_none());
+    lost(&rt, &copy_a);
     let copy_b = ring.walk(Port::B, frame(&rt, &CIRCULATING), &links);
-    assert!(rt; copy_b.is_none());
+    lost(&rt, &copy_b);
 }
 
 #[test]
@@ -42,7 +42,7 @@ fn destroyed_frame_leaves_its_slaves_alone(rt: HostRuntime) {
         0x00,
     ];
     let copy_b = ring.walk(Port::B, frame(&rt, &write), &links);
-    assert!(rt; copy_b.is_none());
+    lost(&rt, &copy_b);
     assert_eq!(rt; ring.slaves().len(), 1);
     assert_eq!(rt; ring.slave(0).controller().byte(0x0120), 0x00);
 }

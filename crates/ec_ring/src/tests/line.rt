@@ -77,6 +77,11 @@ pub fn arrived(rt: &impl Abort, copy: Option<(FrameBuf, Port)>, bytes: &[u8], po
     assert_eq!(rt; at, port);
 }
 
+/// A copy arrived nowhere.
+pub fn lost(rt: &impl Abort, copy: &Option<(FrameBuf, Port)>) {
+    assert!(rt; copy.is_none());
+}
+
 /// A copy came back with these bytes, or none did.
 pub fn came(rt: &impl Abort, came: &Option<FrameBuf>, expected: Option<&[u8]>) {
     match came {

@@ -1,6 +1,7 @@
 //! Trips of a transfer that fail, and how many a transfer makes.
 
 use crate::MasterFault;
+use crate::tests::assert_same;
 use crate::tests::fates::{Fate, Fates};
 use crate::tests::peer::{peer, upload};
 use ec_app::Value;
@@ -18,36 +19,46 @@ const BRINGS: Fate = Fate::Brings(1, UPLOADED);
 /// A request that one slave takes.
 const TAKEN: Fate = Fate::Counts(1);
 
-/// What an upload comes to with at most `limit` reads, the peer's counter then, and how many trips were made.
+/// What an upload comes to with at most `limit` reads, the peer's counter then, how many trips were made and
+/// how many of them failed.
 fn uploaded(
     rt: &impl Abort,
-    ports: &mut Fates,
+    fates: [Fate; 4],
     limit: u32,
-) -> (Result<Value, MasterFault>, u8, usize) {
-    let mut peer = peer();
-    let answer = upload(rt, ports, &mut peer, (0x1018, 1), limit);
-    (answer, peer.counter, ports.trips)
+) -> (Result<Value, MasterFault>, u8, usize, u64) {
+    let (mut ports, mut peer) = (Fates::new(fates), peer());
+    let answer = upload(rt, &mut ports, &mut peer, (0x1018, 1), limit);
+    (answer, peer.counter, ports.trips, ports.failures())
 }
 
 #[test]
 fn first_trip_that_fails_is_the_last(rt: HostRuntime) {
     let fault = Err(MasterFault::Port);
-    let mut ports = Fates::new([Fate::Fault, BRINGS, BRINGS, BRINGS]);
-    assert_eq!(rt; uploaded(&rt, &mut ports, 3), (fault, 1, 1));
-    assert_eq!(rt; ports.failures(), 1);
-    let mut ports = Fates::new([TAKEN, Fate::Fault, BRINGS, BRINGS]);
-    assert_eq!(rt; uploaded(&rt, &mut ports, 3), (fault, 2, 2));
-    assert_eq!(rt; ports.failures(), 1);
+    assert_same(
+        &rt,
+        uploaded(&rt, [Fate::Fault, BRINGS, BRINGS, BRINGS], 3),
+        (fault, 1, 1, 1),
+    );
+    assert_same(
+        &rt,
+        uploaded(&rt, [TAKEN, Fate::Fault, BRINGS, BRINGS], 3),
+        (fault, 2, 2, 1),
+    );
 }
 
 #[test]
 fn stranger_ends_the_transfer(rt: HostRuntime) {
     let stranger = Err(MasterFault::Stranger);
-    let mut ports = Fates::new([Fate::Stranger, BRINGS, BRINGS, BRINGS]);
-    assert_eq!(rt; uploaded(&rt, &mut ports, 3), (stranger, 1, 1));
-    let mut ports = Fates::new([TAKEN, Fate::Stranger, BRINGS, BRINGS]);
-    assert_eq!(rt; uploaded(&rt, &mut ports, 3), (stranger, 2, 2));
-    assert_eq!(rt; ports.failures(), 0);
+    assert_same(
+        &rt,
+        uploaded(&rt, [Fate::Stranger, BRINGS, BRINGS, BRINGS], 3),
+        (stranger, 1, 1, 0),
+    );
+    assert_same(
+        &rt,
+        uploaded(&rt, [TAKEN, Fate::Stranger, BRINGS, BRINGS], 3),
+        (stranger, 2, 2, 0),
+    );
 }
 
 #[test]
@@ -58,16 +69,22 @@ fn request_that_one_slave_did_not_take_is_not_counted(rt: HostRuntime) {
         (Fate::Counts(2), MasterFault::BadAnswer),
         (Fate::Both(1, 1), MasterFault::BadAnswer),
     ] {
-        let mut ports = Fates::new([fate, BRINGS, BRINGS, BRINGS]);
-        assert_eq!(rt; uploaded(&rt, &mut ports, 3), (Err(fault), 1, 1));
+        assert_same(
+            &rt,
+            uploaded(&rt, [fate, BRINGS, BRINGS, BRINGS], 3),
+            (Err(fault), 1, 1, 0),
+        );
     }
 }
 
 #[test]
 fn request_may_be_taken_on_either_copy(rt: HostRuntime) {
     for taken in [Fate::OnlyA(1), Fate::OnlyB(1), Fate::Both(0, 1)] {
-        let mut ports = Fates::new([taken, BRINGS, Fate::Fault, Fate::Fault]);
-        assert_eq!(rt; uploaded(&rt, &mut ports, 1), (Ok(Value::Four(2)), 2, 2));
+        assert_same(
+            &rt,
+            uploaded(&rt, [taken, BRINGS, Fate::Fault, Fate::Fault], 1),
+            (Ok(Value::Four(2)), 2, 2, 0),
+        );
     }
 }
 
@@ -82,15 +99,17 @@ fn mailbox_is_read_until_a_mail_is_there(rt: HostRuntime) {
         (3, Ok(Value::Four(2)), 4),
         (4, Ok(Value::Four(2)), 4),
     ] {
-        let mut ports = Fates::new(fates);
-        assert_eq!(rt; uploaded(&rt, &mut ports, limit), (found, 2, trips));
+        assert_same(&rt, uploaded(&rt, fates, limit), (found, 2, trips, 0));
     }
 }
 
 #[test]
 fn mail_of_two_slaves_is_bad(rt: HostRuntime) {
     let two = Fate::Brings(2, UPLOADED);
-    let mut ports = Fates::new([TAKEN, two, BRINGS, BRINGS]);
     let bad = Err(MasterFault::BadAnswer);
-    assert_eq!(rt; uploaded(&rt, &mut ports, 3), (bad, 2, 2));
+    assert_same(
+        &rt,
+        uploaded(&rt, [TAKEN, two, BRINGS, BRINGS], 3),
+        (bad, 2, 2, 0),
+    );
 }

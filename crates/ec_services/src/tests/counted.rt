@@ -1,5 +1,6 @@
 //! How slaves are counted before they get their addresses, and the write to each.
 
+use crate::tests::assert_same;
 use crate::tests::fates::{Fate, Fates};
 use crate::{MasterFault, assign_stations};
 
@@ -25,7 +26,7 @@ fn broken_cable_is_seen_on_the_copies(rt: HostRuntime) {
         Fate::Both(1, 300),
         Fate::Lost,
     ] {
-        assert_eq!(rt; counted(fate), (Err(MasterFault::Broken), 1));
+        assert_same(&rt, counted(fate), (Err(MasterFault::Broken), 1));
     }
 }
 
@@ -39,22 +40,26 @@ fn count_is_1_to_256(rt: HostRuntime) {
         (Fate::Both(0, 257), bad, 1),
         (Fate::Counts(0xFFFF), bad, 1),
     ] {
-        assert_eq!(rt; counted(fate), (Err(fault), trips));
+        assert_same(&rt, counted(fate), (Err(fault), trips));
     }
 }
 
 #[test]
 fn failed_count_is_the_last_trip(rt: HostRuntime) {
-    assert_eq!(rt; counted(Fate::Fault), (Err(MasterFault::Port), 1));
-    assert_eq!(rt; counted(Fate::Stranger), (Err(MasterFault::Stranger), 1));
+    assert_same(&rt, counted(Fate::Fault), (Err(MasterFault::Port), 1));
+    assert_same(
+        &rt,
+        counted(Fate::Stranger),
+        (Err(MasterFault::Stranger), 1),
+    );
 }
 
 #[test]
 fn slaves_may_count_on_either_copy(rt: HostRuntime) {
     let one = Fate::Counts(1);
-    assert_eq!(rt; assigned([Fate::Counts(3), one, one, one]), (Ok(3), 4));
-    assert_eq!(rt; assigned([Fate::Both(0, 3), one, one, one]), (Ok(3), 4));
-    assert_eq!(rt; assigned([Fate::Counts(1), one, one, one]), (Ok(1), 2));
+    assert_same(&rt, assigned([Fate::Counts(3), one, one, one]), (Ok(3), 4));
+    assert_same(&rt, assigned([Fate::Both(0, 3), one, one, one]), (Ok(3), 4));
+    assert_same(&rt, assigned([Fate::Counts(1), one, one, one]), (Ok(1), 2));
 }
 
 #[test]
@@ -66,8 +71,8 @@ fn write_that_one_slave_did_not_take_is_the_last(rt: HostRuntime) {
         (Fate::Fault, MasterFault::Port),
         (Fate::Stranger, MasterFault::Stranger),
     ] {
-        assert_eq!(rt; assigned([three, fate, one, one]), (Err(fault), 2));
-        assert_eq!(rt; assigned([three, one, fate, one]), (Err(fault), 3));
-        assert_eq!(rt; assigned([three, one, one, fate]), (Err(fault), 4));
+        assert_same(&rt, assigned([three, fate, one, one]), (Err(fault), 2));
+        assert_same(&rt, assigned([three, one, fate, one]), (Err(fault), 3));
+        assert_same(&rt, assigned([three, one, one, fate]), (Err(fault), 4));
     }
 }

@@ -1,5 +1,6 @@
 //! The frames that the services send, byte by byte.
 
+use crate::tests::assert_same;
 use crate::tests::fates::{Fate, Fates};
 use crate::tests::peer::{download, peer, upload};
 use crate::{MasterFault, assign_stations, request_state};
@@ -56,7 +57,7 @@ fn upload_writes_its_mail(rt: HostRuntime) {
         0x0A, 0x00, 0x00, 0x00, 0x00, 0x13, 0x00, 0x20, 0x40, 0x18, 0x10, 0x01, 0x00, 0x00, 0x00,
         0x00,
     ];
-    assert_eq!(rt; ports.last(), &mailing(WRITES, mail)[..]);
+    assert_same(&rt, ports.last(), &mailing(WRITES, mail)[..]);
 }
 
 #[test]
@@ -72,14 +73,14 @@ fn download_writes_its_mail_with_the_peers_counter(rt: HostRuntime) {
         0x0A, 0x00, 0x00, 0x00, 0x00, 0x13, 0x00, 0x20, 0x2B, 0x00, 0x20, 0x00, 0x34, 0x12, 0x00,
         0x00,
     ];
-    assert_eq!(rt; ports.last(), &mailing(WRITES, mail)[..]);
+    assert_same(&rt, ports.last(), &mailing(WRITES, mail)[..]);
     peer.counter = 7;
     failed(
         &rt,
         &download(&rt, &mut ports, &mut peer, (0x2000, 0), value, 1),
     );
     mail[5] = 0x73;
-    assert_eq!(rt; ports.last(), &mailing(WRITES, mail)[..]);
+    assert_same(&rt, ports.last(), &mailing(WRITES, mail)[..]);
 }
 
 #[test]
@@ -89,7 +90,7 @@ fn shortest_and_longest_mailbox_are_filled(rt: HostRuntime) {
         let mut peer = peer();
         peer.to.length = length;
         failed(&rt, &upload(&rt, &mut ports, &mut peer, (0x1018, 1), 1));
-        assert_eq!(rt; ports.last().len(), size);
+        assert_same(&rt, ports.last().len(), size);
     }
 }
 
@@ -97,7 +98,7 @@ fn shortest_and_longest_mailbox_are_filled(rt: HostRuntime) {
 fn mailbox_of_answers_is_read_whole(rt: HostRuntime) {
     let mut ports = taking(Fate::Counts(1));
     failed(&rt, &upload(&rt, &mut ports, &mut peer(), (0x1018, 1), 1));
-    assert_eq!(rt; ports.last(), &mailing(READS, [0; 16])[..]);
+    assert_same(&rt, ports.last(), &mailing(READS, [0; 16])[..]);
 }
 
 #[test]
@@ -108,7 +109,7 @@ fn state_is_written_with_the_acknowledgement(rt: HostRuntime) {
         0x0E, 0x10, 0x05, 0x00, 0x01, 0x10, 0x20, 0x01, 0x02, 0x00, 0x00, 0x00, 0x12, 0x00, 0x00,
         0x00,
     ];
-    assert_eq!(rt; ports.last(), &write[..]);
+    assert_same(&rt, ports.last(), &write[..]);
 }
 
 #[test]
@@ -119,7 +120,7 @@ fn status_is_read_with_its_code(rt: HostRuntime) {
         0x12, 0x10, 0x04, 0x00, 0x01, 0x10, 0x30, 0x01, 0x06, 0x00, 0x00, 0x00, 0x00, 0x00, 0x00,
         0x00, 0x00, 0x00, 0x00, 0x00,
     ];
-    assert_eq!(rt; ports.last(), &read[..]);
+    assert_same(&rt, ports.last(), &read[..]);
 }
 
 #[test]
@@ -130,7 +131,7 @@ fn slaves_are_counted_by_a_broadcast_read(rt: HostRuntime) {
         0x0E, 0x10, 0x07, 0x00, 0x00, 0x00, 0x30, 0x01, 0x02, 0x00, 0x00, 0x00, 0x00, 0x00, 0x00,
         0x00,
     ];
-    assert_eq!(rt; ports.last(), &read[..]);
+    assert_same(&rt, ports.last(), &read[..]);
 }
 
 #[test]
@@ -142,10 +143,10 @@ fn station_is_written_by_place(rt: HostRuntime) {
     ];
     let mut ports = taking(two);
     failed(&rt, &assign_stations(&mut ports, 0x1001));
-    assert_eq!(rt; ports.last(), &write[..]);
+    assert_same(&rt, ports.last(), &write[..]);
     write[4..6].copy_from_slice(&[0xFF, 0xFF]);
     write[12] = 0x02;
     let mut ports = ending([two, one, Fate::Fault]);
     failed(&rt, &assign_stations(&mut ports, 0x1001));
-    assert_eq!(rt; ports.last(), &write[..]);
+    assert_same(&rt, ports.last(), &write[..]);
 }

@@ -1,5 +1,6 @@
 //! Station addresses on a ring.
 
+use crate::tests::assert_same;
 use crate::tests::line::{ring, station};
 use crate::{MasterFault, RingPorts, assign_stations};
 
@@ -11,17 +12,19 @@ fn stations(ports: &RingPorts) -> [Option<u16>; 3] {
 #[test]
 fn slaves_get_rising_addresses_by_place(rt: HostRuntime) {
     let mut ports = RingPorts::new(ring(&rt, rt.alloc(), 3));
-    assert_eq!(rt;
+    assert_same(
+        &rt,
         stations(&ports),
-        [Some(0x3000), Some(0x3001), Some(0x3002)]
+        [Some(0x3000), Some(0x3001), Some(0x3002)],
     );
-    assert_eq!(rt; assign_stations(&mut ports, 0x1001), Ok(3));
-    assert_eq!(rt;
+    assert_same(&rt, assign_stations(&mut ports, 0x1001), Ok(3));
+    assert_same(
+        &rt,
         stations(&ports),
-        [Some(0x1001), Some(0x1002), Some(0x1003)]
+        [Some(0x1001), Some(0x1002), Some(0x1003)],
     );
-    assert_eq!(rt; assign_stations(&mut ports, 0), Ok(3));
-    assert_eq!(rt; stations(&ports), [Some(0), Some(1), Some(2)]);
+    assert_same(&rt, assign_stations(&mut ports, 0), Ok(3));
+    assert_same(&rt, stations(&ports), [Some(0), Some(1), Some(2)]);
 }
 
 #[test]
@@ -32,10 +35,11 @@ fn broken_cable_leaves_the_addresses(rt: HostRuntime) {
         ring.set_link(link, false);
         let mut ports = RingPorts::new(ring);
         let assigned = assign_stations(&mut ports, 0x1001);
-        assert_eq!(rt; assigned, Err(MasterFault::Broken));
-        assert_eq!(rt;
+        assert_same(&rt, assigned, Err(MasterFault::Broken));
+        assert_same(
+            &rt,
             stations(&ports),
-            [Some(0x3000), Some(0x3001), Some(0x3002)]
+            [Some(0x3000), Some(0x3001), Some(0x3002)],
         );
     }
 }
@@ -44,14 +48,14 @@ fn broken_cable_leaves_the_addresses(rt: HostRuntime) {
 fn line_of_no_slave_has_none(rt: HostRuntime) {
     let mut ports = RingPorts::new(ring(&rt, rt.alloc(), 0));
     let assigned = assign_stations(&mut ports, 0x1001);
-    assert_eq!(rt; assigned, Err(MasterFault::NoSlave));
+    assert_same(&rt, assigned, Err(MasterFault::NoSlave));
 }
 
 #[test]
 fn most_slaves_get_the_highest_addresses(rt: HostRuntime) {
     let mut ports = RingPorts::new(ring(&rt, rt.alloc(), 256));
-    assert_eq!(rt; assign_stations(&mut ports, 65_000), Ok(256));
-    assert_eq!(rt; station(&ports, 0), Some(65_000));
-    assert_eq!(rt; station(&ports, 128), Some(65_128));
-    assert_eq!(rt; station(&ports, 255), Some(65_255));
+    assert_same(&rt, assign_stations(&mut ports, 65_000), Ok(256));
+    assert_same(&rt, station(&ports, 0), Some(65_000));
+    assert_same(&rt, station(&ports, 128), Some(65_128));
+    assert_same(&rt, station(&ports, 255), Some(65_255));
 }

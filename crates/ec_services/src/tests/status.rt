@@ -1,5 +1,6 @@
 //! What AL status decides for one who asked for Pre-Op.
 
+use crate::tests::assert_same;
 use crate::tests::fates::{Fate, Fates};
 use crate::{MasterFault, request_state};
 use ec_master::Ports;
@@ -38,7 +39,7 @@ fn status_is_read_until_the_slave_is_in_the_state(rt: HostRuntime) {
             (no_answer, 4),
         ),
     ] {
-        assert_eq!(rt; requested(fates), end);
+        assert_same(&rt, requested(fates), end);
     }
 }
 
@@ -47,7 +48,7 @@ fn error_bit_is_a_refusal_with_the_code(rt: HostRuntime) {
     let refused = Err(MasterFault::Refused(0x1234));
     for al_status in [0x11, 0x12, 0x10, 0xFF] {
         let fates = [TAKEN, status(0x01), status(al_status), PRE_OP];
-        assert_eq!(rt; requested(fates), (refused, 3));
+        assert_same(&rt, requested(fates), (refused, 3));
     }
 }
 
@@ -62,9 +63,10 @@ fn one_slave_takes_the_write_and_one_answers(rt: HostRuntime) {
         (TAKEN, Fate::Lost, no_slave, 2),
         (TAKEN, two, bad, 2),
     ] {
-        assert_eq!(rt;
+        assert_same(
+            &rt,
             requested([write, read, PRE_OP, PRE_OP]),
-            (Err(fault), trips)
+            (Err(fault), trips),
         );
     }
 }
@@ -73,8 +75,8 @@ fn one_slave_takes_the_write_and_one_answers(rt: HostRuntime) {
 fn failed_trip_is_a_failure_of_the_ports(rt: HostRuntime) {
     let mut ports = Fates::new([TAKEN, status(0x01), Fate::Fault, PRE_OP]);
     let answer = request_state(&mut ports, 0x1001, AlState::PreOp, 3);
-    assert_eq!(rt; answer, Err(MasterFault::Port));
-    assert_eq!(rt; ports.failures(), 1);
+    assert_same(&rt, answer, Err(MasterFault::Port));
+    assert_same(&rt, ports.failures(), 1);
 }
 
 #[test]
@@ -86,9 +88,10 @@ fn failed_trip_is_the_last(rt: HostRuntime) {
         (TAKEN, Fate::Fault, port, 2),
         (TAKEN, Fate::Stranger, stranger, 2),
     ] {
-        assert_eq!(rt;
+        assert_same(
+            &rt,
             requested([write, read, PRE_OP, PRE_OP]),
-            (Err(fault), trips)
+            (Err(fault), trips),
         );
     }
 }

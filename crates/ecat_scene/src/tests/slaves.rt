@@ -1,6 +1,6 @@
 //! The lines that describe slaves.
 
-use super::{refused, taken};
+use super::{assert_same, refused, taken};
 use crate::{LineFault, MAX_SLAVES};
 use ec_app::{Rights, Value};
 use ec_regs::AlState;
@@ -12,7 +12,7 @@ fn a_line_may_have_256_slaves(rt: HostRuntime) {
         text[8 * k..8 * k + 7].copy_from_slice(b"slave 1");
     }
     if let Some(scene) = taken(&rt, &text) {
-        assert_eq!(rt; scene.slaves.len(), MAX_SLAVES);
+        assert_same(&rt, scene.slaves.len(), MAX_SLAVES);
     }
 }
 
@@ -22,11 +22,11 @@ fn a_line_has_256_slaves_at_most(rt: HostRuntime) {
     for k in 0..MAX_SLAVES + 1 {
         text[8 * k..8 * k + 7].copy_from_slice(b"slave 1");
     }
-    assert!(rt; refused(&rt, &text, 257, LineFault::TooMany));
+    refused(&rt, &text, 257, LineFault::TooMany);
     text[8 * MAX_SLAVES..].copy_from_slice(b"slave xy");
-    assert!(rt; refused(&rt, &text, 257, LineFault::BadNumber));
+    refused(&rt, &text, 257, LineFault::BadNumber);
     text[8 * MAX_SLAVES..].copy_from_slice(b"slave 1 ");
-    assert!(rt; refused(&rt, &text, 257, LineFault::TooMany));
+    refused(&rt, &text, 257, LineFault::TooMany);
 }
 
 #[test]
@@ -39,30 +39,30 @@ fn each_slave_has_its_own_lines(rt: HostRuntime) {
     let [first, second, third] = scene.slaves.as_slice() else {
         panic!(rt; "three slaves");
     };
-    assert_eq!(rt; first.state, AlState::Op);
-    assert_eq!(rt; first.output_length, 1);
-    assert_eq!(rt; first.input_length, 65_535);
-    assert_eq!(rt; first.settings.len(), 0);
-    assert_eq!(rt; second.state, AlState::Init);
-    assert_eq!(rt; second.output_length, 0);
-    assert_eq!(rt; second.input_length, 0);
-    assert_eq!(rt; second.settings.len(), 1);
-    assert_eq!(rt; third.state, AlState::SafeOp);
-    assert_eq!(rt; third.output_length, 7);
-    assert_eq!(rt; third.input_length, 8);
+    assert_same(&rt, first.state, AlState::Op);
+    assert_same(&rt, first.output_length, 1);
+    assert_same(&rt, first.input_length, 65_535);
+    assert_same(&rt, first.settings.len(), 0);
+    assert_same(&rt, second.state, AlState::Init);
+    assert_same(&rt, second.output_length, 0);
+    assert_same(&rt, second.input_length, 0);
+    assert_same(&rt, second.settings.len(), 1);
+    assert_same(&rt, third.state, AlState::SafeOp);
+    assert_same(&rt, third.output_length, 7);
+    assert_same(&rt, third.input_length, 8);
 }
 
 #[test]
 fn states_are_four(rt: HostRuntime) {
-    assert!(rt; refused(&rt, b"slave 1\nstate 3", 2, LineFault::OutOfRange));
-    assert!(rt; refused(&rt, b"slave 1\nstate 0", 2, LineFault::OutOfRange));
-    assert!(rt; refused(&rt, b"slave 1\nstate 258", 2, LineFault::OutOfRange));
-    assert!(rt; refused(&rt, b"slave 1\nstate op", 2, LineFault::BadNumber));
-    assert!(rt; refused(&rt, b"state 8", 1, LineFault::NoSlave));
-    assert!(rt; refused(&rt, b"state", 1, LineFault::WrongCount));
+    refused(&rt, b"slave 1\nstate 3", 2, LineFault::OutOfRange);
+    refused(&rt, b"slave 1\nstate 0", 2, LineFault::OutOfRange);
+    refused(&rt, b"slave 1\nstate 258", 2, LineFault::OutOfRange);
+    refused(&rt, b"slave 1\nstate op", 2, LineFault::BadNumber);
+    refused(&rt, b"state 8", 1, LineFault::NoSlave);
+    refused(&rt, b"state", 1, LineFault::WrongCount);
     if let Some(scene) = taken(&rt, b"slave 1\nstate 1") {
         assert_eq!(rt; scene.slaves.len(), 1);
-        assert_eq!(rt; scene.slaves[0].state, AlState::Init);
+        assert_same(&rt, scene.slaves[0].state, AlState::Init);
     }
 }
 
@@ -75,89 +75,78 @@ fn objects_have_sizes_and_rights(rt: HostRuntime) {
     };
     assert_eq!(rt; scene.slaves.len(), 1);
     let objects = &scene.slaves[0].objects;
-    assert_eq!(rt; objects.count(), 3);
-    assert_eq!(rt;
+    assert_same(&rt, objects.count(), 3);
+    assert_same(
+        &rt,
         objects.get(0x1018, 1),
-        Some((Rights::ReadOnly, Value::Four(2)))
+        Some((Rights::ReadOnly, Value::Four(2))),
     );
-    assert_eq!(rt;
+    assert_same(
+        &rt,
         objects.get(0x1018, 2),
-        Some((Rights::WriteOnly, Value::Two(0xffff)))
+        Some((Rights::WriteOnly, Value::Two(0xffff))),
     );
-    assert_eq!(rt;
+    assert_same(
+        &rt,
         objects.get(0x2000, 1),
-        Some((Rights::Both, Value::One(255)))
+        Some((Rights::Both, Value::One(255))),
     );
 }
 
 #[test]
 fn an_object_fits_its_fields(rt: HostRuntime) {
-    assert!(rt;
-        refused(
-            &rt,
-            b"slave 1\nobject 65536 1 1 ro 0",
-            2,
-            LineFault::OutOfRange
-        )
+    refused(
+        &rt,
+        b"slave 1\nobject 65536 1 1 ro 0",
+        2,
+        LineFault::OutOfRange,
     );
-    assert!(rt;
-        refused(
-            &rt,
-            b"slave 1\nobject 1 256 1 ro 0",
-            2,
-            LineFault::OutOfRange
-        )
+    refused(
+        &rt,
+        b"slave 1\nobject 1 256 1 ro 0",
+        2,
+        LineFault::OutOfRange,
     );
-    assert!(rt; refused(&rt, b"slave 1\nobject 1 1 3 ro 0", 2, LineFault::OutOfRange));
-    assert!(rt; refused(&rt, b"slave 1\nobject 1 1 0 ro 0", 2, LineFault::OutOfRange));
-    assert!(rt;
-        refused(
-            &rt,
-            b"slave 1\nobject 1 1 1 ro 256",
-            2,
-            LineFault::OutOfRange
-        )
+    refused(&rt, b"slave 1\nobject 1 1 3 ro 0", 2, LineFault::OutOfRange);
+    refused(&rt, b"slave 1\nobject 1 1 0 ro 0", 2, LineFault::OutOfRange);
+    refused(
+        &rt,
+        b"slave 1\nobject 1 1 1 ro 256",
+        2,
+        LineFault::OutOfRange,
     );
-    assert!(rt;
-        refused(
-            &rt,
-            b"slave 1\nobject 1 1 2 ro 65536",
-            2,
-            LineFault::OutOfRange
-        )
+    refused(
+        &rt,
+        b"slave 1\nobject 1 1 2 ro 65536",
+        2,
+        LineFault::OutOfRange,
     );
-    assert!(rt;
-        refused(
-            &rt,
-            b"slave 1\nobject 1 1 4 ro 0x100000000",
-            2,
-            LineFault::OutOfRange
-        )
+    refused(
+        &rt,
+        b"slave 1\nobject 1 1 4 ro 0x100000000",
+        2,
+        LineFault::OutOfRange,
     );
-    assert!(rt;
-        refused(
-            &rt,
-            b"slave 1\nobject 65536 1 1 or 0",
-            2,
-            LineFault::BadNumber
-        )
+    refused(
+        &rt,
+        b"slave 1\nobject 65536 1 1 or 0",
+        2,
+        LineFault::BadNumber,
     );
-    assert!(rt;
-        refused(
-            &rt,
-            b"slave 1\nobject 65536 1 1 ro x",
-            2,
-            LineFault::BadNumber
-        )
+    refused(
+        &rt,
+        b"slave 1\nobject 65536 1 1 ro x",
+        2,
+        LineFault::BadNumber,
     );
-    assert!(rt; refused(&rt, b"object 1 1 1 ro", 1, LineFault::WrongCount));
-    assert!(rt; refused(&rt, b"object x 1 1 ro 1", 1, LineFault::NoSlave));
+    refused(&rt, b"object 1 1 1 ro", 1, LineFault::WrongCount);
+    refused(&rt, b"object x 1 1 ro 1", 1, LineFault::NoSlave);
 }
 
 #[test]
 fn an_object_stands_once_in_a_slave(rt: HostRuntime) {
     let twice = b"slave 1\nobject 7 1 1 ro 0\nobject 7 2 1 ro 0\nobject 7 1 4 rw 9";
-    assert!(rt; refused(&rt, twice, 4, LineFault::Twin));
+    refused(&rt, twice, 4, LineFault::Twin);
     let elsewhere = b"slave 1\nobject 7 1 1 ro 0\nslave 1\nobject 7 1 1 ro 0";
     assert!(rt; taken(&rt, elsewhere).is_none_or(|scene| scene.slaves.len() == 2));
 }
@@ -174,7 +163,7 @@ fn a_slave_may_have_32_objects(rt: HostRuntime) {
     }
     if let Some(scene) = taken(&rt, &text) {
         assert_eq!(rt; scene.slaves.len(), 1);
-        assert_eq!(rt; scene.slaves[0].objects.count(), 32);
+        assert_same(&rt, scene.slaves[0].objects.count(), 32);
     }
 }
 
@@ -188,8 +177,8 @@ fn a_slave_has_32_objects_at_most(rt: HostRuntime) {
         text[at + 9] = b'0' + (k / 10) as u8;
         text[at + 10] = b'0' + (k % 10) as u8;
     }
-    assert!(rt; refused(&rt, &text, 66, LineFault::TooMany));
+    refused(&rt, &text, 66, LineFault::TooMany);
     text[8 + 32 * 20 + 9] = b'0';
     text[8 + 32 * 20 + 10] = b'0';
-    assert!(rt; refused(&rt, &text, 66, LineFault::TooMany));
+    refused(&rt, &text, 66, LineFault::TooMany);
 }

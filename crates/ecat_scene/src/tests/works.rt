@@ -1,7 +1,7 @@
 //! The lines that say what is done with the slaves.
 
-use super::{refused, taken};
-use crate::{Action, LineFault};
+use super::{assert_same, refused, taken};
+use crate::{Action, LineFault, SceneWeather};
 use ec_map::Kind;
 
 #[test]
@@ -13,7 +13,7 @@ fn steps_and_frames_stand_in_one_order(rt: HostRuntime) {
     let [Action::Step, Action::Frame(frame), Action::Step] = scene.actions.as_slice() else {
         panic!(rt; "a step, a frame and a step");
     };
-    assert_eq!(rt; frame.bytes().len(), 16);
+    assert_same(&rt, frame.bytes().len(), 16);
 }
 
 #[test]
@@ -27,46 +27,46 @@ fn items_are_of_six_kinds(rt: HostRuntime) {
     let [read, write, exchange, broadcast, one_read, one_written] = scene.items.as_slice() else {
         panic!(rt; "six items");
     };
-    assert_eq!(rt; read.kind(), Kind::Lrd);
-    assert_eq!(rt; read.address(), 0);
-    assert_eq!(rt; write.kind(), Kind::Lwr);
-    assert_eq!(rt; write.address(), 0x10000);
-    assert_eq!(rt; write.data(), [0xa1, 0xb2].as_slice());
-    assert_eq!(rt; exchange.kind(), Kind::Lrw);
-    assert_eq!(rt; exchange.address(), 0xffff_ffff);
-    assert_eq!(rt; broadcast.kind(), Kind::Brd);
-    assert_eq!(rt; broadcast.address(), 0x130);
-    assert_eq!(rt; one_read.kind(), Kind::Fprd);
-    assert_eq!(rt; one_read.address(), 0x1100_1001);
-    assert_eq!(rt; one_written.kind(), Kind::Fpwr);
-    assert_eq!(rt; one_written.address(), 0x2fff_ffff);
-    assert_eq!(rt; one_written.counter(), 0);
-    assert_eq!(rt; one_written.adp(), 0);
+    assert_same(&rt, read.kind(), Kind::Lrd);
+    assert_same(&rt, read.address(), 0);
+    assert_same(&rt, write.kind(), Kind::Lwr);
+    assert_same(&rt, write.address(), 0x10000);
+    assert_same(&rt, write.data(), [0xa1, 0xb2].as_slice());
+    assert_same(&rt, exchange.kind(), Kind::Lrw);
+    assert_same(&rt, exchange.address(), 0xffff_ffff);
+    assert_same(&rt, broadcast.kind(), Kind::Brd);
+    assert_same(&rt, broadcast.address(), 0x130);
+    assert_same(&rt, one_read.kind(), Kind::Fprd);
+    assert_same(&rt, one_read.address(), 0x1100_1001);
+    assert_same(&rt, one_written.kind(), Kind::Fpwr);
+    assert_same(&rt, one_written.address(), 0x2fff_ffff);
+    assert_same(&rt, one_written.counter(), 0);
+    assert_same(&rt, one_written.adp(), 0);
 }
 
 #[test]
 fn an_item_lies_in_its_range(rt: HostRuntime) {
-    assert!(rt; refused(&rt, b"lrd 0xffffffff 0000", 1, LineFault::OutOfRange));
-    assert!(rt; refused(&rt, b"lrd 0x100000000 00", 1, LineFault::OutOfRange));
-    assert!(rt; refused(&rt, b"brd 0x0fff 0000", 1, LineFault::OutOfRange));
-    assert!(rt; refused(&rt, b"fprd 0x1001 0x2fff 0000", 1, LineFault::OutOfRange));
-    assert!(rt; refused(&rt, b"fpwr 0x10000 0x1000 00", 1, LineFault::OutOfRange));
-    assert!(rt; refused(&rt, b"fpwr 1 0x10000 00", 1, LineFault::OutOfRange));
-    assert!(rt; refused(&rt, b"lwr 0x100000000 0", 1, LineFault::BadNumber));
-    assert!(rt; refused(&rt, b"fprd x 0x10000 00", 1, LineFault::BadNumber));
-    assert!(rt; refused(&rt, b"lrw 0", 1, LineFault::WrongCount));
-    assert!(rt; refused(&rt, b"fprd 1 00", 1, LineFault::WrongCount));
-    assert!(rt; refused(&rt, b"lrd 1 2 00", 1, LineFault::WrongCount));
+    refused(&rt, b"lrd 0xffffffff 0000", 1, LineFault::OutOfRange);
+    refused(&rt, b"lrd 0x100000000 00", 1, LineFault::OutOfRange);
+    refused(&rt, b"brd 0x0fff 0000", 1, LineFault::OutOfRange);
+    refused(&rt, b"fprd 0x1001 0x2fff 0000", 1, LineFault::OutOfRange);
+    refused(&rt, b"fpwr 0x10000 0x1000 00", 1, LineFault::OutOfRange);
+    refused(&rt, b"fpwr 1 0x10000 00", 1, LineFault::OutOfRange);
+    refused(&rt, b"lwr 0x100000000 0", 1, LineFault::BadNumber);
+    refused(&rt, b"fprd x 0x10000 00", 1, LineFault::BadNumber);
+    refused(&rt, b"lrw 0", 1, LineFault::WrongCount);
+    refused(&rt, b"fprd 1 00", 1, LineFault::WrongCount);
+    refused(&rt, b"lrd 1 2 00", 1, LineFault::WrongCount);
 }
 
 #[test]
 fn an_item_has_1486_bytes_at_most(rt: HostRuntime) {
     let mut text = [b'0'; 6 + 2 * 1487];
     text[..6].copy_from_slice(b"lrd 0 ");
-    assert!(rt; refused(&rt, &text, 1, LineFault::OutOfRange));
+    refused(&rt, &text, 1, LineFault::OutOfRange);
     if let Some(scene) = taken(&rt, &text[..6 + 2 * 1486]) {
         assert_eq!(rt; scene.items.len(), 1);
-        assert_eq!(rt; scene.items[0].len(), 1486);
+        assert_same(&rt, scene.items[0].len(), 1486);
     }
 }
 
@@ -77,7 +77,7 @@ fn items_may_be_32(rt: HostRuntime) {
         text[16 * k..16 * k + 8].copy_from_slice(b"lrd 0 00");
     }
     if let Some(scene) = taken(&rt, &text) {
-        assert_eq!(rt; scene.items.len(), 32);
+        assert_same(&rt, scene.items.len(), 32);
     }
 }
 
@@ -87,9 +87,9 @@ fn items_are_32_at_most(rt: HostRuntime) {
     for k in 0..33usize {
         text[16 * k..16 * k + 8].copy_from_slice(b"lrd 0 00");
     }
-    assert!(rt; refused(&rt, &text, 257, LineFault::TooMany));
+    refused(&rt, &text, 257, LineFault::TooMany);
     text[32 * 16..32 * 16 + 11].copy_from_slice(b"brd 4096 00");
-    assert!(rt; refused(&rt, &text, 257, LineFault::OutOfRange));
+    refused(&rt, &text, 257, LineFault::OutOfRange);
 }
 
 #[test]
@@ -98,44 +98,41 @@ fn links_are_judged_when_all_slaves_stand(rt: HostRuntime) {
         &rt,
         b"link 2 down\nlink 0 down\nslave 1\nslave 2\nlink 2 down",
     ) {
-        assert_eq!(rt; scene.links_down.as_slice(), [2, 0, 2].as_slice());
+        assert_same(&rt, scene.links_down.as_slice(), [2, 0, 2].as_slice());
     }
-    assert!(rt;
-        refused(
-            &rt,
-            b"slave 1\nlink 1 down\nlink 2 down",
-            3,
-            LineFault::OutOfRange
-        )
+    refused(
+        &rt,
+        b"slave 1\nlink 1 down\nlink 2 down",
+        3,
+        LineFault::OutOfRange,
     );
-    assert!(rt;
-        refused(
-            &rt,
-            b"link 18446744073709551616 down\nlink 5 down",
-            1,
-            LineFault::OutOfRange
-        )
+    refused(
+        &rt,
+        b"link 18446744073709551616 down\nlink 5 down",
+        1,
+        LineFault::OutOfRange,
     );
-    assert!(rt;
-        refused(
-            &rt,
-            b"link 9 down\nslave 1\nslaves",
-            3,
-            LineFault::UnknownWord
-        )
+    refused(
+        &rt,
+        b"link 9 down\nslave 1\nslaves",
+        3,
+        LineFault::UnknownWord,
     );
-    assert!(rt; refused(&rt, b"link 0 up", 1, LineFault::BadNumber));
-    assert!(rt; refused(&rt, b"link -1 down", 1, LineFault::BadNumber));
-    assert!(rt; refused(&rt, b"link 0", 1, LineFault::WrongCount));
-    assert!(rt;
-        refused(
-            &rt,
-            b"slave 1\nweather 0,1 2 - a\nlink 9 down",
-            2,
-            LineFault::OutOfRange
-        )
+    refused(&rt, b"link 0 up", 1, LineFault::BadNumber);
+    refused(&rt, b"link -1 down", 1, LineFault::BadNumber);
+    refused(&rt, b"link 0", 1, LineFault::WrongCount);
+    refused(
+        &rt,
+        b"slave 1\nweather 0,1 2 - a\nlink 9 down",
+        2,
+        LineFault::OutOfRange,
     );
-    assert!(rt; refused(&rt, b"slave 1\nweather 2,0 0 - a", 2, LineFault::OutOfRange));
+    refused(&rt, b"slave 1\nweather 2,0 0 - a", 2, LineFault::OutOfRange);
+}
+
+/// Whether copy A is lost, whether copy B is, and whether that goes first.
+fn told(weather: &SceneWeather) -> (bool, bool, bool) {
+    (weather.lost_a, weather.lost_b, weather.b_first)
 }
 
 #[test]
@@ -148,23 +145,23 @@ fn a_weather_says_what_each_copy_meets(rt: HostRuntime) {
     let [calm, first, second, both] = scene.weathers.as_slice() else {
         panic!(rt; "four weathers");
     };
-    assert_eq!(rt; calm.down_for_a.len(), 0);
-    assert_eq!(rt; calm.down_for_b.as_slice(), [0, 2].as_slice());
-    assert!(rt; !calm.lost_a && !calm.lost_b && !calm.b_first);
-    assert_eq!(rt; first.down_for_a.as_slice(), [1].as_slice());
-    assert!(rt; first.lost_a && !first.lost_b && first.b_first);
-    assert!(rt; !second.lost_a && second.lost_b && !second.b_first);
-    assert!(rt; both.lost_a && both.lost_b && both.b_first);
+    assert_same(&rt, calm.down_for_a.len(), 0);
+    assert_same(&rt, calm.down_for_b.as_slice(), [0, 2].as_slice());
+    assert_same(&rt, told(calm), (false, false, false));
+    assert_same(&rt, first.down_for_a.as_slice(), [1].as_slice());
+    assert_same(&rt, told(first), (true, false, true));
+    assert_same(&rt, told(second), (false, true, false));
+    assert_same(&rt, told(both), (true, true, true));
 }
 
 #[test]
 fn a_weather_has_its_form(rt: HostRuntime) {
-    assert!(rt; refused(&rt, b"weather ,1 - - a", 1, LineFault::BadNumber));
-    assert!(rt; refused(&rt, b"weather 1, - - a", 1, LineFault::BadNumber));
-    assert!(rt; refused(&rt, b"weather - -- - a", 1, LineFault::BadNumber));
-    assert!(rt; refused(&rt, b"weather - - ba a", 1, LineFault::BadNumber));
-    assert!(rt; refused(&rt, b"weather - - - -", 1, LineFault::BadNumber));
-    assert!(rt; refused(&rt, b"weather - - -", 1, LineFault::WrongCount));
+    refused(&rt, b"weather ,1 - - a", 1, LineFault::BadNumber);
+    refused(&rt, b"weather 1, - - a", 1, LineFault::BadNumber);
+    refused(&rt, b"weather - -- - a", 1, LineFault::BadNumber);
+    refused(&rt, b"weather - - ba a", 1, LineFault::BadNumber);
+    refused(&rt, b"weather - - - -", 1, LineFault::BadNumber);
+    refused(&rt, b"weather - - -", 1, LineFault::WrongCount);
 }
 
 #[test]
@@ -174,7 +171,7 @@ fn weathers_may_be_32(rt: HostRuntime) {
         text[16 * k..16 * k + 15].copy_from_slice(b"weather - - - a");
     }
     if let Some(scene) = taken(&rt, &text) {
-        assert_eq!(rt; scene.weathers.len(), 32);
+        assert_same(&rt, scene.weathers.len(), 32);
     }
 }
 
@@ -184,7 +181,7 @@ fn weathers_are_32_at_most(rt: HostRuntime) {
     for k in 0..33usize {
         text[16 * k..16 * k + 15].copy_from_slice(b"weather - - - a");
     }
-    assert!(rt; refused(&rt, &text, 33, LineFault::TooMany));
+    refused(&rt, &text, 33, LineFault::TooMany);
     text[32 * 16 + 14] = b'c';
-    assert!(rt; refused(&rt, &text, 33, LineFault::BadNumber));
+    refused(&rt, &text, 33, LineFault::BadNumber);
 }

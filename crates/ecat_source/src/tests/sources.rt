@@ -1,4 +1,5 @@
 //! Bytes in memory, counted readers, and the whole of a source.
+use super::assert_same;
 use crate::{Bytes, Counted, FailsAt, Pieces, ReadAllFault, Source, SourceFault, read_all};
 use std::alloc::{AllocError, Global};
 use std::io;
@@ -19,23 +20,23 @@ impl Read for Broken {
 fn bytes_end_and_stay_at_the_end(rt: HostRuntime) {
     let mut source = Bytes::new(b"abc");
     let mut into = [0; 2];
-    assert_eq!(rt; source.read(&mut into), Ok(2));
-    assert_eq!(rt; into, *b"ab");
-    assert_eq!(rt; source.read(&mut into), Ok(1));
-    assert_eq!(rt; into[0], b'c');
-    assert_eq!(rt; source.read(&mut into), Ok(0));
-    assert_eq!(rt; source.read(&mut into), Ok(0));
-    assert_eq!(rt; source.failures(), 0);
+    assert_same(&rt, source.read(&mut into), Ok(2));
+    assert_same(&rt, into, *b"ab");
+    assert_same(&rt, source.read(&mut into), Ok(1));
+    assert_same(&rt, into[0], b'c');
+    assert_same(&rt, source.read(&mut into), Ok(0));
+    assert_same(&rt, source.read(&mut into), Ok(0));
+    assert_same(&rt, source.failures(), 0);
 }
 
 #[test]
 fn each_failed_read_is_counted(rt: HostRuntime) {
     let mut source = Counted::new(Broken);
     let mut into = [0; 2];
-    assert_eq!(rt; source.failures(), 0);
-    assert_eq!(rt; source.read(&mut into), Err(SourceFault));
-    assert_eq!(rt; source.read(&mut into), Err(SourceFault));
-    assert_eq!(rt; source.failures(), 2);
+    assert_same(&rt, source.failures(), 0);
+    assert_same(&rt, source.read(&mut into), Err(SourceFault));
+    assert_same(&rt, source.read(&mut into), Err(SourceFault));
+    assert_same(&rt, source.failures(), 2);
 }
 
 #[test]
@@ -43,8 +44,8 @@ fn reader_is_read_through_the_count(rt: HostRuntime) -> Result<(), Fail> {
     let bytes: &[u8] = b"slave 1\n";
     let mut source = Counted::new(bytes);
     let whole = read_all(rt.alloc(), &mut source, 100)?;
-    assert_eq!(rt; whole.as_slice(), bytes);
-    assert_eq!(rt; source.failures(), 0);
+    assert_same(&rt, whole.as_slice(), bytes);
+    assert_same(&rt, source.failures(), 0);
     Ok(())
 }
 
@@ -53,7 +54,7 @@ fn whole_of_a_source_in_pieces(rt: HostRuntime) -> Result<(), Fail> {
     let bytes: &[u8] = b"slave 1\nmap 2\n";
     for most in [1, 2, 3, 7, 100] {
         let whole = read_all(rt.alloc(), &mut Pieces::new(bytes, most), 14)?;
-        assert_eq!(rt; whole.as_slice(), bytes);
+        assert_same(&rt, whole.as_slice(), bytes);
     }
     Ok(())
 }
@@ -73,10 +74,10 @@ fn whole_at_the_limit_and_one_above(rt: HostRuntime) -> Result<(), Fail> {
     let above = filled(rt.alloc(), 65537)?;
     for most in [1000, 5000] {
         let whole = read_all(rt.alloc(), &mut Pieces::new(&fits, most), 65536)?;
-        assert_eq!(rt; whole.as_slice(), fits.as_slice());
+        assert_same(&rt, whole.as_slice(), fits.as_slice());
 
         let fault = read_all(rt.alloc(), &mut Pieces::new(&above, most), 65536).err();
-        assert_eq!(rt; fault, Some(ReadAllFault::TooLong));
+        assert_same(&rt, fault, Some(ReadAllFault::TooLong));
     }
     Ok(())
 }
@@ -92,10 +93,10 @@ fn nothing_is_the_whole_of_nothing(rt: HostRuntime) -> Result<(), Fail> {
 fn no_more_than_one_byte_past_the_limit_is_read(rt: HostRuntime) {
     let mut source = Bytes::new(b"abcdef");
     let fault = read_all(rt.alloc(), &mut source, 3).err();
-    assert_eq!(rt; fault, Some(ReadAllFault::TooLong));
+    assert_same(&rt, fault, Some(ReadAllFault::TooLong));
     let mut into = [0; 4];
-    assert_eq!(rt; source.read(&mut into), Ok(2));
-    assert_eq!(rt; into[0], b'e');
+    assert_same(&rt, source.read(&mut into), Ok(2));
+    assert_same(&rt, into[0], b'e');
 }
 
 #[test]
@@ -103,8 +104,8 @@ fn whole_of_a_source_that_fails(rt: HostRuntime) {
     for reads_before in 0..5 {
         let mut source = FailsAt::new(b"slave", 1, reads_before);
         let fault = read_all(rt.alloc(), &mut source, 100).err();
-        assert_eq!(rt; fault, Some(ReadAllFault::Read));
-        assert_eq!(rt; source.failures(), 1);
+        assert_same(&rt, fault, Some(ReadAllFault::Read));
+        assert_same(&rt, source.failures(), 1);
     }
 }
 
@@ -112,8 +113,8 @@ fn whole_of_a_source_that_fails(rt: HostRuntime) {
 #[test]
 fn want_of_memory_for_the_whole_is_told(rt: HostRuntime) {
     match read_all(rt.alloc(), &mut Pieces::new(b"slave", 2), 100) {
-        Ok(whole) => assert_eq!(rt; whole.as_slice(), b"slave".as_slice()),
-        Err(fault) => assert_eq!(rt; fault, ReadAllFault::NoMemory),
+        Ok(whole) => assert_same(&rt, whole.as_slice(), b"slave".as_slice()),
+        Err(fault) => assert_same(&rt, fault, ReadAllFault::NoMemory),
     }
 }
 
@@ -125,9 +126,9 @@ fn faults_print_their_names(rt: HostRuntime) -> Result<(), Fail> {
         (ReadAllFault::NoMemory, "NoMemory"),
     ] {
         let text = format!(in rt.alloc(); "{fault}")?;
-        assert_eq!(rt; text.as_str(), name);
+        assert_same(&rt, text.as_str(), name);
     }
     let text = format!(in rt.alloc(); "{}", SourceFault)?;
-    assert_eq!(rt; text.as_str(), "Read");
+    assert_same(&rt, text.as_str(), "Read");
     Ok(())
 }
