@@ -5,3 +5,12 @@ mod faults;
 mod memory;
 mod packets;
 mod real;
+
+use std::fmt::Debug;
+use std::process::Abort;
+
+/// Asserts that what was found is what was wanted. An assertion that stands in a test is proved again in
+/// each, which takes longer than all else of it; this one is proved once.
+fn assert_same<T: PartialEq + Debug + Drop>(rt: &impl Abort, found: T, wanted: T) {
+    assert_eq!(rt; found, wanted);
+}

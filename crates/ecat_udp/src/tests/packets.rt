@@ -1,5 +1,6 @@
 //! Which packets go out in a trip, and what those count for that come.
 
+use super::assert_same;
 use crate::tests::exchange::{EXPECTED, left, ring, taken, work};
 use crate::tests::memory::{Call, MemoryLine};
 use crate::{PacketLine, Socket, UdpPorts};
@@ -32,12 +33,13 @@ fn a_whole_trip_makes_eight_calls_in_their_order(rt: HostRuntime) {
     let mut work = work(&rt);
     assert_eq!(rt; work.len(), 1);
     let verdict = run_cycle(&mut ports, &mut work, &EXPECTED);
-    assert_eq!(rt; verdict, Ok(Verdict::Good));
-    assert_eq!(rt; left(&rt, &work), ([0x12, 0x34], 6));
-    assert_eq!(rt; ports.failures(), 0);
+    assert_same(&rt, verdict, Ok(Verdict::Good));
+    assert_same(&rt, left(&rt, &work), ([0x12, 0x34], 6));
+    assert_same(&rt, ports.failures(), 0);
     let (ring, line) = ports.into_parts();
-    assert_eq!(rt; taken(&rt, &ring), [0x5A, 0xA5]);
-    assert_eq!(rt;
+    assert_same(&rt, taken(&rt, &ring), [0x5A, 0xA5]);
+    assert_same(
+        &rt,
         line.calls(),
         [
             Some(Call::Send(Socket::MasterA, Socket::LineA)),
@@ -49,7 +51,7 @@ fn a_whole_trip_makes_eight_calls_in_their_order(rt: HostRuntime) {
             Some(Call::Receive(Socket::MasterA)),
             Some(Call::Receive(Socket::MasterB)),
             None,
-        ]
+        ],
     );
 }
 
@@ -62,13 +64,21 @@ fn at_a_break_both_copies_come_back_where_they_started(rt: HostRuntime) {
     let mut work = work(&rt);
     assert_eq!(rt; work.len(), 1);
     let verdict = run_cycle(&mut ports, &mut work, &EXPECTED);
-    assert_eq!(rt; verdict, Ok(Verdict::Good));
-    assert_eq!(rt; left(&rt, &work), ([0x12, 0x34], 6));
+    assert_same(&rt, verdict, Ok(Verdict::Good));
+    assert_same(&rt, left(&rt, &work), ([0x12, 0x34], 6));
     let (_, line) = ports.into_parts();
     let calls = line.calls();
-    assert_eq!(rt; calls[2], Some(Call::Send(Socket::LineA, Socket::MasterA)));
-    assert_eq!(rt; calls[5], Some(Call::Send(Socket::LineB, Socket::MasterB)));
-    assert_eq!(rt; line.made(), 8);
+    assert_same(
+        &rt,
+        calls[2],
+        Some(Call::Send(Socket::LineA, Socket::MasterA)),
+    );
+    assert_same(
+        &rt,
+        calls[5],
+        Some(Call::Send(Socket::LineB, Socket::MasterB)),
+    );
+    assert_same(&rt, line.made(), 8);
 }
 
 #[test]
@@ -80,13 +90,14 @@ fn a_copy_that_cannot_start_is_not_sent_on(rt: HostRuntime) {
     let mut work = work(&rt);
     assert_eq!(rt; work.len(), 1);
     let verdict = run_cycle(&mut ports, &mut work, &EXPECTED);
-    assert_eq!(rt; verdict, Ok(Verdict::Good));
+    assert_same(&rt, verdict, Ok(Verdict::Good));
     let (_, line) = ports.into_parts();
-    assert_eq!(rt;
+    assert_same(
+        &rt,
         line.calls()[2],
-        Some(Call::Send(Socket::MasterB, Socket::LineB))
+        Some(Call::Send(Socket::MasterB, Socket::LineB)),
     );
-    assert_eq!(rt; line.made(), 7);
+    assert_same(&rt, line.made(), 7);
 }
 
 #[test]
@@ -97,9 +108,9 @@ fn silence_is_a_lost_copy(rt: HostRuntime) {
     work.push(item).expect(&rt, "room");
     assert_eq!(rt; work.len(), 1);
     let verdict = run_cycle(&mut ports, &mut work, &[1]);
-    assert_eq!(rt; verdict, Ok(Verdict::Short(0)));
-    assert_eq!(rt; ports.failures(), 0);
-    assert_eq!(rt; taken(&rt, ports.ring()), [0, 0]);
+    assert_same(&rt, verdict, Ok(Verdict::Short(0)));
+    assert_same(&rt, ports.failures(), 0);
+    assert_same(&rt, taken(&rt, ports.ring()), [0, 0]);
 }
 
 #[test]
@@ -110,10 +121,10 @@ fn a_frame_with_bytes_behind_it_is_no_copy(rt: HostRuntime) {
         let mut work = work(&rt);
         assert_eq!(rt; work.len(), 1);
         let verdict = run_cycle(&mut ports, &mut work, &EXPECTED);
-        assert_eq!(rt; verdict, Ok(Verdict::Short(0)));
-        assert_eq!(rt; left(&rt, &work), ([0x5A, 0xA5], 0));
+        assert_same(&rt, verdict, Ok(Verdict::Short(0)));
+        assert_same(&rt, left(&rt, &work), ([0x5A, 0xA5], 0));
         let (ring, line) = ports.into_parts();
-        assert_eq!(rt; taken(&rt, &ring), [0, 0]);
-        assert_eq!(rt; line.made(), 6);
+        assert_same(&rt, taken(&rt, &ring), [0, 0]);
+        assert_same(&rt, line.made(), 6);
     }
 }

@@ -2,6 +2,7 @@
 
 ghost use Rattle.std.specs.Prelude.{◌<◌};
 
+use super::assert_same;
 use crate::tests::exchange::{EXPECTED, left, ring, taken, work};
 use crate::{BindFault, PacketLine, Socket, UdpLine, UdpPorts};
 use ec_master::{CycleFault, PortFault, Ports, Verdict, run_cycle};
@@ -28,26 +29,35 @@ fn a_cycle_goes_over_real_sockets(rt: HostRuntime) {
         let mut work = work(&rt);
         assert_eq!(rt; work.len(), 1);
         let verdict = run_cycle(&mut ports, &mut work, &EXPECTED);
-        assert_eq!(rt; verdict, Ok(Verdict::Good));
-        assert_eq!(rt; left(&rt, &work), ([0x12, 0x34], 6));
+        assert_same(&rt, verdict, Ok(Verdict::Good));
+        assert_same(&rt, left(&rt, &work), ([0x12, 0x34], 6));
     }
-    assert_eq!(rt; taken(&rt, ports.ring()), [0x5A, 0xA5]);
-    assert_eq!(rt; ports.failures(), 0);
+    assert_same(&rt, taken(&rt, ports.ring()), [0x5A, 0xA5]);
+    assert_same(&rt, ports.failures(), 0);
 }
 
 #[test]
 fn a_port_is_bound_once(rt: HostRuntime) {
     let (line, port) = open(&rt);
-    assert_eq!(rt; UdpLine::bind(&rt, port).err(), Some(BindFault::NoSocket));
-    assert_eq!(rt; line.failures(), 0);
+    assert_same(
+        &rt,
+        UdpLine::bind(&rt, port).err(),
+        Some(BindFault::NoSocket),
+    );
+    assert_same(&rt, line.failures(), 0);
 }
 
 #[test]
 fn no_line_lies_at_the_least_or_at_the_greatest_port(rt: HostRuntime) {
-    assert_eq!(rt; UdpLine::bind(&rt, 0).err(), Some(BindFault::NoSuchPort));
-    assert_eq!(rt;
+    assert_same(
+        &rt,
+        UdpLine::bind(&rt, 0).err(),
+        Some(BindFault::NoSuchPort),
+    );
+    assert_same(
+        &rt,
         UdpLine::bind(&rt, 65535).err(),
-        Some(BindFault::NoSuchPort)
+        Some(BindFault::NoSuchPort),
     );
 }
 
@@ -63,27 +73,28 @@ fn a_packet_goes_to_the_socket_that_is_named(rt: HostRuntime) {
     let mut into = [0; 1501];
     for from in all {
         for to in all {
-            assert_eq!(rt; line.send(from, to, b"a packet"), Ok(()));
-            assert_eq!(rt; line.receive(to, &mut into), Ok(Some(8)));
+            assert_same(&rt, line.send(from, to, b"a packet"), Ok(()));
+            assert_same(&rt, line.receive(to, &mut into), Ok(Some(8)));
             assert_eq!(rt; into[..8], b"a packet"[..]);
         }
     }
     for at in all {
-        assert_eq!(rt; line.receive(at, &mut into), Ok(None));
+        assert_same(&rt, line.receive(at, &mut into), Ok(None));
     }
-    assert_eq!(rt; line.failures(), 0);
+    assert_same(&rt, line.failures(), 0);
 }
 
 #[test]
 fn a_packet_past_the_room_fills_it(rt: HostRuntime) {
     let (mut line, _) = open(&rt);
     let mut into = [0; 1501];
-    assert_eq!(rt;
+    assert_same(
+        &rt,
         line.send(Socket::MasterA, Socket::LineA, &[7; 1502]),
-        Ok(())
+        Ok(()),
     );
-    assert_eq!(rt; line.receive(Socket::LineA, &mut into), Ok(Some(1501)));
-    assert_eq!(rt; line.failures(), 0);
+    assert_same(&rt, line.receive(Socket::LineA, &mut into), Ok(Some(1501)));
+    assert_same(&rt, line.failures(), 0);
 }
 
 #[test]
@@ -91,13 +102,14 @@ fn a_packet_that_no_socket_sends_is_a_fault(rt: HostRuntime) {
     let (mut line, _) = open(&rt);
     let bytes = Vec::from_elem(rt.alloc(), 0, 70000).expect(&rt, "memory");
     let sent = line.send(Socket::MasterA, Socket::LineA, bytes.as_slice());
-    assert_eq!(rt; sent, Err(PortFault));
-    assert_eq!(rt; line.failures(), 1);
-    assert_eq!(rt;
+    assert_same(&rt, sent, Err(PortFault));
+    assert_same(&rt, line.failures(), 1);
+    assert_same(
+        &rt,
         line.send(Socket::MasterA, Socket::LineA, b"a packet"),
-        Ok(())
+        Ok(()),
     );
-    assert_eq!(rt; line.failures(), 1);
+    assert_same(&rt, line.failures(), 1);
 }
 
 #[test]
@@ -112,14 +124,15 @@ fn a_frame_that_nobody_asked_for_is_a_stranger(rt: HostRuntime) {
         payload: Default::default(),
         counter: 0,
     });
-    assert_eq!(rt;
+    assert_same(
+        &rt,
         line.send(Socket::LineA, Socket::MasterA, other.bytes()),
-        Ok(())
+        Ok(()),
     );
     let mut ports = UdpPorts::new(ring(&rt, rt.alloc()), line);
     let mut work = work(&rt);
     assert_eq!(rt; work.len(), 1);
     let verdict = run_cycle(&mut ports, &mut work, &EXPECTED);
-    assert_eq!(rt; verdict, Err(CycleFault::Stranger));
-    assert_eq!(rt; left(&rt, &work), ([0x5A, 0xA5], 0));
+    assert_same(&rt, verdict, Err(CycleFault::Stranger));
+    assert_same(&rt, left(&rt, &work), ([0x5A, 0xA5], 0));
 }
