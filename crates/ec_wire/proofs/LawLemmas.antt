@@ -3,7 +3,7 @@
 use Rattle.std.proofs.Common.{◌≡◌, ℕ, ◌+◌, ◌*◌, ◌/◌, ◌%◌, ◌<◌, ◌^◌, ◌==◌, ◌&&◌, ◌⊎◌, Bool, true, false, not}
 use Rattle.std.proofs.Common.{nat_lt, Some, None, List, [], ◌∷◌, ◌++◌, length, take, drop, get_or, refl, sym}
 use Rattle.std.proofs.Common.{ap, ◌∙◌, subst, inl, inr, arith}
-use Rattle.std.specs.Prelude.{All, Result, Ok, Err, IsErr, IfErr}
+use Rattle.std.specs.Prelude.{All, Result, Ok, Err, IsErr, IfErr, OnOk}
 use Rattle.std.specs.Int.{w16, from_le_bytes}
 use Rattle.std.proofs.lemmas.Bool.{true≢false, false≢true}
 use Rattle.std.proofs.lemmas.Bool.Decides.{nat_tests}
@@ -17,13 +17,15 @@ use Rattle.ec_wire.specs.Decoding.{length_field, data_length, says_more, record_
 use Rattle.ec_wire.specs.Spelling.{datagram, is_nil, body, body_length, front, spelling, IsFrameValue}
 use Rattle.ec_wire.specs.Fault.{header_tests, stated_length, frame_end, header_fault, datagram_tests}
 use Rattle.ec_wire.specs.Fault.{datagram_fault, FailsWithin, IsSpelt, IsSpeltBefore, MayStandBehind}
-use Rattle.ec_wire.specs.Fault.{IsFirstFault}
+use Rattle.ec_wire.specs.Fault.{IsFirstFault, AreSpelt}
+use Rattle.ec_wire.specs.Frame.{starts_from, records_at}
 use Rattle.ec_wire.specs.declared.fault.Form.{Form}
 use Rattle.ec_wire.specs.declared.fault.Form.TheVariants.{Ethernet, Udp}
 use Rattle.ec_wire.specs.declared.fault.WireFault.{WireFault}
 use Rattle.ec_wire.proofs.DatagramLemmas.{record_at-datagram, says_more-datagram, data_length-datagram}
 use Rattle.ec_wire.proofs.DatagramLemmas.{length_field-datagram, code_of-lt}
 use Rattle.ec_wire.proofs.SpellingLemmas.{body_length-cons, length-datagram, length-spelling}
+use Rattle.ec_wire.proofs.FrameLemmas.{twelve_each}
 use Rattle.ec_wire.proofs.WriteLemmas.{body-push}
 use Rattle.ec_wire.proofs.ReadLemmas.{first_of-NoneHolds}
 
@@ -370,3 +372,24 @@ pub only_fault : {A : Type 0} (form : Form) (bytes : List ℕ) (r : Result A Wir
     → IfErr r (λ f. IsFirstFault form bytes f) → (f : WireFault) → IsFirstFault form bytes f → r ≡ Err f
 only_fault form bytes (Ok a) is failed f first = cc
 only_fault form bytes (Err g) is failed f first = ap Err (one_fault form bytes g f failed first)
+
+-- ---- a whole frame is read again
+
+-- it is longer than its header
+pub spelling-long : (rs : List DatagramRecord) → IsFrameValue rs → 2 < length (spelling rs)
+spelling-long [] v = absurd (true≢false v.some)
+spelling-long (r ∷ rs) v =
+    let long = length-spelling (r ∷ rs) in let each = twelve_each (r ∷ rs) in omega (arith, long, each)
+
+-- its datagrams begin where they did
+pub starts_found : {A : Type 0} (frame starts : List ℕ) (r : Result A WireFault)
+    → OnOk r (AreSpelt frame starts (records_at frame starts)) → IfErr r (FailsWithin frame)
+    → (rs : List DatagramRecord) → IsFrameValue rs → frame ≡ spelling rs → starts ≡ starts_from 2 rs
+unfolding spelling
+starts_found frame starts (Ok u) spelt fails rs v is =
+    let found : List DatagramRecord = records_at frame starts in
+    let same = one_body found rs [] [] spelt.some v.some spelt.fits v.fits
+    (ap (λ l. l ++ []) (sym spelt.split ∙ ap (drop 2) is)) in
+    spelt.starts_are ∙ ap (starts_from 2) same.0
+starts_found frame starts (Err f) spelt fails rs v is =
+    absurd (no_fault_within frame rs f v.some v.fits (ap (drop 2) is) fails)

@@ -2,7 +2,7 @@ ghost use Rattle.std.specs.Prelude.{◌≡◌, ℕ, ◌+◌, ◌++◌, ◌<◌, 
 ghost use Rattle.std.specs.Prelude.{IfErr, IsOk, OnOk, OnErr, []};
 ghost use Rattle.ec_wire.specs.Datagram.{DatagramRecord};
 ghost use Rattle.ec_wire.specs.Decoding.{data_length, says_more};
-ghost use Rattle.ec_wire.specs.Frame.{records_at};
+ghost use Rattle.ec_wire.specs.Frame.{records_at, starts_from};
 ghost use Rattle.ec_wire.specs.Spelling.{spelling, IsFrameValue};
 ghost use Rattle.ec_wire.specs.declared.fault.WireFault.{WireFault};
 ghost use Rattle.ec_wire.specs.Fault.{header_fault, frame_end, datagram_fault, FailsWithin, AreSpelt};
@@ -137,6 +137,16 @@ fn outline(bytes: &[u8], form: Form, starts: &mut Starts) -> Result<usize, WireF
     Ok(end)
 }
 
+/// Puts where the datagrams of a whole frame begin into `starts`, in the place of what stands there.
+fn find_starts(frame: &[u8], starts: &mut Starts)
+    requires { (rs : List DatagramRecord) × IsFrameValue rs × (frame.now ≡ spelling rs) }
+    ensures { (rs : List DatagramRecord) → IsFrameValue rs → frame.now ≡ spelling rs
+        → starts.new.items ≡ starts_from 2 rs }
+{
+    starts.clear();
+    let _ = put_starts(frame, starts);
+}
+
 impl FrameBuf {
     /// The frame that the bytes spell, or their first fault from the left. In the Ethernet form any
     /// bytes may follow the frame, in the UDP form none.
@@ -167,12 +177,19 @@ impl FrameBuf {
             → IsOk result × (self.new ≡ rs) }
         ensures only_fault { (f : WireFault) → IsFirstFault form bytes.now f → result ≡ Err f }
     {
-        let mut starts = ArrayVec::new();
-        let end = outline(bytes, form, &mut starts)?;
-        self.cells.put(0, &bytes[..end]);
-        self.size = end;
-        self.starts = starts;
-        Ok(())
+        self.starts.clear();
+        match outline(bytes, form, &mut self.starts) {
+            Ok(end) => {
+                self.cells.put(0, &bytes[..end]);
+                self.size = end;
+                Ok(())
+            }
+            Err(fault) => {
+                let frame = &self.cells.as_slice()[..self.size];
+                find_starts(frame, &mut self.starts);
+                Err(fault)
+            }
+        }
     }
 }
 

@@ -1,35 +1,37 @@
-use Rattle.std.proofs.Common.{refl, rules}
+use Rattle.std.proofs.Common.{Err, ap, refl}
+use Rattle.ec_wire.specs.Frame.{records_at}
+use Rattle.ec_wire.specs.Fault.{IsSpelt}
 use Rattle.ec_wire.proofs.SpellingLemmas.{Keeps-seen}
 use Rattle.ec_wire.proofs.ReadLemmas.{Keeps-outline, IsSpelt-outline}
-use Rattle.ec_wire.proofs.LawLemmas.{one_value, only_fault, spelt_no_fault}
+use Rattle.ec_wire.proofs.LawLemmas.{one_value, only_fault, one_fault, spelt_no_fault}
 use Rattle.ec_wire.proofs.frame.FrameBuf.refill.Goals as goal
 
-pub returns-in_err-end-clause-only_found : goal.returns-in_err-end-clause-only_found
-returns-in_err-end-clause-only_found c = λ rs spelt.
-    absurd (spelt_no_fault c.args.form c.args.bytes.now rs _ spelt c.in_err-end.ensures.fault)
-
-pub returns-in_err-end-clause-only_fault : goal.returns-in_err-end-clause-only_fault
-returns-in_err-end-clause-only_fault c =
-    only_fault c.args.form c.args.bytes.now _ c.from_residual.ensures.0 (search rules)
+-- what is seen of the frame that is found
+spelt_new : (c : goal.After-self-1)
+    → IsSpelt c.args.form c.args.bytes.now (records_at c.put.new.self.bytes c.outline.new.starts.items)
+spelt_new c = IsSpelt-outline c.args.form c.args.bytes.now _ _ _ _ _ c.in-Ok.ensures.found.1
+    c.self.invariant.cells_are c.put.ensures
 
 pub invariant_of-self : goal.invariant_of-self
 invariant_of-self c =
-    Keeps-seen _ _ _ _ (Keeps-outline c.args.form c.args.bytes.now _ _ _ _ _ c.in_ok-end.ensures.found.1
+    Keeps-seen _ _ _ _ (Keeps-outline c.args.form c.args.bytes.now _ _ _ _ _ c.in-Ok.ensures.found.1
     c.self.invariant.cells_are c.put.ensures)
 
-pub returns-clause-found : goal.returns-clause-found
-returns-clause-found c =
-    IsSpelt-outline c.args.form c.args.bytes.now _ _ _ _ _ c.in_ok-end.ensures.found.1
-    c.self.invariant.cells_are c.put.ensures
+pub returns-in-Ok-clause-found : goal.returns-in-Ok-clause-found
+returns-in-Ok-clause-found c = spelt_new c
 
-pub returns-clause-only_found : goal.returns-clause-only_found
-returns-clause-only_found c =
-    let spelt_new = IsSpelt-outline c.args.form c.args.bytes.now _ _ _ _ _ c.in_ok-end.ensures.found.1
-    c.self.invariant.cells_are c.put.ensures in
-    λ rs spelt. (refl, one_value c.args.form c.args.bytes.now _ rs spelt_new spelt)
+pub returns-in-Ok-clause-only_found : goal.returns-in-Ok-clause-only_found
+returns-in-Ok-clause-only_found c = λ rs spelt.
+    (refl, one_value c.args.form c.args.bytes.now _ rs (spelt_new c) spelt)
 
-pub returns-clause-only_fault : goal.returns-clause-only_fault
-returns-clause-only_fault c =
-    let spelt_new = IsSpelt-outline c.args.form c.args.bytes.now _ _ _ _ _ c.in_ok-end.ensures.found.1
-    c.self.invariant.cells_are c.put.ensures in
-    λ f first. absurd (spelt_no_fault c.args.form c.args.bytes.now _ f spelt_new first)
+pub returns-in-Ok-clause-only_fault : goal.returns-in-Ok-clause-only_fault
+returns-in-Ok-clause-only_fault c = λ f first.
+    absurd (spelt_no_fault c.args.form c.args.bytes.now _ f (spelt_new c) first)
+
+pub returns-in-Err-clause-only_found : goal.returns-in-Err-clause-only_found
+returns-in-Err-clause-only_found c = λ rs spelt.
+    absurd (spelt_no_fault c.args.form c.args.bytes.now rs _ spelt c.in-Err.ensures.fault)
+
+pub returns-in-Err-clause-only_fault : goal.returns-in-Err-clause-only_fault
+returns-in-Err-clause-only_fault c = λ f first.
+    ap Err (one_fault c.args.form c.args.bytes.now c.in-Err.fault f c.in-Err.ensures.fault first)
