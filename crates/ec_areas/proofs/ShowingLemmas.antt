@@ -5,7 +5,8 @@ use Rattle.std.proofs.Common.{ap, refl, arith, ⊎_elim}
 use Rattle.std.specs.List.{list_any, slice_get}
 use Rattle.std.proofs.lemmas.List.{get_or-set_same, get_or-set_other}
 use Rattle.std.proofs.lemmas.List.Folds.{list_any_at}
-use Rattle.std.proofs.lemmas.Option.{get_or_from_slice_get, slice_get_within}
+use Rattle.std.proofs.lemmas.List.{length-set}
+use Rattle.std.proofs.lemmas.Option.{get_or_from_slice_get, slice_get-get_or, slice_get_within}
 use Rattle.std.proofs.lemmas.Bool.{cases_Bool, cases_lt, cases_eq, false≢true}
 use Rattle.std.proofs.lemmas.Bool.Decides.{nat_tests}
 use Rattle.ec_regs.specs.SyncMan.{is_enabled, is_buffered, is_mailbox, master_reads, master_writes}
@@ -140,30 +141,33 @@ written_number-run run from n f p for_writing is = rw for_writing is
 
 -- ---- areas, one after the other
 
--- one answer more
-pub answered_more : (xs : List Bool) (i j : ℕ) (old new answer : Bool) → i < length xs
-    → get_or xs j false ≡ cond (ltb j i) answer old
-    → (j ≡ i → new ≡ answer) → get_or (set xs i new) j false ≡ cond (ltb j (i + 1)) answer old
-answered_more xs i j old new answer inside so_far same =
+-- one area more has its answer
+pub told_more : (tells : SyncMan → Bool → Type 0) (areas : List SyncMan) (told : List Bool) (i : ℕ)
+    (answer : Bool) → i < length told
+    → ((j : ℕ) (s : SyncMan) → j < i → slice_get areas j ≡ Some s
+    → (b : Bool) × (slice_get told j ≡ Some b) × tells s b)
+    → ((s : SyncMan) → slice_get areas i ≡ Some s → tells s answer)
+    → (j : ℕ) (s : SyncMan) → j < i + 1 → slice_get areas j ≡ Some s
+    → (b : Bool) × (slice_get (set told i answer) j ≡ Some b) × tells s b
+told_more tells areas told i answer inside before here j s below area =
+    let size : length (set told i answer) ≡ length told = length-set told i answer in
+    let there : slice_get (set told i answer) j ≡ Some (get_or (set told i answer) j false) =
+    slice_get-get_or (set told i answer) j false (omega arith) in
     ⊎_elim
-    (λ (here : j ≡ i).
-    let now : ltb j (i + 1) ≡ true = grind (arith, nat_tests) in
-    ap (λ k. get_or (set xs i new) k false) here ∙ get_or-set_same xs i new false inside ∙ same here
-    ∙ ap (λ b. cond b answer old) (sym now))
+    (λ (last : j ≡ i). (
+      answer,
+      there ∙ ap (λ k. Some (get_or (set told i answer) k false)) last
+          ∙ ap Some (get_or-set_same told i answer false inside),
+      here s (ap (slice_get areas) (sym last) ∙ area),
+    ))
     (λ (other : j ≢ i).
-    let same_test : ltb j i ≡ ltb j (i + 1) = grind (arith, nat_tests) in
-    get_or-set_other xs i j new false other ∙ so_far ∙ ap (λ b. cond b answer old) same_test)
+    let was = before j s (omega arith) area in (
+      was.0,
+      there ∙ ap Some (get_or-set_other told i j answer false other
+          ∙ get_or_from_slice_get told j was.0 false was.1),
+      was.2,
+    ))
     (cases_eq j i)
-
--- the element at i is the sync manager with that number
-pub told_here : (managers : List SyncMan) (i : ℕ) (d s : SyncMan) (has : Bool) (test : SyncMan → Bool)
-    → slice_get managers i ≡ Some s
-    → has ≡ test (get_or managers i d) → has ≡ test s
-told_here managers i d s has test here told = told ∙ ap test (get_or_from_slice_get managers i s d here)
-
--- all answers are given
-pub answered_all : (i j : ℕ) (old answer : Bool) → j < i → cond (ltb j i) answer old ≡ answer
-answered_all i j old answer before = let is : ltb j i ≡ true = grind (arith, nat_tests) in rw is refl
 
 -- ---- an area that is not for outputs
 

@@ -19,6 +19,12 @@ SaysOfLastBytes test managers said =
     (i : ℕ) (s : SyncMan) → slice_get managers i ≡ Some s → IsTrue (is_active s)
     → slice_get said i ≡ Some (test (last_byte s))
 
+-- the list has, by number, an answer that was told of each area
+abbrev pub TellsOfEach : (SyncMan → Bool → Type 0) → List SyncMan → List Bool → Type 0
+TellsOfEach tells managers told =
+    (i : ℕ) (s : SyncMan) → slice_get managers i ≡ Some s
+    → (answer : Bool) × (slice_get told i ≡ Some answer) × tells s answer
+
 -- which of the n data bits from logical bit `from` on a write through an FMMU puts into physical bit p, if no
 -- area locks its byte
 abbrev pub written_number : ℕ → ℕ → Fmmu → ℕ → Option ℕ

@@ -53,7 +53,7 @@ pub use ranges::{
 };
 pub use records::{fmmu_at, fmmus_of, sync_manager_at, sync_managers_of};
 pub use runs::{copy_run, merge_run};
-pub use showing::{last_byte, last_bytes_written};
+pub use showing::{last_byte, last_bytes_written, told_of_each};
 
 #[cfg(test)]
 mod tests;

@@ -2,12 +2,13 @@
 //! manager, buffered mode).
 
 ghost use Rattle.std.specs.Prelude.{◌≡◌, ◌+◌, ◌*◌, ◌^◌, ◌<◌, ◌&&◌, Some};
+ghost use Rattle.std.specs.Fn.{FnReturnsAt};
 ghost use Rattle.std.specs.List.{list_any};
 ghost use Rattle.ec_regs.specs.SyncMan.{guards_outputs};
 ghost use Rattle.ec_areas.specs.Areas.{is_writable};
 ghost use Rattle.ec_areas.specs.Logical.{write_map, names};
 ghost use Rattle.ec_areas.specs.Met.{data_in};
-ghost use Rattle.ec_areas.specs.Showing.{last_byte, reaches, SaysOfLastBytes};
+ghost use Rattle.ec_areas.specs.Showing.{last_byte, reaches, SaysOfLastBytes, TellsOfEach};
 
 use crate::areas::is_writable;
 use crate::met::{Run, run_met};
@@ -83,9 +84,23 @@ pub fn last_bytes_written(
         (λ byte. names (λ b. write_map managers.now fmmus.now (8 * address) (8 * count) (8 * byte + b)) 8)
         managers.now result }
 {
-    let mut written = [false; 8];
-    for (i, area) in managers.iter().enumerate() {
-        written[i] = is_last_written(managers, fmmus, address, count, area);
+    told_of_each(
+        managers,
+        |area| is_last_written(managers, fmmus, address, count, area),
+    )
+}
+
+/// What a test says of each area, by number.
+pub fn told_of_each<F: Fn(&PlannedSyncMan) -> bool>(
+    areas: &[PlannedSyncMan; 8],
+    test: F,
+) -> [bool; 8]
+    requires { F.IsAlwaysCallable test }
+    ensures { TellsOfEach (FnReturnsAt F.Fn test) areas.now result }
+{
+    let mut told = [false; 8];
+    for (i, area) in areas.iter().enumerate() {
+        told[i] = test(area);
     }
-    written
+    told
 }

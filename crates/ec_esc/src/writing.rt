@@ -9,7 +9,7 @@ ghost use Rattle.ec_regs.specs.declared.registers.TheConstants.{MEMORY_SIZE, AL_
 ghost use Rattle.ec_regs.specs.SyncMan.{is_active};
 ghost use Rattle.ec_areas.specs.Records.{sync_managers_of};
 ghost use Rattle.ec_areas.specs.Ranges.{within, takes_writes, filled_by};
-ghost use Rattle.ec_areas.specs.Showing.{last_byte, SaysOfLastBytes};
+ghost use Rattle.ec_areas.specs.Showing.{last_byte};
 ghost use Rattle.ec_esc.specs.Writing.{settled, shown_after, with_filled};
 ghost use Rattle.ec_esc.specs.Pass.{is_written, range_sources, written_places, range_taken, written_by};
 
@@ -17,7 +17,7 @@ use crate::controller::Controller;
 use crate::mailbox::fill_mailbox;
 use crate::planned::PlannedMemory;
 use crate::process::are_bytes;
-use ec_areas::{filled_by, last_byte, status_address, takes_writes, within};
+use ec_areas::{filled_by, last_byte, status_address, takes_writes, told_of_each, within};
 use ec_regs::PlannedSyncMan;
 use ec_regs::registers::AL_CONTROL;
 
@@ -122,24 +122,6 @@ fn last_byte_written(
     within(from, count, last) && takes_writes(before, last)
 }
 
-/// Of which areas a write of the range reaches the last byte, by number. The first records are those on
-/// arrival.
-fn last_bytes_written(
-    before: &[PlannedSyncMan; 8],
-    after: &[PlannedSyncMan; 8],
-    from: u16,
-    count: u16,
-) -> [bool; 8]
-    ensures { (arrived : List ℕ) → before.now ≡ sync_managers_of arrived
-        → SaysOfLastBytes (is_written arrived from count) after.now result }
-{
-    let mut written = [false; 8];
-    for (number, area) in after.iter().enumerate() {
-        written[number] = last_byte_written(before, area, from, count);
-    }
-    written
-}
-
 impl Controller {
     /// Shows the areas that a write of the range hands over. The records are those on arrival.
     fn show_range(&mut self, before: &[PlannedSyncMan; 8], from: u16, count: u16)
@@ -150,7 +132,7 @@ impl Controller {
             } }
     {
         let after = *self.memory.managers();
-        let reached = last_bytes_written(before, &after, from, count);
+        let reached = told_of_each(&after, |area| last_byte_written(before, area, from, count));
         self.show_written(before, &after, &reached);
     }
 
