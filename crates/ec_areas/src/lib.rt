@@ -24,8 +24,9 @@
 //! - [`are_apart`]: whether FMMUs for reading and for writing share no bit of the memory;
 //! - [`serves_physical_read`], [`serves_physical_write`]: which ranges a physical command may read and write;
 //!   [`emptied_by`], [`filled_by`]: which mailbox that empties and fills;
-//! - [`last_bytes_written`]: of which active areas a logical write reaches the last byte; [`copy_run`],
-//!   [`merge_run`]: the bytes of a range, copied or or-ed into data.
+//! - [`last_bytes_written`]: of which active areas a logical write reaches the last byte; [`told_of_each`]:
+//!   what a test says of each area; [`copy_run`], [`merge_run`]: the bytes of a range, copied or or-ed into
+//!   data.
 //!
 //! All of it works on memories and records; a controller, which has them, is in the crate above. Inside,
 //! `areas` says what sync managers keep off, `records` reads the records out of a memory, `met` and `reach`
