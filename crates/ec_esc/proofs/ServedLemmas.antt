@@ -1,6 +1,6 @@
 -- A datagram of a frame is served in steps, on its data, its counter and its address; what is served that
 -- does nothing; and what a write through FMMUs and one of a range leave.
-use Rattle.std.proofs.Common.{◌≡◌, ℕ, ◌+◌, ◌-◌, ◌*◌, ◌/◌, ◌%◌, ◌<◌, ◌≤◌, Bool, true, false, ◌&&◌}
+use Rattle.std.proofs.Common.{◌≡◌, ℕ, ◌+◌, ◌-◌, ◌*◌, ◌/◌, ◌<◌, ◌≤◌, Bool, true, false, ◌&&◌}
 use Rattle.std.proofs.Common.{◌||◌, cond, List, length, set, Option, None, Some, sym, ◌∙◌, ap, subst, refl}
 use Rattle.std.proofs.Common.{arith, ⊎_elim}
 use Rattle.std.proofs.Math.Path.{fun_ext}
@@ -160,18 +160,6 @@ IsServed-both e c after rs filled raised k inside filled_is raised_is after_is =
       filled_is raised_is;
   state = after_is;
 }
-
--- a counter that was read before the data were filled is raised
-pub raised_from : (places : ℕ → Option ℕ) (m counter : ℕ) (c : ControllerState)
-    (rs filled raised : List DatagramRecord) (k : ℕ) → k < length rs
-    → filled ≡ set rs k (filled_with places c (nth rs k)) → counter ≡ (nth rs k).counter
-    → raised ≡ set filled k (record (nth filled k) { counter = (counter + m) % 65536 })
-    → raised ≡ set filled k (record (nth filled k) { counter = counter_after (nth filled k) m })
-raised_from places m counter c rs filled raised k inside filled_is counter_is raised_is =
-    let full : DatagramRecord = filled_with places c (nth rs k) in
-    raised_is
-    ∙ ap (λ (v : ℕ). set filled k (record (nth filled k) { counter = (v + m) % 65536 }))
-    (counter_is ∙ sym (ap (λ (e : DatagramRecord). e.counter) (nth-set rs filled k full inside filled_is)))
 
 -- ---- through FMMUs
 

@@ -35,6 +35,7 @@
 mod addressing;
 mod application;
 mod controller;
+mod counting;
 mod logical;
 mod mailbox;
 mod physical;

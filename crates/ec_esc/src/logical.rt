@@ -10,20 +10,12 @@ ghost use Rattle.ec_esc.specs.Pass.{read_sources, serves_read, serves_write, map
 ghost use Rattle.ec_esc.specs.Pass.{only_reads, only_writes, written_by, Arrives, IsServed};
 
 use crate::controller::Controller;
+use crate::counting::{LONE_WRITE_SHARE, READ_SHARE, WRITE_SHARE, add_to_counter};
 use crate::process::are_bytes;
 use arrayvec::ArrayVec;
 use ec_areas::{are_apart, last_bytes_written, read_mapped};
 use ec_regs::PlannedSyncMan;
 use ec_wire::{FrameBuf, MAX_DATA};
-
-/// What the working counter gains for a read that is served.
-const READ_SHARE: u16 = 1;
-
-/// What it gains for a write that is served, where that comes alone.
-const LONE_WRITE_SHARE: u16 = 1;
-
-/// What it gains for the write of an LRW.
-const WRITE_SHARE: u16 = 2;
 
 /// What the working counter of an LRW gains, by whether its read and its write are served.
 fn exchange_share(is_read: bool, is_written: bool) -> u16
@@ -43,9 +35,8 @@ impl Controller {
             (length (nth frame.old k).payload)))
             k frame.old self.now frame.new self.now }
     {
-        let counter = frame.counter(k);
         if self.fill_data(frame, k) {
-            frame.set_counter(k, counter.wrapping_add(READ_SHARE));
+            add_to_counter(frame, k, READ_SHARE);
         }
     }
 
@@ -75,9 +66,8 @@ impl Controller {
             (length (nth frame.old k).payload)))
             k frame.old self.old frame.new self.new }
     {
-        let counter = frame.counter(k);
         if self.write_data(frame.address(k), frame.data(k)) {
-            frame.set_counter(k, counter.wrapping_add(LONE_WRITE_SHARE));
+            add_to_counter(frame, k, LONE_WRITE_SHARE);
         }
     }
 
@@ -91,9 +81,8 @@ impl Controller {
           writing = mapped_write 2 self.old (nth frame.old k).address (length (nth frame.old k).payload);
         }) k frame.old self.old frame.new self.new }
     {
-        let counter = frame.counter(k);
         let share = self.exchange_data(frame, k);
-        frame.set_counter(k, counter.wrapping_add(share));
+        add_to_counter(frame, k, share);
     }
 
     /// Reads and writes the data of the datagram at `k`, each as on arrival, and says what its working

@@ -11,14 +11,9 @@ ghost use Rattle.ec_esc.specs.Pass.{counter_after, written_by, read_mailbox, Arr
 ghost use Rattle.ec_esc.specs.Writing.{with_emptied};
 
 use crate::controller::Controller;
+use crate::counting::{LONE_WRITE_SHARE, READ_SHARE, WRITE_SHARE, add_to_counter};
 use ec_areas::{copy_run, emptied_by, merge_run, serves_physical_read, serves_physical_write};
 use ec_wire::FrameBuf;
-
-/// What a read that is served adds to the working counter, and a write alone.
-const SERVED: u16 = 1;
-
-/// What the write of an exchange adds to it.
-const EXCHANGED: u16 = 2;
 
 /// How many data bytes the datagram at `k` has, and addresses its range.
 fn count(frame: &FrameBuf, k: usize) -> u16
@@ -26,18 +21,6 @@ fn count(frame: &FrameBuf, k: usize) -> u16
     ensures { result ≡ length (nth frame.now k).payload }
 {
     frame.data(k).len() as u16
-}
-
-/// Adds to the working counter of the datagram at `k`, modulo 65536; all else stays.
-fn add_to_counter(frame: &mut FrameBuf, k: usize, share: u16)
-    requires { k < length frame.old }
-    ensures { frame.new
-        ≡ slice_set frame.old k (record (nth frame.old k) {
-          counter = counter_after (nth frame.old k) share;
-        }) }
-{
-    let counter = frame.counter(k);
-    frame.set_counter(k, counter.wrapping_add(share));
 }
 
 impl Controller {
@@ -110,7 +93,7 @@ impl Controller {
         } }
     {
         self.read_out(frame, k);
-        add_to_counter(frame, k, SERVED);
+        add_to_counter(frame, k, READ_SHARE);
     }
 
     /// A read of the range of the datagram at `k`, where it is served; all other datagrams stay.
@@ -190,7 +173,7 @@ impl Controller {
     {
         if self.serves_write(frame, k) {
             self.take_data(frame, k);
-            add_to_counter(frame, k, SERVED);
+            add_to_counter(frame, k, LONE_WRITE_SHARE);
         }
     }
 
@@ -210,10 +193,10 @@ impl Controller {
     {
         if self.serves_read(frame, k) {
             self.swap_data(frame, k);
-            add_to_counter(frame, k, SERVED + EXCHANGED);
+            add_to_counter(frame, k, READ_SHARE + WRITE_SHARE);
         } else {
             self.take_data(frame, k);
-            add_to_counter(frame, k, EXCHANGED);
+            add_to_counter(frame, k, WRITE_SHARE);
         }
     }
 

@@ -1,8 +1,8 @@
-use Rattle.std.proofs.Common.{◌≡◌, ◌+◌, ◌%◌, ℕ, List, length, set, sym, ◌∙◌, ap}
+use Rattle.std.proofs.Common.{◌≡◌, ◌+◌, ℕ, List, length, set, sym, ◌∙◌, ap}
 use Rattle.ec_regs.specs.Bits.{with_bits}
 use Rattle.ec_wire.specs.Datagram.{DatagramRecord, nth}
-use Rattle.ec_esc.specs.Pass.{Effect, mapped_read, mapped_write, written_by}
-use Rattle.ec_esc.proofs.ServedLemmas.{IsServed-both, raised_from, read_placed, read_by_mapped}
+use Rattle.ec_esc.specs.Pass.{Effect, mapped_read, mapped_write, written_by, counter_after}
+use Rattle.ec_esc.proofs.ServedLemmas.{IsServed-both, read_placed, read_by_mapped}
 use Rattle.ec_esc.proofs.controller.Controller.logical_exchange.Goals as goal
 
 pub returns : goal.returns
@@ -18,15 +18,12 @@ returns c =
     c.exchange_data-share.ensures.frame
     ∙ ap (λ (p : List ℕ). set rs k (record d { payload = p })) (read_placed s d.address d.payload
     c.requires.arrives.payload) in
-    let raised_is : c.set_counter.new.self ≡ set filled k (record (nth filled k) {
-      counter = (c.counter-counter.result + (e.reading.gain + e.writing.gain)) % 65536;
-    }) = c.set_counter.ensures
-    ∙ ap (λ (m : ℕ). set filled k (record (nth filled k) {
-      counter = (c.counter-counter.result + m) % 65536;
-    })) c.exchange_data-share.ensures.share in
-    IsServed-both e s c.exchange_data-share.new.self rs filled c.set_counter.new.self k c.requires.inside
-    filled_is
-    (raised_from e.reading.places (e.reading.gain + e.writing.gain) c.counter-counter.result s rs filled
-    c.set_counter.new.self k c.requires.inside filled_is c.counter-counter.ensures raised_is)
+    let raised_is : c.add_to_counter.new.frame ≡ set filled k (record (nth filled k) {
+      counter = counter_after (nth filled k) (e.reading.gain + e.writing.gain);
+    }) = c.add_to_counter.ensures
+    ∙ ap (λ (m : ℕ). set filled k (record (nth filled k) { counter = counter_after (nth filled k) m }))
+    c.exchange_data-share.ensures.share in
+    IsServed-both e s c.exchange_data-share.new.self rs filled c.add_to_counter.new.frame k c.requires.inside
+    filled_is raised_is
     (c.exchange_data-share.ensures.state
     ∙ sym (read_by_mapped s (written_by e.writing d.payload s) d.address n))

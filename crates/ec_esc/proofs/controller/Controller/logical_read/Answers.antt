@@ -1,7 +1,7 @@
 use Rattle.std.proofs.Common.{◌≡◌, true, length, refl, sym, ◌∙◌, subst, None}
 use Rattle.ec_wire.specs.Datagram.{DatagramRecord, nth}
 use Rattle.ec_esc.specs.Pass.{Half, where_served, only_reads, read_sources, serves_read, IsServed}
-use Rattle.ec_esc.proofs.ServedLemmas.{IsServed-read, IsServed-unmapped, raised_from}
+use Rattle.ec_esc.proofs.ServedLemmas.{IsServed-read, IsServed-unmapped}
 use Rattle.ec_esc.proofs.controller.Controller.logical_read.Goals as goal
 
 pub returns-then-fill_data : goal.returns-then-fill_data
@@ -13,11 +13,9 @@ returns-then-fill_data c =
     let half : Half = record { places = read_sources s d.address; gain = 1; mail = None } in
     let met : serves_read s d.address (length d.payload) ≡ true = sym c.fill_data.ensures.served
     ∙ c.if-fill_data.true in
-    subst (λ b. IsServed (only_reads (where_served b half)) k rs s c.set_counter.new.self s) (sym met)
-    (IsServed-read half s s rs c.fill_data.new.frame c.set_counter.new.self k c.requires.inside
-    c.requires.arrives c.fill_data.ensures.frame
-    (raised_from half.places 1 c.counter-counter.result s rs c.fill_data.new.frame c.set_counter.new.self k
-    c.requires.inside c.fill_data.ensures.frame c.counter-counter.ensures c.set_counter.ensures) refl)
+    subst (λ b. IsServed (only_reads (where_served b half)) k rs s c.add_to_counter.new.frame s) (sym met)
+    (IsServed-read half s s rs c.fill_data.new.frame c.add_to_counter.new.frame k c.requires.inside
+    c.requires.arrives c.fill_data.ensures.frame c.add_to_counter.ensures refl)
 
 pub returns-else-fill_data : goal.returns-else-fill_data
 returns-else-fill_data c =

@@ -1,4 +1,4 @@
-use Rattle.std.proofs.Common.{◌+◌, ◌%◌, set, sym, ◌∙◌, ap}
+use Rattle.std.proofs.Common.{sym, ◌∙◌}
 use Rattle.ec_wire.specs.Datagram.{nth}
 use Rattle.ec_esc.proofs.ServedLemmas.{mapped_as, serves_as, IsServed-mapped_write, IsServed-unwritten}
 use Rattle.ec_esc.proofs.controller.Controller.logical_write.Goals as goal
@@ -10,10 +10,9 @@ returns-then-write_data c =
     let k = c.args.k in
     let served = serves_as s c.write_data.result c.address.result c.data.result.now (nth rs k)
     c.address.ensures c.data.ensures.value c.write_data.ensures.served in
-    IsServed-mapped_write s c.write_data.new.self rs c.set_counter.new.self k c.requires.arrives
+    IsServed-mapped_write s c.write_data.new.self rs c.add_to_counter.new.frame k c.requires.arrives
     (sym served ∙ c.if-write_data.true)
-    (c.set_counter.ensures
-    ∙ ap (λ n. set rs k (record (nth rs k) { counter = (n + 1) % 65536 })) c.counter-counter.ensures)
+    c.add_to_counter.ensures
     (mapped_as 1 s c.write_data.new.self c.address.result c.data.result.now (nth rs k) c.address.ensures
     c.data.ensures.value (c.write_data.ensures.state 1))
 
