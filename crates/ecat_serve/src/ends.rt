@@ -6,6 +6,7 @@ ghost use Rattle.ec_wire.specs.declared.frame.TheConstants.{PACKET_ROOM};
 
 use ec_master::PortFault;
 use ec_ring::Port;
+use ec_wire::PACKET_ROOM;
 use std::net::SocketAddr;
 
 /// A packet that came in.
@@ -31,7 +32,7 @@ pub trait Ends {
 
     /// Waits for a packet at either end, and receives it into the front of the room; `None` where no more is
     /// to come. A packet that is longer than the room fills it.
-    fn receive(&mut self, into: &mut [u8; 1501]) -> Result<Option<Arrived>, PortFault>
+    fn receive(&mut self, into: &mut [u8; PACKET_ROOM]) -> Result<Option<Arrived>, PortFault>
         ensures run { receives self.old result into.new self.new }
         ensures room { IfOk result (λ found. IfSome found (λ arrived. arrived.count ≤ PACKET_ROOM)) };
 

@@ -7,6 +7,7 @@ ghost use Rattle.ec_wire.specs.declared.frame.TheConstants.{PACKET_ROOM};
 use crate::ends::{Arrived, Ends};
 use ec_master::PortFault;
 use ec_ring::Port;
+use ec_wire::PACKET_ROOM;
 use mio::net::UdpSocket;
 use mio::unix::SourceFd;
 use mio::{Events, Interest, Poll, Token};
@@ -123,7 +124,11 @@ impl UdpEnds {
     }
 
     /// Receives a packet that waits at an end, if one does.
-    fn receive_at(&self, at: Port, into: &mut [u8; 1501]) -> Result<Option<Arrived>, PortFault>
+    fn receive_at(
+        &self,
+        at: Port,
+        into: &mut [u8; PACKET_ROOM],
+    ) -> Result<Option<Arrived>, PortFault>
         ensures { IfOk result (λ found. IfSome found (λ arrived. arrived.count ≤ PACKET_ROOM)) }
     {
         match self.end(at).recv_from(into) {
@@ -134,7 +139,10 @@ impl UdpEnds {
     }
 
     /// Receives a packet that waits at either end, if one does.
-    fn receive_waiting(&mut self, into: &mut [u8; 1501]) -> Result<Option<Arrived>, PortFault>
+    fn receive_waiting(
+        &mut self,
+        into: &mut [u8; PACKET_ROOM],
+    ) -> Result<Option<Arrived>, PortFault>
         ensures { IfOk result (λ found. IfSome found (λ arrived. arrived.count ≤ PACKET_ROOM)) }
     {
         let first = self.next;
@@ -198,7 +206,7 @@ impl Ends for UdpEnds {
 
     ghost sends = { any_send };
 
-    fn receive(&mut self, into: &mut [u8; 1501]) -> Result<Option<Arrived>, PortFault> {
+    fn receive(&mut self, into: &mut [u8; PACKET_ROOM]) -> Result<Option<Arrived>, PortFault> {
         for _turn in 0..u64::MAX {
             if let Some(arrived) = self.receive_waiting(into)? {
                 return Ok(Some(arrived));

@@ -4,6 +4,7 @@ ghost use Rattle.std.specs.Prelude.{◌≡◌};
 
 use crate::random::Random;
 use ec_master::PortFault;
+use ec_wire::PACKET_ROOM;
 use ecat_udp::{PacketLine, Socket};
 
 /// One of so many packets is lost.
@@ -46,7 +47,11 @@ impl<L: PacketLine> PacketLine for Lossy<L> {
         self.line.send(from, to, bytes)
     }
 
-    fn receive(&mut self, at: Socket, into: &mut [u8; 1501]) -> Result<Option<usize>, PortFault> {
+    fn receive(
+        &mut self,
+        at: Socket,
+        into: &mut [u8; PACKET_ROOM],
+    ) -> Result<Option<usize>, PortFault> {
         self.line.receive(at, into)
     }
 

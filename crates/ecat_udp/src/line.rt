@@ -5,6 +5,7 @@ ghost use Rattle.ec_wire.specs.declared.frame.TheConstants.{PACKET_ROOM};
 
 use ec_master::PortFault;
 use ec_ring::Port;
+use ec_wire::PACKET_ROOM;
 
 /// The sockets between which packets go: one at each port of the master, and one at each end of the line.
 #[derive(Clone, Copy, PartialEq, Eq, Debug)]
@@ -34,7 +35,11 @@ pub trait PacketLine {
     /// Receives a packet at a socket into the front of the room, and answers how many bytes of it there are;
     /// `None` where none came in time. A packet that is longer than the room fills it. At the greatest count
     /// of failures the answer is `None` where a fault would be.
-    fn receive(&mut self, at: Socket, into: &mut [u8; 1501]) -> Result<Option<usize>, PortFault>
+    fn receive(
+        &mut self,
+        at: Socket,
+        into: &mut [u8; PACKET_ROOM],
+    ) -> Result<Option<usize>, PortFault>
         ensures room { IfOk result (λ found. IfSome found (λ count. count ≤ PACKET_ROOM)) }
         ensures counted { IsErr result → failed self.old < failed self.new }
         ensures never_lower { failed self.old ≤ failed self.new };

@@ -4,6 +4,7 @@ ghost use Rattle.std.specs.Prelude.{◌≡◌, ◌≤◌, ◌<◌, ◌⊎◌, �
 
 use crate::line::{PacketLine, Socket};
 use ec_master::PortFault;
+use ec_wire::PACKET_ROOM;
 use std::io;
 use std::io::ErrorKind;
 use std::net::{Ipv4Addr, Net, SocketAddr, UdpSocket};
@@ -114,7 +115,11 @@ impl PacketLine for UdpLine {
         }
     }
 
-    fn receive(&mut self, at: Socket, into: &mut [u8; 1501]) -> Result<Option<usize>, PortFault> {
+    fn receive(
+        &mut self,
+        at: Socket,
+        into: &mut [u8; PACKET_ROOM],
+    ) -> Result<Option<usize>, PortFault> {
         match self.end(at).socket.recv_from(into) {
             Ok((count, _)) => Ok(Some(count)),
             Err(fault) => {

@@ -7,6 +7,7 @@ use super::{ROOM, written};
 use crate::act::act;
 use crate::udp::act_udp;
 use ec_master::PortFault;
+use ec_wire::PACKET_ROOM;
 use ecat_args::Args;
 use ecat_source::{Bytes, FailsAt};
 use ecat_udp::{PacketLine, Socket};
@@ -62,7 +63,11 @@ impl PacketLine for Silent {
         Ok(())
     }
 
-    fn receive(&mut self, _at: Socket, _into: &mut [u8; 1501]) -> Result<Option<usize>, PortFault> {
+    fn receive(
+        &mut self,
+        _at: Socket,
+        _into: &mut [u8; PACKET_ROOM],
+    ) -> Result<Option<usize>, PortFault> {
         Ok(None)
     }
 

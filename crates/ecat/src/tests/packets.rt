@@ -5,6 +5,7 @@ ghost use Rattle.std.specs.Prelude.{◌≡◌, ◌≤◌, ◌<◌, IsErr};
 use super::{ROOM, written};
 use crate::udp::act_udp;
 use ec_master::PortFault;
+use ec_wire::PACKET_ROOM;
 use ecat_source::{Bytes, FailsAt};
 use ecat_udp::{PacketLine, Socket, UdpLine};
 use std::io::Cursor;
@@ -65,7 +66,11 @@ impl PacketLine for Fake {
         self.fail()
     }
 
-    fn receive(&mut self, _at: Socket, into: &mut [u8; 1501]) -> Result<Option<usize>, PortFault> {
+    fn receive(
+        &mut self,
+        _at: Socket,
+        into: &mut [u8; PACKET_ROOM],
+    ) -> Result<Option<usize>, PortFault> {
         self.fail()?;
         if self.way != Way::Replaces {
             return Ok(None);

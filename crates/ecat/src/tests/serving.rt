@@ -6,6 +6,7 @@ use super::{NoRoom, ROOM, written};
 use crate::serve::{Service, act_serve};
 use ec_master::PortFault;
 use ec_ring::Port;
+use ec_wire::PACKET_ROOM;
 use ecat_serve::{Arrived, Ends};
 use ecat_source::{Bytes, FailsAt, Source};
 use std::io::Cursor;
@@ -57,7 +58,7 @@ impl Ends for Two {
 
     ghost sends = { any_send };
 
-    fn receive(&mut self, into: &mut [u8; 1501]) -> Result<Option<Arrived>, PortFault> {
+    fn receive(&mut self, into: &mut [u8; PACKET_ROOM]) -> Result<Option<Arrived>, PortFault> {
         self.call()?;
         self.received = self.received.wrapping_add(1);
         let count = match self.received {

@@ -5,6 +5,7 @@ ghost use Rattle.ecat_serve.specs.Ends.{any_receive, any_send};
 use crate::{Arrived, Ends};
 use ec_master::PortFault;
 use ec_ring::Port;
+use ec_wire::PACKET_ROOM;
 use std::net::{Ipv4Addr, SocketAddr};
 
 /// A packet of sixteen bytes at an end, and the port of somebody who sent it or to whom it is sent.
@@ -64,7 +65,7 @@ impl Ends for MemoryEnds {
 
     ghost sends = { any_send };
 
-    fn receive(&mut self, into: &mut [u8; 1501]) -> Result<Option<Arrived>, PortFault> {
+    fn receive(&mut self, into: &mut [u8; PACKET_ROOM]) -> Result<Option<Arrived>, PortFault> {
         self.call()?;
         let Some(Some(packet)) = self.coming.get(self.received) else {
             return Ok(None);

@@ -104,7 +104,11 @@ impl PacketLine for MemoryLine {
         Ok(())
     }
 
-    fn receive(&mut self, at: Socket, into: &mut [u8; 1501]) -> Result<Option<usize>, PortFault> {
+    fn receive(
+        &mut self,
+        at: Socket,
+        into: &mut [u8; PACKET_ROOM],
+    ) -> Result<Option<usize>, PortFault> {
         self.call(Call::Receive(at))?;
         let packet = self.waiting[place(at)];
         self.waiting[place(at)].count = 0;

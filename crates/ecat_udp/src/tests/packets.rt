@@ -6,6 +6,7 @@ use crate::tests::memory::{Call, MemoryLine};
 use crate::{PacketLine, Socket, UdpPorts};
 use ec_map::{Item, Kind};
 use ec_master::{PortFault, Ports, Verdict, Work, run_cycle};
+use ec_wire::PACKET_ROOM;
 
 /// A line to which no packet comes.
 #[derive(Drop)]
@@ -18,7 +19,11 @@ impl PacketLine for Silent {
         Ok(())
     }
 
-    fn receive(&mut self, _at: Socket, _into: &mut [u8; 1501]) -> Result<Option<usize>, PortFault> {
+    fn receive(
+        &mut self,
+        _at: Socket,
+        _into: &mut [u8; PACKET_ROOM],
+    ) -> Result<Option<usize>, PortFault> {
         Ok(None)
     }
 
