@@ -1,10 +1,10 @@
 -- Frames of which some datagrams are joined.
 use Rattle.std.proofs.Common.{◌≡◌, inl, inr, ℕ, zero, suc, ◌+◌, ◌*◌, ◌/◌, ◌%◌, ◌<◌, ◌≤◌, ◌&&◌, eqb, cond}
 use Rattle.std.proofs.Common.{Bool, true, false, Option, None, Some, unwrap_or, Bor, All, List, [], ◌∷◌}
-use Rattle.std.proofs.Common.{length, set, refl, sym, ap, ◌∙◌, arith}
+use Rattle.std.proofs.Common.{◌++◌, length, set, take, drop, refl, sym, ap, ◌∙◌, arith}
 use Rattle.std.specs.Option.{option_copied}
 use Rattle.std.proofs.lemmas.Bool.{and_parts, eqb-true, true≢false, cases_lt}
-use Rattle.std.proofs.lemmas.List.{set-set, get_or-set_same}
+use Rattle.std.proofs.lemmas.List.{set-set, get_or-set_same, take_all, drop_all, append-nil}
 use Rattle.ec_wire.specs.Datagram.{DatagramRecord, nth, blank, code_of, command_of, Fits}
 use Rattle.ec_wire.specs.declared.command.Command.{Command}
 use Rattle.ec_wire.proofs.DatagramLemmas.{command_of-code_of}
@@ -16,7 +16,7 @@ use Rattle.ec_merge.specs.Laws.{joined_bits_unit, joined_flag_symmetric, joined_
 use Rattle.ec_merge.specs.Bytes.{joined_bytes}
 use Rattle.ec_wire.specs.Command.{counts_adp}
 use Rattle.ec_merge.specs.Frames.{fixed_address, belongs, IsOwn, IsStranger, IsFault, joined_address}
-use Rattle.ec_merge.specs.Frames.{with_joined_address, with_joined_fields, joined_record, joined_part}
+use Rattle.ec_merge.specs.Frames.{with_joined_address, with_joined_fields, joined_record}
 use Rattle.ec_merge.specs.Frames.{joined_frame}
 
 -- ---- datagrams that belong together
@@ -157,6 +157,16 @@ copy_is (Some y) d r e = ap (λ x. x.now) e
 
 -- ---- frames
 
+-- the first n datagrams of a are joined with those of b
+abbrev pub joined_part : ℕ → List DatagramRecord → List DatagramRecord → List DatagramRecord
+    → List DatagramRecord
+joined_part zero ss xs ys = xs
+joined_part (suc n) [] xs ys = xs
+joined_part (suc n) (s ∷ ss) [] ys = []
+joined_part (suc n) (s ∷ ss) (x ∷ xs) [] = x ∷ xs
+joined_part (suc n) (s ∷ ss) (x ∷ xs) (y ∷ ys) = joined_record s x y ∷ joined_part n ss xs ys
+
+-- it keeps its length
 pub length-joined_part : (n : ℕ) (ss xs ys : List DatagramRecord)
     → length (joined_part n ss xs ys) ≡ length xs
 length-joined_part zero ss xs ys = refl
@@ -185,21 +195,27 @@ set-joined_part (suc n) (s ∷ ss) (x ∷ xs) (y ∷ ys) hs hx hy =
     ap (λ rest. joined_record s x y ∷ rest)
     (set-joined_part n ss xs ys (omega arith) (omega arith) (omega arith))
 
--- once all are, the frame is joined
-pub joined_part-all : (n : ℕ) (ss xs ys : List DatagramRecord) → length ss ≤ n → length xs ≡ length ss
-    → length ys ≡ length ss → joined_part n ss xs ys ≡ joined_frame ss xs ys
-joined_part-all n [] [] ys all hx hy = none n ys
-  where
-    none : (n : ℕ) (ys : List DatagramRecord) → joined_part n [] [] ys ≡ []
-    none zero ys = refl
-    none (suc n) ys = refl
-joined_part-all n [] (x ∷ xs) ys all hx hy = absurd (omega arith)
-joined_part-all n (s ∷ ss) [] ys all hx hy = absurd (omega arith)
-joined_part-all n (s ∷ ss) (x ∷ xs) [] all hx hy = absurd (omega arith)
-joined_part-all zero (s ∷ ss) (x ∷ xs) (y ∷ ys) all hx hy = absurd (omega arith)
-joined_part-all (suc n) (s ∷ ss) (x ∷ xs) (y ∷ ys) all hx hy =
+-- they are a joined front, and the rest of a behind it
+pub joined_part-front : (n : ℕ) (ss xs ys : List DatagramRecord) → n ≤ length ss → n ≤ length xs
+    → n ≤ length ys
+    → joined_part n ss xs ys ≡ joined_frame (take n ss) (take n xs) (take n ys) ++ drop n xs
+joined_part-front zero ss xs ys hs hx hy = refl
+joined_part-front (suc n) [] xs ys hs hx hy = absurd (omega arith)
+joined_part-front (suc n) (s ∷ ss) [] ys hs hx hy = absurd (omega arith)
+joined_part-front (suc n) (s ∷ ss) (x ∷ xs) [] hs hx hy = absurd (omega arith)
+joined_part-front (suc n) (s ∷ ss) (x ∷ xs) (y ∷ ys) hs hx hy =
     ap (λ rest. joined_record s x y ∷ rest)
-    (joined_part-all n ss xs ys (omega arith) (omega arith) (omega arith))
+    (joined_part-front n ss xs ys (omega arith) (omega arith) (omega arith))
+
+-- once all are joined, the frame is
+pub joined_front-all : (n : ℕ) (ss xs ys : List DatagramRecord) → length ss ≤ n → length xs ≡ length ss
+    → length ys ≡ length ss
+    → joined_frame (take n ss) (take n xs) (take n ys) ++ drop n xs ≡ joined_frame ss xs ys
+joined_front-all n ss xs ys all hx hy =
+    let all_x : length xs ≤ n = omega arith in
+    let all_y : length ys ≤ n = omega arith in
+    rw (take_all n ss all, take_all n xs all_x, take_all n ys all_y, drop_all n xs all_x)
+    (append-nil (joined_frame ss xs ys))
 
 -- ---- laws of joined frames
 

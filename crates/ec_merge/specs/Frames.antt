@@ -1,6 +1,6 @@
 -- Two copies of a frame are joined datagram by datagram (IEC 61158-4-12, the datagram structure), unless one
 -- of them is a stranger: a frame that cannot have come of the sent one.
-use Rattle.std.specs.Prelude.{◌≡◌, ◌≢◌, ◌==◌, ℕ, zero, suc, ◌+◌, ◌*◌, ◌/◌, ◌%◌, ◌<◌, ◌≤◌, Bool, true, false}
+use Rattle.std.specs.Prelude.{◌≡◌, ◌≢◌, ◌==◌, ℕ, ◌+◌, ◌*◌, ◌/◌, ◌%◌, ◌<◌, ◌≤◌, Bool, true, false}
 use Rattle.std.specs.Prelude.{◌&&◌, if◌then◌else◌, List, [], ◌∷◌, length, Option, unwrap_or}
 use Rattle.std.specs.Option.{option_copied}
 use Rattle.std.specs.Borrow.{Bor}
@@ -90,12 +90,3 @@ joined_frame [] xs ys = []
 joined_frame (s ∷ ss) [] ys = []
 joined_frame (s ∷ ss) (x ∷ xs) [] = []
 joined_frame (s ∷ ss) (x ∷ xs) (y ∷ ys) = joined_record s x y ∷ joined_frame ss xs ys
-
--- the first n datagrams of a are joined with those of b
-abbrev pub joined_part : ℕ → List DatagramRecord → List DatagramRecord → List DatagramRecord
-    → List DatagramRecord
-joined_part zero ss xs ys = xs
-joined_part (suc n) [] xs ys = xs
-joined_part (suc n) (s ∷ ss) [] ys = []
-joined_part (suc n) (s ∷ ss) (x ∷ xs) [] = x ∷ xs
-joined_part (suc n) (s ∷ ss) (x ∷ xs) (y ∷ ys) = joined_record s x y ∷ joined_part n ss xs ys

@@ -1,13 +1,13 @@
 //! Whole frames, joined in place.
 
 ghost use Rattle.std.specs.Prelude.{◌≡◌, ℕ, List, ◌<◌, ◌≤◌, ◌%◌, length, slice_set, OnOk, IfOk, IfErr};
-ghost use Rattle.std.specs.Prelude.{MatchOption, true, All};
+ghost use Rattle.std.specs.Prelude.{MatchOption, true, All, take, drop, ◌++◌};
 ghost use Rattle.ec_wire.specs.Datagram.{DatagramRecord, nth, Fits};
 ghost use Rattle.ec_merge.specs.declared.frames.JoinFault.{JoinFault};
 ghost use Rattle.ec_merge.specs.Bytes.{joined_bytes};
 ghost use Rattle.ec_wire.specs.Command.{counts_adp};
 ghost use Rattle.ec_merge.specs.Frames.{copy_or, fixed_address, belongs, IsOwn, IsStranger, IsFault};
-ghost use Rattle.ec_merge.specs.Frames.{with_joined_address, with_joined_fields, joined_record, joined_part};
+ghost use Rattle.ec_merge.specs.Frames.{with_joined_address, with_joined_fields, joined_record};
 ghost use Rattle.ec_merge.specs.Frames.{joined_frame};
 
 use crate::bytes::join_bytes;
@@ -154,7 +154,9 @@ fn join_front(sent: &FrameBuf, into: &mut FrameBuf, other: &FrameBuf) -> usize
     ensures in_other { result ≤ length other.now }
     ensures into_before { (i : ℕ) → i < result → belongs (nth sent.now i) (nth into.old i) ≡ true }
     ensures other_before { (i : ℕ) → i < result → belongs (nth sent.now i) (nth other.now i) ≡ true }
-    ensures joined { into.new ≡ joined_part result sent.now into.old other.now }
+    ensures joined { into.new
+        ≡ joined_frame (take result sent.now) (take result into.old) (take result other.now)
+        ++ drop result into.old }
     ensures whole { IsOwn sent.now into.old → IsOwn sent.now other.now → result ≡ length sent.now }
 {
     let shared = sent.count().min(into.count()).min(other.count());

@@ -2,7 +2,7 @@ use Rattle.std.proofs.Common.{◌≡◌, ◌≤◌, ◌∙◌, length, sym, ap, 
 use Rattle.std.proofs.Common.{arith}
 use Rattle.std.specs.Option.{option_copied}
 use Rattle.ec_merge.specs.Frames.{IsOwn, IsStranger, joined_frame}
-use Rattle.ec_merge.proofs.FrameLemmas.{own_no_fault, one_fault_b, copy_is, joined_part-all}
+use Rattle.ec_merge.proofs.FrameLemmas.{own_no_fault, one_fault_b, copy_is, joined_front-all}
 use Rattle.ec_merge.proofs.frames.join_frames.Goals as goal
 
 pub returns-in-Some-first_difference-clause-only_fault
@@ -45,7 +45,7 @@ returns-clause-joined c =
     ≡ joined_frame c.args.sent.now (unwrap_or (option_copied c.args.a) c.args.sent.now)
     (unwrap_or (option_copied c.args.b) c.args.sent.now)
     = c.join_front-front.ensures.joined
-    ∙ joined_part-all c.join_front-front.result c.args.sent.now c.copy-joined.result c.unwrap_or-b.result.now
+    ∙ joined_front-all c.join_front-front.result c.args.sent.now c.copy-joined.result c.unwrap_or-b.result.now
     all own_a.count own_b.count
     ∙ (λ t. joined_frame c.args.sent.now ((into ∙ a) t) (b t)) in
     frame
@@ -66,7 +66,7 @@ returns-clause-only_joined c =
     ≡ joined_frame c.args.sent.now (unwrap_or (option_copied c.args.a) c.args.sent.now)
     (unwrap_or (option_copied c.args.b) c.args.sent.now)
     = c.join_front-front.ensures.joined
-    ∙ joined_part-all c.join_front-front.result c.args.sent.now c.copy-joined.result c.unwrap_or-b.result.now
+    ∙ joined_front-all c.join_front-front.result c.args.sent.now c.copy-joined.result c.unwrap_or-b.result.now
     all own_a.count own_b.count
     ∙ (λ t. joined_frame c.args.sent.now ((into ∙ a) t) (b t)) in
     λ _ _. ap Ok frame

@@ -1,8 +1,9 @@
 use Rattle.std.proofs.Common.{◌≡◌, ◌<◌, true, List, length, ap, sym, set, add-one, ◌∙◌, arith, below_more}
 use Rattle.std.proofs.lemmas.Bool.{true≢false}
 use Rattle.ec_wire.specs.Datagram.{DatagramRecord, nth}
-use Rattle.ec_merge.specs.Frames.{belongs, joined_record, joined_part}
-use Rattle.ec_merge.proofs.FrameLemmas.{length-joined_part, nth-joined_part, set-joined_part}
+use Rattle.ec_merge.specs.Frames.{belongs, joined_record}
+use Rattle.ec_merge.proofs.FrameLemmas.{joined_part, length-joined_part, nth-joined_part}
+use Rattle.ec_merge.proofs.FrameLemmas.{set-joined_part, joined_part-front}
 use Rattle.ec_merge.proofs.frames.join_front.Goals as goal
 use Rattle.ec_merge.proofs.frames.join_front.Goals.{then-not-belongs-via-then-not-belongs}
 use Rattle.ec_merge.proofs.frames.join_front.Goals.{then-not-belongs-via-else-not-belongs+then-not-belongs-2}
@@ -68,3 +69,19 @@ returns-then-not-belongs-clause-whole c own_a own_b =
           absurd (true≢false (sym (own_b.each k inside) ∙ sym w.belongs-else-not-belongs.ensures
           ∙ w.if-not-belongs-2.true))
     ]
+
+pub returns-then-not-belongs-clause-joined : goal.returns-then-not-belongs-clause-joined
+returns-then-not-belongs-clause-joined c =
+    c.loop-k.invariant.joined
+    ∙ joined_part-front c.loop-k.k c.args.sent.now c.args.into.now c.args.other.now (omega arith)
+    (omega arith) (omega arith)
+
+pub returns-clause-joined : goal.returns-clause-joined
+returns-clause-joined c =
+    let s = c.args.sent.now in
+    let a = c.args.into.now in
+    let b = c.args.other.now in
+    let all : c.loop-k.k ≡ c.min-shared.result = omega arith in
+    c.loop-k.invariant.joined
+    ∙ ap (λ n. joined_part n s a b) all
+    ∙ joined_part-front c.min-shared.result s a b (omega arith) (omega arith) (omega arith)

@@ -1,6 +1,7 @@
 use Rattle.std.proofs.Common.{◌≡◌, ℕ, ◌<◌, true}
 use Rattle.ec_wire.specs.Datagram.{nth}
-use Rattle.ec_merge.specs.Frames.{belongs, joined_part}
+use Rattle.ec_merge.specs.Frames.{belongs}
+use Rattle.ec_merge.proofs.FrameLemmas.{joined_part}
 use Rattle.ec_merge.proofs.frames.join_front.Given as goal
 
 -- k datagrams are joined, and each of both copies may have come of the sent one
