@@ -2,9 +2,15 @@
 -- whether the request is ignored, refused with an AL status code, or met (IEC 61158-6-12, AL management).
 use Rattle.std.specs.Prelude.{ℕ, ◌*◌, ◌%◌, Bool, true, false, ◌==◌, ◌&&◌, not, nat_le, nat_lt, Option, None}
 use Rattle.std.specs.Prelude.{Some, List, [], ◌∷◌}
-use Rattle.std.specs.Int.{bit_at}
 use Rattle.std.specs.Option.{is_none, unwrap_or}
-use Rattle.ec_regs.specs.Al.{code_of, state_of}
+use Rattle.ec_regs.specs.Al.{code_of, state_of, acknowledges}
+use Rattle.ec_regs.specs.AlStatusCode.{al_status_code}
+use Rattle.ec_regs.specs.declared.al_status_code.AlStatusCode.{AlStatusCode}
+use Rattle.ec_regs.specs.declared.al_status_code.AlStatusCode.TheVariants.{InvalidStateChange, UnknownState}
+use Rattle.ec_regs.specs.declared.al_status_code.AlStatusCode.TheVariants.{BootstrapNotSupported}
+use Rattle.ec_regs.specs.declared.al_status_code.AlStatusCode.TheVariants.{InvalidMailboxConfiguration}
+use Rattle.ec_regs.specs.declared.al_status_code.AlStatusCode.TheVariants.{InvalidOutputConfiguration}
+use Rattle.ec_regs.specs.declared.al_status_code.AlStatusCode.TheVariants.{InvalidInputConfiguration}
 use Rattle.ec_regs.specs.declared.al.AlState.{AlState}
 use Rattle.ec_regs.specs.declared.al.AlState.TheVariants.{Init, PreOp, SafeOp, Op}
 use Rattle.ec_areas.specs.Records.{sync_manager_at}
@@ -13,9 +19,7 @@ use Rattle.ec_esc.specs.State.{ControllerState}
 use Rattle.ec_app.specs.declared.roles.TheConstants.{OUTPUTS, INPUTS}
 use Rattle.ec_app.specs.declared.al_step.AlAnswer.{AlAnswer}
 use Rattle.ec_app.specs.declared.al_step.AlAnswer.TheVariants.{Ignored, Refused, Entered}
-use Rattle.ec_app.specs.declared.al_step.TheConstants.{CODES, ACKNOWLEDGE_AT, BOOTSTRAP, INVALID_STATE_CHANGE}
-use Rattle.ec_app.specs.declared.al_step.TheConstants.{UNKNOWN_STATE, NO_BOOTSTRAP, INVALID_MAILBOXES}
-use Rattle.ec_app.specs.declared.al_step.TheConstants.{INVALID_OUTPUTS, INVALID_INPUTS}
+use Rattle.ec_app.specs.declared.al_step.TheConstants.{CODES, BOOTSTRAP}
 use Rattle.ec_app.specs.State.{SlaveState}
 use Rattle.ec_app.specs.Roles.{has_mailboxes, fits_outputs, fits_inputs}
 use Rattle.ec_app.specs.Table.{first_fitting}
@@ -29,10 +33,6 @@ asked control = control % CODES
 -- that state; Init where the code is that of none
 abbrev pub asked_state : ℕ → AlState
 asked_state control = unwrap_or (state_of (asked control)) Init
-
--- bit 4: does the request acknowledge the error
-abbrev pub acknowledges : ℕ → Bool
-acknowledges control = bit_at control ACKNOWLEDGE_AT == 1
 
 -- ---- the table
 
@@ -54,14 +54,17 @@ has_inputs s = fits_inputs (sync_manager_at s.controller.memory INPUTS) s.applic
 -- the rows, in their order; below the fifth a request is for the next state up
 abbrev pub al_rows : SlaveState → ℕ → List (Bool × AlAnswer)
 al_rows s control =
-    (has_error s && not (acknowledges control), Ignored)
-    ∷ (asked control == BOOTSTRAP, Refused NO_BOOTSTRAP)
-    ∷ (is_none (state_of (asked control)), Refused UNKNOWN_STATE)
+    (has_error s && not (acknowledges (control % 256)), Ignored)
+    ∷ (asked control == BOOTSTRAP, Refused BootstrapNotSupported)
+    ∷ (is_none (state_of (asked control)), Refused UnknownState)
     ∷ (nat_le (asked control) (current s), Entered (asked_state control))
-    ∷ (nat_lt (2 * current s) (asked control), Refused INVALID_STATE_CHANGE)
-    ∷ (asked control == code_of PreOp && not (has_mailboxes s.controller.memory), Refused INVALID_MAILBOXES)
-    ∷ (asked control == code_of SafeOp && not (has_outputs s), Refused INVALID_OUTPUTS)
-    ∷ (asked control == code_of SafeOp && not (has_inputs s), Refused INVALID_INPUTS)
+    ∷ (nat_lt (2 * current s) (asked control), Refused InvalidStateChange)
+    ∷ (
+      asked control == code_of PreOp && not (has_mailboxes s.controller.memory),
+      Refused InvalidMailboxConfiguration,
+    )
+    ∷ (asked control == code_of SafeOp && not (has_outputs s), Refused InvalidOutputConfiguration)
+    ∷ (asked control == code_of SafeOp && not (has_inputs s), Refused InvalidInputConfiguration)
     ∷ []
 
 -- what the slave answers to a request; where no row fits, it does as it was asked
@@ -75,8 +78,8 @@ abbrev pub with_state : ControllerState → AlState → ControllerState
 with_state c state = with_al c (record { state = state; error = false }) 0
 
 -- the controller with an error, its state as before, and with this AL status code
-abbrev pub with_error : ControllerState → ℕ → ControllerState
-with_error c code = with_al c (record { state = (al_status c).state; error = true }) code
+abbrev pub with_error : ControllerState → AlStatusCode → ControllerState
+with_error c code = with_al c (record { state = (al_status c).state; error = true }) (al_status_code code)
 
 -- the counter of the last good mail, which a slave that enters Init forgets
 abbrev pub kept_in : AlState → Option ℕ → Option ℕ

@@ -9,3 +9,4 @@ pub mod Roles
 pub mod AlStep
 pub mod MailStep
 pub mod Slave
+pub mod AbortCode

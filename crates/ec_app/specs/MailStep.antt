@@ -10,12 +10,14 @@ use Rattle.ec_regs.specs.SyncMan.{is_full}
 use Rattle.ec_areas.specs.Records.{sync_manager_at}
 use Rattle.ec_esc.specs.Application.{al_status, mail_of as area_of, with_mail_taken, with_mail_put}
 use Rattle.ec_esc.specs.State.{ControllerState}
+use Rattle.ec_app.specs.AbortCode.{abort_code}
+use Rattle.ec_app.specs.declared.abort_code.AbortCode.TheVariants.{UnknownCommand, NoObject, NoSubindex}
+use Rattle.ec_app.specs.declared.abort_code.AbortCode.TheVariants.{ReadOfWriteOnly, WriteOfReadOnly}
+use Rattle.ec_app.specs.declared.abort_code.AbortCode.TheVariants.{WrongLength}
 use Rattle.ec_app.specs.declared.mail.Mail.{Mail}
 use Rattle.ec_app.specs.declared.mail.TheConstants.{REQUEST, RESPONSE}
 use Rattle.ec_app.specs.declared.mail_step.MailAnswer.{MailAnswer}
 use Rattle.ec_app.specs.declared.mail_step.MailAnswer.TheVariants.{Nothing, Aborted, Uploaded, Downloaded}
-use Rattle.ec_app.specs.declared.mail_step.TheConstants.{UNKNOWN_COMMAND, NO_OBJECT, NO_SUBINDEX, WRITE_ONLY}
-use Rattle.ec_app.specs.declared.mail_step.TheConstants.{READ_ONLY, WRONG_LENGTH}
 use Rattle.ec_app.specs.declared.objects.Entry.{Entry}
 use Rattle.ec_app.specs.declared.roles.TheConstants.{REQUEST_MAILBOX, ANSWER_MAILBOX}
 use Rattle.ec_app.specs.declared.sdo.Sdo.{Sdo}
@@ -61,12 +63,12 @@ abbrev pub mail_rows : Mail → List Entry → List (Bool × MailAnswer)
 mail_rows m objects =
     let object = unwrap_or (named m.sdo objects) (ReadOnly, One 0) in
     (m.service == RESPONSE || is_abort m.sdo, Nothing)
-    ∷ (not (is_upload m.sdo || is_download m.sdo), Aborted UNKNOWN_COMMAND)
-    ∷ (not (has_index (index m.sdo) objects), Aborted NO_OBJECT)
-    ∷ (is_none (named m.sdo objects), Aborted NO_SUBINDEX)
-    ∷ (is_upload m.sdo && not (may_read object.0), Aborted WRITE_ONLY)
-    ∷ (is_download m.sdo && not (may_write object.0), Aborted READ_ONLY)
-    ∷ (is_download m.sdo && not (size_of (new_value m.sdo) == size_of object.1), Aborted WRONG_LENGTH)
+    ∷ (not (is_upload m.sdo || is_download m.sdo), Aborted UnknownCommand)
+    ∷ (not (has_index (index m.sdo) objects), Aborted NoObject)
+    ∷ (is_none (named m.sdo objects), Aborted NoSubindex)
+    ∷ (is_upload m.sdo && not (may_read object.0), Aborted ReadOfWriteOnly)
+    ∷ (is_download m.sdo && not (may_write object.0), Aborted WriteOfReadOnly)
+    ∷ (is_download m.sdo && not (size_of (new_value m.sdo) == size_of object.1), Aborted WrongLength)
     ∷ (is_upload m.sdo, Uploaded object.1)
     ∷ []
 
@@ -90,7 +92,8 @@ mail_back m service sdo = record m { service = service; sdo = sdo }
 -- the mail that carries an answer, if one does
 abbrev pub reply : Mail → MailAnswer → Option Mail
 reply m Nothing = None
-reply m (Aborted code) = Some (mail_back m REQUEST (Abort (index m.sdo) (sub m.sdo) code))
+reply m (Aborted reason) =
+    Some (mail_back m REQUEST (Abort (index m.sdo) (sub m.sdo) (abort_code reason)))
 reply m (Uploaded value) = Some (mail_back m RESPONSE (UploadAnswer (index m.sdo) (sub m.sdo) value))
 reply m (Downloaded _) = Some (mail_back m RESPONSE (DownloadAnswer (index m.sdo) (sub m.sdo)))
 

@@ -3,10 +3,10 @@
 -- AL management).
 use Rattle.std.specs.Prelude.{ℕ, Bool, ◌==◌, ◌&&◌, not, if◌then◌else◌, List}
 use Rattle.ec_regs.specs.declared.sync_man.SyncMan.{SyncMan}
-use Rattle.ec_regs.specs.SyncMan.{is_active, is_buffered, is_mailbox, master_reads, master_writes}
+use Rattle.ec_regs.specs.SyncMan.{is_active, is_mailbox, master_reads, master_writes}
 use Rattle.ec_areas.specs.Ranges.{meets}
 use Rattle.ec_areas.specs.Records.{sync_manager_at}
-use Rattle.ec_regs.specs.SyncMan.{guards_outputs}
+use Rattle.ec_regs.specs.SyncMan.{guards_outputs, guards_inputs}
 use Rattle.ec_app.specs.declared.roles.TheConstants.{REQUEST_MAILBOX, ANSWER_MAILBOX}
 
 -- does the sync manager guard a mailbox that the master writes, or one that it reads
@@ -25,11 +25,7 @@ has_mailboxes memory =
     && is_answer_mailbox answers
     && not (meets requests answers.start answers.length)
 
--- does the sync manager guard inputs: a buffered area that the master reads
-abbrev pub guards_inputs : SyncMan → Bool
-guards_inputs s = is_active s && is_buffered s && master_reads s
-
--- does it guard outputs of this length, or nothing where the length is 0; and the same of inputs
+-- does the sync manager guard outputs, or inputs, of this length, or nothing where the length is 0
 abbrev pub fits_outputs : SyncMan → ℕ → Bool
 fits_outputs s n = if n == 0 then not (is_active s) else guards_outputs s && s.length == n
 

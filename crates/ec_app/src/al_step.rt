@@ -2,43 +2,20 @@
 //! management).
 
 ghost use Rattle.std.specs.Prelude.{◌≡◌};
-ghost use Rattle.ec_app.specs.AlStep.{acknowledges, al_answer, with_al_answer, al_step};
+ghost use Rattle.ec_app.specs.AlStep.{al_answer, with_al_answer, al_step};
 
 use crate::roles::{
     ANSWER_MAILBOX, INPUTS, OUTPUTS, REQUEST_MAILBOX, areas_meet, fits_inputs, fits_outputs,
     is_answer_mailbox, is_request_mailbox,
 };
 use crate::slave::Slave;
-use ec_regs::{AlState, AlStatus};
+use ec_regs::{AlState, AlStatus, AlStatusCode, acknowledges};
 
 /// The code of the state that is asked for is what of AL control is below this.
 const CODES: u16 = 1 << 4;
 
-/// The bit of AL control by which the master acknowledges an error.
-const ACKNOWLEDGE_AT: u16 = 4;
-
 /// The code of Bootstrap, a state that no slave here has.
 const BOOTSTRAP: u8 = 3;
-
-// The AL status codes of refused requests (IEC 61158-6-12, AL status codes).
-
-/// A state more than one step up.
-const INVALID_STATE_CHANGE: u16 = 0x0011;
-
-/// A code that is none of a state.
-const UNKNOWN_STATE: u16 = 0x0012;
-
-/// Bootstrap.
-const NO_BOOTSTRAP: u16 = 0x0013;
-
-/// Pre-Op without the two mailboxes.
-const INVALID_MAILBOXES: u16 = 0x0016;
-
-/// Safe-Op without an area for the outputs.
-const INVALID_OUTPUTS: u16 = 0x001D;
-
-/// Safe-Op without an area for the inputs.
-const INVALID_INPUTS: u16 = 0x001E;
 
 /// What a slave answers to a request for a state.
 #[derive(Clone, Copy, PartialEq, Eq, Debug)]
@@ -46,16 +23,9 @@ enum AlAnswer {
     /// Nothing: an error stands that the request does not acknowledge.
     Ignored,
     /// The state stays, an error is told, and the AL status code says why.
-    Refused(u16),
+    Refused(AlStatusCode),
     /// The slave is in this state, and no error stands.
     Entered(AlState),
-}
-
-/// Does this AL control acknowledge an error?
-fn acknowledges(control: u16) -> bool
-    ensures { result ≡ acknowledges control }
-{
-    control >> ACKNOWLEDGE_AT & 1 == 1
 }
 
 impl Slave {
@@ -95,29 +65,29 @@ impl Slave {
         let (status, _) = self.controller.al();
         let current = status.state.code();
         let asked = (control % CODES) as u8;
-        if status.error && !acknowledges(control) {
+        if status.error && !acknowledges((control % 256) as u8) {
             return AlAnswer::Ignored;
         }
         if asked == BOOTSTRAP {
-            return AlAnswer::Refused(NO_BOOTSTRAP);
+            return AlAnswer::Refused(AlStatusCode::BootstrapNotSupported);
         }
         let Some(state) = AlState::from_code(asked) else {
-            return AlAnswer::Refused(UNKNOWN_STATE);
+            return AlAnswer::Refused(AlStatusCode::UnknownState);
         };
         if asked <= current {
             return AlAnswer::Entered(state);
         }
         if asked > 2 * current {
-            return AlAnswer::Refused(INVALID_STATE_CHANGE);
+            return AlAnswer::Refused(AlStatusCode::InvalidStateChange);
         }
         if state == AlState::PreOp && !self.has_mailboxes() {
-            return AlAnswer::Refused(INVALID_MAILBOXES);
+            return AlAnswer::Refused(AlStatusCode::InvalidMailboxConfiguration);
         }
         if state == AlState::SafeOp && !self.has_outputs() {
-            return AlAnswer::Refused(INVALID_OUTPUTS);
+            return AlAnswer::Refused(AlStatusCode::InvalidOutputConfiguration);
         }
         if state == AlState::SafeOp && !self.has_inputs() {
-            return AlAnswer::Refused(INVALID_INPUTS);
+            return AlAnswer::Refused(AlStatusCode::InvalidInputConfiguration);
         }
         AlAnswer::Entered(state)
     }
@@ -133,7 +103,7 @@ impl Slave {
                     state: self.state(),
                     error: true,
                 };
-                self.controller.set_al(status, code);
+                self.controller.set_al(status, code.code());
             }
             AlAnswer::Entered(state) => {
                 self.set_state(state);

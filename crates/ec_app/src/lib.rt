@@ -33,6 +33,7 @@
 //! (`AlStep`, `MailStep`), the sync managers' parts (`Roles`), and the words of mails, SDOs, objects and
 //! values.
 
+pub mod abort_code;
 mod al_step;
 pub mod mail;
 mod mail_step;
@@ -42,6 +43,7 @@ pub mod sdo;
 pub mod slave;
 pub mod value;
 
+pub use abort_code::AbortCode;
 pub use mail::{Mail, MailFault};
 pub use objects::{Entry, ObjectFault, Objects};
 pub use sdo::Sdo;

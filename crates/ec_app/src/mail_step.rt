@@ -4,6 +4,7 @@
 ghost use Rattle.std.specs.Prelude.{◌≡◌, ◌≤◌, ◌⊎◌, IfSome, IsSome, Some, None, true};
 ghost use Rattle.ec_app.specs.MailStep.{named, mail_answer, reply};
 
+use crate::abort_code::AbortCode;
 use crate::mail::{Mail, REQUEST, RESPONSE};
 use crate::objects::Objects;
 use crate::roles::{ANSWER_MAILBOX, REQUEST_MAILBOX, is_answer_mailbox};
@@ -12,36 +13,16 @@ use crate::slave::Slave;
 use crate::value::Value;
 use ec_regs::AlState;
 
-// The codes of aborts (IEC 61158-6-12, SDO abort codes).
-
-/// Neither an upload nor a download.
-const UNKNOWN_COMMAND: u32 = 0x0504_0001;
-
-/// No object of this index.
-const NO_OBJECT: u32 = 0x0602_0000;
-
-/// The index has no such subindex.
-const NO_SUBINDEX: u32 = 0x0609_0011;
-
-/// The object may not be uploaded.
-const WRITE_ONLY: u32 = 0x0601_0001;
-
-/// The object may not be downloaded.
-const READ_ONLY: u32 = 0x0601_0002;
-
-/// The value has another length than the object's.
-const WRONG_LENGTH: u32 = 0x0607_0010;
-
 /// What a slave answers to a good mail.
 #[derive(Clone, Copy, PartialEq, Eq, Debug)]
 enum MailAnswer {
     /// Nothing.
     Nothing,
-    /// An abort with this code; no object changes.
-    Aborted(u32),
+    /// An abort for this reason; no object changes.
+    Aborted(AbortCode),
     /// The object's value; no object changes.
     Uploaded(Value),
-    /// That the object has taken this value.
+    /// The object has taken this value.
     Downloaded(Value),
 }
 
@@ -56,26 +37,26 @@ fn mail_answer(mail: &Mail, objects: &Objects) -> MailAnswer
         return MailAnswer::Nothing;
     }
     if !matches!(mail.sdo, Sdo::Upload { .. } | Sdo::Download { .. }) {
-        return MailAnswer::Aborted(UNKNOWN_COMMAND);
+        return MailAnswer::Aborted(AbortCode::UnknownCommand);
     }
     if !objects.has_index(mail.sdo.index()) {
-        return MailAnswer::Aborted(NO_OBJECT);
+        return MailAnswer::Aborted(AbortCode::NoObject);
     }
     let Some((rights, held)) = objects.get(mail.sdo.index(), mail.sdo.sub()) else {
-        return MailAnswer::Aborted(NO_SUBINDEX);
+        return MailAnswer::Aborted(AbortCode::NoSubindex);
     };
     match mail.sdo {
         Sdo::Download { value, .. } => {
             if !rights.may_write() {
-                MailAnswer::Aborted(READ_ONLY)
+                MailAnswer::Aborted(AbortCode::WriteOfReadOnly)
             } else if value.size() != held.size() {
-                MailAnswer::Aborted(WRONG_LENGTH)
+                MailAnswer::Aborted(AbortCode::WrongLength)
             } else {
                 MailAnswer::Downloaded(value)
             }
         }
         _ if rights.may_read() => MailAnswer::Uploaded(held),
-        _ => MailAnswer::Aborted(WRITE_ONLY),
+        _ => MailAnswer::Aborted(AbortCode::ReadOfWriteOnly),
     }
 }
 
@@ -90,7 +71,10 @@ fn reply(mail: &Mail, answer: MailAnswer) -> Option<Mail>
     let sub = mail.sdo.sub();
     let (service, sdo) = match answer {
         MailAnswer::Nothing => return None,
-        MailAnswer::Aborted(code) => (REQUEST, Sdo::Abort { index, sub, code }),
+        MailAnswer::Aborted(reason) => {
+            let code = reason.code();
+            (REQUEST, Sdo::Abort { index, sub, code })
+        }
         MailAnswer::Uploaded(value) => (RESPONSE, Sdo::UploadAnswer { index, sub, value }),
         MailAnswer::Downloaded(_) => (RESPONSE, Sdo::DownloadAnswer { index, sub }),
     };

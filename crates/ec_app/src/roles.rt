@@ -37,9 +37,7 @@ pub fn is_answer_mailbox(manager: &SyncMan) -> bool
 pub fn areas_meet(first: &SyncMan, second: &SyncMan) -> bool
     ensures { result ≡ meets first.now second.now.start second.now.length }
 {
-    let first_end = u32::from(first.start) + u32::from(first.length);
-    let second_end = u32::from(second.start) + u32::from(second.length);
-    first.is_active() && u32::from(first.start) < second_end && u32::from(second.start) < first_end
+    first.is_active() && first.area().meets(&second.area())
 }
 
 /// Does the sync manager guard outputs of this length, or nothing where the length is 0?
@@ -60,9 +58,6 @@ pub fn fits_inputs(manager: &SyncMan, length: u16) -> bool
     if length == 0 {
         !manager.is_active()
     } else {
-        manager.is_active()
-            && manager.is_buffered()
-            && manager.master_reads()
-            && manager.length == length
+        manager.guards_inputs() && manager.length == length
     }
 }

@@ -42,23 +42,23 @@ pub enum Sdo {
     Upload {
         /// The object's index.
         index: u16,
-        /// Its subindex.
+        /// The subindex of the object.
         sub: u8,
     },
     /// Answers an upload.
     UploadAnswer {
         /// The object's index.
         index: u16,
-        /// Its subindex.
+        /// The subindex of the object.
         sub: u8,
-        /// Its value.
+        /// The value of the object.
         value: Value,
     },
     /// Asks that a value be taken.
     Download {
         /// The object's index.
         index: u16,
-        /// Its subindex.
+        /// The subindex of the object.
         sub: u8,
         /// The value to be taken.
         value: Value,
@@ -67,14 +67,14 @@ pub enum Sdo {
     DownloadAnswer {
         /// The object's index.
         index: u16,
-        /// Its subindex.
+        /// The subindex of the object.
         sub: u8,
     },
     /// Refuses a request, or ends it.
     Abort {
         /// The object's index.
         index: u16,
-        /// Its subindex.
+        /// The subindex of the object.
         sub: u8,
         /// Why.
         code: u32,

@@ -1,5 +1,6 @@
 //! The worked rows of objects' mails and of states, with the bytes written out by hand.
 
+mod abort_codes;
 mod al_requests;
 mod door;
 mod mail_answers;

@@ -50,11 +50,11 @@ impl Value {
 /// What the master may do with an object.
 #[derive(Clone, Copy, Debug, PartialEq, Eq)]
 pub enum Rights {
-    /// It may be uploaded alone.
+    /// The object may be uploaded alone.
     ReadOnly,
-    /// It may be downloaded alone.
+    /// The object may be downloaded alone.
     WriteOnly,
-    /// It may be uploaded and downloaded.
+    /// The object may be uploaded and downloaded.
     Both,
 }
 
@@ -71,7 +71,7 @@ impl Rights {
         }
     }
 
-    /// May a master download another?
+    /// May a master download another value?
     pub fn may_write(self) -> bool
         ensures { result ≡ may_write self }
     {

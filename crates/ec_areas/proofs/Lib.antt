@@ -3,12 +3,12 @@ pub mod WriteLemmas
 pub mod RangeLemmas
 pub mod RunLemmas
 pub mod RecordLemmas
-pub mod MapLemmas
 pub mod MailboxLemmas
-pub mod MeetLemmas
-pub mod MetLemmas
+pub mod AreasMetLemmas
+pub mod RunMetLemmas
 pub mod NamesLemmas
 pub mod WholeLemmas
 pub mod ShowingLemmas
 pub mod ReachLemmas
 pub mod ApartLemmas
+pub mod Laws

@@ -3,7 +3,7 @@ use Rattle.std.proofs.Common.{◌≡◌, ℕ, zero, suc, ◌+◌, ◌/◌, ◌<�
 use Rattle.std.proofs.Common.{◌||◌, List, [], ◌∷◌, length, get_or, drop, Option, None, Some, sym, ◌∙◌, ap}
 use Rattle.std.proofs.Common.{refl, arith, add-one, drop-cons, ⊎_elim}
 use Rattle.std.specs.Option.{IsSome}
-use Rattle.std.proofs.lemmas.Bool.{cases_Bool}
+use Rattle.std.proofs.lemmas.Bool.{and_parts, cases_Bool}
 use Rattle.std.proofs.lemmas.Bool.Decides.{nat_tests}
 use Rattle.std.proofs.lemmas.List.{drop_all}
 use Rattle.ec_regs.specs.Bits.{AreBytes, with_bits, later}
@@ -11,9 +11,9 @@ use Rattle.ec_regs.specs.Pairs.{reads, physical_of}
 use Rattle.ec_regs.specs.declared.fmmu.Fmmu.{Fmmu}
 use Rattle.ec_regs.specs.declared.sync_man.SyncMan.{SyncMan}
 use Rattle.ec_regs.specs.declared.registers.TheConstants.{MEMORY_SIZE}
-use Rattle.ec_regs.proofs.BitLemmas.{with_bits_none, with_bits_same_places, with_bits-with_bits}
-use Rattle.ec_regs.proofs.PairLemmas.{physical_of-IsPair, IsPair-physical_of}
-use Rattle.ec_areas.specs.declared.logical.TheConstants.{LOGICAL_BITS}
+use Rattle.ec_regs.specs.declared.registers.TheConstants.{LOGICAL_BITS}
+use Rattle.ec_regs.proofs.Laws.{with_bits_none, with_bits_same_places, with_bits-with_bits}
+use Rattle.ec_regs.proofs.Laws.{physical_of-IsPair, IsPair-physical_of}
 use Rattle.ec_areas.specs.Areas.{is_readable}
 use Rattle.ec_areas.specs.Logical.{IsReadablePair, IsReadable, place_if, read_place, read_map, read_places}
 use Rattle.ec_areas.specs.Logical.{names, NamesPairs}
@@ -41,11 +41,6 @@ pub if_some : (b : Bool) (o : Option ℕ) (p : ℕ) → cond b o None ≡ Some p
 if_some true o p e = (refl, e)
 if_some false o p e = absurd (cc)
 
--- both parts of a conjunction
-pub both : (a b : Bool) → (a && b) ≡ true → (a ≡ true) × (b ≡ true)
-both true b e = (refl, e)
-both false b e = absurd (cc)
-
 -- what a read through an FMMU takes is a readable pair
 pub IsReadablePair-read_place : (managers : List SyncMan) (f : Fmmu) (l p : ℕ) → read_place managers f l
     ≡ Some p
@@ -54,7 +49,7 @@ unfolding read_place
 IsReadablePair-read_place managers f l p e =
     let parts = if_some (reads f && ltb l LOGICAL_BITS) (place_if (λ q. is_readable managers (q / 8))
     (physical_of f l)) p e in
-    let conditions = both (reads f) (ltb l LOGICAL_BITS) parts.0 in
+    let conditions = and_parts (reads f) (ltb l LOGICAL_BITS) parts.0 in
     let kept = place_if-some (λ q. is_readable managers (q / 8)) (physical_of f l) p parts.1 in
     let below : ltb l LOGICAL_BITS ≡ true = conditions.1 in
     record {
@@ -218,4 +213,4 @@ pub is_readable-lt : (managers : List SyncMan) (address : ℕ) → is_readable m
 unfolding is_readable
 is_readable-lt managers address readable =
     let inside : ltb address MEMORY_SIZE ≡ true =
-    (both (ltb address MEMORY_SIZE) _ readable).0 in grind (arith, nat_tests)
+    (and_parts (ltb address MEMORY_SIZE) _ readable).0 in grind (arith, nat_tests)

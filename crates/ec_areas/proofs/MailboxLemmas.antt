@@ -6,7 +6,7 @@ use Rattle.std.proofs.Common.{length, get_or, Option, None, Some, ◌∙◌, ap,
 use Rattle.std.specs.Prelude.{not}
 use Rattle.std.specs.List.{position, filter}
 use Rattle.std.specs.Option.{is_some}
-use Rattle.std.proofs.lemmas.Bool.{cases_lt, cases_eq}
+use Rattle.std.proofs.lemmas.Bool.{and_parts, cases_lt, cases_eq}
 use Rattle.std.proofs.lemmas.Bool.Decides.{nat_tests}
 use Rattle.std.proofs.lemmas.List.Folds.{list_any_at}
 use Rattle.std.proofs.lemmas.List.Quantifiers.{position-Some}
@@ -15,7 +15,7 @@ use Rattle.ec_regs.specs.declared.registers.TheConstants.{MEMORY_SIZE}
 use Rattle.ec_regs.specs.SyncMan.{is_active, is_mailbox, is_full, master_reads, master_writes}
 use Rattle.ec_areas.specs.Ranges.{is_range, meets, meets_locked, meets_one, is_area, gives_mail, takes_mail}
 use Rattle.ec_areas.specs.Ranges.{emptied_by, filled_by, some_address, takes_writes, serves_physical_write}
-use Rattle.ec_areas.proofs.LogicalLemmas.{both, if_some}
+use Rattle.ec_areas.proofs.LogicalLemmas.{if_some}
 
 -- some sync manager
 pub no_manager : SyncMan
@@ -38,9 +38,9 @@ emptied_facts managers from n i emptied =
     let found = if_some (meets_one managers from n) (position (gives_mail from n) managers) i emptied in
     let at = position-Some (gives_mail from n) managers i no_manager found.1 in
     let s = get_or managers i no_manager in
-    let full = both (is_area s from n && is_mailbox s && master_reads s) (is_full s) at.1 in
-    let reads = both (is_area s from n && is_mailbox s) (master_reads s) full.0 in
-    let whole = both (is_area s from n) (is_mailbox s) reads.0 in
+    let full = and_parts (is_area s from n && is_mailbox s && master_reads s) (is_full s) at.1 in
+    let reads = and_parts (is_area s from n && is_mailbox s) (master_reads s) full.0 in
+    let whole = and_parts (is_area s from n) (is_mailbox s) reads.0 in
     record {
       alone = found.0;
       inside = at.0;
@@ -58,9 +58,9 @@ filled_facts managers from n i filled =
     let found = if_some (meets_one managers from n) (position (takes_mail from n) managers) i filled in
     let at = position-Some (takes_mail from n) managers i no_manager found.1 in
     let s = get_or managers i no_manager in
-    let empty = both (is_area s from n && is_mailbox s && master_writes s) (not (is_full s)) at.1 in
-    let writes = both (is_area s from n && is_mailbox s) (master_writes s) empty.0 in
-    let whole = both (is_area s from n) (is_mailbox s) writes.0 in
+    let empty = and_parts (is_area s from n && is_mailbox s && master_writes s) (not (is_full s)) at.1 in
+    let writes = and_parts (is_area s from n && is_mailbox s) (master_writes s) empty.0 in
+    let whole = and_parts (is_area s from n) (is_mailbox s) writes.0 in
     record {
       alone = found.0;
       inside = at.0;
@@ -101,8 +101,8 @@ two_kept test (x ∷ xs) (suc i) (suc j) before inside one two =
 pub area_meets : (s : SyncMan) (from n : ℕ) → 1 ≤ n → is_area s from n ≡ true → meets s from n ≡ true
 unfolding meets
 area_meets s from n some area =
-    let sized = both (is_active s && eqb s.start from) (eqb s.length n) area in
-    let placed = both (is_active s) (eqb s.start from) sized.0 in
+    let sized = and_parts (is_active s && eqb s.start from) (eqb s.length n) area in
+    let placed = and_parts (is_active s) (eqb s.start from) sized.0 in
     let start : eqb s.start from ≡ true = placed.1 in
     let size : eqb s.length n ≡ true = sized.1 in
     let starts : ltb s.start (from + n) ≡ true = grind (arith, nat_tests) in
@@ -145,8 +145,8 @@ pub write_empties_none : (memory : List ℕ) (managers : List SyncMan) (from n :
     → emptied_by managers from n ≡ None
 write_empties_none memory managers from n served =
     let open_ : Bool = not (meets_locked managers from n) && some_address (takes_writes memory) from n in
-    let parts = both (is_range from n) (open_ || is_some (filled_by managers from n)) served in
-    let range = both (leb 1 n) (leb (from + n) MEMORY_SIZE) parts.0 in
+    let parts = and_parts (is_range from n) (open_ || is_some (filled_by managers from n)) served in
+    let range = and_parts (leb 1 n) (leb (from + n) MEMORY_SIZE) parts.0 in
     let first : leb 1 n ≡ true = range.0 in
     let some : 1 ≤ n = grind (arith, nat_tests) in
     let P : Option ℕ → Type 0 = λ o. emptied_by managers from n ≡ o → o ≡ None in

@@ -5,15 +5,16 @@ use Rattle.std.proofs.Common.{eqb, ltb, List, [], ◌∷◌, ◌++◌, length, g
 use Rattle.std.proofs.Common.{arith}
 use Rattle.std.specs.Prelude.{not}
 use Rattle.std.specs.List.{list_any, range_with_len}
+use Rattle.std.proofs.Math.Bool.{or-false}
 use Rattle.std.proofs.lemmas.Bool.Decides.{nat_tests}
 use Rattle.std.proofs.lemmas.List.Folds.{list_any-append, list_any_at}
 use Rattle.std.proofs.lemmas.List.FromFn.{length-range_with_len, get_or-range_with_len}
 use Rattle.std.proofs.lemmas.List.FromFn.{map-range_with_len_more}
+use Rattle.ec_regs.specs.declared.fmmu.Fmmu.{Fmmu}
 use Rattle.ec_regs.specs.declared.sync_man.SyncMan.{SyncMan}
 use Rattle.ec_regs.specs.SyncMan.{is_active}
-use Rattle.ec_areas.specs.Records.{sync_manager_at, sync_managers_of}
+use Rattle.ec_areas.specs.Records.{sync_manager_at, sync_managers_of, fmmu_at, fmmus_of}
 use Rattle.ec_areas.specs.Ranges.{is_in_sync_manager, is_writable_field, some_address}
-use Rattle.ec_areas.proofs.NamesLemmas.{or_false}
 
 -- ---- records by number
 
@@ -31,6 +32,20 @@ get_or-sync_managers_of memory d (suc (suc (suc (suc (suc (suc zero)))))) below 
 get_or-sync_managers_of memory d (suc (suc (suc (suc (suc (suc (suc zero))))))) below = refl
 get_or-sync_managers_of memory d (suc (suc (suc (suc (suc (suc (suc (suc i)))))))) below =
     absurd (omega arith)
+
+-- FMMU number i is the one that stands at its place
+pub get_or-fmmus_of : (memory : List ℕ) (d : Fmmu) (i : ℕ) → i < 8
+    → get_or (fmmus_of memory) i d ≡ fmmu_at memory i
+unfolding fmmus_of
+get_or-fmmus_of memory d zero below = refl
+get_or-fmmus_of memory d (suc zero) below = refl
+get_or-fmmus_of memory d (suc (suc zero)) below = refl
+get_or-fmmus_of memory d (suc (suc (suc zero))) below = refl
+get_or-fmmus_of memory d (suc (suc (suc (suc zero)))) below = refl
+get_or-fmmus_of memory d (suc (suc (suc (suc (suc zero))))) below = refl
+get_or-fmmus_of memory d (suc (suc (suc (suc (suc (suc zero)))))) below = refl
+get_or-fmmus_of memory d (suc (suc (suc (suc (suc (suc (suc zero))))))) below = refl
+get_or-fmmus_of memory d (suc (suc (suc (suc (suc (suc (suc (suc i)))))))) below = absurd (omega arith)
 
 -- ---- a sync manager's bytes
 
@@ -70,7 +85,7 @@ unfolding some_address
 some_address_more test from n =
     ap (list_any test) (range_more from n)
     ∙ list_any-append test (range_with_len from n) ((from + n) ∷ [])
-    ∙ ap (λ b. list_any test (range_with_len from n) || b) (or_false (test (from + n)))
+    ∙ ap (λ b. list_any test (range_with_len from n) || b) (or-false (test (from + n)))
 
 -- one that passes settles it
 pub some_address_at : (test : ℕ → Bool) (from n i : ℕ) → i < n → test (from + i) ≡ true

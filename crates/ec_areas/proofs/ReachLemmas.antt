@@ -4,10 +4,9 @@ use Rattle.std.proofs.Common.{None, Some, sym, ◌∙◌, ap, refl, arith, ⊎_e
 use Rattle.std.proofs.lemmas.Bool.{cases_lt}
 use Rattle.ec_regs.specs.Bits.{AreBytes, with_bits, later}
 use Rattle.ec_regs.specs.Pairs.{partner}
-use Rattle.ec_regs.proofs.BitLemmas.{later_none, with_bits_none, with_bits_same_places, with_bits-with_bits}
-use Rattle.ec_regs.proofs.PairLemmas.{partner_none, partner_inside, partner_before, partner_behind}
-use Rattle.ec_regs.proofs.PairLemmas.{partner_is}
-use Rattle.ec_regs.proofs.BitRunLemmas.{partner_first, partner_second, partner_split}
+use Rattle.ec_regs.proofs.Laws.{later_none, with_bits_none, with_bits_same_places, with_bits-with_bits}
+use Rattle.ec_regs.proofs.Laws.{partner_none, partner_inside, partner_before, partner_behind}
+use Rattle.ec_regs.proofs.Laws.{partner_is, partner_first, partner_second, partner_split}
 use Rattle.ec_areas.specs.Logical.{place_if, names}
 use Rattle.ec_areas.proofs.NamesLemmas.{names_same, names_somewhere, names_nowhere}
 

@@ -1,18 +1,12 @@
 -- The records in a memory depend on the registers alone.
-use Rattle.std.proofs.Common.{◌≡◌, ℕ, ◌+◌, ◌*◌, ◌<◌, ◌≤◌, List, length, get_or, take, drop, sym, ◌∙◌, ap}
+use Rattle.std.proofs.Common.{◌≡◌, ℕ, ◌+◌, ◌*◌, ◌<◌, ◌≤◌, List, length, take, drop, sym, ◌∙◌, ap}
 use Rattle.std.proofs.Common.{refl, arith}
 use Rattle.std.proofs.lemmas.List.{ext_get_or, length-take-le, length-drop}
 use Rattle.ec_regs.specs.Fmmu.{fmmu_of}
 use Rattle.ec_regs.specs.SyncMan.{sync_man_of}
 use Rattle.ec_regs.specs.declared.registers.TheConstants.{PROCESS_MEMORY}
-use Rattle.ec_areas.specs.Records.{fmmu_at, fmmus_of, sync_manager_at, sync_managers_of}
-use Rattle.ec_areas.proofs.RunLemmas.{get_or-run}
-
--- two memories of one length whose registers are the same
-pub record SameRegisters (before after : List ℕ) : Type 0 where
-  pub size : length after ≡ length before
-  pub room : PROCESS_MEMORY ≤ length before
-  pub bytes : (a : ℕ) → a < PROCESS_MEMORY → get_or after a 0 ≡ get_or before a 0
+use Rattle.ec_regs.proofs.Laws.{get_or-run}
+use Rattle.ec_areas.specs.Records.{fmmu_at, fmmus_of, sync_manager_at, sync_managers_of, SameRegisters}
 
 -- a run of registers is the same
 run_same : (before after : List ℕ) (at n : ℕ) → SameRegisters before after → at + n ≤ PROCESS_MEMORY

@@ -3,11 +3,12 @@ use Rattle.std.proofs.Common.{◌≡◌, ◌≢◌, ℕ, ◌+◌, ◌-◌, ◌*�
 use Rattle.std.proofs.Common.{◌&&◌, ◌||◌, List, [], ◌∷◌, length, get_or, set, Option, None, Some, sym, ◌∙◌}
 use Rattle.std.proofs.Common.{ap, refl, arith, ⊎_elim}
 use Rattle.std.specs.List.{list_any, slice_get}
+use Rattle.std.proofs.Math.Bool.{and-false, and-true}
 use Rattle.std.proofs.lemmas.List.{get_or-set_same, get_or-set_other}
 use Rattle.std.proofs.lemmas.List.Folds.{list_any_at}
 use Rattle.std.proofs.lemmas.List.{length-set}
 use Rattle.std.proofs.lemmas.Option.{get_or_from_slice_get, slice_get-get_or, slice_get_within}
-use Rattle.std.proofs.lemmas.Bool.{cases_Bool, cases_lt, cases_eq, false≢true}
+use Rattle.std.proofs.lemmas.Bool.{and_parts, cases_Bool, cases_lt, cases_eq, false≢true}
 use Rattle.std.proofs.lemmas.Bool.Decides.{nat_tests}
 use Rattle.ec_regs.specs.SyncMan.{is_enabled, is_buffered, is_mailbox, master_reads, master_writes}
 use Rattle.ec_regs.specs.SyncMan.{is_active, has_area_length}
@@ -15,16 +16,15 @@ use Rattle.ec_regs.specs.SyncMan.{is_in_process_memory, guards_outputs}
 use Rattle.ec_regs.specs.Pairs.{writes, logical_of, partner}
 use Rattle.ec_regs.specs.declared.fmmu.Fmmu.{Fmmu}
 use Rattle.ec_regs.specs.declared.sync_man.SyncMan.{SyncMan}
-use Rattle.ec_regs.proofs.PairLemmas.{partner_inside, partner_before, partner_behind}
 use Rattle.ec_areas.specs.Areas.{guards, locks, is_locked, is_writable}
-use Rattle.ec_areas.specs.declared.logical.TheConstants.{LOGICAL_BITS}
+use Rattle.ec_regs.specs.declared.registers.TheConstants.{LOGICAL_BITS}
 use Rattle.ec_areas.specs.Logical.{place_if, number_within, write_place, write_map, names}
 use Rattle.ec_areas.specs.Met.{data_in}
 use Rattle.ec_areas.specs.declared.met.Run.{Run}
 use Rattle.ec_areas.specs.Showing.{last_byte, written_number}
 use Rattle.ec_regs.specs.declared.registers.TheConstants.{PROCESS_MEMORY, MEMORY_SIZE}
-use Rattle.ec_areas.proofs.LogicalLemmas.{both}
-use Rattle.ec_areas.proofs.MeetLemmas.{guards_from}
+use Rattle.ec_regs.proofs.Laws.{partner_inside, partner_before, partner_behind}
+use Rattle.ec_areas.proofs.AreasMetLemmas.{guards_from}
 use Rattle.ec_areas.proofs.NamesLemmas.{names_same, names_nowhere, names_somewhere, names-later}
 use Rattle.ec_areas.proofs.WriteLemmas.{sources}
 
@@ -58,19 +58,10 @@ names-partner to at n byte some =
     (λ b below. partner_before to at n (8 * byte + b) (omega arith))))
     (cases_lt to (8 * byte + 8))
 
--- a truth and another
-and_true_right : (a : Bool) → (a && true) ≡ a
-and_true_right true = refl
-and_true_right false = refl
-
-and_false_right : (a : Bool) → (a && false) ≡ false
-and_false_right true = refl
-and_false_right false = refl
-
 -- bits are mapped under a condition
 names_if : (c : Bool) (f : ℕ → Option ℕ) → names (λ b. cond c (f b) None) 8 ≡ (names f 8 && c)
-names_if true f = sym (and_true_right (names f 8))
-names_if false f = names_nowhere (λ b. None) 8 (λ b _. refl) ∙ sym (and_false_right (names f 8))
+names_if true f = sym (and-true (names f 8))
+names_if false f = names_nowhere (λ b. None) 8 (λ b _. refl) ∙ sym (and-false (names f 8))
 
 -- two conditions, one after the other
 chosen : (a b : Bool) (from n : ℕ) (o : Option ℕ)
@@ -189,7 +180,7 @@ area_some : (s : SyncMan) → has_area_length s ≡ true → 1 ≤ s.length
 area_some s has =
     ⊎_elim
     (λ (mailbox : is_mailbox s ≡ true).
-    let ends = both (leb 16 s.length) (leb s.length 128) (rw mailbox at has) in
+    let ends = and_parts (leb 16 s.length) (leb s.length 128) (rw mailbox at has) in
     let low : leb 16 s.length ≡ true = ends.0 in
     grind (arith, nat_tests))
     (λ (other : is_mailbox s ≡ false).
@@ -203,9 +194,9 @@ locked_last : (managers : List SyncMan) (i : ℕ) (s : SyncMan) → slice_get ma
     → guards_outputs s ≡ false → is_writable managers (last_byte s) ≡ false
 unfolding is_active is_writable locks
 locked_last managers i s here active outputs =
-    let parts = both (is_enabled s && (is_buffered s || is_mailbox s) &&
+    let parts = and_parts (is_enabled s && (is_buffered s || is_mailbox s) &&
     (master_reads s || master_writes s) && has_area_length s) (is_in_process_memory s) active in
-    let some : 1 ≤ s.length = area_some s (both (is_enabled s && (is_buffered s || is_mailbox s) &&
+    let some : 1 ≤ s.length = area_some s (and_parts (is_enabled s && (is_buffered s || is_mailbox s) &&
     (master_reads s || master_writes s)) (has_area_length s) parts.0).1 in
     let off : (is_mailbox s || master_reads s)
     ≡ true = kept_off (is_enabled s) (is_buffered s) (is_mailbox s) (master_reads s)
@@ -216,7 +207,7 @@ locked_last managers i s here active outputs =
     let locked : is_locked managers (last_byte s) ≡ true =
     list_any_at (λ t. locks t (last_byte s)) managers i s (slice_get_within managers i s here)
     (ap (λ t. locks t (last_byte s)) (get_or_from_slice_get managers i s s here) ∙ locks_it) in
-    rw locked (and_false_right (leb PROCESS_MEMORY (last_byte s) && ltb (last_byte s) MEMORY_SIZE))
+    rw locked (and-false (leb PROCESS_MEMORY (last_byte s) && ltb (last_byte s) MEMORY_SIZE))
 
 -- what is asked of an area that is active is asked of outputs alone
 pub written_outputs : (managers : List SyncMan) (i : ℕ) (s : SyncMan) (reached : Bool)
@@ -231,5 +222,5 @@ written_outputs managers i s reached here active =
     (λ (other : guards_outputs s ≡ false).
     let locked = locked_last managers i s here active other in
     ap (λ b. b && reached && is_writable managers (last_byte s)) other
-    ∙ sym (ap (λ b. reached && b) locked ∙ and_false_right reached))
+    ∙ sym (ap (λ b. reached && b) locked ∙ and-false reached))
     (cases_Bool (guards_outputs s))

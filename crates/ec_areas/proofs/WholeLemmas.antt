@@ -2,14 +2,13 @@
 use Rattle.std.proofs.Common.{◌≡◌, ℕ, ◌+◌, ◌<◌, ◌≤◌, Bool, true, false, ◌&&◌, ◌||◌, ltb, leb, List, [], ◌∷◌}
 use Rattle.std.proofs.Common.{sym, ◌∙◌, ap, refl, arith, ⊎_elim}
 use Rattle.std.specs.List.{list_any}
-use Rattle.std.proofs.lemmas.Bool.{cases_Bool, false≢true}
+use Rattle.std.proofs.lemmas.Bool.{and_parts, cases_Bool, false≢true}
 use Rattle.std.proofs.lemmas.Bool.Decides.{nat_tests}
 use Rattle.ec_regs.specs.SyncMan.{is_active, is_mailbox, master_reads, master_writes}
 use Rattle.ec_regs.specs.declared.sync_man.SyncMan.{SyncMan}
 use Rattle.ec_regs.specs.declared.registers.TheConstants.{MEMORY_SIZE, PROCESS_MEMORY}
-use Rattle.ec_areas.specs.Areas.{guards, hides, locks, is_readable, is_writable, is_hidden, is_locked}
+use Rattle.ec_areas.specs.Areas.{holds, guards, hides, locks, is_readable, is_writable, is_hidden, is_locked}
 use Rattle.ec_areas.specs.Ranges.{meets, meets_hidden, meets_locked}
-use Rattle.ec_areas.proofs.LogicalLemmas.{both}
 
 -- what implies a test that none passes is passed by none
 none_of : (p q : SyncMan → Bool) (ss : List SyncMan) → ((s : SyncMan) → q s ≡ true → p s ≡ true)
@@ -31,17 +30,17 @@ meets-guards : (s : SyncMan) (from n address : ℕ) → from ≤ address → add
     → guards s address ≡ true → meets s from n ≡ true
 unfolding meets guards
 meets-guards s from n address starts ends guarded =
-    let parts = both (is_active s && leb s.start address) (ltb address (s.start + s.length)) guarded in
-    let begins = both (is_active s) (leb s.start address) parts.0 in
-    let after : leb s.start address ≡ true = begins.1 in
-    let before : ltb address (s.start + s.length) ≡ true = parts.1 in
+    let parts = and_parts (is_active s) (holds s address) guarded in
+    let bounds = and_parts (leb s.start address) (ltb address (s.start + s.length)) parts.1 in
+    let after : leb s.start address ≡ true = bounds.0 in
+    let before : ltb address (s.start + s.length) ≡ true = bounds.1 in
     let first : ltb s.start (from + n) ≡ true = grind (arith, nat_tests) in
     let last : ltb from (s.start + s.length) ≡ true = grind (arith, nat_tests) in
-    rw (begins.0, first, last) refl
+    rw (parts.0, first, last) refl
 
 -- two parts of a conjunction
 and_true : (a b c : Bool) → (a && c) ≡ true → (a ≡ true → b ≡ true) → (b && c) ≡ true
-and_true a b c h implies = let parts = both a c h in ap (λ x. x && c) (implies parts.0) ∙ parts.1
+and_true a b c h implies = let parts = and_parts a c h in ap (λ x. x && c) (implies parts.0) ∙ parts.1
 
 -- no area hides a byte of a range that meets none of those that are kept from reads
 pub is_readable-meets_hidden : (managers : List SyncMan) (from n address : ℕ)

@@ -2,8 +2,8 @@
 use Rattle.std.proofs.Common.{◌≡◌, ℕ, zero, suc, ◌+◌, ◌-◌, ◌/◌, ◌<◌, ◌≤◌, true, false, cond, ltb, leb, ◌&&◌}
 use Rattle.std.proofs.Common.{◌||◌, List, [], ◌∷◌, length, get_or, drop, Option, None, Some, sym, ◌∙◌, ap}
 use Rattle.std.proofs.Common.{refl, arith, ⊎_elim}
-use Rattle.std.specs.Option.{IsSome}
-use Rattle.std.proofs.lemmas.Bool.{cases_Bool}
+use Rattle.std.specs.Option.{is_some, IsSome}
+use Rattle.std.proofs.lemmas.Bool.{and_parts, cases_Bool}
 use Rattle.std.proofs.lemmas.Bool.Decides.{nat_tests}
 use Rattle.std.proofs.lemmas.List.{drop_all, drop_more}
 use Rattle.ec_regs.specs.Bits.{AreBytes, with_bits, later}
@@ -11,17 +11,17 @@ use Rattle.ec_regs.specs.Pairs.{writes, physical_of, logical_of}
 use Rattle.ec_regs.specs.declared.fmmu.Fmmu.{Fmmu}
 use Rattle.ec_regs.specs.declared.sync_man.SyncMan.{SyncMan}
 use Rattle.ec_regs.specs.declared.registers.TheConstants.{MEMORY_SIZE, PROCESS_MEMORY}
-use Rattle.ec_regs.proofs.BitLemmas.{with_bits_none, with_bits_same_places, with_bits-with_bits}
-use Rattle.ec_regs.proofs.PairLemmas.{physical_of-IsPair, IsPair-physical_of, logical_of-IsPair}
-use Rattle.ec_regs.proofs.PairLemmas.{IsPair-logical_of}
-use Rattle.ec_areas.specs.declared.logical.TheConstants.{LOGICAL_BITS}
-use Rattle.ec_areas.specs.Areas.{is_writable}
+use Rattle.ec_regs.specs.declared.registers.TheConstants.{LOGICAL_BITS}
+use Rattle.ec_areas.specs.Areas.{is_writable, is_locked}
+use Rattle.ec_regs.proofs.Laws.{with_bits_none, with_bits_same_places, with_bits-with_bits}
+use Rattle.ec_regs.proofs.Laws.{physical_of-IsPair, IsPair-physical_of, logical_of-IsPair}
+use Rattle.ec_regs.proofs.Laws.{IsPair-logical_of}
 use Rattle.ec_areas.specs.Logical.{IsWritablePair, IsWritable, NamesPairs, place_if, write_target}
 use Rattle.ec_areas.specs.Logical.{write_place, number_within, write_map, target_map, target_places, names}
 use Rattle.ec_areas.specs.Met.{physical_in, data_in}
 use Rattle.ec_areas.specs.declared.met.Run.{Run}
-use Rattle.ec_areas.proofs.NamesLemmas.{names_same, names_nowhere, names-later}
-use Rattle.ec_areas.proofs.LogicalLemmas.{place_if-some, if_some, both, later_some_left, later_some_right}
+use Rattle.ec_areas.proofs.NamesLemmas.{names_same, names_nowhere, names_none, names-later}
+use Rattle.ec_areas.proofs.LogicalLemmas.{place_if-some, if_some, later_some_left, later_some_right}
 
 -- ---- one FMMU: the set and the partial functions
 
@@ -33,7 +33,7 @@ unfolding write_target
 IsWritablePair-write_target managers f l p e =
     let parts = if_some (writes f && ltb l LOGICAL_BITS) (place_if (λ q. is_writable managers (q / 8))
     (physical_of f l)) p e in
-    let conditions = both (writes f) (ltb l LOGICAL_BITS) parts.0 in
+    let conditions = and_parts (writes f) (ltb l LOGICAL_BITS) parts.0 in
     let kept = place_if-some (λ q. is_writable managers (q / 8)) (physical_of f l) p parts.1 in
     let below : ltb l LOGICAL_BITS ≡ true = conditions.1 in
     record {
@@ -62,7 +62,7 @@ unfolding write_place
 IsWritablePair-write_place managers f l p e =
     let parts = if_some (writes f && is_writable managers (p / 8)) (place_if (λ m. ltb m LOGICAL_BITS)
     (logical_of f p)) l e in
-    let conditions = both (writes f) (is_writable managers (p / 8)) parts.0 in
+    let conditions = and_parts (writes f) (is_writable managers (p / 8)) parts.0 in
     let kept = place_if-some (λ m. ltb m LOGICAL_BITS) (logical_of f p) l parts.1 in
     let below : ltb l LOGICAL_BITS ≡ true = kept.1 in
     record {
@@ -88,9 +88,9 @@ pub is_writable-lt : (managers : List SyncMan) (address : ℕ) → is_writable m
     → address < MEMORY_SIZE
 unfolding is_writable
 is_writable-lt managers address writable =
-    let bounds = both (leb PROCESS_MEMORY address && ltb address MEMORY_SIZE) _ writable in
+    let bounds = and_parts (leb PROCESS_MEMORY address && ltb address MEMORY_SIZE) _ writable in
     let inside : ltb address MEMORY_SIZE ≡ true =
-    (both (leb PROCESS_MEMORY address) (ltb address MEMORY_SIZE) bounds.0).1 in
+    (and_parts (leb PROCESS_MEMORY address) (ltb address MEMORY_SIZE) bounds.0).1 in
     grind (arith, nat_tests)
 
 -- ---- one FMMU and its run
@@ -240,7 +240,7 @@ number_within_is : (from n : ℕ) (o : Option ℕ) (i : ℕ) → number_within f
 number_within_is from n None i e = absurd (cc)
 number_within_is from n (Some l) i e =
     let parts = if_some (leb from l && ltb (l - from) n) (Some (l - from)) i e in
-    let tests = both (leb from l) (ltb (l - from) n) parts.0 in
+    let tests = and_parts (leb from l) (ltb (l - from) n) parts.0 in
     let starts : leb from l ≡ true = tests.0 in
     let ends : ltb (l - from) n ≡ true = tests.1 in
     let number : l - from ≡ i = let same : Some (l - from) ≡ Some i = parts.1 in cc in
@@ -302,3 +302,52 @@ NamesPairs-write_map managers fmmus from n = record {
       write_map_some_at managers fmmus from n p i source.1.0 source.1.1 source.0 source.1.2 source.1.3
       source.1.4;
 }
+
+-- where no bit of a write goes anywhere no bit takes one
+pub write_map_none : (managers : List SyncMan) (fmmus : List Fmmu) (from n p : ℕ)
+    → names (λ i. target_map managers fmmus (from + i)) n ≡ false → write_map managers fmmus from n p ≡ None
+write_map_none managers fmmus from n p none =
+    let P : Option ℕ → Type 0 = λ o. write_map managers fmmus from n p ≡ o → o ≡ None in
+    elim (write_map managers fmmus from n p) as P [
+      | None ↦ λ _. refl
+      | Some i ↦ λ e.
+          let found = IsSource-write_map managers fmmus from n p i e in
+          let gone : target_map managers fmmus (from + i)
+          ≡ None = names_none (λ j. target_map managers fmmus (from + j)) n i none found.0 in
+          let some : is_some (target_map managers fmmus (from + i))
+          ≡ true = (NamesPairs-target_map managers fmmus).is_found (from + i) p found.1 in
+          absurd (let no : false ≡ true = sym (ap is_some gone) ∙ some in cc)
+    ] refl
+
+-- ---- registers
+
+-- a byte that may be written lies in process memory, and no area locks it
+pub writable_parts : (managers : List SyncMan) (address : ℕ) → is_writable managers address ≡ true
+    → (PROCESS_MEMORY ≤ address) × (address < MEMORY_SIZE) × (is_locked managers address ≡ false)
+unfolding is_writable
+writable_parts managers address writable =
+    let parts = and_parts (leb PROCESS_MEMORY address && ltb address MEMORY_SIZE) _ writable in
+    let ends = and_parts (leb PROCESS_MEMORY address) (ltb address MEMORY_SIZE) parts.0 in
+    let low : leb PROCESS_MEMORY address ≡ true = ends.0 in
+    let high : ltb address MEMORY_SIZE ≡ true = ends.1 in
+    let free : is_locked managers address ≡ false =
+    ⊎_elim
+    (λ (locked : is_locked managers address ≡ true). absurd (let no : false
+    ≡ true = rw locked at parts.1 in cc))
+    (λ (open_ : is_locked managers address ≡ false). open_)
+    (cases_Bool (is_locked managers address)) in
+    (grind (arith, nat_tests), grind (arith, nat_tests), free)
+
+-- so a bit of a register takes nothing
+pub write_map_register : (managers : List SyncMan) (fmmus : List Fmmu) (from n p : ℕ) → p / 8 < PROCESS_MEMORY
+    → write_map managers fmmus from n p ≡ None
+write_map_register managers fmmus from n p register =
+    let P : Option ℕ → Type 0 = λ o. write_map managers fmmus from n p ≡ o → o ≡ None in
+    elim (write_map managers fmmus from n p) as P [
+      | None ↦ λ _. refl
+      | Some i ↦ λ e.
+          let found = IsSource-write_map managers fmmus from n p i e in
+          let pair = found.1 in
+          let parts = writable_parts managers (p / 8) pair.4.allowed in
+          absurd (omega (arith, parts.0))
+    ] refl

@@ -2,17 +2,18 @@
 -- (IEC 61158-4-12, sync manager).
 use Rattle.std.specs.Prelude.{ℕ, ◌+◌, Bool, ◌&&◌, ◌||◌, not, nat_le, nat_lt, List}
 use Rattle.std.specs.List.{list_any}
+use Rattle.ec_regs.specs.AddressRange.{within}
 use Rattle.ec_regs.specs.SyncMan.{is_mailbox, master_reads, master_writes, is_active}
 use Rattle.ec_regs.specs.declared.sync_man.SyncMan.{SyncMan}
 use Rattle.ec_regs.specs.declared.registers.TheConstants.{PROCESS_MEMORY, MEMORY_SIZE}
 
 -- is an address one of those of the area that the record tells
 abbrev pub holds : SyncMan → ℕ → Bool
-holds s address = nat_le s.start address && nat_lt address (s.start + s.length)
+holds s address = within s.start s.length address
 
 -- is the byte at an address in the area of an active sync manager
 unfoldable pub guards : SyncMan → ℕ → Bool
-guards s address = is_active s && nat_le s.start address && nat_lt address (s.start + s.length)
+guards s address = is_active s && holds s address
 
 -- ---- what FMMUs may reach
 

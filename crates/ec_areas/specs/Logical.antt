@@ -8,7 +8,7 @@ use Rattle.ec_regs.specs.Bits.{later}
 use Rattle.ec_regs.specs.Pairs.{reads, writes, IsPair, physical_of, logical_of}
 use Rattle.ec_regs.specs.declared.fmmu.Fmmu.{Fmmu}
 use Rattle.ec_regs.specs.declared.sync_man.SyncMan.{SyncMan}
-use Rattle.ec_areas.specs.declared.logical.TheConstants.{LOGICAL_BITS}
+use Rattle.ec_regs.specs.declared.registers.TheConstants.{LOGICAL_BITS}
 use Rattle.ec_areas.specs.Areas.{is_readable, is_writable}
 
 -- ---- the pairs as sets

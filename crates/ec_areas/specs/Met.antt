@@ -4,7 +4,7 @@ use Rattle.ec_regs.specs.declared.sync_man.SyncMan.{SyncMan}
 use Rattle.ec_regs.specs.Pairs.{partner, physical_of, logical_of}
 use Rattle.ec_regs.specs.declared.fmmu.Fmmu.{Fmmu}
 use Rattle.ec_areas.specs.Areas.{is_readable, is_writable}
-use Rattle.ec_areas.specs.declared.logical.TheConstants.{LOGICAL_BITS}
+use Rattle.ec_regs.specs.declared.registers.TheConstants.{LOGICAL_BITS}
 use Rattle.ec_areas.specs.Logical.{place_if, number_within}
 use Rattle.ec_areas.specs.declared.met.Run.{Run}
 

@@ -1,19 +1,19 @@
 -- A physical command reaches a range of addresses, as far as the areas of the sync managers let it
 -- (IEC 61158-4-12, physical memory access, sync manager and mailbox).
 use Rattle.std.specs.Prelude.{ℕ, ◌+◌, ◌-◌, ◌*◌, ◌/◌, ◌%◌, Bool, ◌==◌, ◌&&◌, ◌||◌, not, nat_le, nat_lt}
-use Rattle.std.specs.Prelude.{if◌then◌else◌, Option, None, List, length}
+use Rattle.std.specs.Prelude.{if◌then◌else◌, Option, None, List, [], ◌∷◌, length, ◌≡◌, ◌≤◌, true}
 use Rattle.std.specs.List.{list_any, position, filter, range_with_len}
 use Rattle.std.specs.Option.{is_some}
+use Rattle.ec_regs.specs.AddressRange.{within, share_a_byte}
+use Rattle.ec_regs.specs.declared.address_range.AddressRange.{AddressRange}
 use Rattle.ec_regs.specs.declared.sync_man.SyncMan.{SyncMan}
 use Rattle.ec_regs.specs.declared.registers.TheConstants.{STATION_ADDRESS, AL_CONTROL, FMMU_BASE, FMMU_SIZE}
 use Rattle.ec_regs.specs.declared.registers.TheConstants.{FMMU_COUNT, SYNC_MANAGER_BASE, SYNC_MANAGER_SIZE}
-use Rattle.ec_regs.specs.declared.registers.TheConstants.{SYNC_MANAGER_COUNT, PROCESS_MEMORY, MEMORY_SIZE}
-use Rattle.ec_regs.specs.SyncMan.{is_active, is_mailbox, is_full, master_reads, master_writes}
+use Rattle.ec_regs.specs.declared.registers.TheConstants.{SYNC_MANAGER_COUNT, SYNC_MANAGER_STATUS}
+use Rattle.ec_regs.specs.declared.registers.TheConstants.{SYNC_MANAGER_ACTIVATE, PROCESS_MEMORY}
+use Rattle.ec_regs.specs.declared.registers.TheConstants.{PROCESS_MEMORY_SIZE, MEMORY_SIZE}
+use Rattle.ec_regs.specs.SyncMan.{is_active, is_mailbox, is_full, master_reads, master_writes, is_buffered}
 use Rattle.ec_areas.specs.Records.{sync_manager_at}
-
--- is an address one of the n from another one on
-abbrev pub within : ℕ → ℕ → ℕ → Bool
-within from n address = nat_le from address && nat_lt address (from + n)
 
 -- are there bytes in the range, and do all of them lie in the memory
 abbrev pub is_range : ℕ → ℕ → Bool
@@ -23,11 +23,11 @@ is_range from n = nat_le 1 n && nat_le (from + n) MEMORY_SIZE
 
 -- does the range share a byte with the area that the record tells
 abbrev pub overlaps : SyncMan → ℕ → ℕ → Bool
-overlaps s from n = nat_lt s.start (from + n) && nat_lt from (s.start + s.length)
+overlaps s from n = share_a_byte s.start s.length from n
 
 -- does the range share a byte with the area of an active sync manager
 unfoldable pub meets : SyncMan → ℕ → ℕ → Bool
-meets s from n = is_active s && nat_lt s.start (from + n) && nat_lt from (s.start + s.length)
+meets s from n = is_active s && share_a_byte s.start s.length from n
 
 -- does it share one with an area that is kept from reads: a mailbox, or an area that the master writes
 abbrev pub meets_hidden : List SyncMan → ℕ → ℕ → Bool
@@ -40,6 +40,14 @@ meets_locked managers from n = list_any (λ s. meets s from n && (is_mailbox s |
 -- does it meet one area alone
 abbrev pub meets_one : List SyncMan → ℕ → ℕ → Bool
 meets_one managers from n = length (filter (λ s. meets s from n) managers) == 1
+
+-- the range has a byte and lies whole in the area of the sync manager, which is active and buffered
+pub record LiesBuffered (s : SyncMan) (from n : ℕ) : Type 0 where
+  pub some : 1 ≤ n
+  pub active : is_active s ≡ true
+  pub buffered : is_buffered s ≡ true
+  pub starts : s.start ≤ from
+  pub ends : from + n ≤ s.start + s.length
 
 -- ---- mailboxes, which are read and written whole
 
@@ -75,33 +83,28 @@ sync_manager_number address = (address - SYNC_MANAGER_BASE) / SYNC_MANAGER_SIZE
 abbrev pub sync_manager_offset : ℕ → ℕ
 sync_manager_offset address = (address - SYNC_MANAGER_BASE) % SYNC_MANAGER_SIZE
 
--- where its status byte stands, which the master does not write, and its activate byte, which it always may
-abbrev pub STATUS_OFFSET : ℕ
-STATUS_OFFSET = 5
-
-abbrev pub ACTIVATE_OFFSET : ℕ
-ACTIVATE_OFFSET = 6
-
--- the address of the status byte of the sync manager with a number
-abbrev pub status_address : ℕ → ℕ
-status_address i = SYNC_MANAGER_BASE + SYNC_MANAGER_SIZE * i + STATUS_OFFSET
-
 -- start, length and control may be written while the sync manager is not active
 abbrev pub is_writable_field : List ℕ → ℕ → Bool
 is_writable_field memory address =
-    sync_manager_offset address == ACTIVATE_OFFSET
-    || (nat_lt (sync_manager_offset address) STATUS_OFFSET
+    sync_manager_offset address == SYNC_MANAGER_ACTIVATE
+    || (nat_lt (sync_manager_offset address) SYNC_MANAGER_STATUS
     && not (is_active (sync_manager_at memory (sync_manager_number address))))
 
--- does a byte of the memory take what a physical command writes: the station address, AL control, the FMMUs,
--- the fields of sync managers, and process memory
+-- what the master may always write: the station address, AL control, the FMMUs, and process memory
+abbrev pub writable_ranges : List AddressRange
+writable_ranges =
+    record { first = STATION_ADDRESS; count = 2 }
+    ∷ record { first = AL_CONTROL; count = 2 }
+    ∷ record { first = FMMU_BASE; count = FMMU_SIZE * FMMU_COUNT }
+    ∷ record { first = PROCESS_MEMORY; count = PROCESS_MEMORY_SIZE }
+    ∷ []
+
+-- does a byte of the memory take what a physical command writes: it stands in one of these ranges, or in a
+-- field of a sync manager that may be written
 unfoldable pub takes_writes : List ℕ → ℕ → Bool
 takes_writes memory address =
-    within STATION_ADDRESS 2 address
-    || within AL_CONTROL 2 address
-    || within FMMU_BASE (FMMU_SIZE * FMMU_COUNT) address
+    list_any (λ (r : AddressRange). within r.first r.count address) writable_ranges
     || (is_in_sync_manager address && is_writable_field memory address)
-    || within PROCESS_MEMORY (MEMORY_SIZE - PROCESS_MEMORY) address
 
 -- is a test true of one of the n addresses from one on
 unfoldable pub some_address : (ℕ → Bool) → ℕ → ℕ → Bool

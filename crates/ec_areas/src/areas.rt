@@ -10,9 +10,7 @@ use ec_regs::registers::{MEMORY_SIZE, PROCESS_MEMORY};
 fn holds(manager: &PlannedSyncMan, address: u32) -> bool
     ensures { result ≡ holds manager.now address }
 {
-    let start = u32::from(manager.start());
-    let end = start + u32::from(manager.length());
-    start <= address && address < end
+    manager.area().contains(address)
 }
 
 /// Is the byte kept from reads through FMMUs?

@@ -49,8 +49,7 @@ pub use areas::{is_readable, is_writable};
 pub use logical::read_mapped;
 pub use logical_write::write_mapped;
 pub use ranges::{
-    emptied_by, filled_by, serves_physical_read, serves_physical_write, status_address,
-    takes_writes, within,
+    emptied_by, filled_by, serves_physical_read, serves_physical_write, takes_writes,
 };
 pub use records::{fmmu_at, fmmus_of, sync_manager_at, sync_managers_of};
 pub use runs::{copy_run, merge_run};

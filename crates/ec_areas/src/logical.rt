@@ -15,12 +15,6 @@ use ec_regs::{PlannedFmmu, PlannedSyncMan};
 /// How many bits a byte has.
 const BYTE: usize = 8;
 
-/// How many logical bytes there are: one for each 32-bit address.
-pub(crate) const LOGICAL_BYTES: u64 = 0x1_0000_0000;
-
-/// How many logical bits there are.
-pub(crate) const LOGICAL_BITS: u64 = 8 * LOGICAL_BYTES;
-
 /// Copies what may be read of a run to the data, byte by byte of the memory, and says whether there is such a
 /// byte.
 fn read_cut_run(managers: &[PlannedSyncMan], run: Run, memory: &[u8], into: &mut [u8]) -> bool

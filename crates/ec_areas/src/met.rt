@@ -4,8 +4,8 @@ ghost use Rattle.std.specs.Prelude.{◌≡◌, ◌+◌, ◌*◌, ◌<◌, ℕ};
 ghost use Rattle.std.specs.Option.{IfSome};
 ghost use Rattle.ec_areas.specs.Met.{IsRunOf, physical_at, number_at, physical_in, data_in};
 
-use crate::logical::{LOGICAL_BITS, LOGICAL_BYTES};
 use ec_regs::PlannedFmmu;
+use ec_regs::registers::{LOGICAL_BITS, LOGICAL_BYTES};
 
 /// How many bits a byte has.
 const BYTE: u64 = 8;
@@ -15,7 +15,7 @@ const BYTE: u64 = 8;
 pub(crate) struct Run {
     /// The first data bit.
     pub(crate) at: usize,
-    /// Its physical bit.
+    /// The physical bit of the first data bit.
     pub(crate) physical: usize,
     /// How many bits there are.
     pub(crate) count: usize,

@@ -5,7 +5,7 @@ ghost use Rattle.ec_regs.specs.declared.registers.TheConstants.{MEMORY_SIZE};
 ghost use Rattle.ec_areas.specs.Records.{fmmu_at, fmmus_of, sync_manager_at, sync_managers_of};
 
 use ec_regs::registers::{FMMU_BASE, FMMU_SIZE, SYNC_MANAGER_BASE, SYNC_MANAGER_SIZE};
-use ec_regs::{Fmmu, PlannedFmmu, PlannedSyncMan, SyncMan};
+use ec_regs::{Fmmu, Fmmus, PlannedFmmu, PlannedSyncMan, SyncMan, SyncManagers};
 
 /// The FMMU with a number.
 #[tactic(auto, unfolding(crate::specs::Records::fmmu_at))]
@@ -20,7 +20,7 @@ pub fn fmmu_at(memory: &[u8], number: usize) -> Fmmu
 
 /// All FMMUs, by number, with their plans.
 #[tactic(auto, unfolding(crate::specs::Records::fmmus_of))]
-pub fn fmmus_of(memory: &[u8]) -> [PlannedFmmu; 8]
+pub fn fmmus_of(memory: &[u8]) -> Fmmus
     requires { length memory.now ≡ MEMORY_SIZE }
     ensures { result ≡ fmmus_of memory.now }
 {
@@ -53,7 +53,7 @@ pub fn sync_manager_at(memory: &[u8], number: usize) -> SyncMan
 
 /// All sync managers, by number, with what they say of their areas.
 #[tactic(auto, unfolding(crate::specs::Records::sync_managers_of))]
-pub fn sync_managers_of(memory: &[u8]) -> [PlannedSyncMan; 8]
+pub fn sync_managers_of(memory: &[u8]) -> SyncManagers
     requires { length memory.now ≡ MEMORY_SIZE }
     ensures { result ≡ sync_managers_of memory.now }
 {

@@ -12,7 +12,7 @@ ghost use Rattle.ec_areas.specs.Showing.{last_byte, reaches, SaysOfLastBytes, Te
 
 use crate::areas::is_writable;
 use crate::met::{Run, run_met};
-use ec_regs::{PlannedFmmu, PlannedSyncMan};
+use ec_regs::{PlannedFmmu, PlannedSyncMan, SyncManagers};
 
 /// How many bits a byte has.
 const BYTE: usize = 8;
@@ -48,7 +48,7 @@ fn reaches(fmmu: &PlannedFmmu, address: u32, count: usize, byte: u32) -> bool
     }
 }
 
-/// Would it reach the byte through some FMMU?
+/// Would a write of `count` bytes at the logical byte `address` reach the byte through some FMMU?
 fn is_reached(fmmus: &[PlannedFmmu], address: u32, count: usize, byte: u32) -> bool
     ensures { result ≡ list_any (reaches (8 * address) (8 * count) byte) fmmus.now }
 {
@@ -75,7 +75,7 @@ fn is_last_written(
 /// Of which active areas a write of `count` bytes at the logical byte `address` reaches the last byte, by
 /// number.
 pub fn last_bytes_written(
-    managers: &[PlannedSyncMan; 8],
+    managers: &SyncManagers,
     fmmus: &[PlannedFmmu],
     address: u32,
     count: usize,
@@ -91,10 +91,7 @@ pub fn last_bytes_written(
 }
 
 /// What a test says of each area, by number.
-pub fn told_of_each<F: Fn(&PlannedSyncMan) -> bool>(
-    areas: &[PlannedSyncMan; 8],
-    test: F,
-) -> [bool; 8]
+pub fn told_of_each<F: Fn(&PlannedSyncMan) -> bool>(areas: &SyncManagers, test: F) -> [bool; 8]
     requires { F.IsAlwaysCallable test }
     ensures { TellsOfEach (FnReturnsAt F.Fn test) areas.now result }
 {

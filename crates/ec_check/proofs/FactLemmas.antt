@@ -1,11 +1,13 @@
 -- What a fit line gives a cycle.
 use Rattle.std.proofs.Common.{◌≡◌, ◌⊎◌, ⊎_elim, inl, inr, ℕ, zero, suc, ◌+◌, ◌-◌, ◌/◌, ◌<◌, ◌≤◌, Bool, true}
-use Rattle.std.proofs.Common.{false, cond, ltb, leb, ◌&&◌, List, [], ◌∷◌, length, get_or, refl, sym, ap, ◌∙◌}
+use Rattle.std.proofs.Common.{false, cond, ◌&&◌, List, [], ◌∷◌, length, get_or, refl, sym, ap, ◌∙◌}
 use Rattle.std.proofs.Common.{arith}
 use Rattle.std.specs.List.{AllByRecursion}
 use Rattle.std.proofs.lemmas.Bool.{and_parts, cases_Bool, cases_lt, cases_order, both_ways}
 use Rattle.std.proofs.lemmas.Bool.Decides.{nat_tests}
 use Rattle.std.proofs.lemmas.List.Folds.{list_any_at}
+use Rattle.std.proofs.lemmas.List.Elements.{All-from_get_or, All-get_or, All-from_recursion}
+use Rattle.std.proofs.lemmas.List.Elements.{recursion_from_All}
 use Rattle.ec_regs.specs.Pairs.{is_switched_on}
 use Rattle.ec_regs.specs.Pairs.{reads, writes, IsPair, first_logical, first_physical, pair_count}
 use Rattle.ec_regs.specs.declared.fmmu.Fmmu.{Fmmu}
@@ -13,15 +15,16 @@ use Rattle.ec_regs.specs.declared.sync_man.SyncMan.{SyncMan}
 use Rattle.ec_regs.specs.SyncMan.{is_active}
 use Rattle.ec_regs.specs.SyncMan.{is_buffered, master_reads, master_writes}
 use Rattle.ec_areas.specs.Records.{fmmu_at, sync_manager_at, sync_managers_of}
-use Rattle.ec_areas.proofs.RangeLemmas.{get_or-sync_managers_of}
 use Rattle.ec_areas.specs.Areas.{guards}
+use Rattle.ec_areas.proofs.Laws.{get_or-sync_managers_of, get_or-fmmus_of, length-fmmus_of}
+use Rattle.ec_areas.proofs.Laws.{length-sync_managers_of}
 use Rattle.ec_esc.specs.State.{ControllerState, IsController}
 use Rattle.ec_check.specs.declared.fault.MapFault.TheVariants.{TwinStation, BadFmmu, OutsideArea}
 use Rattle.ec_check.specs.declared.fault.MapFault.TheVariants.{TwiceWritten, TwiceRead, ReadAndWritten}
-use Rattle.ec_check.specs.declared.outside.TheConstants.{MAIL_STATUS}
-use Rattle.ec_line.specs.Calm.{is_calm}
+use Rattle.ec_regs.specs.declared.registers.TheConstants.{ANSWER_MAILBOX_STATUS}
+use Rattle.ec_line.specs.Steady.{is_steady}
 use Rattle.ec_line.specs.Fit.{Reads, Writes, IsFitAlone, AreApart, AllApart, IsFitLine}
-use Rattle.ec_line.proofs.CalmLemmas.{register_calm, input_calm}
+use Rattle.ec_line.proofs.Laws.{register_steady, input_steady}
 use Rattle.ec_check.specs.Facts.{IsWellPlaced}
 use Rattle.ec_check.specs.Fit.{IsFit}
 use Rattle.ec_check.specs.Line.{no_controller, controller_of, station_of, fmmu_of, sync_manager_of, HasFmmu}
@@ -29,7 +32,6 @@ use Rattle.ec_check.specs.Rules.{ReadsLogical, WritesPhysical, IsGoodFmmu, Area,
 use Rattle.ec_check.specs.Rules.{IsAreaEnd, IsGuarded, IsMailStatus}
 use Rattle.ec_check.specs.Runs.{is_good, holds_first_byte, begins_at_mail_status}
 use Rattle.ec_check.proofs.FmmuLemmas.{IsGoodFmmu-is_good, is_good-IsGoodFmmu}
-use Rattle.ec_check.proofs.LineLemmas.{get_or-fmmus_of, length-fmmus_of, length-sync_managers_of}
 use Rattle.ec_check.proofs.OutsideLemmas.{HoldsAllOf-ends, IsAreaEnd-holds, IsAreaEnd-mail, HasNoArea-none}
 use Rattle.ec_check.proofs.OutsideLemmas.{IsFirstOf-no_area, IsFirstOf-behind}
 use Rattle.ec_check.proofs.RunLemmas.{IsInRun-MapsLogical, IsInRun-MapsPhysical}
@@ -222,14 +224,14 @@ written_once line slave l m p fit there first second =
     other)
     (cases_order one.0 two.0)
 
--- a byte of a buffered area that the master reads is calm
+-- a byte of a buffered area that the master reads is steady
 input_at : (line : List ControllerState) (slave number address : ℕ) → number < 8
     → is_active (sync_manager_of line slave number) ≡ true → is_buffered (sync_manager_of line slave number)
     ≡ true
     → master_reads (sync_manager_of line slave number) ≡ true
     → (sync_manager_of line slave number).start ≤ address
     → address < (sync_manager_of line slave number).start + (sync_manager_of line slave number).length
-    → is_calm (sync_managers_of (controller_of line slave).memory) address ≡ true
+    → is_steady (sync_managers_of (controller_of line slave).memory) address ≡ true
 unfolding sync_manager_of guards
 input_at line slave number address below active buffered for_reading from to =
     let memory : List ℕ = (controller_of line slave).memory in
@@ -237,16 +239,16 @@ input_at line slave number address below active buffered for_reading from to =
     let is = get_or-sync_managers_of memory s number below in
     let holds : (guards s address && is_buffered s && master_reads s) ≡ true =
     rw (active, buffered, for_reading) grind (arith, nat_tests) in
-    input_calm (sync_managers_of memory) address
+    input_steady (sync_managers_of memory) address
     (list_any_at (λ t. guards t address && is_buffered t && master_reads t) (sync_managers_of memory) number s
     (omega (arith, length-sync_managers_of memory))
     (ap (λ t. guards t address && is_buffered t && master_reads t) is ∙ holds))
 
--- each byte that it reads is calm
-pub calm : (line : List ControllerState) (slave l p : ℕ) → IsFit line → slave < length line
+-- each byte that it reads is steady
+pub steady : (line : List ControllerState) (slave l p : ℕ) → IsFit line → slave < length line
     → Reads (controller_of line slave) l p
-    → is_calm (sync_managers_of (controller_of line slave).memory) (p / 8) ≡ true
-calm line slave l p fit there readable =
+    → is_steady (sync_managers_of (controller_of line slave).memory) (p / 8) ≡ true
+steady line slave l p fit there readable =
     let one = read_pair line slave l p there readable in
     let f : Fmmu = fmmu_of line slave one.0 in
     let inside = IsInRun-MapsPhysical f p (l, one.2) in
@@ -269,15 +271,15 @@ calm line slave l p fit there readable =
     input_at line slave guarded.number (p / 8) guarded.there kind.0 kind.1
     (rw one.1.for_reading at parts.1) (omega arith) (omega arith))
     (λ (mail : IsMailStatus f area).
-    let end : area.to ≡ MAIL_STATUS + 1 = mail.to in
-    register_calm (sync_managers_of (controller_of line slave).memory) (p / 8) (omega arith))
+    let end : area.to ≡ ANSWER_MAILBOX_STATUS + 1 = mail.to in
+    register_steady (sync_managers_of (controller_of line slave).memory) (p / 8) (omega arith))
     lies.1
 
 pub IsFitAlone-fit : (line : List ControllerState) (slave : ℕ) → IsFit line → slave < length line
     → IsController (controller_of line slave) → IsFitAlone (controller_of line slave)
 IsFitAlone-fit line slave fit there is = record {
   controller = is;
-  calm = λ l p readable. calm line slave l p fit there readable;
+  steady = λ l p readable. steady line slave l p fit there readable;
   read_once = λ l p q first second. read_once line slave l p q fit there first second;
   written_once = λ l m p first second. written_once line slave l m p fit there first second;
 }
@@ -325,31 +327,21 @@ AreApart-fit line i j fit order there = record {
 
 -- ---- the whole line
 
--- what holds at each number holds of each element
-pub each_from : (P : ControllerState → Type 0) (xs : List ControllerState) (d : ControllerState)
-    → ((i : ℕ) → i < length xs → P (get_or xs i d)) → AllByRecursion P xs
-each_from P [] d at = tt
-each_from P (x ∷ xs) d at = (at 0 (omega arith), each_from P xs d (λ i below. at (suc i) (omega arith)))
-
-each_at : (P : ControllerState → Type 0) (xs : List ControllerState) (d : ControllerState) (i : ℕ)
-    → AllByRecursion P xs → i < length xs → P (get_or xs i d)
-each_at P [] d i all below = absurd (omega arith)
-each_at P (x ∷ xs) d zero all below = all.0
-each_at P (x ∷ xs) d (suc i) all below = each_at P xs d i all.1 (omega arith)
-
 apart_from : (xs : List ControllerState) (d : ControllerState)
     → ((i j : ℕ) → i < j → j < length xs → AreApart (get_or xs i d) (get_or xs j d)) → AllApart xs
 apart_from [] d at = tt
 apart_from (x ∷ xs) d at = (
-  each_from (AreApart x) xs d (λ j below. at 0 (suc j) (omega arith) (omega arith)),
+  recursion_from_All (AreApart x) xs (All-from_get_or (AreApart x) xs d (λ j below. at 0 (suc j)
+      (omega arith) (omega arith))),
   apart_from xs d (λ i j order below. at (suc i) (suc j) (omega arith) (omega arith)),
 )
 
 pub IsFitLine-fit : (line : List ControllerState) → AllByRecursion IsController line → IsFit line
     → IsFitLine line
 IsFitLine-fit line are fit = record {
-  alone = each_from IsFitAlone line no_controller
+  alone = recursion_from_All IsFitAlone line (All-from_get_or IsFitAlone line no_controller
       (λ slave there.
-      IsFitAlone-fit line slave fit there (each_at IsController line no_controller slave are there));
+      IsFitAlone-fit line slave fit there
+      (All-get_or IsController line slave no_controller there (All-from_recursion IsController line are))));
   apart = apart_from line no_controller (λ i j order there. AreApart-fit line i j fit order there);
 }

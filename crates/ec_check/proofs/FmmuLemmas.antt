@@ -8,11 +8,11 @@ use Rattle.ec_regs.specs.Pairs.{can_map, first_logical, first_physical, pair_cou
 use Rattle.ec_regs.specs.declared.fmmu.Fmmu.{Fmmu}
 use Rattle.ec_regs.specs.declared.fmmu.TheConstants.{LAST_BIT}
 use Rattle.ec_regs.specs.declared.registers.TheConstants.{MEMORY_SIZE}
-use Rattle.ec_regs.proofs.PairLemmas.{pair_count_unmapped}
+use Rattle.ec_regs.proofs.Laws.{pair_count_unmapped}
 use Rattle.ec_esc.specs.State.{ControllerState}
 use Rattle.ec_check.specs.declared.fault.MapFault.{MapFault}
 use Rattle.ec_check.specs.declared.fault.MapFault.TheVariants.{BadFmmu}
-use Rattle.ec_check.specs.declared.fmmus.TheConstants.{LOGICAL_BITS}
+use Rattle.ec_regs.specs.declared.registers.TheConstants.{LOGICAL_BITS}
 use Rattle.ec_check.specs.Order.{BeginsWith}
 use Rattle.ec_check.specs.Rules.{IsGoodFmmu, IsBadFmmu}
 use Rattle.ec_check.specs.Runs.{is_good}

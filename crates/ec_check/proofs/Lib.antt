@@ -11,3 +11,4 @@ pub mod FmmuLemmas
 pub mod OutsideLemmas
 pub mod FitLemmas
 pub mod FactLemmas
+pub mod Laws

@@ -15,7 +15,7 @@ use Rattle.ec_regs.specs.SyncMan.{has_area_length, is_in_process_memory}
 use Rattle.ec_esc.specs.State.{ControllerState}
 use Rattle.ec_check.specs.declared.fault.MapFault.{MapFault}
 use Rattle.ec_check.specs.declared.fault.MapFault.TheVariants.{AreasMeet, OutsideArea}
-use Rattle.ec_check.specs.declared.outside.TheConstants.{MAIL_STATUS}
+use Rattle.ec_regs.specs.declared.registers.TheConstants.{ANSWER_MAILBOX_STATUS}
 use Rattle.ec_check.specs.Order.{BeginsWith}
 use Rattle.ec_check.specs.Line.{fmmu_of, sync_manager_of, HasFmmu}
 use Rattle.ec_check.specs.Rules.{Area, Holds, HoldsAllOf, suits, IsGuarded, IsMailStatus, IsAreaFor}
@@ -155,7 +155,7 @@ guarded_past_mail line slave address f a b in_a in_b holds_a holds_b =
     let from_a : a.from ≤ address = holds_a.from in
     let to_b : address < b.to = holds_b.to in
     let begin_a : a.from ≡ (sync_manager_of line slave in_a.number).start = in_a.from in
-    let end_b : b.to ≡ MAIL_STATUS + 1 = in_b.to in
+    let end_b : b.to ≡ ANSWER_MAILBOX_STATUS + 1 = in_b.to in
     let process : PROCESS_MEMORY ≤ (sync_manager_of line slave in_a.number).start =
     is_active-from _ (suits-active _ f in_a.suitable) in
     omega arith
@@ -230,13 +230,13 @@ IsAreaEnd-holds line slave number f some there holds =
 -- the byte that tells of waiting mail
 pub IsAreaEnd-mail : (line : List ControllerState) (slave : ℕ) (f : Fmmu) → 1 ≤ pair_count f
     → begins_at_mail_status f ≡ true
-    → IsAreaEnd line slave f (MAIL_STATUS + 1)
+    → IsAreaEnd line slave f (ANSWER_MAILBOX_STATUS + 1)
 IsAreaEnd-mail line slave f some begins =
-    let parts = and_parts (reads f) (eqb f.physical MAIL_STATUS) begins in
+    let parts = and_parts (reads f) (eqb f.physical ANSWER_MAILBOX_STATUS) begins in
     let first : first_physical f / 8 ≡ f.physical = first_byte-some f some in
-    let at : f.physical ≡ MAIL_STATUS = eqb-true f.physical MAIL_STATUS parts.1 in
+    let at : f.physical ≡ ANSWER_MAILBOX_STATUS = eqb-true f.physical ANSWER_MAILBOX_STATUS parts.1 in
     record {
-      area = record { from = MAIL_STATUS; to = MAIL_STATUS + 1 };
+      area = record { from = ANSWER_MAILBOX_STATUS; to = ANSWER_MAILBOX_STATUS + 1 };
       suitable = inr (record { for_reading = parts.0; from = refl; to = refl });
       holds = record { from = omega arith; to = omega arith };
       behind = refl;
@@ -262,11 +262,11 @@ HasNoArea-none line slave f some none no_mail area (inr mail) holds =
     let first : first_physical f / 8 ≡ f.physical = first_byte-some f some in
     let from : area.from ≤ first_physical f / 8 = holds.from in
     let to : first_physical f / 8 < area.to = holds.to in
-    let begin : area.from ≡ MAIL_STATUS = mail.from in
-    let end : area.to ≡ MAIL_STATUS + 1 = mail.to in
+    let begin : area.from ≡ ANSWER_MAILBOX_STATUS = mail.from in
+    let end : area.to ≡ ANSWER_MAILBOX_STATUS + 1 = mail.to in
     both_ways (begins_at_mail_status f) no_mail
-    (and_from (reads f) (eqb f.physical MAIL_STATUS) mail.for_reading
-    (eq-eqb f.physical MAIL_STATUS (omega arith)))
+    (and_from (reads f) (eqb f.physical ANSWER_MAILBOX_STATUS) mail.for_reading
+    (eq-eqb f.physical ANSWER_MAILBOX_STATUS (omega arith)))
 
 -- ---- what is answered for it
 

@@ -12,9 +12,9 @@ use Rattle.ec_regs.specs.declared.sync_man.SyncMan.{SyncMan}
 use Rattle.ec_regs.specs.declared.registers.TheConstants.{MEMORY_SIZE}
 use Rattle.ec_regs.specs.SyncMan.{is_active}
 use Rattle.ec_regs.specs.SyncMan.{is_buffered, master_reads, master_writes}
-use Rattle.ec_check.specs.declared.fmmus.TheConstants.{LOGICAL_BITS}
+use Rattle.ec_regs.specs.declared.registers.TheConstants.{LOGICAL_BITS}
 use Rattle.ec_esc.specs.State.{ControllerState}
-use Rattle.ec_check.specs.declared.outside.TheConstants.{MAIL_STATUS}
+use Rattle.ec_regs.specs.declared.registers.TheConstants.{ANSWER_MAILBOX_STATUS}
 use Rattle.ec_check.specs.Line.{station_of, fmmu_of, sync_manager_of, HasFmmu}
 use Rattle.ec_check.specs.Order.{IsBefore}
 
@@ -121,8 +121,8 @@ pub record IsGuarded (line : List ControllerState) (slave : ℕ) (f : Fmmu) (are
 -- it is the one register that a mapped FMMU may read, the byte that tells of waiting mail
 pub record IsMailStatus (f : Fmmu) (area : Area) : Type 0 where
   pub for_reading : reads f ≡ true
-  pub from : area.from ≡ MAIL_STATUS
-  pub to : area.to ≡ MAIL_STATUS + 1
+  pub from : area.from ≡ ANSWER_MAILBOX_STATUS
+  pub to : area.to ≡ ANSWER_MAILBOX_STATUS + 1
 
 -- it is an area of the FMMU's kind
 abbrev pub IsAreaFor : List ControllerState → ℕ → Fmmu → Area → Type 0

@@ -8,9 +8,10 @@ ghost use Rattle.ec_check.specs.Rules.{IsInArea};
 ghost use Rattle.ec_check.specs.Search.{Answers};
 
 use crate::fault::MapFault;
-use crate::line::{SYNC_MANAGERS, sync_manager_of};
+use crate::line::sync_manager_of;
 use ec_app::Slave;
 use ec_regs::SyncMan;
+use ec_regs::registers::SYNC_MANAGER_COUNT;
 
 /// Areas of all slaves.
 pub(crate) fn meeting_areas(line: &[Slave]) -> Result<(), MapFault>
@@ -27,7 +28,7 @@ fn areas_of(line: &[Slave], slave: usize) -> Result<(), MapFault>
     requires { slave < length line.now }
     ensures { Answers (3 ∷ slave ∷ []) (controllers line.now) result }
 {
-    for number in 0..SYNC_MANAGERS {
+    for number in 0..SYNC_MANAGER_COUNT {
         areas_met_by(line, slave, number)?;
     }
     Ok(())
@@ -39,7 +40,7 @@ fn areas_met_by(line: &[Slave], slave: usize, number: usize) -> Result<(), MapFa
     requires number { number < 8 }
     ensures { Answers (3 ∷ slave ∷ number ∷ []) (controllers line.now) result }
 {
-    for later_number in number + 1..SYNC_MANAGERS {
+    for later_number in number + 1..SYNC_MANAGER_COUNT {
         compare_areas(line, slave, number, later_number)?;
     }
     Ok(())

@@ -47,6 +47,7 @@ fn are_controllers(line: &[Slave])
     ensures { AllByRecursion IsController (controllers line.now) }
 {
     for slave in 0..line.len() {
+        // For the prover: one whose station is read is a controller.
         let _station = line[slave].controller().station();
     }
 }

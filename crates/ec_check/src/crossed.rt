@@ -6,9 +6,10 @@ ghost use Rattle.ec_check.specs.Line.{controllers, HasFmmu, StandsOn};
 ghost use Rattle.ec_check.specs.Search.{Answers};
 
 use crate::fault::MapFault;
-use crate::line::{FMMUS, Standing, fmmu_of, standing_at};
+use crate::line::{Standing, fmmu_of, standing_at};
 use crate::runs::lowest_shared_logical;
 use ec_app::Slave;
+use ec_regs::registers::FMMU_COUNT;
 
 /// FMMUs that read, of all slaves.
 pub(crate) fn bits_read_and_written(line: &[Slave]) -> Result<(), MapFault>
@@ -25,7 +26,7 @@ fn written_elsewhere(line: &[Slave], reader: usize) -> Result<(), MapFault>
     requires { reader < length line.now }
     ensures { Answers (7 ∷ reader ∷ []) (controllers line.now) result }
 {
-    for reader_fmmu in 0..FMMUS {
+    for reader_fmmu in 0..FMMU_COUNT {
         written_by_others(line, &standing_at(line, reader, reader_fmmu))?;
     }
     Ok(())
@@ -56,7 +57,7 @@ fn written_by(line: &[Slave], reader: &Standing, writer: usize) -> Result<(), Ma
     if writer == reader.slave {
         return Ok(());
     }
-    for writer_fmmu in 0..FMMUS {
+    for writer_fmmu in 0..FMMU_COUNT {
         compare_crossed(line, reader, writer, writer_fmmu)?;
     }
     Ok(())

@@ -19,9 +19,9 @@ pub enum MapFault {
     /// bit past the logical range or the memory.
     #[error("BadFmmu slave {slave} fmmu {fmmu}")]
     BadFmmu {
-        /// Its slave.
+        /// The slave on which the FMMU stands.
         slave: usize,
-        /// Its number.
+        /// The number of the FMMU.
         fmmu: usize,
     },
     /// Two active areas of a slave share a byte.
@@ -39,11 +39,12 @@ pub enum MapFault {
     /// An FMMU does not lie in one area of its kind.
     #[error("OutsideArea slave {slave} fmmu {fmmu} address {address:#06x}")]
     OutsideArea {
-        /// Its slave.
+        /// The slave on which the FMMU stands.
         slave: usize,
-        /// Its number.
+        /// The number of the FMMU.
         fmmu: usize,
-        /// Its first byte if no area of its kind holds that, else the first byte after the area that does.
+        /// The FMMU's first byte if no area of its kind holds that, else the first byte after the area that
+        /// does.
         address: u16,
     },
     /// Two FMMUs of a slave write one physical bit.

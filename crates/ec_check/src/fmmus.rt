@@ -6,22 +6,13 @@ ghost use Rattle.ec_check.specs.Search.{Answers};
 ghost use Rattle.ec_check.specs.Runs.{is_good};
 
 use crate::fault::MapFault;
-use crate::line::{FMMUS, fmmu_of};
+use crate::line::fmmu_of;
 use ec_app::Slave;
-use ec_regs::registers::MEMORY_SIZE;
-use ec_regs::{Fmmu, FmmuType};
-
-/// How many logical bits there are: eight for each 32-bit address.
-const LOGICAL_BITS: u64 = 8 * 0x1_0000_0000;
+use ec_regs::Fmmu;
+use ec_regs::registers::{FMMU_COUNT, LOGICAL_BITS, MEMORY_SIZE};
 
 /// How many bits the memory has.
 const MEMORY_BITS: u32 = 8 * MEMORY_SIZE as u32;
-
-/// The type of an FMMU for reading.
-const READ: u8 = 1;
-
-/// The type of an FMMU for writing.
-const WRITE: u8 = 2;
 
 /// Bad FMMUs of all slaves.
 pub(crate) fn bad_fmmus(line: &[Slave]) -> Result<(), MapFault>
@@ -38,7 +29,7 @@ fn bad_fmmus_of(line: &[Slave], slave: usize) -> Result<(), MapFault>
     requires { slave < length line.now }
     ensures { Answers (2 ∷ slave ∷ []) (controllers line.now) result }
 {
-    for fmmu in 0..FMMUS {
+    for fmmu in 0..FMMU_COUNT {
         test_fmmu(line, slave, fmmu)?;
     }
     Ok(())
@@ -66,7 +57,7 @@ fn is_good(fmmu: &Fmmu) -> bool
     ensures { result ≡ is_good fmmu.now }
 {
     let bits = fmmu.mapped_bits();
-    (fmmu.kind == READ || fmmu.kind == WRITE)
+    fmmu.has_one_type()
         && bits >= 1
         && fmmu.first_logical() + u64::from(bits) <= LOGICAL_BITS
         && fmmu.first_physical() + bits <= MEMORY_BITS

@@ -49,4 +49,3 @@ mod twice_written;
 pub use checker::check;
 pub use facts::fit_line;
 pub use fault::MapFault;
-pub use outside::MAIL_STATUS;

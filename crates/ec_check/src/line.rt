@@ -4,21 +4,14 @@ ghost use Rattle.std.specs.Prelude.{◌≡◌, ◌<◌, length};
 ghost use Rattle.ec_check.specs.Line.{controllers, station_of, fmmu_of, sync_manager_of, StandsOn};
 
 use ec_app::Slave;
-use ec_regs::registers::{FMMU_COUNT, SYNC_MANAGER_COUNT};
 use ec_regs::{Fmmu, SyncMan};
-
-/// How many FMMUs a slave has.
-pub(crate) const FMMUS: usize = FMMU_COUNT as usize;
-
-/// How many sync managers a slave has.
-pub(crate) const SYNC_MANAGERS: usize = SYNC_MANAGER_COUNT as usize;
 
 /// An FMMU, with the slave and the number under which it stands on a line.
 #[derive(Clone, Copy, Debug, PartialEq, Eq)]
 pub(crate) struct Standing {
-    /// Its slave.
+    /// The slave on which the FMMU stands.
     pub(crate) slave: usize,
-    /// Its number, below `FMMUS`.
+    /// The number of the FMMU, below `FMMU_COUNT`.
     pub(crate) number: usize,
     /// The FMMU.
     pub(crate) record: Fmmu,

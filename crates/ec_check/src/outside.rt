@@ -9,13 +9,10 @@ ghost use Rattle.ec_regs.specs.declared.registers.TheConstants.{MEMORY_SIZE};
 ghost use Rattle.ec_check.specs.Search.{Answers, HasNone};
 
 use crate::fault::MapFault;
-use crate::line::{FMMUS, SYNC_MANAGERS, fmmu_of, sync_manager_of};
+use crate::line::{fmmu_of, sync_manager_of};
 use ec_app::Slave;
+use ec_regs::registers::{ANSWER_MAILBOX_STATUS, FMMU_COUNT, SYNC_MANAGER_COUNT};
 use ec_regs::{Fmmu, SyncMan};
-
-/// The one register that a mapped FMMU may read: the status byte of sync manager 1, the mailbox that the
-/// master reads. Its bit 3 tells that mail waits.
-pub const MAIL_STATUS: u16 = 0x080D;
 
 /// FMMUs of all slaves. No two areas of a slave share a byte.
 pub(crate) fn fmmus_outside(line: &[Slave]) -> Result<(), MapFault>
@@ -34,7 +31,7 @@ fn outside_of(line: &[Slave], slave: usize) -> Result<(), MapFault>
     requires areas { HasNone (3 ∷ []) (controllers line.now) }
     ensures { Answers (4 ∷ slave ∷ []) (controllers line.now) result }
 {
-    for fmmu in 0..FMMUS {
+    for fmmu in 0..FMMU_COUNT {
         place_fmmu(line, slave, fmmu)?;
     }
     Ok(())
@@ -82,14 +79,14 @@ fn end_of_area(line: &[Slave], slave: usize, fmmu: &Fmmu) -> Option<u16>
     ensures { MatchOption result (HasNoArea (controllers line.now) slave fmmu.now)
         (IsAreaEnd (controllers line.now) slave fmmu.now) }
 {
-    for number in 0..SYNC_MANAGERS {
+    for number in 0..SYNC_MANAGER_COUNT {
         let manager = sync_manager_of(line, slave, number);
         if holds_first_byte(&manager, fmmu) {
             return Some(manager.start + manager.length);
         }
     }
     if begins_at_mail_status(fmmu) {
-        return Some(MAIL_STATUS + 1);
+        return Some(ANSWER_MAILBOX_STATUS + 1);
     }
     None
 }
@@ -108,7 +105,7 @@ fn holds_first_byte(manager: &SyncMan, fmmu: &Fmmu) -> bool
 fn begins_at_mail_status(fmmu: &Fmmu) -> bool
     ensures { result ≡ begins_at_mail_status fmmu.now }
 {
-    fmmu.reads() && fmmu.physical == MAIL_STATUS
+    fmmu.reads() && fmmu.physical == ANSWER_MAILBOX_STATUS
 }
 
 /// Does the sync manager guard an area of the FMMU's kind: active, buffered, and of its direction?

@@ -7,9 +7,10 @@ ghost use Rattle.ec_check.specs.Order.{IsBefore};
 ghost use Rattle.ec_check.specs.Search.{Answers};
 
 use crate::fault::MapFault;
-use crate::line::{FMMUS, Standing, fmmu_of, standing_at};
+use crate::line::{Standing, fmmu_of, standing_at};
 use crate::runs::lowest_shared_logical;
 use ec_app::Slave;
+use ec_regs::registers::FMMU_COUNT;
 
 /// FMMUs of all slaves.
 pub(crate) fn bits_read_twice(line: &[Slave]) -> Result<(), MapFault>
@@ -26,7 +27,7 @@ fn read_twice_by(line: &[Slave], slave: usize) -> Result<(), MapFault>
     requires { slave < length line.now }
     ensures { Answers (6 ∷ slave ∷ []) (controllers line.now) result }
 {
-    for fmmu in 0..FMMUS {
+    for fmmu in 0..FMMU_COUNT {
         read_again(line, &standing_at(line, slave, fmmu))?;
     }
     Ok(())
@@ -55,7 +56,7 @@ fn read_again_by(line: &[Slave], first: &Standing, later_slave: usize) -> Result
     ensures { Answers (6 ∷ first.now.slave ∷ first.now.number ∷ later_slave ∷ [])
         (controllers line.now) result }
 {
-    for later_fmmu in first_after(first, later_slave)..FMMUS {
+    for later_fmmu in first_after(first, later_slave)..FMMU_COUNT {
         compare_read(line, first, later_slave, later_fmmu)?;
     }
     Ok(())

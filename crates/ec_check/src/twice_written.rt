@@ -5,9 +5,10 @@ ghost use Rattle.ec_check.specs.Line.{controllers};
 ghost use Rattle.ec_check.specs.Search.{Answers};
 
 use crate::fault::MapFault;
-use crate::line::{FMMUS, fmmu_of};
+use crate::line::fmmu_of;
 use crate::runs::lowest_shared_physical;
 use ec_app::Slave;
+use ec_regs::registers::FMMU_COUNT;
 
 /// FMMUs of all slaves.
 pub(crate) fn bits_written_twice(line: &[Slave]) -> Result<(), MapFault>
@@ -24,7 +25,7 @@ fn written_twice_in(line: &[Slave], slave: usize) -> Result<(), MapFault>
     requires { slave < length line.now }
     ensures { Answers (5 ∷ slave ∷ []) (controllers line.now) result }
 {
-    for fmmu in 0..FMMUS {
+    for fmmu in 0..FMMU_COUNT {
         written_again(line, slave, fmmu)?;
     }
     Ok(())
@@ -36,7 +37,7 @@ fn written_again(line: &[Slave], slave: usize, fmmu: usize) -> Result<(), MapFau
     requires fmmu { fmmu < 8 }
     ensures { Answers (5 ∷ slave ∷ fmmu ∷ []) (controllers line.now) result }
 {
-    for later_fmmu in fmmu + 1..FMMUS {
+    for later_fmmu in fmmu + 1..FMMU_COUNT {
         compare_written(line, slave, fmmu, later_fmmu)?;
     }
     Ok(())

@@ -1,5 +1,5 @@
 -- What the application finds after it wrote: runs of the memory, AL status, and the status byte of a mailbox.
-use Rattle.std.proofs.Common.{◌≡◌, ℕ, ◌+◌, ◌-◌, ◌*◌, ◌/◌, ◌%◌, ◌^◌, ◌<◌, ◌≤◌, true, List, [], ◌∷◌, ◌++◌}
+use Rattle.std.proofs.Common.{◌≡◌, ℕ, ◌+◌, ◌-◌, ◌/◌, ◌%◌, ◌^◌, ◌<◌, ◌≤◌, true, List, [], ◌∷◌, ◌++◌}
 use Rattle.std.proofs.Common.{length, get_or, take, drop, ◌∙◌, ap, arith, length-append}
 use Rattle.std.specs.Prelude.{replicate}
 use Rattle.std.specs.Int.{w16, to_le_bytes}
@@ -12,12 +12,11 @@ use Rattle.ec_regs.specs.Al.{status_byte, status_of}
 use Rattle.ec_regs.specs.declared.al.AlStatus.{AlStatus}
 use Rattle.ec_regs.specs.declared.registers.TheConstants.{AL_STATUS, AL_STATUS_CODE, MEMORY_SIZE}
 use Rattle.ec_regs.specs.declared.sync_man.SyncMan.{SyncMan}
-use Rattle.ec_regs.proofs.AlLemmas.{status_of-status_byte}
 use Rattle.ec_esc.specs.Application.{with_al, al_status, al_status_code, mail_area}
 use Rattle.ec_regs.specs.SyncMan.{is_active, is_mailbox}
-use Rattle.ec_areas.specs.Records.{sync_manager_at}
+use Rattle.ec_regs.proofs.Laws.{status_of-status_byte}
 use Rattle.ec_esc.specs.State.{ControllerState, with_run}
-use Rattle.ec_areas.specs.Ranges.{status_address}
+use Rattle.ec_regs.specs.SyncMan.{status_address}
 
 -- ---- a run of a list replaced
 
@@ -109,12 +108,6 @@ al_status_code-with_al c status code size small =
 pub mailbox_length-le : (s : SyncMan) → is_active s ≡ true → is_mailbox s ≡ true → s.length ≤ 128
 unfolding is_active
 mailbox_length-le s active mailbox = grind (arith, nat_tests)
-
--- the status of a sync manager stands in the memory
-sync_manager_at-status : (m : List ℕ) (i : ℕ) → (sync_manager_at m i).status ≡ get_or m (status_address i) 0
-unfolding sync_manager_at
-sync_manager_at-status m i = get_or-take 8 (drop (2048 + 8 * i) m) 5 0 (omega arith)
-    ∙ get_or-drop (2048 + 8 * i) m 5 0
 
 -- a mail and zeros up to the longest length begin with the mail as it fills its area
 pub take-padded : (s : SyncMan) (mail : List ℕ) → length mail ≤ s.length → s.length ≤ 128

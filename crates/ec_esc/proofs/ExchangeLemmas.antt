@@ -4,12 +4,12 @@ use Rattle.ec_regs.specs.Bits.{AreBytes, placed_bit, with_bits}
 use Rattle.ec_regs.specs.declared.fmmu.Fmmu.{Fmmu}
 use Rattle.ec_regs.specs.declared.registers.TheConstants.{MEMORY_SIZE}
 use Rattle.ec_regs.specs.declared.sync_man.SyncMan.{SyncMan}
-use Rattle.ec_regs.proofs.BitLemmas.{bit-with_bits_kept, with_bits_same_bits}
+use Rattle.ec_regs.proofs.Laws.{bit-with_bits_kept, with_bits_same_bits}
 use Rattle.ec_areas.specs.Apart.{are_apart}
 use Rattle.ec_areas.specs.Logical.{read_places, names}
 use Rattle.ec_areas.specs.Records.{fmmus_of, sync_managers_of}
-use Rattle.ec_areas.proofs.ApartLemmas.{unwritten}
-use Rattle.ec_areas.proofs.RecordLemmas.{SameRegisters, fmmus_same, sync_managers_same}
+use Rattle.ec_areas.specs.Records.{SameRegisters}
+use Rattle.ec_areas.proofs.Laws.{unwritten, fmmus_same, sync_managers_same}
 use Rattle.ec_esc.specs.Pass.{read_sources, write_sources, serves_read}
 use Rattle.ec_esc.specs.State.{ControllerState}
 use Rattle.ec_esc.proofs.PlannedLemmas.{registers_stay}

@@ -3,7 +3,8 @@ use Rattle.std.proofs.Common.{◌≡◌, ℕ, ◌+◌, ◌*◌, ◌/◌, ◌<◌
 use Rattle.std.proofs.Common.{◌||◌, cond, eqb, leb, ltb, List, [], ◌∷◌, length, get_or}
 use Rattle.std.proofs.Common.{Option, None, ◌∙◌, ap, refl, arith, ⊎_elim}
 use Rattle.std.proofs.Math.Path.{fun_ext}
-use Rattle.std.proofs.lemmas.Bool.{cases_Bool}
+use Rattle.std.proofs.Math.Bool.{and-false, or-false}
+use Rattle.std.proofs.lemmas.Bool.{and_parts, cases_Bool}
 use Rattle.std.proofs.lemmas.Bool.Decides.{nat_tests}
 use Rattle.std.proofs.lemmas.List.{ext_get_or}
 use Rattle.std.proofs.lemmas.List.FromFn.{length-map-range_with_len, get_or-map-range_with_len}
@@ -12,19 +13,16 @@ use Rattle.ec_regs.specs.Bits.{AreBytes, with_bits}
 use Rattle.ec_regs.specs.SyncMan.{is_active, is_buffered, master_writes}
 use Rattle.ec_regs.specs.declared.sync_man.SyncMan.{SyncMan}
 use Rattle.ec_regs.specs.declared.registers.TheConstants.{MEMORY_SIZE, PROCESS_MEMORY, AL_CONTROL}
-use Rattle.ec_regs.proofs.BitLemmas.{length-with_bits, with_bits_none}
+use Rattle.ec_regs.proofs.Laws.{length-with_bits, with_bits_none, get_or-with_bits_kept}
 use Rattle.ec_areas.specs.Ranges.{is_in_sync_manager, sync_manager_number, sync_manager_offset}
 use Rattle.ec_areas.specs.Records.{sync_manager_at, sync_managers_of}
-use Rattle.ec_areas.proofs.LogicalLemmas.{both}
-use Rattle.ec_areas.proofs.MapLemmas.{names_nowhere}
-use Rattle.ec_areas.proofs.RecordLemmas.{SameRegisters, sync_manager_same, sync_managers_same}
-use Rattle.ec_areas.proofs.RunLemmas.{get_or-with_bits_kept}
+use Rattle.ec_areas.specs.Records.{SameRegisters}
+use Rattle.ec_areas.proofs.Laws.{names_nowhere, sync_manager_same, sync_managers_same}
 use Rattle.ec_esc.specs.State.{ControllerState, IsController}
 use Rattle.ec_esc.specs.Writing.{is_switched, settled, settled_byte, hands_over, is_shown_anew, shown_byte}
 use Rattle.ec_esc.specs.Writing.{shown_after}
 use Rattle.ec_esc.specs.Writing.{with_filled}
 use Rattle.ec_esc.specs.Pass.{Half, touches, nothing, written_by}
-use Rattle.ec_esc.proofs.SettledLemmas.{and_false}
 
 -- ---- what a write leaves that writes no register
 
@@ -45,7 +43,7 @@ switched_same before after i same below =
 -- a byte of a sync manager's record is that of one of eight
 number_below : (a : ℕ) → is_in_sync_manager a ≡ true → sync_manager_number a < 8
 number_below a inside =
-    let parts = both (leb 2048 a) (ltb a 2112) inside in
+    let parts = and_parts (leb 2048 a) (ltb a 2112) inside in
     let high : ltb a 2112 ≡ true = parts.1 in
     grind (arith, nat_tests)
 
@@ -61,7 +59,7 @@ settled_same before after same =
     (λ (register : is_in_sync_manager a ≡ true).
     rw (
       switched_same before after (sync_manager_number a) same (number_below a register),
-      and_false
+      and-false
           (is_in_sync_manager a && eqb (sync_manager_offset a) 5),
     ) refl)
     (λ (elsewhere : is_in_sync_manager a ≡ false). rw elsewhere refl)
@@ -82,7 +80,7 @@ shown_after_same f g befores afters memory shown same =
 hands_over_nothing : (s : SyncMan) → hands_over (λ _. false) s s ≡ false
 hands_over_nothing s =
     ⊎_elim
-    (λ (active : is_active s ≡ true). rw (active, and_false (is_buffered s && master_writes s)) refl)
+    (λ (active : is_active s ≡ true). rw (active, and-false (is_buffered s && master_writes s)) refl)
     (λ (inactive : is_active s ≡ false). rw inactive refl)
     (cases_Bool (is_active s))
 
@@ -106,11 +104,6 @@ shown_after_nothing managers memory shown =
     ∙ rw (shown_anew_nothing managers (4096 + k)) refl)
 
 -- ---- halves that do nothing
-
--- a flag or false is the flag
-pub or_nothing : (b : Bool) → (b || false) ≡ b
-or_nothing true = refl
-or_nothing false = refl
 
 -- a memory has its own registers
 same_registers : (c : ControllerState) → length c.memory ≡ MEMORY_SIZE → SameRegisters c.memory c.memory
@@ -137,7 +130,7 @@ written_by_nothing c payload are size =
     shown_after_same (touches (λ _. None)) (λ _. false) managers managers c.memory c.shown untouched
     ∙ shown_after_nothing managers c.memory c.shown in
     let mark : (c.written || touches (λ _. None) AL_CONTROL) ≡ c.written =
-    ap (λ b. c.written || b) (untouched AL_CONTROL) ∙ or_nothing c.written in
+    ap (λ b. c.written || b) (untouched AL_CONTROL) ∙ or-false c.written in
     ap F steady
     ∙ ap (λ (s : List ℕ). record {
       memory = c.memory;
@@ -193,4 +186,4 @@ written_plain c half payload controller no_mail none =
     (settled c.memory memory)) touched) no_mail
     ∙ ap (λ (m : List ℕ). F None m (sync_managers_of m) touched) (settled_same c.memory memory same)
     ∙ ap (λ (ms : List SyncMan). F None memory ms touched) (sync_managers_same c.memory memory same)
-    ∙ ap (F None memory managers) (ap (λ b. c.written || b) mark ∙ or_nothing c.written)
+    ∙ ap (F None memory managers) (ap (λ b. c.written || b) mark ∙ or-false c.written)

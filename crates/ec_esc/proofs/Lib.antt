@@ -9,3 +9,4 @@ pub mod IdleLemmas
 pub mod ServedLemmas
 pub mod PlannedLemmas
 pub mod ExchangeLemmas
+pub mod Laws

@@ -10,7 +10,8 @@ use Rattle.std.proofs.Math.Seq.{set-append_seam, get_or-append_seam}
 use Rattle.ec_wire.specs.Command.{addressing, reads, writes, counts_adp}
 use Rattle.ec_wire.specs.Datagram.{DatagramRecord, adp, ado, ado_of, nth, blank}
 use Rattle.ec_wire.specs.declared.command.Addressing.{Addressing}
-use Rattle.ec_wire.specs.declared.command.Addressing.TheVariants.{Nobody, Place, Station, All, Logical}
+use Rattle.ec_wire.specs.declared.command.Addressing.TheVariants.{Nobody, AutoIncrement}
+use Rattle.ec_wire.specs.declared.command.Addressing.TheVariants.{ConfiguredStation, All, Logical}
 use Rattle.ec_wire.specs.declared.command.Command.{Command}
 use Rattle.ec_wire.specs.declared.command.Command.TheVariants.{Nop, Aprd, Apwr, Aprw, Fprd, Fpwr, Fprw, Bwr}
 use Rattle.ec_wire.specs.declared.command.Command.TheVariants.{Brw, Armw, Frmw}
@@ -44,8 +45,8 @@ unread : (r : Bool) (a : Addressing) (c : ControllerState) (address count : ℕ)
     → is_addressed a c address ≡ false → where_served r (read_half a c address count) ≡ nothing
 unread false a c address count others = refl
 unread true Nobody c address count others = refl
-unread true Place c address count others = rw others refl
-unread true Station c address count others = rw others refl
+unread true AutoIncrement c address count others = rw others refl
+unread true ConfiguredStation c address count others = rw others refl
 unread true All c address count others = absurd (false≢true (sym others))
 unread true Logical c address count others = absurd (false≢true (sym others))
 
@@ -53,8 +54,8 @@ untaken : (w : Bool) (a : Addressing) (n : ℕ) (c : ControllerState) (address c
     → is_addressed a c address ≡ false → where_served w (write_half a n c address count) ≡ nothing
 untaken false a n c address count others = refl
 untaken true Nobody n c address count others = refl
-untaken true Place n c address count others = rw others refl
-untaken true Station n c address count others = rw others refl
+untaken true AutoIncrement n c address count others = rw others refl
+untaken true ConfiguredStation n c address count others = rw others refl
 untaken true All n c address count others = absurd (false≢true (sym others))
 untaken true Logical n c address count others = absurd (false≢true (sym others))
 

@@ -1,8 +1,9 @@
 -- Records that are kept decoded: which of them stay when bytes of a memory change.
-use Rattle.std.proofs.Common.{◌≡◌, ℕ, zero, suc, ◌+◌, ◌*◌, ◌/◌, ◌%◌, ◌<◌, ◌≤◌, false, ◌&&◌, ltb, List, []}
+use Rattle.std.proofs.Common.{◌≡◌, ℕ, ◌+◌, ◌*◌, ◌/◌, ◌%◌, ◌<◌, ◌≤◌, false, ◌&&◌, ltb, List, []}
 use Rattle.std.proofs.Common.{◌∷◌, length}
 use Rattle.std.proofs.Common.{get_or, set, take, drop, sym, ◌∙◌, ap, refl, arith, ⊎_elim, below_more}
 use Rattle.std.proofs.Common.{get_or-set_same, get_or-set_other}
+use Rattle.std.proofs.Math.Bool.{and-false}
 use Rattle.std.proofs.lemmas.Bool.{and_cases, le-ltb, ltb-false}
 use Rattle.std.proofs.lemmas.List.{ext_get_or, length-take-le, length-drop}
 use Rattle.std.specs.Option.{is_some}
@@ -14,18 +15,16 @@ use Rattle.ec_regs.specs.declared.al.AlStatus.{AlStatus}
 use Rattle.ec_regs.specs.declared.fmmu.Fmmu.{Fmmu}
 use Rattle.ec_regs.specs.declared.registers.TheConstants.{AL_STATUS, MEMORY_SIZE}
 use Rattle.ec_regs.specs.declared.sync_man.SyncMan.{SyncMan}
-use Rattle.ec_regs.proofs.BitLemmas.{length-with_bits}
-use Rattle.ec_regs.proofs.AlLemmas.{state_of-status_byte}
+use Rattle.ec_regs.proofs.Laws.{length-with_bits, state_of-status_byte, get_or-run}
+use Rattle.ec_regs.proofs.Laws.{get_or-with_bits_kept}
 use Rattle.ec_areas.specs.Logical.{write_map}
 use Rattle.ec_areas.specs.Ranges.{takes_writes}
 use Rattle.ec_areas.specs.Records.{fmmu_at, fmmus_of, sync_manager_at, sync_managers_of}
-use Rattle.ec_areas.proofs.RangeLemmas.{get_or-sync_managers_of}
-use Rattle.ec_areas.proofs.MapLemmas.{write_map_register}
-use Rattle.ec_areas.proofs.RecordLemmas.{SameRegisters}
-use Rattle.ec_areas.proofs.RunLemmas.{get_or-run, get_or-with_bits_kept}
+use Rattle.ec_areas.specs.Records.{SameRegisters}
+use Rattle.ec_areas.proofs.Laws.{get_or-sync_managers_of, write_map_register, get_or-fmmus_of}
+use Rattle.ec_areas.proofs.Laws.{length-fmmus_of, length-sync_managers_of}
 use Rattle.ec_esc.specs.Planned.{ChangesWithin}
 use Rattle.ec_esc.specs.State.{NamesState, with_run}
-use Rattle.ec_esc.proofs.SettledLemmas.{and_false}
 use Rattle.ec_esc.proofs.ApplicationLemmas.{length-with_run, get_or-with_run_before, get_or-with_run_behind}
 use Rattle.ec_esc.proofs.ApplicationLemmas.{get_or-with_run_inside}
 
@@ -117,7 +116,7 @@ apart_within from n at size all ends base begins apart =
     rw (le-ltb at (from + n) (omega arith)) refl)
     (λ (front : ltb from all ≡ false).
     let starts : all ≤ from = ltb-false from all front in
-    rw (le-ltb from (at + size) (omega arith)) (and_false (ltb at (from + n))))
+    rw (le-ltb from (at + size) (omega arith)) (and-false (ltb at (from + n))))
     (and_cases (ltb base (from + n)) (ltb from all) apart)
 
 -- ---- records are decoded anew one after the other
@@ -154,29 +153,6 @@ renewed_kept {T} n old new now so_far same = record {
 }
 
 -- ---- all eight of them
-
--- the FMMU with a number is the element there
-pub get_or-fmmus_of : (memory : List ℕ) (d : Fmmu) (i : ℕ) → i < 8 → get_or (fmmus_of memory) i d
-    ≡ fmmu_at memory i
-unfolding fmmus_of
-get_or-fmmus_of memory d zero below = refl
-get_or-fmmus_of memory d (suc zero) below = refl
-get_or-fmmus_of memory d (suc (suc zero)) below = refl
-get_or-fmmus_of memory d (suc (suc (suc zero))) below = refl
-get_or-fmmus_of memory d (suc (suc (suc (suc zero)))) below = refl
-get_or-fmmus_of memory d (suc (suc (suc (suc (suc zero))))) below = refl
-get_or-fmmus_of memory d (suc (suc (suc (suc (suc (suc zero)))))) below = refl
-get_or-fmmus_of memory d (suc (suc (suc (suc (suc (suc (suc zero))))))) below = refl
-get_or-fmmus_of memory d (suc (suc (suc (suc (suc (suc (suc (suc i)))))))) below = absurd (omega arith)
-
--- there are eight
-length-fmmus_of : (memory : List ℕ) → length (fmmus_of memory) ≡ 8
-unfolding fmmus_of
-length-fmmus_of memory = refl
-
-length-sync_managers_of : (memory : List ℕ) → length (sync_managers_of memory) ≡ 8
-unfolding sync_managers_of
-length-sync_managers_of memory = refl
 
 -- FMMUs of which all are decoded anew are those of the memory
 pub fmmus_renewed : (old new : List Fmmu) (memory : List ℕ) → RenewedTo 8 old new (fmmu_at memory)

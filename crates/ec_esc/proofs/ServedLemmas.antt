@@ -5,19 +5,20 @@ use Rattle.std.proofs.Common.{◌||◌, cond, List, length, set, Option, None, S
 use Rattle.std.proofs.Common.{arith, ⊎_elim}
 use Rattle.std.proofs.Math.Path.{fun_ext}
 use Rattle.std.specs.Option.{is_some}
+use Rattle.std.proofs.Math.Bool.{or-false}
 use Rattle.std.proofs.lemmas.Bool.{cases_Bool}
 use Rattle.std.proofs.lemmas.List.{set-set, set-get_or, get_or-set_same}
 use Rattle.ec_regs.specs.Bits.{AreBytes, with_bits}
 use Rattle.ec_regs.specs.declared.sync_man.SyncMan.{SyncMan}
 use Rattle.ec_regs.specs.declared.registers.TheConstants.{MEMORY_SIZE, PROCESS_MEMORY, AL_CONTROL}
-use Rattle.ec_regs.proofs.BitLemmas.{length-with_bits, with_bits_none}
+use Rattle.ec_regs.proofs.Laws.{length-with_bits, with_bits_none, get_or-with_bits_kept}
 use Rattle.ec_wire.specs.Datagram.{DatagramRecord, nth, blank, ado}
-use Rattle.ec_areas.specs.Ranges.{within, takes_writes, filled_by}
+use Rattle.ec_regs.specs.AddressRange.{within}
+use Rattle.ec_areas.specs.Ranges.{takes_writes, filled_by}
 use Rattle.ec_areas.specs.Records.{sync_managers_of, fmmus_of}
-use Rattle.ec_areas.proofs.MapLemmas.{names_nowhere, names_none, names_at, write_map_none, write_map_register}
-use Rattle.ec_areas.proofs.MailboxLemmas.{write_empties_none}
-use Rattle.ec_areas.proofs.RecordLemmas.{SameRegisters, sync_managers_same}
-use Rattle.ec_areas.proofs.RunLemmas.{get_or-with_bits_kept}
+use Rattle.ec_areas.specs.Records.{SameRegisters}
+use Rattle.ec_areas.proofs.Laws.{names_nowhere, names_none, names_at, write_map_none}
+use Rattle.ec_areas.proofs.Laws.{write_map_register, write_empties_none, sync_managers_same}
 use Rattle.ec_esc.specs.State.{ControllerState}
 use Rattle.ec_esc.specs.Writing.{settled, shown_after, with_emptied, with_filled}
 use Rattle.ec_esc.specs.Pass.{Half, Effect, nothing, where_served, only_reads, only_writes, touches}
@@ -27,7 +28,6 @@ use Rattle.ec_esc.specs.Pass.{is_written, range_sources, range_targets, range_gi
 use Rattle.ec_esc.specs.Pass.{range_write, read_mailbox, written_mailbox, serves_range_read}
 use Rattle.ec_esc.specs.Pass.{serves_range_write}
 use Rattle.ec_esc.proofs.IdleLemmas.{settled_same, shown_after_same, written_by_nothing, taken_nothing}
-use Rattle.ec_esc.proofs.IdleLemmas.{or_nothing}
 
 -- ---- one datagram of a frame
 
@@ -216,11 +216,11 @@ gain_where true h = refl
 gain_where false h = refl
 
 -- what both ways count
-pub shares : (c : ControllerState) (address count : ℕ) (reads writes : Bool)
+pub gains_both : (c : ControllerState) (address count : ℕ) (reads writes : Bool)
     → reads ≡ serves_read c address count → writes ≡ serves_write c address count
     → cond reads 1 0 + cond writes 2 0
     ≡ (mapped_read c address count).gain + (mapped_write 2 c address count).gain
-shares c address count reads writes reads_is writes_is =
+gains_both c address count reads writes reads_is writes_is =
     let reading : Half = record { places = read_sources c address; gain = 1; mail = None } in
     let writing : Half = record { places = write_sources c address count; gain = 2; mail = None } in
     ap (λ b. cond b 1 0 + cond writes 2 0) reads_is
@@ -283,7 +283,7 @@ written_served c address payload n are size =
       written = w;
     } in
     let mark : (c.written || touches places AL_CONTROL) ≡ c.written =
-    ap (λ b. c.written || b) (control_untouched c address (length payload)) ∙ or_nothing c.written in
+    ap (λ b. c.written || b) (control_untouched c address (length payload)) ∙ or-false c.written in
     sym (ap (λ (m : List ℕ). F m (sync_managers_of m) (c.written || touches places AL_CONTROL))
     (settled_same c.memory memory same)
     ∙ ap (λ (ms : List SyncMan). F memory ms (c.written || touches places AL_CONTROL))

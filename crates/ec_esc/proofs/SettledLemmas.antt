@@ -2,7 +2,8 @@
 use Rattle.std.proofs.Common.{◌≡◌, ◌≢◌, ℕ, ◌+◌, ◌<◌, Bool, true, false, ◌&&◌, leb, ltb, eqb, cond, List}
 use Rattle.std.proofs.Common.{length, get_or, set, sym, ◌∙◌, ap, refl, arith, ⊎_elim, get_or-set_same}
 use Rattle.std.proofs.Common.{get_or-set_other}
-use Rattle.std.proofs.lemmas.Bool.{cases_eq, cases_Bool}
+use Rattle.std.proofs.Math.Bool.{and-false}
+use Rattle.std.proofs.lemmas.Bool.{and_parts, cases_eq, cases_Bool}
 use Rattle.std.proofs.lemmas.Bool.Decides.{nat_tests}
 use Rattle.std.proofs.lemmas.List.{ext_get_or}
 use Rattle.std.proofs.lemmas.List.FromFn.{length-map-range_with_len, get_or-map-range_with_len}
@@ -12,9 +13,8 @@ use Rattle.ec_regs.specs.SyncMan.{is_active}
 use Rattle.ec_areas.specs.Records.{sync_manager_at, sync_managers_of}
 use Rattle.ec_areas.specs.Ranges.{is_in_sync_manager, sync_manager_number, sync_manager_offset}
 use Rattle.ec_esc.specs.Writing.{is_switched, settled_byte, settled}
-use Rattle.ec_areas.specs.Ranges.{status_address}
-use Rattle.ec_areas.proofs.LogicalLemmas.{both}
-use Rattle.ec_areas.proofs.RangeLemmas.{get_or-sync_managers_of}
+use Rattle.ec_regs.specs.SyncMan.{status_address}
+use Rattle.ec_areas.proofs.Laws.{get_or-sync_managers_of}
 
 -- is the byte at an address a status byte
 abbrev pub is_status : ℕ → Bool
@@ -26,11 +26,6 @@ settled_to before after n a =
     cond ((is_status a && is_switched before after (sync_manager_number a)) && ltb
     (sync_manager_number a) n) 0 (get_or after a 0)
 
--- what is so and false is false
-pub and_false : (b : Bool) → (b && false) ≡ false
-and_false true = refl
-and_false false = refl
-
 -- what is so and true is so
 pub and_true : (b : Bool) → (b && true) ≡ b
 and_true true = refl
@@ -40,13 +35,13 @@ and_true false = refl
 pub settled_none : (before after : List ℕ) (a : ℕ) → get_or after a 0 ≡ settled_to before after 0 a
 settled_none before after a =
     let none : ltb (sync_manager_number a) 0 ≡ false = grind (arith, nat_tests) in
-    rw (none, and_false (is_status a && is_switched before after (sync_manager_number a))) refl
+    rw (none, and-false (is_status a && is_switched before after (sync_manager_number a))) refl
 
 -- a status byte is that of the sync manager with its number
 status_is : (a : ℕ) → is_status a ≡ true → a ≡ status_address (sync_manager_number a)
 status_is a status =
-    let parts = both (is_in_sync_manager a) (eqb (sync_manager_offset a) 5) status in
-    let inside = both (leb 2048 a) (ltb a 2112) parts.0 in
+    let parts = and_parts (is_in_sync_manager a) (eqb (sync_manager_offset a) 5) status in
+    let inside = and_parts (leb 2048 a) (ltb a 2112) parts.0 in
     let low : leb 2048 a ≡ true = inside.0 in
     let offset : eqb (sync_manager_offset a) 5 ≡ true = parts.1 in
     grind (arith, nat_tests)
@@ -105,7 +100,7 @@ settled_to_all : (before after : List ℕ) (a : ℕ) → settled_to before after
 settled_to_all before after a =
     ⊎_elim
     (λ (status : is_status a ≡ true).
-    let inside = both (leb 2048 a) (ltb a 2112) (both (is_in_sync_manager a) (eqb
+    let inside = and_parts (leb 2048 a) (ltb a 2112) (and_parts (is_in_sync_manager a) (eqb
     (sync_manager_offset a) 5) status).0 in
     let high : ltb a 2112 ≡ true = inside.1 in
     let below : ltb (sync_manager_number a) 8 ≡ true = grind (arith, nat_tests) in
@@ -143,14 +138,3 @@ switched_by_records arrived now before after d e n answer below before_is after_
     (get_or after n e))) was
     ∙ ap (λ (s : SyncMan). cond (is_active (sync_manager_at arrived n)) (not (is_active s))
     (is_active s)) stands
-
--- the status byte of a sync manager that was not switched stays
-pub get_or-settled_steady : (before after : List ℕ) (n : ℕ) → n < 8 → status_address n < length after
-    → is_switched before after n ≡ false
-    → get_or (settled before after) (status_address n) 0 ≡ get_or after (status_address n) 0
-unfolding settled
-get_or-settled_steady before after n below inside steady =
-    let number : sync_manager_number (status_address n) ≡ n = omega arith in
-    get_or-map-range_with_len (settled_byte before after) 0 (length after) (status_address n)
-    (status_address n) 0 inside (omega arith)
-    ∙ rw (status_of n below, number, steady) refl

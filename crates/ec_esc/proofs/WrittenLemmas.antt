@@ -3,13 +3,12 @@ use Rattle.std.proofs.Common.{◌≡◌, ◌≢◌, ℕ, ◌+◌, ◌-◌, ◌*�
 use Rattle.std.proofs.Common.{cond, List, length, get_or, set, Option, None, Some, ◌∙◌, ap, refl, arith}
 use Rattle.std.proofs.Common.{⊎_elim, get_or-set_same, get_or-set_other}
 use Rattle.std.specs.Int.{bit_at}
-use Rattle.std.proofs.lemmas.Bool.{cases_eq, cases_Bool}
+use Rattle.std.proofs.lemmas.Bool.{and_parts, cases_eq, cases_Bool}
 use Rattle.std.proofs.lemmas.Bool.Decides.{nat_tests}
 use Rattle.std.proofs.lemmas.List.{length-set}
 use Rattle.ec_regs.specs.Bits.{AreBytes, with_bits}
-use Rattle.ec_areas.specs.Ranges.{within}
-use Rattle.ec_areas.proofs.LogicalLemmas.{both}
-use Rattle.ec_areas.proofs.RunLemmas.{with_bits_by_bytes, taken_byte, kept_byte, get_or-with_bits_kept}
+use Rattle.ec_regs.specs.AddressRange.{within}
+use Rattle.ec_regs.proofs.Laws.{with_bits_by_bytes, taken_byte, kept_byte}
 
 -- the byte at an address once the data were written from `from` on to the bytes that pass a test
 abbrev pub written_byte : (ℕ → Bool) → List ℕ → List ℕ → ℕ → ℕ → ℕ
@@ -122,8 +121,8 @@ written_length false now after at byte after_is = ap length after_is
 -- such a byte does not lie before `from`
 pub among_behind : (test : ℕ → Bool) (from n a : ℕ) → among test from n a ≡ true → from ≤ a
 among_behind test from n a passes =
-    let inside : within from n a ≡ true = (both (within from n a) (test a) passes).0 in
-    let behind : leb from a ≡ true = (both (leb from a) (ltb a (from + n)) inside).0 in
+    let inside : within from n a ≡ true = (and_parts (within from n a) (test a) passes).0 in
+    let behind : leb from a ≡ true = (and_parts (leb from a) (ltb a (from + n)) inside).0 in
     grind (arith, nat_tests)
 
 -- the next byte is as it was
@@ -132,13 +131,3 @@ pub written_waiting : (test : ℕ → Bool) (arrived payload : List ℕ) (from n
 written_waiting test arrived payload from n =
     let behind : within from n (from + n) ≡ false = grind (arith, nat_tests) in
     rw behind refl
-
--- the bytes before `from` stay
-pub written_front : (test : ℕ → Bool) (xs ys : List ℕ) (from n a : ℕ) → AreBytes xs → a < from
-    → get_or (with_bits xs ys (places_from (among test from n) from)) a 0 ≡ get_or xs a 0
-written_front test xs ys from n a are before =
-    get_or-with_bits_kept xs ys (places_from (among test from n) from) a are
-    (λ b below.
-    let byte_is : (8 * a + b) / 8 ≡ a = omega arith in
-    let outside : within from n a ≡ false = grind (arith, nat_tests) in
-    rw (byte_is, outside) refl)

@@ -3,3 +3,4 @@ pub mod Writing
 pub mod Pass
 pub mod Application
 pub mod Planned
+pub mod Place

@@ -9,11 +9,13 @@ use Rattle.ec_regs.specs.declared.registers.TheConstants.{STATION_ADDRESS, AL_CO
 use Rattle.ec_wire.specs.Command.{addressing, reads, writes, counts_adp}
 use Rattle.ec_wire.specs.Datagram.{DatagramRecord, adp, ado, adp_of, ado_of, nth}
 use Rattle.ec_wire.specs.declared.command.Addressing.{Addressing}
-use Rattle.ec_wire.specs.declared.command.Addressing.TheVariants.{Nobody, Place, Station, All, Logical}
+use Rattle.ec_wire.specs.declared.command.Addressing.TheVariants.{Nobody, AutoIncrement}
+use Rattle.ec_wire.specs.declared.command.Addressing.TheVariants.{ConfiguredStation, All, Logical}
 use Rattle.ec_wire.specs.declared.command.Command.{Command}
 use Rattle.ec_areas.specs.Records.{fmmus_of, sync_managers_of}
 use Rattle.ec_areas.specs.Logical.{read_places, target_places, write_map, names}
-use Rattle.ec_areas.specs.Ranges.{within, takes_writes, serves_physical_read, serves_physical_write}
+use Rattle.ec_regs.specs.AddressRange.{within}
+use Rattle.ec_areas.specs.Ranges.{takes_writes, serves_physical_read, serves_physical_write}
 use Rattle.ec_areas.specs.Ranges.{emptied_by, filled_by}
 use Rattle.ec_esc.specs.State.{ControllerState, IsController, word_at}
 use Rattle.ec_esc.specs.Writing.{settled, shown_after, with_emptied, with_filled}
@@ -79,8 +81,8 @@ range_targets c from count = written_places c.memory from count
 -- is the controller addressed, by its place on the line or its station address
 abbrev pub is_addressed : Addressing → ControllerState → ℕ → Bool
 is_addressed Nobody c address = false
-is_addressed Place c address = adp_of address == 0
-is_addressed Station c address = adp_of address == word_at c.memory STATION_ADDRESS
+is_addressed AutoIncrement c address = adp_of address == 0
+is_addressed ConfiguredStation c address = adp_of address == word_at c.memory STATION_ADDRESS
 is_addressed All c address = true
 is_addressed Logical c address = true
 

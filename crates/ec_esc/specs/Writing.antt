@@ -10,7 +10,8 @@ use Rattle.ec_regs.specs.SyncMan.{is_active, is_buffered, master_writes}
 use Rattle.ec_areas.specs.Areas.{guards}
 use Rattle.ec_areas.specs.Records.{sync_manager_at}
 use Rattle.ec_areas.specs.Ranges.{is_in_sync_manager, sync_manager_number, sync_manager_offset}
-use Rattle.ec_areas.specs.Ranges.{status_address, STATUS_OFFSET}
+use Rattle.ec_regs.specs.SyncMan.{status_address}
+use Rattle.ec_regs.specs.declared.registers.TheConstants.{SYNC_MANAGER_STATUS}
 use Rattle.ec_regs.specs.declared.sync_man.TheConstants.{MAILBOX_FULL}
 
 -- ---- status bytes
@@ -25,7 +26,7 @@ is_switched before after i =
 -- off is 0
 abbrev pub settled_byte : List ℕ → List ℕ → ℕ → ℕ
 settled_byte before after address =
-    if is_in_sync_manager address && sync_manager_offset address == STATUS_OFFSET
+    if is_in_sync_manager address && sync_manager_offset address == SYNC_MANAGER_STATUS
     && is_switched before after (sync_manager_number address)
     then 0 else slice_index after address
 

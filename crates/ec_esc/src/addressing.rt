@@ -29,8 +29,8 @@ impl Controller {
     {
         match addressing {
             Addressing::Nobody => false,
-            Addressing::Place => frame.adp(k) == 0,
-            Addressing::Station => frame.adp(k) == self.station(),
+            Addressing::AutoIncrement => frame.adp(k) == 0,
+            Addressing::ConfiguredStation => frame.adp(k) == self.station(),
             Addressing::All | Addressing::Logical => true,
         }
     }

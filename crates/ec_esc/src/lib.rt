@@ -49,4 +49,5 @@ mod writing;
 
 pub use application::{AreaFault, LONGEST_MAIL};
 pub use controller::Controller;
+pub use counting::MOST_CONTROLLERS;
 pub use ec_regs::NoMemory;

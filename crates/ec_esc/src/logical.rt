@@ -1,28 +1,28 @@
 //! The logical commands: LRD, LWR and LRW (IEC 61158-4-12, FMMU).
-
-ghost use Rattle.std.specs.Prelude.{◌≡◌, ◌+◌, ◌<◌, ℕ, length, slice_set, true};
-ghost use Rattle.std.specs.Prelude.{if◌then◌else◌};
-ghost use Rattle.ec_regs.specs.Bits.{AreBytes, with_bits};
+ghost use Rattle.std.specs.Prelude.{◌≡◌, ◌+◌, ◌<◌, ℕ, length, true, if◌then◌else◌};
+ghost use Rattle.ec_regs.specs.Bits.{AreBytes};
 ghost use Rattle.ec_wire.specs.Datagram.{nth};
 ghost use Rattle.ec_areas.specs.Records.{fmmus_of, sync_managers_of};
 ghost use Rattle.ec_areas.specs.Apart.{are_apart};
-ghost use Rattle.ec_esc.specs.Pass.{read_sources, serves_read, serves_write, mapped_read, mapped_write};
+ghost use Rattle.ec_esc.specs.Pass.{read_sources, serves_write, mapped_write};
 ghost use Rattle.ec_esc.specs.Pass.{only_reads, only_writes, written_by, Arrives, IsServed};
+ghost use Rattle.ec_esc.specs.Place.{address_at, payload_at, serves_read_at, mapped_read_at};
+ghost use Rattle.ec_esc.specs.Place.{mapped_write_at, mapped_exchange_at, filled_at};
 
 use crate::controller::Controller;
-use crate::counting::{LONE_WRITE_SHARE, READ_SHARE, WRITE_SHARE, add_to_counter};
+use crate::counting::{LONE_WRITE_GAIN, READ_GAIN, WRITE_GAIN, add_to_counter};
 use crate::process::are_bytes;
 use arrayvec::ArrayVec;
 use ec_areas::{are_apart, last_bytes_written, read_mapped};
-use ec_regs::PlannedSyncMan;
+use ec_regs::SyncManagers;
 use ec_wire::{FrameBuf, MAX_DATA};
 
 /// What the working counter of an LRW gains, by whether its read and its write are served.
-fn exchange_share(is_read: bool, is_written: bool) -> u16
+fn exchange_gain(is_read: bool, is_written: bool) -> u16
     ensures { result ≡ (if is_read then 1 else 0) + (if is_written then 2 else 0) }
 {
-    let read = if is_read { READ_SHARE } else { 0 };
-    let write = if is_written { WRITE_SHARE } else { 0 };
+    let read = if is_read { READ_GAIN } else { 0 };
+    let write = if is_written { WRITE_GAIN } else { 0 };
     read + write
 }
 
@@ -31,12 +31,11 @@ impl Controller {
     pub(crate) fn logical_read(&self, frame: &mut FrameBuf, k: usize)
         requires inside { k < length frame.old }
         requires arrives { Arrives self.now (nth frame.old k) }
-        ensures { IsServed (only_reads (mapped_read self.now (nth frame.old k).address
-            (length (nth frame.old k).payload)))
+        ensures { IsServed (only_reads (mapped_read_at self.now frame.old k))
             k frame.old self.now frame.new self.now }
     {
         if self.fill_data(frame, k) {
-            add_to_counter(frame, k, READ_SHARE);
+            add_to_counter(frame, k, READ_GAIN);
         }
     }
 
@@ -44,12 +43,9 @@ impl Controller {
     /// whether there is such a bit; all else stays.
     fn fill_data(&self, frame: &mut FrameBuf, k: usize) -> bool
         requires { k < length frame.old }
-        ensures frame { frame.new ≡ slice_set frame.old k (record (nth frame.old k) {
-          payload = with_bits (nth frame.old k).payload
-              self.now.memory (read_sources self.now (nth frame.old k).address);
-        }) }
-        ensures served { result ≡ serves_read self.now (nth frame.old k).address
-            (length (nth frame.old k).payload) }
+        ensures frame { frame.new
+            ≡ filled_at frame.old k self.now.memory (read_sources self.now (address_at frame.old k)) }
+        ensures served { result ≡ serves_read_at self.now frame.old k }
     {
         let managers = self.memory.managers();
         let fmmus = self.memory.fmmus();
@@ -62,42 +58,36 @@ impl Controller {
     pub(crate) fn logical_write(&mut self, frame: &mut FrameBuf, k: usize)
         requires inside { k < length frame.old }
         requires arrives { Arrives self.old (nth frame.old k) }
-        ensures { IsServed (only_writes (mapped_write 1 self.old (nth frame.old k).address
-            (length (nth frame.old k).payload)))
+        ensures { IsServed (only_writes (mapped_write_at 1 self.old frame.old k))
             k frame.old self.old frame.new self.new }
     {
         if self.write_data(frame.address(k), frame.data(k)) {
-            add_to_counter(frame, k, LONE_WRITE_SHARE);
+            add_to_counter(frame, k, LONE_WRITE_GAIN);
         }
     }
 
-    /// LRW: both of the datagram at `k`; the read sees the memory, and the write takes the data, as they were
-    /// on arrival; all others stay.
+    /// LRW: a read and a write of the datagram at `k` through FMMUs; the read sees the memory, and the write
+    /// takes the data, as they were on arrival; all others stay.
     pub(crate) fn logical_exchange(&mut self, frame: &mut FrameBuf, k: usize)
         requires inside { k < length frame.old }
         requires arrives { Arrives self.old (nth frame.old k) }
-        ensures { IsServed (record {
-          reading = mapped_read self.old (nth frame.old k).address (length (nth frame.old k).payload);
-          writing = mapped_write 2 self.old (nth frame.old k).address (length (nth frame.old k).payload);
-        }) k frame.old self.old frame.new self.new }
+        ensures { IsServed (mapped_exchange_at self.old frame.old k) k frame.old self.old frame.new self.new }
     {
-        let share = self.exchange_data(frame, k);
-        add_to_counter(frame, k, share);
+        let gain = self.exchange_data(frame, k);
+        add_to_counter(frame, k, gain);
     }
 
     /// Reads and writes the data of the datagram at `k`, each as on arrival, and says what its working
     /// counter gains; all else stays.
     fn exchange_data(&mut self, frame: &mut FrameBuf, k: usize) -> u16
         requires { k < length frame.old }
-        ensures frame { frame.new ≡ slice_set frame.old k (record (nth frame.old k) {
-          payload = with_bits (nth frame.old k).payload
-              self.old.memory (read_sources self.old (nth frame.old k).address);
-        }) }
-        ensures state { self.new ≡ written_by (mapped_write 2 self.old (nth frame.old k).address
-            (length (nth frame.old k).payload)) (nth frame.old k).payload self.old }
-        ensures share { result
-            ≡ (mapped_read self.old (nth frame.old k).address (length (nth frame.old k).payload)).gain
-            + (mapped_write 2 self.old (nth frame.old k).address (length (nth frame.old k).payload)).gain }
+        ensures frame { frame.new
+            ≡ filled_at frame.old k self.old.memory (read_sources self.old (address_at frame.old k)) }
+        ensures state { self.new
+            ≡ written_by (mapped_write_at 2 self.old frame.old k) (payload_at frame.old k) self.old }
+        ensures gain { result
+            ≡ (mapped_read_at self.old frame.old k).gain
+            + (mapped_write_at 2 self.old frame.old k).gain }
     {
         if are_apart(self.memory.fmmus()) {
             self.write_then_read(frame, k)
@@ -106,46 +96,43 @@ impl Controller {
         }
     }
 
-    /// Does so where no bit that is read may be written: the read finds the memory as it was on arrival, and
-    /// the write needs no copy of the data.
+    /// Exchanges the data of the datagram at `k` where no bit that is read may be written: the read finds the
+    /// memory as it was on arrival, and the write needs no copy of the data.
     fn write_then_read(&mut self, frame: &mut FrameBuf, k: usize) -> u16
         requires inside { k < length frame.old }
         requires apart { are_apart (fmmus_of self.old.memory) ≡ true }
-        ensures frame { frame.new ≡ slice_set frame.old k (record (nth frame.old k) {
-          payload = with_bits (nth frame.old k).payload
-              self.old.memory (read_sources self.old (nth frame.old k).address);
-        }) }
-        ensures state { self.new ≡ written_by (mapped_write 2 self.old (nth frame.old k).address
-            (length (nth frame.old k).payload)) (nth frame.old k).payload self.old }
-        ensures share { result
-            ≡ (mapped_read self.old (nth frame.old k).address (length (nth frame.old k).payload)).gain
-            + (mapped_write 2 self.old (nth frame.old k).address (length (nth frame.old k).payload)).gain }
+        ensures frame { frame.new
+            ≡ filled_at frame.old k self.old.memory (read_sources self.old (address_at frame.old k)) }
+        ensures state { self.new
+            ≡ written_by (mapped_write_at 2 self.old frame.old k) (payload_at frame.old k) self.old }
+        ensures gain { result
+            ≡ (mapped_read_at self.old frame.old k).gain
+            + (mapped_write_at 2 self.old frame.old k).gain }
     {
         self.arrival(frame, k);
         let is_written = self.write_data(frame.address(k), frame.data(k));
         let is_read = self.fill_data(frame, k);
-        exchange_share(is_read, is_written)
+        exchange_gain(is_read, is_written)
     }
 
-    /// Does so whatever the FMMUs: the write takes a copy of the data that arrived.
+    /// Exchanges the data of the datagram at `k`, whatever the FMMUs: the write takes a copy of the data that
+    /// arrived.
     fn read_then_write(&mut self, frame: &mut FrameBuf, k: usize) -> u16
         requires { k < length frame.old }
-        ensures frame { frame.new ≡ slice_set frame.old k (record (nth frame.old k) {
-          payload = with_bits (nth frame.old k).payload
-              self.old.memory (read_sources self.old (nth frame.old k).address);
-        }) }
-        ensures state { self.new ≡ written_by (mapped_write 2 self.old (nth frame.old k).address
-            (length (nth frame.old k).payload)) (nth frame.old k).payload self.old }
-        ensures share { result
-            ≡ (mapped_read self.old (nth frame.old k).address (length (nth frame.old k).payload)).gain
-            + (mapped_write 2 self.old (nth frame.old k).address (length (nth frame.old k).payload)).gain }
+        ensures frame { frame.new
+            ≡ filled_at frame.old k self.old.memory (read_sources self.old (address_at frame.old k)) }
+        ensures state { self.new
+            ≡ written_by (mapped_write_at 2 self.old frame.old k) (payload_at frame.old k) self.old }
+        ensures gain { result
+            ≡ (mapped_read_at self.old frame.old k).gain
+            + (mapped_write_at 2 self.old frame.old k).gain }
     {
         let address = frame.address(k);
         let mut arrived: ArrayVec<u8, MAX_DATA> = ArrayVec::new();
         arrived.try_extend_from_slice(frame.data(k)).unwrap();
         let is_read = self.fill_data(frame, k);
         let is_written = self.write_data(address, arrived.as_slice());
-        exchange_share(is_read, is_written)
+        exchange_gain(is_read, is_written)
     }
 
     /// Writes data to the memory where their logical address is writable, shows each area whose last byte
@@ -165,7 +152,7 @@ impl Controller {
     }
 
     /// All sync managers, by number.
-    fn sync_managers(&self) -> [PlannedSyncMan; 8]
+    fn sync_managers(&self) -> SyncManagers
         ensures value { result ≡ sync_managers_of self.now.memory }
         ensures bytes { AreBytes self.now.memory }
     {

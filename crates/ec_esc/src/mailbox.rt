@@ -7,8 +7,7 @@ ghost use Rattle.ec_esc.specs.Writing.{with_emptied, with_filled};
 
 use crate::controller::Controller;
 use crate::planned::PlannedMemory;
-use ec_areas::status_address;
-use ec_regs::MAILBOX_FULL;
+use ec_regs::{MAILBOX_FULL, status_address};
 
 /// Fills the mailbox of the sync manager with a number; all else stays.
 pub(crate) fn fill_mailbox(memory: &mut PlannedMemory, number: usize)

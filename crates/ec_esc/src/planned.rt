@@ -17,7 +17,10 @@ use ec_regs::registers::{
     AL_STATUS, FMMU_BASE, FMMU_COUNT, FMMU_SIZE, SYNC_MANAGER_BASE, SYNC_MANAGER_COUNT,
     SYNC_MANAGER_SIZE,
 };
-use ec_regs::{AlState, AlStatus, Memory, NoMemory, PlannedFmmu, PlannedSyncMan};
+use ec_regs::{
+    AddressRange, AlState, AlStatus, Fmmus, Memory, NoMemory, PlannedFmmu, PlannedSyncMan,
+    SyncManagers,
+};
 use std::alloc::Global;
 use std::marker::Model;
 
@@ -25,8 +28,8 @@ use std::marker::Model;
 #[derive(Drop)]
 pub(crate) struct PlannedMemory {
     memory: Memory,
-    fmmus: [PlannedFmmu; 8],
-    managers: [PlannedSyncMan; 8],
+    fmmus: Fmmus,
+    managers: SyncManagers,
 }
 
 impl Model for PlannedMemory {
@@ -40,48 +43,69 @@ impl Model for PlannedMemory {
     ghost invariant = { λ m. IsPlanned m.memory m.fmmus m.managers };
 }
 
-/// Does a range share a byte with the `size` bytes from `at` on?
-fn meets(at: u16, size: u16, from: u16, count: u16) -> bool
-    ensures { result ≡ (nat_lt at (from + count) && nat_lt from (at + size)) }
+/// The records of all FMMUs.
+const FMMU_RECORDS: AddressRange = AddressRange {
+    first: FMMU_BASE,
+    count: FMMU_SIZE * FMMU_COUNT as u16,
+};
+
+/// The records of all sync managers.
+const SYNC_MANAGER_RECORDS: AddressRange = AddressRange {
+    first: SYNC_MANAGER_BASE,
+    count: SYNC_MANAGER_SIZE * SYNC_MANAGER_COUNT as u16,
+};
+
+/// The record of the FMMU with a number.
+fn fmmu_record(number: usize) -> AddressRange
+    requires { number < FMMU_COUNT }
+    ensures { result ≡ record { first = FMMU_BASE + FMMU_SIZE * number; count = FMMU_SIZE } }
 {
-    u32::from(at) < u32::from(from) + u32::from(count)
-        && u32::from(from) < u32::from(at) + u32::from(size)
+    AddressRange {
+        first: FMMU_BASE + FMMU_SIZE * number as u16,
+        count: FMMU_SIZE,
+    }
+}
+
+/// The record of the sync manager with a number.
+fn sync_manager_record(number: usize) -> AddressRange
+    requires { number < SYNC_MANAGER_COUNT }
+    ensures { result
+        ≡ record { first = SYNC_MANAGER_BASE + SYNC_MANAGER_SIZE * number; count = SYNC_MANAGER_SIZE } }
+{
+    AddressRange {
+        first: SYNC_MANAGER_BASE + SYNC_MANAGER_SIZE * number as u16,
+        count: SYNC_MANAGER_SIZE,
+    }
 }
 
 /// Decodes each FMMU of whose record a byte lies in the range that was written; the others stay.
-fn renew_fmmus(fmmus: &mut [PlannedFmmu; 8], memory: &[u8], from: u16, count: u16)
+fn renew_fmmus(fmmus: &mut Fmmus, memory: &[u8], written: AddressRange)
     requires { length memory.now ≡ MEMORY_SIZE }
     ensures { (before : List ℕ) → fmmus.old ≡ fmmus_of before
-        → ChangesWithin from count before memory.now → fmmus.new ≡ fmmus_of memory.now }
+        → ChangesWithin written.first written.count before memory.now → fmmus.new ≡ fmmus_of memory.now }
 {
-    if !meets(FMMU_BASE, FMMU_SIZE * FMMU_COUNT, from, count) {
+    if !FMMU_RECORDS.meets(&written) {
         return;
     }
-    for number in 0..8usize {
-        let at = FMMU_BASE + FMMU_SIZE * number as u16;
-        if meets(at, FMMU_SIZE, from, count) {
+    for number in 0..FMMU_COUNT {
+        if fmmu_record(number).meets(&written) {
             fmmus[number] = PlannedFmmu::new(fmmu_at(memory, number));
         }
     }
 }
 
 /// Decodes each sync manager of whose record a byte lies in the range that was written; the others stay.
-fn renew_managers(managers: &mut [PlannedSyncMan; 8], memory: &[u8], from: u16, count: u16)
+fn renew_managers(managers: &mut SyncManagers, memory: &[u8], written: AddressRange)
     requires { length memory.now ≡ MEMORY_SIZE }
     ensures { (before : List ℕ) → managers.old ≡ sync_managers_of before
-        → ChangesWithin from count before memory.now → managers.new ≡ sync_managers_of memory.now }
+        → ChangesWithin written.first written.count before memory.now
+        → managers.new ≡ sync_managers_of memory.now }
 {
-    if !meets(
-        SYNC_MANAGER_BASE,
-        SYNC_MANAGER_SIZE * SYNC_MANAGER_COUNT,
-        from,
-        count,
-    ) {
+    if !SYNC_MANAGER_RECORDS.meets(&written) {
         return;
     }
-    for number in 0..8usize {
-        let at = SYNC_MANAGER_BASE + SYNC_MANAGER_SIZE * number as u16;
-        if meets(at, SYNC_MANAGER_SIZE, from, count) {
+    for number in 0..SYNC_MANAGER_COUNT {
+        if sync_manager_record(number).meets(&written) {
             managers[number] = PlannedSyncMan::new(sync_manager_at(memory, number));
         }
     }
@@ -123,14 +147,14 @@ impl PlannedMemory {
     }
 
     /// All FMMUs, by number.
-    pub(crate) fn fmmus(&self) -> &[PlannedFmmu; 8]
+    pub(crate) fn fmmus(&self) -> &Fmmus
         ensures { result.now ≡ fmmus_of self.now }
     {
         &self.fmmus
     }
 
     /// All sync managers, by number.
-    pub(crate) fn managers(&self) -> &[PlannedSyncMan; 8]
+    pub(crate) fn managers(&self) -> &SyncManagers
         ensures value { result.now ≡ sync_managers_of self.now }
         ensures size { length self.now ≡ MEMORY_SIZE }
     {
@@ -161,9 +185,13 @@ impl PlannedMemory {
         ensures size { length self.new ≡ MEMORY_SIZE }
     {
         self.memory.set_byte(address, value);
+        let written = AddressRange {
+            first: address,
+            count: 1,
+        };
         let bytes = self.memory.bytes();
-        renew_fmmus(&mut self.fmmus, bytes, address, 1);
-        renew_managers(&mut self.managers, bytes, address, 1);
+        renew_fmmus(&mut self.fmmus, bytes, written);
+        renew_managers(&mut self.managers, bytes, written);
     }
 
     /// Writes a run of bytes from an address behind AL status on; all others stay.
@@ -174,10 +202,13 @@ impl PlannedMemory {
         ensures size { length self.new ≡ MEMORY_SIZE }
     {
         self.memory.load(address, bytes);
-        let count = bytes.len() as u16;
+        let written = AddressRange {
+            first: address,
+            count: bytes.len() as u16,
+        };
         let bytes = self.memory.bytes();
-        renew_fmmus(&mut self.fmmus, bytes, address, count);
-        renew_managers(&mut self.managers, bytes, address, count);
+        renew_fmmus(&mut self.fmmus, bytes, written);
+        renew_managers(&mut self.managers, bytes, written);
     }
 
     /// Writes the data to the physical bits of all FMMUs, of which a later one prevails, and says whether

@@ -1,11 +1,11 @@
 //! What a controller does with a frame: each datagram that addresses it goes to what its command does
 //! (IEC 61158-4-12, processing of datagrams).
-
 ghost use Rattle.std.specs.Prelude.{◌≡◌, ◌<◌, length, slice_set, true};
 ghost use Rattle.ec_regs.specs.Bits.{AreBytes};
 ghost use Rattle.ec_wire.specs.Command.{addressing};
 ghost use Rattle.ec_wire.specs.Datagram.{nth};
 ghost use Rattle.ec_esc.specs.Pass.{pass, frame_pass, effect, is_addressed, Arrives, IsServed};
+ghost use Rattle.ec_esc.specs.Place.{address_at, size_at};
 
 use crate::addressing::count_up;
 use crate::controller::Controller;
@@ -15,6 +15,7 @@ use ec_wire::{Command, FrameBuf};
 pub(crate) fn are_bytes(bytes: &[u8])
     ensures { AreBytes bytes.now }
 {
+    // For the prover: the elements of a slice that is read are bytes.
     let _length = bytes.len();
 }
 
@@ -38,6 +39,7 @@ impl Controller {
         are_bytes(self.memory.bytes());
         are_bytes(self.shown.as_slice());
         are_bytes(frame.data(k));
+        // For the prover: a counter that is read has 16 bits.
         let _counter = frame.counter(k);
     }
 
@@ -60,21 +62,21 @@ impl Controller {
     fn serve(&mut self, command: Command, frame: &mut FrameBuf, k: usize)
         requires inside { k < length frame.old }
         requires arrives { Arrives self.old (nth frame.old k) }
-        ensures { IsServed (effect command self.old (nth frame.old k).address
-            (length (nth frame.old k).payload)) k frame.old self.old frame.new self.new }
+        ensures { IsServed (effect command self.old (address_at frame.old k)
+            (size_at frame.old k)) k frame.old self.old frame.new self.new }
     {
         if self.is_addressed(command.addressing(), frame, k) {
             self.carry_out(command, frame, k);
         }
     }
 
-    /// Does so where it addresses the controller.
+    /// Executes the datagram at `k`, which addresses this controller; its address, and all others, stay.
     fn carry_out(&mut self, command: Command, frame: &mut FrameBuf, k: usize)
         requires inside { k < length frame.old }
         requires arrives { Arrives self.old (nth frame.old k) }
-        requires addressed { is_addressed (addressing command) self.old (nth frame.old k).address ≡ true }
-        ensures { IsServed (effect command self.old (nth frame.old k).address
-            (length (nth frame.old k).payload)) k frame.old self.old frame.new self.new }
+        requires addressed { is_addressed (addressing command) self.old (address_at frame.old k) ≡ true }
+        ensures { IsServed (effect command self.old (address_at frame.old k)
+            (size_at frame.old k)) k frame.old self.old frame.new self.new }
     {
         match command {
             Command::Aprd | Command::Fprd => self.range_read(frame, k),

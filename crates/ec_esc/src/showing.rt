@@ -6,7 +6,7 @@ ghost use Rattle.ec_areas.specs.Showing.{SaysOfLastBytes};
 ghost use Rattle.ec_esc.specs.Writing.{hands_over, shown_after};
 
 use crate::controller::Controller;
-use ec_regs::PlannedSyncMan;
+use ec_regs::{PlannedSyncMan, SyncManagers};
 
 /// Is an area shown anew after a write: it became active, or it is buffered, the master writes it, and its
 /// last byte was written?
@@ -26,8 +26,8 @@ impl Controller {
     /// they were, as they are now, and whether the last byte of each area was written, by number.
     pub(crate) fn show_written(
         &mut self,
-        before: &[PlannedSyncMan; 8],
-        after: &[PlannedSyncMan; 8],
+        before: &SyncManagers,
+        after: &SyncManagers,
         last_written: &[bool; 8],
     )
         ensures { (is_written : ℕ → Bool) → SaysOfLastBytes is_written after.now last_written.now

@@ -8,7 +8,8 @@ ghost use Rattle.ec_regs.specs.Bits.{with_bits, AreBytes};
 ghost use Rattle.ec_regs.specs.declared.registers.TheConstants.{MEMORY_SIZE, AL_CONTROL};
 ghost use Rattle.ec_regs.specs.SyncMan.{is_active};
 ghost use Rattle.ec_areas.specs.Records.{sync_managers_of};
-ghost use Rattle.ec_areas.specs.Ranges.{within, takes_writes, filled_by};
+ghost use Rattle.ec_regs.specs.AddressRange.{within};
+ghost use Rattle.ec_areas.specs.Ranges.{takes_writes, filled_by};
 ghost use Rattle.ec_areas.specs.Showing.{last_byte};
 ghost use Rattle.ec_esc.specs.Writing.{settled, shown_after, with_filled};
 ghost use Rattle.ec_esc.specs.Pass.{is_written, range_sources, written_places, range_taken, written_by};
@@ -17,15 +18,15 @@ use crate::controller::Controller;
 use crate::mailbox::fill_mailbox;
 use crate::planned::PlannedMemory;
 use crate::process::are_bytes;
-use ec_areas::{filled_by, last_byte, status_address, takes_writes, told_of_each, within};
-use ec_regs::PlannedSyncMan;
-use ec_regs::registers::AL_CONTROL;
+use ec_areas::{filled_by, last_byte, takes_writes, told_of_each};
+use ec_regs::registers::{AL_CONTROL, SYNC_MANAGER_COUNT};
+use ec_regs::{AddressRange, PlannedSyncMan, SyncManagers, status_address};
 
 /// The status of a sync manager that was switched on or off.
 const EMPTY: u8 = 0x00;
 
 /// The records of the sync managers on arrival.
-fn arrived_records(memory: &PlannedMemory) -> [PlannedSyncMan; 8]
+fn arrived_records(memory: &PlannedMemory) -> SyncManagers
     ensures value { result ≡ sync_managers_of memory.now }
     ensures bytes { AreBytes memory.now }
     ensures size { length memory.now ≡ MEMORY_SIZE }
@@ -35,7 +36,7 @@ fn arrived_records(memory: &PlannedMemory) -> [PlannedSyncMan; 8]
 }
 
 /// Writes the byte at an address where it takes writes by the records on arrival; all else stays.
-fn write_byte(memory: &mut PlannedMemory, managers: &[PlannedSyncMan; 8], address: u16, byte: u8)
+fn write_byte(memory: &mut PlannedMemory, managers: &SyncManagers, address: u16, byte: u8)
     requires inside { address < MEMORY_SIZE }
     requires records { (arrived : List ℕ) × (managers.now ≡ sync_managers_of arrived) }
     ensures { (arrived : List ℕ) → managers.now ≡ sync_managers_of arrived → memory.new
@@ -47,7 +48,7 @@ fn write_byte(memory: &mut PlannedMemory, managers: &[PlannedSyncMan; 8], addres
 }
 
 /// Writes the data from an address on, as far as the bytes there take writes by the records on arrival.
-fn write_run(memory: &mut PlannedMemory, managers: &[PlannedSyncMan; 8], from: u16, payload: &[u8])
+fn write_run(memory: &mut PlannedMemory, managers: &SyncManagers, from: u16, payload: &[u8])
     requires size { length memory.old ≡ MEMORY_SIZE }
     requires bytes { AreBytes memory.old }
     requires records { managers.now ≡ sync_managers_of memory.old }
@@ -62,12 +63,7 @@ fn write_run(memory: &mut PlannedMemory, managers: &[PlannedSyncMan; 8], from: u
 }
 
 /// Writes the data from an address on as `write_run` does, and fills it with the bytes that stood there.
-fn swap_run(
-    memory: &mut PlannedMemory,
-    managers: &[PlannedSyncMan; 8],
-    from: u16,
-    payload: &mut [u8],
-)
+fn swap_run(memory: &mut PlannedMemory, managers: &SyncManagers, from: u16, payload: &mut [u8])
     requires size { length memory.old ≡ MEMORY_SIZE }
     requires bytes { AreBytes memory.old }
     requires records { managers.now ≡ sync_managers_of memory.old }
@@ -94,85 +90,93 @@ fn is_switched(before: &PlannedSyncMan, after: &PlannedSyncMan) -> bool
 
 /// Clears the status of each sync manager that a write switched on or off; all else stays. The records are
 /// those on arrival.
-fn settle(memory: &mut PlannedMemory, before: &[PlannedSyncMan; 8])
+fn settle(memory: &mut PlannedMemory, before: &SyncManagers)
     ensures value { (arrived : List ℕ) → before.now ≡ sync_managers_of arrived → memory.new
         ≡ settled arrived memory.old }
     ensures size { length memory.new ≡ MEMORY_SIZE }
 {
     let managers = *memory.managers();
     let after = &managers[..];
-    for number in 0..8usize {
+    for number in 0..SYNC_MANAGER_COUNT {
         if is_switched(&before[number], &after[number]) {
             memory.set_byte(status_address(number), EMPTY);
         }
     }
 }
 
+/// As many bytes from an address on as there are data.
+fn range_of(from: u16, payload: &[u8]) -> AddressRange
+    requires { from + length payload.now ≤ MEMORY_SIZE }
+    ensures { result ≡ record { first = from; count = length payload.now } }
+{
+    AddressRange {
+        first: from,
+        count: payload.len() as u16,
+    }
+}
+
 /// Is the last byte of an area among the written ones of the range? The records are those on arrival.
-fn last_byte_written(
-    before: &[PlannedSyncMan; 8],
-    area: &PlannedSyncMan,
-    from: u16,
-    count: u16,
-) -> bool
+fn last_byte_written(before: &SyncManagers, area: &PlannedSyncMan, range: AddressRange) -> bool
     ensures { (arrived : List ℕ) → before.now ≡ sync_managers_of arrived → result
-        ≡ is_written arrived from count (last_byte area.now) }
+        ≡ is_written arrived range.first range.count (last_byte area.now) }
 {
     let last = last_byte(area);
-    within(from, count, last) && takes_writes(before, last)
+    range.contains(last) && takes_writes(before, last)
 }
 
 impl Controller {
     /// Shows the areas that a write of the range hands over. The records are those on arrival.
-    fn show_range(&mut self, before: &[PlannedSyncMan; 8], from: u16, count: u16)
+    fn show_range(&mut self, before: &SyncManagers, range: AddressRange)
         ensures { (arrived : List ℕ) → before.now ≡ sync_managers_of arrived → self.new
             ≡ record self.old {
-              shown = shown_after (is_written arrived from count) before.now
+              shown = shown_after (is_written arrived range.first range.count) before.now
                   (sync_managers_of self.old.memory) self.old.memory self.old.shown;
             } }
     {
         let after = *self.memory.managers();
-        let reached = told_of_each(&after, |area| last_byte_written(before, area, from, count));
+        let reached = told_of_each(&after, |area| last_byte_written(before, area, range));
         self.show_written(before, &after, &reached);
     }
 
     /// Fills the mailbox that a write of the range fills, if it fills one; all else stays. The records are
     /// those on arrival.
-    fn fill_range(&mut self, before: &[PlannedSyncMan; 8], from: u16, count: u16)
+    fn fill_range(&mut self, before: &SyncManagers, range: AddressRange)
         ensures { self.new ≡ record self.old
-            { memory = with_filled (filled_by before.now from count) self.old.memory } }
+            { memory = with_filled (filled_by before.now range.first range.count) self.old.memory } }
     {
-        match filled_by(before, from, count) {
+        match filled_by(before, range) {
             Some(number) => fill_mailbox(&mut self.memory, number),
             None => {}
         }
     }
 
     /// Marks that AL control was written, where its first byte lies in the range; all else stays.
-    fn mark_range(&mut self, from: u16, count: u16)
-        ensures { self.new ≡ record self.old { written = self.old.written || within from count AL_CONTROL } }
+    fn mark_range(&mut self, range: AddressRange)
+        ensures { self.new
+            ≡ record self.old { written = self.old.written || within range.first range.count AL_CONTROL } }
     {
-        if within(from, count, u32::from(AL_CONTROL)) {
+        if range.contains(u32::from(AL_CONTROL)) {
             self.written = true;
         }
     }
 
     /// What is left to do once the bytes of the range were written: statuses, shown bytes, mail and mark.
     /// The records are those on arrival.
-    fn finish_write(&mut self, before: &[PlannedSyncMan; 8], from: u16, count: u16)
+    fn finish_write(&mut self, before: &SyncManagers, range: AddressRange)
         ensures { (arrived : List ℕ) → before.now ≡ sync_managers_of arrived
             → self.new ≡ record {
-              memory = with_filled (filled_by before.now from count) (settled arrived self.old.memory);
-              shown = shown_after (is_written arrived from count) before.now
+              memory = with_filled (filled_by before.now range.first range.count)
+                  (settled arrived self.old.memory);
+              shown = shown_after (is_written arrived range.first range.count) before.now
                   (sync_managers_of (settled arrived self.old.memory))
                   (settled arrived self.old.memory) self.old.shown;
-              written = self.old.written || within from count AL_CONTROL;
+              written = self.old.written || within range.first range.count AL_CONTROL;
             } }
     {
         settle(&mut self.memory, before);
-        self.show_range(before, from, count);
-        self.fill_range(before, from, count);
-        self.mark_range(from, count);
+        self.show_range(before, range);
+        self.fill_range(before, range);
+        self.mark_range(range);
     }
 
     /// A write of the data from an address on that is served, with all that it leaves.
@@ -183,10 +187,11 @@ impl Controller {
     {
         let before = arrived_records(&self.memory);
         write_run(&mut self.memory, &before, from, payload);
-        self.finish_write(&before, from, payload.len() as u16);
+        self.finish_write(&before, range_of(from, payload));
     }
 
-    /// The same, and the data are filled with the bytes that stood there.
+    /// A write of the data from an address on that is served, with all that it leaves; the data are filled
+    /// with the bytes that stood there.
     pub(crate) fn swap_range(&mut self, from: u16, payload: &mut [u8])
         requires { from + length payload.old ≤ MEMORY_SIZE }
         ensures state { (n : ℕ) → self.new
@@ -195,6 +200,6 @@ impl Controller {
     {
         let before = arrived_records(&self.memory);
         swap_run(&mut self.memory, &before, from, payload);
-        self.finish_write(&before, from, payload.len() as u16);
+        self.finish_write(&before, range_of(from, payload));
     }
 }

@@ -1,34 +1,33 @@
 -- What an accepted request does in a controller: it empties and fills no mailbox, writes no register, and
 -- leaves the controller after the item.
-use Rattle.std.proofs.Common.{◌≡◌, ◌⊎◌, inl, inr, ℕ, ◌+◌, ◌-◌, ◌*◌, ◌/◌, ◌%◌, ◌<◌, ◌≤◌, Bool, true, false}
-use Rattle.std.proofs.Common.{◌&&◌, ◌||◌, cond, eqb, leb, ltb, List, length, get_or}
-use Rattle.std.proofs.Common.{Option, None, Some, sym, ◌∙◌, ap, refl, arith, ⊎_elim}
-use Rattle.std.proofs.lemmas.Bool.{cases_Bool}
+use Rattle.std.proofs.Common.{◌≡◌, ℕ, ◌*◌, ◌/◌, ◌<◌, ◌≤◌, Bool, true, false}
+use Rattle.std.proofs.Common.{◌&&◌, eqb, leb}
+use Rattle.std.proofs.Common.{Option, None, ◌∙◌, ap, refl, arith, ⊎_elim}
+use Rattle.std.specs.List.{Any}
+use Rattle.std.proofs.lemmas.Bool.{and_parts}
 use Rattle.std.proofs.lemmas.Bool.Decides.{nat_tests}
-use Rattle.std.proofs.lemmas.List.{get_or_default}
 use Rattle.ec_regs.specs.declared.sync_man.SyncMan.{SyncMan}
 use Rattle.ec_regs.specs.declared.registers.TheConstants.{PROCESS_MEMORY}
-use Rattle.ec_regs.specs.SyncMan.{is_active, is_buffered, master_reads, master_writes}
+use Rattle.ec_regs.specs.SyncMan.{master_reads, master_writes}
 use Rattle.ec_wire.specs.Datagram.{DatagramRecord, adp_of, ado_of}
-use Rattle.ec_areas.specs.Ranges.{within, takes_writes, emptied_by, filled_by}
+use Rattle.ec_regs.specs.AddressRange.{within}
+use Rattle.ec_areas.specs.Ranges.{LiesBuffered}
 use Rattle.ec_areas.specs.Records.{fmmus_of, sync_managers_of}
-use Rattle.ec_areas.proofs.LogicalLemmas.{both}
-use Rattle.ec_areas.proofs.MailboxLemmas.{no_manager}
-use Rattle.ec_areas.proofs.MapLemmas.{write_map_register}
-use Rattle.ec_areas.proofs.MeetLemmas.{LiesBuffered, emptied_registers, emptied_buffered, filled_buffered}
-use Rattle.ec_areas.proofs.MeetLemmas.{buffered_place}
+use Rattle.ec_areas.proofs.Laws.{write_map_register, emptied_registers, emptied_buffered}
+use Rattle.ec_areas.proofs.Laws.{filled_buffered, buffered_place}
 use Rattle.ec_esc.specs.State.{ControllerState, IsController, word_at}
 use Rattle.ec_esc.specs.Writing.{with_emptied}
 use Rattle.ec_esc.specs.Pass.{Effect, Half, where_served, effect, serves_range_read, serves_range_write}
-use Rattle.ec_esc.specs.Pass.{serves_write, write_sources, read_mailbox, written_mailbox, range_targets}
+use Rattle.ec_esc.specs.Pass.{serves_write, write_sources, written_mailbox, range_targets}
 use Rattle.ec_esc.specs.Pass.{written_by, read_by, pass}
-use Rattle.ec_esc.proofs.IdleLemmas.{written_plain}
-use Rattle.ec_line.specs.Accepted.{IsWithinArea, LiesInArea, LiesInRegisters, IsStationOf, Accepts}
+use Rattle.ec_esc.proofs.Laws.{written_plain}
+use Rattle.ec_line.specs.Accepted.{IsWithinArea, LiesInArea, LiesInRegisters, Accepts}
 use Rattle.ec_line.specs.After.{written_through, after}
 use Rattle.ec_line.specs.Claims.{effect_of, taken}
-use Rattle.ec_line.specs.Request.{Request, command_of, OnWay}
-use Rattle.ec_line.specs.declared.kind.Kind.{Kind}
-use Rattle.ec_line.specs.declared.kind.Kind.TheVariants.{Lrd, Lwr, Lrw, Brd, Fprd, Fpwr}
+use Rattle.ec_line.specs.Request.{Request, OnWay}
+use Rattle.ec_wire.specs.Kind.{command_of}
+use Rattle.ec_wire.specs.declared.kind.Kind.{Kind}
+use Rattle.ec_wire.specs.declared.kind.Kind.TheVariants.{Lrd, Lwr, Lrw, Brd, Fprd, Fpwr}
 use Rattle.ec_line.proofs.StepLemmas.{effect_on_way}
 
 -- ---- halves that are served or not
@@ -44,36 +43,30 @@ where_places false h p none = refl
 
 -- ---- ranges
 
--- an area in which the range lies, by its number
+-- a range in an area lies in a buffered one
 pub lies_buffered : (direction : SyncMan → Bool) (c : ControllerState) (from n : ℕ) → 1 ≤ n
     → LiesInArea direction c from n
-    → (k : ℕ) × LiesBuffered (sync_managers_of c.memory) from n k
-    × (direction (get_or (sync_managers_of c.memory) k no_manager) ≡ true)
+    → Any (λ s. LiesBuffered s from n) (sync_managers_of c.memory)
 lies_buffered direction c from n some lies =
-    let managers = sync_managers_of c.memory in
-    let k = lies.0 in
-    let s : SyncMan = lies.1 in
-    let area : IsWithinArea direction s from n = lies.4 in
-    let here : get_or managers k no_manager ≡ s = get_or_default managers k no_manager s lies.2 ∙ lies.3 in
-    let starts = area.starts in
-    let ends = area.ends in (
-      k,
+    let area : IsWithinArea direction lies.1 from n = lies.4 in (
+      lies.0,
+      lies.1,
+      lies.2,
+      lies.3,
       record {
         some = some;
-        inside = lies.2;
-        active = ap is_active here ∙ area.active;
-        buffered = ap is_buffered here ∙ area.buffered;
-        starts = omega (arith, ap (λ (t : SyncMan). t.start) here);
-        ends = omega (arith, ap (λ (t : SyncMan). t.start) here, ap (λ (t : SyncMan). t.length) here);
+        active = area.active;
+        buffered = area.buffered;
+        starts = area.starts;
+        ends = area.ends;
       },
-      ap direction here ∙ area.direction_is,
     )
 
 -- the station that a test names
 pub station_named : (a : ℕ) (c : ControllerState) (b : Bool) → (eqb (adp_of a) (word_at c.memory 16) && b)
     ≡ true → adp_of a ≡ word_at c.memory 16
 station_named a c b named =
-    let parts = both (eqb (adp_of a) (word_at c.memory 16)) b named in
+    let parts = and_parts (eqb (adp_of a) (word_at c.memory 16)) b named in
     let same : eqb (adp_of a) (word_at c.memory 16) ≡ true = parts.0 in
     grind (arith, nat_tests)
 
@@ -96,7 +89,7 @@ reading_mail_kind Fprd a n c accepts =
     emptied_registers (sync_managers_of c.memory) (ado_of a) n accepts.some registers)
     (λ (area : LiesInArea master_reads c (ado_of a) n).
     let lies = lies_buffered master_reads c (ado_of a) n accepts.some area in
-    emptied_buffered (sync_managers_of c.memory) (ado_of a) n lies.0 lies.1)
+    emptied_buffered (sync_managers_of c.memory) (ado_of a) n lies)
     (accepts.place (station_named a c (serves_range_read c (ado_of a) n) served)))
 reading_mail_kind Fpwr a n c accepts = refl
 
@@ -116,7 +109,7 @@ writing_mail_kind Fpwr a n c accepts =
     (λ served.
     let lies = lies_buffered master_writes c (ado_of a) n accepts.some
     (accepts.place (station_named a c (serves_range_write c (ado_of a) n) served)) in
-    filled_buffered (sync_managers_of c.memory) (ado_of a) n lies.0 lies.1)
+    filled_buffered (sync_managers_of c.memory) (ado_of a) n lies)
 
 pub writing_mail : (r : Request) (c : ControllerState) → Accepts r c → (effect_of r c).writing.mail ≡ None
 writing_mail r c accepts = writing_mail_kind r.kind r.address r.count c accepts
@@ -148,13 +141,8 @@ taken_register_kind Fpwr a n c p accepts register =
     (λ served.
     let lies = lies_buffered master_writes c (ado_of a) n accepts.some
     (accepts.place (station_named a c (serves_range_write c (ado_of a) n) served)) in
-    let place = buffered_place (sync_managers_of c.memory) (ado_of a) n lies.0 lies.1 in
+    let place = buffered_place lies.1 (ado_of a) n lies.4 in
     outside_before c (ado_of a) n p place.0 register)
-
-pub taken_register : (r : Request) (c : ControllerState) (p : ℕ) → Accepts r c → p / 8 < PROCESS_MEMORY
-    → taken r c p ≡ None
-unfolding taken
-taken_register r c p accepts register = taken_register_kind r.kind r.address r.count c p accepts register
 
 -- ---- what the pass leaves
 

@@ -1,42 +1,15 @@
 -- The laws of answers: nobody, one, one after the other, joined copies, other members, and at most one
 -- answer.
-use Rattle.std.specs.Prelude.{max}
-use Rattle.std.proofs.Common.{◌≡◌, ◌≢◌, ◌⊎◌, inl, inr, ℕ, ◌+◌, ◌-◌, ◌%◌, ◌<◌, List, [], ◌∷◌, ◌++◌, Option}
-use Rattle.std.proofs.Common.{None, Some, sym, ◌∙◌, ap, refl, arith, ⊎_elim}
-use Rattle.std.specs.List.{AllByRecursion}
+use Rattle.std.specs.Prelude.{max, ◌↔◌}
+use Rattle.std.proofs.Common.{◌≡◌, ℕ, ◌+◌, ◌%◌, ◌<◌, List, [], ◌∷◌, ◌++◌, Option}
+use Rattle.std.proofs.Common.{None, Some, sym, ◌∙◌, refl, arith}
+use Rattle.std.specs.List.{AllByRecursion, Contains}
+use Rattle.std.proofs.lemmas.List.Elements.{All-contains, All-contains_itself, All-weaker, All-from_recursion}
+use Rattle.std.proofs.lemmas.List.Elements.{recursion_from_All}
+use Rattle.ec_regs.proofs.Laws.{each-append, each-front, each-back, each-map}
 use Rattle.ec_line.specs.Answers.{Meets, Answers, Agree, AllAgree}
 
--- ---- members
-
--- what holds of each of some and of each of others holds of each of all
-pub each-append : {S : Type 0} (P : S → Type 0) (xs ys : List S) → AllByRecursion P xs → AllByRecursion P ys
-    → AllByRecursion P (xs ++ ys)
-each-append P [] ys front back = back
-each-append P (x ∷ xs) ys front back = (front.0, each-append P xs ys front.1 back)
-
--- and the other way round
-pub each-front : {S : Type 0} (P : S → Type 0) (xs ys : List S) → AllByRecursion P (xs ++ ys)
-    → AllByRecursion P xs
-each-front P [] ys all = tt
-each-front P (x ∷ xs) ys all = (all.0, each-front P xs ys all.1)
-
-pub each-back : {S : Type 0} (P : S → Type 0) (xs ys : List S) → AllByRecursion P (xs ++ ys)
-    → AllByRecursion P ys
-each-back P [] ys all = all
-each-back P (x ∷ xs) ys all = each-back P xs ys all.1
-
--- what follows for one follows for each
-pub each-map : {S : Type 0} (P Q : S → Type 0) (xs : List S) → ((x : S) → P x → Q x) → AllByRecursion P xs
-    → AllByRecursion Q xs
-each-map P Q [] f all = tt
-each-map P Q (x ∷ xs) f all = (f x all.0, each-map P Q xs f all.1)
-
--- what holds of two things of each holds of both
-pub each-both : {S : Type 0} (P Q R : S → Type 0) (xs : List S) → ((x : S) → P x → Q x → R x)
-    → AllByRecursion P xs → AllByRecursion Q xs
-    → AllByRecursion R xs
-each-both P Q R [] f p q = tt
-each-both P Q R (x ∷ xs) f p q = (f x p.0 q.0, each-both P Q R xs f p.1 q.1)
+-- ---- the value of a bit that is claimed
 
 -- the value claimed for a bit, if one is
 pub meets_value : (value claimed : ℕ) (o : Option ℕ) → o ≡ Some claimed → Meets value o → value ≡ claimed
@@ -86,16 +59,6 @@ claimed_by {S} claim (x ∷ xs) i =
 -- nobody answers with what was sent
 pub answers_nobody : {S : Type 0} (claim : S → ℕ → Option ℕ) (sent : ℕ → ℕ) → Answers claim [] sent sent
 answers_nobody claim sent = record { claimed = λ i. tt; rest = λ i none. refl }
-
--- bits that are the same are the same answer
-pub answers_bits : {S : Type 0} (claim : S → ℕ → Option ℕ) (xs : List S) (sent got other : ℕ → ℕ)
-    → ((i : ℕ) → other i ≡ got i)
-    → Answers claim xs sent got → Answers claim xs sent other
-answers_bits claim xs sent got other same answer = record {
-  claimed = λ i. each-map (λ x. Meets (got i) (claim x i)) (λ x. Meets (other i) (claim x i)) xs
-      (λ x meets. meets_same (got i) (other i) (claim x i) (same i) meets) (answer.claimed i);
-  rest = λ i none. same i ∙ answer.rest i none;
-}
 
 -- one after the other: the answer of both
 pub answers_then : {S : Type 0} (claim : S → ℕ → Option ℕ) (xs ys : List S) (sent between got : ℕ → ℕ)
@@ -205,3 +168,20 @@ answers_same claim xs ys sent got same answer = record {
   claimed = λ i. same.meets i (got i) (answer.claimed i);
   rest = λ i none. answer.rest i (same.silent i none);
 }
+
+-- what holds of each of some holds of each of others that are among them
+each_among : {S : Type 0} (P : S → Type 0) (xs ys : List S) → ((c : S) → Contains ys c → Contains xs c)
+    → AllByRecursion P xs → AllByRecursion P ys
+each_among P xs ys among all =
+    recursion_from_All P ys
+    (All-weaker (Contains ys) P (λ c there. All-contains P xs c (All-from_recursion P xs all) (among c there))
+    ys (All-contains_itself ys))
+
+-- so sets with the same members answer the same
+pub answers_same_members : {S : Type 0} (claim : S → ℕ → Option ℕ) (xs ys : List S) (sent got : ℕ → ℕ)
+    → ((x : S) → Contains xs x ↔ Contains ys x) → Answers claim xs sent got → Answers claim ys sent got
+answers_same_members claim xs ys sent got same answer =
+    answers_same claim xs ys sent got (record {
+      meets = λ i g all. each_among (λ x. Meets g (claim x i)) xs ys (λ x there. (same x).1 there) all;
+      silent = λ i all. each_among (λ x. claim x i ≡ None) ys xs (λ x there. (same x).0 there) all;
+    }) answer

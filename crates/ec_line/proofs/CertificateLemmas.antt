@@ -1,34 +1,32 @@
 -- Counters that have moved as the whole line counts make the joined frame the answer of the whole line, and
 -- every memory that of the whole line.
-use Rattle.std.proofs.Common.{◌≡◌, ◌⊎◌, ℕ, zero, suc, ◌+◌, ◌-◌, ◌*◌, ◌/◌, ◌%◌, ◌<◌, ◌≤◌, Bool, true, false}
-use Rattle.std.proofs.Common.{cond, List, [], ◌∷◌, ◌++◌, length, take, drop, Option, None, Some}
-use Rattle.std.proofs.Common.{map, drop-drop, sym, subst, ◌∙◌, ap, refl, arith, ⊎_elim}
+use Rattle.std.proofs.Common.{◌≡◌, ℕ, zero, suc, ◌+◌, ◌-◌, ◌*◌, ◌%◌, ◌<◌, ◌≤◌, true, false}
+use Rattle.std.proofs.Common.{cond, List, [], ◌∷◌, ◌++◌, length, take, drop, Option, None}
+use Rattle.std.proofs.Common.{map, sym, subst, ◌∙◌, ap, refl, arith}
 use Rattle.std.specs.List.{AllByRecursion, sum_by}
 use Rattle.std.proofs.lemmas.List.Sums.{sum_by-cons, sum_by-append, sum_by-take-drop, sum_by-take-le}
-use Rattle.std.proofs.lemmas.List.{length-append, take-append-drop, append-nil}
+use Rattle.std.proofs.lemmas.List.{take-append-drop}
 use Rattle.std.proofs.lemmas.List.{drop_all}
-use Rattle.std.proofs.lemmas.Bool.{cases_lt}
 use Rattle.ec_regs.specs.Bits.{bit}
+use Rattle.ec_regs.proofs.Laws.{each-front, each-back, each-append, each-take, each-drop}
 use Rattle.ec_wire.specs.Datagram.{DatagramRecord}
-use Rattle.ec_esc.specs.State.{ControllerState, IsController}
+use Rattle.ec_esc.specs.State.{ControllerState}
 use Rattle.ec_line.specs.Accepted.{Accepts, AcceptsAll}
 use Rattle.ec_line.specs.After.{Entry, after_frame}
-use Rattle.ec_line.specs.Answered.{moved_address, Answered, AnsweredFrame, sent_of}
-use Rattle.ec_line.specs.Answers.{Meets, Answers}
-use Rattle.ec_line.specs.Calm.{SameCalm}
+use Rattle.ec_line.specs.Answered.{moved_address, Answered, AnsweredFrame}
+use Rattle.ec_line.specs.Answers.{Meets}
 use Rattle.ec_line.specs.Claims.{claim, gain}
 use Rattle.ec_line.specs.Fit.{IsFitAlone}
 use Rattle.ec_line.specs.Memory.{SameMemories, AllBetween, reached_after}
 use Rattle.ec_line.specs.Run.{CountsWhole, IsWholeTrip}
-use Rattle.ec_line.specs.Fit.{IsFitLine}
-use Rattle.ec_line.specs.Request.{Request, SameAddress, OnWay}
-use Rattle.ec_line.specs.Trip.{Trip, Passed, passed, joined_of, returned, front_after, back_after, visited}
-use Rattle.ec_line.specs.declared.kind.Kind.{Kind}
-use Rattle.ec_line.specs.declared.kind.Kind.TheVariants.{Lrd, Lwr, Lrw, Brd, Fprd, Fpwr}
-use Rattle.ec_line.proofs.AnswersLemmas.{SameClaims, answers_same, each-front, each-back, each-append}
-use Rattle.ec_line.proofs.CoreLemmas.{each-take, each-drop, chosen, IsReady, core, later-refl}
-use Rattle.ec_line.proofs.FitLemmas.{IsSilent, silent, broadcast_gain, gain_bound}
-use Rattle.ec_line.proofs.FrameLemmas.{after_frame_keeps, IsLater}
+use Rattle.ec_line.specs.Request.{Request}
+use Rattle.ec_line.specs.Trip.{Trip, passed, joined_of, returned, front_after, back_after, visited}
+use Rattle.ec_wire.specs.declared.kind.Kind.{Kind}
+use Rattle.ec_wire.specs.declared.kind.Kind.TheVariants.{Lrd, Lwr, Lrw, Brd, Fprd, Fpwr}
+use Rattle.ec_line.proofs.AnswersLemmas.{SameClaims, answers_same}
+use Rattle.ec_line.proofs.CoreLemmas.{IsReady, core}
+use Rattle.ec_line.proofs.FitLemmas.{silent, broadcast_gain, gain_bound}
+use Rattle.ec_line.specs.Steady.{IsLater}
 use Rattle.ec_line.proofs.JoinLemmas.{IsEntry}
 use Rattle.ec_line.proofs.MemoryLemmas.{same_memory_after, twice_is_once, IsSilentAt, after_frame_silent}
 
@@ -37,31 +35,6 @@ use Rattle.ec_line.proofs.MemoryLemmas.{same_memory_after, twice_is_once, IsSile
 -- the part of a list from p up to q, if p is before q
 abbrev pub between : {S : Type 0} → ℕ → ℕ → List S → List S
 between p q xs = take (q - p) (drop p xs)
-
--- a front and a back count each member once, but for those that both have and those that neither has
-pub slice_equation : {S : Type 0} (f : S → ℕ) (p q : ℕ) (xs : List S)
-    → sum_by f (take p xs) + sum_by f (drop q xs) + sum_by f (between p q xs)
-    ≡ sum_by f xs + sum_by f (between q p xs)
-slice_equation f p q xs =
-    ⊎_elim
-    (λ (before : p < q).
-    let whole = sum_by-take-drop f xs p in
-    let rest = sum_by-take-drop f (drop p xs) (q - p) in
-    let there : drop (q - p) (drop p xs) ≡ drop q xs =
-    drop-drop (q - p) p xs ∙ ap (λ n. drop n xs) (let e : p + (q - p) ≡ q = omega arith in e) in
-    let none : q - p + (p - q) ≡ q - p = omega arith in
-    let empty : p - q ≡ 0 = omega arith in
-    let nothing : sum_by f (between q p xs) ≡ 0 = ap (λ n. sum_by f (take n (drop q xs))) empty in
-    omega (arith, whole, rest, ap (sum_by f) there, nothing))
-    (λ (from : q ≤ p).
-    let whole = sum_by-take-drop f xs p in
-    let rest = sum_by-take-drop f (drop q xs) (p - q) in
-    let there : drop (p - q) (drop q xs) ≡ drop p xs =
-    drop-drop (p - q) q xs ∙ ap (λ n. drop n xs) (let e : q + (p - q) ≡ p = omega arith in e) in
-    let empty : q - p ≡ 0 = omega arith in
-    let nothing : sum_by f (between p q xs) ≡ 0 = ap (λ n. sum_by f (take n (drop p xs))) empty in
-    omega (arith, whole, rest, ap (sum_by f) there, nothing))
-    (cases_lt p q)
 
 -- what is left behind a piece counts no more than all
 sum_drop_le : {S : Type 0} (f : S → ℕ) (q : ℕ) (xs : List S) → sum_by f (drop q xs) ≤ sum_by f xs

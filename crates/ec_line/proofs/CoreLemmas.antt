@@ -1,48 +1,35 @@
 -- The core: what came back of a trip over a fit line and was joined is the answer of those that the copies
 -- passed which came back, and each controller is left after the frame as often as it was passed.
-use Rattle.std.proofs.Common.{◌≡◌, ℕ, zero, suc, ◌+◌, ◌<◌, ◌≤◌, Bool, true, false, cond, List, [], ◌∷◌, ◌++◌}
-use Rattle.std.proofs.Common.{length, take, drop, map, sym, subst, ◌∙◌, ap, refl, arith}
+use Rattle.std.proofs.Common.{◌≡◌, ℕ, zero, suc, Bool, true, false, cond, List, [], ◌∷◌, ◌++◌}
+use Rattle.std.proofs.Common.{take, drop, map, sym, subst, ◌∙◌, ap, refl}
 use Rattle.std.specs.List.{AllByRecursion}
-use Rattle.std.proofs.lemmas.List.{take-append-drop, append-nil, length-take-le, length-map}
+use Rattle.std.proofs.lemmas.List.{take-append-drop}
+use Rattle.ec_regs.proofs.Laws.{each-map, each-both, each-take, each-drop}
 use Rattle.ec_wire.specs.Datagram.{DatagramRecord}
-use Rattle.ec_merge.specs.Frames.{joined_frame}
-use Rattle.ec_esc.specs.State.{ControllerState, IsController}
+use Rattle.ec_esc.specs.State.{ControllerState}
 use Rattle.ec_line.specs.Accepted.{AcceptsAll}
 use Rattle.ec_line.specs.After.{Entry, after_frame}
 use Rattle.ec_line.specs.Answered.{AnsweredFrame, sent_of}
 use Rattle.ec_line.specs.Answers.{Agree, AllAgree}
-use Rattle.ec_line.specs.Calm.{SameCalm}
 use Rattle.ec_line.specs.Claims.{claim}
 use Rattle.ec_line.specs.Fit.{IsFitAlone, AreApart, AllApart, IsFitLine}
-use Rattle.ec_line.specs.Request.{Request}
-use Rattle.ec_line.specs.Trip.{PassedLine, line_pass, front_pass, back_pass, circulated, Trip, Passed, sent_b}
+use Rattle.ec_line.specs.Request.{Request, OnWay}
+use Rattle.ec_line.specs.Trip.{line_pass, front_pass, back_pass, circulated, Trip, Passed, sent_b}
 use Rattle.ec_line.specs.Trip.{passed_by_a_first, passed_by_b_first, passed, joined_of}
 use Rattle.ec_line.specs.Trip.{returned, front_after, back_after, visited}
-use Rattle.ec_line.proofs.AnswersLemmas.{each-map, each-both, each-append}
 use Rattle.ec_line.proofs.FitLemmas.{agree, agree_self, agree_back}
-use Rattle.ec_line.proofs.FrameLemmas.{after_frame_keeps, IsLater, ApartFrom, line_step}
+use Rattle.ec_line.proofs.FrameLemmas.{after_frame_keeps, ApartFrom, line_step}
+use Rattle.ec_line.specs.Steady.{IsLater}
 use Rattle.ec_line.proofs.JoinLemmas.{IsEntry, AgreeAll, frame_joined, answered_nobody, frame_nobody}
 
 -- ---- pieces of a list
-
-pub each-take : {S : Type 0} (P : S → Type 0) (n : ℕ) (xs : List S) → AllByRecursion P xs
-    → AllByRecursion P (take n xs)
-each-take P zero xs all = tt
-each-take P (suc n) [] all = tt
-each-take P (suc n) (x ∷ xs) all = (all.0, each-take P n xs all.1)
-
-pub each-drop : {S : Type 0} (P : S → Type 0) (n : ℕ) (xs : List S) → AllByRecursion P xs
-    → AllByRecursion P (drop n xs)
-each-drop P zero xs all = all
-each-drop P (suc n) [] all = tt
-each-drop P (suc n) (x ∷ xs) all = each-drop P n xs all.1
 
 apart-take : (n : ℕ) (xs : List ControllerState) → AllApart xs → AllApart (take n xs)
 apart-take zero xs all = tt
 apart-take (suc n) [] all = tt
 apart-take (suc n) (x ∷ xs) all = (each-take (λ y. AreApart x y) n xs all.0, apart-take n xs all.1)
 
-apart-drop : (n : ℕ) (xs : List ControllerState) → AllApart xs → AllApart (drop n xs)
+pub apart-drop : (n : ℕ) (xs : List ControllerState) → AllApart xs → AllApart (drop n xs)
 apart-drop zero xs all = all
 apart-drop (suc n) [] all = tt
 apart-drop (suc n) (x ∷ xs) all = apart-drop n xs all.1
@@ -97,7 +84,18 @@ later-pieces n xs ys zs front back =
 pub later-refl : (xs : List ControllerState) → AllByRecursion IsFitAlone xs → IsLater xs xs
 later-refl [] fit = tt
 later-refl (x ∷ xs) fit =
-    ((record { size = refl; bytes = λ a calm. refl }, fit.0.controller), later-refl xs fit.1)
+    ((record { size = refl; bytes = λ a steady. refl }, fit.0.controller), later-refl xs fit.1)
+
+-- the frame behind a line that it passed, and the line then
+pub copy_of : (es : List Entry) (line : List ControllerState) → IsFitLine line
+    → AllByRecursion (AcceptsAll es) line
+    → AllByRecursion (λ e. OnWay e.request e.sent) es
+    → AnsweredFrame es line (line_pass line (sent_of es)).frame
+    × ((line_pass line (sent_of es)).line ≡ map (after_frame es) line)
+unfolding IsEntry
+copy_of es line fit accepts entries =
+    line_step es [] line line (sent_of es) fit.alone fit.apart (apart_from_nobody line) accepts
+    (later-refl line fit.alone) (frame_nobody es entries)
 
 -- ---- members of a fit line agree
 

@@ -1,34 +1,30 @@
 -- Controllers that are apart: where both claim a bit they claim one value, what one takes the other does not
 -- claim, and one that counts nothing does nothing.
-use Rattle.std.proofs.Common.{◌≡◌, ◌⊎◌, inl, inr, ℕ, zero, suc, ◌+◌, ◌-◌, ◌*◌, ◌/◌, ◌%◌, ◌<◌, ◌≤◌, Bool, true}
-use Rattle.std.proofs.Common.{false, ◌&&◌, ◌||◌, cond, eqb, List, [], ◌∷◌, ◌++◌}
-use Rattle.std.proofs.Common.{length, get_or, take, drop, Option, None, Some, sym, subst, ◌∙◌, ap, refl}
+use Rattle.std.proofs.Common.{◌≡◌, ℕ, ◌+◌, ◌*◌, ◌<◌, ◌≤◌, Bool, true}
+use Rattle.std.proofs.Common.{false, ◌&&◌, cond, eqb}
+use Rattle.std.proofs.Common.{Option, None, Some, sym, ◌∙◌, ap, refl}
 use Rattle.std.proofs.Common.{arith, ⊎_elim}
-use Rattle.std.specs.List.{AllByRecursion}
 use Rattle.std.specs.Option.{option_map}
 use Rattle.std.proofs.lemmas.Bool.{cases_Bool, cases_lt}
 use Rattle.std.proofs.lemmas.Bool.Decides.{nat_tests}
 use Rattle.ec_regs.specs.Bits.{bit}
 use Rattle.ec_wire.specs.Datagram.{adp_of, ado_of}
-use Rattle.ec_areas.specs.Logical.{write_map}
 use Rattle.ec_areas.specs.Records.{fmmus_of, sync_managers_of}
-use Rattle.ec_areas.proofs.LogicalLemmas.{both, IsReadable-read_map}
-use Rattle.ec_areas.proofs.MapLemmas.{IsWritable-write_map}
-use Rattle.ec_areas.proofs.MeetLemmas.{reads_registers}
+use Rattle.ec_areas.proofs.Laws.{NamesPairs-read_map, NamesPairs-write_map, reads_registers}
 use Rattle.ec_esc.specs.State.{ControllerState, word_at}
 use Rattle.ec_esc.specs.Pass.{Half, nothing, where_served, effect, serves_read, serves_write, read_sources}
 use Rattle.ec_esc.specs.Pass.{write_sources, serves_range_read, serves_range_write}
 use Rattle.ec_esc.specs.Pass.{range_sources, range_targets, broadcast_sources, read_mailbox, written_mailbox}
 use Rattle.ec_line.specs.Accepted.{Accepts}
-use Rattle.ec_line.specs.Answers.{Agree, AllAgree}
+use Rattle.ec_line.specs.Answers.{Agree}
 use Rattle.ec_line.specs.Claims.{effect_of, claim, taken, gain}
-use Rattle.ec_line.specs.Fit.{Reads, Writes, IsFitAlone, AreApart, AllApart, IsFitLine}
-use Rattle.ec_line.specs.Request.{Request, command_of}
-use Rattle.ec_line.specs.declared.kind.Kind.{Kind}
-use Rattle.ec_line.specs.declared.kind.Kind.TheVariants.{Lrd, Lwr, Lrw, Brd, Fprd, Fpwr}
-use Rattle.ec_line.proofs.AnswersLemmas.{each-map, each-append}
+use Rattle.ec_line.specs.Fit.{Reads, Writes, AreApart}
+use Rattle.ec_line.specs.Request.{Request}
+use Rattle.ec_wire.specs.Kind.{command_of}
+use Rattle.ec_wire.specs.declared.kind.Kind.{Kind}
+use Rattle.ec_wire.specs.declared.kind.Kind.TheVariants.{Lrd, Lwr, Lrw, Brd, Fprd, Fpwr}
 use Rattle.ec_line.proofs.AcceptedLemmas.{station_named}
-use Rattle.ec_line.proofs.CalmLemmas.{claim_in, claim_out, where_some, broadcast_claim}
+use Rattle.ec_line.proofs.SteadyLemmas.{claim_in, claim_out, where_some, broadcast_claim}
 
 -- ---- what is claimed, and what is taken
 
@@ -54,7 +50,7 @@ logical_claim : (a n g : ℕ) (c : ControllerState) (i p : ℕ)
     → (where_served (serves_read c a n) (record { places = read_sources c a; gain = g; mail = None })).places
     i ≡ Some p → Reads c (8 * a + i) p
 logical_claim a n g c i p e =
-    IsReadable-read_map (sync_managers_of c.memory) (fmmus_of c.memory) (8 * a + i) p
+    (NamesPairs-read_map (sync_managers_of c.memory) (fmmus_of c.memory)).is_paired (8 * a + i) p
     (where_some (serves_read c a n) (record { places = read_sources c a; gain = g; mail = None }) i p e).1
 
 -- and what is taken logically that of a writable pair
@@ -63,7 +59,7 @@ logical_take : (a n g : ℕ) (c : ControllerState) (p i : ℕ)
     (record { places = write_sources c a n; gain = g; mail = None })).places p ≡ Some i
     → Writes c (8 * a + i) p
 logical_take a n g c p i e =
-    (IsWritable-write_map (sync_managers_of c.memory) (fmmus_of c.memory) (8 * a) (8 * n) p i
+    ((NamesPairs-write_map (sync_managers_of c.memory) (fmmus_of c.memory) (8 * a) (8 * n)).is_paired p i
     (where_some (serves_write c a n) (record { places = write_sources c a n; gain = g; mail = None }) p i
     e).1).1
 

@@ -1,34 +1,34 @@
 -- A frame that passes one controller, and then a line: each datagram is answered by those that it passed as
 -- they were at first, and each of them is left after the items with the data that were sent.
-use Rattle.std.proofs.Common.{◌≡◌, ℕ, zero, suc, ◌+◌, ◌%◌, ◌*◌, ◌/◌, ◌<◌, ◌≤◌, Bool, true, false, List, []}
-use Rattle.std.proofs.Common.{◌∷◌, ◌++◌, length, take, drop, Option, None, Some}
-use Rattle.std.proofs.Common.{sym, subst, ◌∙◌, ap, refl, arith, ⊎_elim, map, append_assoc}
+use Rattle.std.proofs.Common.{◌≡◌, ℕ, ◌+◌, ◌%◌, List, []}
+use Rattle.std.proofs.Common.{◌∷◌, ◌++◌, length, Option, None, Some}
+use Rattle.std.proofs.Common.{sym, subst, ◌∙◌, ap, refl, arith, map, append_assoc}
 use Rattle.std.specs.List.{AllByRecursion, sum_by}
 use Rattle.std.proofs.lemmas.List.Sums.{sum_by-cons, sum_by-append}
 use Rattle.std.proofs.lemmas.List.{length-append, append-nil}
 use Rattle.ec_regs.specs.Bits.{bit, placed_bit, with_bits}
-use Rattle.ec_regs.proofs.BitLemmas.{placed_bit_taken, placed_bit_kept, with_bits_same_bits}
+use Rattle.ec_regs.proofs.Laws.{placed_bit_taken, placed_bit_kept, with_bits_same_bits, each-append}
+use Rattle.ec_regs.proofs.Laws.{each-map, each-both}
 use Rattle.ec_wire.specs.Datagram.{DatagramRecord}
 use Rattle.ec_areas.specs.Records.{sync_managers_of}
 use Rattle.ec_esc.specs.State.{ControllerState, IsController}
 use Rattle.ec_esc.specs.Writing.{shown_after}
-use Rattle.ec_esc.specs.Pass.{touches, pass, PassedFrame, frame_pass}
+use Rattle.ec_esc.specs.Pass.{touches, pass, frame_pass}
 use Rattle.ec_line.specs.Accepted.{Accepts, AcceptsAll}
 use Rattle.ec_line.specs.After.{Entry, written_through, after, after_frame}
-use Rattle.ec_line.specs.Answered.{moved_address, Answered, AnsweredFrame, sent_of}
+use Rattle.ec_line.specs.Answered.{moved_address, Answered, AnsweredFrame}
 use Rattle.ec_line.specs.Answers.{Meets, Answers, Agree, AllAgree}
-use Rattle.ec_line.specs.Calm.{SameCalm}
+use Rattle.ec_line.specs.Steady.{SameSteady, IsLater}
 use Rattle.ec_line.specs.Claims.{claim, taken, gain}
-use Rattle.ec_line.specs.Fit.{IsFitAlone, AreApart, AllApart, IsFitLine}
-use Rattle.ec_line.specs.Request.{Request, SameAddress, OnWay}
-use Rattle.ec_line.specs.Trip.{PassedLine, line_pass}
-use Rattle.ec_line.proofs.AnswersLemmas.{each-append, each-map, each-both, answers_nobody, answers_then}
-use Rattle.ec_line.proofs.AnswersLemmas.{answers_bits}
+use Rattle.ec_line.specs.Fit.{IsFitAlone, AreApart, AllApart}
+use Rattle.ec_line.specs.Request.{Request, OnWay}
+use Rattle.ec_line.specs.Trip.{line_pass}
+use Rattle.ec_line.proofs.AnswersLemmas.{answers_then}
 use Rattle.ec_line.proofs.AcceptedLemmas.{after_pass}
-use Rattle.ec_line.proofs.CalmLemmas.{same_calm_trans, claim_lasts, gain_lasts, taken_lasts, after_calm}
-use Rattle.ec_line.proofs.CalmLemmas.{after_controller, accepts_lasts}
-use Rattle.ec_line.proofs.FitLemmas.{agree, agree_self, agree_back, own}
-use Rattle.ec_line.proofs.StepLemmas.{step, moved_moved, moved_none}
+use Rattle.ec_line.proofs.SteadyLemmas.{same_steady_trans, claim_lasts, gain_lasts, taken_lasts, after_steady}
+use Rattle.ec_line.proofs.SteadyLemmas.{after_controller, accepts_lasts}
+use Rattle.ec_line.proofs.FitLemmas.{agree_back, own}
+use Rattle.ec_line.proofs.StepLemmas.{step, moved_moved}
 
 -- ---- one datagram, at a controller that has changed since
 
@@ -42,7 +42,7 @@ answers_lasts r x y sent got same answer = record {
 }
 
 pub step_lasts : (r : Request) (x y : ControllerState) (d : DatagramRecord) → IsFitAlone x → Accepts r x
-    → SameCalm x y → OnWay r d
+    → SameSteady x y → OnWay r d
     → Answered r (x ∷ []) d (pass y d).datagram
 step_lasts r x y d fit accepts same way =
     let now : Answered r (y ∷ []) d (pass y d).datagram = step r y d way in
@@ -131,7 +131,7 @@ arrives_sent r xs y d e apart answer p i takes =
 -- y is the controller x as it is now: the frame, which others have answered, is answered by them and x
 pub frame_step : (es : List Entry) (xs : List ControllerState) (x y : ControllerState)
     (ds : List DatagramRecord) → IsFitAlone x → IsController y
-    → SameCalm x y → AcceptsAll es x → AllByRecursion (λ f. AreApart f x) xs → AnsweredFrame es xs ds
+    → SameSteady x y → AcceptsAll es x → AllByRecursion (λ f. AreApart f x) xs → AnsweredFrame es xs ds
     → AnsweredFrame es (xs ++ x ∷ []) (frame_pass y ds).frame × ((frame_pass y ds).state ≡ after_frame es y)
 unfolding frame_pass after_frame SameTaken
 frame_step [] xs x y [] fit controller same accepts apart answered = (tt, refl)
@@ -149,36 +149,30 @@ frame_step (e ∷ es) xs x y (d ∷ ds) fit controller same accepts apart answer
     ∙ some)) in
     let next_controller : IsController next =
     subst IsController (sym left) (after_controller r e.sent.payload y controller) in
-    let next_same : SameCalm x next =
-    subst (λ (z : ControllerState). SameCalm x z) (sym left)
-    (same_calm_trans x y (after r e.sent.payload y) fit.controller same
-    (after_calm r e.sent.payload y controller accepts_now)) in
+    let next_same : SameSteady x next =
+    subst (λ (z : ControllerState). SameSteady x z) (sym left)
+    (same_steady_trans x y (after r e.sent.payload y) fit.controller same
+    (after_steady r e.sent.payload y controller accepts_now)) in
     let rest = frame_step es xs x next ds fit next_controller next_same accepts.1 apart answered.1 in
     let here : Answered r (xs ++ x ∷ []) e.sent (pass y d).datagram =
     answered_then r xs (x ∷ []) e.sent d (pass y d).datagram (agrees_with r xs x apart) answered.0
     (step_lasts r x y d fit accepts.0 same answered.0.way) in
     ((here, rest.0), rest.1 ∙ ap (after_frame es) left)
 
--- the controller after a frame has its calm bytes, and is one
+-- the controller after a frame has its steady bytes, and is one
 pub after_frame_keeps : (es : List Entry) (x y : ControllerState) → IsController x → IsController y
-    → SameCalm x y → AcceptsAll es x
-    → IsController (after_frame es y) × SameCalm x (after_frame es y)
+    → SameSteady x y → AcceptsAll es x
+    → IsController (after_frame es y) × SameSteady x (after_frame es y)
 unfolding after_frame
 after_frame_keeps [] x y was controller same accepts = (controller, same)
 after_frame_keeps (e ∷ es) x y was controller same accepts =
     let accepts_now : Accepts e.request y = accepts_lasts e.request x y was same accepts.0 in
     after_frame_keeps es x (after e.request e.sent.payload y) was
     (after_controller e.request e.sent.payload y controller)
-    (same_calm_trans x y (after e.request e.sent.payload y) was same
-    (after_calm e.request e.sent.payload y controller accepts_now)) accepts.1
+    (same_steady_trans x y (after e.request e.sent.payload y) was same
+    (after_steady e.request e.sent.payload y controller accepts_now)) accepts.1
 
 -- ---- a line
-
--- the controllers of a line as they are now: of each, one with the calm bytes that it had at first
-abbrev pub IsLater : List ControllerState → List ControllerState → Type 0
-IsLater [] [] = Unit {0}
-IsLater (x ∷ xs) (y ∷ ys) = (SameCalm x y × IsController y) × IsLater xs ys
-IsLater _ _ = ⊥
 
 -- each of some is apart from each of others
 abbrev pub ApartFrom : List ControllerState → List ControllerState → Type 0

@@ -1,30 +1,29 @@
 -- Two copies that were answered, joined, are the answer of both sets.
-use Rattle.std.proofs.Common.{◌≡◌, ℕ, ◌+◌, ◌-◌, ◌*◌, ◌/◌, ◌%◌, ◌<◌, ◌≤◌, Bool, true, false, cond, List, []}
-use Rattle.std.proofs.Common.{◌∷◌, ◌++◌, length, get_or, Option, None, Some}
+use Rattle.std.proofs.Common.{◌≡◌, ℕ, ◌+◌, ◌/◌, ◌%◌, List, []}
+use Rattle.std.proofs.Common.{◌∷◌, ◌++◌, length, get_or}
 use Rattle.std.proofs.Common.{sym, subst, ◌∙◌, ap, refl, arith}
-use Rattle.std.specs.Prelude.{max}
 use Rattle.std.specs.List.{AllByRecursion, sum_by}
 use Rattle.std.specs.Int.{bit_at}
 use Rattle.std.proofs.lemmas.List.Sums.{sum_by-append}
 use Rattle.std.proofs.lemmas.List.{length-append}
 use Rattle.ec_regs.specs.Bits.{bit}
-use Rattle.ec_regs.proofs.BitLemmas.{bit-lt}
-use Rattle.ec_wire.specs.Command.{counts_adp}
+use Rattle.ec_regs.proofs.Laws.{bit-lt}
 use Rattle.ec_wire.specs.Datagram.{DatagramRecord}
 use Rattle.ec_wire.specs.declared.command.Command.{Command}
-use Rattle.ec_merge.specs.Rule.{joined_count, joined_bits}
+use Rattle.ec_merge.specs.Rule.{joined_bits}
 use Rattle.ec_merge.specs.Laws.{bit_at_joined, joined_bits_unit}
 use Rattle.ec_merge.specs.Bytes.{joined_bytes}
 use Rattle.ec_merge.specs.Frames.{joined_address, joined_record, joined_frame}
-use Rattle.ec_merge.proofs.BytesLemmas.{length-joined, get_or-joined}
+use Rattle.ec_merge.proofs.Laws.{length-joined, get_or-joined}
 use Rattle.ec_esc.specs.State.{ControllerState}
 use Rattle.ec_line.specs.After.{Entry}
 use Rattle.ec_line.specs.Answered.{moved_address, Answered, AnsweredFrame, sent_of}
-use Rattle.ec_line.specs.Answers.{Answers, AllAgree}
+use Rattle.ec_line.specs.Answers.{AllAgree}
 use Rattle.ec_line.specs.Claims.{claim, gain}
-use Rattle.ec_line.specs.Request.{Request, command_of, SameAddress, OnWay}
-use Rattle.ec_line.specs.declared.kind.Kind.{Kind}
-use Rattle.ec_line.specs.declared.kind.Kind.TheVariants.{Lrd, Lwr, Lrw, Brd, Fprd, Fpwr}
+use Rattle.ec_line.specs.Request.{Request, SameAddress, OnWay}
+use Rattle.ec_wire.specs.Kind.{command_of}
+use Rattle.ec_wire.specs.declared.kind.Kind.{Kind}
+use Rattle.ec_wire.specs.declared.kind.Kind.TheVariants.{Lrd, Lwr, Lrw, Brd, Fprd, Fpwr}
 use Rattle.ec_line.proofs.AnswersLemmas.{joined_at, answers_joined, answers_nobody}
 use Rattle.ec_line.proofs.StepLemmas.{moved_none}
 

@@ -1,7 +1,7 @@
 pub mod AnswersLemmas
 pub mod StepLemmas
 pub mod AcceptedLemmas
-pub mod CalmLemmas
+pub mod SteadyLemmas
 pub mod FitLemmas
 pub mod FrameLemmas
 pub mod JoinLemmas
@@ -13,3 +13,4 @@ pub mod ShownLemmas
 pub mod ShownRunLemmas
 pub mod SetLemmas
 pub mod OwnLemmas
+pub mod Laws

@@ -1,31 +1,29 @@
 -- A frame twice is a frame once, for memory: each bit holds what the last entry that writes it sent.
-use Rattle.std.proofs.Common.{◌≡◌, ℕ, zero, suc, ◌+◌, ◌*◌, ◌/◌, ◌%◌, ◌<◌, ◌≤◌, Bool, true, false, List, []}
-use Rattle.std.proofs.Common.{◌∷◌, ◌++◌, length, take, drop, Option, None, Some}
-use Rattle.std.proofs.Common.{map, sym, subst, ◌∙◌, ap, refl, arith, ⊎_elim}
+use Rattle.std.proofs.Common.{◌≡◌, ℕ, ◌*◌, ◌<◌, false, List, []}
+use Rattle.std.proofs.Common.{◌∷◌, Option, None, Some}
+use Rattle.std.proofs.Common.{sym, ◌∙◌, ap, refl, arith}
 use Rattle.std.specs.List.{AllByRecursion}
 use Rattle.std.specs.Option.{option_map, unwrap_or}
 use Rattle.std.proofs.Math.Path.{fun_ext}
-use Rattle.ec_regs.specs.Bits.{AreBytes, bit, placed_bit, with_bits, later}
+use Rattle.ec_regs.specs.Bits.{bit, placed_bit, with_bits, later}
 use Rattle.ec_regs.specs.declared.registers.TheConstants.{MEMORY_SIZE}
-use Rattle.ec_regs.proofs.BitLemmas.{bit-with_bits, placed_bit_taken, placed_bit_kept, same_from_list_bits}
-use Rattle.ec_regs.proofs.BitLemmas.{with_bits_none}
+use Rattle.ec_regs.proofs.Laws.{bit-with_bits, placed_bit_taken, placed_bit_kept, same_from_list_bits}
+use Rattle.ec_regs.proofs.Laws.{with_bits_none}
 use Rattle.ec_areas.specs.Records.{sync_managers_of}
-use Rattle.ec_areas.proofs.MapLemmas.{names_nowhere}
+use Rattle.ec_areas.proofs.Laws.{names_nowhere}
 use Rattle.ec_esc.specs.State.{ControllerState, IsController}
 use Rattle.ec_esc.specs.Writing.{shown_after}
 use Rattle.ec_esc.specs.Pass.{touches}
-use Rattle.ec_esc.proofs.IdleLemmas.{shown_after_same, shown_after_nothing}
+use Rattle.ec_esc.proofs.Laws.{shown_after_same, shown_after_nothing}
 use Rattle.ec_line.specs.Accepted.{Accepts, AcceptsAll}
 use Rattle.ec_line.specs.After.{Entry, written_through, after, after_frame}
-use Rattle.ec_line.specs.Calm.{SameCalm}
+use Rattle.ec_line.specs.Steady.{SameSteady}
 use Rattle.ec_line.specs.Claims.{taken, gain}
-use Rattle.ec_line.specs.Memory.{SameMemories, AllBetween}
 use Rattle.ec_line.specs.Request.{Request}
-use Rattle.ec_line.specs.Trip.{front_after, back_after}
-use Rattle.ec_line.proofs.CalmLemmas.{same_calm_trans, taken_lasts, after_calm, after_controller}
-use Rattle.ec_line.proofs.CalmLemmas.{accepts_lasts}
+use Rattle.ec_line.proofs.SteadyLemmas.{same_steady_trans, taken_lasts, after_steady, after_controller}
+use Rattle.ec_line.proofs.SteadyLemmas.{accepts_lasts}
 use Rattle.ec_line.proofs.FitLemmas.{IsSilent, silent}
-use Rattle.ec_line.proofs.FrameLemmas.{after_frame_keeps, IsLater}
+use Rattle.ec_line.proofs.FrameLemmas.{after_frame_keeps}
 
 -- ---- the bit that stands behind a frame
 
@@ -57,7 +55,7 @@ bit_after r payload y p controller inside =
 
 -- all of a frame
 pub bit_after_frame : (es : List Entry) (x y : ControllerState) (p : ℕ) → IsController x → IsController y
-    → SameCalm x y → AcceptsAll es x
+    → SameSteady x y → AcceptsAll es x
     → p < 8 * MEMORY_SIZE → bit (after_frame es y).memory p ≡ unwrap_or (last_sent es x p) (bit y.memory p)
 unfolding after_frame last_sent
 bit_after_frame [] x y p was controller same accepts inside = refl
@@ -65,8 +63,8 @@ bit_after_frame (e ∷ es) x y p was controller same accepts inside =
     let r = e.request in
     let accepts_now : Accepts r y = accepts_lasts r x y was same accepts.0 in
     let next : ControllerState = after r e.sent.payload y in
-    let next_same : SameCalm x next =
-    same_calm_trans x y next was same (after_calm r e.sent.payload y controller accepts_now) in
+    let next_same : SameSteady x next =
+    same_steady_trans x y next was same (after_steady r e.sent.payload y controller accepts_now) in
     let value : Option ℕ = option_map (bit e.sent.payload) (taken r x p) in
     let here : bit next.memory p ≡ unwrap_or value (bit y.memory p) =
     bit_after r e.sent.payload y p controller inside
@@ -79,7 +77,7 @@ bit_after_frame (e ∷ es) x y p was controller same accepts inside =
 
 -- the memory behind a frame hangs on the memory before it alone
 pub same_memory_after : (es : List Entry) (x y z : ControllerState) → IsController x → IsController y
-    → IsController z → SameCalm x y → SameCalm x z
+    → IsController z → SameSteady x y → SameSteady x z
     → AcceptsAll es x → y.memory ≡ z.memory → (after_frame es y).memory ≡ (after_frame es z).memory
 same_memory_after es x y z was y_is z_is y_same z_same accepts memory =
     let one = after_frame_keeps es x y was y_is y_same accepts in
@@ -98,7 +96,7 @@ settled_or : (o : Option ℕ) (v : ℕ) → unwrap_or o (unwrap_or o v) ≡ unwr
 settled_or None v = refl
 settled_or (Some w) v = refl
 
-pub twice_is_once : (es : List Entry) (x y : ControllerState) → IsController x → IsController y → SameCalm x y
+pub twice_is_once : (es : List Entry) (x y : ControllerState) → IsController x → IsController y → SameSteady x y
     → AcceptsAll es x
     → (after_frame es (after_frame es y)).memory ≡ (after_frame es y).memory
 twice_is_once es x y was controller same accepts =
@@ -149,7 +147,7 @@ IsSilentAt es x = AllByRecursion (λ e. gain e.request x ≡ 0) es
 
 -- is left as it was
 pub after_frame_silent : (es : List Entry) (x y : ControllerState) → IsController x → IsController y
-    → SameCalm x y → IsSilentAt es x
+    → SameSteady x y → IsSilentAt es x
     → after_frame es y ≡ y
 unfolding after_frame
 after_frame_silent [] x y was controller same still = refl

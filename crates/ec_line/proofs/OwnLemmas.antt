@@ -11,11 +11,12 @@ use Rattle.ec_esc.specs.State.{ControllerState}
 use Rattle.ec_esc.specs.Pass.{pass, frame_pass}
 use Rattle.ec_line.specs.After.{Entry}
 use Rattle.ec_line.specs.Answered.{sent_of}
-use Rattle.ec_line.specs.Request.{command_of, SameAddress, OnWay}
+use Rattle.ec_line.specs.Request.{SameAddress, OnWay}
+use Rattle.ec_wire.specs.Kind.{command_of}
 use Rattle.ec_line.specs.Trip.{line_pass, front_pass, back_pass, circulated, Trip, sent_b, passed_by_a_first}
 use Rattle.ec_line.specs.Trip.{passed_by_b_first, passed}
-use Rattle.ec_line.specs.declared.kind.Kind.{Kind}
-use Rattle.ec_line.specs.declared.kind.Kind.TheVariants.{Lrd, Lwr, Lrw, Brd, Fprd, Fpwr}
+use Rattle.ec_wire.specs.declared.kind.Kind.{Kind}
+use Rattle.ec_wire.specs.declared.kind.Kind.TheVariants.{Lrd, Lwr, Lrw, Brd, Fprd, Fpwr}
 use Rattle.ec_line.proofs.JoinLemmas.{IsEntry}
 use Rattle.ec_line.proofs.StepLemmas.{step}
 

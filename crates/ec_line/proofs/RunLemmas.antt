@@ -1,22 +1,19 @@
 -- The laws of whole runs of trips over a fit line.
-use Rattle.std.proofs.Common.{◌≡◌, ℕ, zero, suc, ◌+◌, ◌%◌, ◌≤◌, List, [], ◌∷◌, length, map, sym, subst, ◌∙◌}
+use Rattle.std.proofs.Common.{◌≡◌, ℕ, zero, suc, ◌≤◌, List, [], ◌∷◌, length, map, sym, subst, ◌∙◌}
 use Rattle.std.proofs.Common.{ap, refl}
 use Rattle.std.specs.List.{AllByRecursion}
-use Rattle.ec_wire.specs.Datagram.{DatagramRecord}
 use Rattle.ec_esc.specs.State.{ControllerState}
 use Rattle.ec_line.specs.Accepted.{AcceptsAll}
 use Rattle.ec_line.specs.After.{Entry, after_frame}
-use Rattle.ec_line.specs.Answered.{AnsweredFrame}
-use Rattle.ec_line.specs.Fit.{IsFitAlone, IsFitLine}
+use Rattle.ec_line.specs.Fit.{IsFitAlone}
 use Rattle.ec_line.specs.Memory.{SameMemories, reached_after}
-use Rattle.ec_line.specs.Request.{OnWay}
-use Rattle.ec_line.specs.Run.{TripsRun, trips_run, TripsReady, AnsweredTrips, CountsWholeAll, after_trips}
+use Rattle.ec_line.specs.Run.{trips_run, TripsReady, AnsweredTrips, CountsWholeAll, after_trips}
 use Rattle.ec_line.specs.Run.{reached_trips, visited_trips, IsWholeTrip}
-use Rattle.ec_line.specs.Trip.{Trip, passed, joined_of, returned, visited}
+use Rattle.ec_line.specs.Trip.{Trip, passed, returned}
 use Rattle.ec_line.proofs.CertificateLemmas.{MOST, good_trip, whole_trip, visited_reached, memories-refl}
 use Rattle.ec_line.proofs.CertificateLemmas.{memories-trans, memories-after}
-use Rattle.ec_line.proofs.CoreLemmas.{IsReady, core, later-map, later-refl}
-use Rattle.ec_line.proofs.FrameLemmas.{IsLater}
+use Rattle.ec_line.proofs.CoreLemmas.{IsReady, core, later-map}
+use Rattle.ec_line.specs.Steady.{IsLater}
 use Rattle.ec_line.proofs.JoinLemmas.{IsEntry}
 use Rattle.ec_line.proofs.MemoryLemmas.{same_memory_after}
 

@@ -1,26 +1,22 @@
 -- On a fit line what a controller claims, takes and counts of a logical item is that of the sets of its
 -- readable and writable pairs; of an addressed item and a broadcast read, that of the range.
-use Rattle.std.proofs.Common.{◌≡◌, ◌⊎◌, inl, inr, ℕ, ◌+◌, ◌-◌, ◌*◌, ◌/◌, ◌%◌, ◌<◌, ◌≤◌, Bool, true, false}
-use Rattle.std.proofs.Common.{◌&&◌, cond, eqb, List, length, Option, None, Some}
-use Rattle.std.proofs.Common.{sym, subst, ◌∙◌, ap, refl, arith, ⊎_elim}
-use Rattle.std.specs.Option.{option_map, is_some, IsSome}
-use Rattle.std.proofs.lemmas.Bool.{cases_Bool, cases_lt}
-use Rattle.std.proofs.lemmas.Bool.Decides.{nat_tests}
+use Rattle.std.proofs.Common.{◌≡◌, ℕ, ◌+◌, ◌*◌, ◌<◌, true}
+use Rattle.std.proofs.Common.{Option, None, Some}
+use Rattle.std.proofs.Common.{sym, ◌∙◌, ap, refl, arith}
+use Rattle.std.specs.Option.{option_map, is_some}
 use Rattle.ec_regs.specs.Bits.{bit}
-use Rattle.ec_areas.specs.Logical.{IsReadable, IsWritable, read_map, write_map, read_places, target_places}
-use Rattle.ec_areas.specs.Logical.{target_map, names}
+use Rattle.ec_areas.specs.Logical.{read_map, write_map, target_places}
 use Rattle.ec_areas.specs.Records.{fmmus_of, sync_managers_of}
-use Rattle.ec_areas.proofs.LogicalLemmas.{IsReadable-read_map, read_map-IsReadable}
-use Rattle.ec_areas.proofs.MapLemmas.{names_at, names_some, names_none, IsWritable-write_map}
-use Rattle.ec_areas.proofs.MapLemmas.{write_map-IsWritable, IsWritable-target_map, target_map-IsWritable}
+use Rattle.ec_areas.proofs.Laws.{NamesPairs-read_map, names_at, NamesPairs-write_map}
+use Rattle.ec_areas.proofs.Laws.{NamesPairs-target_map}
 use Rattle.ec_esc.specs.State.{ControllerState}
 use Rattle.ec_esc.specs.Pass.{Half, where_served, serves_read, serves_write, read_sources, write_sources}
-use Rattle.ec_line.specs.Claims.{effect_of, claim, taken, gain}
+use Rattle.ec_line.specs.Claims.{effect_of, claim, taken}
 use Rattle.ec_line.specs.Fit.{Reads, Writes, IsFitAlone}
 use Rattle.ec_line.specs.Request.{Request}
-use Rattle.ec_line.specs.declared.kind.Kind.{Kind}
-use Rattle.ec_line.specs.declared.kind.Kind.TheVariants.{Lrd, Lwr, Lrw, Brd, Fprd, Fpwr}
-use Rattle.ec_line.proofs.CalmLemmas.{claim_in, claim_out, where_some}
+use Rattle.ec_wire.specs.declared.kind.Kind.{Kind}
+use Rattle.ec_wire.specs.declared.kind.Kind.TheVariants.{Lrd, Lwr, Lrw, Brd, Fprd, Fpwr}
+use Rattle.ec_line.proofs.SteadyLemmas.{claim_in, where_some}
 use Rattle.ec_line.proofs.FitLemmas.{claimed_place}
 
 -- ---- served
@@ -36,41 +32,20 @@ some_value : (o : Option ℕ) → is_some o ≡ true → (p : ℕ) × (o ≡ Som
 some_value None none = absurd (cc)
 some_value (Some p) some = (p, refl)
 
-pub served_read : (c : ControllerState) (a n : ℕ) → serves_read c a n ≡ true → ReadsIn c a n
-unfolding ReadsIn
-served_read c a n served =
-    let found = names_some (read_sources c a) (8 * n) served in
-    let value = some_value (read_sources c a found.0) found.2 in (
-      found.0,
-      value.0,
-      found.1,
-      IsReadable-read_map (sync_managers_of c.memory) (fmmus_of c.memory) (8 * a + found.0) value.0 value.1,
-    )
-
 pub read_served : (c : ControllerState) (a n : ℕ) → ReadsIn c a n → serves_read c a n ≡ true
 unfolding ReadsIn
 read_served c a n found =
     names_at (read_sources c a) (8 * n) found.0 found.2
-    (read_map-IsReadable (sync_managers_of c.memory) (fmmus_of c.memory) (8 * a + found.0) found.1 found.3)
-
-pub served_write : (c : ControllerState) (a n : ℕ) → serves_write c a n ≡ true → WritesIn c a n
-unfolding WritesIn
-served_write c a n served =
-    let places : ℕ → Option ℕ = target_places (sync_managers_of c.memory) (fmmus_of c.memory) (8 * a) in
-    let found = names_some places (8 * n) served in
-    let value = some_value (places found.0) found.2 in (
-      found.0,
-      value.0,
-      found.1,
-      IsWritable-target_map (sync_managers_of c.memory) (fmmus_of c.memory) (8 * a + found.0) value.0 value.1,
-    )
+    ((NamesPairs-read_map (sync_managers_of c.memory) (fmmus_of c.memory)).is_found (8 * a + found.0) found.1
+    found.3)
 
 pub write_served : (c : ControllerState) (a n : ℕ) → WritesIn c a n → serves_write c a n ≡ true
 unfolding WritesIn
 write_served c a n found =
     let places : ℕ → Option ℕ = target_places (sync_managers_of c.memory) (fmmus_of c.memory) (8 * a) in
     names_at places (8 * n) found.0 found.2
-    (target_map-IsWritable (sync_managers_of c.memory) (fmmus_of c.memory) (8 * a + found.0) found.1 found.3)
+    ((NamesPairs-target_map (sync_managers_of c.memory) (fmmus_of c.memory)).is_found (8 * a + found.0)
+    found.1 found.3)
 
 -- ---- claims of logical items
 
@@ -80,8 +55,9 @@ read_place_of : (c : ControllerState) (l p : ℕ) → IsFitAlone c → Reads c l
 read_place_of c l p fit pair =
     let managers = sync_managers_of c.memory in
     let fmmus = fmmus_of c.memory in
-    let value = some_value (read_map managers fmmus l) (read_map-IsReadable managers fmmus l p pair) in
-    value.1 ∙ ap Some (fit.read_once l value.0 p (IsReadable-read_map managers fmmus l value.0 value.1) pair)
+    let pairs = NamesPairs-read_map managers fmmus in
+    let value = some_value (read_map managers fmmus l) (pairs.is_found l p pair) in
+    value.1 ∙ ap Some (fit.read_once l value.0 p (pairs.is_paired l value.0 value.1) pair)
 
 logical_claim_by : (r : Request) (c : ControllerState) (i p g : ℕ) → IsFitAlone c → i < 8 * r.count
     → Reads c (8 * r.address + i) p
@@ -125,7 +101,8 @@ unclaimed_by r c i g half_is none =
           let place : (where_served (serves_read c r.address r.count) half).places i ≡ Some f.1 =
           ap (λ (h : Half). h.places i) (sym half_is) ∙ f.2 in
           absurd (none f.1
-          (IsReadable-read_map (sync_managers_of c.memory) (fmmus_of c.memory) (8 * r.address + i) f.1
+          ((NamesPairs-read_map (sync_managers_of c.memory) (fmmus_of c.memory)).is_paired (8 * r.address + i)
+          f.1
           (where_some (serves_read c r.address r.count) half i f.1 place).1))
     ] refl
 
@@ -144,9 +121,9 @@ write_place_of : (c : ControllerState) (a n p i : ℕ) → IsFitAlone c → i < 
 write_place_of c a n p i fit inside pair =
     let managers = sync_managers_of c.memory in
     let fmmus = fmmus_of c.memory in
-    let value = some_value (write_map managers fmmus (8 * a) (8 * n) p)
-    (write_map-IsWritable managers fmmus (8 * a) (8 * n) p i inside pair) in
-    let found = IsWritable-write_map managers fmmus (8 * a) (8 * n) p value.0 value.1 in
+    let pairs = NamesPairs-write_map managers fmmus (8 * a) (8 * n) in
+    let value = some_value (write_map managers fmmus (8 * a) (8 * n) p) (pairs.is_found p i (inside, pair)) in
+    let found = pairs.is_paired p value.0 value.1 in
     let same : 8 * a + value.0 ≡ 8 * a + i = fit.written_once (8 * a + value.0) (8 * a + i) p found.1 pair in
     let number : value.0 ≡ i = omega arith in
     value.1 ∙ ap Some number
@@ -178,8 +155,8 @@ untaken_by c a n p g none =
     elim (places p) as P [
       | None ↦ λ _. refl
       | Some i ↦ λ e.
-          let found = IsWritable-write_map (sync_managers_of c.memory) (fmmus_of c.memory) (8 * a) (8 * n) p i
-          (where_some (serves_write c a n) half p i e).1 in
+          let pairs = NamesPairs-write_map (sync_managers_of c.memory) (fmmus_of c.memory) (8 * a) (8 * n) in
+          let found = pairs.is_paired p i (where_some (serves_write c a n) half p i e).1 in
           absurd (none i found.0 found.1)
     ] refl
 

@@ -1,41 +1,37 @@
 -- Shown bytes: a frame twice shows what a frame once shows, wherever the last entry that shows a byte is the
 -- last that writes it.
-use Rattle.std.proofs.Common.{◌≡◌, ℕ, zero, suc, ◌+◌, ◌-◌, ◌*◌, ◌/◌, ◌<◌, ◌≤◌, Bool, true, false, ◌&&◌, ◌||◌}
-use Rattle.std.proofs.Common.{cond, List, [], ◌∷◌, ◌++◌, length, get_or, take, drop}
-use Rattle.std.proofs.Common.{Option, None, Some, map, sym, subst, ◌∙◌, ap, refl, arith, ⊎_elim}
+use Rattle.std.proofs.Common.{◌≡◌, ℕ, ◌+◌, ◌-◌, ◌*◌, ◌<◌, Bool, true, false, ◌&&◌, ◌||◌}
+use Rattle.std.proofs.Common.{cond, List, [], ◌∷◌, length, get_or}
+use Rattle.std.proofs.Common.{Option, sym, ◌∙◌, ap, refl, arith, ⊎_elim}
 use Rattle.std.specs.Prelude.{not}
 use Rattle.std.specs.List.{AllByRecursion}
-use Rattle.std.proofs.lemmas.Bool.{cases_Bool, cases_lt}
-use Rattle.std.proofs.lemmas.List.{get_or_past}
-use Rattle.ec_regs.specs.Bits.{AreBytes, bit, with_bits}
+use Rattle.std.proofs.lemmas.Bool.{and_parts, cases_Bool}
+use Rattle.ec_regs.specs.Bits.{with_bits}
 use Rattle.ec_regs.specs.SyncMan.{is_active, is_buffered, master_writes}
 use Rattle.ec_regs.specs.declared.sync_man.SyncMan.{SyncMan}
-use Rattle.ec_regs.specs.declared.registers.TheConstants.{PROCESS_MEMORY, MEMORY_SIZE}
+use Rattle.ec_regs.specs.declared.registers.TheConstants.{PROCESS_MEMORY}
+use Rattle.ec_regs.proofs.Laws.{get_or-with_bits_kept}
 use Rattle.ec_areas.specs.Areas.{guards}
 use Rattle.ec_areas.specs.Records.{sync_managers_of}
-use Rattle.ec_areas.proofs.LogicalLemmas.{both}
-use Rattle.ec_areas.proofs.MapLemmas.{names_none}
-use Rattle.ec_areas.proofs.MeetLemmas.{guards_parts, guards_from}
-use Rattle.ec_areas.proofs.RunLemmas.{get_or-with_bits_kept}
+use Rattle.ec_areas.proofs.Laws.{names_none, guards_parts, guards_from}
 use Rattle.ec_esc.specs.State.{ControllerState, IsController}
-use Rattle.ec_esc.specs.Writing.{hands_over, is_shown_anew, shown_byte, shown_after}
+use Rattle.ec_esc.specs.Writing.{hands_over, is_shown_anew}
 use Rattle.ec_esc.specs.Pass.{touches}
-use Rattle.ec_esc.proofs.ShowLemmas.{get_or-shown_after, length-shown_after}
+use Rattle.ec_esc.proofs.Laws.{get_or-shown_after}
 use Rattle.ec_line.specs.Accepted.{Accepts, AcceptsAll}
 use Rattle.ec_line.specs.After.{Entry, written_through, after, after_frame}
-use Rattle.ec_line.specs.Calm.{SameCalm}
+use Rattle.ec_line.specs.Steady.{SameSteady}
 use Rattle.ec_line.specs.Claims.{taken}
 use Rattle.ec_line.specs.Shown.{writes_byte, shows_byte, some_shows, ShowsLast, NoAreaTwice}
-use Rattle.ec_line.proofs.CalmLemmas.{managers_last, same_calm_trans, taken_lasts, after_calm}
-use Rattle.ec_line.proofs.CalmLemmas.{after_controller, accepts_lasts}
+use Rattle.ec_line.proofs.SteadyLemmas.{managers_last, same_steady_trans, taken_lasts, after_steady}
+use Rattle.ec_line.proofs.SteadyLemmas.{after_controller, accepts_lasts}
 use Rattle.ec_line.proofs.FrameLemmas.{after_frame_keeps}
 use Rattle.ec_line.proofs.MemoryLemmas.{twice_is_once, same_memory_after}
-use Rattle.ec_line.specs.Request.{Request}
 
 -- ---- one item
 
 -- a byte that the item does not write stays
-byte_kept : (e : Entry) (x y : ControllerState) (a : ℕ) → IsController x → IsController y → SameCalm x y
+byte_kept : (e : Entry) (x y : ControllerState) (a : ℕ) → IsController x → IsController y → SameSteady x y
     → writes_byte x a e ≡ false
     → get_or (after e.request e.sent.payload y).memory a 0 ≡ get_or y.memory a 0
 unfolding written_through
@@ -46,7 +42,7 @@ byte_kept e x y a was controller same unwritten =
     ∙ names_none (λ c. taken e.request x (8 * a + c)) 8 b unwritten below)
 
 -- a shown byte after the item
-shown_item : (e : Entry) (x y : ControllerState) (k : ℕ) → IsController x → IsController y → SameCalm x y
+shown_item : (e : Entry) (x y : ControllerState) (k : ℕ) → IsController x → IsController y → SameSteady x y
     → k < length y.shown
     → get_or (after e.request e.sent.payload y).shown k 0
     ≡ cond (shows_byte x (PROCESS_MEMORY + k) e)
@@ -68,7 +64,7 @@ shown_item e x y k was controller same inside =
 
 -- a byte that no entry writes stays
 byte_kept_frame : (es : List Entry) (x y : ControllerState) (a : ℕ) → IsController x → IsController y
-    → SameCalm x y → AcceptsAll es x
+    → SameSteady x y → AcceptsAll es x
     → AllByRecursion (λ e. writes_byte x a e ≡ false) es
     → get_or (after_frame es y).memory a 0 ≡ get_or y.memory a 0
 unfolding after_frame
@@ -78,13 +74,13 @@ byte_kept_frame (e ∷ es) x y a was controller same accepts unwritten =
     let accepts_now : Accepts r y = accepts_lasts r x y was same accepts.0 in
     let next : ControllerState = after r e.sent.payload y in
     byte_kept_frame es x next a was (after_controller r e.sent.payload y controller)
-    (same_calm_trans x y next was same (after_calm r e.sent.payload y controller accepts_now)) accepts.1
+    (same_steady_trans x y next was same (after_steady r e.sent.payload y controller accepts_now)) accepts.1
     unwritten.1
     ∙ byte_kept e x y a was controller same unwritten.0
 
 -- what is shown behind a frame: the memory's byte where some entry showed it, else as it was
 pub shown_frame : (es : List Entry) (x y : ControllerState) (k : ℕ) → IsController x → IsController y
-    → SameCalm x y → AcceptsAll es x
+    → SameSteady x y → AcceptsAll es x
     → k < length y.shown → ShowsLast x (PROCESS_MEMORY + k) es
     → get_or (after_frame es y).shown k 0
     ≡ cond (some_shows x (PROCESS_MEMORY + k) es) (get_or (after_frame es y).memory (PROCESS_MEMORY + k) 0)
@@ -97,8 +93,8 @@ shown_frame (e ∷ es) x y k was controller same accepts inside last =
     let accepts_now : Accepts r y = accepts_lasts r x y was same accepts.0 in
     let next : ControllerState = after r e.sent.payload y in
     let next_is : IsController next = after_controller r e.sent.payload y controller in
-    let next_same : SameCalm x next =
-    same_calm_trans x y next was same (after_calm r e.sent.payload y controller accepts_now) in
+    let next_same : SameSteady x next =
+    same_steady_trans x y next was same (after_steady r e.sent.payload y controller accepts_now) in
     let size = next_is.shown_size in
     let was_size = controller.shown_size in
     let final : ControllerState = after_frame es next in
@@ -130,7 +126,7 @@ cond_twice false v w = refl
 
 -- so a frame twice shows what a frame once shows
 pub shown_twice : (es : List Entry) (x y : ControllerState) (k : ℕ) → IsController x → IsController y
-    → SameCalm x y → AcceptsAll es x
+    → SameSteady x y → AcceptsAll es x
     → k < length y.shown → ShowsLast x (PROCESS_MEMORY + k) es
     → get_or (after_frame es (after_frame es y)).shown k 0 ≡ get_or (after_frame es y).shown k 0
 shown_twice es x y k was controller same accepts inside last =
@@ -151,7 +147,7 @@ shown_twice es x y k was controller same accepts inside last =
 
 -- and two of the same memory that show the same do so behind a frame
 pub shown_same : (es : List Entry) (x y z : ControllerState) (k : ℕ) → IsController x → IsController y
-    → IsController z → SameCalm x y → SameCalm x z
+    → IsController z → SameSteady x y → SameSteady x z
     → AcceptsAll es x → k < length y.shown → ShowsLast x (PROCESS_MEMORY + k) es → y.memory ≡ z.memory
     → get_or y.shown k 0 ≡ get_or z.shown k 0
     → get_or (after_frame es y).shown k 0 ≡ get_or (after_frame es z).shown k 0
@@ -178,14 +174,14 @@ shown_anew_area f [] a P shown all = absurd (cc)
 shown_anew_area f (s ∷ ss) a P shown all =
     ⊎_elim
     (λ (here : (hands_over f s s && guards s a) ≡ true).
-    let parts = both (hands_over f s s) (guards s a) here in
+    let parts = and_parts (hands_over f s s) (guards s a) here in
     let last = s.start + s.length - 1 in
-    let active = both (is_active s) (not (is_active s) || (is_buffered s && master_writes s && f last))
+    let active = and_parts (is_active s) (not (is_active s) || (is_buffered s && master_writes s && f last))
     parts.0 in
     let rest : (not (is_active s) || (is_buffered s && master_writes s && f last))
     ≡ (is_buffered s && master_writes s && f last) = rw active.0 refl in
-    let reached = both (is_buffered s && master_writes s) (f last) (sym rest ∙ active.1) in
-    let kind = both (is_buffered s) (master_writes s) reached.0 in
+    let reached = and_parts (is_buffered s && master_writes s) (f last) (sym rest ∙ active.1) in
+    let kind = and_parts (is_buffered s) (master_writes s) reached.0 in
     let place = guards_parts s a parts.1 in
     let from = place.1 in
     let till = place.2 in

@@ -1,9 +1,8 @@
 -- Shown bytes through whole runs of trips whose counters are good.
-use Rattle.std.proofs.Common.{◌≡◌, ℕ, zero, suc, ◌+◌, ◌%◌, ◌<◌, ◌≤◌, Bool, true, false, cond, List, [], ◌∷◌}
-use Rattle.std.proofs.Common.{length, get_or, map, sym, subst, ◌∙◌, ap, refl, arith}
+use Rattle.std.proofs.Common.{ℕ, zero, suc, ◌+◌, ◌<◌, ◌≤◌, true, false, cond, List, [], ◌∷◌}
+use Rattle.std.proofs.Common.{length, map, sym, subst, ◌∙◌, refl, arith}
 use Rattle.std.specs.List.{AllByRecursion}
 use Rattle.ec_regs.specs.declared.registers.TheConstants.{PROCESS_MEMORY, PROCESS_MEMORY_SIZE}
-use Rattle.ec_wire.specs.Datagram.{DatagramRecord}
 use Rattle.ec_esc.specs.State.{ControllerState}
 use Rattle.ec_line.specs.Accepted.{AcceptsAll}
 use Rattle.ec_line.specs.After.{Entry, after_frame}
@@ -14,7 +13,7 @@ use Rattle.ec_line.specs.Shown.{ShowsLast, ShowsLastInRun, SameShownWhere}
 use Rattle.ec_line.specs.Trip.{Trip, passed, front_after, back_after, visited}
 use Rattle.ec_line.proofs.CertificateLemmas.{MOST, good_trip, good_reached, memories-after}
 use Rattle.ec_line.proofs.CoreLemmas.{IsReady, core, later-map}
-use Rattle.ec_line.proofs.FrameLemmas.{IsLater}
+use Rattle.ec_line.specs.Steady.{IsLater}
 use Rattle.ec_line.proofs.RunLemmas.{first_ready, rest_ready}
 use Rattle.ec_line.proofs.ShownLemmas.{shown_twice, shown_same}
 

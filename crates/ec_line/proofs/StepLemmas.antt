@@ -1,27 +1,28 @@
 -- A pass, of any data that arrive, is the controller's answer.
-use Rattle.std.proofs.Common.{◌≡◌, ℕ, zero, suc, ◌+◌, ◌-◌, ◌*◌, ◌/◌, ◌%◌, ◌<◌, ◌≤◌, Bool, true, false, cond}
-use Rattle.std.proofs.Common.{ltb, List, [], ◌∷◌, length, get_or, Option, None, Some}
+use Rattle.std.proofs.Common.{◌≡◌, ℕ, ◌+◌, ◌*◌, ◌%◌, ◌<◌, ◌≤◌, true, false, cond}
+use Rattle.std.proofs.Common.{ltb, List, [], ◌∷◌, length, Option, None, Some}
 use Rattle.std.proofs.Common.{sym, subst, ◌∙◌, ap, refl, arith, ⊎_elim}
-use Rattle.std.specs.List.{AllByRecursion, sum_by}
-use Rattle.std.specs.Option.{option_map, unwrap_or, option_map_or}
+use Rattle.std.specs.List.{sum_by}
+use Rattle.std.specs.Option.{option_map, unwrap_or}
 use Rattle.std.proofs.lemmas.Bool.{cases_lt}
 use Rattle.std.proofs.lemmas.List.Sums.{sum_by-cons}
 use Rattle.std.proofs.lemmas.Bool.Decides.{nat_tests}
 use Rattle.ec_regs.specs.Bits.{bit, placed_bit, with_bits}
-use Rattle.ec_regs.proofs.BitLemmas.{length-with_bits, bit-with_bits, bit_past, bit-lt, placed_bit_taken}
-use Rattle.ec_regs.proofs.BitLemmas.{placed_bit_kept}
-use Rattle.ec_wire.specs.Datagram.{DatagramRecord, adp_of, ado_of}
+use Rattle.ec_regs.proofs.Laws.{length-with_bits, bit-with_bits, bit_past, placed_bit_taken}
+use Rattle.ec_regs.proofs.Laws.{placed_bit_kept}
+use Rattle.ec_wire.specs.Datagram.{DatagramRecord}
 use Rattle.ec_wire.specs.declared.command.Command as commands
 use Rattle.ec_wire.specs.declared.command.Command.{Command}
 use Rattle.ec_esc.specs.State.{ControllerState}
-use Rattle.ec_esc.specs.Pass.{Effect, Half, nothing, where_served, effect, serves_range_read}
-use Rattle.ec_esc.specs.Pass.{broadcast_sources, read_mailbox, datagram_after, counter_after, pass}
+use Rattle.ec_esc.specs.Pass.{Effect, nothing, where_served, effect, serves_range_read}
+use Rattle.ec_esc.specs.Pass.{broadcast_sources, read_mailbox, datagram_after, pass}
 use Rattle.ec_line.specs.Answers.{Meets, Answers}
 use Rattle.ec_line.specs.Answered.{moved_address, Answered}
 use Rattle.ec_line.specs.Claims.{effect_of, claim, gain}
-use Rattle.ec_line.specs.Request.{Request, command_of, SameAddress, OnWay}
-use Rattle.ec_line.specs.declared.kind.Kind.{Kind}
-use Rattle.ec_line.specs.declared.kind.Kind.TheVariants.{Lrd, Lwr, Lrw, Brd, Fprd, Fpwr}
+use Rattle.ec_line.specs.Request.{Request, SameAddress, OnWay}
+use Rattle.ec_wire.specs.Kind.{command_of}
+use Rattle.ec_wire.specs.declared.kind.Kind.{Kind}
+use Rattle.ec_wire.specs.declared.kind.Kind.TheVariants.{Lrd, Lwr, Lrw, Brd, Fprd, Fpwr}
 
 -- ---- what a request's datagram does on the way
 

@@ -5,7 +5,8 @@ use Rattle.std.specs.Option.{option_map}
 use Rattle.ec_regs.specs.Bits.{bit}
 use Rattle.ec_esc.specs.State.{ControllerState}
 use Rattle.ec_esc.specs.Pass.{Effect, effect}
-use Rattle.ec_line.specs.Request.{Request, command_of}
+use Rattle.ec_line.specs.Request.{Request}
+use Rattle.ec_wire.specs.Kind.{command_of}
 
 -- what the request's command does in the controller
 abbrev pub effect_of : Request → ControllerState → Effect

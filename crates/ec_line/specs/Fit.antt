@@ -1,11 +1,11 @@
 -- A fit line as facts: what the promises about cycles take of a line, and nothing else.
-use Rattle.std.specs.Prelude.{◌≡◌, ◌≢◌, ℕ, ◌/◌, Bool, true, List, [], ◌∷◌}
+use Rattle.std.specs.Prelude.{◌≡◌, ◌≢◌, ℕ, ◌/◌, true, List, [], ◌∷◌}
 use Rattle.std.specs.List.{AllByRecursion}
 use Rattle.ec_regs.specs.declared.registers.TheConstants.{STATION_ADDRESS}
 use Rattle.ec_areas.specs.Logical.{IsReadable, IsWritable}
 use Rattle.ec_areas.specs.Records.{fmmus_of, sync_managers_of}
 use Rattle.ec_esc.specs.State.{ControllerState, IsController, word_at}
-use Rattle.ec_line.specs.Calm.{is_calm}
+use Rattle.ec_line.specs.Steady.{is_steady}
 
 -- the controller's readable pairs and its writable pairs
 abbrev pub Reads : ControllerState → ℕ → ℕ → Type 0
@@ -18,7 +18,7 @@ Writes c l p = IsWritable (sync_managers_of c.memory) (fmmus_of c.memory) l p
 -- bit once, and its writable pairs a physical bit once
 pub record IsFitAlone (c : ControllerState) : Type 0 where
   pub controller : IsController c
-  pub calm : (l p : ℕ) → Reads c l p → is_calm (sync_managers_of c.memory) (p / 8) ≡ true
+  pub steady : (l p : ℕ) → Reads c l p → is_steady (sync_managers_of c.memory) (p / 8) ≡ true
   pub read_once : (l p q : ℕ) → Reads c l p → Reads c l q → p ≡ q
   pub written_once : (l m p : ℕ) → Writes c l p → Writes c m p → l ≡ m
 

@@ -1,7 +1,7 @@
 pub mod Answers
 pub mod Request
 pub mod Claims
-pub mod Calm
+pub mod Steady
 pub mod Accepted
 pub mod Fit
 pub mod After

@@ -2,25 +2,15 @@
 -- stays of its datagram on the way (IEC 61158-4-12, the datagram structure).
 use Rattle.std.specs.Prelude.{◌≡◌, ℕ, ◌<◌, length}
 use Rattle.ec_wire.specs.Datagram.{DatagramRecord, ado_of}
-use Rattle.ec_wire.specs.declared.command.Command as commands
-use Rattle.ec_wire.specs.declared.command.Command.{Command}
-use Rattle.ec_line.specs.declared.kind.Kind.{Kind}
-use Rattle.ec_line.specs.declared.kind.Kind.TheVariants.{Lrd, Lwr, Lrw, Brd, Fprd, Fpwr}
+use Rattle.ec_wire.specs.Kind.{command_of}
+use Rattle.ec_wire.specs.declared.kind.Kind.{Kind}
+use Rattle.ec_wire.specs.declared.kind.Kind.TheVariants.{Brd}
 
 -- kind, address (logical, or ADP plus 65,536 times ADO), and number of data bytes
 pub record Request : Type 0 where
   pub kind : Kind
   pub address : ℕ
   pub count : ℕ
-
--- the command of a kind
-abbrev pub command_of : Kind → Command
-command_of Lrd = commands.TheVariants.Lrd
-command_of Lwr = commands.TheVariants.Lwr
-command_of Lrw = commands.TheVariants.Lrw
-command_of Brd = commands.TheVariants.Brd
-command_of Fprd = commands.TheVariants.Fprd
-command_of Fpwr = commands.TheVariants.Fpwr
 
 -- the slaves leave the address as it is, but for the ADP of a broadcast read, which they count up
 abbrev pub SameAddress : Kind → ℕ → ℕ → Type 0

@@ -1,6 +1,6 @@
 -- The trips of a cycle over a line, one after the other; and what they would leave if every controller were
 -- passed once.
-use Rattle.std.specs.Prelude.{◌≡◌, ℕ, ◌+◌, ◌%◌, false, List, [], ◌∷◌, map, sum_by}
+use Rattle.std.specs.Prelude.{◌≡◌, ◌+◌, ◌%◌, false, List, [], ◌∷◌, map, sum_by}
 use Rattle.std.specs.List.{AllByRecursion}
 use Rattle.ec_wire.specs.Datagram.{DatagramRecord}
 use Rattle.ec_esc.specs.State.{ControllerState}
@@ -11,7 +11,7 @@ use Rattle.ec_line.specs.Claims.{gain}
 use Rattle.ec_line.specs.Fit.{IsFitLine}
 use Rattle.ec_line.specs.Memory.{reached_after}
 use Rattle.ec_line.specs.Request.{OnWay}
-use Rattle.ec_line.specs.Trip.{Trip, passed, joined_of, returned, visited}
+use Rattle.ec_line.specs.Trip.{Trip, passed, joined_of, visited}
 
 -- the joined frame of each trip, and the line in the end
 pub record TripsRun : Type 0 where

@@ -1,6 +1,6 @@
 -- A trip of a frame over a line: copy A passes the controllers of a first piece of it and copy B those of a
 -- last piece, each once and in their order, one copy after the other; what comes back is joined.
-use Rattle.std.specs.Prelude.{ℕ, Bool, true, false, if◌then◌else◌, List, [], ◌∷◌, ◌++◌, map, take, drop}
+use Rattle.std.specs.Prelude.{ℕ, Bool, true, if◌then◌else◌, List, [], ◌∷◌, ◌++◌, map, take, drop}
 use Rattle.ec_wire.specs.Datagram.{DatagramRecord}
 use Rattle.ec_merge.specs.Frames.{joined_frame}
 use Rattle.ec_esc.specs.State.{ControllerState}

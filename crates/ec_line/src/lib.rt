@@ -4,10 +4,10 @@
 //! A cable may break anywhere, and then two copies of a frame pass two pieces of the line, in other orders
 //! than before. That the joined answer is the same is a fact about lists of controllers, whatever ring or
 //! socket carries the copies, and so it stands here: no slaves' applications, no links, no works and no
-//! ports. There is nothing to run. A law is the contract of a function with an empty body, which the proofs
-//! of a crate above cite. In [`laws`]:
+//! ports. There is nothing to run. A law is the contract of a function with an empty body, which is cited
+//! where it is called; lemmas of the crates above import it from `proofs/Laws.antt`. In [`promises`]:
 //!
-//! - `one_pass`, `calm_lasts`: a pass is the controller's answer, which accepted requests do not change;
+//! - `one_pass`, `steady_lasts`: a pass is the controller's answer, which accepted requests do not change;
 //! - `one_answer`, `relation`: a set of controllers has at most one answer, in no order; nobody answers what
 //!   was sent; one after the other, and two joined copies, answer together;
 //! - `one_copy`, `own_copies`: what a copy brings that passed controllers each once; it is no stranger;
@@ -19,19 +19,15 @@
 //!   memories;
 //! - `claims_by_pairs`, `takes_by_pairs`: logical requests, by the sets of pairs.
 //!
-//! [`Kind`] names the six kinds of items of a cycle, and the command of each. The rest is definitions
-//! (specs/) and proofs:
+//! The rest is definitions (specs/) and proofs:
 //!
 //! - `Request`: what an item asks, whatever its data. `Claims`: which data bits a controller claims for
 //!   values of its own, which memory bits take data, and what the working counter gains. `Accepted`: which
 //!   requests it accepts.
-//! - `Calm`: the bytes that no accepted item changes, on which claims hang. `Fit`: a fit line as facts.
+//! - `Steady`: the bytes that no accepted item changes, on which claims hang. `Fit`: a fit line as facts.
 //! - `Answers`, `Answered`: what a set of controllers, in whatever order, makes of a datagram. `After`: a
 //!   controller after an item and after a frame.
 //! - `Trip`, `Run`: copy A passes a first piece of the line, copy B a last piece, what comes back is joined;
 //!   and the trips of a cycle one after the other. `Memory`, `Shown`: what they leave.
 
-pub mod kind;
-pub mod laws;
-
-pub use kind::Kind;
+pub mod promises;

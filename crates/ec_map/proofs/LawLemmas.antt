@@ -1,43 +1,32 @@
 -- What the checker's answers give the promises about cycles.
-use Rattle.std.proofs.Common.{◌≡◌, ◌⊎◌, ⊎_elim, inl, inr, ℕ, zero, suc, ◌+◌, ◌*◌, ◌/◌, ◌<◌, ◌≤◌, ◌^◌, Bool}
-use Rattle.std.proofs.Common.{true, false, cond, ◌&&◌, ◌||◌, eqb, leb, ltb, None, Some, List, [], ◌∷◌, length}
+use Rattle.std.proofs.Common.{◌≡◌, ◌⊎◌, ⊎_elim, inl, inr, ℕ, zero, suc, ◌+◌, ◌*◌, ◌<◌, ◌≤◌, ◌^◌, Bool}
+use Rattle.std.proofs.Common.{true, false, ◌&&◌, eqb, leb, None, List, [], ◌∷◌, length}
 use Rattle.std.proofs.Common.{get_or, refl, sym, ap, ◌∙◌, arith}
 use Rattle.std.specs.List.{AllByRecursion, Any, list_any}
-use Rattle.std.proofs.lemmas.Bool.{and_from, and_parts, or_cases, or_left, or_right, or_parts, leb-true}
-use Rattle.std.proofs.lemmas.Bool.{le-leb, lt-ltb, eqb-false}
+use Rattle.std.proofs.lemmas.Bool.{and_parts, or_cases, or_left, or_right, leb-true}
+use Rattle.std.proofs.lemmas.List.Elements.{All-from_get_or, recursion_from_All}
 use Rattle.ec_regs.specs.SyncMan.{is_active, is_buffered, master_reads, master_writes}
 use Rattle.ec_regs.specs.declared.sync_man.SyncMan.{SyncMan}
 use Rattle.ec_regs.specs.declared.registers.TheConstants.{PROCESS_MEMORY, STATION_ADDRESS}
 use Rattle.ec_wire.specs.Datagram.{adp_of, ado_of}
-use Rattle.ec_areas.specs.Areas.{guards}
 use Rattle.ec_areas.specs.Records.{sync_managers_of}
-use Rattle.ec_esc.specs.State.{ControllerState, IsController, word_at}
+use Rattle.ec_esc.specs.State.{ControllerState, word_at}
 use Rattle.ec_esc.specs.Pass.{Half, where_served, read_sources, write_sources, range_sources, range_targets}
 use Rattle.ec_esc.specs.Pass.{read_mailbox, written_mailbox, serves_range_read, serves_range_write}
 use Rattle.ec_line.specs.Accepted.{Accepts, AcceptsPlace, IsWithinArea, LiesInArea, LiesInRegisters}
 use Rattle.ec_line.specs.Claims.{gain}
-use Rattle.ec_line.proofs.FitLemmas.{broadcast_gain}
-use Rattle.ec_line.specs.declared.kind.Kind.{Kind}
-use Rattle.ec_line.specs.declared.kind.Kind.TheVariants.{Lrd, Lwr, Lrw, Brd, Fprd, Fpwr}
+use Rattle.ec_wire.specs.declared.kind.Kind.{Kind}
+use Rattle.ec_wire.specs.declared.kind.Kind.TheVariants.{Lrd, Lwr, Lrw, Brd, Fprd, Fpwr}
+use Rattle.ec_line.proofs.Laws.{broadcast_gain}
 use Rattle.ec_check.specs.Fit.{IsFit}
 use Rattle.ec_check.specs.Line.{controller_of, station_of}
-use Rattle.ec_map.specs.Item.{ItemRecord, IsItem, is_in_range}
+use Rattle.ec_map.specs.Item.{ItemRecord, IsItem}
 use Rattle.ec_map.specs.Place.{is_input_run, is_output_run, holds_run, may_read, may_write, IsPlaced}
 use Rattle.ec_map.specs.Share.{if_served, reads_bits, writes_bits, share_by, share, request_of}
-use Rattle.ec_map.specs.declared.kind.ItemFault.{ItemFault}
-use Rattle.ec_map.specs.declared.kind.ItemFault.TheVariants.{BadLength, BadRange}
-use Rattle.ec_wire.specs.declared.datagram.TheConstants.{MAX_DATA}
 use Rattle.ec_map.proofs.PlaceLemmas.{may_read-IsPlaced, may_write-IsPlaced}
+use Rattle.ec_map.proofs.ItemLemmas.{item_size, item_range}
 
 -- ---- lists, number by number
-
--- what holds at each number holds of each element
-pub AllByRecursion-each : {X : Type 0} (P : X → Type 0) (xs : List X) (d : X)
-    → ((i : ℕ) → i < length xs → P (get_or xs i d))
-    → AllByRecursion P xs
-AllByRecursion-each P [] d each = tt
-AllByRecursion-each P (x ∷ xs) d each =
-    (each 0 (omega arith), AllByRecursion-each P xs d (λ i inside. each (suc i) (omega arith)))
 
 -- an element that passes a test is one of some
 list_any-Any : {X : Type 0} (p : X → Bool) (xs : List X) (k : ℕ) (x : X) → k < length xs → get_or xs k x ≡ x
@@ -58,29 +47,6 @@ Any-list_any p (y ∷ ys) e =
     (or_cases (p y) (list_any p ys) e)
 
 -- ---- an accepted item
-
--- where there is no fault the length and the range are good
-no_fault : (b c : Bool) (x y : ItemFault) → cond b (Some x) (cond c None (Some y)) ≡ None
-    → (b ≡ false) × (c ≡ true)
-no_fault true c x y e = absurd (cc)
-no_fault false true x y e = (refl, refl)
-no_fault false false x y e = absurd (cc)
-
--- an item has a byte
-item_size : (r : ItemRecord) → IsItem r → 1 ≤ length r.payload
-item_size r item =
-    let parts = no_fault (eqb (length r.payload) 0 || ltb MAX_DATA (length r.payload))
-    (is_in_range r.kind r.address (length r.payload)) BadLength BadRange item.good in
-    let some =
-    eqb-false (length r.payload) 0
-    (or_parts (eqb (length r.payload) 0) (ltb MAX_DATA (length r.payload)) parts.0).0 in
-    omega (arith, some)
-
--- and its range exists
-item_range : (r : ItemRecord) → IsItem r → is_in_range r.kind r.address (length r.payload) ≡ true
-item_range r item =
-    (no_fault (eqb (length r.payload) 0 || ltb MAX_DATA (length r.payload))
-    (is_in_range r.kind r.address (length r.payload)) BadLength BadRange item.good).1
 
 -- a run of inputs lies in an area that the master reads
 within_inputs : (s : SyncMan) (from n : ℕ) → is_input_run from n s ≡ true → IsWithinArea master_reads s from n
@@ -163,11 +129,12 @@ pub Accepts-IsPlaced : (line : List ControllerState) (r : ItemRecord) → IsFit 
     → IsPlaced line r
     → AllByRecursion (Accepts (request_of r)) line
 Accepts-IsPlaced line r fit item placed =
-    AllByRecursion-each (Accepts (request_of r)) line (record { memory = []; shown = []; written = false })
+    let P : ControllerState → Type 0 = Accepts (request_of r) in
+    recursion_from_All P line (All-from_get_or P line (record { memory = []; shown = []; written = false })
     (λ slave there. record {
       some = item_size r item;
       place = accepts_place line slave r.kind r.address r.counter r.adp r.payload fit there item placed;
-    })
+    }))
 
 -- ---- what a counter gains
 

@@ -6,9 +6,9 @@ use Rattle.ec_regs.specs.Bits.{bit}
 use Rattle.ec_regs.specs.declared.registers.TheConstants.{PROCESS_MEMORY, MEMORY_SIZE}
 use Rattle.ec_wire.specs.Datagram.{DatagramRecord, ado_of}
 use Rattle.ec_wire.specs.declared.datagram.TheConstants.{MAX_DATA}
-use Rattle.ec_line.specs.Request.{command_of}
-use Rattle.ec_line.specs.declared.kind.Kind.{Kind}
-use Rattle.ec_line.specs.declared.kind.Kind.TheVariants.{Lrd, Lwr, Lrw, Brd, Fprd, Fpwr}
+use Rattle.ec_wire.specs.Kind.{command_of}
+use Rattle.ec_wire.specs.declared.kind.Kind.{Kind}
+use Rattle.ec_wire.specs.declared.kind.Kind.TheVariants.{Lrd, Lwr, Lrw, Brd, Fprd, Fpwr}
 use Rattle.ec_map.specs.declared.kind.ItemFault.{ItemFault}
 use Rattle.ec_map.specs.declared.kind.ItemFault.TheVariants.{BadLength, BadRange}
 

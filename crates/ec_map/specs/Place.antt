@@ -4,14 +4,14 @@ use Rattle.std.specs.Prelude.{◌≡◌, ◌≢◌, ◌&&◌, ◌||◌, ℕ, ◌
 use Rattle.std.specs.List.{list_any}
 use Rattle.ec_regs.specs.declared.sync_man.SyncMan.{SyncMan}
 use Rattle.ec_regs.specs.declared.registers.TheConstants.{PROCESS_MEMORY}
-use Rattle.ec_regs.specs.SyncMan.{is_active}
-use Rattle.ec_regs.specs.SyncMan.{is_buffered, master_reads, master_writes}
+use Rattle.ec_regs.specs.AddressRange.{lies_within}
+use Rattle.ec_regs.specs.SyncMan.{guards_inputs, guards_outputs}
 use Rattle.ec_wire.specs.Datagram.{adp_of, ado_of}
 use Rattle.ec_areas.specs.Records.{sync_managers_of}
 use Rattle.ec_esc.specs.State.{ControllerState}
 use Rattle.ec_check.specs.Line.{controller_of, station_of}
 use Rattle.ec_map.specs.Item.{ItemRecord}
-use Rattle.ec_line.specs.declared.kind.Kind.TheVariants.{Fprd, Fpwr}
+use Rattle.ec_wire.specs.declared.kind.Kind.TheVariants.{Fprd, Fpwr}
 use Rattle.ec_map.specs.declared.place.PlaceFault.{PlaceFault}
 use Rattle.ec_map.specs.declared.place.PlaceFault.TheVariants.{OutsideRead, OutsideWrite}
 
@@ -24,14 +24,14 @@ ado_named r = ado_of r.address
 
 -- does the area of the sync manager hold the n bytes from an address on
 abbrev pub holds_run : SyncMan → ℕ → ℕ → Bool
-holds_run s from n = nat_le s.start from && nat_le (from + n) (s.start + s.length)
+holds_run s from n = lies_within s.start s.length from n
 
 -- and is it active, buffered, and one that the master reads, or writes
 abbrev pub is_input_run : ℕ → ℕ → SyncMan → Bool
-is_input_run from n s = is_active s && is_buffered s && master_reads s && holds_run s from n
+is_input_run from n s = guards_inputs s && holds_run s from n
 
 abbrev pub is_output_run : ℕ → ℕ → SyncMan → Bool
-is_output_run from n s = is_active s && is_buffered s && master_writes s && holds_run s from n
+is_output_run from n s = guards_outputs s && holds_run s from n
 
 -- may a cycle read the n bytes from an address on
 abbrev pub may_read : ControllerState → ℕ → ℕ → Bool

@@ -9,8 +9,8 @@ use Rattle.ec_esc.specs.State.{word_at}
 use Rattle.ec_line.specs.Request.{Request}
 use Rattle.ec_map.specs.Item.{ItemRecord, wire_address}
 use Rattle.ec_map.specs.Place.{station_named, ado_named}
-use Rattle.ec_line.specs.declared.kind.Kind.{Kind}
-use Rattle.ec_line.specs.declared.kind.Kind.TheVariants.{Lrd, Lwr, Lrw, Brd, Fprd, Fpwr}
+use Rattle.ec_wire.specs.declared.kind.Kind.{Kind}
+use Rattle.ec_wire.specs.declared.kind.Kind.TheVariants.{Lrd, Lwr, Lrw, Brd, Fprd, Fpwr}
 
 -- a number where something was served, else 0
 abbrev pub if_served : Bool → ℕ → ℕ

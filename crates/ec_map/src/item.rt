@@ -7,8 +7,7 @@ ghost use Rattle.ec_map.specs.Item.{item_fault, new_item};
 
 use crate::kind::{ItemFault, is_broadcast, is_in_range, is_logical};
 use arrayvec::ArrayVec;
-use ec_line::Kind;
-use ec_wire::{Datagram, MAX_DATA, address_of};
+use ec_wire::{Datagram, Kind, MAX_DATA, address_of};
 use std::marker::Model;
 
 /// What a master asks in each cycle, with the data and the counter of the last answer. Contracts see its
@@ -91,7 +90,7 @@ impl Item {
         })
     }
 
-    /// The same item once more.
+    /// A second item with the same fields.
     pub fn copy(&self) -> Item
         ensures { result ≡ self.now }
     {
@@ -115,28 +114,28 @@ impl Item {
         self.kind
     }
 
-    /// Its address, as it was made.
+    /// The address of the item, as it was made.
     pub fn address(&self) -> u32
         ensures { result ≡ self.now.address }
     {
         self.address
     }
 
-    /// Its data.
+    /// The data of the item.
     pub fn data(&self) -> &[u8]
         ensures { result.now ≡ self.now.payload }
     {
         self.payload.as_slice()
     }
 
-    /// Its working counter.
+    /// The working counter of the item.
     pub fn counter(&self) -> u16
         ensures { result ≡ self.now.counter }
     {
         self.counter
     }
 
-    /// Its ADP, which a broadcast read counts up at each slave; of other kinds 0.
+    /// The ADP of the item, which a broadcast read counts up at each slave; of other kinds 0.
     pub fn adp(&self) -> u16
         ensures { result ≡ self.now.adp }
     {
@@ -148,6 +147,7 @@ impl Item {
         ensures length { result ≡ length self.now.payload }
         ensures item { IsItem self.now }
     {
+        // For the prover: fields that are read are numbers of their types.
         let _address = self.address;
         let _counter = self.counter;
         let _adp = self.adp;

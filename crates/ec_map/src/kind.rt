@@ -4,31 +4,27 @@ ghost use Rattle.std.specs.Prelude.{◌≡◌, ◌≤◌};
 ghost use Rattle.ec_wire.specs.declared.datagram.TheConstants.{MAX_DATA};
 ghost use Rattle.ec_map.specs.Item.{is_logical, is_broadcast, is_in_range};
 
-use ec_line::Kind;
-use ec_regs::registers::{MEMORY_SIZE, PROCESS_MEMORY};
-use ec_wire::ado_of;
-
-/// How many logical bytes there are: one for each 32-bit address.
-const LOGICAL_BYTES: u64 = 0x1_0000_0000;
+use ec_regs::registers::{LOGICAL_BYTES, MEMORY_SIZE, PROCESS_MEMORY};
+use ec_wire::{Kind, ado_of};
 
 /// Why there is no such item.
 #[derive(Clone, Copy, PartialEq, Eq, Debug)]
 pub enum ItemFault {
-    /// It has no data, or more than 1,486 bytes.
+    /// The item has no data, or more than 1,486 bytes.
     BadLength,
-    /// It reaches past the logical range, a broadcast read past the registers, or an addressed item past the
-    /// memory.
+    /// The item reaches past the logical range, a broadcast read past the registers, or an addressed item
+    /// past the memory.
     BadRange,
 }
 
-/// Is it a read, a write or an exchange of the logical image?
+/// Is an item of the kind a read, a write or an exchange of the logical image?
 pub(crate) fn is_logical(kind: Kind) -> bool
     ensures { result ≡ is_logical kind }
 {
     matches!(kind, Kind::Lrd | Kind::Lwr | Kind::Lrw)
 }
 
-/// Is it a broadcast read?
+/// Is an item of the kind a broadcast read?
 pub(crate) fn is_broadcast(kind: Kind) -> bool
     ensures { result ≡ is_broadcast kind }
 {

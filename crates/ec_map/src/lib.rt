@@ -32,17 +32,17 @@
 
 mod item;
 mod kind;
-mod laws;
 mod place;
+mod promises;
 mod reach;
 mod shares;
 #[cfg(test)]
 mod tests;
 
 pub use ec_check::{MapFault, check, fit_line};
-pub use ec_line::Kind;
+pub use ec_wire::Kind;
 pub use item::Item;
 pub use kind::ItemFault;
-pub use laws::{accepted_items, shares_are_gains};
 pub use place::{PlaceFault, check_item, placed_item};
+pub use promises::{accepted_items, shares_are_gains};
 pub use shares::{expected, shares_by_pairs};

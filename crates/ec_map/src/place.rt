@@ -15,10 +15,9 @@ ghost use Rattle.ec_map.specs.Place.{IsPlaced};
 use crate::item::Item;
 use ec_app::Slave;
 use ec_esc::Controller;
-use ec_line::Kind;
 use ec_regs::registers::PROCESS_MEMORY;
-use ec_regs::{PlannedSyncMan, SyncMan};
-use ec_wire::{ado_of, adp_of};
+use ec_regs::{AddressRange, PlannedSyncMan, SyncMan, SyncManagers};
+use ec_wire::{Kind, ado_of, adp_of};
 
 /// An addressed item that goes where a cycle may not. It names the slave, the first one of the item's
 /// station, and the item's ADO.
@@ -92,11 +91,21 @@ pub(crate) fn station_named(item: &Item) -> u16
     adp_of(item.address())
 }
 
-/// The first byte of the memory that it names.
+/// The first byte of the memory that an addressed item names.
 pub(crate) fn ado_named(item: &Item) -> u16
     ensures { result ≡ ado_named item.now }
 {
     ado_of(item.address())
+}
+
+/// The range of the memory that an addressed item names.
+pub(crate) fn range_named(item: &Item) -> AddressRange
+    ensures { result ≡ record { first = ado_named item.now; count = length item.now.payload } }
+{
+    AddressRange {
+        first: ado_named(item),
+        count: item.len() as u16,
+    }
 }
 
 /// The first slave with a station address.
@@ -113,7 +122,7 @@ fn first_of_station(line: &[Slave], station: u16) -> Option<usize>
 }
 
 /// All sync managers of a controller, by number.
-pub(crate) fn managers_of(controller: &Controller) -> [PlannedSyncMan; 8]
+pub(crate) fn managers_of(controller: &Controller) -> SyncManagers
     ensures { result ≡ sync_managers_of controller.now.memory }
 {
     [
@@ -137,7 +146,7 @@ fn may_read(controller: &Controller, from: u16, count: usize) -> bool
     to <= usize::from(PROCESS_MEMORY) || lies_in_inputs(&managers_of(controller), from, count)
 }
 
-/// May it write them?
+/// May a cycle write that many bytes from an address on?
 fn may_write(controller: &Controller, from: u16, count: usize) -> bool
     requires { count ≤ MAX_DATA }
     ensures { result ≡ may_write controller.now from count }
@@ -145,7 +154,7 @@ fn may_write(controller: &Controller, from: u16, count: usize) -> bool
     lies_in_outputs(&managers_of(controller), from, count)
 }
 
-/// Do they lie in one active buffered area that the master reads?
+/// Do that many bytes lie in one active buffered area that the master reads?
 fn lies_in_inputs(managers: &[PlannedSyncMan], from: u16, count: usize) -> bool
     requires { count ≤ MAX_DATA }
     ensures { result ≡ list_any (is_input_run from count) managers.now }
@@ -155,7 +164,7 @@ fn lies_in_inputs(managers: &[PlannedSyncMan], from: u16, count: usize) -> bool
         .any(|manager| is_input_run(&manager.manager(), from, count))
 }
 
-/// Do they lie in one active buffered area that the master writes?
+/// Do that many bytes lie in one active buffered area that the master writes?
 fn lies_in_outputs(managers: &[PlannedSyncMan], from: u16, count: usize) -> bool
     requires { count ≤ MAX_DATA }
     ensures { result ≡ list_any (is_output_run from count) managers.now }
@@ -165,35 +174,32 @@ fn lies_in_outputs(managers: &[PlannedSyncMan], from: u16, count: usize) -> bool
         .any(|manager| is_output_run(&manager.manager(), from, count))
 }
 
-/// Does the sync manager guard such an area that the master reads?
+/// Does the sync manager guard inputs, and hold that many bytes from an address on?
 fn is_input_run(manager: &SyncMan, from: u16, count: usize) -> bool
     requires { count ≤ MAX_DATA }
     ensures { result ≡ is_input_run from count manager.now }
 {
-    manager.is_active()
-        && manager.is_buffered()
-        && manager.master_reads()
-        && holds_run(manager, from, count)
+    manager.guards_inputs() && holds_run(manager, from, count)
 }
 
-/// Does it guard one that the master writes?
+/// Does the sync manager guard outputs, and hold that many bytes from an address on?
 fn is_output_run(manager: &SyncMan, from: u16, count: usize) -> bool
     requires { count ≤ MAX_DATA }
     ensures { result ≡ is_output_run from count manager.now }
 {
-    manager.is_active()
-        && manager.is_buffered()
-        && manager.master_writes()
-        && holds_run(manager, from, count)
+    manager.guards_outputs() && holds_run(manager, from, count)
 }
 
-/// Does its area hold that many bytes from an address on?
+/// Does the area of the sync manager hold that many bytes from an address on?
 fn holds_run(manager: &SyncMan, from: u16, count: usize) -> bool
     requires { count ≤ MAX_DATA }
     ensures { result ≡ holds_run manager.now from count }
 {
-    let end = usize::from(manager.start) + usize::from(manager.length);
-    manager.start <= from && usize::from(from) + count <= end
+    let run = AddressRange {
+        first: from,
+        count: count as u16,
+    };
+    manager.area().holds(&run)
 }
 
 /// On a fit line an item that is accepted goes where a cycle may, at the slave of its station.

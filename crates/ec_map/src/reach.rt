@@ -12,9 +12,6 @@ use ec_esc::Controller;
 use ec_regs::registers::FMMU_COUNT;
 use ec_regs::{Fmmu, PlannedSyncMan};
 
-/// How many FMMUs a slave has.
-const FMMUS: usize = FMMU_COUNT as usize;
-
 /// The bytes from an address up to another one.
 #[derive(Clone, Copy, Debug, PartialEq, Eq)]
 pub(crate) struct Run {
@@ -92,7 +89,7 @@ pub(crate) fn reads_bits(controller: &Controller, address: u32, count: usize) ->
     ensures { result ≡ reads_bits controller.now address count }
 {
     let managers = managers_of(controller);
-    for number in 0..FMMUS {
+    for number in 0..FMMU_COUNT {
         if reads_through(&managers, &controller.fmmu(number), address, count) {
             return true;
         }
@@ -107,7 +104,7 @@ pub(crate) fn writes_bits(controller: &Controller, address: u32, count: usize) -
     ensures { result ≡ writes_bits controller.now address count }
 {
     let managers = managers_of(controller);
-    for number in 0..FMMUS {
+    for number in 0..FMMU_COUNT {
         if writes_through(&managers, &controller.fmmu(number), address, count) {
             return true;
         }

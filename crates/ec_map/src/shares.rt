@@ -10,17 +10,17 @@ ghost use Rattle.ec_map.specs.Share.{reads_bits as reads_bits_of, writes_bits as
 ghost use Rattle.ec_map.specs.Share.{serves_write, share, expected_of};
 
 use crate::item::Item;
-use crate::place::{ado_named, managers_of, station_named};
+use crate::place::{managers_of, range_named, station_named};
 use crate::reach::{reads_bits, writes_bits};
 use ec_app::Slave;
 use ec_areas::{serves_physical_read, serves_physical_write};
 use ec_esc::Controller;
-use ec_line::Kind;
+use ec_wire::Kind;
 
 /// What a slave adds for a read that it serves, and for a write alone.
 const SERVED: u16 = 1;
 
-/// What it adds for the write of an exchange.
+/// What a slave adds for the write of an exchange.
 const EXCHANGED: u16 = 2;
 
 /// What the line adds to the working counter of the item, modulo 65,536, whether it is fit or not: of each
@@ -70,7 +70,7 @@ fn reads_item(controller: &Controller, item: &Item) -> bool
     reads_bits(controller, item.address(), item.len())
 }
 
-/// Does it write one?
+/// Does the slave write a bit of a logical item?
 fn writes_item(controller: &Controller, item: &Item) -> bool
     requires { is_logical item.now.kind ≡ true }
     ensures { result ≡ writes_bits_of controller.now item.now.address (length item.now.payload) }
@@ -82,18 +82,16 @@ fn writes_item(controller: &Controller, item: &Item) -> bool
 fn serves_read(controller: &Controller, item: &Item) -> bool
     ensures { result ≡ serves_read controller.now item.now }
 {
-    let count = item.len() as u16;
     station_named(item) == controller.station()
-        && serves_physical_read(&managers_of(controller), ado_named(item), count)
+        && serves_physical_read(&managers_of(controller), range_named(item))
 }
 
-/// Is it served for writing?
+/// Is an addressed item's range served for writing, and is the slave addressed?
 fn serves_write(controller: &Controller, item: &Item) -> bool
     ensures { result ≡ serves_write controller.now item.now }
 {
-    let count = item.len() as u16;
     station_named(item) == controller.station()
-        && serves_physical_write(&managers_of(controller), ado_named(item), count)
+        && serves_physical_write(&managers_of(controller), range_named(item))
 }
 
 /// A controller reads bits of a range of logical bytes exactly where a readable pair of it has its logical

@@ -5,6 +5,7 @@ use Rattle.std.proofs.Common.{sym, subst, ◌∙◌, ap, refl, arith}
 use Rattle.std.specs.List.{AllByRecursion, sum_by}
 use Rattle.std.proofs.lemmas.List.Sums.{sum_by-cons}
 use Rattle.ec_regs.specs.Bits.{bit}
+use Rattle.ec_regs.proofs.Laws.{each-map}
 use Rattle.ec_wire.specs.Datagram.{DatagramRecord, adp_of}
 use Rattle.ec_esc.specs.State.{ControllerState, IsController}
 use Rattle.ec_app.specs.State.{SlaveState}
@@ -12,24 +13,21 @@ use Rattle.ec_line.specs.Accepted.{Accepts, AcceptsAll}
 use Rattle.ec_line.specs.After.{Entry, after}
 use Rattle.ec_line.specs.Answered.{moved_address, Answered, AnsweredFrame}
 use Rattle.ec_line.specs.Answers.{Meets}
-use Rattle.ec_line.specs.Calm.{SameCalm}
+use Rattle.ec_line.specs.Steady.{SameSteady, IsLater}
 use Rattle.ec_line.specs.Claims.{claim, gain}
 use Rattle.ec_line.specs.Fit.{IsFitAlone, AllApart, IsFitLine}
 use Rattle.ec_line.specs.Request.{Request}
 use Rattle.ec_line.specs.Run.{AnsweredTrips}
 use Rattle.ec_line.specs.Trip.{Trip}
-use Rattle.ec_line.specs.declared.kind.Kind.{Kind}
-use Rattle.ec_line.specs.declared.kind.Kind.TheVariants.{Lrd, Lwr, Lrw, Brd, Fprd, Fpwr}
-use Rattle.ec_line.proofs.AnswersLemmas.{each-map, meets_value}
-use Rattle.ec_line.proofs.CalmLemmas.{after_calm, after_controller, accepts_lasts, claim_lasts, gain_lasts}
-use Rattle.ec_line.proofs.CalmLemmas.{same_calm_trans}
-use Rattle.ec_line.proofs.CoreLemmas.{later-refl}
-use Rattle.ec_line.proofs.FrameLemmas.{IsLater}
+use Rattle.ec_wire.specs.declared.kind.Kind.{Kind}
+use Rattle.ec_wire.specs.declared.kind.Kind.TheVariants.{Lrd, Lwr, Lrw, Brd, Fprd, Fpwr}
+use Rattle.ec_line.proofs.Laws.{later-refl, after_steady, after_controller, accepts_lasts, claim_lasts}
+use Rattle.ec_line.proofs.Laws.{gain_lasts, same_steady_trans}
 use Rattle.ec_check.specs.Line.{controllers}
 use Rattle.ec_map.specs.Item.{ItemRecord, IsItem, is_broadcast, with_adp, datagram_of}
 use Rattle.ec_map.specs.Share.{share, request_of}
-use Rattle.ec_map.proofs.LawLemmas.{gain-share}
-use Rattle.ec_ring.proofs.RingLemmas.{length-controllers}
+use Rattle.ec_map.proofs.Laws.{gain-share}
+use Rattle.ec_ring.proofs.Laws.{length-controllers}
 use Rattle.ec_master.specs.Cut.{concat, entries_from}
 use Rattle.ec_master.specs.Unordered.{ByStation, station, by_station, slave_after, IsAnswer, AreAnswers}
 use Rattle.ec_master.specs.Work.{with_answer, with_answers}
@@ -161,7 +159,7 @@ answer_by_station r k ss g item apart are answer =
       claimed = λ i value claims.
           let meets : AllByRecursion (λ s. Meets (bit g.payload i) (claim q s.controller i)) ss =
           each-controller (λ x. Meets (bit g.payload i) (claim q x i)) ss (answer.bits.claimed i) in
-          meets_value (bit g.payload i) value (claim q claims.slave.controller i) claims.claims
+          subst (λ (o : Option ℕ). Meets (bit g.payload i) o) claims.claims
           (by_station_each (λ s. Meets (bit g.payload i) (claim q s.controller i)) ss claims.station
           claims.slave claims.there meets).0;
       rest = λ i none.
@@ -215,8 +213,8 @@ later_after r (x ∷ xs) [] fit accept later = absurd later
 later_after r (x ∷ xs) (s ∷ ss) fit accept later =
     let q = request_of r in
     let next : ControllerState = after q r.payload s.controller in
-    let calm : SameCalm s.controller next = after_calm q r.payload s.controller later.0.1 accept.0 in
-    let same : SameCalm x next = same_calm_trans x s.controller next fit.0.controller later.0.0 calm in
+    let steady : SameSteady s.controller next = after_steady q r.payload s.controller later.0.1 accept.0 in
+    let same : SameSteady x next = same_steady_trans x s.controller next fit.0.controller later.0.0 steady in
     ((same, after_controller q r.payload s.controller later.0.1), later_after r xs ss fit.1 accept.1 later.1)
 
 -- what controllers as they were at first made of the items' datagrams is what the slaves that the items

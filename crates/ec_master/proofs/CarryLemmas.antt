@@ -9,13 +9,12 @@ use Rattle.ec_esc.specs.State.{ControllerState}
 use Rattle.ec_line.specs.After.{Entry}
 use Rattle.ec_line.specs.Answered.{sent_of}
 use Rattle.ec_line.specs.Trip.{Trip, Passed, passed, joined_of}
-use Rattle.ec_line.proofs.OwnLemmas.{own_a, own_b}
+use Rattle.ec_line.proofs.Laws.{own_a, own_b}
 use Rattle.ec_ring.specs.Travel.{Travelled, travelled, trip_of, as_trip}
 use Rattle.ec_ring.specs.Ring.{RingState, line_of, with_line}
 use Rattle.ec_ring.specs.Walk.{is_circulating}
-use Rattle.ec_ring.proofs.RingLemmas.{length-controllers}
 use Rattle.ec_ring.specs.declared.weather.Weather.{Weather}
-use Rattle.ec_ring.proofs.TripLemmas.{travelled-trip}
+use Rattle.ec_ring.proofs.Laws.{travelled-trip, length-controllers}
 use Rattle.ec_master.specs.Cut.{IsFrameOf}
 
 still : (es : List Entry) → AllByRecursion (λ e. e.sent.circulating ≡ false) es
@@ -29,7 +28,7 @@ pub travelled-frame : (w : Weather) (es : List Entry) (sent : List DatagramRecor
     → let t = trip_of w es (length line) in travelled w sent line ≡ as_trip t (passed t line)
 travelled-frame w es sent line frame =
     ap (λ (s : List DatagramRecord). travelled w s line) frame.datagrams
-    ∙ travelled-trip w es line (still es frame.calm)
+    ∙ travelled-trip w es line (still es frame.not_circulating)
 
 -- the copies that stand for what came back
 came_or : (lost : Bool) (sent copy : List DatagramRecord) → unwrap_or (cond lost None (Some copy)) sent

@@ -5,10 +5,12 @@ use Rattle.std.proofs.Common.{List, [], ◌∷◌, ◌++◌, length, get_or, Opt
 use Rattle.std.proofs.Common.{sym, subst, ◌∙◌, ap, refl, arith}
 use Rattle.std.specs.List.{AllByRecursion, slice_get}
 use Rattle.std.specs.Option.{option_map}
+use Rattle.std.proofs.Math.Bool.{or-true}
 use Rattle.std.proofs.lemmas.Bool.Decides.{nat_tests}
 use Rattle.std.proofs.lemmas.Option.{slice_get-map}
 use Rattle.ec_regs.specs.declared.registers.TheConstants.{STATION_ADDRESS, PROCESS_MEMORY}
 use Rattle.ec_regs.specs.declared.registers.TheConstants.{PROCESS_MEMORY_SIZE}
+use Rattle.ec_regs.proofs.Laws.{each-map}
 use Rattle.ec_esc.specs.State.{ControllerState, IsController, word_at}
 use Rattle.ec_app.specs.Lending.{with_controller}
 use Rattle.ec_app.specs.State.{SlaveState, ApplicationState}
@@ -17,15 +19,11 @@ use Rattle.ec_line.specs.Memory.{SameMemories, reached_after}
 use Rattle.ec_line.specs.Run.{AnsweredTrips, after_trips, reached_trips}
 use Rattle.ec_line.specs.Shown.{ShowsLast, ShowsLastInRun, NoAreaTwice, SameShownWhere}
 use Rattle.ec_line.specs.Trip.{Trip}
-use Rattle.ec_line.proofs.AnswersLemmas.{each-map}
-use Rattle.ec_line.proofs.CalmLemmas.{station_lasts}
-use Rattle.ec_line.proofs.CoreLemmas.{later-refl}
-use Rattle.ec_line.proofs.FrameLemmas.{IsLater}
-use Rattle.ec_line.proofs.RunLemmas.{core_run, good_run, reached_run}
-use Rattle.ec_line.proofs.ShownLemmas.{shows_last}
-use Rattle.ec_line.proofs.ShownRunLemmas.{good_shown}
+use Rattle.ec_line.specs.Steady.{IsLater}
+use Rattle.ec_line.proofs.Laws.{trips_steady, good_counters_answered, good_counters_memories}
+use Rattle.ec_line.proofs.Laws.{reached_memories, no_area_twice, good_counters_shown, station_lasts}
 use Rattle.ec_check.specs.Line.{controllers}
-use Rattle.ec_check.proofs.FactLemmas.{IsFitLine-fit}
+use Rattle.ec_check.proofs.Laws.{IsFitLine-fit}
 use Rattle.ec_map.specs.Item.{ItemRecord, IsItem}
 use Rattle.ec_ring.specs.Ring.{RingState, line_of, with_controllers}
 use Rattle.ec_ring.specs.declared.weather.Weather.{Weather}
@@ -126,7 +124,7 @@ pub run_later : (ws : List Weather) (r : RingState) (items : List ItemRecord) �
 run_later ws r items accepted are_items =
     let line : List ControllerState = line_of r in
     let ready = trips_ready ws r items accepted are_items in
-    (core_run (trips_under ws r items) line line ready (later-refl line ready.fit.alone)).2
+    trips_steady (trips_under ws r items) line ready
 
 pub applications_kept : (ws : List Weather) (r : RingState) (items : List ItemRecord) (n : ℕ)
     → IsAccepted r.slaves items → AllByRecursion IsItem items
@@ -145,8 +143,11 @@ pub good_cycle : (ws : List Weather) (r : RingState) (items : List ItemRecord) �
 good_cycle ws r items room accepted are_items good =
     let line : List ControllerState = line_of r in
     let ready = trips_ready ws r items accepted are_items in
-    good_run (trips_under ws r items) line line (line_room r room) ready (later-refl line ready.fit.alone)
-    (good_counts ws r items room accepted are_items good)
+    let ts : List Trip = trips_under ws r items in
+    let counts = good_counts ws r items room accepted are_items good in (
+      good_counters_answered ts line (line_room r room) ready counts,
+      good_counters_memories ts line (line_room r room) ready counts,
+    )
 
 -- the answers are those of the unordered cycle
 pub good_answers : (ws : List Weather) (r : RingState) (items : List ItemRecord) → length r.slaves ≤ 256
@@ -188,9 +189,8 @@ good_shows ws r items n k s room accepted are_items good inside there last =
     let C : ControllerState → Type 0 = ShowsLastInRun ts (PROCESS_MEMORY + k) in
     let K : SlaveState → ℕ = λ t. get_or t.controller.shown k 0 in
     let shown : SameShownWhere C k line (run_under ws r items).line (after_trips ts line) =
-    good_shown C k ts line line (line_room r room) (λ x last. last) inside ready
-    (later-refl line ready.fit.alone)
-    (good_counts ws r items room accepted are_items good) in
+    good_counters_shown ts line k (line_room r room) ready
+    (good_counts ws r items room accepted are_items good) inside in
     shown-by_station C k r.slaves (run_under ws r items).line (after_trips ts line) n s accepted.are
     (run_later ws r items accepted are_items) (good_cycle ws r items room accepted are_items good).1 shown
     there
@@ -204,14 +204,9 @@ good_shows ws r items n k s room accepted are_items good inside there last =
 pub shows-last-apart : (x : ControllerState) (address : ℕ) (fs : List (List Entry))
     → AllByRecursion (NoAreaTwice x) fs → AllByRecursion (ShowsLast x address) fs
 shows-last-apart x address fs apart =
-    each-map (NoAreaTwice x) (ShowsLast x address) fs (λ f one. shows_last x address f one) apart
+    each-map (NoAreaTwice x) (ShowsLast x address) fs (λ f one. no_area_twice x address f one) apart
 
 -- ---- slaves by their places
-
--- tests at the next place
-or-true : (b : Bool) → (b || true) ≡ true
-or-true true = refl
-or-true false = refl
 
 test-zero : (k : ℕ) → (ltb k 0 || leb 0 k) ≡ true
 test-zero k = let e : leb 0 k ≡ true = grind (arith, nat_tests) in rw e (or-true (ltb k 0))
@@ -315,7 +310,7 @@ reached_memory ws r items k s accepted are_items there =
     λ o. option_map (λ (c : ControllerState). c.memory) o in
     memories-at r.slaves (run_under ws r items).line (reached_trips ts line) k
     (run_later ws r items accepted are_items)
-    (reached_run ts line line ready (later-refl line ready.fit.alone))
+    (reached_memories ts line ready)
     ∙ ap M (reached-at ts line k)
     ∙ ap (λ (o : Option ControllerState). M (option_map (after_frame (entries_at ts k)) o))
     (slice_get-map (λ (t : SlaveState). t.controller) r.slaves k)

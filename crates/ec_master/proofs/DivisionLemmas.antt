@@ -11,8 +11,8 @@ use Rattle.ec_wire.specs.Spelling.{body_length}
 use Rattle.ec_line.specs.After.{Entry}
 use Rattle.ec_line.specs.Answered.{sent_of}
 use Rattle.ec_map.specs.Item.{ItemRecord, IsItem}
+use Rattle.ec_map.proofs.Laws.{item_most}
 use Rattle.ec_master.specs.Cut.{concat, entry_of, entries_from, fits_frame, cut_onto, cut, AreFull, IsCut}
-use Rattle.ec_master.proofs.ItemLemmas.{item_most}
 use Rattle.ec_master.proofs.SlaveLemmas.{concat-cut}
 
 -- ---- the cut is a division

@@ -13,8 +13,8 @@ use Rattle.ec_line.specs.Trip.{Trip}
 use Rattle.ec_map.specs.Item.{ItemRecord, IsItem}
 use Rattle.ec_ring.specs.Ring.{RingState, line_of}
 use Rattle.ec_ring.specs.declared.weather.Weather.{Weather}
-use Rattle.ec_line.specs.declared.kind.Kind.{Kind}
-use Rattle.ec_line.specs.declared.kind.Kind.TheVariants.{Lrd, Lwr, Lrw, Brd, Fprd, Fpwr}
+use Rattle.ec_wire.specs.declared.kind.Kind.{Kind}
+use Rattle.ec_wire.specs.declared.kind.Kind.TheVariants.{Lrd, Lwr, Lrw, Brd, Fprd, Fpwr}
 use Rattle.ec_master.specs.Cut.{concat}
 use Rattle.ec_master.specs.Travelled.{trips_under, run_under, answers_under}
 use Rattle.ec_master.specs.Unordered.{IsAccepted}

@@ -11,6 +11,5 @@ pub mod TravelLemmas
 pub mod JudgedLemmas
 pub mod PortLemmas
 pub mod SufficeLemmas
-pub mod ItemLemmas
 pub mod DivisionLemmas
 pub mod RangeLemmas

@@ -5,6 +5,7 @@ use Rattle.std.proofs.Common.{sym, subst, ◌∙◌, ap, refl, arith}
 use Rattle.std.specs.Prelude.{is_none}
 use Rattle.std.specs.List.{AllByRecursion}
 use Rattle.std.proofs.lemmas.List.{take-append-drop, take-map, drop-map, drop_all, map-append}
+use Rattle.ec_regs.proofs.Laws.{each-append, each-map, each-take, each-drop}
 use Rattle.ec_wire.specs.Datagram.{DatagramRecord}
 use Rattle.ec_esc.specs.State.{ControllerState}
 use Rattle.ec_app.specs.State.{SlaveState}
@@ -13,9 +14,7 @@ use Rattle.ec_line.specs.After.{Entry}
 use Rattle.ec_line.specs.Fit.{IsFitAlone, AreApart, AllApart, IsFitLine}
 use Rattle.ec_line.specs.Run.{trips_run, TripsReady, AnsweredTrips}
 use Rattle.ec_line.specs.Trip.{Trip, returned}
-use Rattle.ec_line.proofs.AnswersLemmas.{each-append, each-map}
-use Rattle.ec_line.proofs.CoreLemmas.{each-take, each-drop, later-refl}
-use Rattle.ec_line.proofs.RunLemmas.{core_run}
+use Rattle.ec_line.proofs.Laws.{trips_answered, apart-drop}
 use Rattle.ec_check.specs.Line.{controllers}
 use Rattle.ec_map.specs.Item.{ItemRecord, IsItem}
 use Rattle.ec_ring.specs.Links.{IsOnlyDown}
@@ -24,10 +23,11 @@ use Rattle.ec_ring.specs.Ring.{RingState, line_of}
 use Rattle.ec_ring.specs.Travel.{trip_of}
 use Rattle.ec_ring.specs.declared.links.Links.{Links}
 use Rattle.ec_ring.specs.declared.port.Port.{Port}
-use Rattle.ec_ring.proofs.ReachLemmas.{front-le-back, front-is-back, lost-front, lost-back}
-use Rattle.ec_ring.proofs.RingLemmas.{length-controllers, length-with_controllers}
+use Rattle.ec_ring.proofs.Laws.{front-le-back, front-is-back, lost-front, lost-back, length-controllers}
+use Rattle.ec_ring.proofs.Laws.{length-with_controllers}
 use Rattle.ec_master.specs.Cut.{concat, entries_from, frames_of}
-use Rattle.ec_master.specs.Travelled.{calm, trips_of, trips_under, run_under, answers_under, ring_under}
+use Rattle.ec_master.specs.Travelled.{trips_of, trips_under, run_under, answers_under, ring_under}
+use Rattle.ec_ring.specs.Weather.{calm}
 use Rattle.ec_master.specs.Travelled.{reached, unreached}
 use Rattle.ec_master.specs.Unordered.{by_station, AreAnswers, IsCycle, IsAccepted}
 use Rattle.ec_master.specs.Work.{with_answers}
@@ -42,12 +42,6 @@ use Rattle.ec_master.proofs.StationLemmas.{each-slave}
 each-pieces : {S : Type 0} (P : S → Type 0) (p q : ℕ) (xs : List S) → AllByRecursion P xs
     → AllByRecursion P (take p xs ++ drop q xs)
 each-pieces P p q xs all = each-append P (take p xs) (drop q xs) (each-take P p xs all) (each-drop P q xs all)
-
--- pieces of controllers that are apart are so
-apart-drop : (n : ℕ) (xs : List ControllerState) → AllApart xs → AllApart (drop n xs)
-apart-drop zero xs all = all
-apart-drop (suc n) [] all = tt
-apart-drop (suc n) (x ∷ xs) all = apart-drop n xs all.1
 
 apart-pieces : (p q : ℕ) (xs : List ControllerState) → p ≤ q → AllApart xs → AllApart (take p xs ++ drop q xs)
 apart-pieces zero q xs order all = apart-drop q xs all
@@ -124,7 +118,7 @@ reached_answers r items accepted are =
     let answered : AnsweredTrips ts (λ t. xs) joined =
     answered-same ts (λ t. returned t line) xs joined
     (each_returned r.links (frames_of items) line n (length-controllers ss))
-    (core_run ts line line ready (later-refl line ready.fit.alone)).0 in
+    (trips_answered ts line ready) in
     let fit : IsFitLine (controllers (reached r)) =
     subst IsFitLine pieces (fit-pieces p q line (front-le-back r.links n) ready.fit) in
     let accept : AllByRecursion (AcceptsAll es) (controllers (reached r)) =

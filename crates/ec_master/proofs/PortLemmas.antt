@@ -14,7 +14,7 @@ use Rattle.ec_master.specs.Ports.{came_or, ComesTo, Trips, PortTrip, Outcome, wi
 use Rattle.ec_master.specs.Work.{with_answers, nth_item, no_item}
 use Rattle.ec_master.specs.declared.cycle.CycleFault.{CycleFault}
 use Rattle.ec_master.specs.declared.cycle.CycleFault.TheVariants.{Port}
-use Rattle.ec_master.specs.declared.ports.PortFault.{PortFault}
+use Rattle.ec_ring.specs.declared.port.PortFault.{PortFault}
 use Rattle.ec_master.proofs.TravelLemmas.{cut-frame_at, drop-with_answers, SameSizes, sizes_own, sizes_joined}
 use Rattle.ec_master.proofs.TravelLemmas.{sizes-count, frame_inside, frame_some, length-sent_of}
 

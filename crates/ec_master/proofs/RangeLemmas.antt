@@ -6,24 +6,25 @@ use Rattle.std.specs.Option.{option_map, is_some}
 use Rattle.std.proofs.lemmas.Bool.{le-leb, leb-true, lt-ltb, and_parts, cases_lt}
 use Rattle.ec_regs.specs.Bits.{bit}
 use Rattle.ec_regs.specs.declared.registers.TheConstants.{STATION_ADDRESS, PROCESS_MEMORY, MEMORY_SIZE}
-use Rattle.ec_regs.proofs.BitLemmas.{bit-with_bits_taken, bit-with_bits_kept, with_bits_none}
+use Rattle.ec_regs.proofs.Laws.{bit-with_bits_taken, bit-with_bits_kept, with_bits_none}
 use Rattle.ec_wire.specs.Datagram.{adp_of, ado_of}
-use Rattle.ec_areas.specs.Ranges.{within, takes_writes, is_range, meets_locked, some_address, filled_by}
+use Rattle.ec_regs.specs.AddressRange.{within}
+use Rattle.ec_areas.specs.Ranges.{takes_writes, is_range, meets_locked, some_address, filled_by}
 use Rattle.ec_areas.specs.Records.{sync_managers_of}
-use Rattle.ec_areas.proofs.MeetLemmas.{reads_registers}
+use Rattle.ec_areas.proofs.Laws.{reads_registers}
 use Rattle.ec_esc.specs.State.{ControllerState, IsController, word_at}
 use Rattle.ec_esc.specs.Pass.{Half, where_served, range_sources, range_targets, read_mailbox, written_mailbox}
 use Rattle.ec_esc.specs.Pass.{serves_range_read, serves_range_write}
 use Rattle.ec_line.specs.After.{written_through, after}
 use Rattle.ec_line.specs.Claims.{claim, taken}
 use Rattle.ec_line.specs.Request.{Request}
-use Rattle.ec_line.specs.declared.kind.Kind.{Kind}
-use Rattle.ec_line.specs.declared.kind.Kind.TheVariants.{Brd, Fprd, Fpwr}
-use Rattle.ec_line.proofs.CalmLemmas.{claim_in, claim_out, broadcast_claim}
+use Rattle.ec_wire.specs.declared.kind.Kind.{Kind}
+use Rattle.ec_wire.specs.declared.kind.Kind.TheVariants.{Brd, Fprd, Fpwr}
+use Rattle.ec_line.proofs.Laws.{claim_in, claim_out, broadcast_claim}
 use Rattle.ec_map.specs.Item.{ItemRecord, IsItem, is_in_range, is_broadcast}
 use Rattle.ec_map.specs.Place.{station_named, ado_named}
 use Rattle.ec_map.specs.Share.{serves_read, serves_write, request_of}
-use Rattle.ec_master.proofs.ItemLemmas.{item_size, item_range}
+use Rattle.ec_map.proofs.Laws.{item_size, item_range}
 
 -- ---- halves
 

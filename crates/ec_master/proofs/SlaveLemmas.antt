@@ -7,6 +7,8 @@ use Rattle.std.specs.List.{AllByRecursion}
 use Rattle.std.specs.Option.{option_map}
 use Rattle.std.proofs.lemmas.List.{map-append}
 use Rattle.ec_regs.specs.declared.registers.TheConstants.{STATION_ADDRESS}
+use Rattle.ec_regs.proofs.Laws.{each-append, each-front, each-back, each-map, each-both, each-take}
+use Rattle.ec_regs.proofs.Laws.{each-drop}
 use Rattle.ec_esc.specs.State.{ControllerState, IsController, word_at}
 use Rattle.ec_app.specs.Lending.{with_controller}
 use Rattle.ec_app.specs.State.{SlaveState}
@@ -16,24 +18,21 @@ use Rattle.ec_line.specs.Memory.{reached_after}
 use Rattle.ec_line.specs.Request.{SameAddress, OnWay}
 use Rattle.ec_line.specs.Run.{trips_run, TripsReady, after_trips, visited_trips}
 use Rattle.ec_line.specs.Trip.{Trip, front_after, back_after}
-use Rattle.ec_line.specs.declared.kind.Kind.{Kind}
-use Rattle.ec_line.specs.declared.kind.Kind.TheVariants.{Lrd, Lwr, Lrw, Brd, Fprd, Fpwr}
-use Rattle.ec_line.proofs.AnswersLemmas.{each-append, each-front, each-back, each-map, each-both}
-use Rattle.ec_line.proofs.CalmLemmas.{same_calm_refl, station_lasts}
-use Rattle.ec_line.proofs.CoreLemmas.{each-take, each-drop, later-refl}
-use Rattle.ec_line.proofs.FrameLemmas.{IsLater, after_frame_keeps}
-use Rattle.ec_line.proofs.RunLemmas.{core_run}
+use Rattle.ec_wire.specs.declared.kind.Kind.{Kind}
+use Rattle.ec_wire.specs.declared.kind.Kind.TheVariants.{Lrd, Lwr, Lrw, Brd, Fprd, Fpwr}
+use Rattle.ec_line.specs.Steady.{IsLater}
+use Rattle.ec_line.proofs.Laws.{trips_left, trips_steady, after_frame_steady, station_lasts}
 use Rattle.ec_check.specs.Fit.{IsFit}
 use Rattle.ec_check.specs.Line.{controllers}
-use Rattle.ec_check.proofs.FactLemmas.{IsFitLine-fit}
+use Rattle.ec_check.proofs.Laws.{IsFitLine-fit}
 use Rattle.ec_map.specs.Item.{ItemRecord, IsItem, wire_address}
 use Rattle.ec_map.specs.Place.{IsPlaced}
-use Rattle.ec_map.proofs.LawLemmas.{Accepts-IsPlaced}
+use Rattle.ec_map.proofs.Laws.{Accepts-IsPlaced}
 use Rattle.ec_ring.specs.Reach.{front, back}
 use Rattle.ec_ring.specs.Ring.{RingState, line_of, with_controllers}
 use Rattle.ec_ring.specs.declared.links.Links.{Links}
 use Rattle.ec_ring.specs.declared.weather.Weather.{Weather}
-use Rattle.ec_ring.proofs.ReachLemmas.{front-le-back}
+use Rattle.ec_ring.proofs.Laws.{front-le-back}
 use Rattle.ec_master.specs.Cut.{concat, entries_from, fits_frame, cut_onto, cut, frames_of}
 use Rattle.ec_master.specs.Travelled.{trips_of, trips_under, run_under, ring_under, reached}
 use Rattle.ec_master.specs.Unordered.{ByStation, station, by_station, slave_after, slaves_after}
@@ -96,9 +95,9 @@ unfolding station
 station-after_items rs s takes =
     let es = entries_from 0 rs in
     let c : ControllerState = s.controller in
-    let kept = after_frame_keeps es c c takes.controller takes.controller (same_calm_refl c) takes.accepts in
+    let kept = after_frame_steady es c takes.controller takes.accepts in
     ap (λ (t : SlaveState). word_at t.controller.memory STATION_ADDRESS) (after_items-frame rs 0 s)
-    ∙ station_lasts c (after_frame es c) takes.controller kept.1
+    ∙ station_lasts c (after_frame es c) takes.controller kept
 
 -- ---- slaves by their stations
 
@@ -445,7 +444,7 @@ ring_slaves r items accepted are_items =
     let ts : List Trip = trips_under [] r items in
     let ready = trips_ready [] r items accepted are_items in
     let left : (trips_run ts line).line ≡ visited_trips ts line =
-    (core_run ts line line ready (later-refl line ready.fit.alone)).1 in
+    trips_left ts line ready in
     ap (λ (l : List ControllerState). with_controllers ys l)
     (left ∙ visited_trips-concat r.links n (frames_of items) line
     ∙ ap (λ (l : List Entry). reached_after (after_frame l) p q line) (concat-cut es))
@@ -514,5 +513,5 @@ pub stations_kept : (ws : List Weather) (r : RingState) (items : List ItemRecord
 stations_kept ws r items accepted are_items =
     let line : List ControllerState = line_of r in
     let ready = trips_ready ws r items accepted are_items in
-    let run = core_run (trips_under ws r items) line line ready (later-refl line ready.fit.alone) in
-    stations-later r.slaves (run_under ws r items).line accepted.are run.2
+    stations-later r.slaves (run_under ws r items).line accepted.are
+    (trips_steady (trips_under ws r items) line ready)

@@ -8,14 +8,13 @@ use Rattle.std.proofs.Math.Path.{fun_ext}
 use Rattle.std.proofs.lemmas.Bool.{cases_Bool, eqb-true, eqb-false, eq-eqb, ne_eqb}
 use Rattle.std.proofs.lemmas.List.Sums.{sum_by-cons}
 use Rattle.ec_regs.specs.declared.registers.TheConstants.{STATION_ADDRESS}
+use Rattle.ec_regs.proofs.Laws.{each-both}
 use Rattle.ec_esc.specs.State.{ControllerState, IsController, word_at}
 use Rattle.ec_app.specs.State.{SlaveState}
 use Rattle.ec_line.specs.Accepted.{Accepts}
-use Rattle.ec_line.specs.Calm.{SameCalm}
+use Rattle.ec_line.specs.Steady.{SameSteady, IsLater}
 use Rattle.ec_line.specs.Fit.{IsFitAlone, AreApart, AllApart}
-use Rattle.ec_line.proofs.AnswersLemmas.{each-both}
-use Rattle.ec_line.proofs.CalmLemmas.{after_calm, station_lasts}
-use Rattle.ec_line.proofs.FrameLemmas.{IsLater}
+use Rattle.ec_line.proofs.Laws.{after_steady, station_lasts}
 use Rattle.ec_check.specs.Line.{controllers}
 use Rattle.ec_map.specs.Item.{ItemRecord}
 use Rattle.ec_map.specs.Share.{request_of}
@@ -186,7 +185,7 @@ pub station_after : (r : ItemRecord) (s : SlaveState) → IsController s.control
     → station (slave_after r s) ≡ station s
 unfolding station
 station_after r s is accepts =
-    station_lasts s.controller _ is (after_calm (request_of r) r.payload s.controller is accepts)
+    station_lasts s.controller _ is (after_steady (request_of r) r.payload s.controller is accepts)
 
 -- the slaves after an item, by their stations
 by_station_after : (r : ItemRecord) (ss : List SlaveState) (n : ℕ)
@@ -216,7 +215,7 @@ slaves_after-map r ss are accept = fun_ext (λ n. by_station_after r ss n are ac
 -- ---- a line as it is now
 
 -- the station of a slave whose controller is a later one
-station_of_later : (y : ControllerState) (t : SlaveState) → IsController y → SameCalm y t.controller
+station_of_later : (y : ControllerState) (t : SlaveState) → IsController y → SameSteady y t.controller
     → station t ≡ word_at y.memory STATION_ADDRESS
 unfolding station
 station_of_later y t is same = station_lasts y t.controller is same

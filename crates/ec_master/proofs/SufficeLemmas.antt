@@ -7,14 +7,14 @@ use Rattle.std.specs.List.{AllByRecursion}
 use Rattle.std.proofs.lemmas.Simd.{map-map}
 use Rattle.ec_wire.specs.Datagram.{DatagramRecord}
 use Rattle.ec_merge.specs.Frames.{IsOwn, joined_frame}
-use Rattle.ec_merge.proofs.FrameLemmas.{own_no_fault, joined_frame_symmetric}
+use Rattle.ec_merge.proofs.Laws.{own_no_fault, joined_frame_symmetric}
 use Rattle.ec_esc.specs.State.{ControllerState}
 use Rattle.ec_line.specs.After.{Entry}
 use Rattle.ec_line.specs.Answered.{sent_of}
 use Rattle.ec_line.specs.Request.{OnWay}
 use Rattle.ec_line.specs.Run.{trips_run}
 use Rattle.ec_line.specs.Trip.{Trip, Passed, passed, joined_of}
-use Rattle.ec_line.proofs.OwnLemmas.{own_a, own_b}
+use Rattle.ec_line.proofs.Laws.{own_a, own_b}
 use Rattle.ec_map.specs.Item.{ItemRecord, IsItem}
 use Rattle.ec_map.specs.Share.{expected_of}
 use Rattle.ec_ring.specs.Ring.{RingState, line_of}
@@ -33,7 +33,7 @@ use Rattle.ec_master.specs.Unordered.{by_station, AreAnswers, IsAccepted}
 use Rattle.ec_master.specs.Verdict.{verdict}
 use Rattle.ec_master.specs.Work.{with_answers}
 use Rattle.ec_master.specs.declared.cycle.CycleFault.{CycleFault}
-use Rattle.ec_master.specs.declared.ports.PortFault.{PortFault}
+use Rattle.ec_ring.specs.declared.port.PortFault.{PortFault}
 use Rattle.ec_master.specs.declared.verdict.Verdict.{Verdict}
 use Rattle.ec_master.specs.declared.verdict.Verdict.TheVariants.{Good, Short, Over}
 use Rattle.ec_master.proofs.CarryLemmas.{either, own_itself}

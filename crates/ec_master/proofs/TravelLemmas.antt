@@ -3,11 +3,11 @@ use Rattle.std.proofs.Common.{◌≡◌, ℕ, zero, suc, true, false, cond, ◌+
 use Rattle.std.proofs.Common.{arith, suc-add, zero-add}
 use Rattle.std.proofs.Common.{List, [], ◌∷◌, ◌++◌, length, drop, slice_index_or, length-append, length-drop}
 use Rattle.std.specs.List.{AllByRecursion}
-use Rattle.std.proofs.lemmas.Bool.Decides.{nat_tests}
 use Rattle.std.proofs.lemmas.List.{drop-drop, get_or-drop, drop_all}
+use Rattle.ec_regs.proofs.Laws.{each-front, each-drop}
 use Rattle.ec_wire.specs.Datagram.{DatagramRecord, nth}
-use Rattle.ec_merge.specs.Frames.{IsOwn, belongs, joined_frame}
-use Rattle.ec_merge.proofs.BytesLemmas.{length-joined}
+use Rattle.ec_merge.specs.Frames.{IsOwn, joined_frame}
+use Rattle.ec_merge.proofs.Laws.{length-joined, same_size}
 use Rattle.ec_esc.specs.State.{ControllerState}
 use Rattle.ec_line.specs.After.{Entry}
 use Rattle.ec_line.specs.Answered.{sent_of}
@@ -15,20 +15,18 @@ use Rattle.ec_line.specs.Run.{TripsRun, trips_run}
 use Rattle.ec_line.specs.Trip.{Trip, Passed, passed, joined_of, passed_by_a_first, passed_by_b_first}
 use Rattle.ec_line.specs.Trip.{front_pass, back_pass, sent_b}
 use Rattle.ec_app.specs.State.{SlaveState}
-use Rattle.ec_ring.proofs.PassLemmas.{with_controllers-controllers}
-use Rattle.ec_ring.proofs.RingLemmas.{length-controllers}
-use Rattle.ec_ring.proofs.TravelLemmas.{length-front_pass, length-back_pass, line-between, with_line-between}
 use Rattle.ec_line.specs.Request.{OnWay}
-use Rattle.ec_line.proofs.AnswersLemmas.{each-front}
-use Rattle.ec_line.proofs.CoreLemmas.{each-drop}
-use Rattle.ec_line.proofs.OwnLemmas.{own_a, own_b}
+use Rattle.ec_line.proofs.Laws.{own_a, own_b}
 use Rattle.ec_map.specs.Item.{ItemRecord, IsItem}
 use Rattle.ec_ring.specs.Ring.{RingState, line_of, with_line}
 use Rattle.ec_ring.specs.Travel.{trip_of}
 use Rattle.ec_ring.specs.declared.links.Links.{Links}
 use Rattle.ec_ring.specs.declared.weather.Weather.{Weather}
+use Rattle.ec_ring.proofs.Laws.{length-front_pass, length-back_pass, line-between, with_line-between}
+use Rattle.ec_ring.proofs.Laws.{with_controllers-controllers, length-controllers}
 use Rattle.ec_master.specs.Cut.{concat, entry_of, entries_from, cut, filled, frame_at, IsFrameOf}
-use Rattle.ec_master.specs.Travelled.{calm, trips_of, run_under, answers_under}
+use Rattle.ec_master.specs.Travelled.{trips_of, run_under, answers_under}
+use Rattle.ec_ring.specs.Weather.{calm}
 use Rattle.ec_master.specs.Work.{with_answer, with_answers, with_answers_at, no_item, nth_item}
 use Rattle.ec_master.proofs.CutLemmas.{rest_of, cut_onto-filled, filled-whole, entries-cons, entries-split}
 use Rattle.ec_master.proofs.CutLemmas.{first_or, behind, length-entries, filled-some}
@@ -158,9 +156,6 @@ SameSizes [] [] = Unit {0}
 SameSizes (x ∷ xs) (y ∷ ys) = (length y.payload ≡ length x.payload) × SameSizes xs ys
 SameSizes _ _ = ⊥
 
-same_size : (s c : DatagramRecord) → belongs s c ≡ true → length c.payload ≡ length s.payload
-same_size s c own = grind (arith, nat_tests)
-
 pub sizes_own : (s c : List DatagramRecord) → IsOwn s c → SameSizes s c
 unfolding SameSizes
 sizes_own [] [] own = tt
@@ -215,11 +210,11 @@ sizes_items k items c j there same inside =
 
 -- ---- one frame
 
-entries-calm : (k : ℕ) (rs : List ItemRecord)
+entries-not_circulating : (k : ℕ) (rs : List ItemRecord)
     → AllByRecursion (λ e. e.sent.circulating ≡ false) (entries_from k rs)
 unfolding entries_from
-entries-calm k [] = tt
-entries-calm k (r ∷ rs) = (refl, entries-calm (suc k) rs)
+entries-not_circulating k [] = tt
+entries-not_circulating k (r ∷ rs) = (refl, entries-not_circulating (suc k) rs)
 
 pub frame_ready : (k : ℕ) (items : List ItemRecord) (sent : List DatagramRecord) → k < length items
     → AllByRecursion IsItem items
@@ -234,9 +229,9 @@ frame_ready k items sent there are same =
       way =
           each-front W es left.0 (subst (λ (l : List Entry). AllByRecursion W l) (sym left.1)
           (entries-on_way k (drop k items) (each-drop IsItem k items are)));
-      calm =
+      not_circulating =
           each-front C es left.0
-          (subst (λ (l : List Entry). AllByRecursion C l) (sym left.1) (entries-calm k (drop k items)));
+          (subst (λ (l : List Entry). AllByRecursion C l) (sym left.1) (entries-not_circulating k (drop k items)));
     }
 
 -- what its answer has of it: the sizes

@@ -15,12 +15,10 @@ use Rattle.ec_line.specs.Answered.{Answered, AnsweredFrame}
 use Rattle.ec_line.specs.Claims.{gain}
 use Rattle.ec_line.specs.Run.{AnsweredTrips, CountsWhole, CountsWholeAll}
 use Rattle.ec_line.specs.Trip.{Trip, returned}
-use Rattle.ec_line.proofs.CertificateLemmas.{sum_bound}
-use Rattle.ec_line.proofs.CoreLemmas.{later-refl}
-use Rattle.ec_line.proofs.RunLemmas.{core_run}
+use Rattle.ec_line.proofs.Laws.{trips_answered, sum_bound}
 use Rattle.ec_map.specs.Item.{ItemRecord, IsItem, datagram_of}
 use Rattle.ec_map.specs.Share.{share, expected_of, request_of}
-use Rattle.ec_map.proofs.LawLemmas.{gain-share}
+use Rattle.ec_map.proofs.Laws.{gain-share}
 use Rattle.ec_ring.specs.Links.{IsOnlyDown}
 use Rattle.ec_ring.specs.Reach.{front, back, arrival_a, arrival_b}
 use Rattle.ec_ring.specs.Ring.{RingState, line_of}
@@ -28,12 +26,12 @@ use Rattle.ec_ring.specs.Travel.{trip_of}
 use Rattle.ec_ring.specs.declared.links.Links.{Links}
 use Rattle.ec_ring.specs.declared.port.Port.{Port}
 use Rattle.ec_ring.specs.declared.weather.Weather.{Weather}
-use Rattle.ec_ring.proofs.ReachLemmas.{front-is-back, lost-front, lost-back}
-use Rattle.ec_ring.proofs.RingLemmas.{length-controllers}
+use Rattle.ec_ring.proofs.Laws.{front-is-back, lost-front, lost-back, length-controllers}
 use Rattle.ec_master.specs.Certificate.{carriers, count_of, whole_count, counts_from, verdict_by_counts}
 use Rattle.ec_master.specs.Certificate.{verdict_under, IsOneDown}
 use Rattle.ec_master.specs.Cut.{concat, entries_from, frames_of}
-use Rattle.ec_master.specs.Travelled.{calm, trips_of, trips_under, run_under, answers_under}
+use Rattle.ec_master.specs.Travelled.{trips_of, trips_under, run_under, answers_under}
+use Rattle.ec_ring.specs.Weather.{calm}
 use Rattle.ec_master.specs.Unordered.{IsAccepted}
 use Rattle.ec_master.specs.Verdict.{moved, verdict_from}
 use Rattle.ec_master.specs.declared.verdict.Verdict.{Verdict}
@@ -153,7 +151,7 @@ pub returned_answers : (ws : List Weather) (r : RingState) (items : List ItemRec
 returned_answers ws r items accepted are_items =
     let line : List ControllerState = line_of r in
     let ready = trips_ready ws r items accepted are_items in
-    (core_run (trips_under ws r items) line line ready (later-refl line ready.fit.alone)).0
+    trips_answered (trips_under ws r items) line ready
 
 pub line_room : (r : RingState) → length r.slaves ≤ 256 → length (line_of r) ≤ 256
 line_room r room = omega (arith, length-controllers r.slaves, room)

@@ -76,4 +76,4 @@ pub record IsCut (es : List Entry) (frames : List (List Entry)) : Type 0 where
 pub record IsFrameOf (es : List Entry) (sent : List DatagramRecord) : Type 0 where
   pub datagrams : sent ≡ sent_of es
   pub way : AllByRecursion (λ e. OnWay e.request e.sent) es
-  pub calm : AllByRecursion (λ e. e.sent.circulating ≡ false) es
+  pub not_circulating : AllByRecursion (λ e. e.sent.circulating ≡ false) es

@@ -7,3 +7,4 @@ pub mod Verdict
 pub mod Certificate
 pub mod Ports
 pub mod Suffice
+pub mod RingTrips

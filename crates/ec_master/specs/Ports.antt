@@ -10,7 +10,7 @@ use Rattle.ec_ring.specs.declared.weather.Came.{Came}
 use Rattle.ec_master.specs.Cut.{concat, frames_of}
 use Rattle.ec_master.specs.Verdict.{verdict}
 use Rattle.ec_master.specs.Work.{with_answers}
-use Rattle.ec_master.specs.declared.ports.PortFault.{PortFault}
+use Rattle.ec_ring.specs.declared.port.PortFault.{PortFault}
 use Rattle.ec_master.specs.declared.cycle.CycleFault.{CycleFault}
 use Rattle.ec_master.specs.declared.cycle.CycleFault.TheVariants.{Port, Stranger}
 use Rattle.ec_master.specs.declared.verdict.Verdict.{Verdict}

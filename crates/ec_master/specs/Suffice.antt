@@ -18,7 +18,7 @@ use Rattle.ec_master.specs.Ports.{Trips, IsPortCycle}
 use Rattle.ec_master.specs.Travelled.{trips_under}
 use Rattle.ec_master.specs.Unordered.{by_station, AreAnswers, IsAccepted}
 use Rattle.ec_master.specs.declared.cycle.CycleFault.{CycleFault}
-use Rattle.ec_master.specs.declared.ports.PortFault.{PortFault}
+use Rattle.ec_ring.specs.declared.port.PortFault.{PortFault}
 use Rattle.ec_master.specs.declared.verdict.Verdict.{Verdict}
 use Rattle.ec_master.specs.declared.verdict.Verdict.TheVariants.{Good}
 

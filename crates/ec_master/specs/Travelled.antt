@@ -10,13 +10,10 @@ use Rattle.ec_ring.specs.Links.{IsOnlyDown}
 use Rattle.ec_ring.specs.Reach.{front, back}
 use Rattle.ec_ring.specs.Ring.{RingState, line_of, with_line}
 use Rattle.ec_ring.specs.Travel.{trip_of}
+use Rattle.ec_ring.specs.Weather.{calm}
 use Rattle.ec_ring.specs.declared.links.Links.{Links}
 use Rattle.ec_ring.specs.declared.weather.Weather.{Weather}
 use Rattle.ec_master.specs.Cut.{concat, frames_of}
-
--- both copies under the same links, copy A first, none lost on its last hop
-abbrev pub calm : Links → Weather
-calm links = record { a = links; b = links; lost_a = false; lost_b = false; b_first = false }
 
 -- each frame's trip over a line of n slaves: under its own weather, and past the list of weathers under the
 -- line's own links

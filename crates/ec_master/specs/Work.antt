@@ -1,7 +1,7 @@
 -- A work is the list of its items: what a master asks of its slaves in each cycle, with the last answers.
 use Rattle.std.specs.Prelude.{ℕ, List, [], ◌∷◌, ◌++◌, take, drop, slice_index_or}
 use Rattle.ec_wire.specs.Datagram.{DatagramRecord, adp_of}
-use Rattle.ec_line.specs.declared.kind.Kind.TheVariants.{Lrd}
+use Rattle.ec_wire.specs.declared.kind.Kind.TheVariants.{Lrd}
 use Rattle.ec_map.specs.Item.{ItemRecord, with_adp}
 
 -- what stands for an item that is not there

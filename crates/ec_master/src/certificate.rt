@@ -46,7 +46,7 @@ pub fn good_image()
         ≡ memory_at (slaves_after_all items (by_station r.slaves)) n }
 {}
 
-/// And each slave's application is shown a byte as the unordered cycle shows it, where in each frame the last
+/// Each slave's application is shown a byte as the unordered cycle shows it, where in each frame the last
 /// item that shows the byte anew is the last that writes it; so each byte, where no two items of a frame
 /// write into one area of its outputs.
 pub fn good_outputs()
@@ -75,7 +75,7 @@ pub fn memory_on_every_verdict()
         ≡ Some (after_frame (entries_at (trips_under ws r items) k) s.controller).memory }
 {}
 
-/// And its application is as before.
+/// The application of each slave is as before a cycle.
 pub fn applications_kept()
     ensures { (ws : List Weather) (r : RingState) (items : List ItemRecord) (n : ℕ)
         → IsAccepted r.slaves items → AllByRecursion IsItem items

@@ -48,16 +48,19 @@
 pub mod certificate;
 mod cut;
 mod cycle;
-pub mod laws;
 mod ports;
+pub mod promises;
 mod ring;
+mod ring_ports;
 mod verdict;
 mod weather;
 mod work;
 
 pub use cycle::{CycleFault, run_cycle};
-pub use ports::{PortFault, Ports};
-pub use ring::{calm, ring_cycle};
+pub use ec_ring::PortFault;
+pub use ports::Ports;
+pub use ring::ring_cycle;
+pub use ring_ports::RingPorts;
 pub use verdict::Verdict;
 pub use weather::weather_cycle;
 pub use work::{Full, MAX_ITEMS, Work};

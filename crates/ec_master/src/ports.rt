@@ -3,14 +3,10 @@
 ghost use Rattle.std.specs.Prelude.{◌≡◌, ◌≤◌, ◌<◌, ℕ, List, Result, IsErr};
 ghost use Rattle.ec_wire.specs.Datagram.{DatagramRecord};
 ghost use Rattle.ec_ring.specs.declared.weather.Came.{Came};
-ghost use Rattle.ec_master.specs.declared.ports.PortFault.{PortFault};
+ghost use Rattle.ec_ring.specs.declared.port.PortFault.{PortFault};
 
-use ec_ring::Came;
+use ec_ring::{Came, PortFault};
 use ec_wire::FrameBuf;
-
-/// A frame could not be sent, or its copies could not be received.
-#[derive(Clone, Copy, PartialEq, Eq, Debug)]
-pub struct PortFault;
 
 /// The two ports of a master, from each of which a copy of a frame goes out. An implementation says which
 /// trips there are; nothing else is known of what comes back.

@@ -10,7 +10,8 @@ ghost use Rattle.ec_ring.specs.Travel.{trip_of};
 ghost use Rattle.ec_master.specs.Cut.{IsFrameOf, frame_at};
 ghost use Rattle.ec_master.specs.Work.{with_answers, nth_item};
 ghost use Rattle.ec_master.specs.declared.work.TheConstants.{MAX_ITEMS};
-ghost use Rattle.ec_master.specs.Travelled.{calm, answers_under, ring_under, AtMostOneDown, reached};
+ghost use Rattle.ec_master.specs.Travelled.{answers_under, ring_under, AtMostOneDown, reached};
+ghost use Rattle.ec_ring.specs.Weather.{calm};
 ghost use Rattle.ec_master.specs.Travelled.{unreached};
 ghost use Rattle.ec_master.specs.Unordered.{station, by_station, IsCycle, IsAccepted};
 
@@ -20,20 +21,6 @@ use ec_merge::join_frames;
 use ec_ring::{Links, Travel, Weather};
 use ec_wire::FrameBuf;
 
-/// The weather of a ring that nothing disturbs: both copies under its own links, copy A first, none lost on
-/// its last hop.
-pub fn calm(links: Links) -> Weather
-    ensures { result ≡ calm links }
-{
-    Weather {
-        a: links,
-        b: links,
-        lost_a: false,
-        lost_b: false,
-        b_first: false,
-    }
-}
-
 /// The weather of a frame with a number: past the list of weathers the ring's own links.
 fn weather_of(weather: &[Weather], number: usize, links: Links) -> Weather
     ensures { result ≡ slice_index_or weather.now number (calm links) }
@@ -41,7 +28,7 @@ fn weather_of(weather: &[Weather], number: usize, links: Links) -> Weather
     if number < weather.len() {
         weather[number]
     } else {
-        calm(links)
+        Weather::calm(links)
     }
 }
 

@@ -14,7 +14,7 @@ pub enum Verdict {
     Good,
     /// The counter of this item, the first one that is not as expected, has moved by less.
     Short(usize),
-    /// It has moved by more.
+    /// The working counter of the first such item has moved by more than is expected.
     Over(usize),
 }
 

@@ -65,7 +65,7 @@ impl Work {
         Ok(())
     }
 
-    /// The same work once more.
+    /// A second work with the same items.
     pub(crate) fn copy(&self) -> Work
         ensures { result ≡ self.now }
     {
@@ -89,6 +89,7 @@ impl Work {
         requires { k < length self.now }
         ensures { slice_get self.now k ≡ Some result.now }
     {
+        // For the prover: a work that is counted has at most `MAX_ITEMS` items.
         let _count = self.len();
         &self.items[k]
     }
@@ -99,6 +100,7 @@ impl Work {
         ensures* writes_back { sem 𝓛 (LendsItem self.entry k result) }
         ensures value { slice_get self.old k ≡ Some result.now }
     {
+        // For the prover: a work that is counted has at most `MAX_ITEMS` items.
         let _count = self.len();
         &mut self.items[k]
     }
@@ -110,6 +112,7 @@ impl Work {
         ensures datagram { record_of result ≡ datagram_of (nth_item self.now k) k }
         ensures item { IsItem (nth_item self.now k) }
     {
+        // For the prover: a work that is counted has at most `MAX_ITEMS` items.
         let _count = self.len();
         let item = self.item(k);
         let _length = item.len();
@@ -133,6 +136,7 @@ impl Work {
             → length (nth joined.now j).payload ≡ length (nth_item self.old (first + j)).payload }
         ensures { self.new ≡ with_answers_at first self.old joined.now }
     {
+        // For the prover: a work that is counted has at most `MAX_ITEMS` items.
         let _count = self.len();
         for j in 0..joined.count() {
             take_answer(self.item_mut(first + j), joined, j);

@@ -7,7 +7,6 @@ use Rattle.std.proofs.lemmas.Bool.{and_parts, eqb-true, true≢false, cases_lt}
 use Rattle.std.proofs.lemmas.List.{set-set, get_or-set_same, take_all, drop_all, append-nil}
 use Rattle.ec_wire.specs.Datagram.{DatagramRecord, nth, blank, code_of, command_of, Fits}
 use Rattle.ec_wire.specs.declared.command.Command.{Command}
-use Rattle.ec_wire.proofs.DatagramLemmas.{command_of-code_of}
 use Rattle.ec_merge.specs.declared.frames.JoinFault.{JoinFault}
 use Rattle.ec_merge.specs.declared.frames.JoinFault.TheVariants.{StrangerA, StrangerB}
 use Rattle.ec_merge.specs.Rule.{joined_count, joined_bits, joined_flag}
@@ -15,6 +14,7 @@ use Rattle.ec_merge.specs.Laws.{joined_count_symmetric, joined_count_unit, joine
 use Rattle.ec_merge.specs.Laws.{joined_bits_unit, joined_flag_symmetric, joined_flag_unit}
 use Rattle.ec_merge.specs.Bytes.{joined_bytes}
 use Rattle.ec_wire.specs.Command.{counts_adp}
+use Rattle.ec_wire.proofs.Laws.{command_of-code_of}
 use Rattle.ec_merge.specs.Frames.{fixed_address, belongs, IsOwn, IsStranger, IsFault, joined_address}
 use Rattle.ec_merge.specs.Frames.{with_joined_address, with_joined_fields, joined_record}
 use Rattle.ec_merge.specs.Frames.{joined_frame}

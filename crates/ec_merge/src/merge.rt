@@ -66,6 +66,7 @@ impl Merge for Counter {
     }
 
     fn known(&self) {
+        // For the prover: a value that is read is one of its type.
         let _value = self.0;
     }
 }
@@ -89,6 +90,7 @@ impl Merge for Byte {
     }
 
     fn known(&self) {
+        // For the prover: a value that is read is one of its type.
         let _value = self.0;
     }
 }
@@ -112,6 +114,7 @@ impl Merge for Irq {
     }
 
     fn known(&self) {
+        // For the prover: a value that is read is one of its type.
         let _value = self.0;
     }
 }

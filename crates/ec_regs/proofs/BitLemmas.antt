@@ -1,16 +1,13 @@
 -- What `with_bits` leaves in each bit, and that a list of bytes with those bits is it.
-use Rattle.std.proofs.Common.{◌≡◌, ◌≢◌, ℕ, zero, suc, ◌+◌, ◌*◌, ◌/◌, ◌%◌, ◌^◌, ◌<◌, ◌≤◌, List, length}
+use Rattle.std.proofs.Common.{◌≡◌, ◌≢◌, ℕ, zero, suc, ◌+◌, ◌*◌, ◌/◌, ◌%◌, ◌<◌, ◌≤◌, List, length}
 use Rattle.std.proofs.Common.{get_or, set, Option, None, Some, sym, ◌∙◌, ap, refl, arith, ⊎_elim}
-use Rattle.std.specs.Prelude.{bit_and, bit_or}
-use Rattle.std.specs.Int.{bit_at, w8, bit_not}
+use Rattle.std.specs.Int.{bit_at}
 use Rattle.std.specs.Option.{option_map_or}
 use Rattle.std.proofs.lemmas.Bool.{cases_lt, cases_eq}
 use Rattle.std.proofs.lemmas.List.{ext_get_or, get_or_past, length-set, get_or-set_same, get_or-set_other}
 use Rattle.std.proofs.lemmas.List.FromFn.{length-map-range_with_len, get_or-map-range_with_len}
-use Rattle.std.proofs.lemmas.Nat.{or_lt, and_le_l}
-use Rattle.std.proofs.lemmas.Nat.Bits.{bit_at-lt, bit_at-zero, same_from_bits_below, bit_at_set_same}
-use Rattle.std.proofs.lemmas.Nat.Bits.{bit_at_set_other, bit_at_clear_same, bit_at_clear_other}
-use Rattle.ec_regs.specs.Bits.{AreBytes, bit, byte_of_bits, placed_bit, with_bits, later, ChangesBit}
+use Rattle.std.proofs.lemmas.Nat.Bits.{bit_at-lt, bit_at-zero, same_from_bits_below}
+use Rattle.ec_regs.specs.Bits.{AreBytes, bit, byte_of_bits, placed_bit, with_bits, later}
 
 -- ---- bits
 
@@ -136,24 +133,6 @@ bit-with_bits xs ys place i inside =
     (8 * (i / 8) + b)) (i % 8) (omega arith)
     ∙ ap (placed_bit xs ys place) here
 
--- a bit with a place is taken from there
-pub bit-with_bits_taken : (xs ys : List ℕ) (place : ℕ → Option ℕ) (i p : ℕ) → i < 8 * length xs
-    → place i ≡ Some p
-    → bit (with_bits xs ys place) i ≡ bit ys p
-bit-with_bits_taken xs ys place i p inside e = bit-with_bits xs ys place i inside
-    ∙ placed_bit_taken xs ys place i p e
-
--- a bit without one is kept
-pub bit-with_bits_kept : (xs ys : List ℕ) (place : ℕ → Option ℕ) (i : ℕ) → place i ≡ None
-    → bit (with_bits xs ys place) i ≡ bit xs i
-bit-with_bits_kept xs ys place i e =
-    ⊎_elim
-    (λ (inside : i < 8 * length xs). bit-with_bits xs ys place i inside ∙ placed_bit_kept xs ys place i e)
-    (λ (past : 8 * length xs ≤ i).
-    bit_past (with_bits xs ys place) i (omega (arith, length-with_bits xs ys place))
-    ∙ sym (bit_past xs i past))
-    (cases_lt i (8 * length xs))
-
 -- a list of bytes of that length with those bits is it
 pub with_bits_only : (zs xs ys : List ℕ) (place : ℕ → Option ℕ) → length zs ≡ length xs → AreBytes zs
     → ((i : ℕ) → i < 8 * length xs → bit zs i ≡ placed_bit xs ys place i) → zs ≡ with_bits xs ys place
@@ -211,11 +190,6 @@ pub later_none : (o : Option ℕ) → later None o ≡ o
 later_none None = refl
 later_none (Some p) = refl
 
--- the order in which three places are joined is free
-pub later_assoc : (a b c : Option ℕ) → later (later a b) c ≡ later a (later b c)
-later_assoc a b None = refl
-later_assoc a b (Some p) = refl
-
 -- ---- a write of one byte
 
 -- a list of bytes with one byte written is of bytes
@@ -242,73 +216,3 @@ bit-set_same zs at new i inside here =
 pub bit-set_other : (zs : List ℕ) (at new i : ℕ) → i / 8 ≢ at → bit (set zs at new) i ≡ bit zs i
 bit-set_other zs at new i elsewhere = ap (λ x. bit_at x (i % 8)) (get_or-set_other zs at
     (i / 8) new 0 elsewhere)
-
--- ---- one bit more, for a loop that goes bit by bit
-
--- `old | 1 << k` sets bit k
-pub ChangesBit-set : (old k : ℕ) → old < 256 → k < 8 → ChangesBit old (bit_or old (1 * 2 ^ k % 2 ^ 8)) k 1
-ChangesBit-set old k byte below =
-    record {
-      byte = or_lt 8 old (1 * 2 ^ k % 2 ^ 8) byte (omega arith);
-      changed = bit_at_set_same w8 old k below;
-      others = λ b b_below other. bit_at_set_other w8 old k below b other;
-    }
-
--- `old & !(1 << k)` clears it
-pub ChangesBit-clear : (old k : ℕ) → old < 256 → k < 8
-    → ChangesBit old (bit_and old (bit_not w8 (1 * 2 ^ k % 2 ^ 8))) k 0
-ChangesBit-clear old k byte below =
-    record {
-      byte = omega (arith, and_le_l old (bit_not w8 (1 * 2 ^ k % 2 ^ 8)));
-      changed = bit_at_clear_same w8 old k below;
-      others = λ b b_below other. bit_at_clear_other w8 old k below b b_below other;
-    }
-
--- places that name one bit more, q, as bit p: the byte that holds q takes bit p, and all else stays
-pub with_bits_more : (zs xs ys : List ℕ) (f g : ℕ → Option ℕ) (q p new : ℕ) → zs ≡ with_bits xs ys f
-    → q < 8 * length xs → g q ≡ Some p → ((i : ℕ) → i ≢ q → g i ≡ f i)
-    → ChangesBit (get_or zs (q / 8) 0) new (q % 8) (bit ys p) → set zs (q / 8) new ≡ with_bits xs ys g
-with_bits_more zs xs ys f g q p new so_far inside taken kept change =
-    let len : length zs ≡ length xs = ap length so_far ∙ length-with_bits xs ys f in
-    let are : AreBytes zs = λ k. rw so_far (AreBytes-with_bits xs ys f k) in
-    let within : q / 8 < length zs = omega arith in
-    with_bits_only (set zs (q / 8) new) xs ys g (length-set zs (q / 8) new
-    ∙ len) (AreBytes-set zs (q / 8) new are change.byte)
-    (λ i i_inside.
-    ⊎_elim
-    (λ (here : i ≡ q).
-    bit-set_same zs (q / 8) new i within (ap (λ x. x / 8) here) ∙ ap (λ x. bit_at new (x % 8)) here
-    ∙ change.changed
-    ∙ sym (placed_bit_taken xs ys g i p (ap g here ∙ taken)))
-    (λ (elsewhere : i ≢ q).
-    let before : bit zs i ≡ placed_bit xs ys g i =
-    ap (λ z. bit z i) so_far ∙ bit-with_bits xs ys f i i_inside
-    ∙ placed_bit_same_place xs ys f g i (sym (kept i elsewhere))
-    in ⊎_elim
-    (λ (same_byte : i / 8 ≡ q / 8).
-    bit-set_same zs (q / 8) new i within same_byte ∙ change.others (i % 8) (omega arith) (omega arith)
-    ∙ ap (λ k. bit_at (get_or zs k 0) (i % 8)) (sym same_byte) ∙ before)
-    (λ (other_byte : i / 8 ≢ q / 8). bit-set_other zs (q / 8) new i other_byte ∙ before)
-    (cases_eq (i / 8) (q / 8)))
-    (cases_eq i q))
-
--- the same where bit p is 1 and the code sets bit q
-pub with_bits_more_set : (zs xs ys : List ℕ) (f g : ℕ → Option ℕ) (q p : ℕ) → zs ≡ with_bits xs ys f
-    → q < 8 * length xs → g q ≡ Some p → ((i : ℕ) → i ≢ q → g i ≡ f i) → bit ys p ≡ 1
-    → set zs (q / 8) (bit_or (get_or zs (q / 8) 0) (1 * 2 ^ (q % 8) % 2 ^ 8)) ≡ with_bits xs ys g
-with_bits_more_set zs xs ys f g q p so_far inside taken kept one =
-    let byte : get_or zs (q / 8) 0 < 256 = rw so_far (AreBytes-with_bits xs ys f (q / 8)) in
-    with_bits_more zs xs ys f g q p (bit_or (get_or zs (q / 8) 0) (1 * 2 ^
-    (q % 8) % 2 ^ 8)) so_far inside taken kept
-    (rw one (ChangesBit-set (get_or zs (q / 8) 0) (q % 8) byte (omega arith)))
-
--- and where it is 0 and the code clears bit q
-pub with_bits_more_clear : (zs xs ys : List ℕ) (f g : ℕ → Option ℕ) (q p : ℕ) → zs ≡ with_bits xs ys f
-    → q < 8 * length xs → g q ≡ Some p → ((i : ℕ) → i ≢ q → g i ≡ f i) → bit ys p ≡ 0
-    → set zs (q / 8) (bit_and (get_or zs (q / 8) 0) (bit_not w8 (1 * 2 ^ (q % 8) % 2 ^ 8)))
-    ≡ with_bits xs ys g
-with_bits_more_clear zs xs ys f g q p so_far inside taken kept none =
-    let byte : get_or zs (q / 8) 0 < 256 = rw so_far (AreBytes-with_bits xs ys f (q / 8)) in
-    with_bits_more zs xs ys f g q p (bit_and (get_or zs (q / 8) 0) (bit_not w8 (1 * 2 ^
-    (q % 8) % 2 ^ 8))) so_far inside taken kept
-    (rw none (ChangesBit-clear (get_or zs (q / 8) 0) (q % 8) byte (omega arith)))

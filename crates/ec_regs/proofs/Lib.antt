@@ -4,3 +4,4 @@ pub mod PairLemmas
 pub mod BitRunLemmas
 pub mod PlanLemmas
 pub mod AlLemmas
+pub mod Laws

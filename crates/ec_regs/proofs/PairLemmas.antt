@@ -1,11 +1,10 @@
 -- The pairs of an FMMU as a set and as two partial functions, and one pair more.
-use Rattle.std.proofs.Common.{◌≡◌, ◌≢◌, ℕ, ◌+◌, ◌-◌, ◌*◌, ◌<◌, ◌≤◌, true, false, cond, ltb, leb, None, Some}
-use Rattle.std.proofs.Common.{sym, ◌∙◌, ap, refl, arith, ⊎_elim}
+use Rattle.std.proofs.Common.{◌≡◌, ℕ, ◌+◌, ◌-◌, ◌*◌, ◌<◌, ◌≤◌, true, false, cond, ltb, leb, None, Some}
+use Rattle.std.proofs.Common.{ap, refl, arith, ⊎_elim}
 use Rattle.std.proofs.lemmas.Bool.{cases_lt}
 use Rattle.std.proofs.lemmas.Bool.Decides.{nat_tests}
 use Rattle.ec_regs.specs.declared.fmmu.Fmmu.{Fmmu}
-use Rattle.ec_regs.specs.Pairs.{IsPair, pair_count, can_map, first_logical, first_physical, partner}
-use Rattle.ec_regs.specs.Pairs.{physical_of, logical_of}
+use Rattle.ec_regs.specs.Pairs.{pair_count, can_map, partner}
 
 -- ---- the partner of a bit in a run
 
@@ -57,25 +56,6 @@ partner_is from to n i p e =
     (cases_lt i (from + n)))
     (cases_lt i from)
 
--- a run that is one bit longer: the new bit
-pub partner_more_same : (from to n : ℕ) → partner from to (n + 1) (from + n) ≡ Some (to + n)
-partner_more_same from to n = partner_inside from to (n + 1) (from + n) n refl (omega arith)
-
--- and all others
-pub partner_more_other : (from to n i : ℕ) → i ≢ from + n → partner from to (n + 1) i ≡ partner from to n i
-partner_more_other from to n i other =
-    ⊎_elim
-    (λ (before : i < from). partner_before from to (n + 1) i before ∙ sym (partner_before from to n i before))
-    (λ (starts : from ≤ i).
-    ⊎_elim
-    (λ (inside : i < from + n).
-    partner_inside from to (n + 1) i (i - from) (omega arith) (omega arith)
-    ∙ sym (partner_inside from to n i (i - from) (omega arith) (omega arith)))
-    (λ (behind : from + n ≤ i).
-    partner_behind from to (n + 1) i (omega arith) ∙ sym (partner_behind from to n i behind))
-    (cases_lt i (from + n)))
-    (cases_lt i from)
-
 -- ---- pairs
 
 -- an FMMU that may map has the bits from its start bit to its stop bit
@@ -88,29 +68,3 @@ pair_count_mapped f e = ap (λ b. cond b (8 * (f.length - 1) + f.stop + 1 - f.st
 pub pair_count_unmapped : (f : Fmmu) → can_map f ≡ false → pair_count f ≡ 0
 unfolding pair_count
 pair_count_unmapped f e = ap (λ b. cond b (8 * (f.length - 1) + f.stop + 1 - f.start) 0) e
-
--- the physical bit of a pair is that of its logical bit
-pub physical_of-IsPair : (f : Fmmu) (l p : ℕ) → IsPair f l p → physical_of f l ≡ Some p
-physical_of-IsPair f l p (j, at) =
-    partner_inside (first_logical f) (first_physical f) (pair_count f) l j at.logical at.mapped
-    ∙ ap Some (sym at.physical)
-
--- and a logical bit with a physical bit is a pair with it
-pub IsPair-physical_of : (f : Fmmu) (l p : ℕ) → physical_of f l ≡ Some p → IsPair f l p
-IsPair-physical_of f l p e =
-    let at : (j : ℕ) × (j < pair_count f) × (l ≡ first_logical f + j) × (p ≡ first_physical f + j) =
-    partner_is (first_logical f) (first_physical f) (pair_count f) l p e
-    in (at.0, record { mapped = at.1; logical = at.2; physical = at.3 })
-
--- the logical bit of a pair is that of its physical bit
-pub logical_of-IsPair : (f : Fmmu) (l p : ℕ) → IsPair f l p → logical_of f p ≡ Some l
-logical_of-IsPair f l p (j, at) =
-    partner_inside (first_physical f) (first_logical f) (pair_count f) p j at.physical at.mapped
-    ∙ ap Some (sym at.logical)
-
--- and a physical bit with a logical bit is a pair with it
-pub IsPair-logical_of : (f : Fmmu) (l p : ℕ) → logical_of f p ≡ Some l → IsPair f l p
-IsPair-logical_of f l p e =
-    let at : (j : ℕ) × (j < pair_count f) × (p ≡ first_physical f + j) × (l ≡ first_logical f + j) =
-    partner_is (first_physical f) (first_logical f) (pair_count f) p l e
-    in (at.0, record { mapped = at.1; logical = at.3; physical = at.2 })

@@ -1,5 +1,5 @@
 -- The two records and their bytes: reading what was written and writing what was read.
-use Rattle.std.proofs.Common.{◌≡◌, ◌⊎◌, ℕ, zero, suc, ◌+◌, ◌^◌, ◌<◌, ◌≤◌, eqb, not, List, [], ◌∷◌, ◌++◌}
+use Rattle.std.proofs.Common.{◌≡◌, ◌⊎◌, ℕ, zero, suc, ◌+◌, ◌^◌, ◌<◌, ◌≤◌, eqb, List, [], ◌∷◌, ◌++◌}
 use Rattle.std.proofs.Common.{length, map, get_or, take, drop, sym, ◌∙◌, ap, subst, refl, arith, inl, inr}
 use Rattle.std.proofs.Common.{⊎_elim}
 use Rattle.std.specs.Prelude.{bit_and}
@@ -106,15 +106,7 @@ zero_or_one zero h = inl refl
 zero_or_one (suc zero) h = inr refl
 zero_or_one (suc (suc n)) h = absurd (omega arith)
 
--- the test `n & (1 << k) != 0` asks for bit k
-pub flag_test : (n k : ℕ) → not (eqb (bit_and n (2 ^ k)) 0) ≡ eqb (bit_at n k) 1
-flag_test n k =
-    rw (and_pow n k)
-    (⊎_elim (λ (clear : bit_at n k ≡ 0). rw clear (grind (arith, nat_tests))) (λ (one : bit_at n k
-    ≡ 1). rw one (grind (arith, nat_tests, pow_pos k)))
-    (zero_or_one (bit_at n k) (bit_at-lt n k)))
-
--- and so does the test for the flag of bit k, `n & (1 << k) == 1 << k`
+-- the test for the flag of bit k, `n & (1 << k) == 1 << k`, is whether the bit is 1
 pub has_flag : (n k : ℕ) → eqb (bit_and n (2 ^ k)) (2 ^ k) ≡ eqb (bit_at n k) 1
 has_flag n k =
     rw (and_pow n k)

@@ -1,6 +1,6 @@
 -- AL status is the state of the application layer, a code in the four lowest bits of a byte, and above it the
 -- bit that tells of an error (IEC 61158-6-12, AL management, AL status).
-use Rattle.std.specs.Prelude.{◌==◌, ℕ, ◌+◌, ◌%◌, if◌then◌else◌, Option, None, Some}
+use Rattle.std.specs.Prelude.{◌==◌, ℕ, Bool, ◌+◌, ◌%◌, if◌then◌else◌, Option, None, Some}
 use Rattle.std.specs.Int.{bit_at}
 use Rattle.std.specs.Option.{unwrap_or}
 use Rattle.ec_regs.specs.declared.al.AlState.{AlState}
@@ -21,6 +21,10 @@ state_of code =
     (if code == 2 then Some PreOp else
     (if code == 4 then Some SafeOp else
     (if code == 8 then Some Op else None)))
+
+-- bit 4 of AL control: does it acknowledge an error
+abbrev pub acknowledges : ℕ → Bool
+acknowledges control = bit_at control 4 == 1
 
 -- the byte of a status: the code of its state, and 16 where an error stands
 abbrev pub status_byte : AlStatus → ℕ

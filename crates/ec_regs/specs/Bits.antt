@@ -1,6 +1,6 @@
 -- Bits of byte lists: the bits of each byte are numbered from its least significant one, so that bit i of a
 -- list is bit i mod 8 of byte i div 8 (IEC 61158-4-12, bit numbering of the FMMU).
-use Rattle.std.specs.Prelude.{◌≡◌, ◌≢◌, ℕ, ◌+◌, ◌*◌, ◌/◌, ◌%◌, ◌^◌, ◌<◌, List, length, map, slice_index}
+use Rattle.std.specs.Prelude.{ℕ, ◌+◌, ◌*◌, ◌/◌, ◌%◌, ◌^◌, ◌<◌, List, length, map, slice_index}
 use Rattle.std.specs.Prelude.{Option, None, Some}
 use Rattle.std.specs.Int.{bit_at}
 use Rattle.std.specs.List.{range_with_len}
@@ -36,9 +36,3 @@ with_bits xs ys place =
 abbrev pub later : Option ℕ → Option ℕ → Option ℕ
 later first None = first
 later first (Some place) = Some place
-
--- the new byte has this value at bit k, and the bits of the old one elsewhere
-pub record ChangesBit (old new k value : ℕ) : Type 0 where
-  pub byte : new < 256
-  pub changed : bit_at new k ≡ value
-  pub others : (b : ℕ) → b < 8 → b ≢ k → bit_at new b ≡ bit_at old b

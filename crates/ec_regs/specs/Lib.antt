@@ -4,4 +4,6 @@ pub mod SyncMan
 pub mod Pairs
 pub mod Plan
 pub mod Al
+pub mod AlStatusCode
+pub mod AddressRange
 pub mod Guard

@@ -1,7 +1,7 @@
 -- The pairs of an FMMU: it lays a run of logical bits onto a run of physical bits of the same length, bit for
 -- bit (IEC 61158-4-12, FMMU entity). Bit numbers are 8 * byte address + bit.
-use Rattle.std.specs.Prelude.{◌≡◌, ◌==◌, ◌&&◌, ℕ, Bool, ◌+◌, ◌-◌, ◌*◌, ◌<◌, nat_le, nat_lt, if◌then◌else◌}
-use Rattle.std.specs.Prelude.{Option, None, Some}
+use Rattle.std.specs.Prelude.{◌≡◌, ◌==◌, ◌&&◌, ◌||◌, ℕ, Bool, ◌+◌, ◌-◌, ◌*◌, ◌<◌, nat_le, nat_lt}
+use Rattle.std.specs.Prelude.{if◌then◌else◌, Option, None, Some}
 use Rattle.std.specs.Int.{bit_at}
 use Rattle.ec_regs.specs.declared.fmmu.Fmmu.{Fmmu}
 use Rattle.ec_regs.specs.declared.fmmu.TheConstants.{LAST_BIT}
@@ -17,6 +17,10 @@ reads f = bit_at f.kind 0 == 1
 -- does the master write through it
 abbrev pub writes : Fmmu → Bool
 writes f = bit_at f.kind 1 == 1
+
+-- is it for reading alone or for writing alone
+abbrev pub has_one_type : Fmmu → Bool
+has_one_type f = f.kind == 1 || f.kind == 2
 
 -- the first logical bit of the run, and the first physical one
 abbrev pub first_logical : Fmmu → ℕ

@@ -1,12 +1,12 @@
 -- The sync manager record: eight bytes, field after field, the lowest byte of a number first; and what its
 -- fields say: an active sync manager guards an area, a run of process memory that is buffered or a mailbox,
 -- and that the master either reads or writes (IEC 61158-4-12, sync manager entity).
-use Rattle.std.specs.Prelude.{ℕ, ◌+◌, ◌/◌, ◌%◌, Bool, ◌==◌, ◌&&◌, ◌||◌, nat_le, if◌then◌else◌, List, [], ◌∷◌}
-use Rattle.std.specs.Prelude.{◌++◌}
-use Rattle.std.specs.Prelude.{take, drop, slice_index}
+use Rattle.std.specs.Prelude.{ℕ, ◌+◌, ◌*◌, ◌/◌, ◌%◌, Bool, ◌==◌, ◌&&◌, ◌||◌, nat_le, if◌then◌else◌}
+use Rattle.std.specs.Prelude.{List, [], ◌∷◌, ◌++◌, take, drop, slice_index}
 use Rattle.std.specs.Int.{bit_at, w16, to_le_bytes, from_le_bytes}
 use Rattle.ec_regs.specs.declared.sync_man.SyncMan.{SyncMan}
-use Rattle.ec_regs.specs.declared.registers.TheConstants.{PROCESS_MEMORY, MEMORY_SIZE}
+use Rattle.ec_regs.specs.declared.registers.TheConstants.{PROCESS_MEMORY, MEMORY_SIZE, SYNC_MANAGER_BASE}
+use Rattle.ec_regs.specs.declared.registers.TheConstants.{SYNC_MANAGER_SIZE, SYNC_MANAGER_STATUS}
 use Rattle.ec_regs.specs.declared.sync_man.TheConstants.{START_AT, LENGTH_AT, CONTROL_AT, STATUS_AT}
 use Rattle.ec_regs.specs.declared.sync_man.TheConstants.{ACTIVATE_AT, PDI_AT}
 
@@ -72,3 +72,13 @@ is_active s =
 -- does it guard outputs: a buffered area that the master writes
 abbrev pub guards_outputs : SyncMan → Bool
 guards_outputs s = is_active s && is_buffered s && master_writes s
+
+-- does it guard inputs: a buffered area that the master reads
+abbrev pub guards_inputs : SyncMan → Bool
+guards_inputs s = is_active s && is_buffered s && master_reads s
+
+-- ---- where its status byte stands
+
+-- the address of the status byte of the sync manager with a number
+abbrev pub status_address : ℕ → ℕ
+status_address i = SYNC_MANAGER_BASE + SYNC_MANAGER_SIZE * i + SYNC_MANAGER_STATUS

@@ -2,7 +2,7 @@
 //! management).
 
 ghost use Rattle.std.specs.Prelude.{⊤, ◌≡◌, [], ◌∷◌, codes};
-ghost use Rattle.ec_regs.specs.Al.{code_of, state_of, status_byte, status_of};
+ghost use Rattle.ec_regs.specs.Al.{code_of, state_of, status_byte, status_of, acknowledges};
 
 use bitflags::{Flag, Flags, bitflag_items};
 
@@ -82,6 +82,24 @@ impl AlState {
             AlState::Op => 8,
         }
     }
+}
+
+impl AlState {
+    ghost use Rattle.std.specs.Prelude.{◌+◌};
+
+    /// The low byte of AL control that asks for the state and acknowledges an error that stands.
+    pub fn acknowledging_request(self) -> u8
+        ensures { result ≡ code_of self + 16 }
+    {
+        self.code() + AlBits::ACKNOWLEDGE.bits()
+    }
+}
+
+/// Does the low byte of AL control acknowledge an error?
+pub fn acknowledges(control: u8) -> bool
+    ensures { result ≡ acknowledges control }
+{
+    AlBits::from_bits_retain(control).contains(AlBits::ACKNOWLEDGE)
 }
 
 /// What the low byte of AL status tells (IEC 61158-6-12, AL status).

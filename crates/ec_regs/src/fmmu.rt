@@ -90,6 +90,71 @@ pub struct Fmmu {
 }
 
 impl Fmmu {
+    /// An active one that lays `length` whole bytes, from `physical` on, at the logical byte `logical`.
+    fn whole_bytes(logical: u32, length: u16, physical: u16, kind: u8) -> Fmmu
+        ensures { result ≡ record {
+          logical = logical;
+          length = length;
+          start = 0;
+          stop = 7;
+          physical = physical;
+          bit = 0;
+          kind = kind;
+          activate = 1;
+          reserved = 0 ∷ 0 ∷ 0 ∷ [];
+        } }
+    {
+        Fmmu {
+            logical,
+            length,
+            start: 0,
+            stop: LAST_BIT,
+            physical,
+            bit: 0,
+            kind,
+            activate: ACTIVE,
+            reserved: [0; 3],
+        }
+    }
+
+    /// An active one through which the master reads `length` whole bytes, from `physical` on, at the logical
+    /// byte `logical`.
+    pub fn reading(logical: u32, length: u16, physical: u16) -> Fmmu
+        ensures { result ≡ record {
+          logical = logical;
+          length = length;
+          start = 0;
+          stop = 7;
+          physical = physical;
+          bit = 0;
+          kind = 1;
+          activate = 1;
+          reserved = 0 ∷ 0 ∷ 0 ∷ [];
+        } }
+    {
+        Fmmu::whole_bytes(logical, length, physical, FmmuType::READ.0)
+    }
+
+    /// An active one through which the master writes `length` whole bytes, from `physical` on, at the logical
+    /// byte `logical`.
+    pub fn writing(logical: u32, length: u16, physical: u16) -> Fmmu
+        ensures { result ≡ record {
+          logical = logical;
+          length = length;
+          start = 0;
+          stop = 7;
+          physical = physical;
+          bit = 0;
+          kind = 2;
+          activate = 1;
+          reserved = 0 ∷ 0 ∷ 0 ∷ [];
+        } }
+    {
+        Fmmu::whole_bytes(logical, length, physical, FmmuType::WRITE.0)
+    }
+}
+
+impl Fmmu {
     ghost use Rattle.ec_regs.specs.Fmmu.{fmmu_of, fmmu_bytes};
 
     /// The record that these bytes spell.
@@ -139,7 +204,8 @@ impl Fmmu {
         bytes
     }
 
-    ghost use Rattle.ec_regs.specs.Pairs.{is_switched_on, reads, writes, first_logical, first_physical};
+    ghost use Rattle.ec_regs.specs.Pairs.{has_one_type, is_switched_on, reads, writes, first_logical};
+    ghost use Rattle.ec_regs.specs.Pairs.{first_physical};
     ghost use Rattle.ec_regs.specs.Pairs.{can_map, pair_count, IsPair, physical_of, logical_of};
 
     /// Is the FMMU switched on?
@@ -161,6 +227,13 @@ impl Fmmu {
         ensures { result ≡ writes self.now }
     {
         FmmuType::from_bits_retain(self.kind).contains(FmmuType::WRITE)
+    }
+
+    /// Is the type of the FMMU that of reading alone or that of writing alone?
+    pub fn has_one_type(&self) -> bool
+        ensures { result ≡ has_one_type self.now }
+    {
+        self.kind == FmmuType::READ.0 || self.kind == FmmuType::WRITE.0
     }
 
     /// The number of the first logical bit, 8 * byte + bit; below 2^36.

@@ -4,19 +4,21 @@
 ghost use Rattle.std.specs.Prelude.{◌≡◌, ◌+◌, ◌≤◌, IsTrue};
 ghost use Rattle.ec_regs.specs.declared.registers.TheConstants.{PROCESS_MEMORY, MEMORY_SIZE};
 
+use crate::address_range::AddressRange;
+use crate::registers::SYNC_MANAGER_COUNT;
 use crate::sync_man::SyncMan;
 use std::marker::Model;
 
 /// What a sync manager does with its area; nothing where it is not active.
 #[derive(Clone, Copy, Debug, PartialEq, Eq)]
 pub struct Guard {
-    /// Does it guard an area?
+    /// Does the sync manager guard an area?
     pub is_active: bool,
     /// Is the area kept from reads: a mailbox, or an area that the master writes?
     pub keeps_reads_off: bool,
-    /// Is it kept from writes: a mailbox, or an area that the master reads?
+    /// Is the area kept from writes: a mailbox, or an area that the master reads?
     pub keeps_writes_off: bool,
-    /// Is it a buffered area that the master writes?
+    /// Is the area a buffered one that the master writes?
     pub guards_outputs: bool,
 }
 
@@ -44,6 +46,9 @@ pub struct PlannedSyncMan {
     manager: SyncMan,
     guard: Guard,
 }
+
+/// The sync managers of a controller, by number.
+pub type SyncManagers = [PlannedSyncMan; SYNC_MANAGER_COUNT];
 
 impl Model for PlannedSyncMan {
     ghost use Rattle.std.specs.Prelude.{◌≡◌};
@@ -85,18 +90,25 @@ impl PlannedSyncMan {
         self.manager
     }
 
-    /// The first address of its area.
+    /// The first address of the sync manager's area.
     pub fn start(&self) -> u16
         ensures { result ≡ self.now.start }
     {
         self.manager.start
     }
 
-    /// How many bytes its area has.
+    /// How many bytes the sync manager's area has.
     pub fn length(&self) -> u16
         ensures { result ≡ self.now.length }
     {
         self.manager.length
+    }
+
+    /// The bytes of the sync manager's area, whether it is active or not.
+    pub fn area(&self) -> AddressRange
+        ensures { result ≡ record { first = self.now.start; count = self.now.length } }
+    {
+        self.manager.area()
     }
 
     /// Does the sync manager guard an area (see `SyncMan::is_active`)?
@@ -106,21 +118,21 @@ impl PlannedSyncMan {
         self.guard.is_active
     }
 
-    /// Does it guard an area that is kept from reads: a mailbox, or an area that the master writes?
+    /// Does the sync manager guard an area that is kept from reads: a mailbox, or one that the master writes?
     pub fn keeps_reads_off(&self) -> bool
         ensures { result ≡ keeps_reads_off self.now }
     {
         self.guard.keeps_reads_off
     }
 
-    /// Does it guard one that is kept from writes: a mailbox, or an area that the master reads?
+    /// Does the sync manager guard an area that is kept from writes: a mailbox, or one that the master reads?
     pub fn keeps_writes_off(&self) -> bool
         ensures { result ≡ keeps_writes_off self.now }
     {
         self.guard.keeps_writes_off
     }
 
-    /// Does it guard outputs, a buffered area that the master writes?
+    /// Does the sync manager guard outputs, a buffered area that the master writes?
     pub fn guards_outputs(&self) -> bool
         ensures { result ≡ guards_outputs self.now }
     {

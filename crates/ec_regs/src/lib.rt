@@ -30,16 +30,20 @@
 //! - `fmmu`: the FMMU record, its bytes both ways, and the pairs of logical and physical bits that it maps.
 //! - `sync_man`: the sync manager record and its bytes both ways.
 //! - `guard`: what a sync manager keeps off its area, worked out once for a record.
-//! - `al`: the states of the application layer and the byte of AL status.
+//! - `al`: the states of the application layer and the byte of AL status; `al_status_code`: why a slave
+//!   refuses a state.
+//! - `address_range`: neighbouring bytes of the memory.
 //! - `plan`: what an FMMU maps, told by bytes and made once for a record.
 //! - `bits`: runs of bits copied from one byte list into another.
 //! - `memory`: the bytes of one controller.
 //!
 //! What its contracts speak of stands in specs/: bits of byte lists and lists with some bits replaced
 //! (`Bits`), the two layouts (`Fmmu`, `SyncMan`), mapped pairs (`Pairs`, `Plan`), guarded areas (`Guard`),
-//! and AL status (`Al`). The laws that callers cite stand in proofs/.
+//! and AL status (`Al`). The laws that crates above cite stand in proofs/Laws.
 
+pub mod address_range;
 pub mod al;
+pub mod al_status_code;
 pub mod bits;
 pub mod fmmu;
 pub mod guard;
@@ -48,12 +52,16 @@ pub mod plan;
 pub mod registers;
 pub mod sync_man;
 
-pub use al::{AlBits, AlState, AlStatus};
+pub use address_range::AddressRange;
+pub use al::{AlBits, AlState, AlStatus, acknowledges};
+pub use al_status_code::AlStatusCode;
 pub use fmmu::{Fmmu, FmmuType};
-pub use guard::{Guard, PlannedSyncMan};
+pub use guard::{Guard, PlannedSyncMan, SyncManagers};
 pub use memory::{Memory, NoMemory};
-pub use plan::{Plan, PlannedFmmu};
-pub use sync_man::{LONGEST_MAILBOX, MAILBOX_FULL, SHORTEST_MAILBOX, SyncMan, SyncManControl};
+pub use plan::{Fmmus, Plan, PlannedFmmu};
+pub use sync_man::{
+    LONGEST_MAILBOX, MAILBOX_FULL, SHORTEST_MAILBOX, SyncMan, SyncManControl, status_address,
+};
 
 #[cfg(test)]
 mod tests;

@@ -3,6 +3,7 @@
 ghost use Rattle.std.specs.Prelude.{◌≡◌, ◌↔◌, ◌^◌, ◌<◌, ℕ};
 
 use crate::fmmu::{Fmmu, LAST_BIT};
+use crate::registers::FMMU_COUNT;
 use std::marker::Model;
 
 /// The run of bits that an FMMU maps, told by bytes: a logical byte of the run lies on one physical byte, or
@@ -76,6 +77,9 @@ pub struct PlannedFmmu {
     bits: u32,
 }
 
+/// The FMMUs of a controller, by number.
+pub type Fmmus = [PlannedFmmu; FMMU_COUNT];
+
 impl Model for PlannedFmmu {
     ghost use Rattle.ec_regs.specs.declared.fmmu.Fmmu.{Fmmu};
     ghost use Rattle.ec_regs.specs.Pairs.{pair_count};
@@ -122,7 +126,7 @@ impl PlannedFmmu {
         self.fmmu
     }
 
-    /// Its plan.
+    /// The plan of the record.
     pub fn plan(&self) -> Plan
         ensures { result ≡ plan_of self.now }
     {

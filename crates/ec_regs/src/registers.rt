@@ -20,7 +20,7 @@ pub const FMMU_BASE: u16 = 0x0600;
 pub const FMMU_SIZE: u16 = 16;
 
 /// How many FMMUs a controller has.
-pub const FMMU_COUNT: u16 = 8;
+pub const FMMU_COUNT: usize = 8;
 
 /// The first sync manager record.
 pub const SYNC_MANAGER_BASE: u16 = 0x0800;
@@ -29,7 +29,17 @@ pub const SYNC_MANAGER_BASE: u16 = 0x0800;
 pub const SYNC_MANAGER_SIZE: u16 = 8;
 
 /// How many sync managers a controller has.
-pub const SYNC_MANAGER_COUNT: u16 = 8;
+pub const SYNC_MANAGER_COUNT: usize = 8;
+
+/// Where the status byte stands in a sync manager's record; the master does not write it.
+pub const SYNC_MANAGER_STATUS: u16 = 5;
+
+/// Where the activate byte stands in a sync manager's record; the master may always write it.
+pub const SYNC_MANAGER_ACTIVATE: u16 = 6;
+
+/// The status byte of sync manager 1, the mailbox that the master reads; its bit 3 tells that a message
+/// waits.
+pub const ANSWER_MAILBOX_STATUS: u16 = SYNC_MANAGER_BASE + SYNC_MANAGER_SIZE + SYNC_MANAGER_STATUS;
 
 /// The first byte of process memory; the bytes below it are registers.
 pub const PROCESS_MEMORY: u16 = 0x1000;
@@ -39,3 +49,9 @@ pub const PROCESS_MEMORY_SIZE: u16 = 0x2000;
 
 /// How many bytes a controller has, registers and process memory together; an address is below it.
 pub const MEMORY_SIZE: u16 = 0x3000;
+
+/// How many logical bytes there are: one for each 32-bit address.
+pub const LOGICAL_BYTES: u64 = 0x1_0000_0000;
+
+/// How many logical bits there are.
+pub const LOGICAL_BITS: u64 = 8 * LOGICAL_BYTES;

@@ -1,10 +1,16 @@
 //! The record of a sync manager, which guards one area of process memory (IEC 61158-4-12, sync manager
 //! entity).
 
-ghost use Rattle.std.specs.Prelude.{⊤, ◌≡◌, ◌+◌, ◌≤◌, [], ◌∷◌, codes, IsTrue};
+ghost use Rattle.std.specs.Prelude.{⊤, ◌≡◌, ◌+◌, ◌≤◌, ◌<◌, [], ◌∷◌, codes, IsTrue};
 ghost use Rattle.ec_regs.specs.declared.registers.TheConstants.{PROCESS_MEMORY, MEMORY_SIZE};
+ghost use Rattle.ec_regs.specs.declared.registers.TheConstants.{SYNC_MANAGER_COUNT};
+ghost use Rattle.ec_regs.specs.SyncMan.{status_address};
 
-use crate::registers::{MEMORY_SIZE, PROCESS_MEMORY};
+use crate::address_range::AddressRange;
+use crate::registers::{
+    MEMORY_SIZE, PROCESS_MEMORY, SYNC_MANAGER_BASE, SYNC_MANAGER_COUNT, SYNC_MANAGER_SIZE,
+    SYNC_MANAGER_STATUS,
+};
 use bitflags::{Flag, Flags, bitflag_items};
 use byteorder::{ByteOrder, LittleEndian};
 
@@ -153,42 +159,42 @@ impl SyncMan {
         self.activate & ENABLED != 0
     }
 
-    /// Is its area buffered (bits 0 and 1 of the control byte are 00)?
+    /// Is the area buffered (bits 0 and 1 of the control byte are 00)?
     pub fn is_buffered(&self) -> bool
         ensures { result ≡ is_buffered self.now }
     {
         self.control & TWO_BITS == BUFFERED
     }
 
-    /// Is its area a mailbox (bits 0 and 1 of the control byte are 10)?
+    /// Is the area a mailbox (bits 0 and 1 of the control byte are 10)?
     pub fn is_mailbox(&self) -> bool
         ensures { result ≡ is_mailbox self.now }
     {
         self.control & TWO_BITS == MAILBOX
     }
 
-    /// Does the master read its area (bits 2 and 3 of the control byte are 00)?
+    /// Does the master read the area (bits 2 and 3 of the control byte are 00)?
     pub fn master_reads(&self) -> bool
         ensures { result ≡ master_reads self.now }
     {
         self.control >> DIRECTION_AT & TWO_BITS == MASTER_READS
     }
 
-    /// Does the master write its area (bits 2 and 3 of the control byte are 01)?
+    /// Does the master write the area (bits 2 and 3 of the control byte are 01)?
     pub fn master_writes(&self) -> bool
         ensures { result ≡ master_writes self.now }
     {
         self.control >> DIRECTION_AT & TWO_BITS == MASTER_WRITES
     }
 
-    /// Is its mailbox full (bit 3 of the status byte)?
+    /// Is the mailbox full (bit 3 of the status byte)?
     pub fn is_full(&self) -> bool
         ensures { result ≡ is_full self.now }
     {
         self.status >> FULL_AT & 1 == 1
     }
 
-    /// May an area of its kind have its length?
+    /// May an area of the record's kind have the record's length?
     fn has_area_length(&self) -> bool
         ensures { result ≡ has_area_length self.now }
     {
@@ -199,7 +205,7 @@ impl SyncMan {
         }
     }
 
-    /// Does its area lie in process memory?
+    /// Does the area lie in process memory?
     fn is_in_process_memory(&self) -> bool
         ensures { result ≡ is_in_process_memory self.now }
     {
@@ -222,12 +228,133 @@ impl SyncMan {
             && self.is_in_process_memory()
     }
 
-    /// Does it guard outputs, a buffered area that the master writes?
+    /// Does the sync manager guard outputs, a buffered area that the master writes?
     pub fn guards_outputs(&self) -> bool
         ensures value { result ≡ guards_outputs self.now }
         ensures from { IsTrue result → PROCESS_MEMORY ≤ self.now.start }
         ensures to { IsTrue result → self.now.start + self.now.length ≤ MEMORY_SIZE }
     {
         self.is_active() && self.is_buffered() && self.master_writes()
+    }
+
+    ghost use Rattle.ec_regs.specs.SyncMan.{guards_inputs};
+
+    /// Does the sync manager guard inputs, a buffered area that the master reads?
+    pub fn guards_inputs(&self) -> bool
+        ensures value { result ≡ guards_inputs self.now }
+        ensures from { IsTrue result → PROCESS_MEMORY ≤ self.now.start }
+        ensures to { IsTrue result → self.now.start + self.now.length ≤ MEMORY_SIZE }
+    {
+        self.is_active() && self.is_buffered() && self.master_reads()
+    }
+
+    /// The bytes of the area, whether it is active or not.
+    pub fn area(&self) -> AddressRange
+        ensures { result ≡ record { first = self.now.start; count = self.now.length } }
+    {
+        AddressRange {
+            first: self.start,
+            count: self.length,
+        }
+    }
+}
+
+/// The address of the status byte of the sync manager with a number.
+pub fn status_address(number: usize) -> u16
+    requires { number < SYNC_MANAGER_COUNT }
+    ensures value { result ≡ status_address number }
+    ensures inside { result < MEMORY_SIZE }
+{
+    SYNC_MANAGER_BASE + SYNC_MANAGER_SIZE * number as u16 + SYNC_MANAGER_STATUS
+}
+
+/// The control byte of a buffered area that the master reads.
+const READ_BUFFER: u8 = 0x00;
+
+/// The control byte of a buffered area that the master writes.
+const WRITTEN_BUFFER: u8 = 0x04;
+
+/// The control byte of a mailbox that the master reads.
+const READ_MAILBOX: u8 = 0x02;
+
+/// The control byte of a mailbox that the master writes.
+const WRITTEN_MAILBOX: u8 = 0x06;
+
+impl SyncMan {
+    /// A sync manager that is switched on over an area, with this control byte.
+    fn over(start: u16, length: u16, control: u8) -> SyncMan
+        ensures { result ≡ record {
+          start = start;
+          length = length;
+          control = control;
+          status = 0;
+          activate = 1;
+          pdi = 0;
+        } }
+    {
+        SyncMan {
+            start,
+            length,
+            control,
+            status: 0,
+            activate: ENABLED,
+            pdi: 0,
+        }
+    }
+
+    /// A sync manager that guards outputs: a buffered area that the master writes.
+    pub fn outputs(start: u16, length: u16) -> SyncMan
+        ensures { result ≡ record {
+          start = start;
+          length = length;
+          control = 4;
+          status = 0;
+          activate = 1;
+          pdi = 0;
+        } }
+    {
+        SyncMan::over(start, length, WRITTEN_BUFFER)
+    }
+
+    /// A sync manager that guards inputs: a buffered area that the master reads.
+    pub fn inputs(start: u16, length: u16) -> SyncMan
+        ensures { result ≡ record {
+          start = start;
+          length = length;
+          control = 0;
+          status = 0;
+          activate = 1;
+          pdi = 0;
+        } }
+    {
+        SyncMan::over(start, length, READ_BUFFER)
+    }
+
+    /// A sync manager that guards the mailbox of the master's requests, which the master writes.
+    pub fn mailbox_from_master(start: u16, length: u16) -> SyncMan
+        ensures { result ≡ record {
+          start = start;
+          length = length;
+          control = 6;
+          status = 0;
+          activate = 1;
+          pdi = 0;
+        } }
+    {
+        SyncMan::over(start, length, WRITTEN_MAILBOX)
+    }
+
+    /// A sync manager that guards the mailbox of the slave's answers, which the master reads.
+    pub fn mailbox_to_master(start: u16, length: u16) -> SyncMan
+        ensures { result ≡ record {
+          start = start;
+          length = length;
+          control = 2;
+          status = 0;
+          activate = 1;
+          pdi = 0;
+        } }
+    {
+        SyncMan::over(start, length, READ_MAILBOX)
     }
 }

@@ -6,3 +6,4 @@ pub mod RingLemmas
 pub mod TravelLemmas
 pub mod ReachLemmas
 pub mod TripLemmas
+pub mod Laws

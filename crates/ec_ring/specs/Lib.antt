@@ -4,3 +4,4 @@ pub mod Walk
 pub mod Ring
 pub mod Travel
 pub mod Lending
+pub mod Weather

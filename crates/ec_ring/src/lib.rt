@@ -34,21 +34,21 @@
 //!
 //! - `walk` (`arrived`, `ring`) and `trip` (`came`, `ring`) are the ways of one copy and of both, as specs/
 //!   says them; all but the slaves that a copy reaches stays.
-//! - [`laws`] says the reach in the words of links (`reach`, `same_links`, `lost_by_links`), that a line
+//! - [`promises`] says the reach in the words of links (`reach`, `same_links`, `lost_by_links`), that a line
 //!   keeps its length (`line_lasts`), and a trip as one over pieces of a line (`trip_passes`).
 //!
 //! What the contracts speak of stands in specs/: `Links` and `Reach` (how far a copy gets), `Walk` (one
 //! copy's way), `Travel` (both copies), `Ring`.
 
-pub mod laws;
 pub mod links;
 pub mod port;
+pub mod promises;
 pub mod ring;
 pub mod travel;
 pub mod weather;
 
 pub use links::{Links, MAX_LINKS, MAX_SLAVES};
-pub use port::Port;
+pub use port::{Port, PortFault};
 pub use ring::{Ring, RingFault};
 pub use travel::Travel;
 pub use weather::{Came, Weather};

@@ -5,7 +5,7 @@ ghost use Rattle.ec_ring.specs.Links.{is_up, first_down, last_down, is_whole};
 ghost use Rattle.ec_ring.specs.Reach.{front, back, arrival_a, arrival_b, turns};
 
 use crate::port::Port;
-use ec_line::laws::MOST_CONTROLLERS;
+use ec_esc::MOST_CONTROLLERS;
 
 /// The most slaves of a line.
 pub const MAX_SLAVES: usize = MOST_CONTROLLERS;

@@ -8,3 +8,7 @@ pub enum Port {
     /// The port behind the last slave.
     B,
 }
+
+/// A frame could not be sent, or its copies could not be received.
+#[derive(Clone, Copy, PartialEq, Eq, Debug)]
+pub struct PortFault;

@@ -182,6 +182,7 @@ fn step_each(slaves: &mut [Slave])
 fn is_circulating(frame: &FrameBuf) -> bool
     ensures { result ≡ is_circulating frame.now }
 {
+    // For the prover: a frame that is counted has a datagram.
     let _count = frame.count();
     frame.circulating(0)
 }

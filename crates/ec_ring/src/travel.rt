@@ -15,7 +15,7 @@ use ec_wire::FrameBuf;
 pub trait Travel {
     ghost ring: { Self → RingState };
 
-    /// Its links.
+    /// The links of the ring itself.
     fn links(&self) -> Links
         ensures links { result ≡ (ring self.now).links }
         ensures limit { length (ring self.now).slaves ≤ MAX_SLAVES };
@@ -59,6 +59,7 @@ impl Ring {
             ≡ with_line self.old (walked from links.now sent.now (line_of self.old)).line }
         ensures limit { length self.old.slaves ≤ MAX_SLAVES }
     {
+        // For the prover: a ring that is counted has at most `MAX_SLAVES` slaves.
         let _count = self.count();
         let (frame, _) = self.walk(from, sent.copy(), links)?;
         if lost { None } else { Some(frame) }

@@ -1,5 +1,8 @@
 //! What befalls a frame on its trip, and what comes back.
 
+ghost use Rattle.std.specs.Prelude.{◌≡◌};
+ghost use Rattle.ec_ring.specs.Weather.{calm};
+
 use crate::links::Links;
 use ec_wire::FrameBuf;
 
@@ -17,6 +20,22 @@ pub struct Weather {
     pub lost_b: bool,
     /// Copy B goes first.
     pub b_first: bool,
+}
+
+impl Weather {
+    /// The weather of a ring that nothing disturbs: both copies under its own links, copy A first, none lost
+    /// on its last hop.
+    pub fn calm(links: Links) -> Weather
+        ensures { result ≡ calm links }
+    {
+        Weather {
+            a: links,
+            b: links,
+            lost_a: false,
+            lost_b: false,
+            b_first: false,
+        }
+    }
 }
 
 /// The copies that came back, each under the port at which it started, wherever it arrived.

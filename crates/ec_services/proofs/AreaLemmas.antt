@@ -1,12 +1,11 @@
 -- The data of a service's datagrams.
-use Rattle.std.proofs.Common.{◌≡◌, ℕ, suc, ◌+◌, ◌-◌, ◌≤◌, true, ap, refl, ◌∙◌, arith}
+use Rattle.std.proofs.Common.{◌≡◌, ℕ, ◌+◌, ◌-◌, ◌≤◌, ap, ◌∙◌, arith}
 use Rattle.std.proofs.Common.{List, [], ◌∷◌, ◌++◌, length, take, drop, replicate}
-use Rattle.std.proofs.lemmas.Bool.Decides.{nat_tests}
 use Rattle.std.proofs.lemmas.List.{take-replicate, drop-replicate}
 use Rattle.std.proofs.Math.Seq.{take-append-add}
 use Rattle.ec_wire.specs.Datagram.{DatagramRecord, nth}
-use Rattle.ec_merge.specs.Bytes.{joined_bytes}
-use Rattle.ec_merge.specs.Frames.{IsOwn, belongs, joined_frame}
+use Rattle.ec_merge.specs.Frames.{IsOwn, joined_frame}
+use Rattle.ec_merge.proofs.Laws.{length-joined, same_size}
 
 -- a mail in an area of zeros, as much of it as the mailbox has
 pub mail_area : (n : ℕ) (mail : List ℕ) → length mail ≡ 16 → 16 ≤ n → n ≤ 128
@@ -21,17 +20,6 @@ mail_area n mail size least most =
     ∙ ap (λ (xs : List ℕ). mail ++ xs) zeros
 
 -- ---- sizes
-
-length-joined : (s a b : List ℕ) → length a ≡ length s → length b ≡ length s
-    → length (joined_bytes s a b) ≡ length s
-length-joined [] a b one two = refl
-length-joined (s ∷ ss) [] b one two = absurd (omega (arith, one))
-length-joined (s ∷ ss) (x ∷ xs) [] one two = absurd (omega (arith, two))
-length-joined (s ∷ ss) (x ∷ xs) (y ∷ ys) one two = ap suc (length-joined ss xs ys (omega (arith, one))
-    (omega (arith, two)))
-
-same_size : (s c : DatagramRecord) → belongs s c ≡ true → length c.payload ≡ length s.payload
-same_size s c own = grind (arith, nat_tests)
 
 -- what copies of one datagram join to is one datagram of its size
 pub joined_size : (s : DatagramRecord) (a b : List DatagramRecord) → IsOwn (s ∷ []) a → IsOwn (s ∷ []) b

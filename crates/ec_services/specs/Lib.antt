@@ -3,4 +3,3 @@ pub mod Stations
 pub mod States
 pub mod Mailbox
 pub mod Transfer
-pub mod RingTrips

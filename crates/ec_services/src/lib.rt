@@ -33,14 +33,12 @@
 mod ask;
 mod fault;
 mod mailbox;
-mod ring_ports;
 mod states;
 mod stations;
 mod transfer;
 
 pub use fault::MasterFault;
 pub use mailbox::{Area, Peer};
-pub use ring_ports::RingPorts;
 pub use states::request_state;
 pub use stations::assign_stations;
 pub use transfer::{sdo_download, sdo_upload};

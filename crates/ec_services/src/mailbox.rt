@@ -23,7 +23,7 @@ const ROOM: usize = LONGEST_MAILBOX as usize;
 /// The area of a mailbox in a slave's memory (IEC 61158-4-12, sync manager).
 #[derive(Clone, Copy, PartialEq, Eq, Debug)]
 pub struct Area {
-    /// Its first address.
+    /// The first address of the area.
     pub start: u16,
     /// How many bytes it has, 16 to 128.
     pub length: u16,
@@ -32,11 +32,11 @@ pub struct Area {
 /// A slave with which mails are exchanged.
 #[derive(Clone, Copy, PartialEq, Eq, Debug)]
 pub struct Peer {
-    /// Its station address.
+    /// The station address of the slave.
     pub station: u16,
-    /// Its mailbox of requests, which the master writes.
+    /// The slave's mailbox of requests, which the master writes.
     pub to: Area,
-    /// Its mailbox of answers, which the master reads.
+    /// The slave's mailbox of answers, which the master reads.
     pub from: Area,
     /// The counter of the next request, 1 to 7.
     pub counter: u8,

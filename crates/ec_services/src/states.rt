@@ -14,9 +14,6 @@ use ec_regs::registers::{AL_CONTROL, AL_STATUS};
 use ec_regs::{AlState, AlStatus};
 use ec_wire::{Command, address_of};
 
-/// Bit 4 of AL control: the master acknowledges an error.
-const ACKNOWLEDGE: u8 = 0x10;
-
 /// The bytes of AL status, two reserved bytes and the AL status code.
 const STATUS_BYTES: usize = 6;
 
@@ -31,7 +28,7 @@ fn write_control<P: Ports>(ports: &mut P, station: u16, state: AlState) -> Resul
     ensures never_lower { P.failed ports.old ≤ P.failed ports.new }
 {
     let address = address_of(station, AL_CONTROL);
-    let sent = request(Command::Fpwr, address, &[state.code() + ACKNOWLEDGE, 0]);
+    let sent = request(Command::Fpwr, address, &[state.acknowledging_request(), 0]);
     write(ports, &sent)
 }
 

@@ -88,10 +88,6 @@ Keeps-adp {cells} {cells'} {starts} {part} {size} {at} {adp} {rs} k kept h small
     ∙ ap (λ xs. (code_of r.command ∷ r.index ∷ []) ++ (xs ++ behind)) (adp_low adp r.address ∙ sym written))
     (ap length written) place made
 
--- a datagram's bytes up to its length field
-to_length : DatagramRecord → List ℕ
-to_length r = code_of r.command ∷ r.index ∷ to_le_bytes w32 r.address
-
 irq-in : (more : Bool) (r : DatagramRecord) (n : ℕ)
     → datagram more (record r { irq = n }) ≡ take 8 (datagram more r)
     ++ (to_le_bytes w16 n ++ drop 10 (datagram more r))

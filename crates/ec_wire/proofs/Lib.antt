@@ -7,3 +7,4 @@ pub mod CellsMemory
 pub mod WriteLemmas
 pub mod ReadLemmas
 pub mod LawLemmas
+pub mod Laws

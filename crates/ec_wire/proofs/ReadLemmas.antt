@@ -17,13 +17,13 @@ use Rattle.ec_wire.specs.Decoding.{length_field, data_length, says_more, record_
 use Rattle.ec_wire.specs.Spelling.{datagram, body, body_length, front, header, spelling, IsFrameValue}
 use Rattle.ec_wire.specs.Frame.{starts_from, records_at, Keeps}
 use Rattle.ec_wire.specs.Fault.{first_of, header_word, stated_length, frame_end, header_tests, header_fault}
-use Rattle.ec_wire.specs.Fault.{datagram_tests, datagram_fault, FailsWithin, AreSpelt, IsSpeltBefore}
+use Rattle.ec_wire.specs.Fault.{datagram_tests, datagram_fault, AreSpelt, IsSpeltBefore}
 use Rattle.ec_wire.specs.Fault.{MayStandBehind, IsSpelt, IsOutline}
 use Rattle.ec_wire.specs.declared.fault.Form.{Form}
 use Rattle.ec_wire.specs.declared.fault.WireFault.{WireFault}
 use Rattle.ec_wire.proofs.DatagramLemmas.{AreBytes, Passes, datagram-record_at, Fits-record_at, AreBytes-drop}
 use Rattle.ec_wire.proofs.DatagramLemmas.{le_bytes_first}
-use Rattle.ec_wire.proofs.SpellingLemmas.{length-body, length-front, length-starts_from, length-spelling}
+use Rattle.ec_wire.proofs.SpellingLemmas.{length-body, length-starts_from, length-spelling}
 use Rattle.ec_wire.proofs.SpellingLemmas.{records_at-keeps}
 use Rattle.ec_wire.proofs.WriteLemmas.{is_nil-push, body-push, front-push, starts_from-push, Keeps-made}
 use Rattle.ec_wire.proofs.FrameLemmas.{twelve_each}
@@ -182,22 +182,6 @@ AreSpelt-last frame at starts starts' rs all so_far none last e =
       starts_are = e ∙ ap (λ xs. xs ++ at ∷ []) so_far.starts_are
           ∙ ap (λ n. starts_from 2 rs ++ n ∷ []) so_far.at_is ∙ sym (starts_from-push rs 2 r);
     })
-
--- a datagram at fault is the frame's
-pub FailsWithin-ahead : (frame : List ℕ) (at : ℕ) (starts : List ℕ) (rs : List DatagramRecord) (f : WireFault)
-    → Reached frame at starts rs → datagram_fault at (drop at frame) ≡ Some f → FailsWithin frame f
-FailsWithin-ahead frame at starts rs f so_far fails =
-    let left = length-drop at frame in
-    let place : at ≡ 2 + length (front rs) = so_far.at_is ∙ ap (λ n. 2 + n) (sym (length-front rs)) in (
-      rs,
-      drop at frame,
-      record {
-        fits = so_far.fits;
-        split = so_far.split;
-        more = omega (arith, left, so_far.below);
-        fails = ap (λ n. datagram_fault n (drop at frame)) (sym place) ∙ fails;
-      },
-    )
 
 -- there is room for one more start
 pub starts-room : (frame : List ℕ) (at : ℕ) (starts : List ℕ) (rs : List DatagramRecord)

@@ -6,16 +6,17 @@ use Rattle.ec_wire.specs.declared.command.Command.TheVariants.{Nop, Aprd, Apwr, 
 use Rattle.ec_wire.specs.declared.command.Command.TheVariants.{Bwr, Brw}
 use Rattle.ec_wire.specs.declared.command.Command.TheVariants.{Lrd, Lwr, Lrw, Armw, Frmw}
 use Rattle.ec_wire.specs.declared.command.Addressing.{Addressing}
-use Rattle.ec_wire.specs.declared.command.Addressing.TheVariants.{Nobody, Place, Station, All, Logical}
+use Rattle.ec_wire.specs.declared.command.Addressing.TheVariants.{Nobody, AutoIncrement}
+use Rattle.ec_wire.specs.declared.command.Addressing.TheVariants.{ConfiguredStation, All, Logical}
 
 -- which slaves a command addresses; NOP addresses none, and BRW, ARMW and FRMW none of these slaves
 abbrev pub addressing : Command → Addressing
-addressing Aprd = Place
-addressing Apwr = Place
-addressing Aprw = Place
-addressing Fprd = Station
-addressing Fpwr = Station
-addressing Fprw = Station
+addressing Aprd = AutoIncrement
+addressing Apwr = AutoIncrement
+addressing Aprw = AutoIncrement
+addressing Fprd = ConfiguredStation
+addressing Fpwr = ConfiguredStation
+addressing Fprw = ConfiguredStation
 addressing Brd = All
 addressing Bwr = All
 addressing Lrd = Logical
@@ -47,7 +48,7 @@ writes _ = false
 
 -- do slaves count up an ADP that addresses them so: by place, and all of them
 abbrev pub is_counted : Addressing → Bool
-is_counted Place = true
+is_counted AutoIncrement = true
 is_counted All = true
 is_counted _ = false
 

@@ -6,3 +6,4 @@ pub mod Fault
 pub mod Frame
 pub mod Spelling
 pub mod Lending
+pub mod Kind

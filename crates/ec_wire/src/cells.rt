@@ -65,7 +65,7 @@ impl<const N: usize> Cells<N> {
         LittleEndian::read_u32(&self.as_slice()[at..])
     }
 
-    /// The same bytes.
+    /// A second array of the same bytes.
     pub(crate) fn copy(&self) -> Self
         ensures { result ≡ self.now }
     {

@@ -1,3 +1,5 @@
+//! Commands: which slaves they address, and what they do (IEC 61158-4-12, the command field of a datagram).
+
 ghost use Rattle.std.specs.Prelude.{◌≡◌, ◌<◌, ◌≤◌};
 ghost use Rattle.ec_wire.specs.Command.{addressing, reads, writes, counts_adp, name_of};
 ghost use Rattle.ec_wire.specs.Datagram.{code_of, command_of};
@@ -7,13 +9,14 @@ ghost use Rattle.ec_wire.specs.Datagram.{code_of, command_of};
 pub enum Addressing {
     /// None: these slaves pass the datagram on.
     Nobody,
-    /// The one at a place on the line: the ADP is 0 where it comes to it, and each slave counts it up.
-    Place,
-    /// The one whose station address is the ADP.
-    Station,
-    /// Each of them, and each counts up the ADP.
+    /// Auto-increment addressing: the slave at a place on the line, where the ADP comes to it as 0; each
+    /// slave counts the ADP up.
+    AutoIncrement,
+    /// Configured station addressing: the slave whose station address is the ADP.
+    ConfiguredStation,
+    /// Broadcast: each slave, and each counts the ADP up.
     All,
-    /// Those whose FMMUs map a part of the logical range.
+    /// Logical addressing: the slaves whose FMMUs map a part of the logical range.
     Logical,
 }
 
@@ -97,8 +100,8 @@ impl Command {
         ensures { result ≡ addressing self }
     {
         match self {
-            Command::Aprd | Command::Apwr | Command::Aprw => Addressing::Place,
-            Command::Fprd | Command::Fpwr | Command::Fprw => Addressing::Station,
+            Command::Aprd | Command::Apwr | Command::Aprw => Addressing::AutoIncrement,
+            Command::Fprd | Command::Fpwr | Command::Fprw => Addressing::ConfiguredStation,
             Command::Brd | Command::Bwr => Addressing::All,
             Command::Lrd | Command::Lwr | Command::Lrw => Addressing::Logical,
             Command::Nop | Command::Brw | Command::Armw | Command::Frmw => Addressing::Nobody,
@@ -141,10 +144,13 @@ impl Command {
     pub fn counts_adp(self) -> bool
         ensures { result ≡ counts_adp self }
     {
-        matches!(self.addressing(), Addressing::Place | Addressing::All)
+        matches!(
+            self.addressing(),
+            Addressing::AutoIncrement | Addressing::All
+        )
     }
 
-    /// Its name in the standard, in capitals.
+    /// The name of the command in the standard, in capitals.
     pub fn name(self) -> &'static str
         ensures { result.now ≡ name_of self }
     {

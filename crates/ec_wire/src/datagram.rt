@@ -1,3 +1,5 @@
+//! One datagram by itself, as it is put into a frame and copied out of one (IEC 61158-4-12, datagrams).
+
 ghost use Rattle.std.specs.Prelude.{◌≡◌, ◌≤◌};
 
 use crate::command::Command;

@@ -1,3 +1,5 @@
+//! The fields of a frame's datagrams, written in place.
+
 ghost use Rattle.std.specs.Prelude.{◌≡◌, ℕ, ◌+◌, ◌*◌, ◌/◌, ◌<◌, length, slice_set};
 ghost use Rattle.std.specs.Borrow.{sem};
 ghost use Rattle.ec_wire.specs.Datagram.{nth, with_adp};

@@ -1,3 +1,5 @@
+//! Why bytes are no frame, and in which form they came.
+
 /// Where a frame's bytes come from: this decides whether bytes may follow the frame.
 #[derive(Clone, Copy, PartialEq, Eq, Debug)]
 pub enum Form {

@@ -1,3 +1,5 @@
+//! A frame: its bytes, seen as the list of its datagrams (IEC 61158-4-12, frame structure).
+
 ghost use Rattle.std.specs.Prelude.{◌≡◌, ℕ, ◌+◌, ◌*◌, ◌%◌, ◌/◌, ◌<◌, ◌≤◌, List, length, take, slice_set};
 ghost use Rattle.std.specs.Prelude.{slice_index_or};
 ghost use Rattle.ec_wire.specs.Datagram.{nth, record_of, adp, ado};
@@ -166,6 +168,7 @@ impl FrameBuf {
         requires { k < length self.now }
         ensures { record_of result ≡ nth self.now k }
     {
+        // For the prover: where the datagram begins, its data end in the frame.
         let _room = self.start(k);
         let mut payload = ArrayVec::new();
         payload.try_extend_from_slice(self.data(k)).unwrap();
@@ -180,7 +183,7 @@ impl FrameBuf {
         }
     }
 
-    /// The same frame.
+    /// A second frame with the same bytes.
     pub fn copy(&self) -> FrameBuf
         ensures { result ≡ self.now }
     {

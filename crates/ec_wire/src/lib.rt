@@ -37,6 +37,7 @@ mod datagram;
 mod edit;
 mod fault;
 mod frame;
+mod kind;
 mod layout;
 mod read;
 mod write;
@@ -46,6 +47,7 @@ pub use command::{Addressing, Command};
 pub use datagram::{Datagram, MAX_DATA};
 pub use fault::{FaultKind, Form, WireFault};
 pub use frame::{FrameBuf, MAX_DATAGRAMS, MAX_FRAME, PACKET_ROOM};
+pub use kind::Kind;
 pub use read::one_spelling;
 pub use write::Full;
 

@@ -1,3 +1,5 @@
+//! The reader of frames, which takes exactly the grammar and names the first fault of all else.
+
 ghost use Rattle.std.specs.Prelude.{◌≡◌, ℕ, ◌+◌, ◌++◌, ◌<◌, ◌≤◌, Some, None, List, length, take, drop, IfOk};
 ghost use Rattle.std.specs.Prelude.{IfErr, IsOk, OnOk, OnErr, []};
 ghost use Rattle.ec_wire.specs.Datagram.{DatagramRecord};

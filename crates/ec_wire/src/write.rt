@@ -1,3 +1,5 @@
+//! A frame made of a datagram, and one more datagram put behind its last.
+
 ghost use Rattle.std.specs.Prelude.{◌≡◌, ℕ, ◌+◌, ◌*◌, ◌<◌, ◌≤◌, ◌↔◌, [], ◌∷◌, ◌++◌, length, take, drop};
 ghost use Rattle.std.specs.Prelude.{IsErr, OnOk, OnErr};
 ghost use Rattle.ec_wire.specs.Datagram.{record_of, datagram_length};

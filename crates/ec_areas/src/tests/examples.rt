@@ -3,7 +3,7 @@
 ghost use Rattle.ec_regs.specs.Bits.{AreBytes};
 
 use crate::{last_bytes_written, read_mapped, write_mapped};
-use ec_regs::{Fmmu, Memory, PlannedFmmu, PlannedSyncMan, SyncMan};
+use ec_regs::{Fmmu, Memory, PlannedFmmu, PlannedSyncMan, SyncMan, SyncManagers};
 
 /// A sync manager that guards nothing.
 pub(crate) const NO_AREA: SyncMan = SyncMan {
@@ -34,7 +34,7 @@ pub(crate) const INPUTS: SyncMan = SyncMan {
 };
 
 /// The sync managers of a controller with those areas.
-pub(crate) fn areas() -> [PlannedSyncMan; 8] {
+pub(crate) fn areas() -> SyncManagers {
     let no_area = PlannedSyncMan::new(NO_AREA);
     [
         no_area,
@@ -73,7 +73,7 @@ const WRITE: Fmmu = Fmmu {
 
 /// Writes through FMMUs, as a controller does.
 pub(crate) fn write(
-    managers: &[PlannedSyncMan; 8],
+    managers: &SyncManagers,
     fmmus: &[PlannedFmmu],
     memory: &mut Memory,
     address: u32,

@@ -5,7 +5,7 @@
 use crate::tests::by_pairs::{reaches_by_pairs, read_by_pairs, write_by_pairs};
 use crate::tests::examples::{NO_AREA, write};
 use crate::{last_bytes_written, read_mapped};
-use ec_regs::{Fmmu, Memory, PlannedFmmu, PlannedSyncMan, SyncMan};
+use ec_regs::{Fmmu, Memory, PlannedFmmu, PlannedSyncMan, SyncMan, SyncManagers};
 use std::process::Abort;
 
 /// Where data of how many bytes begin: before the run, in it, and inside its second byte.
@@ -41,7 +41,7 @@ fn areas(direction: u8) -> [SyncMan; 4] {
 }
 
 /// All sync managers of a controller that has one area.
-fn with(area: SyncMan) -> [PlannedSyncMan; 8] {
+fn with(area: SyncMan) -> SyncManagers {
     let no_area = PlannedSyncMan::new(NO_AREA);
     let area = PlannedSyncMan::new(area);
     [

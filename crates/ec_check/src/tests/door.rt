@@ -1,16 +1,23 @@
 //! The use on the crate's page.
 
-use super::line::{BYTE, outputs, writer};
+use super::line::BYTE;
 use crate::{MapFault, check};
 use ec_app::{Objects, Slave};
+use ec_regs::{Fmmu, SyncMan};
 use std::test::Fail;
 
 #[test]
 fn an_fmmu_behind_its_area_is_named(rt: HostRuntime) -> Result<(), Fail> {
     let mut slave = Slave::new(rt.alloc(), 0x1001, Objects::new(), 2, 0)?;
-    slave.controller_mut().set_syncman(2, &outputs(0x1000, 2));
-    slave.controller_mut().set_fmmu(0, &writer(BYTE, 1, 0x1001));
-    slave.controller_mut().set_fmmu(1, &writer(BYTE, 1, 0x1002));
+    slave
+        .controller_mut()
+        .set_syncman(2, &SyncMan::outputs(0x1000, 2));
+    slave
+        .controller_mut()
+        .set_fmmu(0, &Fmmu::writing(BYTE, 1, 0x1001));
+    slave
+        .controller_mut()
+        .set_fmmu(1, &Fmmu::writing(BYTE, 1, 0x1002));
     let verdict = check(&[slave]);
     let outside = MapFault::OutsideArea {
         slave: 0,

@@ -9,49 +9,6 @@ use std::alloc::Global;
 /// The logical byte that most lines map.
 pub(crate) const BYTE: u32 = 0x0001_0000;
 
-/// A buffered area that the master writes.
-pub(crate) fn outputs(start: u16, length: u16) -> SyncMan {
-    SyncMan {
-        start,
-        length,
-        control: 0x04,
-        status: 0,
-        activate: 1,
-        pdi: 0,
-    }
-}
-
-/// A buffered area that the master reads.
-pub(crate) fn inputs(start: u16, length: u16) -> SyncMan {
-    SyncMan {
-        control: 0x00,
-        ..outputs(start, length)
-    }
-}
-
-/// An FMMU that reads the whole of `length` bytes.
-pub(crate) fn reader(logical: u32, length: u16, physical: u16) -> Fmmu {
-    Fmmu {
-        logical,
-        length,
-        start: 0,
-        stop: 7,
-        physical,
-        bit: 0,
-        kind: 1,
-        activate: 1,
-        reserved: [0; 3],
-    }
-}
-
-/// An FMMU that writes the whole of `length` bytes.
-pub(crate) fn writer(logical: u32, length: u16, physical: u16) -> Fmmu {
-    Fmmu {
-        kind: 2,
-        ..reader(logical, length, physical)
-    }
-}
-
 /// The bits from `start` to `stop` of a logical byte, laid at a physical bit.
 pub(crate) fn bits(whole: Fmmu, start: u8, stop: u8, bit: u8) -> Fmmu {
     Fmmu {

@@ -1,15 +1,15 @@
 //! Of several faults the first is named: the earlier rule, and within a rule the smaller numbers.
 
-use super::line::{BYTE, inputs, outputs, reader, slave, writer};
+use super::line::{BYTE, slave};
 use crate::{MapFault, check};
-use ec_regs::Fmmu;
+use ec_regs::{Fmmu, SyncMan};
 use std::test::Fail;
 
 #[test]
 fn twins_before_a_bad_fmmu(rt: HostRuntime) -> Result<(), Fail> {
     let bad = Fmmu {
         kind: 3,
-        ..reader(BYTE, 1, 0x1100)
+        ..Fmmu::reading(BYTE, 1, 0x1100)
     };
     let line = [
         slave(rt.alloc(), 0x1001, &[], &[bad])?,
@@ -27,9 +27,9 @@ fn twins_before_a_bad_fmmu(rt: HostRuntime) -> Result<(), Fail> {
 fn a_bad_fmmu_before_areas_that_meet(rt: HostRuntime) -> Result<(), Fail> {
     let bad = Fmmu {
         kind: 3,
-        ..reader(BYTE, 1, 0x1100)
+        ..Fmmu::reading(BYTE, 1, 0x1100)
     };
-    let areas = [outputs(0x1000, 8), inputs(0x1004, 8)];
+    let areas = [SyncMan::outputs(0x1000, 8), SyncMan::inputs(0x1004, 8)];
     let line = [
         slave(rt.alloc(), 0x1001, &areas, &[])?,
         slave(rt.alloc(), 0x1002, &[], &[bad])?,
@@ -41,9 +41,9 @@ fn a_bad_fmmu_before_areas_that_meet(rt: HostRuntime) -> Result<(), Fail> {
 
 #[test]
 fn areas_that_meet_before_an_fmmu_outside(rt: HostRuntime) -> Result<(), Fail> {
-    let areas = [outputs(0x1000, 8), inputs(0x1004, 8)];
+    let areas = [SyncMan::outputs(0x1000, 8), SyncMan::inputs(0x1004, 8)];
     let line = [
-        slave(rt.alloc(), 0x1001, &[], &[reader(BYTE, 1, 0x1100)])?,
+        slave(rt.alloc(), 0x1001, &[], &[Fmmu::reading(BYTE, 1, 0x1100)])?,
         slave(rt.alloc(), 0x1002, &areas, &[])?,
     ];
     let fault = MapFault::AreasMeet {
@@ -58,11 +58,19 @@ fn areas_that_meet_before_an_fmmu_outside(rt: HostRuntime) -> Result<(), Fail> {
 
 #[test]
 fn an_fmmu_outside_before_bits_written_twice(rt: HostRuntime) -> Result<(), Fail> {
-    let areas = [outputs(0x1000, 1), inputs(0x1100, 4)];
-    let twice = [writer(BYTE, 1, 0x1000), writer(BYTE, 1, 0x1000)];
+    let areas = [SyncMan::outputs(0x1000, 1), SyncMan::inputs(0x1100, 4)];
+    let twice = [
+        Fmmu::writing(BYTE, 1, 0x1000),
+        Fmmu::writing(BYTE, 1, 0x1000),
+    ];
     let line = [
         slave(rt.alloc(), 0x1001, &areas, &twice)?,
-        slave(rt.alloc(), 0x1002, &areas, &[reader(BYTE, 8, 0x1100)])?,
+        slave(
+            rt.alloc(),
+            0x1002,
+            &areas,
+            &[Fmmu::reading(BYTE, 8, 0x1100)],
+        )?,
     ];
     let fault = MapFault::OutsideArea {
         slave: 1,
@@ -75,9 +83,15 @@ fn an_fmmu_outside_before_bits_written_twice(rt: HostRuntime) -> Result<(), Fail
 
 #[test]
 fn bits_written_twice_before_bits_read_twice(rt: HostRuntime) -> Result<(), Fail> {
-    let areas = [outputs(0x1000, 1), inputs(0x1100, 1)];
-    let read = [reader(BYTE, 1, 0x1100), reader(BYTE, 1, 0x1100)];
-    let written = [writer(BYTE + 1, 1, 0x1000), writer(BYTE + 2, 1, 0x1000)];
+    let areas = [SyncMan::outputs(0x1000, 1), SyncMan::inputs(0x1100, 1)];
+    let read = [
+        Fmmu::reading(BYTE, 1, 0x1100),
+        Fmmu::reading(BYTE, 1, 0x1100),
+    ];
+    let written = [
+        Fmmu::writing(BYTE + 1, 1, 0x1000),
+        Fmmu::writing(BYTE + 2, 1, 0x1000),
+    ];
     let line = [
         slave(rt.alloc(), 0x1001, &areas, &read)?,
         slave(rt.alloc(), 0x1002, &areas, &written)?,
@@ -94,11 +108,26 @@ fn bits_written_twice_before_bits_read_twice(rt: HostRuntime) -> Result<(), Fail
 
 #[test]
 fn bits_read_twice_before_bits_read_and_written(rt: HostRuntime) -> Result<(), Fail> {
-    let areas = [outputs(0x1000, 1), inputs(0x1100, 1)];
+    let areas = [SyncMan::outputs(0x1000, 1), SyncMan::inputs(0x1100, 1)];
     let line = [
-        slave(rt.alloc(), 0x1001, &areas, &[writer(BYTE, 1, 0x1000)])?,
-        slave(rt.alloc(), 0x1002, &areas, &[reader(BYTE, 1, 0x1100)])?,
-        slave(rt.alloc(), 0x1003, &areas, &[reader(BYTE, 1, 0x1100)])?,
+        slave(
+            rt.alloc(),
+            0x1001,
+            &areas,
+            &[Fmmu::writing(BYTE, 1, 0x1000)],
+        )?,
+        slave(
+            rt.alloc(),
+            0x1002,
+            &areas,
+            &[Fmmu::reading(BYTE, 1, 0x1100)],
+        )?,
+        slave(
+            rt.alloc(),
+            0x1003,
+            &areas,
+            &[Fmmu::reading(BYTE, 1, 0x1100)],
+        )?,
     ];
     let fault = MapFault::TwiceRead {
         slave: 1,
@@ -129,7 +158,7 @@ fn of_two_pairs_of_twins_the_first_slave_decides(rt: HostRuntime) -> Result<(), 
 
 #[test]
 fn of_two_bad_fmmus_the_smaller_number(rt: HostRuntime) -> Result<(), Fail> {
-    let good = reader(BYTE, 1, 0x1100);
+    let good = Fmmu::reading(BYTE, 1, 0x1100);
     let bad = Fmmu { kind: 3, ..good };
     let line = [
         slave(rt.alloc(), 0x1001, &[], &[good, bad, bad])?,
@@ -142,7 +171,11 @@ fn of_two_bad_fmmus_the_smaller_number(rt: HostRuntime) -> Result<(), Fail> {
 
 #[test]
 fn of_three_areas_the_first_that_meets_another(rt: HostRuntime) -> Result<(), Fail> {
-    let areas = [inputs(0x1000, 4), inputs(0x1010, 8), inputs(0x1003, 16)];
+    let areas = [
+        SyncMan::inputs(0x1000, 4),
+        SyncMan::inputs(0x1010, 8),
+        SyncMan::inputs(0x1003, 16),
+    ];
     let line = [slave(rt.alloc(), 0x1001, &areas, &[])?];
     let fault = MapFault::AreasMeet {
         slave: 0,
@@ -156,8 +189,11 @@ fn of_three_areas_the_first_that_meets_another(rt: HostRuntime) -> Result<(), Fa
 
 #[test]
 fn of_two_fmmus_outside_the_smaller_number(rt: HostRuntime) -> Result<(), Fail> {
-    let fmmus = [reader(BYTE, 8, 0x1100), reader(BYTE, 1, 0x1000)];
-    let line = [slave(rt.alloc(), 0x1001, &[inputs(0x1100, 4)], &fmmus)?];
+    let fmmus = [
+        Fmmu::reading(BYTE, 8, 0x1100),
+        Fmmu::reading(BYTE, 1, 0x1000),
+    ];
+    let line = [slave(rt.alloc(), 0x1001, &[SyncMan::inputs(0x1100, 4)], &fmmus)?];
     let fault = MapFault::OutsideArea {
         slave: 0,
         fmmu: 0,
@@ -170,11 +206,11 @@ fn of_two_fmmus_outside_the_smaller_number(rt: HostRuntime) -> Result<(), Fail> 
 #[test]
 fn of_three_that_write_one_bit_the_first_two(rt: HostRuntime) -> Result<(), Fail> {
     let fmmus = [
-        writer(BYTE, 2, 0x1000),
-        writer(BYTE, 1, 0x1001),
-        writer(BYTE, 1, 0x1000),
+        Fmmu::writing(BYTE, 2, 0x1000),
+        Fmmu::writing(BYTE, 1, 0x1001),
+        Fmmu::writing(BYTE, 1, 0x1000),
     ];
-    let line = [slave(rt.alloc(), 0x1001, &[outputs(0x1000, 2)], &fmmus)?];
+    let line = [slave(rt.alloc(), 0x1001, &[SyncMan::outputs(0x1000, 2)], &fmmus)?];
     let fault = MapFault::TwiceWritten {
         slave: 0,
         fmmu: 0,
@@ -187,12 +223,25 @@ fn of_three_that_write_one_bit_the_first_two(rt: HostRuntime) -> Result<(), Fail
 
 #[test]
 fn of_three_that_read_one_bit_the_first_two(rt: HostRuntime) -> Result<(), Fail> {
-    let areas = [inputs(0x1100, 1)];
-    let apart = [reader(BYTE + 1, 1, 0x1100), reader(BYTE, 1, 0x1100)];
+    let areas = [SyncMan::inputs(0x1100, 1)];
+    let apart = [
+        Fmmu::reading(BYTE + 1, 1, 0x1100),
+        Fmmu::reading(BYTE, 1, 0x1100),
+    ];
     let line = [
         slave(rt.alloc(), 0x1001, &areas, &apart)?,
-        slave(rt.alloc(), 0x1002, &areas, &[reader(BYTE, 1, 0x1100)])?,
-        slave(rt.alloc(), 0x1003, &areas, &[reader(BYTE + 1, 1, 0x1100)])?,
+        slave(
+            rt.alloc(),
+            0x1002,
+            &areas,
+            &[Fmmu::reading(BYTE, 1, 0x1100)],
+        )?,
+        slave(
+            rt.alloc(),
+            0x1003,
+            &areas,
+            &[Fmmu::reading(BYTE + 1, 1, 0x1100)],
+        )?,
     ];
     let fault = MapFault::TwiceRead {
         slave: 0,
@@ -207,12 +256,25 @@ fn of_three_that_read_one_bit_the_first_two(rt: HostRuntime) -> Result<(), Fail>
 
 #[test]
 fn of_two_writers_of_a_bit_that_is_read_the_first(rt: HostRuntime) -> Result<(), Fail> {
-    let areas = [outputs(0x1000, 2), inputs(0x1100, 1)];
-    let both = [writer(BYTE, 1, 0x1001), reader(BYTE + 1, 1, 0x1100)];
+    let areas = [SyncMan::outputs(0x1000, 2), SyncMan::inputs(0x1100, 1)];
+    let both = [
+        Fmmu::writing(BYTE, 1, 0x1001),
+        Fmmu::reading(BYTE + 1, 1, 0x1100),
+    ];
     let line = [
         slave(rt.alloc(), 0x1001, &areas, &both)?,
-        slave(rt.alloc(), 0x1002, &areas, &[reader(BYTE, 1, 0x1100)])?,
-        slave(rt.alloc(), 0x1003, &areas, &[writer(BYTE, 2, 0x1000)])?,
+        slave(
+            rt.alloc(),
+            0x1002,
+            &areas,
+            &[Fmmu::reading(BYTE, 1, 0x1100)],
+        )?,
+        slave(
+            rt.alloc(),
+            0x1003,
+            &areas,
+            &[Fmmu::writing(BYTE, 2, 0x1000)],
+        )?,
     ];
     let fault = MapFault::ReadAndWritten {
         reader: 0,

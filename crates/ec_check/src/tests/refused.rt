@@ -1,6 +1,6 @@
 //! Each rule broken alone, and where it is named.
 
-use super::line::{BYTE, bits, inputs, outputs, reader, slave, writer};
+use super::line::{BYTE, bits, slave};
 use crate::{MapFault, check};
 use ec_regs::{Fmmu, SyncMan};
 use std::test::Fail;
@@ -22,7 +22,7 @@ fn two_slaves_of_one_station(rt: HostRuntime) -> Result<(), Fail> {
 
 #[test]
 fn an_fmmu_that_is_not_good(rt: HostRuntime) -> Result<(), Fail> {
-    let good = reader(BYTE, 1, 0x1100);
+    let good = Fmmu::reading(BYTE, 1, 0x1100);
     let bad = [
         Fmmu { kind: 3, ..good },
         Fmmu { kind: 0, ..good },
@@ -31,13 +31,18 @@ fn an_fmmu_that_is_not_good(rt: HostRuntime) -> Result<(), Fail> {
         Fmmu { bit: 8, ..good },
         Fmmu { length: 0, ..good },
         bits(good, 5, 2, 0),
-        reader(0xFFFF_FFFF, 2, 0x1100),
-        reader(BYTE, 2, 0x2FFF),
-        bits(reader(BYTE, 1, 0x2FFF), 0, 7, 1),
+        Fmmu::reading(0xFFFF_FFFF, 2, 0x1100),
+        Fmmu::reading(BYTE, 2, 0x2FFF),
+        bits(Fmmu::reading(BYTE, 1, 0x2FFF), 0, 7, 1),
     ];
     let fault = MapFault::BadFmmu { slave: 0, fmmu: 1 };
     for fmmu in bad {
-        let line = [slave(rt.alloc(), 0x1001, &[inputs(0x1100, 8)], &[good, fmmu])?];
+        let line = [slave(
+            rt.alloc(),
+            0x1001,
+            &[SyncMan::inputs(0x1100, 8)],
+            &[good, fmmu],
+        )?];
         assert_eq!(rt; check(&line), Err(fault));
     }
     Ok(())
@@ -45,7 +50,7 @@ fn an_fmmu_that_is_not_good(rt: HostRuntime) -> Result<(), Fail> {
 
 #[test]
 fn two_areas_that_share_a_byte(rt: HostRuntime) -> Result<(), Fail> {
-    let areas = [outputs(0x1000, 8), inputs(0x1004, 8)];
+    let areas = [SyncMan::outputs(0x1000, 8), SyncMan::inputs(0x1004, 8)];
     let line = [slave(rt.alloc(), 0x1001, &areas, &[])?];
     let fault = MapFault::AreasMeet {
         slave: 0,
@@ -70,18 +75,27 @@ fn outside(address: u16) -> Result<(), MapFault> {
 fn an_fmmu_that_no_area_of_its_kind_holds(rt: HostRuntime) -> Result<(), Fail> {
     let mailbox = SyncMan {
         control: 0x02,
-        ..inputs(0x1000, 16)
+        ..SyncMan::inputs(0x1000, 16)
     };
-    let kinds = [outputs(0x1000, 16), mailbox, inputs(0x1001, 16)];
+    let kinds = [
+        SyncMan::outputs(0x1000, 16),
+        mailbox,
+        SyncMan::inputs(0x1001, 16),
+    ];
     for area in kinds {
-        let line = [slave(rt.alloc(), 0x1001, &[area], &[reader(BYTE, 2, 0x1000)])?];
+        let line = [slave(
+            rt.alloc(),
+            0x1001,
+            &[area],
+            &[Fmmu::reading(BYTE, 2, 0x1000)],
+        )?];
         assert_eq!(rt; check(&line), outside(0x1000));
     }
     let line = [slave(
         rt.alloc(),
         0x1001,
-        &[inputs(0x1000, 16)],
-        &[writer(BYTE, 1, 0x1000)],
+        &[SyncMan::inputs(0x1000, 16)],
+        &[Fmmu::writing(BYTE, 1, 0x1000)],
     )?];
     assert_eq!(rt; check(&line), outside(0x1000));
     Ok(())
@@ -89,14 +103,19 @@ fn an_fmmu_that_no_area_of_its_kind_holds(rt: HostRuntime) -> Result<(), Fail> {
 
 #[test]
 fn an_fmmu_that_goes_on_behind_its_area(rt: HostRuntime) -> Result<(), Fail> {
-    let areas = [inputs(0x1100, 4), inputs(0x1104, 4)];
-    let line = [slave(rt.alloc(), 0x1001, &areas, &[reader(BYTE, 8, 0x1100)])?];
+    let areas = [SyncMan::inputs(0x1100, 4), SyncMan::inputs(0x1104, 4)];
+    let line = [slave(
+        rt.alloc(),
+        0x1001,
+        &areas,
+        &[Fmmu::reading(BYTE, 8, 0x1100)],
+    )?];
     assert_eq!(rt; check(&line), outside(0x1104));
     let line = [slave(
         rt.alloc(),
         0x1001,
         &areas,
-        &[bits(reader(BYTE, 1, 0x1107), 0, 7, 1)],
+        &[bits(Fmmu::reading(BYTE, 1, 0x1107), 0, 7, 1)],
     )?];
     assert_eq!(rt; check(&line), outside(0x1108));
     Ok(())
@@ -112,11 +131,11 @@ fn a_register_but_the_one_that_tells_of_mail(rt: HostRuntime) -> Result<(), Fail
         (0x080E, 1, 0x080E),
         (0x0815, 1, 0x0815),
     ] {
-        let fmmus = [reader(BYTE, length, physical)];
+        let fmmus = [Fmmu::reading(BYTE, length, physical)];
         let line = [slave(rt.alloc(), 0x1001, &[], &fmmus)?];
         assert_eq!(rt; check(&line), outside(address));
     }
-    let line = [slave(rt.alloc(), 0x1001, &[], &[writer(BYTE, 1, 0x080D)])?];
+    let line = [slave(rt.alloc(), 0x1001, &[], &[Fmmu::writing(BYTE, 1, 0x080D)])?];
     assert_eq!(rt; check(&line), outside(0x080D));
     Ok(())
 }
@@ -134,17 +153,20 @@ fn a_physical_bit_that_is_written_twice(rt: HostRuntime) -> Result<(), Fail> {
     let line = [slave(
         rt.alloc(),
         0x1001,
-        &[outputs(0x1000, 1)],
-        &[writer(BYTE, 1, 0x1000), writer(BYTE + 1, 1, 0x1000)],
+        &[SyncMan::outputs(0x1000, 1)],
+        &[
+            Fmmu::writing(BYTE, 1, 0x1000),
+            Fmmu::writing(BYTE + 1, 1, 0x1000),
+        ],
     )?];
     assert_eq!(rt; check(&line), fault(32_768));
     let line = [slave(
         rt.alloc(),
         0x1001,
-        &[outputs(0x1000, 2)],
+        &[SyncMan::outputs(0x1000, 2)],
         &[
-            bits(writer(BYTE, 2, 0x1000), 3, 4, 2),
-            bits(writer(BYTE + 2, 1, 0x1001), 1, 2, 3),
+            bits(Fmmu::writing(BYTE, 2, 0x1000), 3, 4, 2),
+            bits(Fmmu::writing(BYTE + 2, 1, 0x1001), 1, 2, 3),
         ],
     )?];
     assert_eq!(rt; check(&line), fault(32_779));
@@ -157,14 +179,14 @@ fn a_logical_bit_that_is_read_twice(rt: HostRuntime) -> Result<(), Fail> {
         slave(
             rt.alloc(),
             0x1001,
-            &[inputs(0x1100, 1)],
-            &[bits(reader(BYTE, 1, 0x1100), 0, 4, 0)],
+            &[SyncMan::inputs(0x1100, 1)],
+            &[bits(Fmmu::reading(BYTE, 1, 0x1100), 0, 4, 0)],
         )?,
         slave(
             rt.alloc(),
             0x1002,
-            &[inputs(0x1100, 1)],
-            &[bits(reader(BYTE, 1, 0x1100), 4, 7, 0)],
+            &[SyncMan::inputs(0x1100, 1)],
+            &[bits(Fmmu::reading(BYTE, 1, 0x1100), 4, 7, 0)],
         )?,
     ];
     let fault = MapFault::TwiceRead {
@@ -183,8 +205,11 @@ fn a_logical_bit_that_one_slave_reads_twice(rt: HostRuntime) -> Result<(), Fail>
     let line = [slave(
         rt.alloc(),
         0x1001,
-        &[inputs(0x1100, 2)],
-        &[reader(BYTE, 1, 0x1100), reader(BYTE, 1, 0x1101)],
+        &[SyncMan::inputs(0x1100, 2)],
+        &[
+            Fmmu::reading(BYTE, 1, 0x1100),
+            Fmmu::reading(BYTE, 1, 0x1101),
+        ],
     )?];
     let fault = MapFault::TwiceRead {
         slave: 0,
@@ -203,14 +228,14 @@ fn a_logical_bit_that_is_read_here_and_written_there(rt: HostRuntime) -> Result<
         slave(
             rt.alloc(),
             0x1001,
-            &[outputs(0x1000, 1)],
-            &[writer(BYTE, 1, 0x1000)],
+            &[SyncMan::outputs(0x1000, 1)],
+            &[Fmmu::writing(BYTE, 1, 0x1000)],
         )?,
         slave(
             rt.alloc(),
             0x1002,
-            &[inputs(0x1100, 1)],
-            &[reader(BYTE, 1, 0x1100)],
+            &[SyncMan::inputs(0x1100, 1)],
+            &[Fmmu::reading(BYTE, 1, 0x1100)],
         )?,
     ];
     let fault = MapFault::ReadAndWritten {

@@ -1,9 +1,9 @@
 //! A line of 256 slaves with eight FMMUs each.
 
-use super::line::{BYTE, inputs, outputs, reader, slave, writer};
+use super::line::{BYTE, slave};
 use crate::{MapFault, check};
 use ec_app::Slave;
-use ec_regs::NoMemory;
+use ec_regs::{Fmmu, NoMemory, SyncMan};
 use std::alloc::Global;
 use std::test::Fail;
 
@@ -16,16 +16,16 @@ fn busy(alloc: Global, place: u16) -> Result<Slave, NoMemory> {
     slave(
         alloc,
         place,
-        &[outputs(0x1000, 4), inputs(0x1100, 4)],
+        &[SyncMan::outputs(0x1000, 4), SyncMan::inputs(0x1100, 4)],
         &[
-            writer(logical, 1, 0x1000),
-            writer(logical + 1, 1, 0x1001),
-            writer(logical + 2, 1, 0x1002),
-            writer(logical + 3, 1, 0x1003),
-            reader(logical, 1, 0x1100),
-            reader(logical + 1, 1, 0x1101),
-            reader(logical + 2, 1, 0x1102),
-            reader(logical + 3, 1, 0x1103),
+            Fmmu::writing(logical, 1, 0x1000),
+            Fmmu::writing(logical + 1, 1, 0x1001),
+            Fmmu::writing(logical + 2, 1, 0x1002),
+            Fmmu::writing(logical + 3, 1, 0x1003),
+            Fmmu::reading(logical, 1, 0x1100),
+            Fmmu::reading(logical + 1, 1, 0x1101),
+            Fmmu::reading(logical + 2, 1, 0x1102),
+            Fmmu::reading(logical + 3, 1, 0x1103),
         ],
     )
 }
@@ -40,8 +40,8 @@ fn a_full_line_is_fit_until_its_last_byte_is_read_twice(rt: HostRuntime) -> Resu
     line.push(slave(
         rt.alloc(),
         SLAVES,
-        &[inputs(0x1100, 1)],
-        &[reader(BYTE + 4 * 256 - 1, 1, 0x1100)],
+        &[SyncMan::inputs(0x1100, 1)],
+        &[Fmmu::reading(BYTE + 4 * 256 - 1, 1, 0x1100)],
     )?)?;
     let fault = MapFault::TwiceRead {
         slave: 255,

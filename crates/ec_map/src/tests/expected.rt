@@ -1,9 +1,9 @@
 //! What a line adds to the counter of an item.
 
-use super::line::{BYTE, exchanging, inputs, mailbox, outputs, reader, slave, writer};
+use super::line::{BYTE, exchanging, slave};
 use crate::{Item, Kind, expected};
 use ec_app::Slave;
-use ec_regs::Fmmu;
+use ec_regs::{Fmmu, SyncMan};
 use std::test::Fail;
 
 /// What the line adds to an item of this many bytes of 0.
@@ -39,14 +39,14 @@ fn a_slave_that_only_reads_counts_one_in_an_exchange(rt: HostRuntime) -> Result<
     let reads = slave(
         rt.alloc(),
         0x1001,
-        &[inputs(0x1100, 1)],
-        &[reader(BYTE, 1, 0x1100)],
+        &[SyncMan::inputs(0x1100, 1)],
+        &[Fmmu::reading(BYTE, 1, 0x1100)],
     )?;
     let writes = slave(
         rt.alloc(),
         0x1002,
-        &[outputs(0x1000, 1)],
-        &[writer(BYTE + 1, 1, 0x1000)],
+        &[SyncMan::outputs(0x1000, 1)],
+        &[Fmmu::writing(BYTE + 1, 1, 0x1000)],
     )?;
     let line = [reads, writes];
     assert_eq!(rt; counted(&line, Kind::Lrw, BYTE, &[0])?, 1);
@@ -59,12 +59,16 @@ fn a_slave_that_only_reads_counts_one_in_an_exchange(rt: HostRuntime) -> Result<
 fn bits_that_areas_keep_do_not_count(rt: HostRuntime) -> Result<(), Fail> {
     let both = Fmmu {
         kind: 3,
-        ..reader(BYTE, 18, 0x1000)
+        ..Fmmu::reading(BYTE, 18, 0x1000)
     };
     let line = [slave(
         rt.alloc(),
         0x1001,
-        &[mailbox(0x1000), outputs(0x1010, 1), inputs(0x1011, 1)],
+        &[
+            SyncMan::mailbox_to_master(0x1000, 16),
+            SyncMan::outputs(0x1010, 1),
+            SyncMan::inputs(0x1011, 1),
+        ],
         &[both],
     )?];
     assert_eq!(rt; counted(&line, Kind::Lrw, BYTE, &[0; 16])?, 0);
@@ -79,7 +83,7 @@ fn bits_that_areas_keep_do_not_count(rt: HostRuntime) -> Result<(), Fail> {
 fn a_register_is_read_and_never_written_through_fmmus(rt: HostRuntime) -> Result<(), Fail> {
     let both = Fmmu {
         kind: 3,
-        ..reader(BYTE, 1, 0x080D)
+        ..Fmmu::reading(BYTE, 1, 0x080D)
     };
     let line = [slave(rt.alloc(), 0x1001, &[], &[both])?];
     assert_eq!(rt; counted(&line, Kind::Lrw, BYTE, &[0])?, 1);

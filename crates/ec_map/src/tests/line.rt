@@ -9,57 +9,6 @@ use std::alloc::Global;
 /// The logical byte that most lines map.
 pub(crate) const BYTE: u32 = 0x0001_0000;
 
-/// A buffered area that the master writes.
-pub(crate) fn outputs(start: u16, length: u16) -> SyncMan {
-    SyncMan {
-        start,
-        length,
-        control: 0x04,
-        status: 0,
-        activate: 1,
-        pdi: 0,
-    }
-}
-
-/// A buffered area that the master reads.
-pub(crate) fn inputs(start: u16, length: u16) -> SyncMan {
-    SyncMan {
-        control: 0x00,
-        ..outputs(start, length)
-    }
-}
-
-/// An FMMU that reads the whole of `length` bytes.
-pub(crate) fn reader(logical: u32, length: u16, physical: u16) -> Fmmu {
-    Fmmu {
-        logical,
-        length,
-        start: 0,
-        stop: 7,
-        physical,
-        bit: 0,
-        kind: 1,
-        activate: 1,
-        reserved: [0; 3],
-    }
-}
-
-/// An FMMU that writes the whole of `length` bytes.
-pub(crate) fn writer(logical: u32, length: u16, physical: u16) -> Fmmu {
-    Fmmu {
-        kind: 2,
-        ..reader(logical, length, physical)
-    }
-}
-
-/// A mailbox of 16 bytes that the master reads.
-pub(crate) fn mailbox(start: u16) -> SyncMan {
-    SyncMan {
-        control: 0x02,
-        ..outputs(start, 16)
-    }
-}
-
 /// A slave with these sync managers, from number 2 on, and these FMMUs, from number 0 on.
 pub(crate) fn slave(
     alloc: Global,
@@ -85,7 +34,10 @@ pub(crate) fn exchanging(alloc: Global, station: u16, logical: u32) -> Result<Sl
     slave(
         alloc,
         station,
-        &[outputs(0x1000, 1), inputs(0x1100, 1)],
-        &[writer(logical, 1, 0x1000), reader(logical, 1, 0x1100)],
+        &[SyncMan::outputs(0x1000, 1), SyncMan::inputs(0x1100, 1)],
+        &[
+            Fmmu::writing(logical, 1, 0x1000),
+            Fmmu::reading(logical, 1, 0x1100),
+        ],
     )
 }

@@ -1,8 +1,9 @@
 //! Where an addressed item may go.
 
-use super::line::{exchanging, mailbox, outputs, slave};
+use super::line::{exchanging, slave};
 use crate::{Item, Kind, PlaceFault, check_item};
 use ec_app::Slave;
+use ec_regs::SyncMan;
 use std::test::Fail;
 
 /// Station 0x1001, then 0x1002, each with outputs at 0x1000 and inputs at 0x1100 of one byte.
@@ -85,7 +86,10 @@ fn no_item_goes_to_a_mailbox(rt: HostRuntime) -> Result<(), Fail> {
     let line = [slave(
         rt.alloc(),
         0x1001,
-        &[mailbox(0x1000), outputs(0x1010, 16)],
+        &[
+            SyncMan::mailbox_to_master(0x1000, 16),
+            SyncMan::outputs(0x1010, 16),
+        ],
         &[],
     )?];
     assert!(rt; !is_placed(&line, Kind::Fprd, 0x1000_1001, &[0; 16])?);

@@ -1,13 +1,20 @@
 //! AL states and the byte of AL status.
 
 use super::assert_same;
-use crate::{AlBits, AlState, AlStatus};
+use crate::{AlBits, AlState, AlStatus, acknowledges};
 use bitflags::Flags;
 
 #[test]
 fn flags_are_the_bits_of_the_standard(rt: HostRuntime) {
     assert_same(&rt, AlBits::ERROR.bits(), 0x10);
     assert_same(&rt, AlBits::ACKNOWLEDGE.bits(), 0x10);
+}
+
+#[test]
+fn bit_4_of_al_control_acknowledges(rt: HostRuntime) {
+    assert_same(&rt, AlState::PreOp.acknowledging_request(), 0x12);
+    assert_same(&rt, acknowledges(0x12), true);
+    assert_same(&rt, acknowledges(0x22), false);
 }
 
 #[test]

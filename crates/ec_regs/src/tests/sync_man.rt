@@ -1,7 +1,8 @@
 //! The record of a sync manager.
 
 use super::assert_same;
-use crate::{SyncMan, SyncManControl};
+use crate::registers::ANSWER_MAILBOX_STATUS;
+use crate::{SyncMan, SyncManControl, status_address};
 use bitflags::Flags;
 
 #[test]
@@ -38,4 +39,26 @@ fn each_byte_of_a_record_belongs_to_one_field(rt: HostRuntime) {
     };
     assert_same(&rt, SyncMan::read(&spelt), record);
     assert_same(&rt, record.write(), spelt);
+}
+
+#[test]
+fn constructors_spell_the_records_of_the_four_kinds(rt: HostRuntime) {
+    for (record, control) in [
+        (SyncMan::mailbox_from_master(0x1000, 0x40), 0x06),
+        (SyncMan::mailbox_to_master(0x1000, 0x40), 0x02),
+        (SyncMan::outputs(0x1000, 0x40), 0x04),
+        (SyncMan::inputs(0x1000, 0x40), 0x00),
+    ] {
+        let spelt = [0x00, 0x10, 0x40, 0x00, control, 0x00, 0x01, 0x00];
+        assert_eq!(rt; record.write(), spelt);
+        assert_eq!(rt; record.is_active(), true);
+    }
+}
+
+#[test]
+fn status_bytes_stand_in_their_records(rt: HostRuntime) {
+    assert_same(&rt, status_address(0), 0x0805);
+    assert_same(&rt, status_address(1), 0x080D);
+    assert_same(&rt, status_address(1), ANSWER_MAILBOX_STATUS);
+    assert_same(&rt, status_address(7), 0x083D);
 }

@@ -2,8 +2,8 @@
 
 ghost use Rattle.std.specs.Prelude.{◌≤◌};
 
-use crate::RingPorts;
 use ec_app::{Objects, Slave};
+use ec_master::RingPorts;
 use ec_regs::{AlState, SyncMan};
 use ec_ring::Ring;
 use std::alloc::Global;

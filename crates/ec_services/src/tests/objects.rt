@@ -1,10 +1,11 @@
 //! Objects of a slave on a ring.
 
+use crate::MasterFault;
 use crate::tests::assert_same;
 use crate::tests::line::{al, alone, slave};
 use crate::tests::peer::{download, peer, upload};
-use crate::{MasterFault, RingPorts};
 use ec_app::{Objects, Rights, Value};
+use ec_master::RingPorts;
 use ec_regs::AlState;
 use std::alloc::Global;
 use std::process::Abort;

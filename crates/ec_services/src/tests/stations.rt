@@ -2,7 +2,8 @@
 
 use crate::tests::assert_same;
 use crate::tests::line::{ring, station};
-use crate::{MasterFault, RingPorts, assign_stations};
+use crate::{MasterFault, assign_stations};
+use ec_master::RingPorts;
 
 /// The station addresses of the first three slaves.
 fn stations(ports: &RingPorts) -> [Option<u16>; 3] {

@@ -1,10 +1,10 @@
 use Rattle.std.proofs.Common.{◌≡◌, ◌+◌, ◌*◌, ◌<◌, ◌||◌, ℕ, Bool, length, drop, refl, sym, ◌∙◌, ap, subst}
 use Rattle.std.proofs.Common.{arith}
-use Rattle.ec_regs.proofs.BitLemmas.{AreBytes-with_bits}
+use Rattle.ec_regs.proofs.Laws.{AreBytes-with_bits}
+use Rattle.std.proofs.Math.Bool.{or-false, or-true}
 use Rattle.ec_areas.specs.Logical.{read_places, names}
 use Rattle.ec_areas.proofs.LogicalLemmas.{read_map_more, read_map_done, names_more_fmmu, names_no_fmmu}
 use Rattle.ec_areas.proofs.LogicalLemmas.{NamesPairs-read_map}
-use Rattle.ec_areas.proofs.NamesLemmas.{or_true, or_false}
 use Rattle.ec_areas.proofs.logical.read_mapped.Goals as goal
 use Rattle.ec_areas.proofs.logical.read_mapped.Goals.{then-read_through, else-read_through}
 
@@ -38,7 +38,7 @@ loop-fmmu-preserved c =
           ∙ c.loop-fmmu.invariant.bits;
       served = elim c.if-read_through.branch [
         | then-read_through w ↦
-            ap (λ b. b || behind) w.served-is ∙ sym (or_true c.loop-fmmu.served)
+            ap (λ b. b || behind) w.served-is ∙ sym (or-true c.loop-fmmu.served)
             ∙ ap (λ b. c.loop-fmmu.served || b) (sym (more ∙ ap (λ b. b || behind) w.if-read_through.true))
             ∙ c.loop-fmmu.invariant.served
         | else-read_through w ↦
@@ -59,7 +59,7 @@ pub returns-clause-served : goal.returns-clause-served
 returns-clause-served c =
     sym (ap (λ b. c.loop-fmmu.served || b) (names_no_fmmu c.args.managers.now c.args.fmmus.now
     c.loop-fmmu.fmmu-index (8 * c.args.address) (8 * length c.args.into.now) c.loop-fmmu-test.false)
-    ∙ or_false c.loop-fmmu.served)
+    ∙ or-false c.loop-fmmu.served)
     ∙ c.loop-fmmu.invariant.served
 
 pub returns-clause-pair : goal.returns-clause-pair

@@ -1,5 +1,5 @@
 use Rattle.std.proofs.Common.{◌+◌, ◌*◌, None, Some, length, sym, ◌∙◌, arith}
-use Rattle.ec_regs.proofs.BitLemmas.{with_bits_none, with_bits_same_places}
+use Rattle.ec_regs.proofs.Laws.{with_bits_none, with_bits_same_places}
 use Rattle.ec_areas.specs.Logical.{read_place}
 use Rattle.ec_areas.specs.Met.{readable_in}
 use Rattle.ec_areas.proofs.LogicalLemmas.{read_place_not_for_reading, read_place-run}

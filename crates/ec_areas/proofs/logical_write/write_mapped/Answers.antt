@@ -1,7 +1,7 @@
 use Rattle.std.proofs.Common.{◌≡◌, ◌+◌, ◌*◌, ◌<◌, ◌||◌, Bool, length, drop, sym, ◌∙◌, ap}
-use Rattle.ec_regs.proofs.BitLemmas.{AreBytes-with_bits}
+use Rattle.ec_regs.proofs.Laws.{AreBytes-with_bits}
+use Rattle.std.proofs.Math.Bool.{or-false, or-true}
 use Rattle.ec_areas.specs.Logical.{target_places, names}
-use Rattle.ec_areas.proofs.NamesLemmas.{or_true, or_false}
 use Rattle.ec_areas.proofs.WriteLemmas.{write_map_more, write_map_done, names_more_target, names_no_target}
 use Rattle.ec_areas.proofs.WriteLemmas.{NamesPairs-target_map, NamesPairs-write_map}
 use Rattle.ec_areas.proofs.logical_write.write_mapped.Goals as goal
@@ -30,7 +30,7 @@ loop-fmmu-preserved c =
           ∙ c.loop-fmmu.invariant.bits;
       served = elim c.if-write_through.branch [
         | then-write_through w ↦
-            ap (λ b. b || behind) w.served-is ∙ sym (or_true c.loop-fmmu.served)
+            ap (λ b. b || behind) w.served-is ∙ sym (or-true c.loop-fmmu.served)
             ∙ ap (λ b. c.loop-fmmu.served || b) (sym (more ∙ ap (λ b. b || behind) w.if-write_through.true))
             ∙ c.loop-fmmu.invariant.served
         | else-write_through w ↦
@@ -51,7 +51,7 @@ pub returns-clause-served : goal.returns-clause-served
 returns-clause-served c =
     sym (ap (λ b. c.loop-fmmu.served || b) (names_no_target c.args.managers.now c.args.fmmus.now
     c.loop-fmmu.fmmu-index (8 * c.args.address) (8 * length c.args.payload.now) c.loop-fmmu-test.false)
-    ∙ or_false c.loop-fmmu.served)
+    ∙ or-false c.loop-fmmu.served)
     ∙ c.loop-fmmu.invariant.served
 
 pub returns-clause-target : goal.returns-clause-target

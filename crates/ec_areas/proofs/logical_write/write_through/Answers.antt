@@ -1,7 +1,7 @@
 use Rattle.std.proofs.Common.{◌≡◌, ◌*◌, ◌/◌, ℕ, Bool, true, false, cond, Option, None, Some, length, sym}
 use Rattle.std.proofs.Common.{◌∙◌, refl}
+use Rattle.ec_regs.proofs.Laws.{with_bits_none, with_bits_same_places}
 use Rattle.ec_areas.specs.Areas.{is_writable}
-use Rattle.ec_regs.proofs.BitLemmas.{with_bits_none, with_bits_same_places}
 use Rattle.ec_areas.specs.Met.{target_in, writable_in}
 use Rattle.ec_areas.proofs.WriteLemmas.{targets, sources, targets_not_for_writing, sources_not_for_writing}
 use Rattle.ec_areas.proofs.WriteLemmas.{targets-run, sources-run}

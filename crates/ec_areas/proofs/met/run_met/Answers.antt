@@ -1,7 +1,7 @@
 use Rattle.std.proofs.Common.{◌≡◌, ◌+◌, ◌-◌, ◌*◌, sym, ◌∙◌, ap, arith}
 use Rattle.ec_regs.specs.Pairs.{partner, first_logical, first_physical, pair_count}
-use Rattle.ec_regs.proofs.PairLemmas.{partner_none}
-use Rattle.ec_areas.proofs.MetLemmas.{IsCut-ends, physical-cut, data-cut}
+use Rattle.ec_regs.proofs.Laws.{partner_none}
+use Rattle.ec_areas.proofs.RunMetLemmas.{IsCut-ends, physical-cut, data-cut}
 use Rattle.ec_areas.proofs.met.run_met.Goals as goal
 
 pub returns-then-end-start-clause-physical : goal.returns-then-end-start-clause-physical

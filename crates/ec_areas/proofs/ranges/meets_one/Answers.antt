@@ -6,5 +6,5 @@ use Rattle.ec_areas.proofs.ranges.meets_one.Goals as goal
 
 pub returns : goal.returns
 returns c =
-    let test = λ (s : SyncMan). meets s c.args.from c.args.count in
+    let test = λ (s : SyncMan). meets s c.args.range.first c.args.range.count in
     ap (λ (n : ℕ). eqb n 1) (c.areas_met.ensures ∙ sym (length-filter test c.args.managers.now))

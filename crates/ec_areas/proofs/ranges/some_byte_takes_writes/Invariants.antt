@@ -6,4 +6,4 @@ use Rattle.ec_areas.proofs.ranges.some_byte_takes_writes.Given as goal
 -- none of the bytes before takes a write
 abbrev pub invariant-loop-place : goal.invariant-loop-place
 invariant-loop-place l = (memory : List ℕ) → l.managers ≡ sync_managers_of memory
-    → some_address (takes_writes memory) l.from l.place ≡ false
+    → some_address (takes_writes memory) l.range.first l.place ≡ false

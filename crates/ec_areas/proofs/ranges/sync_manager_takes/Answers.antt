@@ -6,7 +6,7 @@ use Rattle.ec_areas.proofs.ranges.sync_manager_takes.Goals as goal
 
 pub returns-then-offset-lt-STATUS_OFFSET : goal.returns-then-offset-lt-STATUS_OFFSET
 returns-then-offset-lt-STATUS_OFFSET c memory managers_are =
-    let inside : is_in_sync_manager c.args.address ≡ true = sym c.within.ensures ∙ c.if-not-within.false in
+    let inside : is_in_sync_manager c.args.address ≡ true = sym c.contains.ensures ∙ c.if-not-contains.false in
     let base = c.from.ensures in
     let size = c.from-2.ensures in
     let before : (c.args.address - 2048) % 8 < 5 =

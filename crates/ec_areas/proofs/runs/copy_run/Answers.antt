@@ -1,5 +1,5 @@
 use Rattle.std.proofs.Common.{ℕ, ◌+◌, ◌-◌, List, length, get_or, ap, ◌∙◌, arith}
-use Rattle.ec_areas.proofs.RunLemmas.{copied_run, get_or-run}
+use Rattle.ec_regs.proofs.Laws.{copied_run, get_or-run}
 use Rattle.ec_areas.proofs.runs.copy_run.Goals as goal
 
 pub returns : goal.returns

@@ -1,6 +1,7 @@
 use Rattle.std.proofs.Common.{ℕ, ◌+◌, ◌-◌, length, get_or, ap, ◌∙◌, arith}
 use Rattle.std.specs.Prelude.{bit_or}
-use Rattle.ec_areas.proofs.RunLemmas.{merged_run, get_or-run}
+use Rattle.ec_regs.proofs.Laws.{get_or-run}
+use Rattle.ec_areas.proofs.RunLemmas.{merged_run}
 use Rattle.ec_areas.proofs.runs.merge_run.Goals as goal
 
 pub returns : goal.returns

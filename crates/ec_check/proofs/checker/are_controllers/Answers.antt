@@ -1,7 +1,7 @@
-use Rattle.std.proofs.Common.{◌≡◌, ◌<◌, ◌∙◌, ap, ℕ, arith, sym, subst, below_more}
-use Rattle.ec_esc.specs.State.{ControllerState, IsController}
-use Rattle.ec_check.specs.Line.{controllers, controller_of, no_controller}
-use Rattle.ec_check.proofs.FactLemmas.{each_from}
+use Rattle.std.proofs.Common.{◌∙◌, arith, sym, subst, below_more}
+use Rattle.std.proofs.lemmas.List.Elements.{All-from_get_or, recursion_from_All}
+use Rattle.ec_esc.specs.State.{IsController}
+use Rattle.ec_check.specs.Line.{controllers, no_controller}
 use Rattle.ec_check.proofs.LineLemmas.{controller_of-controllers, length-controllers}
 use Rattle.ec_check.proofs.checker.are_controllers.Goals as goal
 
@@ -19,6 +19,7 @@ loop-slave-preserved c =
 
 pub returns : goal.returns
 returns c =
-    each_from IsController (controllers c.args.line.now) no_controller
+    recursion_from_All IsController (controllers c.args.line.now)
+    (All-from_get_or IsController (controllers c.args.line.now) no_controller
     (λ i inside. c.loop-slave.invariant i
-    (omega (arith, inside, c.loop-slave-test.false, length-controllers c.args.line.now)))
+    (omega (arith, inside, c.loop-slave-test.false, length-controllers c.args.line.now))))

@@ -2,15 +2,16 @@ use Rattle.std.proofs.Common.{◌≡◌, ◌<◌, ℕ, List, length, get_or, sym
 use Rattle.std.proofs.lemmas.List.{length-set}
 use Rattle.ec_regs.specs.declared.fmmu.Fmmu.{Fmmu}
 use Rattle.ec_areas.specs.Records.{fmmu_at}
+use Rattle.ec_areas.proofs.Laws.{get_or-fmmus_of}
 use Rattle.ec_esc.proofs.PlannedLemmas.{renewed_none, renewed_more, renewed_kept, fmmus_renewed, fmmu_stays}
-use Rattle.ec_esc.proofs.PlannedLemmas.{fmmus_stay, get_or-fmmus_of}
+use Rattle.ec_esc.proofs.PlannedLemmas.{fmmus_stay}
 use Rattle.ec_esc.proofs.planned.renew_fmmus.Goals as goal
 use Rattle.ec_esc.proofs.planned.renew_fmmus.Goals.{then-meets, else-meets}
 
 pub returns-then-not-meets : goal.returns-then-not-meets
 returns-then-not-meets c before old_is changes =
     let length_is = changes.size in
-    old_is ∙ fmmus_stay before c.args.memory.now c.args.from c.args.count changes (omega (arith, c.requires))
+    old_is ∙ fmmus_stay before c.args.memory.now c.args.written.first c.args.written.count changes (omega (arith, c.requires))
     (sym c.meets.ensures ∙ c.if-not-meets.true)
 
 pub loop-number-init : goal.loop-number-init
@@ -39,8 +40,8 @@ loop-number-preserved c =
         renewed = λ before old_is changes.
             let length_is = changes.size in
             let stays : fmmu_at memory number ≡ fmmu_at before number =
-            fmmu_stays before memory c.args.from c.args.count number changes (omega (arith, c.requires)) below
-            (sym c.meets-in-loop-number.ensures ∙ w.if-meets.false) in
+            fmmu_stays before memory c.args.written.first c.args.written.count number changes (omega (arith, c.requires)) below
+            (sym (rw c.fmmu_record.ensures at c.meets-in-loop-number.ensures) ∙ w.if-meets.false) in
             renewed_kept number old fmmus (fmmu_at memory)
             (c.loop-number.invariant.renewed before old_is changes)
             (λ d. ap (λ (fs : List Fmmu). get_or fs number d) old_is

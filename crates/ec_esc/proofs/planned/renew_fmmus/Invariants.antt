@@ -9,6 +9,6 @@ abbrev pub invariant-loop-number : goal.invariant-loop-number
 invariant-loop-number l = record {
   size : length l.fmmus ≡ 8;
   renewed : (before : List ℕ) → l.initial.fmmus ≡ fmmus_of before
-      → ChangesWithin l.from l.count before l.memory
+      → ChangesWithin l.written.first l.written.count before l.memory
       → RenewedTo l.number l.initial.fmmus l.fmmus (fmmu_at l.memory);
 }

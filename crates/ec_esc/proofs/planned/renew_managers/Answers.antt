@@ -2,16 +2,16 @@ use Rattle.std.proofs.Common.{◌≡◌, ◌<◌, ℕ, List, length, get_or, sym
 use Rattle.std.proofs.lemmas.List.{length-set}
 use Rattle.ec_regs.specs.declared.sync_man.SyncMan.{SyncMan}
 use Rattle.ec_areas.specs.Records.{sync_manager_at}
+use Rattle.ec_areas.proofs.Laws.{get_or-sync_managers_of}
 use Rattle.ec_esc.proofs.PlannedLemmas.{renewed_none, renewed_more, renewed_kept, managers_renewed}
 use Rattle.ec_esc.proofs.PlannedLemmas.{manager_stays, managers_stay}
-use Rattle.ec_areas.proofs.RangeLemmas.{get_or-sync_managers_of}
 use Rattle.ec_esc.proofs.planned.renew_managers.Goals as goal
 use Rattle.ec_esc.proofs.planned.renew_managers.Goals.{then-meets, else-meets}
 
 pub returns-then-not-meets : goal.returns-then-not-meets
 returns-then-not-meets c before old_is changes =
     let length_is = changes.size in
-    old_is ∙ managers_stay before c.args.memory.now c.args.from c.args.count changes (omega
+    old_is ∙ managers_stay before c.args.memory.now c.args.written.first c.args.written.count changes (omega
     (arith, c.requires))
     (sym c.meets.ensures ∙ c.if-not-meets.true)
 
@@ -41,9 +41,9 @@ loop-number-preserved c =
         renewed = λ before old_is changes.
             let length_is = changes.size in
             let stays : sync_manager_at memory number ≡ sync_manager_at before number =
-            manager_stays before memory c.args.from c.args.count number changes (omega
+            manager_stays before memory c.args.written.first c.args.written.count number changes (omega
             (arith, c.requires)) below
-            (sym c.meets-in-loop-number.ensures ∙ w.if-meets.false) in
+            (sym (rw c.sync_manager_record.ensures at c.meets-in-loop-number.ensures) ∙ w.if-meets.false) in
             renewed_kept number old managers (sync_manager_at memory)
             (c.loop-number.invariant.renewed before old_is changes)
             (λ d. ap (λ (fs : List SyncMan). get_or fs number d) old_is

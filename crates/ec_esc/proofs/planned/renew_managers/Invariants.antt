@@ -9,6 +9,6 @@ abbrev pub invariant-loop-number : goal.invariant-loop-number
 invariant-loop-number l = record {
   size : length l.managers ≡ 8;
   renewed : (before : List ℕ) → l.initial.managers ≡ sync_managers_of before
-      → ChangesWithin l.from l.count before l.memory
+      → ChangesWithin l.written.first l.written.count before l.memory
       → RenewedTo l.number l.initial.managers l.managers (sync_manager_at l.memory);
 }

@@ -1,5 +1,5 @@
 use Rattle.std.proofs.Common.{sym, ◌∙◌}
-use Rattle.ec_areas.proofs.MeetLemmas.{active_place}
+use Rattle.ec_areas.proofs.Laws.{active_place}
 use Rattle.ec_esc.proofs.showing.hands_over.Goals as goal
 
 pub returns-then-not-is_active-2-clause-from : goal.returns-then-not-is_active-2-clause-from

@@ -6,7 +6,7 @@ use Rattle.ec_areas.specs.Records.{sync_managers_of}
 use Rattle.ec_regs.specs.SyncMan.{is_active}
 use Rattle.ec_regs.specs.declared.sync_man.SyncMan.{SyncMan}
 use Rattle.ec_esc.specs.Writing.{is_switched}
-use Rattle.ec_areas.specs.Ranges.{status_address}
+use Rattle.ec_regs.specs.SyncMan.{status_address}
 use Rattle.ec_esc.proofs.SettledLemmas.{settled_to, settled_none, settled_more, settled_skip, settled_all}
 use Rattle.ec_esc.proofs.SettledLemmas.{switched_by_records}
 use Rattle.ec_esc.proofs.writing.settle.Goals as goal

@@ -1,7 +1,7 @@
 use Rattle.std.proofs.Common.{◌≡◌, ℕ, ◌+◌, ◌<◌, length, get_or, set, refl, ◌∙◌, ap, arith, get_or-set_same}
 use Rattle.std.proofs.Common.{get_or-set_other, below_more}
+use Rattle.ec_regs.proofs.Laws.{copied_run, AreBytes-run}
 use Rattle.ec_areas.specs.Ranges.{takes_writes}
-use Rattle.ec_areas.proofs.RunLemmas.{copied_run, AreBytes-run}
 use Rattle.ec_esc.proofs.WrittenLemmas.{written_byte, written_none, written_more, written_length}
 use Rattle.ec_esc.proofs.WrittenLemmas.{written_run, written_waiting, among, among_behind}
 use Rattle.ec_esc.proofs.writing.swap_run.Goals as goal

@@ -3,7 +3,7 @@ use Rattle.ec_regs.specs.declared.registers.TheConstants.{STATION_ADDRESS}
 use Rattle.ec_esc.specs.State.{ControllerState}
 use Rattle.ec_esc.specs.State.{word_at}
 use Rattle.ec_check.specs.Line.{station_of}
-use Rattle.ec_check.proofs.LineLemmas.{controller_of-controllers, length-controllers}
+use Rattle.ec_check.proofs.Laws.{controller_of-controllers, length-controllers}
 use Rattle.ec_map.proofs.place.first_of_station.Goals as goal
 use Rattle.ec_map.proofs.place.first_of_station.Goals.{Then-station, Else-station}
 

@@ -2,7 +2,7 @@ use Rattle.std.proofs.Common.{◌≡◌, false, [], sym, ap, ◌∙◌, arith}
 use Rattle.std.proofs.lemmas.List.Sums.{sum_by_more}
 use Rattle.ec_esc.specs.State.{ControllerState}
 use Rattle.ec_check.specs.Line.{controllers, controller_of}
-use Rattle.ec_check.proofs.LineLemmas.{controller_of-controllers, length-controllers}
+use Rattle.ec_check.proofs.Laws.{controller_of-controllers, length-controllers}
 use Rattle.ec_map.specs.Share.{share}
 use Rattle.ec_map.proofs.shares.expected.Goals as goal
 

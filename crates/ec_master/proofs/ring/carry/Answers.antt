@@ -1,12 +1,12 @@
 -- Both copies are joined, and they are those of the trip.
 use Rattle.std.proofs.Common.{◌∙◌, ℕ, ap}
+use Rattle.ec_merge.proofs.Laws.{own_no_fault}
 use Rattle.ec_line.specs.Trip.{joined_of, passed}
-use Rattle.ec_merge.proofs.FrameLemmas.{own_no_fault}
 use Rattle.ec_ring.specs.Ring.{RingState, line_of}
 use Rattle.ec_ring.specs.Travel.{trip_of}
 use Rattle.ec_ring.specs.declared.weather.Weather.{Weather}
 use Rattle.ec_ring.specs.declared.weather.Came.{Came}
-use Rattle.ec_ring.proofs.RingLemmas.{length-controllers}
+use Rattle.ec_ring.proofs.Laws.{length-controllers}
 use Rattle.ec_master.proofs.CarryLemmas.{carried, ring_carried}
 use Rattle.ec_master.proofs.ring.carry.Goals as goal
 

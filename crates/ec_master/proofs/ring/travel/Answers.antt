@@ -4,14 +4,14 @@ use Rattle.std.proofs.Common.{slice_index_or}
 use Rattle.std.proofs.lemmas.List.{drop-drop}
 use Rattle.ec_wire.specs.Datagram.{DatagramRecord}
 use Rattle.ec_line.specs.Trip.{Trip, Passed, passed, joined_of}
-use Rattle.ec_ring.proofs.RingLemmas.{length-controllers}
 use Rattle.ec_ring.specs.Ring.{RingState, line_of, with_line}
 use Rattle.ec_ring.specs.Travel.{trip_of}
 use Rattle.ec_ring.specs.declared.links.Links.{Links}
 use Rattle.ec_ring.specs.declared.weather.Weather.{Weather}
+use Rattle.ec_ring.proofs.Laws.{length-controllers}
 use Rattle.ec_master.specs.Cut.{frame_at}
 use Rattle.ec_master.specs.Work.{with_answers_at}
-use Rattle.ec_master.specs.Travelled.{calm}
+use Rattle.ec_ring.specs.Weather.{calm}
 use Rattle.ec_master.proofs.TravelLemmas.{Finished, finished, finished-next, finished-none, finished-all}
 use Rattle.ec_master.proofs.TravelLemmas.{first_weather, weather_at}
 use Rattle.ec_master.proofs.TravelLemmas.{later_ring-start, later_ring-next, line-next}

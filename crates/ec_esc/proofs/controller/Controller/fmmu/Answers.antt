@@ -1,8 +1,8 @@
 use Rattle.std.proofs.Common.{List, get_or, ◌∙◌, ap}
 use Rattle.ec_regs.specs.declared.fmmu.Fmmu.{Fmmu}
 use Rattle.ec_areas.specs.Records.{fmmu_at}
+use Rattle.ec_areas.proofs.Laws.{get_or-fmmus_of}
 use Rattle.ec_esc.specs.State.{ControllerState}
-use Rattle.ec_esc.proofs.PlannedLemmas.{get_or-fmmus_of}
 use Rattle.ec_esc.proofs.controller.Controller.fmmu.Goals as goal
 
 pub returns : goal.returns

@@ -13,17 +13,17 @@ returns c =
     let d : DatagramRecord = nth rs k in
     let n = length d.payload in
     let e : Effect = record { reading = mapped_read s d.address n; writing = mapped_write 2 s d.address n } in
-    let filled = c.exchange_data-share.new.frame in
+    let filled = c.exchange_data-gain.new.frame in
     let filled_is : filled ≡ set rs k (record d { payload = with_bits d.payload s.memory e.reading.places }) =
-    c.exchange_data-share.ensures.frame
+    c.exchange_data-gain.ensures.frame
     ∙ ap (λ (p : List ℕ). set rs k (record d { payload = p })) (read_placed s d.address d.payload
     c.requires.arrives.payload) in
     let raised_is : c.add_to_counter.new.frame ≡ set filled k (record (nth filled k) {
       counter = counter_after (nth filled k) (e.reading.gain + e.writing.gain);
     }) = c.add_to_counter.ensures
     ∙ ap (λ (m : ℕ). set filled k (record (nth filled k) { counter = counter_after (nth filled k) m }))
-    c.exchange_data-share.ensures.share in
-    IsServed-both e s c.exchange_data-share.new.self rs filled c.add_to_counter.new.frame k c.requires.inside
+    c.exchange_data-gain.ensures.gain in
+    IsServed-both e s c.exchange_data-gain.new.self rs filled c.add_to_counter.new.frame k c.requires.inside
     filled_is raised_is
-    (c.exchange_data-share.ensures.state
+    (c.exchange_data-gain.ensures.state
     ∙ sym (read_by_mapped s (written_by e.writing d.payload s) d.address n))

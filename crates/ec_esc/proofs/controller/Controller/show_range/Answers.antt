@@ -11,7 +11,7 @@ pub returns : goal.returns
 returns c arrived before_is =
     let state = c.args.self.now in
     let after : List SyncMan = c.managers.result.now in
-    let test = is_written arrived c.args.from c.args.count in
+    let test = is_written arrived c.args.range.first c.args.range.count in
     let says : SaysOfLastBytes test after c.told_of_each-reached.result = λ i s here active.
     let found = c.told_of_each-reached.ensures i s here in
     let told = found.2 in

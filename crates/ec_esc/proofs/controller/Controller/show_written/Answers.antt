@@ -1,11 +1,11 @@
 use Rattle.std.proofs.Common.{◌≡◌, ◌≤◌, ◌+◌, ℕ, Bool, true, List, length, get_or, sym, ◌∙◌, ap, refl, arith}
+use Rattle.std.proofs.lemmas.Bool.{and_parts}
 use Rattle.ec_regs.specs.declared.sync_man.SyncMan.{SyncMan}
 use Rattle.ec_regs.specs.declared.registers.TheConstants.{PROCESS_MEMORY, MEMORY_SIZE}
 use Rattle.ec_regs.specs.SyncMan.{is_active}
 use Rattle.ec_esc.specs.State.{ControllerState, with_area_shown}
 use Rattle.ec_areas.specs.Showing.{SaysOfLastBytes}
 use Rattle.ec_esc.specs.Writing.{hands_over}
-use Rattle.ec_areas.proofs.LogicalLemmas.{both}
 use Rattle.ec_esc.proofs.ShowLemmas.{length-with_area_shown, hands_over_at, shown_after_more}
 use Rattle.ec_esc.proofs.ShowLemmas.{shown_after_skip, shown_after_done}
 use Rattle.ec_esc.proofs.controller.Controller.show_written.Goals as goal
@@ -40,7 +40,7 @@ loop-i-preserved c =
     elim c.if-hands_over.branch [
       | then-hands_over w ↦
           let area : SyncMan = get_or after i c.index-after-i.result in
-          let active : is_active area ≡ true = (both (is_active area) _ (sym c.hands_over.ensures.value
+          let active : is_active area ≡ true = (and_parts (is_active area) _ (sym c.hands_over.ensures.value
           ∙ w.if-hands_over.true)).0 in
           let starts : PROCESS_MEMORY ≤ area.start = c.hands_over.ensures.from w.if-hands_over.true in
           let ends : area.start + area.length ≤ MEMORY_SIZE = c.hands_over.ensures.to w.if-hands_over.true in

@@ -17,7 +17,7 @@ returns-clause-state c n =
     let payload : List ℕ = c.args.payload.now in
     let before_is = c.arrived_records-before.ensures.value in
     let count_is : length c.swap_run.new.payload ≡ length payload = omega arith in
-    c.finish_write.ensures came.memory before_is
+    rw c.range_of.ensures at (c.finish_write.ensures came.memory before_is)
     ∙ ap (λ (m : ℕ). range_state came c.arrived_records-before.result from m c.swap_run.new.memory) count_is
     ∙ ap (λ (ms : List SyncMan). range_state came ms from (length payload) c.swap_run.new.memory) before_is
     ∙ ap (range_state came (sync_managers_of came.memory) from (length payload)) c.swap_run.ensures.written

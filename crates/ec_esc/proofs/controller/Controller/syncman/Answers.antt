@@ -1,7 +1,7 @@
 use Rattle.std.proofs.Common.{List, get_or, ◌∙◌, ap}
 use Rattle.ec_regs.specs.declared.sync_man.SyncMan.{SyncMan}
 use Rattle.ec_areas.specs.Records.{sync_manager_at}
-use Rattle.ec_areas.proofs.RangeLemmas.{get_or-sync_managers_of}
+use Rattle.ec_areas.proofs.Laws.{get_or-sync_managers_of}
 use Rattle.ec_esc.specs.State.{ControllerState}
 use Rattle.ec_esc.proofs.controller.Controller.syncman.Goals as goal
 

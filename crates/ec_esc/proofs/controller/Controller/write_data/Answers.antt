@@ -2,7 +2,7 @@ use Rattle.std.proofs.Common.{◌≡◌, ◌+◌, ◌*◌, ℕ, List, length, sy
 use Rattle.ec_regs.specs.Bits.{AreBytes, with_bits}
 use Rattle.ec_regs.specs.declared.fmmu.Fmmu.{Fmmu}
 use Rattle.ec_regs.specs.declared.sync_man.SyncMan.{SyncMan}
-use Rattle.ec_regs.proofs.BitLemmas.{length-with_bits}
+use Rattle.ec_regs.proofs.Laws.{length-with_bits}
 use Rattle.ec_areas.specs.Logical.{write_map, names}
 use Rattle.ec_areas.specs.Records.{fmmus_of, sync_managers_of}
 use Rattle.ec_esc.specs.Pass.{mapped_write, written_by}

@@ -4,11 +4,11 @@ use Rattle.ec_wire.specs.Datagram.{DatagramRecord, nth}
 use Rattle.ec_esc.specs.Pass.{read_sources, serves_read, mapped_write, written_by}
 use Rattle.ec_esc.specs.State.{ControllerState}
 use Rattle.ec_esc.proofs.ExchangeLemmas.{read_after, serves_after}
-use Rattle.ec_esc.proofs.ServedLemmas.{mapped_state, written_mapped, mapped_as, serves_as, shares}
+use Rattle.ec_esc.proofs.ServedLemmas.{mapped_state, written_mapped, mapped_as, serves_as, gains_both}
 use Rattle.ec_esc.proofs.controller.Controller.write_then_read.Goals as goal
 
 -- the write is that of the datagram
-written_is : (c : goal.After-exchange_share) → c.write_data-is_written.new.self
+written_is : (c : goal.After-exchange_gain) → c.write_data-is_written.new.self
     ≡ written_by (mapped_write 2 c.args.self.now (nth c.args.frame.now c.args.k).address
     (length (nth c.args.frame.now c.args.k).payload)) (nth c.args.frame.now c.args.k).payload c.args.self.now
 written_is c =
@@ -17,7 +17,7 @@ written_is c =
     (c.write_data-is_written.ensures.state 2)
 
 -- it wrote through the FMMUs
-mapped_is : (c : goal.After-exchange_share) → c.write_data-is_written.new.self
+mapped_is : (c : goal.After-exchange_gain) → c.write_data-is_written.new.self
     ≡ mapped_state c.args.self.now (nth c.args.frame.now c.args.k).address
     (nth c.args.frame.now c.args.k).payload
 mapped_is c =
@@ -41,8 +41,8 @@ returns-clause-frame c =
 pub returns-clause-state : goal.returns-clause-state
 returns-clause-state c = written_is c
 
-pub returns-clause-share : goal.returns-clause-share
-returns-clause-share c =
+pub returns-clause-gain : goal.returns-clause-gain
+returns-clause-gain c =
     let s = c.args.self.now in
     let d : DatagramRecord = nth c.args.frame.now c.args.k in
     let fits = c.arrival.ensures.controller in
@@ -52,4 +52,4 @@ returns-clause-share c =
     ∙ serves_after s d.address d.payload fits.memory_size fits.memory in
     let written = serves_as s c.write_data-is_written.result c.address.result c.data.result.now d
     c.address.ensures c.data.ensures.value c.write_data-is_written.ensures.served in
-    c.exchange_share.ensures ∙ shares s d.address (length d.payload) _ _ read written
+    c.exchange_gain.ensures ∙ gains_both s d.address (length d.payload) _ _ read written

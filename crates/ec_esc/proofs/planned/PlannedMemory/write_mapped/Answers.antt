@@ -1,9 +1,9 @@
 use Rattle.std.proofs.Common.{◌≡◌, ◌*◌, List, ℕ, length, get_or, sym, ◌∙◌, ap, subst, arith}
 use Rattle.ec_regs.specs.Bits.{AreBytes}
 use Rattle.ec_regs.specs.declared.registers.TheConstants.{AL_STATUS, MEMORY_SIZE}
-use Rattle.ec_regs.proofs.BitLemmas.{length-with_bits}
+use Rattle.ec_regs.proofs.Laws.{length-with_bits}
 use Rattle.ec_areas.specs.Records.{fmmus_of, sync_managers_of}
-use Rattle.ec_areas.proofs.RecordLemmas.{fmmus_same, sync_managers_same}
+use Rattle.ec_areas.proofs.Laws.{fmmus_same, sync_managers_same}
 use Rattle.ec_esc.proofs.PlannedLemmas.{registers_stay, status_stays}
 use Rattle.ec_esc.proofs.planned.PlannedMemory.write_mapped.Goals as goal
 

@@ -1,7 +1,7 @@
 use Rattle.std.proofs.Common.{arith, sym, subst, below_more}
+use Rattle.std.proofs.lemmas.List.Elements.{All-from_get_or, recursion_from_All}
 use Rattle.std.proofs.lemmas.Option.{get_or_from_slice_get}
 use Rattle.ec_map.specs.Item.{IsItem}
-use Rattle.ec_map.proofs.LawLemmas.{AllByRecursion-each}
 use Rattle.ec_master.specs.Work.{no_item}
 use Rattle.ec_master.proofs.work.Work.are_items.Goals as goal
 
@@ -13,5 +13,6 @@ loop-k-preserved c =
 
 pub returns-clause-items : goal.returns-clause-items
 returns-clause-items c =
-    AllByRecursion-each IsItem c.args.self.now no_item
-    (λ i inside. c.loop-k.invariant i (omega (arith, inside, c.loop-k-test.false, c.len-k-end.ensures.count)))
+    recursion_from_All IsItem c.args.self.now (All-from_get_or IsItem c.args.self.now no_item
+    (λ i inside. c.loop-k.invariant i
+    (omega (arith, inside, c.loop-k-test.false, c.len-k-end.ensures.count))))

@@ -3,7 +3,7 @@ use Rattle.ec_wire.specs.Frame.{records_at}
 use Rattle.ec_wire.specs.Fault.{IsSpelt}
 use Rattle.ec_wire.proofs.SpellingLemmas.{Keeps-seen}
 use Rattle.ec_wire.proofs.ReadLemmas.{Keeps-outline, IsSpelt-outline}
-use Rattle.ec_wire.proofs.LawLemmas.{one_value, only_fault, one_fault, spelt_no_fault}
+use Rattle.ec_wire.proofs.LawLemmas.{one_value, one_fault, spelt_no_fault}
 use Rattle.ec_wire.proofs.frame.FrameBuf.refill.Goals as goal
 
 -- what is seen of the frame that is found

@@ -1,9 +1,0 @@
-use Rattle.ec_line.proofs.AcceptedLemmas.{after_pass}
-use Rattle.ec_line.proofs.StepLemmas.{step}
-use Rattle.ec_line.proofs.laws.one_pass.Goals as goal
-
-pub returns-clause-answered : goal.returns-clause-answered
-returns-clause-answered c = step
-
-pub returns-clause-left : goal.returns-clause-left
-returns-clause-left c = after_pass

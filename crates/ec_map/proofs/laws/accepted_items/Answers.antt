@@ -1,5 +1,0 @@
-use Rattle.ec_map.proofs.LawLemmas.{Accepts-IsPlaced}
-use Rattle.ec_map.proofs.laws.accepted_items.Goals as goal
-
-pub returns : goal.returns
-returns c = λ line r fit item placed. Accepts-IsPlaced line r fit item placed
