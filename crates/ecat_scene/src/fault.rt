@@ -1,5 +1,7 @@
 //! What can be wrong with a scene.
 
+ghost use Rattle.std.specs.Prelude.{◌≡◌};
+
 use std::alloc::{AllocError, AllocFailed};
 use thiserror::Error;
 
@@ -64,6 +66,10 @@ pub(crate) enum Stop {
 }
 
 impl From<LineFault> for Stop {
+    ghost use Rattle.ecat_scene.specs.declared.fault.Stop.TheVariants.{Fault};
+
+    ghost from_gives = { λ fault stop. stop ≡ Fault fault };
+
     fn from(fault: LineFault) -> Stop {
         Stop::Fault(fault)
     }

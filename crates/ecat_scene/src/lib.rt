@@ -20,7 +20,8 @@
 //!
 //! What is promised: any bytes are taken; `TooLong` comes exactly of more than 65,536 bytes; and what is
 //! answered is in the ranges that its types state, the numbers of FMMUs and sync managers below 8, and loaded
-//! bytes inside the process memory. Which fault a text has is tested.
+//! bytes inside the process memory. A line has text alone (`test_text`), and a record has each number as it
+//! is, or there is none (`fmmu_of`, `sync_man_of`). Which fault a text has is tested, also in `cases`.
 //!
 //! - `scene`: what a scene is; `fault`: what can be wrong with its text.
 //! - `reader`: the lines in their order; `slave_lines`, `work_lines`: what each of them says.

@@ -1,5 +1,7 @@
 //! Numbers and rows of bytes as a scene writes them.
-ghost use Rattle.std.specs.Prelude.{◌<◌, IfSome};
+
+ghost use Rattle.std.specs.Prelude.{◌≡◌, ◌<◌, ◌^◌, IfSome};
+ghost use Rattle.ecat_scene.specs.Fields.{fitting};
 
 use crate::fault::LineFault;
 use std::alloc::{AllocError, Global};
@@ -44,18 +46,36 @@ pub(crate) fn number(word: &[u8]) -> Result<u64, LineFault> {
 }
 
 /// The number as a byte.
-pub(crate) fn byte(number: u64) -> Result<u8, LineFault> {
-    u8::try_from(number).map_err(|_| LineFault::OutOfRange)
+pub(crate) fn byte(number: u64) -> Result<u8, LineFault>
+    ensures { result ≡ fitting (2 ^ 8) number }
+{
+    if number <= u64::from(u8::MAX) {
+        Ok(number as u8)
+    } else {
+        Err(LineFault::OutOfRange)
+    }
 }
 
 /// The number as 16 bits.
-pub(crate) fn word(number: u64) -> Result<u16, LineFault> {
-    u16::try_from(number).map_err(|_| LineFault::OutOfRange)
+pub(crate) fn word(number: u64) -> Result<u16, LineFault>
+    ensures { result ≡ fitting (2 ^ 16) number }
+{
+    if number <= u64::from(u16::MAX) {
+        Ok(number as u16)
+    } else {
+        Err(LineFault::OutOfRange)
+    }
 }
 
 /// The number as 32 bits.
-pub(crate) fn double_word(number: u64) -> Result<u32, LineFault> {
-    u32::try_from(number).map_err(|_| LineFault::OutOfRange)
+pub(crate) fn double_word(number: u64) -> Result<u32, LineFault>
+    ensures { result ≡ fitting (2 ^ 32) number }
+{
+    if number <= u64::from(u32::MAX) {
+        Ok(number as u32)
+    } else {
+        Err(LineFault::OutOfRange)
+    }
 }
 
 /// Tests that a word is an even, non-zero number of hexadecimal digits.

@@ -27,7 +27,7 @@ pub const MAX_WEATHERS: usize = 32;
 /// The record of one sync manager.
 #[derive(Debug, Drop)]
 pub struct SyncManSetting {
-    /// Its number, 0 to 7.
+    /// The number of the record, 0 to 7.
     pub index: usize,
     /// What it is set to.
     pub record: SyncMan,
@@ -37,7 +37,7 @@ pub struct SyncManSetting {
 /// The record of one FMMU.
 #[derive(Debug, Drop)]
 pub struct FmmuSetting {
-    /// Its number, 0 to 7.
+    /// The number of the record, 0 to 7.
     pub index: usize,
     /// What it is set to.
     pub record: Fmmu,
@@ -80,7 +80,7 @@ pub struct SceneSlave {
     /// What is set up in its controller, in the order of the lines; a later setting of the same sync
     /// manager or FMMU replaces the earlier.
     pub settings: Vec<Setting>,
-    /// Its objects, in the order of their lines.
+    /// The objects of the slave, in the order of their lines.
     pub objects: Objects,
 }
 

@@ -1,5 +1,8 @@
 //! The lines that describe a slave.
-ghost use Rattle.std.specs.Prelude.{◌≡◌, ◌<◌, IfOk};
+
+ghost use Rattle.std.specs.Prelude.{◌≡◌, ◌<◌, ◌^◌, vec_len, Err, IfOk, IsOk};
+ghost use Rattle.ecat_scene.specs.Fields.{active_fmmu, enabled_sync_man, fitting};
+ghost use Rattle.ecat_scene.specs.Order.{MissesSlave};
 
 use crate::fault::{LineFault, Stop};
 use crate::number::{byte, bytes, double_word, number, test_bytes, word};
@@ -14,6 +17,8 @@ use ec_regs::{AlState, Fmmu, FmmuType, SyncMan, SyncManControl};
 const MEMORY_END: usize = MEMORY_SIZE as usize;
 
 impl Reader {
+    ghost use Rattle.ecat_scene.specs.declared.fault.LineFault.TheVariants.{NoSlave};
+
     /// `slave STATION`
     pub(crate) fn slave(&mut self, words: &[&[u8]]) -> Result<(), Stop> {
         let [station] = words else {
@@ -36,7 +41,9 @@ impl Reader {
     }
 
     /// Tests that a slave was begun.
-    fn test_slave(&self) -> Result<(), LineFault> {
+    fn test_slave(&self) -> Result<(), LineFault>
+        ensures { vec_len self.now.scene.slaves ≡ 0 → result ≡ Err NoSlave }
+    {
         if self.scene.slaves.is_empty() {
             return Err(LineFault::NoSlave);
         }
@@ -52,7 +59,9 @@ impl Reader {
     }
 
     /// `state S`
-    pub(crate) fn state(&mut self, words: &[&[u8]]) -> Result<(), Stop> {
+    pub(crate) fn state(&mut self, words: &[&[u8]]) -> Result<(), Stop>
+        ensures { MissesSlave 1 words.now self.old.scene result }
+    {
         let [code] = words else {
             return Err(Stop::Fault(LineFault::WrongCount));
         };
@@ -66,7 +75,9 @@ impl Reader {
     }
 
     /// `areas OUT IN`
-    pub(crate) fn areas(&mut self, words: &[&[u8]]) -> Result<(), Stop> {
+    pub(crate) fn areas(&mut self, words: &[&[u8]]) -> Result<(), Stop>
+        ensures { MissesSlave 2 words.now self.old.scene result }
+    {
         let [outputs, inputs] = words else {
             return Err(Stop::Fault(LineFault::WrongCount));
         };
@@ -82,7 +93,9 @@ impl Reader {
     }
 
     /// `sm N START LENGTH KIND`
-    pub(crate) fn sync_manager(&mut self, words: &[&[u8]]) -> Result<(), Stop> {
+    pub(crate) fn sync_manager(&mut self, words: &[&[u8]]) -> Result<(), Stop>
+        ensures { MissesSlave 4 words.now self.old.scene result }
+    {
         let [index, start, length, kind] = words else {
             return Err(Stop::Fault(LineFault::WrongCount));
         };
@@ -92,21 +105,16 @@ impl Reader {
         let length = number(length)?;
         let control = control_of(kind)?;
         let index = index_of(index)?;
-        let record = SyncMan {
-            start: word(start)?,
-            length: word(length)?,
-            control: control.bits(),
-            status: 0,
-            activate: 1,
-            pdi: 0,
-        };
+        let record = sync_man_of(start, length, control.bits())?;
         let setting = Setting::SyncMan(SyncManSetting { index, record });
         self.last_slave()?.settings.push(setting)?;
         Ok(())
     }
 
     /// `fmmu N LOGICAL LENGTH START STOP PHYSICAL BIT TYPE`
-    pub(crate) fn fmmu(&mut self, words: &[&[u8]]) -> Result<(), Stop> {
+    pub(crate) fn fmmu(&mut self, words: &[&[u8]]) -> Result<(), Stop>
+        ensures { MissesSlave 8 words.now self.old.scene result }
+    {
         let [index, logical, length, start, stop, physical, bit, kind] = words else {
             return Err(Stop::Fault(LineFault::WrongCount));
         };
@@ -120,24 +128,16 @@ impl Reader {
         let bit = number(bit)?;
         let kind = type_of(kind)?;
         let index = index_of(index)?;
-        let record = Fmmu {
-            logical: double_word(logical)?,
-            length: word(length)?,
-            start: byte(start)?,
-            stop: byte(stop)?,
-            physical: word(physical)?,
-            bit: byte(bit)?,
-            kind: kind.bits(),
-            activate: 1,
-            reserved: [0; 3],
-        };
+        let record = fmmu_of(logical, length, start, stop, physical, bit, kind.bits())?;
         let setting = Setting::Fmmu(FmmuSetting { index, record });
         self.last_slave()?.settings.push(setting)?;
         Ok(())
     }
 
     /// `mem ADDRESS BYTES`
-    pub(crate) fn load(&mut self, words: &[&[u8]]) -> Result<(), Stop> {
+    pub(crate) fn load(&mut self, words: &[&[u8]]) -> Result<(), Stop>
+        ensures { MissesSlave 2 words.now self.old.scene result }
+    {
         let [address, row] = words else {
             return Err(Stop::Fault(LineFault::WrongCount));
         };
@@ -155,7 +155,9 @@ impl Reader {
     }
 
     /// `object INDEX SUB SIZE RIGHTS VALUE`
-    pub(crate) fn object(&mut self, words: &[&[u8]]) -> Result<(), Stop> {
+    pub(crate) fn object(&mut self, words: &[&[u8]]) -> Result<(), Stop>
+        ensures { MissesSlave 5 words.now self.old.scene result }
+    {
         let [index, sub, size, rights, value] = words else {
             return Err(Stop::Fault(LineFault::WrongCount));
         };
@@ -174,6 +176,49 @@ impl Reader {
             Err(ObjectFault::Twin) => Err(Stop::Fault(LineFault::Twin)),
         }
     }
+}
+
+/// The record of an enabled sync manager of these numbers.
+fn sync_man_of(start: u64, length: u64, control: u8) -> Result<SyncMan, LineFault>
+    ensures numbers { IfOk result (λ made. made ≡ enabled_sync_man start length control) }
+    ensures fits { start < 2 ^ 16 → length < 2 ^ 16 → IsOk result }
+{
+    Ok(SyncMan {
+        start: word(start)?,
+        length: word(length)?,
+        control,
+        status: 0,
+        activate: 1,
+        pdi: 0,
+    })
+}
+
+/// The record of an active FMMU of these numbers.
+fn fmmu_of(
+    logical: u64,
+    length: u64,
+    start: u64,
+    stop: u64,
+    physical: u64,
+    bit: u64,
+    kind: u8,
+) -> Result<Fmmu, LineFault>
+    ensures numbers { IfOk result (λ made.
+        made ≡ active_fmmu logical length start stop physical bit kind) }
+    ensures fits { logical < 2 ^ 32 → length < 2 ^ 16 → start < 2 ^ 8 → stop < 2 ^ 8 → physical < 2 ^ 16
+        → bit < 2 ^ 8 → IsOk result }
+{
+    Ok(Fmmu {
+        logical: double_word(logical)?,
+        length: word(length)?,
+        start: byte(start)?,
+        stop: byte(stop)?,
+        physical: word(physical)?,
+        bit: byte(bit)?,
+        kind,
+        activate: 1,
+        reserved: [0; 3],
+    })
 }
 
 /// What a sync manager of a kind may do.
@@ -199,7 +244,7 @@ fn type_of(kind: &[u8]) -> Result<FmmuType, LineFault> {
 
 /// The number of a sync manager or an FMMU, 0 to 7.
 fn index_of(number: u64) -> Result<usize, LineFault>
-    ensures { IfOk result (λ index. index < 8) }
+    ensures { result ≡ fitting 8 number }
 {
     if number < 8 {
         Ok(number as usize)

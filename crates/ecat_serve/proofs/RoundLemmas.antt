@@ -1,11 +1,10 @@
 -- One round after the other.
-use Rattle.std.proofs.Common.{◌≡◌, ℕ, zero, suc, ◌+◌, ◌-◌, ◌<◌, sym, subst, refl, arith, Result, Ok, Err}
-use Rattle.ec_master.specs.declared.ports.PortFault.{PortFault}
+use Rattle.std.proofs.Common.{◌≡◌, ℕ, suc, ◌+◌, ◌-◌, ◌<◌, sym, subst, refl, arith, Result, Ok, Err}
+use Rattle.ec_ring.specs.declared.port.PortFault.{PortFault}
 use Rattle.ecat_serve.specs.Ends.{Receives, Sends}
 use Rattle.ecat_serve.specs.Rounds.{IsRound, Serves, one_dropped_more, one_frame_more}
 use Rattle.ecat_serve.specs.State.{ServedState}
 use Rattle.ecat_serve.specs.declared.served.Counts.{Counts}
-use Rattle.ecat_serve.specs.declared.served.Round.{Round}
 use Rattle.ecat_serve.specs.declared.served.Round.TheVariants.{Frame, Dropped, Ended}
 
 -- nothing has come in yet

@@ -1,13 +1,13 @@
 -- What a packet gets back: a frame walks over the line from the end where it came in (IEC 61158-4-12, a
 -- slave's ports), and what arrives goes to whoever spoke last at the end where it arrives.
-use Rattle.std.specs.Prelude.{◌≡◌, ℕ, ◌==◌, ◌&&◌, not, is_none, List, Option, None, Some, map, length}
+use Rattle.std.specs.Prelude.{◌≡◌, ℕ, ◌==◌, ◌&&◌, not, is_none, List, Option, None, Some, length}
 use Rattle.std.specs.Prelude.{Result, Ok}
 use Rattle.std.specs.declared.net.socket_addr.SocketAddr.{SocketAddr}
 use Rattle.ec_wire.specs.Datagram.{DatagramRecord}
 use Rattle.ec_wire.specs.Spelling.{spelling}
-use Rattle.ec_master.specs.declared.ports.PortFault.{PortFault}
+use Rattle.ec_ring.specs.declared.port.PortFault.{PortFault}
 use Rattle.ec_ring.specs.Links.{is_up}
-use Rattle.ec_ring.specs.Ring.{RingState, line_of, stepped, with_line}
+use Rattle.ec_ring.specs.Ring.{line_of, stepped, with_line}
 use Rattle.ec_ring.specs.Walk.{walked}
 use Rattle.ec_ring.specs.declared.links.Links.{Links}
 use Rattle.ec_ring.specs.declared.port.Port.{Port}

@@ -1,9 +1,13 @@
 -- What the ends of a line are asked: which packets are received and which are sent, each told by the ends
--- before and behind.
-use Rattle.std.specs.Prelude.{List, ℕ, Option, Result, ⊤}
+-- before and behind; and where on this machine the ends lie.
+use Rattle.std.specs.Prelude.{◌≡◌, ◌+◌, List, [], ◌∷◌, ℕ, Option, Result, ⊤}
+use Rattle.std.specs.Net.Addr.{ipv4_octets}
+use Rattle.std.specs.Net.Socket.{v4_ip}
+use Rattle.std.specs.declared.net.socket_addr.SocketAddr.TheVariants.{V4, V6}
 use Rattle.std.specs.declared.net.socket_addr.SocketAddr.{SocketAddr}
-use Rattle.ec_master.specs.declared.ports.PortFault.{PortFault}
+use Rattle.ec_ring.specs.declared.port.PortFault.{PortFault}
 use Rattle.ec_ring.specs.declared.port.Port.{Port}
+use Rattle.ec_ring.specs.declared.port.Port.TheVariants.{A, B}
 use Rattle.ecat_serve.specs.declared.ends.Arrived.{Arrived}
 
 -- what a receive answers, and the bytes of its room behind it
@@ -21,3 +25,18 @@ any_receive before answer room later = ⊤
 
 abbrev pub any_send : {E : Type 0} → Sends E
 any_send before from to packet answer later = ⊤
+
+-- the end that is not this one
+abbrev pub other : Port → Port
+other A = B
+other B = A
+
+-- the port that an end of a line at this port asks the system for
+abbrev pub asked_port : Port → ℕ → ℕ
+asked_port A port = port
+asked_port B port = port + 1
+
+-- an address of this machine alone, 127.0.0.1
+abbrev pub IsOnLoopback : SocketAddr → Type 0
+IsOnLoopback (V4 address) = ipv4_octets (v4_ip address) ≡ 127 ∷ 0 ∷ 0 ∷ 1 ∷ []
+IsOnLoopback (V6 address) = ⊥

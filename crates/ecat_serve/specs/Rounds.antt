@@ -3,7 +3,7 @@ use Rattle.std.specs.Prelude.{◌≡◌, ◌⊎◌, ℕ, zero, suc, ◌+◌, Lis
 use Rattle.ec_wire.specs.Datagram.{DatagramRecord}
 use Rattle.ec_wire.specs.Fault.{IsSpelt}
 use Rattle.ec_wire.specs.declared.fault.Form.TheVariants.{Udp}
-use Rattle.ec_master.specs.declared.ports.PortFault.{PortFault}
+use Rattle.ec_ring.specs.declared.port.PortFault.{PortFault}
 use Rattle.ec_ring.specs.Ring.{stepped}
 use Rattle.ecat_serve.specs.Answering.{Arrival, Replies, Walks}
 use Rattle.ecat_serve.specs.Ends.{Receives, Sends}

@@ -4,8 +4,7 @@ ghost use Rattle.std.specs.Prelude.{◌≤◌, IfOk, IfSome};
 ghost use Rattle.ecat_serve.specs.Ends.{Receives, Sends};
 ghost use Rattle.ec_wire.specs.declared.frame.TheConstants.{PACKET_ROOM};
 
-use ec_master::PortFault;
-use ec_ring::Port;
+use ec_ring::{Port, PortFault};
 use ec_wire::PACKET_ROOM;
 use std::net::SocketAddr;
 

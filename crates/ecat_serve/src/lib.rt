@@ -5,7 +5,7 @@
 //! - `Served`: a ring to whose two ends anybody may speak. It keeps who spoke last at each end.
 //! - `Ends`: what the two ends are asked, a receive that waits at both and a send. It is a trait, so that
 //!   packets can also come from memory.
-//! - `UdpEnds`: two UDP sockets on 127.0.0.1, which end with standard input where they are given one.
+//! - `UdpEnds`: two UDP sockets on 127.0.0.1, which end with an input, as the standard one, if they get one.
 //!
 //! A packet that is a frame in the UDP form walks from the end where it came in, under the ring's own links;
 //! then each slave takes its step, and what arrives leaves from the end where it arrives, to whoever spoke
@@ -16,7 +16,7 @@
 //! One use, which the test `a_frame_gets_its_answer_and_rubbish_none` tries:
 //!
 //! ```text
-//! let mut ends = UdpEnds::bind(&rt, rt.alloc(), port, None)?;
+//! let mut ends = UdpEnds::<Stdin>::bind(&rt, rt.alloc(), port, None)?;
 //! let mut served = Served::new(ring);
 //! let counts = served.serve(&mut ends, 1)?;
 //! ```
@@ -28,6 +28,8 @@
 //! - rounds follow one another until so many packets have come, none is to come, or a call fails, and each
 //!   packet is counted once (`Served::serve`, `Serves`);
 //! - a service takes no memory: it is handed no allocator.
+//!
+//! and of `UdpEnds`: where the ends lie (`asked_address`), and which of two that wait is served next.
 //!
 //! Of the packets that come to a socket nothing is stated: they are up to the system.
 

@@ -9,8 +9,7 @@ ghost use Rattle.ecat_serve.specs.Rounds.{IsAnswered, IsDropped, IsRound, Serves
 ghost use Rattle.ecat_serve.specs.State.{peer_at, spoken};
 
 use crate::ends::{Arrived, Ends};
-use ec_master::PortFault;
-use ec_ring::{Links, Port, Ring, Travel};
+use ec_ring::{Links, Port, PortFault, Ring, Travel};
 use ec_wire::{Form, FrameBuf, PACKET_ROOM};
 use std::marker::Model;
 use std::net::SocketAddr;
@@ -29,9 +28,9 @@ pub enum Round {
 /// How many packets have come in.
 #[derive(Clone, Copy, PartialEq, Eq, Debug)]
 pub struct Counts {
-    /// Those that were frames.
+    /// How many packets were frames.
     pub frames: u64,
-    /// Those that were dropped, since they were none.
+    /// How many packets were dropped, since they were no frames.
     pub dropped: u64,
 }
 

@@ -1,21 +1,22 @@
 //! The ends of a line at the system's sockets.
 
-ghost use Rattle.std.specs.Prelude.{◌≡◌, ◌≤◌, ◌⊎◌, ◌↔◌, Err, IfOk, IfSome};
-ghost use Rattle.ecat_serve.specs.Ends.{any_receive, any_send};
+ghost use Rattle.std.specs.Prelude.{◌≡◌, ◌≤◌, ◌<◌, ◌⊎◌, ◌↔◌, Err, IfOk, IfErr, IfSome};
+ghost use Rattle.std.specs.Net.Socket.{socket_port};
+ghost use Rattle.ec_ring.specs.declared.port.Port.TheVariants.{A, B};
+ghost use Rattle.ecat_serve.specs.Ends.{any_receive, any_send, asked_port, other, IsOnLoopback};
 ghost use Rattle.ec_wire.specs.declared.frame.TheConstants.{PACKET_ROOM};
 
 use crate::ends::{Arrived, Ends};
-use ec_master::PortFault;
-use ec_ring::Port;
+use ec_ring::{Port, PortFault};
 use ec_wire::PACKET_ROOM;
 use mio::net::UdpSocket;
 use mio::unix::SourceFd;
-use mio::{Events, Interest, Poll, Token};
+use mio::{Events, Interest, Poll, Registry, Token};
 use std::alloc::Global;
 use std::io::{self, ErrorKind, Read};
-use std::net::{Ipv4Addr, Net, SocketAddr};
+use std::net::{IpAddr, Ipv4Addr, Net, SocketAddr};
 use std::os::fd::AsRawFd;
-use std::rt::Stdin;
+use std::time::Duration;
 
 /// The events of end A.
 const END_A: Token = Token(0);
@@ -43,6 +44,41 @@ pub enum BindFault {
     NoMemory,
 }
 
+/// The socket of an end.
+#[derive(Drop)]
+struct End {
+    at: Port,
+    socket: UdpSocket,
+}
+
+impl End {
+    /// Opens the socket of an end for a line at this port, and has the system tell where something comes.
+    fn open(net: &impl Net, registry: &Registry, at: Port, port: u16) -> io::Result<End>
+        requires { port < 65535 }
+        ensures { IfOk result (λ end. end.at ≡ at) }
+    {
+        let mut socket = UdpSocket::bind(net, asked_address(at, port))?;
+        registry.register(&mut socket, token_of(at), Interest::READABLE)?;
+        Ok(End { at, socket })
+    }
+
+    /// Receives a packet that waits there, if one does.
+    fn receive(&self, into: &mut [u8; PACKET_ROOM]) -> Result<Option<Arrived>, PortFault>
+        ensures room { IfOk result (λ found. IfSome found (λ arrived. arrived.count ≤ PACKET_ROOM)) }
+        ensures here { IfOk result (λ found. IfSome found (λ arrived. arrived.at ≡ self.now.at)) }
+    {
+        match self.socket.recv_from(into) {
+            Ok((count, from)) => Ok(Some(Arrived {
+                at: self.at,
+                from,
+                count,
+            })),
+            Err(fault) if may_try_again(&fault) => Ok(None),
+            Err(_) => Err(PortFault),
+        }
+    }
+}
+
 /// Two UDP sockets on 127.0.0.1, one at each end of a line.
 ///
 /// A receive waits until a packet is there, for as long as it takes. Where packets wait at both ends, the end
@@ -50,17 +86,19 @@ pub enum BindFault {
 /// Where there is an input, no more packets are to come once it has ended and no packet waits; what it brings
 /// is passed over. Each error of the system but "try again" is a fault.
 #[derive(Drop)]
-pub struct UdpEnds {
+pub struct UdpEnds<I: Read + AsRawFd + Drop> {
     poll: Poll,
     events: Events,
-    end_a: UdpSocket,
-    end_b: UdpSocket,
+    end_a: End,
+    end_b: End,
     next: Port,
-    input: Option<Stdin>,
+    input: Option<I>,
     ended: bool,
+    ghost at_a: { end_a.at ≡ A },
+    ghost at_b: { end_b.at ≡ B },
 }
 
-impl UdpEnds {
+impl<I: Read + AsRawFd + Drop> UdpEnds<I> {
     /// Opens end A on this port (that of EtherCAT is 34980) and end B on the next one. Whether a port is free
     /// is up to the system. With an input the service ends where that does. An input for which one can't
     /// wait, as a file, counts as one that has ended.
@@ -68,38 +106,30 @@ impl UdpEnds {
         net: &impl Net,
         alloc: Global,
         port: u16,
-        input: Option<Stdin>,
-    ) -> Result<UdpEnds, BindFault>
+        input: Option<I>,
+    ) -> Result<UdpEnds<I>, BindFault>
         ensures no_such_port { (result ≡ Err BindFault.NoSuchPort) ↔ ((port ≡ 0) ⊎ (port ≡ 65535)) }
     {
         if port == 0 || port == u16::MAX {
             return Err(BindFault::NoSuchPort);
         }
-        let Ok(events) = Events::with_capacity(alloc, MOST_EVENTS) else {
-            return Err(BindFault::NoMemory);
-        };
-        match UdpEnds::open(net, events, port, port + 1, input) {
+        let events = room_for_events(alloc)?;
+        match UdpEnds::open(net, events, port, input) {
             Ok(ends) => Ok(ends),
             Err(_) => Err(BindFault::NoSocket),
         }
     }
 
-    /// Opens the ends on these ports, and has the system tell where something comes.
-    fn open(
-        net: &impl Net,
-        events: Events,
-        port_a: u16,
-        port_b: u16,
-        input: Option<Stdin>,
-    ) -> io::Result<UdpEnds> {
+    /// Opens the ends for a line at this port, and has the system tell of the input.
+    fn open(net: &impl Net, events: Events, port: u16, input: Option<I>) -> io::Result<UdpEnds<I>>
+        requires { port < 65535 }
+    {
         let poll = Poll::new(net)?;
-        let mut end_a = UdpSocket::bind(net, on_loopback(port_a))?;
-        let mut end_b = UdpSocket::bind(net, on_loopback(port_b))?;
-        let registry = poll.registry();
-        registry.register(&mut end_a, END_A, Interest::READABLE)?;
-        registry.register(&mut end_b, END_B, Interest::READABLE)?;
+        let end_a = End::open(net, poll.registry(), Port::A, port)?;
+        let end_b = End::open(net, poll.registry(), Port::B, port)?;
         let ended = match &input {
-            Some(input) => registry
+            Some(input) => poll
+                .registry()
                 .register(&mut SourceFd(&input.as_raw_fd()), INPUT, Interest::READABLE)
                 .is_err(),
             None => false,
@@ -116,56 +146,51 @@ impl UdpEnds {
     }
 
     /// The socket of an end.
-    fn end(&self, at: Port) -> &UdpSocket {
+    fn end(&self, at: Port) -> &End
+        ensures { result.now.at ≡ at }
+    {
         match at {
             Port::A => &self.end_a,
             Port::B => &self.end_b,
         }
     }
 
-    /// Receives a packet that waits at an end, if one does.
-    fn receive_at(
-        &self,
-        at: Port,
-        into: &mut [u8; PACKET_ROOM],
-    ) -> Result<Option<Arrived>, PortFault>
-        ensures { IfOk result (λ found. IfSome found (λ arrived. arrived.count ≤ PACKET_ROOM)) }
-    {
-        match self.end(at).recv_from(into) {
-            Ok((count, from)) => Ok(Some(Arrived { at, from, count })),
-            Err(fault) if may_try_again(&fault) => Ok(None),
-            Err(_) => Err(PortFault),
-        }
+    /// Has the input ended?
+    pub(crate) fn has_ended(&self) -> bool {
+        self.ended
     }
 
-    /// Receives a packet that waits at either end, if one does.
+    /// Receives a packet that waits at either end, if one does. The end where it came in is the last one to
+    /// be asked the next time.
     fn receive_waiting(
         &mut self,
         into: &mut [u8; PACKET_ROOM],
     ) -> Result<Option<Arrived>, PortFault>
-        ensures { IfOk result (λ found. IfSome found (λ arrived. arrived.count ≤ PACKET_ROOM)) }
+        ensures room { IfOk result (λ found. IfSome found (λ arrived. arrived.count ≤ PACKET_ROOM)) }
+        ensures turns { IfOk result (λ found. IfSome found (λ arrived. self.new.next ≡ other arrived.at)) }
     {
         let first = self.next;
         let second = other(first);
         self.next = second;
-        match self.receive_at(first, into)? {
+        match self.end(first).receive(into)? {
             Some(arrived) => Ok(Some(arrived)),
             None => {
                 self.next = first;
-                self.receive_at(second, into)
+                self.end(second).receive(into)
             }
         }
     }
 
-    /// Waits until something comes at an end or from the input.
-    fn wait(&mut self) -> Result<(), PortFault> {
-        if self.poll.poll(&mut self.events, None).is_err() {
+    /// Waits until something comes at an end or from the input, so long at most where there is a limit.
+    /// The answer is whether anything came.
+    pub(crate) fn wait(&mut self, limit: Option<Duration>) -> Result<bool, PortFault> {
+        if self.poll.poll(&mut self.events, limit).is_err() {
             return Err(PortFault);
         }
         if self.has_input() {
             self.read_input()?;
         }
-        Ok(())
+        Ok(!self.events.is_empty())
     }
 
     /// Did something come from the input?
@@ -201,7 +226,7 @@ impl UdpEnds {
     }
 }
 
-impl Ends for UdpEnds {
+impl<I: Read + AsRawFd + Drop> Ends for UdpEnds<I> {
     ghost receives = { any_receive };
 
     ghost sends = { any_send };
@@ -211,36 +236,68 @@ impl Ends for UdpEnds {
             if let Some(arrived) = self.receive_waiting(into)? {
                 return Ok(Some(arrived));
             }
-            if self.ended {
+            if self.has_ended() {
                 return Ok(None);
             }
-            self.wait()?;
+            self.wait(None)?;
         }
         Ok(None)
     }
 
     fn send(&mut self, from: Port, to: SocketAddr, bytes: &[u8]) -> Result<(), PortFault> {
-        match self.end(from).send_to(bytes, to) {
+        match self.end(from).socket.send_to(bytes, to) {
             Ok(_) => Ok(()),
             Err(_) => Err(PortFault),
         }
     }
 }
 
-/// An address of this machine alone.
-fn on_loopback(port: u16) -> SocketAddr {
-    SocketAddr::from((Ipv4Addr::LOCALHOST, port))
+/// Room for the events that are taken at a time.
+fn room_for_events(alloc: Global) -> Result<Events, BindFault>
+    ensures { IfErr result (λ fault. fault ≡ BindFault.NoMemory) }
+{
+    Events::with_capacity(alloc, MOST_EVENTS).map_err(|_| BindFault::NoMemory)
+}
+
+/// The address that an end asks the system for: one of this machine alone.
+fn asked_address(at: Port, port: u16) -> SocketAddr
+    requires { port < 65535 }
+    ensures address { IsOnLoopback result }
+    ensures port { socket_port result ≡ asked_port at port }
+{
+    SocketAddr::new(IpAddr::V4(Ipv4Addr::LOCALHOST), asked_port(at, port))
+}
+
+/// The port that an end asks the system for.
+fn asked_port(at: Port, port: u16) -> u16
+    requires { port < 65535 }
+    ensures { result ≡ asked_port at port }
+{
+    match at {
+        Port::A => port,
+        Port::B => port + 1,
+    }
+}
+
+/// The events of an end.
+fn token_of(at: Port) -> Token {
+    match at {
+        Port::A => END_A,
+        Port::B => END_B,
+    }
 }
 
 /// The end that is not this one.
-fn other(end: Port) -> Port {
+fn other(end: Port) -> Port
+    ensures { result ≡ other end }
+{
     match end {
         Port::A => Port::B,
         Port::B => Port::A,
     }
 }
 
-/// Is it no failure, but that there is nothing yet?
+/// Does the error say that there is no packet yet?
 fn may_try_again(fault: &io::Error) -> bool {
     matches!(fault.kind(), ErrorKind::WouldBlock | ErrorKind::Interrupted)
 }

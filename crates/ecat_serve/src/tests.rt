@@ -5,3 +5,5 @@ mod line;
 mod memory;
 mod packets;
 mod real;
+mod speaking;
+mod waiting;

@@ -6,7 +6,7 @@ use Rattle.ec_ring.specs.Walk.{walked}
 use Rattle.ec_ring.specs.declared.port.Port.{Port}
 use Rattle.ec_ring.specs.declared.port.Port.TheVariants.{A, B}
 use Rattle.ec_ring.specs.declared.weather.Came.{Came}
-use Rattle.ec_master.specs.declared.ports.PortFault.{PortFault}
+use Rattle.ec_ring.specs.declared.port.PortFault.{PortFault}
 
 -- Of what comes back nothing is stated: what a socket gives is up to the system. So each trip is one that can
 -- be made.

@@ -40,6 +40,7 @@
 //! - a trip changes nothing of the ring but by the walks of at most one copy from port A and then at most one
 //!   from port B, so links stay and applications take no step;
 //! - a packet is a copy exactly where it is a frame in the UDP form;
+//! - the address of each socket of a `UdpLine` is 127.0.0.1, its port that of its name (`asked_address`);
 //! - a trip takes no memory: it is handed no allocator.
 //!
 //! Of the bytes that come, nothing is stated: they are up to the system (`specs/Trips.antt`).

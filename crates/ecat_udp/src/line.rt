@@ -10,13 +10,13 @@ use ec_wire::PACKET_ROOM;
 /// The sockets between which packets go: one at each port of the master, and one at each end of the line.
 #[derive(Clone, Copy, PartialEq, Eq, Debug)]
 pub enum Socket {
-    /// That of the master's port A.
+    /// The socket of the master's port A.
     MasterA,
-    /// That of the master's port B.
+    /// The socket of the master's port B.
     MasterB,
-    /// That of the line's end before the first slave.
+    /// The socket of the line's end before the first slave.
     LineA,
-    /// That of the line's end behind the last slave.
+    /// The socket of the line's end behind the last slave.
     LineB,
 }
 

@@ -1,17 +1,18 @@
 //! The system's sockets.
 
-ghost use Rattle.std.specs.Prelude.{◌≡◌, ◌≤◌, ◌<◌, ◌⊎◌, ◌↔◌, IfOk, IsErr, Err};
+ghost use Rattle.std.specs.Prelude.{◌≡◌, ◌*◌, ◌≤◌, ◌<◌, ◌⊎◌, ◌↔◌, IfOk, IsErr, Err};
+ghost use Rattle.std.specs.Duration.{as_nanos};
+ghost use Rattle.std.specs.Net.Socket.{socket_port};
+ghost use Rattle.ecat_udp.specs.Sockets.{asked_port, IsOnLoopback};
+ghost use Rattle.ecat_udp.specs.declared.line.Socket.TheVariants.{MasterA, MasterB, LineA, LineB};
 
 use crate::line::{PacketLine, Socket};
 use ec_master::PortFault;
 use ec_wire::PACKET_ROOM;
 use std::io;
 use std::io::ErrorKind;
-use std::net::{Ipv4Addr, Net, SocketAddr, UdpSocket};
+use std::net::{IpAddr, Ipv4Addr, Net, SocketAddr, UdpSocket};
 use std::time::Duration;
-
-/// How long a receive waits for a packet, in milliseconds.
-const PATIENCE: u64 = 50;
 
 /// Why a line of sockets could not be opened.
 #[derive(Clone, Copy, PartialEq, Eq, Debug)]
@@ -22,20 +23,28 @@ pub enum BindFault {
     NoSocket,
 }
 
-/// A socket and where it is reached.
+/// One of the four sockets, and where it is reached.
 #[derive(Drop)]
 struct End {
+    name: Socket,
     socket: UdpSocket,
     address: SocketAddr,
 }
 
 impl End {
-    /// Opens a socket on a port of 127.0.0.1, on any free one where that is 0.
-    fn open(net: &impl Net, port: u16) -> io::Result<End> {
-        let socket = UdpSocket::bind(net, SocketAddr::from((Ipv4Addr::LOCALHOST, port)))?;
-        socket.set_read_timeout(Some(Duration::from_millis(PATIENCE)))?;
+    /// Opens the socket of this name for a line at this port.
+    fn open(net: &impl Net, name: Socket, port: u16) -> io::Result<End>
+        requires { port < 65535 }
+        ensures { IfOk result (λ end. end.name ≡ name) }
+    {
+        let socket = UdpSocket::bind(net, asked_address(name, port))?;
+        socket.set_read_timeout(Some(patience()))?;
         let address = socket.local_addr()?;
-        Ok(End { socket, address })
+        Ok(End {
+            name,
+            socket,
+            address,
+        })
     }
 }
 
@@ -50,6 +59,10 @@ pub struct UdpLine {
     line_a: End,
     line_b: End,
     failures: u64,
+    ghost at_master_a: { master_a.name ≡ MasterA },
+    ghost at_master_b: { master_b.name ≡ MasterB },
+    ghost at_line_a: { line_a.name ≡ LineA },
+    ghost at_line_b: { line_b.name ≡ LineB },
 }
 
 impl UdpLine {
@@ -62,33 +75,46 @@ impl UdpLine {
         if port == 0 || port == u16::MAX {
             return Err(BindFault::NoSuchPort);
         }
-        match UdpLine::open(net, port, port + 1) {
+        match UdpLine::open(net, port) {
             Ok(line) => Ok(line),
             Err(_) => Err(BindFault::NoSocket),
         }
     }
 
-    /// Opens the line's ends on these ports, and the master's sockets.
-    fn open(net: &impl Net, port_a: u16, port_b: u16) -> io::Result<UdpLine>
+    /// Opens the line's ends at this port and the next one, and the master's sockets. The named ports come
+    /// first: where the system may choose, it may choose one of them.
+    fn open(net: &impl Net, port: u16) -> io::Result<UdpLine>
+        requires { port < 65535 }
         ensures { IfOk result (λ line. line.failures ≡ 0) }
     {
+        let line_a = End::open(net, Socket::LineA, port)?;
+        let line_b = End::open(net, Socket::LineB, port)?;
+        let master_a = End::open(net, Socket::MasterA, port)?;
+        let master_b = End::open(net, Socket::MasterB, port)?;
         Ok(UdpLine {
-            master_a: End::open(net, 0)?,
-            master_b: End::open(net, 0)?,
-            line_a: End::open(net, port_a)?,
-            line_b: End::open(net, port_b)?,
+            master_a,
+            master_b,
+            line_a,
+            line_b,
             failures: 0,
         })
     }
 
     /// The socket of this name.
-    fn end(&self, socket: Socket) -> &End {
-        match socket {
+    fn end(&self, name: Socket) -> &End
+        ensures { result.now.name ≡ name }
+    {
+        match name {
             Socket::MasterA => &self.master_a,
             Socket::MasterB => &self.master_b,
             Socket::LineA => &self.line_a,
             Socket::LineB => &self.line_b,
         }
+    }
+
+    /// What the system knows of the socket of this name.
+    pub(crate) fn socket(&self, name: Socket) -> &UdpSocket {
+        &self.end(name).socket
     }
 
     /// Counts a failure; at the greatest count there is none.
@@ -109,7 +135,7 @@ impl PacketLine for UdpLine {
 
     fn send(&mut self, from: Socket, to: Socket, bytes: &[u8]) -> Result<(), PortFault> {
         let address = self.end(to).address;
-        match self.end(from).socket.send_to(bytes, address) {
+        match self.socket(from).send_to(bytes, address) {
             Ok(_) => Ok(()),
             Err(_) => self.fail(),
         }
@@ -120,7 +146,7 @@ impl PacketLine for UdpLine {
         at: Socket,
         into: &mut [u8; PACKET_ROOM],
     ) -> Result<Option<usize>, PortFault> {
-        match self.end(at).socket.recv_from(into) {
+        match self.socket(at).recv_from(into) {
             Ok((count, _)) => Ok(Some(count)),
             Err(fault) => {
                 if fault.kind() != ErrorKind::WouldBlock {
@@ -133,5 +159,33 @@ impl PacketLine for UdpLine {
 
     fn failures(&self) -> u64 {
         self.failures
+    }
+}
+
+/// The address that a socket asks the system for: one of this machine alone, with the port of that name.
+fn asked_address(name: Socket, port: u16) -> SocketAddr
+    requires { port < 65535 }
+    ensures address { IsOnLoopback result }
+    ensures port { socket_port result ≡ asked_port name port }
+{
+    SocketAddr::new(IpAddr::V4(Ipv4Addr::LOCALHOST), asked_port(name, port))
+}
+
+/// How long a receive waits for a packet.
+fn patience() -> Duration
+    ensures { as_nanos result ≡ 50 * 1_000_000 }
+{
+    Duration::from_millis(50)
+}
+
+/// The port that a socket asks the system for; 0 asks for any free one.
+fn asked_port(name: Socket, port: u16) -> u16
+    requires { port < 65535 }
+    ensures { result ≡ asked_port name port }
+{
+    match name {
+        Socket::MasterA | Socket::MasterB => 0,
+        Socket::LineA => port,
+        Socket::LineB => port + 1,
     }
 }

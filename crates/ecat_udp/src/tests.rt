@@ -3,6 +3,7 @@
 mod exchange;
 mod faults;
 mod memory;
+mod outside;
 mod packets;
 mod real;
 

@@ -9,6 +9,15 @@ fn the_first_word_is_tested_before_all_others(rt: HostRuntime) {
     refused(&rt, b"slave \x7f x", 1, LineFault::NotText);
     refused(&rt, b"areas 1", 1, LineFault::WrongCount);
     refused(&rt, b"areas x y", 1, LineFault::NoSlave);
+    refused(&rt, b" # x", 1, LineFault::UnknownWord);
+}
+
+#[test]
+fn a_slave_is_missed_before_a_number_is_read(rt: HostRuntime) {
+    refused(&rt, b"state x", 1, LineFault::NoSlave);
+    refused(&rt, b"mem x 00", 1, LineFault::NoSlave);
+    let mapped = b"fmmu x 0 1 0 7 0x1000 0 read";
+    refused(&rt, mapped, 1, LineFault::NoSlave);
 }
 
 #[test]
@@ -26,6 +35,7 @@ fn each_form_is_tested_before_a_range(rt: HostRuntime) {
         2,
         LineFault::BadNumber,
     );
+    refused(&rt, b"slave 1\nobject 1 1 3 xx 0", 2, LineFault::BadNumber);
     refused(&rt, b"lrd 0x100000000 zz", 1, LineFault::BadNumber);
     refused(&rt, b"fpwr 65536 65536 abc", 1, LineFault::BadNumber);
 }

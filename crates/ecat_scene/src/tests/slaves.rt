@@ -18,14 +18,16 @@ fn a_line_may_have_256_slaves(rt: HostRuntime) {
 
 #[test]
 fn a_line_has_256_slaves_at_most(rt: HostRuntime) {
-    let mut text = [b'\n'; 8 * (MAX_SLAVES + 1)];
+    let mut text = [b'\n'; 8 * MAX_SLAVES + 11];
     for k in 0..MAX_SLAVES + 1 {
         text[8 * k..8 * k + 7].copy_from_slice(b"slave 1");
     }
     refused(&rt, &text, 257, LineFault::TooMany);
-    text[8 * MAX_SLAVES..].copy_from_slice(b"slave xy");
+    text[8 * MAX_SLAVES..].copy_from_slice(b"slave 6553x");
     refused(&rt, &text, 257, LineFault::BadNumber);
-    text[8 * MAX_SLAVES..].copy_from_slice(b"slave 1 ");
+    text[8 * MAX_SLAVES..].copy_from_slice(b"slave 65536");
+    refused(&rt, &text, 257, LineFault::OutOfRange);
+    text[8 * MAX_SLAVES..].copy_from_slice(b"slave 65535");
     refused(&rt, &text, 257, LineFault::TooMany);
 }
 

@@ -2,8 +2,7 @@
 
 use crate::tests::line::{ASKED, BY_BOTH, RUBBISH, served};
 use crate::tests::memory::{MemoryEnds, Packet};
-use ec_master::PortFault;
-use ec_ring::Port;
+use ec_ring::{Port, PortFault};
 
 /// Somebody at end A.
 const MASTER: Packet = Packet {

@@ -3,8 +3,7 @@
 ghost use Rattle.ecat_serve.specs.Ends.{any_receive, any_send};
 
 use crate::{Arrived, Ends};
-use ec_master::PortFault;
-use ec_ring::Port;
+use ec_ring::{Port, PortFault};
 use ec_wire::PACKET_ROOM;
 use std::net::{Ipv4Addr, SocketAddr};
 

@@ -1,12 +1,8 @@
 -- Each round goes before those that are left.
-use Rattle.std.proofs.Common.{◌≡◌, ◌+◌, ◌-◌, ◌≤◌, Ok, arith, subst, sym}
+use Rattle.std.proofs.Common.{◌≡◌, ◌-◌, arith}
 use Rattle.std.proofs.lemmas.Result.{err_from_is_err_and}
-use Rattle.ec_master.specs.declared.ports.PortFault.{PortFault}
-use Rattle.ecat_serve.specs.Rounds.{IsRound, one_dropped_more, one_frame_more}
-use Rattle.ecat_serve.specs.declared.served.Counts.{Counts}
-use Rattle.ecat_serve.specs.declared.served.Round.{Round}
-use Rattle.ecat_serve.specs.declared.served.Round.TheVariants.{Frame, Dropped, Ended}
-use Rattle.ecat_serve.proofs.RoundLemmas.{LeadsOn, leads_dropped, leads_ended, leads_fault, leads_frame}
+use Rattle.ec_ring.specs.declared.port.PortFault.{PortFault}
+use Rattle.ecat_serve.proofs.RoundLemmas.{leads_dropped, leads_ended, leads_fault, leads_frame}
 use Rattle.ecat_serve.proofs.RoundLemmas.{leads_first, leads_nowhere}
 use Rattle.ecat_serve.proofs.served.Served.serve.Goals as goal
 use Rattle.ecat_serve.proofs.served.Served.serve.Goals.{in-Frame, in-Dropped}

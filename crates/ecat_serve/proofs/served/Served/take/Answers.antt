@@ -1,5 +1,5 @@
 -- A frame is answered, and any other packet is dropped.
-use Rattle.std.proofs.Common.{◌≡◌, Ok, Err, inl, inr, refl, sym, List}
+use Rattle.std.proofs.Common.{◌≡◌, Ok, Err, inl, inr, refl, List}
 use Rattle.std.proofs.lemmas.Result.{err_from_is_err_and}
 use Rattle.ec_wire.specs.Datagram.{DatagramRecord}
 use Rattle.ecat_serve.proofs.served.Served.take.Goals as goal
