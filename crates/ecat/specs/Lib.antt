@@ -1,1 +1,9 @@
+pub mod Areas
 pub mod Commands
+pub mod Cycles
+pub mod Failures
+pub mod Objects
+pub mod Packets
+pub mod Rows
+pub mod Services
+pub mod Words

@@ -1,5 +1,8 @@
 //! The line of slaves that a scene describes, and the ring of them.
 
+ghost use Rattle.std.specs.Prelude.{◌≡◌};
+ghost use Rattle.ecat.specs.Failures.{unread};
+
 use crate::act::Failure;
 use ec_app::Slave;
 use ec_esc::Controller;
@@ -12,13 +15,22 @@ use std::alloc::Global;
 pub fn scene_of<S: Source>(alloc: Global, source: &mut S) -> Result<Scene, Failure> {
     let text = match read_all(alloc, source, MAX_TEXT) {
         Ok(text) => text,
-        Err(ReadAllFault::TooLong) => return Err(Failure::Scene(SceneFault::TooLong)),
-        Err(ReadAllFault::Read) => return Err(Failure::Read),
-        Err(ReadAllFault::NoMemory) => return Err(Failure::NoMemory),
+        Err(fault) => return Err(unread(fault)),
     };
     match Scene::read(alloc, text.as_slice()) {
         Ok(scene) => Ok(scene),
         Err(fault) => Err(Failure::Scene(fault)),
+    }
+}
+
+/// Why a source could not be read to its end.
+fn unread(fault: ReadAllFault) -> Failure
+    ensures { result ≡ unread fault }
+{
+    match fault {
+        ReadAllFault::TooLong => Failure::Scene(SceneFault::TooLong),
+        ReadAllFault::Read => Failure::Read,
+        ReadAllFault::NoMemory => Failure::NoMemory,
     }
 }
 

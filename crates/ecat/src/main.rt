@@ -23,12 +23,12 @@ use ecat_args::{Args, ArgsFault};
 use ecat_serve::{BindFault, UdpEnds};
 use ecat_source::{Bytes, Counted, Source};
 use ecat_udp::UdpLine;
-use serve::{Service, act_serve};
+use serve::{Service, act_serve, ring_to_serve};
 use std::net::Net;
 use std::process::ExitCode;
 use std::rt::{Env, Files, Stdin};
 use std::{env, fs, io};
-use udp::act_udp;
+use udp::{act_udp, prepare_udp};
 
 /// The words of the command line are no command.
 const BAD_ARGUMENTS: u8 = 2;
@@ -94,10 +94,7 @@ where
     };
     let mut source = Counted::new(file);
     match args {
-        Args::Udp { port, .. } => match UdpLine::bind(rt, *port) {
-            Ok(line) => act_udp(rt.alloc(), &mut source, line, out, err),
-            Err(_) => failed(err, b"socket: Bind\n"),
-        },
+        Args::Udp { port, .. } => udp_at(rt, *port, &mut source, out, err),
         Args::Serve { port, packets, .. } => {
             let service = Service {
                 port: *port,
@@ -109,8 +106,26 @@ where
     }
 }
 
-/// Opens the ends of a line and serves it. The service ends with the input where no number of packets ends
-/// it.
+/// Does the work of a scene over sockets, which are opened once it is known that there is work.
+fn udp_at<R, S, W, V>(rt: &R, port: u16, source: &mut S, out: &mut W, err: &mut V) -> u8
+where
+    R: Net + AllocGlobal,
+    S: Source,
+    W: io::Write,
+    V: io::Write,
+{
+    let prepared = match prepare_udp(rt.alloc(), source, out, err) {
+        Ok(prepared) => prepared,
+        Err(status) => return status,
+    };
+    match UdpLine::bind(rt, port) {
+        Ok(line) => act_udp(prepared, line, out, err),
+        Err(_) => failed(err, b"socket: Bind\n"),
+    }
+}
+
+/// Serves the line of a scene. Its ends are opened once it is known that there is one. The service ends with
+/// the input where no number of packets ends it.
 fn serve_at<R, S, W, V>(
     rt: &R,
     service: Service,
@@ -125,12 +140,16 @@ where
     W: io::Write,
     V: io::Write,
 {
+    let ring = match ring_to_serve(rt.alloc(), source, out, err) {
+        Ok(ring) => ring,
+        Err(status) => return status,
+    };
     let awaited = match service.packets {
         Some(_) => None,
         None => Some(input),
     };
     match UdpEnds::bind(rt, rt.alloc(), service.port, awaited) {
-        Ok(mut ends) => act_serve(rt.alloc(), source, service, &mut ends, out, err),
+        Ok(mut ends) => act_serve(ring, service, &mut ends, out, err),
         Err(BindFault::NoMemory) => failed(err, b"socket: NoMemory\n"),
         Err(_) => failed(err, b"socket: Bind\n"),
     }

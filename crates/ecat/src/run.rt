@@ -1,5 +1,8 @@
 //! `ecat run`: the actions of a scene, its cycle, and what its slaves show then.
 
+ghost use Rattle.std.specs.Prelude.{Some};
+ghost use Rattle.ecat.specs.Areas.{area_words};
+
 use crate::act::{Failure, GOOD, REFUSED};
 use crate::carry::carry;
 use crate::check::refuse;
@@ -12,10 +15,25 @@ use ec_ring::Ring;
 use ecat_scene::Action;
 use ecat_source::Source;
 use std::alloc::Global;
+use std::fmt;
 use std::io::{self, Write};
 
-/// How many sync managers a slave has.
-const SYNC_MANAGERS: usize = SYNC_MANAGER_COUNT as usize;
+/// The line of an area, as far as its bytes.
+#[derive(Drop)]
+struct AreaHead {
+    slave: usize,
+    manager: usize,
+}
+
+impl fmt::Display for AreaHead {
+    ghost output = { λ area. Some (area_words area) };
+
+    fn fmt<W: fmt::Write>(&self, f: &mut fmt::Formatter<W>) -> fmt::Result {
+        let slave = self.slave;
+        let manager = self.manager;
+        write!(f, "slave {slave} sm {manager} open ")
+    }
+}
 
 /// Runs the scene that the source holds: its frames and steps in their order; if it has items, one cycle of
 /// them, where the line as it then is and the items are accepted; then a line for each active buffered area
@@ -71,10 +89,13 @@ fn act_on<W: Write>(
 /// The line of each active buffered area of a slave that the master writes.
 fn areas<W: Write>(number: usize, slave: &Slave, lines: &mut Lines<'_, W>) -> io::Result<()> {
     let controller = slave.controller();
-    for index in 0..SYNC_MANAGERS {
+    for index in 0..SYNC_MANAGER_COUNT {
         let manager = controller.syncman(index);
         if manager.guards_outputs() {
-            lines.text(format_args!("slave {number} sm {index} open "))?;
+            lines.text(AreaHead {
+                slave: number,
+                manager: index,
+            })?;
             lines.hex(controller.bytes(manager.start, manager.length))?;
             lines.text(" shown ")?;
             lines.hex(controller.shown_bytes(manager.start, manager.length))?;

@@ -1,18 +1,21 @@
 //! `ecat sdo`: one object of a slave, read or written by mail.
 
-ghost use Rattle.std.specs.Prelude.{◌≡◌, IfSome};
+ghost use Rattle.std.specs.Prelude.{◌≡◌, IfSome, IfOk, Some};
 ghost use Rattle.ec_services.specs.Mailbox.{IsPeer};
+ghost use Rattle.ecat.specs.Objects.{fault_words, value_of, value_words};
 
 use crate::act::{Failure, GOOD, REFUSED};
 use crate::line::{ring_of, scene_of};
 use crate::print::Lines;
 use ec_app::roles::{ANSWER_MAILBOX, REQUEST_MAILBOX, is_answer_mailbox, is_request_mailbox};
 use ec_app::{Slave, Value};
+use ec_master::RingPorts;
 use ec_regs::SyncMan;
 use ec_ring::Ring;
-use ec_services::{Area, MasterFault, Peer, RingPorts, sdo_download, sdo_upload};
+use ec_services::{Area, MasterFault, Peer, sdo_download, sdo_upload};
 use ecat_source::Source;
 use std::alloc::Global;
+use std::fmt;
 use std::io::{self, Write};
 
 /// The most reads of the mailbox of answers.
@@ -43,14 +46,16 @@ pub fn sdo<S: Source, W: Write>(
     let ring = ring_of(alloc, scene.slaves, scene.links_down.as_slice())?;
     let mut lines = Lines::new(out);
     let status = match peer_at(ring.slaves(), asked.station) {
-        None => print_fault(&MasterFault::NoSlave, &mut lines)?,
+        None => print(FaultText(MasterFault::NoSlave), REFUSED, &mut lines)?,
         Some(peer) => transfer(ring, peer, asked, &mut lines)?,
     };
     Ok(status)
 }
 
 /// The value that the command line has.
-pub fn value_of(value: ecat_args::Value) -> Value {
+pub fn value_of(value: ecat_args::Value) -> Value
+    ensures { result ≡ value_of value }
+{
     match value {
         ecat_args::Value::One(number) => Value::One(number),
         ecat_args::Value::Two(number) => Value::Two(number),
@@ -110,48 +115,64 @@ fn transfer<W: Write>(
     let mut ports = RingPorts::new(ring);
     match asked.value {
         None => match sdo_upload(&mut ports, &mut peer, asked.index, asked.sub, LIMIT) {
-            Ok(value) => print_value(value, lines),
-            Err(fault) => print_fault(&fault, lines),
+            Ok(value) => print(ValueText(value), GOOD, lines),
+            Err(fault) => print(FaultText(fault), REFUSED, lines),
         },
         Some(value) => {
             match sdo_download(&mut ports, &mut peer, asked.index, asked.sub, value, LIMIT) {
-                Ok(()) => print_written(lines),
-                Err(fault) => print_fault(&fault, lines),
+                Ok(()) => print("written", GOOD, lines),
+                Err(fault) => print(FaultText(fault), REFUSED, lines),
             }
         }
     }
 }
 
-/// Prints a value, with two digits for each of its bytes.
-fn print_value<W: Write>(value: Value, lines: &mut Lines<'_, W>) -> io::Result<u8> {
-    match value {
-        Value::One(number) => lines.text(format_args!("value 0x{number:02x}"))?,
-        Value::Two(number) => lines.text(format_args!("value 0x{number:04x}"))?,
-        Value::Four(number) => lines.text(format_args!("value 0x{number:08x}"))?,
+/// A value as it is printed, with two digits for each of its bytes.
+#[derive(Drop)]
+struct ValueText(Value);
+
+impl fmt::Display for ValueText {
+    ghost output = { λ text. Some (value_words text.0) };
+
+    fn fmt<W: fmt::Write>(&self, f: &mut fmt::Formatter<W>) -> fmt::Result {
+        match self.0 {
+            Value::One(number) => write!(f, "value 0x{number:02x}"),
+            Value::Two(number) => write!(f, "value 0x{number:04x}"),
+            Value::Four(number) => write!(f, "value 0x{number:08x}"),
+        }
     }
-    lines.end()?;
-    Ok(GOOD)
 }
 
-/// Prints that the value was written.
-fn print_written<W: Write>(lines: &mut Lines<'_, W>) -> io::Result<u8> {
-    lines.text("written")?;
-    lines.end()?;
-    Ok(GOOD)
+/// Why there is no result, as it is printed.
+#[derive(Drop)]
+struct FaultText(MasterFault);
+
+impl fmt::Display for FaultText {
+    ghost output = { λ text. Some (fault_words text.0) };
+
+    fn fmt<W: fmt::Write>(&self, f: &mut fmt::Formatter<W>) -> fmt::Result {
+        match self.0 {
+            MasterFault::Abort(code) => write!(f, "abort 0x{code:08x}"),
+            MasterFault::NoSlave => write!(f, "fault NoSlave"),
+            MasterFault::Refused(_) => write!(f, "fault Refused"),
+            MasterFault::NoAnswer => write!(f, "fault NoAnswer"),
+            MasterFault::BadAnswer => write!(f, "fault BadAnswer"),
+            MasterFault::Broken => write!(f, "fault Broken"),
+            MasterFault::Port => write!(f, "fault Port"),
+            MasterFault::Stranger => write!(f, "fault Stranger"),
+        }
+    }
 }
 
-/// Prints why there is no result.
-fn print_fault<W: Write>(fault: &MasterFault, lines: &mut Lines<'_, W>) -> io::Result<u8> {
-    match fault {
-        MasterFault::Abort(code) => lines.text(format_args!("abort 0x{code:08x}"))?,
-        MasterFault::NoSlave => lines.text("fault NoSlave")?,
-        MasterFault::Refused(_) => lines.text("fault Refused")?,
-        MasterFault::NoAnswer => lines.text("fault NoAnswer")?,
-        MasterFault::BadAnswer => lines.text("fault BadAnswer")?,
-        MasterFault::Broken => lines.text("fault Broken")?,
-        MasterFault::Port => lines.text("fault Port")?,
-        MasterFault::Stranger => lines.text("fault Stranger")?,
-    }
+/// Prints a line, and answers the status that is handed to it.
+fn print<T: fmt::Display + Drop, W: Write>(
+    text: T,
+    status: u8,
+    lines: &mut Lines<'_, W>,
+) -> io::Result<u8>
+    ensures { IfOk result (λ answer. answer ≡ status) }
+{
+    lines.text(text)?;
     lines.end()?;
-    Ok(REFUSED)
+    Ok(status)
 }

@@ -1,13 +1,18 @@
 //! `ecat serve`: the line of a scene, for a master that somebody else wrote.
 
+ghost use Rattle.std.specs.Prelude.{Some};
+ghost use Rattle.ecat.specs.Services.{counts_words};
+
 use crate::act::{Failure, GOOD, report};
 use crate::line::{ring_of, scene_for_packets};
 use crate::print::Lines;
 use crate::run::print_areas;
 use ec_master::PortFault;
-use ecat_serve::{Counts, Ends, Served};
+use ec_ring::Ring;
+use ecat_serve::{Ends, Served};
 use ecat_source::Source;
 use std::alloc::Global;
+use std::fmt;
 use std::io::{self, Write};
 
 /// Where a line is served, and for how long.
@@ -25,44 +30,75 @@ impl From<PortFault> for Failure {
     }
 }
 
-/// Does `serve`, whose scene is open as `source` and whose line has these ends, and answers the exit status.
-pub fn act_serve<S, E, W, V>(
+/// How many packets have come in, as it is printed.
+#[derive(Drop)]
+struct CountsText {
+    packets: u64,
+    frames: u64,
+    dropped: u64,
+}
+
+impl fmt::Display for CountsText {
+    ghost output = { λ counts. Some (counts_words counts) };
+
+    fn fmt<W: fmt::Write>(&self, f: &mut fmt::Formatter<W>) -> fmt::Result {
+        let packets = self.packets;
+        let frames = self.frames;
+        let dropped = self.dropped;
+        write!(f, "packets {packets} frames {frames} dropped {dropped}")
+    }
+}
+
+/// The ring of the scene that the source holds, which has no actions and no weathers; its items are a
+/// master's, and are passed over. Where there is none, reports why and answers the exit status.
+pub fn ring_to_serve<S, W, V>(
     alloc: Global,
     source: &mut S,
+    out: &mut W,
+    err: &mut V,
+) -> Result<Ring, u8>
+where
+    S: Source,
+    W: Write,
+    V: Write,
+{
+    match served_ring(alloc, source) {
+        Ok(ring) => Ok(ring),
+        Err(failure) => Err(report(&failure, out, err)),
+    }
+}
+
+fn served_ring<S: Source>(alloc: Global, source: &mut S) -> Result<Ring, Failure> {
+    let scene = scene_for_packets(alloc, source)?;
+    ring_of(alloc, scene.slaves, scene.links_down.as_slice())
+}
+
+/// Serves a ring, whose line has these ends, and answers the exit status. It takes no memory.
+pub fn act_serve<E, W, V>(
+    ring: Ring,
     service: Service,
     ends: &mut E,
     out: &mut W,
     err: &mut V,
 ) -> u8
 where
-    S: Source,
     E: Ends,
     W: Write,
     V: Write,
 {
-    match serve(alloc, source, service, ends, out) {
+    match serve(ring, service, ends, out) {
         Ok(status) => status,
         Err(failure) => report(&failure, out, err),
     }
 }
 
-/// Serves the line of the scene that the source holds, which has no actions and no weathers; its items are a
-/// master's, and are passed over. Prints where it serves, and at the end how many packets came and a line for
-/// each active buffered area that the master writes. All memory is taken before anything is printed.
-fn serve<S, E, W>(
-    alloc: Global,
-    source: &mut S,
-    service: Service,
-    ends: &mut E,
-    out: &mut W,
-) -> Result<u8, Failure>
+/// Prints where the line is served, and at the end how many packets came and a line for each active buffered
+/// area that the master writes.
+fn serve<E, W>(ring: Ring, service: Service, ends: &mut E, out: &mut W) -> Result<u8, Failure>
 where
-    S: Source,
     E: Ends,
     W: Write,
 {
-    let scene = scene_for_packets(alloc, source)?;
-    let ring = ring_of(alloc, scene.slaves, scene.links_down.as_slice())?;
     let mut served = Served::new(ring);
     let mut lines = Lines::new(out);
     print_where(service.port, &mut lines)?;
@@ -71,7 +107,12 @@ where
         None => u64::MAX,
     };
     let counts = served.serve(ends, most)?;
-    print_counts(&counts, &mut lines)?;
+    lines.text(CountsText {
+        packets: counts.packets(),
+        frames: counts.frames,
+        dropped: counts.dropped,
+    })?;
+    lines.end()?;
     print_areas(served.ring().slaves(), &mut lines)?;
     Ok(GOOD)
 }
@@ -80,14 +121,5 @@ where
 fn print_where<W: Write>(port: u16, lines: &mut Lines<'_, W>) -> io::Result<()> {
     let next = u32::from(port) + 1;
     lines.text(format_args!("serving A 127.0.0.1:{port} B 127.0.0.1:{next}"))?;
-    lines.end()
-}
-
-/// Prints how many packets have come in.
-fn print_counts<W: Write>(counts: &Counts, lines: &mut Lines<'_, W>) -> io::Result<()> {
-    let packets = counts.packets();
-    let frames = counts.frames;
-    let dropped = counts.dropped;
-    lines.text(format_args!("packets {packets} frames {frames} dropped {dropped}"))?;
     lines.end()
 }

@@ -1,9 +1,11 @@
 //! `ecat show`: the frames of a capture.
-ghost use Rattle.std.specs.Prelude.{◌<◌, length};
+ghost use Rattle.std.specs.Prelude.{◌≡◌, ◌<◌, Some, length};
+ghost use Rattle.ec_wire.specs.Datagram.{nth};
+ghost use Rattle.ecat.specs.Packets.{datagram_words, head_of, kind_words, wire_fault_words};
 
 use crate::act::{Failure, GOOD, REFUSED};
 use crate::print::Lines;
-use ec_wire::{Addressing, FaultKind, Form, FrameBuf};
+use ec_wire::{Addressing, Command, FaultKind, Form, FrameBuf, WireFault, ado_of, adp_of};
 use ecat_source::{Pcap, Source};
 use std::alloc::Global;
 use std::fmt;
@@ -59,9 +61,8 @@ fn packet_lines<W: Write>(number: u64, bytes: &[u8], lines: &mut Lines<'_, W>) -
             Ok(true)
         }
         Err(fault) => {
-            let kind = Kind(fault.kind);
-            let at = fault.at;
-            lines.text(format_args!("fault {kind} at {at}\n"))?;
+            lines.text(FaultText(fault))?;
+            lines.line()?;
             Ok(false)
         }
     }
@@ -81,22 +82,8 @@ fn frame_lines<W: Write>(frame: &FrameBuf, lines: &mut Lines<'_, W>) -> io::Resu
 fn datagram_line<W: Write>(frame: &FrameBuf, k: usize, lines: &mut Lines<'_, W>) -> io::Result<()>
     requires { k < length frame.now }
 {
-    let name = frame.command(k).name();
-    let index = frame.index(k);
-    let address = frame.address(k);
     let data = frame.data(k);
-    let length = data.len();
-    let irq = frame.irq(k);
-    let counter = frame.counter(k);
-    lines.text(format_args!("  {name} index {index} "))?;
-    if frame.command(k).addressing() == Addressing::Logical {
-        lines.text(format_args!("log {address:08x}"))?;
-    } else {
-        let adp = frame.adp(k);
-        let ado = frame.ado(k);
-        lines.text(format_args!("adp {adp:04x} ado {ado:04x}"))?;
-    }
-    lines.text(format_args!(" length {length} irq {irq:04x} counter {counter} data "))?;
+    lines.text(head_of(frame, k))?;
     if data.is_empty() {
         lines.bytes(b"-")?;
     }
@@ -107,11 +94,85 @@ fn datagram_line<W: Write>(frame: &FrameBuf, k: usize, lines: &mut Lines<'_, W>)
     lines.line()
 }
 
+/// The line of a datagram, as far as its data.
+#[derive(Drop)]
+struct DatagramHead {
+    command: Command,
+    index: u8,
+    address: u32,
+    length: usize,
+    irq: u16,
+    counter: u16,
+}
+
+/// What the line of a datagram tells before its data.
+fn head_of(frame: &FrameBuf, k: usize) -> DatagramHead
+    requires { k < length frame.now }
+    ensures { result ≡ head_of (nth frame.now k) }
+{
+    DatagramHead {
+        command: frame.command(k),
+        index: frame.index(k),
+        address: frame.address(k),
+        length: frame.data(k).len(),
+        irq: frame.irq(k),
+        counter: frame.counter(k),
+    }
+}
+
+impl fmt::Display for DatagramHead {
+    ghost output = { λ head. Some (datagram_words head) };
+
+    fn fmt<W: fmt::Write>(&self, f: &mut fmt::Formatter<W>) -> fmt::Result {
+        let name = self.command.name();
+        let index = self.index;
+        let address = self.address;
+        let length = self.length;
+        let irq = self.irq;
+        let counter = self.counter;
+        match self.command.addressing() {
+            Addressing::Logical => write!(
+                f,
+                "  {name} index {index} log {address:08x} \
+                length {length} irq {irq:04x} counter {counter} data "
+            ),
+            Addressing::Nobody
+            | Addressing::AutoIncrement
+            | Addressing::ConfiguredStation
+            | Addressing::All => {
+                let adp = adp_of(address);
+                let ado = ado_of(address);
+                write!(
+                    f,
+                    "  {name} index {index} adp {adp:04x} ado {ado:04x} \
+                    length {length} irq {irq:04x} counter {counter} data "
+                )
+            }
+        }
+    }
+}
+
+/// A fault and where it is, as it is printed.
+#[derive(Drop)]
+struct FaultText(WireFault);
+
+impl fmt::Display for FaultText {
+    ghost output = { λ text. Some (wire_fault_words text.0) };
+
+    fn fmt<W: fmt::Write>(&self, f: &mut fmt::Formatter<W>) -> fmt::Result {
+        let kind = Kind(self.0.kind);
+        let at = self.0.at;
+        write!(f, "fault {kind} at {at}")
+    }
+}
+
 /// The kind of a fault by its name.
 #[derive(Drop)]
 struct Kind(FaultKind);
 
 impl fmt::Display for Kind {
+    ghost output = { λ kind. Some (kind_words kind.0) };
+
     fn fmt<W: fmt::Write>(&self, f: &mut fmt::Formatter<W>) -> fmt::Result {
         f.write_str(match self.0 {
             FaultKind::Short => "Short",

@@ -8,7 +8,9 @@ use crate::cycle::{all_expected, print_items, print_verdict, work_of};
 use crate::line::{ring_of, scene_for_packets};
 use crate::print::Lines;
 use crate::run::print_areas;
+use ec_map::Item;
 use ec_master::{CycleFault, Work, run_cycle};
+use ec_ring::Ring;
 use ecat_source::Source;
 use ecat_udp::{PacketLine, UdpPorts};
 use std::alloc::Global;
@@ -23,39 +25,75 @@ impl From<CycleFault> for Failure {
     }
 }
 
-/// Does `udp`, whose scene is open as `source` and whose packets `line` carries, and answers the exit status.
-pub fn act_udp<S, L, W, V>(alloc: Global, source: &mut S, line: L, out: &mut W, err: &mut V) -> u8
+/// What `udp` does once its sockets are open: the ring of a scene and its items, which are accepted.
+#[derive(Drop)]
+pub struct Prepared {
+    ring: Ring,
+    items: Vec<Item>,
+}
+
+/// Reads and checks the scene that the source holds, before any socket is opened. Where nothing is to be
+/// done, reports why and answers the exit status.
+pub fn prepare_udp<S, W, V>(
+    alloc: Global,
+    source: &mut S,
+    out: &mut W,
+    err: &mut V,
+) -> Result<Prepared, u8>
 where
     S: Source,
+    W: Write,
+    V: Write,
+{
+    match checked(alloc, source, out) {
+        Ok(Some(prepared)) => Ok(prepared),
+        Ok(None) => Err(REFUSED),
+        Err(failure) => Err(report(&failure, out, err)),
+    }
+}
+
+/// The ring and the items of the scene that the source holds, which has no actions and no weathers. If it has
+/// items, the line and the items are checked, and where they are refused it is printed why.
+fn checked<S: Source, W: Write>(
+    alloc: Global,
+    source: &mut S,
+    out: &mut W,
+) -> Result<Option<Prepared>, Failure> {
+    let scene = scene_for_packets(alloc, source)?;
+    let ring = ring_of(alloc, scene.slaves, scene.links_down.as_slice())?;
+    let items = scene.items;
+    if !items.is_empty() && refuse(ring.slaves(), items.as_slice(), &mut Lines::new(out))? {
+        return Ok(None);
+    }
+    Ok(Some(Prepared { ring, items }))
+}
+
+/// Does `udp`, whose packets `line` carries, and answers the exit status. It takes no memory.
+pub fn act_udp<L, W, V>(prepared: Prepared, line: L, out: &mut W, err: &mut V) -> u8
+where
     L: PacketLine + Drop,
     W: Write,
     V: Write,
 {
-    match udp(alloc, source, line, out) {
+    match udp(prepared, line, out) {
         Ok(status) => status,
         Err(failure) => report(&failure, out, err),
     }
 }
 
-/// Runs the scene that the source holds, which has no actions and no weathers: if it has items, one cycle of
-/// them over the packets, where the line and the items are accepted; then a line for each active buffered
-/// area that the master writes. All memory is taken before anything is printed.
-fn udp<S, L, W>(alloc: Global, source: &mut S, line: L, out: &mut W) -> Result<u8, Failure>
+/// If there are items, one cycle of them over the packets; then a line for each active buffered area that the
+/// master writes.
+fn udp<L, W>(prepared: Prepared, line: L, out: &mut W) -> Result<u8, Failure>
 where
-    S: Source,
     L: PacketLine + Drop,
     W: Write,
 {
-    let scene = scene_for_packets(alloc, source)?;
-    let ring = ring_of(alloc, scene.slaves, scene.links_down.as_slice())?;
+    let Prepared { ring, items } = prepared;
     let mut ports = UdpPorts::new(ring, line);
     let mut lines = Lines::new(out);
     let mut status = GOOD;
-    if !scene.items.is_empty() {
-        if refuse(ports.ring().slaves(), scene.items.as_slice(), &mut lines)? {
-            return Ok(REFUSED);
-        }
-        let mut work = work_of(scene.items)?;
+    if !items.is_empty() {
+        let mut work = work_of(items)?;
         status = cycle(&mut ports, &mut work, &mut lines)?;
     }
     print_areas(ports.ring().slaves(), &mut lines)?;

@@ -1,5 +1,9 @@
 //! `ecat vectors`: the worked rows, really run.
 
+ghost use Rattle.std.specs.Prelude.{◌≡◌, Some};
+ghost use Rattle.std.specs.List.{list_all};
+ghost use Rattle.ecat.specs.Rows.{row_words, rows_status};
+
 use crate::act::{Failure, GOOD, REFUSED};
 use crate::cycle_rows::{
     a_lost_copy_still_counts, gaps_are_short, no_slave_is_good, passing_twice_is_over,
@@ -22,6 +26,7 @@ use crate::slave_rows::{
     states_are_refused_with_their_codes,
 };
 use std::alloc::Global;
+use std::fmt;
 use std::io::Write;
 
 /// Runs all rows and prints a line for each.
@@ -57,16 +62,48 @@ pub fn vectors<W: Write>(alloc: Global, out: &mut W) -> Result<u8, Failure> {
     print_rows(&rows, &mut Lines::new(out))
 }
 
-/// Prints a line for each row, by its number, and answers the status.
-fn print_rows<W: Write>(rows: &[(u32, bool)], lines: &mut Lines<'_, W>) -> Result<u8, Failure> {
-    let mut status = GOOD;
-    for (number, good) in rows {
-        let word = if *good { "ok" } else { "wrong" };
-        lines.text(format_args!("row {number} {word}"))?;
-        lines.end()?;
-        if !*good {
-            status = REFUSED;
+/// A row as it is printed.
+#[derive(Drop)]
+struct RowText {
+    number: u32,
+    good: bool,
+}
+
+impl fmt::Display for RowText {
+    ghost output = { λ row. Some (row_words row) };
+
+    fn fmt<W: fmt::Write>(&self, f: &mut fmt::Formatter<W>) -> fmt::Result {
+        let number = self.number;
+        if self.good {
+            write!(f, "row {number} ok")
+        } else {
+            write!(f, "row {number} wrong")
         }
     }
-    Ok(status)
+}
+
+/// Prints a line for each row, by its number, and answers the status.
+fn print_rows<W: Write>(rows: &[(u32, bool)], lines: &mut Lines<'_, W>) -> Result<u8, Failure> {
+    for (number, good) in rows {
+        lines.text(RowText {
+            number: *number,
+            good: *good,
+        })?;
+        lines.end()?;
+    }
+    Ok(status_of(rows))
+}
+
+/// The exit status that the rows give.
+fn status_of(rows: &[(u32, bool)]) -> u8
+    ensures { result ≡ rows_status rows.now }
+{
+    if all_good(rows) { GOOD } else { REFUSED }
+}
+
+/// Are all rows as they should be?
+fn all_good(rows: &[(u32, bool)]) -> bool
+    ensures { result ≡ list_all (λ row. row.1) rows.now }
+{
+    rows.iter().all(|row| row.1)
 }

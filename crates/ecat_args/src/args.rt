@@ -131,7 +131,7 @@ impl<'a> Args<'a> {
     }
 }
 
-// What a command says, unless a number is bad. After the names of the other six it is `vectors`.
+// What a command says, unless a number is bad.
 fn command<'a>(name: &str, given: &ArgMatches<'a>) -> Option<Args<'a>>
     requires { IsComplete (name.now, rows_of (found_of given.now)) }
     ensures { MatchOption result (HasBadNumber (name.now, rows_of (found_of given.now)))
@@ -150,7 +150,8 @@ fn command<'a>(name: &str, given: &ArgMatches<'a>) -> Option<Args<'a>>
         "sdo" => sdo(given),
         "udp" => udp(given),
         "serve" => serve(given),
-        _ => Some(Args::Vectors),
+        "vectors" => Some(Args::Vectors),
+        _ => unreachable!(),
     }
 }
 

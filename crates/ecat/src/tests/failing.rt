@@ -5,7 +5,7 @@ ghost use Rattle.ecat.specs.Commands.{goes_over_packets};
 
 use super::{ROOM, written};
 use crate::act::act;
-use crate::udp::act_udp;
+use crate::udp::{act_udp, prepare_udp};
 use ec_master::PortFault;
 use ec_wire::PACKET_ROOM;
 use ecat_args::Args;
@@ -135,7 +135,10 @@ fn each_write_that_fails_ends_a_cycle_over_packets(rt: HostRuntime) {
         let mut err = Cursor::new([0u8; ROOM]);
         let mut out = Stops { left: writes };
         let mut source = Bytes::new(EXAMPLE);
-        let answer = act_udp(rt.alloc(), &mut source, Silent, &mut out, &mut err);
+        let answer = match prepare_udp(rt.alloc(), &mut source, &mut out, &mut err) {
+            Ok(prepared) => act_udp(prepared, Silent, &mut out, &mut err),
+            Err(status) => status,
+        };
         assert_eq!(rt; answer, 3, "write {writes}");
         assert!(rt; !written(&err).is_empty());
     }

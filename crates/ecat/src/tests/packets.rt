@@ -3,7 +3,7 @@
 ghost use Rattle.std.specs.Prelude.{◌≡◌, ◌≤◌, ◌<◌, IsErr};
 
 use super::{ROOM, written};
-use crate::udp::act_udp;
+use crate::udp::{act_udp, prepare_udp};
 use ec_master::PortFault;
 use ec_wire::PACKET_ROOM;
 use ecat_source::{Bytes, FailsAt};
@@ -95,13 +95,11 @@ fn goes<L: PacketLine + Drop>(
 ) {
     let mut printed = Cursor::new([0u8; ROOM]);
     let mut complained = Cursor::new([0u8; ROOM]);
-    let answer = act_udp(
-        rt.alloc(),
-        &mut Bytes::new(scene),
-        line,
-        &mut printed,
-        &mut complained,
-    );
+    let source = &mut Bytes::new(scene);
+    let answer = match prepare_udp(rt.alloc(), source, &mut printed, &mut complained) {
+        Ok(prepared) => act_udp(prepared, line, &mut printed, &mut complained),
+        Err(status) => status,
+    };
     let failed = written(&complained);
     if failed == b"scene: NoMemory\n".as_slice() {
         assert_eq!(rt; answer, 3);
@@ -184,16 +182,10 @@ fn a_faulty_scene_and_a_reader_that_fails_are_named(rt: HostRuntime) {
     goes(&rt, b"slaves\n", Fake::new(Way::Fails), 1, faulty, b"");
     let mut out = Cursor::new([0u8; ROOM]);
     let mut err = Cursor::new([0u8; ROOM]);
-    let line = Fake::new(Way::Fails);
-    let answer = act_udp(
-        rt.alloc(),
-        &mut FailsAt::new(EXAMPLE, 7, 1),
-        line,
-        &mut out,
-        &mut err,
-    );
+    let source = &mut FailsAt::new(EXAMPLE, 7, 1);
+    let answer = prepare_udp(rt.alloc(), source, &mut out, &mut err);
     if written(&err) != b"scene: NoMemory\n".as_slice() {
         assert_eq!(rt; written(&err), b"file: Read\n".as_slice());
     }
-    assert_eq!(rt; answer, 3);
+    assert!(rt; matches!(answer, Err(3)));
 }

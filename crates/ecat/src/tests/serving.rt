@@ -3,7 +3,7 @@
 ghost use Rattle.ecat_serve.specs.Ends.{any_receive, any_send};
 
 use super::{NoRoom, ROOM, written};
-use crate::serve::{Service, act_serve};
+use crate::serve::{Service, act_serve, ring_to_serve};
 use ec_master::PortFault;
 use ec_ring::Port;
 use ec_wire::PACKET_ROOM;
@@ -94,14 +94,12 @@ fn serves(
         port: 34980,
         packets,
     };
-    let status = act_serve(
-        rt.alloc(),
-        &mut Bytes::new(scene),
-        service,
-        &mut Two::new(failing),
-        &mut printed,
-        &mut complained,
-    );
+    let source = &mut Bytes::new(scene);
+    let ends = &mut Two::new(failing);
+    let status = match ring_to_serve(rt.alloc(), source, &mut printed, &mut complained) {
+        Ok(ring) => act_serve(ring, service, ends, &mut printed, &mut complained),
+        Err(status) => status,
+    };
     if written(&complained) == b"scene: NoMemory\n".as_slice() {
         assert_eq!(rt; status, 3);
         assert!(rt; written(&printed).is_empty());
@@ -166,14 +164,10 @@ fn fails<S: Source>(rt: &(impl AllocGlobal + Abort), source: &mut S, line: &[u8]
     };
     let mut complained = Cursor::new([0u8; ROOM]);
     let mut ends = Two::new(0);
-    let status = act_serve(
-        rt.alloc(),
-        source,
-        service,
-        &mut ends,
-        &mut NoRoom,
-        &mut complained,
-    );
+    let status = match ring_to_serve(rt.alloc(), source, &mut NoRoom, &mut complained) {
+        Ok(ring) => act_serve(ring, service, &mut ends, &mut NoRoom, &mut complained),
+        Err(status) => status,
+    };
     assert_eq!(rt; status, 3);
     assert_eq!(rt; ends.calls, 0);
     let told = written(&complained);

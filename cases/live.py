@@ -1,0 +1,320 @@
+"""The cases that move: packets from outside, a pipe that is still written, outputs that are full or closed.
+
+Each is a function of a `Stage`. It gives what `cases/try` compares: a name, what is wanted, what is seen.
+"""
+import os
+import select
+import socket
+import subprocess
+
+CASES = []
+
+# One slave with a byte of outputs, whose state goes up at a step.
+SLAVE = "slave 0x1001\nsm 0 0x1800 32 mailbox-write\nsm 1 0x1880 32 mailbox-read\nsm 2 0x1000 1 write\n"
+
+# A broadcast read of AL status as it is sent, and as one slave in Init answers it, then as two do.
+ASKED = bytes.fromhex("0e10 0707 0000 3001 0200 0000 0000 0000")
+ONE = "0e100707010030010200000001000100"
+TWO = "0e100707020030010200000001000200"
+
+# Nothing of this is a frame in the UDP form: cut, padded, empty, of another type, too long.
+RUBBISH = [ASKED[:-1], ASKED + b"\0", b"", ASKED[:1] + b"\x40" + ASKED[2:], bytes(1600)]
+
+# A capture's header, and the record of a packet of 14 bytes.
+CAPTURE = bytes.fromhex("d4c3b2a1 0200 0400 00000000 00000000 ffff0000 01000000")
+RECORD = bytes.fromhex("00000000 00000000 0e000000 0e000000 ffffffffffff 020000000001 0806")
+
+
+class Running:
+    """A program that runs, and is ended with the block that it runs in."""
+
+    def __init__(self, limit, ecat, words, **streams):
+        self.limit = limit
+        usual = {"stdin": subprocess.DEVNULL, "stdout": subprocess.PIPE, "stderr": subprocess.PIPE}
+        self.process = subprocess.Popen(["ecat", *words], executable=ecat, bufsize=0, **usual | streams)
+
+    def __enter__(self):
+        return self
+
+    def __exit__(self, *_fault):
+        self.process.kill()
+        self.process.communicate()
+
+    def line(self):
+        """The next line of output, or what there is of it when the time is over."""
+        line = b""
+        while not line.endswith(b"\n") and select.select([self.process.stdout], [], [], self.limit)[0]:
+            byte = self.process.stdout.read(1)
+            if not byte:
+                break
+            line += byte
+        return line.decode("latin-1")
+
+    def end(self):
+        """The rest of the output, the error text and the status, as one text."""
+        texts = self.process.communicate(timeout=self.limit)
+        told = "".join(text.decode("latin-1") for text in texts if text)
+        return f"{told}{self.process.returncode}\n"
+
+
+class Stage:
+    """The program, a folder of its own and two free ports."""
+
+    def __init__(self, ecat, folder, port, limit):
+        self.ecat, self.folder, self.port, self.limit = ecat, folder, port, limit
+
+    def start(self, *words, **streams):
+        return Running(self.limit, self.ecat, words, cwd=self.folder, **streams)
+
+    def ends(self, *words, **streams):
+        """What a program leaves that runs to its end."""
+        with self.start(*words, **streams) as running:
+            return running.end()
+
+    def file(self, name, text):
+        with open(os.path.join(self.folder, name), "w", encoding="latin-1", newline="\n") as file:
+            file.write(text)
+
+    def serve(self, scene, *words, **streams):
+        """Serves a scene; its first line of output has been read."""
+        self.file("s", scene)
+        running = self.start("serve", "s", "--port", str(self.port), *words, **streams)
+        running.first = running.line()
+        return running
+
+    def master(self, port=None):
+        """A socket at a free port, or at this one."""
+        master = socket.socket(type=socket.SOCK_DGRAM)
+        master.bind(("127.0.0.1", port or 0))
+        master.settimeout(self.limit)
+        return master
+
+
+class Live:
+    """A case of this file."""
+
+    def __init__(self, function, limit):
+        self.name, self.function, self.limit = function.__name__, function, limit
+
+    def run(self, ecat, folder, port):
+        yield from self.function(Stage(ecat, folder, port, self.limit))
+
+
+def cases(limit):
+    return [Live(function, limit) for function in CASES]
+
+
+def case(function):
+    CASES.append(function)
+    return function
+
+
+def asked(master, port, packet=ASKED):
+    """Sends a packet to a port, and answers what comes back, in hexadecimal digits."""
+    master.sendto(packet, ("127.0.0.1", port))
+    return master.recv(2000).hex()
+
+
+@case
+def packets_are_counted_until_there_were_so_many(stage):
+    """The input is at its end from the start, and is not what ends the service."""
+    with stage.serve(SLAVE, "--packets", "23") as line, stage.master() as master:
+        yield "where", f"serving A 127.0.0.1:{stage.port} B 127.0.0.1:{stage.port + 1}\n", line.first
+        for _ in range(11):
+            yield "answer", ONE, asked(master, stage.port)
+        for packet in RUBBISH + RUBBISH + [b"\0"]:
+            master.sendto(packet, ("127.0.0.1", stage.port))
+        yield "answer", ONE, asked(master, stage.port)
+        yield "end", "packets 23 frames 12 dropped 11\nslave 0 sm 2 open 00 shown 00\n0\n", line.end()
+
+
+@case
+def service_ends_with_its_input(stage):
+    with stage.serve(SLAVE, stdin=subprocess.PIPE) as line, stage.master() as master:
+        line.process.stdin.write(b"not the end\n")
+        yield "answer", ONE, asked(master, stage.port)
+        line.process.stdin.write(b"\n")
+        yield "answer", ONE, asked(master, stage.port)
+        line.process.stdin.close()
+        line.process.stdin = None
+        yield "end", "packets 2 frames 2 dropped 0\nslave 0 sm 2 open 00 shown 00\n0\n", line.end()
+
+
+@case
+def service_ends_after_its_packets_while_the_input_is_open(stage):
+    with stage.serve("slave 1\n", "--packets", "1", stdin=subprocess.PIPE) as line, stage.master() as master:
+        yield "answer", ONE, asked(master, stage.port)
+        yield "line", "packets 1 frames 1 dropped 0\n", line.line()
+        yield "status", "0", str(line.process.wait(stage.limit))
+
+
+@case
+def links_of_a_scene_are_down_in_a_service(stage):
+    with stage.serve("slave 1\nslave 2\nlink 1 down\n", "--packets", "2") as line:
+        with stage.master() as one, stage.master() as other:
+            yield "answer at A", ONE, asked(one, stage.port)
+            yield "answer at B", ONE.replace("0200000001", "0240000001"), asked(other, stage.port + 1)
+            yield "end", "packets 2 frames 2 dropped 0\n0\n", line.end()
+
+
+@case
+def gap_of_a_scene_is_there_in_a_service(stage):
+    with stage.serve("slave 1\nslave 2\nslave 3\nlink 1 down\nlink 2 down\n", "--packets", "1") as line:
+        with stage.master() as master:
+            yield "answer", ONE, asked(master, stage.port)
+            yield "end", "packets 1 frames 1 dropped 0\n0\n", line.end()
+
+
+@case
+def frames_leave_where_they_arrive(stage):
+    with stage.serve("slave 1\nslave 2\n", "--packets", "3") as line:
+        with stage.master() as one, stage.master() as other:
+            yield "answer while nobody is at B", TWO, asked(one, stage.port)
+            other.sendto(ASKED, ("127.0.0.1", stage.port + 1))
+            yield "from B, past no slave, at A", ASKED.hex(), one.recv(2000).hex()
+            one.sendto(ASKED, ("127.0.0.1", stage.port))
+            yield "from A, past both slaves, at B", TWO, other.recv(2000).hex()
+            yield "end", "packets 3 frames 3 dropped 0\n0\n", line.end()
+
+
+@case
+def slaves_step_after_each_packet(stage):
+    request = bytes.fromhex("0e10 0500 0110 2001 0200 0000 0200 0000")
+    status = bytes.fromhex("0e10 0400 0110 3001 0200 0000 0000 0000")
+    with stage.serve(SLAVE, "--packets", "2") as line, stage.master() as master:
+        yield "request", "0e100500011020010200000002000100", asked(master, stage.port, request)
+        yield "state", "0e100400011030010200000002000100", asked(master, stage.port, status)
+        yield "end", "packets 2 frames 2 dropped 0\nslave 0 sm 2 open 00 shown 00\n0\n", line.end()
+
+
+@case
+def outputs_of_a_service_are_told(stage):
+    write = bytes.fromhex("0d10 0500 0110 0010 0100 0000 c3 0000")
+    with stage.serve(SLAVE, "--packets", "1") as line, stage.master() as master:
+        yield "answer", "0d1005000110001001000000c30100", asked(master, stage.port, write)
+        yield "end", "packets 1 frames 1 dropped 0\nslave 0 sm 2 open c3 shown c3\n0\n", line.end()
+
+
+@case
+def ports_that_are_taken_are_told(stage):
+    stage.file("s", "slave 1\nbrd 0x0130 0000\n")
+    for taken in (stage.port, stage.port + 1):
+        with stage.master(taken):
+            for command in ("udp", "serve"):
+                yield command, "socket: Bind\n3\n", stage.ends(command, "s", "--port", str(stage.port))
+
+
+@case
+def port_is_34980_if_none_is_given(stage):
+    """Somebody has it: this case, or another program."""
+    stage.file("s", "slave 1\n")
+    try:
+        held = stage.master(34980)
+    except OSError:
+        held = stage.master()
+    with held:
+        for command in ("udp", "serve"):
+            yield command, "socket: Bind\n3\n", stage.ends(command, "s")
+
+
+@case
+def scene_is_checked_before_a_socket_is_opened(stage):
+    texts = {"slave 1\nlrd 0 0\n": "scene: line 2: BadNumber\n1\n", "slave 1\nstep\n": "scene: actions\n1\n"}
+    with stage.master(stage.port):
+        for scene, told in texts.items():
+            stage.file("s", scene)
+            for command in ("udp", "serve"):
+                yield command, told, stage.ends(command, "s", "--port", str(stage.port))
+
+
+@case
+def packet_of_a_live_pipe_is_shown_before_the_next_one(stage):
+    pipe = os.path.join(stage.folder, "pipe")
+    os.mkfifo(pipe)
+    with stage.start("show", "pipe") as show, open(pipe, "wb", buffering=0) as capture:
+        capture.write(CAPTURE)
+        for number in range(3):
+            capture.write(RECORD[:20])
+            capture.write(RECORD[20:])
+            yield "line", f"packet {number} ethertype 0806\n", show.line()
+        capture.write(RECORD[:29])
+        capture.close()
+        yield "end", "capture: Short\n1\n", show.end()
+
+
+@case
+def scene_of_a_live_pipe_is_read_to_its_end(stage):
+    pipe = os.path.join(stage.folder, "pipe")
+    os.mkfifo(pipe)
+    with stage.start("check", "pipe") as check, open(pipe, "wb", buffering=0) as scene:
+        for piece in (b"sla", b"ve 1\nsl", b"ave 1", b"\n"):
+            scene.write(piece)
+        scene.close()
+        yield "end", "refused: TwinStation slave 0 slave 1\n1\n", check.end()
+
+
+# What each command prints to an output that takes nothing.
+COMMANDS = ["vectors", "check good", "check bad", "check refused", "run good", "run bad", "run refused"]
+COMMANDS += ["show capture", "show bad", "sdo good 1 0 0", "sdo bad 1 0 0", "udp good --port {port}"]
+COMMANDS += ["udp bad --port {port}", "serve good --port {port}", "serve bad --port {port}"]
+
+
+def commands(stage):
+    """The command lines of COMMANDS, whose files are there then."""
+    stage.file("good", "slave 1\nbrd 0x0130 0000\n")
+    stage.file("bad", "slave 1\nslave 1 1\n")
+    stage.file("refused", "slave 1\nslave 1\nbrd 0x0130 0000\n")
+    stage.file("capture", (CAPTURE + RECORD).decode("latin-1"))
+    for words in COMMANDS:
+        yield words.replace("{port}", str(stage.port)).split()
+
+
+@case
+def full_output_is_told(stage):
+    for words in commands(stage):
+        with open("/dev/full", "wb") as full:
+            yield " ".join(words), "output: Write\n3\n", stage.ends(*words, stdout=full)
+
+
+@case
+def closed_output_is_told(stage):
+    for words in commands(stage):
+        ours, theirs = socket.socketpair()
+        with ours, theirs:
+            theirs.shutdown(socket.SHUT_WR)
+            yield " ".join(words), "output: Write\n3\n", stage.ends(*words, stdout=theirs)
+
+
+@case
+def output_that_closes_between_packets_is_told(stage):
+    pipe = os.path.join(stage.folder, "pipe")
+    os.mkfifo(pipe)
+    ours, theirs = socket.socketpair()
+    with ours, theirs, stage.start("show", "pipe", stdout=theirs) as show:
+        with open(pipe, "wb", buffering=0) as capture:
+            capture.write(CAPTURE + RECORD)
+            yield "line", "packet 0 ethertype 0806\n", ours.recv(100).decode("latin-1")
+            ours.shutdown(socket.SHUT_RD)
+            capture.write(RECORD)
+            yield "end", "output: Write\n3\n", show.end()
+
+
+@case
+def faults_of_standard_error_are_passed_over(stage):
+    for words, status in ((["--help"], 2), (["sdo", "s", "x", "0", "0"], 2), (["run", "nothing"], 3)):
+        with open("/dev/full", "wb") as full:
+            yield " ".join(words), f"{status}\n", stage.ends(*words, stderr=full)
+
+
+@case
+def words_that_are_no_text_are_bad(stage):
+    yield "end", "argument: BadNumber\n2\n", stage.ends("run", b"\xff")
+
+
+@case
+def largest_item_is_told_whole(stage):
+    digits = "5a" * 1486
+    stage.file("s", f"slave 1\nlrd 0 {digits}\n")
+    told = f"item 0 LRD data {digits} wkc 0 of 0\n"
+    yield "run", told + "0\n", stage.ends("run", "s")
+    yield "udp", "good\n" + told + "0\n", stage.ends("udp", "s", "--port", str(stage.port))

@@ -1,0 +1,34 @@
+-- What is printed of a transfer: the value, or what is in the way; and the value of the command line.
+use Rattle.std.specs.Prelude.{ℕ, ◌++◌, List, codes}
+use Rattle.ec_app.specs.declared.value.Value.{Value}
+use Rattle.ec_app.specs.declared.value.Value.TheVariants.{One, Two, Four}
+use Rattle.ec_services.specs.declared.fault.MasterFault.{MasterFault}
+use Rattle.ec_services.specs.declared.fault.MasterFault.TheVariants.{NoSlave, Refused, Abort, NoAnswer}
+use Rattle.ec_services.specs.declared.fault.MasterFault.TheVariants.{BadAnswer, Broken, Port, Stranger}
+use Rattle.ecat_args.specs.declared.number.Value.{Value as Word}
+use Rattle.ecat_args.specs.declared.number.Value.TheVariants.{One as OneWord, Two as TwoWord}
+use Rattle.ecat_args.specs.declared.number.Value.TheVariants.{Four as FourWord}
+use Rattle.ecat.specs.Words.{hexadecimal}
+
+-- a value, with two digits for each of its bytes
+abbrev pub value_words : Value → List ℕ
+value_words (One n) = codes "value 0x" ++ hexadecimal 2 n
+value_words (Two n) = codes "value 0x" ++ hexadecimal 4 n
+value_words (Four n) = codes "value 0x" ++ hexadecimal 8 n
+
+-- a fault by its name, and the code of a slave's abort
+abbrev pub fault_words : MasterFault → List ℕ
+fault_words NoSlave = codes "fault NoSlave"
+fault_words (Refused code) = codes "fault Refused"
+fault_words (Abort code) = codes "abort 0x" ++ hexadecimal 8 code
+fault_words NoAnswer = codes "fault NoAnswer"
+fault_words BadAnswer = codes "fault BadAnswer"
+fault_words Broken = codes "fault Broken"
+fault_words Port = codes "fault Port"
+fault_words Stranger = codes "fault Stranger"
+
+-- the value of the command line, of its size
+abbrev pub value_of : Word → Value
+value_of (OneWord n) = One n
+value_of (TwoWord n) = Two n
+value_of (FourWord n) = Four n
