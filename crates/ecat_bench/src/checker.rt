@@ -3,10 +3,9 @@
 
 ghost use Rattle.std.specs.Prelude.{◌<◌};
 
-use crate::mapping::{INPUTS, OUTPUTS, READ, WRITE, area, whole_bytes};
 use ec_app::{Objects, Slave};
 use ec_map::check;
-use ec_regs::NoMemory;
+use ec_regs::{Fmmu, NoMemory, SyncMan};
 use std::alloc::Global;
 use std::io;
 use std::rt::Clock;
@@ -56,12 +55,12 @@ fn busy_slave(alloc: Global, place: u16) -> Result<Slave, NoMemory>
 {
     let mut slave = Slave::new(alloc, place, Objects::new(), 0, 0)?;
     let controller = slave.controller_mut();
-    controller.set_syncman(2, &area(0x1000, 4, OUTPUTS));
-    controller.set_syncman(3, &area(0x1100, 4, INPUTS));
+    controller.set_syncman(2, &SyncMan::outputs(0x1000, 4));
+    controller.set_syncman(3, &SyncMan::inputs(0x1100, 4));
     for k in 0..4usize {
         let logical = 0x0001_0000 + 4 * u32::from(place) + k as u32;
-        controller.set_fmmu(k, &whole_bytes(logical, 1, 0x1000 + k as u16, WRITE));
-        controller.set_fmmu(k + 4, &whole_bytes(logical, 1, 0x1100 + k as u16, READ));
+        controller.set_fmmu(k, &Fmmu::writing(logical, 1, 0x1000 + k as u16));
+        controller.set_fmmu(k + 4, &Fmmu::reading(logical, 1, 0x1100 + k as u16));
     }
     Ok(slave)
 }

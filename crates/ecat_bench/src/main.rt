@@ -7,15 +7,13 @@
 ghost use Rattle.std.specs.Prelude.{◌≡◌, length};
 
 mod checker;
-mod mapping;
 mod ring;
 
 use checker::checking;
 use ec_esc::Controller;
 use ec_merge::join_bytes;
-use ec_regs::Fmmu;
+use ec_regs::{Fmmu, SyncMan};
 use ec_wire::{Form, FrameBuf};
-use mapping::{INPUTS, OUTPUTS, READ, WRITE, area, whole_bytes};
 use ring::{cycling, walking};
 use std::process::ExitCode;
 use std::rt::{Clock, Env};
@@ -115,11 +113,11 @@ fn map_whole_bytes(slave: &mut Controller) {
         let physical = 0x1000 + 185 * k as u16;
         let logical = 0x0001_0000 + 185 * k as u32;
         if k % 2 == 1 {
-            slave.set_fmmu(k, &whole_bytes(logical, 185, physical, WRITE));
-            slave.set_syncman(k, &area(physical, 185, OUTPUTS));
+            slave.set_fmmu(k, &Fmmu::writing(logical, 185, physical));
+            slave.set_syncman(k, &SyncMan::outputs(physical, 185));
         } else {
-            slave.set_fmmu(k, &whole_bytes(logical, 185, physical, READ));
-            slave.set_syncman(k, &area(physical, 185, INPUTS));
+            slave.set_fmmu(k, &Fmmu::reading(logical, 185, physical));
+            slave.set_syncman(k, &SyncMan::inputs(physical, 185));
         }
     }
 }
@@ -128,16 +126,13 @@ fn map_whole_bytes(slave: &mut Controller) {
 /// on.
 fn map_odd_bits(slave: &mut Controller) {
     for k in 0..8usize {
+        let logical = 0x0001_0000 + 185 * k as u32;
+        let physical = 0x1000 + 186 * k as u16;
         let fmmu = Fmmu {
-            logical: 0x0001_0000 + 185 * k as u32,
-            length: 185,
             start: 3,
             stop: 4,
-            physical: 0x1000 + 186 * k as u16,
             bit: 5,
-            kind: 1,
-            activate: 1,
-            reserved: [0; 3],
+            ..Fmmu::reading(logical, 185, physical)
         };
         slave.set_fmmu(k, &fmmu);
     }

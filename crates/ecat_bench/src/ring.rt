@@ -3,12 +3,11 @@
 
 ghost use Rattle.std.specs.Prelude.{◌<◌};
 
-use crate::mapping::{INPUTS, OUTPUTS, READ, WRITE, area, whole_bytes};
 use ec_app::{Objects, Slave};
 use ec_map::{Item, Kind};
 use ec_master::{Work, ring_cycle};
 use ec_merge::join_frames;
-use ec_regs::NoMemory;
+use ec_regs::{Fmmu, NoMemory, SyncMan};
 use ec_ring::{Links, Port, Ring};
 use ec_wire::FrameBuf;
 use std::alloc::Global;
@@ -132,7 +131,7 @@ fn full_ring(alloc: Global) -> io::Result<Ring> {
     }
 }
 
-/// Its line, from the first slave on.
+/// The line of the ring, from the first slave on.
 fn full_line(alloc: Global) -> Result<Vec<Slave>, NoMemory> {
     let mut line = Vec::new(alloc);
     for place in 0..SLAVES {
@@ -150,10 +149,10 @@ fn exchanging_slave(alloc: Global, place: u16) -> Result<Slave, NoMemory>
     let logical = LOGICAL + 5 * u32::from(place);
     let mut slave = Slave::new(alloc, place, Objects::new(), 0, 0)?;
     let controller = slave.controller_mut();
-    controller.set_syncman(2, &area(0x1000, 5, OUTPUTS));
-    controller.set_syncman(3, &area(0x1100, 5, INPUTS));
-    controller.set_fmmu(0, &whole_bytes(logical, 5, 0x1000, WRITE));
-    controller.set_fmmu(1, &whole_bytes(logical, 5, 0x1100, READ));
+    controller.set_syncman(2, &SyncMan::outputs(0x1000, 5));
+    controller.set_syncman(3, &SyncMan::inputs(0x1100, 5));
+    controller.set_fmmu(0, &Fmmu::writing(logical, 5, 0x1000));
+    controller.set_fmmu(1, &Fmmu::reading(logical, 5, 0x1100));
     controller.load(0x1100, &[0x11, 0x22, 0x33, 0x44, 0x55]);
     Ok(slave)
 }

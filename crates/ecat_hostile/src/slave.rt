@@ -1,7 +1,5 @@
 //! The slave that damaged bytes go through.
 
-ghost use Rattle.std.specs.Prelude.{◌<◌};
-
 use ec_app::{Objects, Rights, Slave, Value};
 use ec_regs::{AlState, SyncMan};
 use ec_wire::{Form, FrameBuf};
@@ -17,29 +15,15 @@ pub const MAILBOX: u16 = 32;
 /// What the slave's one object, 0x1018:01, may be used for and holds.
 pub const HELD: (Rights, Value) = (Rights::ReadOnly, Value::Four(2));
 
-/// Gives a mailbox of the slave its sync manager, which is enabled.
-fn set_mailbox(slave: &mut Slave, number: usize, start: u16, control: u8)
-    requires { number < 8 }
-{
-    let manager = SyncMan {
-        start,
-        length: MAILBOX,
-        control,
-        status: 0x00,
-        activate: 0x01,
-        pdi: 0x00,
-    };
-    slave.controller_mut().set_syncman(number, &manager);
-}
-
 /// A slave in Pre-Op with two mailboxes, the master's at 0x1800 and its own at 0x1880, and with one object.
 pub fn slave(rt: &impl Abort, alloc: Global, station: u16) -> Slave {
     let mut objects = Objects::new();
     assert!(rt; objects.add(0x1018, 1, HELD.0, HELD.1).is_ok());
     let mut slave = Slave::new(alloc, station, objects, 0, 0).expect(rt, "memory");
     slave.set_state(AlState::PreOp);
-    set_mailbox(&mut slave, 0, 0x1800, 0x06);
-    set_mailbox(&mut slave, 1, 0x1880, 0x02);
+    let controller = slave.controller_mut();
+    controller.set_syncman(0, &SyncMan::mailbox_from_master(0x1800, MAILBOX));
+    controller.set_syncman(1, &SyncMan::mailbox_to_master(0x1880, MAILBOX));
     slave
 }
 

@@ -14,15 +14,15 @@ use ecat_udp::{PacketLine, UdpPorts};
 /// What is wrong with a cycle.
 #[derive(Clone, Copy, Debug)]
 pub(crate) enum Wrong {
-    /// It could not be made ready.
+    /// The cycle could not be made ready.
     Unready,
-    /// It has no verdict.
+    /// The cycle has no verdict.
     Fault(CycleFault),
-    /// It is not good although no packet was lost.
+    /// The cycle is not good although no packet was lost.
     NothingLost,
-    /// It is good, and the answers are not what the slaves hold.
+    /// The cycle is good, and the answers are not what the slaves hold.
     Image,
-    /// It is not good, and has changed the work.
+    /// The cycle is not good, and has changed the work.
     Work,
 }
 

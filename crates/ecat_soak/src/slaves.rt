@@ -50,36 +50,9 @@ fn slave(alloc: Global, place: usize) -> Result<Slave, NoMemory>
     let station = 0x1001 + place as u16;
     let mut slave = Slave::new(alloc, station, Objects::new(), 4, 4)?;
     let controller = slave.controller_mut();
-    controller.set_syncman(OUTPUT_AREA, &area(0x1000, 0x04));
-    controller.set_syncman(INPUT_AREA, &area(0x1100, 0x00));
-    controller.set_fmmu(0, &whole_bytes(OUTPUTS + logical, 0x1000, 2));
-    controller.set_fmmu(1, &whole_bytes(INPUTS + logical, 0x1100, 1));
+    controller.set_syncman(OUTPUT_AREA, &SyncMan::outputs(0x1000, 4));
+    controller.set_syncman(INPUT_AREA, &SyncMan::inputs(0x1100, 4));
+    controller.set_fmmu(0, &Fmmu::writing(OUTPUTS + logical, 4, 0x1000));
+    controller.set_fmmu(1, &Fmmu::reading(INPUTS + logical, 4, 0x1100));
     Ok(slave)
-}
-
-/// A buffered area of four bytes.
-fn area(start: u16, control: u8) -> SyncMan {
-    SyncMan {
-        start,
-        length: 4,
-        control,
-        status: 0,
-        activate: 1,
-        pdi: 0,
-    }
-}
-
-/// An FMMU of four whole bytes.
-fn whole_bytes(logical: u32, physical: u16, kind: u8) -> Fmmu {
-    Fmmu {
-        logical,
-        length: 4,
-        start: 0,
-        stop: 7,
-        physical,
-        bit: 0,
-        kind,
-        activate: 1,
-        reserved: [0; 3],
-    }
 }
