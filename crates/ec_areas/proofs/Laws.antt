@@ -1,9 +1,10 @@
 -- The laws that crates above cite: on the records in a memory, the areas of sync managers, ranges and
 -- mailboxes, and where logical reads and writes go.
-use Rattle.std.proofs.Common.{◌≡◌, ℕ, ◌+◌, ◌/◌, ◌<◌, true, false, List, length, get_or, refl, arith, ◌≤◌}
+use Rattle.std.proofs.Common.{◌≡◌, ◌↔◌, ℕ, ◌+◌, ◌/◌, ◌<◌, true, false, List, length, get_or, refl, arith, ◌≤◌}
 use Rattle.std.proofs.Common.{Option, None, Some}
 use Rattle.std.specs.List.{Any}
 use Rattle.std.specs.Option.{IsSome}
+use Rattle.ec_regs.specs.declared.registers.TheConstants.{FMMU_COUNT, SYNC_MANAGER_COUNT}
 use Rattle.ec_regs.specs.declared.fmmu.Fmmu.{Fmmu}
 use Rattle.ec_regs.specs.declared.sync_man.SyncMan.{SyncMan}
 use Rattle.ec_regs.specs.SyncMan.{is_active}
@@ -13,6 +14,7 @@ use Rattle.ec_areas.specs.Areas.{guards, is_locked, is_writable}
 use Rattle.ec_areas.specs.Ranges.{meets_locked, emptied_by, filled_by, serves_physical_read, LiesBuffered}
 use Rattle.ec_areas.specs.Ranges.{takes_writes, serves_physical_write}
 use Rattle.ec_areas.specs.Logical.{names, IsReadable, read_map, NamesPairs, IsWritable, write_map, target_map}
+use Rattle.ec_areas.specs.Logical.{reads_some, writes_some, IsPairWithin}
 use Rattle.ec_areas.specs.Apart.{are_apart}
 use Rattle.ec_areas.proofs.RangeLemmas as ranges
 use Rattle.ec_areas.proofs.RecordLemmas as records
@@ -22,31 +24,32 @@ use Rattle.ec_areas.proofs.NamesLemmas as maps
 use Rattle.ec_areas.proofs.LogicalLemmas as reading
 use Rattle.ec_areas.proofs.WriteLemmas as writing
 use Rattle.ec_areas.proofs.ApartLemmas as apart
+use Rattle.ec_areas.proofs.NamedLemmas as named
 
 -- ---- the records in a memory
 
 -- sync manager number i of a memory is the one that stands at its place
-pub get_or-sync_managers_of : (memory : List ℕ) (d : SyncMan) (i : ℕ) → i < 8
+pub get_or-sync_managers_of : (memory : List ℕ) (d : SyncMan) (i : ℕ) → i < SYNC_MANAGER_COUNT
     → get_or (sync_managers_of memory) i d ≡ sync_manager_at memory i
 get_or-sync_managers_of = ranges.get_or-sync_managers_of
 
 -- FMMU number i of a memory is the one that stands at its place
-pub get_or-fmmus_of : (memory : List ℕ) (d : Fmmu) (i : ℕ) → i < 8
+pub get_or-fmmus_of : (memory : List ℕ) (d : Fmmu) (i : ℕ) → i < FMMU_COUNT
     → get_or (fmmus_of memory) i d ≡ fmmu_at memory i
 get_or-fmmus_of = ranges.get_or-fmmus_of
 
 -- a memory has eight sync managers
-pub length-sync_managers_of : (memory : List ℕ) → length (sync_managers_of memory) ≡ 8
+pub length-sync_managers_of : (memory : List ℕ) → length (sync_managers_of memory) ≡ SYNC_MANAGER_COUNT
 unfolding sync_managers_of
 length-sync_managers_of memory = refl
 
 -- a memory has eight FMMUs
-pub length-fmmus_of : (memory : List ℕ) → length (fmmus_of memory) ≡ 8
+pub length-fmmus_of : (memory : List ℕ) → length (fmmus_of memory) ≡ FMMU_COUNT
 unfolding fmmus_of
 length-fmmus_of memory = refl
 
 -- memories with the same registers have the same sync manager under each number
-pub sync_manager_same : (before after : List ℕ) (i : ℕ) → SameRegisters before after → i < 8
+pub sync_manager_same : (before after : List ℕ) (i : ℕ) → SameRegisters before after → i < SYNC_MANAGER_COUNT
     → sync_manager_at after i ≡ sync_manager_at before i
 sync_manager_same = records.sync_manager_same
 
@@ -144,15 +147,23 @@ names_nowhere = maps.names_nowhere
 pub names_at : (f : ℕ → Option ℕ) (n i : ℕ) → i < n → IsSome (f i) → names f n ≡ true
 names_at = maps.names_at
 
--- where one of the first bits is mapped one has a place
-pub names_some : (f : ℕ → Option ℕ) (n : ℕ) → names f n ≡ true → (i : ℕ) × (i < n) × IsSome (f i)
-names_some = maps.names_some
-
 -- where none of the first bits is mapped none has a place
 pub names_none : (f : ℕ → Option ℕ) (n i : ℕ) → names f n ≡ false → i < n → f i ≡ None
 names_none = maps.names_none
 
 -- ---- where logical reads and writes go
+
+-- a read names a bit of a range exactly where a readable pair has its logical bit there
+pub reads_some_pair : (managers : List SyncMan) (fmmus : List Fmmu) (from n : ℕ)
+    → (reads_some managers fmmus from n ≡ true)
+    ↔ ((l p : ℕ) × IsPairWithin (IsReadable managers fmmus) from n l p)
+reads_some_pair = named.reads_some_pair
+
+-- a write names one exactly where a writable pair has
+pub writes_some_pair : (managers : List SyncMan) (fmmus : List Fmmu) (from n : ℕ)
+    → (writes_some managers fmmus from n ≡ true)
+    ↔ ((l p : ℕ) × IsPairWithin (IsWritable managers fmmus) from n l p)
+writes_some_pair = named.writes_some_pair
 
 -- a read takes a logical bit from a bit that is paired with it for reading, if there is one
 pub NamesPairs-read_map : (managers : List SyncMan) (fmmus : List Fmmu)

@@ -10,5 +10,6 @@ pub mod NamesLemmas
 pub mod WholeLemmas
 pub mod ShowingLemmas
 pub mod ReachLemmas
+pub mod NamedLemmas
 pub mod ApartLemmas
 pub mod Laws

@@ -10,6 +10,7 @@ use Rattle.std.proofs.lemmas.Bool.Decides.{nat_tests}
 use Rattle.std.proofs.lemmas.List.Folds.{list_any-append, list_any_at}
 use Rattle.std.proofs.lemmas.List.FromFn.{length-range_with_len, get_or-range_with_len}
 use Rattle.std.proofs.lemmas.List.FromFn.{map-range_with_len_more}
+use Rattle.ec_regs.specs.declared.registers.TheConstants.{FMMU_COUNT, SYNC_MANAGER_COUNT}
 use Rattle.ec_regs.specs.declared.fmmu.Fmmu.{Fmmu}
 use Rattle.ec_regs.specs.declared.sync_man.SyncMan.{SyncMan}
 use Rattle.ec_regs.specs.SyncMan.{is_active}
@@ -19,7 +20,7 @@ use Rattle.ec_areas.specs.Ranges.{is_in_sync_manager, is_writable_field, some_ad
 -- ---- records by number
 
 -- the sync manager with a number is the element there
-pub get_or-sync_managers_of : (memory : List ℕ) (d : SyncMan) (i : ℕ) → i < 8
+pub get_or-sync_managers_of : (memory : List ℕ) (d : SyncMan) (i : ℕ) → i < SYNC_MANAGER_COUNT
     → get_or (sync_managers_of memory) i d ≡ sync_manager_at memory i
 unfolding sync_managers_of
 get_or-sync_managers_of memory d zero below = refl
@@ -34,7 +35,7 @@ get_or-sync_managers_of memory d (suc (suc (suc (suc (suc (suc (suc (suc i))))))
     absurd (omega arith)
 
 -- FMMU number i is the one that stands at its place
-pub get_or-fmmus_of : (memory : List ℕ) (d : Fmmu) (i : ℕ) → i < 8
+pub get_or-fmmus_of : (memory : List ℕ) (d : Fmmu) (i : ℕ) → i < FMMU_COUNT
     → get_or (fmmus_of memory) i d ≡ fmmu_at memory i
 unfolding fmmus_of
 get_or-fmmus_of memory d zero below = refl
@@ -52,7 +53,7 @@ get_or-fmmus_of memory d (suc (suc (suc (suc (suc (suc (suc (suc i)))))))) below
 -- a byte before its status takes writes where it is not active
 pub takes_before_status : (memory : List ℕ) (managers : List SyncMan) (d : SyncMan) (address : ℕ)
     (active : Bool)
-    → managers ≡ sync_managers_of memory → is_in_sync_manager address ≡ true → (address - 2048) / 8 < 8
+    → managers ≡ sync_managers_of memory → is_in_sync_manager address ≡ true → (address - 2048) / 8 < SYNC_MANAGER_COUNT
     → (address - 2048) % 8 < 5
     → active ≡ is_active (get_or managers ((address - 2048) / 8) d)
     → not active ≡ (is_in_sync_manager address && is_writable_field memory address)

@@ -2,6 +2,7 @@
 use Rattle.std.proofs.Common.{◌≡◌, ℕ, ◌+◌, ◌*◌, ◌<◌, ◌≤◌, List, length, take, drop, sym, ◌∙◌, ap}
 use Rattle.std.proofs.Common.{refl, arith}
 use Rattle.std.proofs.lemmas.List.{ext_get_or, length-take-le, length-drop}
+use Rattle.ec_regs.specs.declared.registers.TheConstants.{FMMU_COUNT, SYNC_MANAGER_COUNT}
 use Rattle.ec_regs.specs.Fmmu.{fmmu_of}
 use Rattle.ec_regs.specs.SyncMan.{sync_man_of}
 use Rattle.ec_regs.specs.declared.registers.TheConstants.{PROCESS_MEMORY}
@@ -23,14 +24,14 @@ run_same before after at n same fits =
     get_or-run after at n k below ∙ same.bytes (at + k) (omega arith) ∙ sym (get_or-run before at n k below))
 
 -- so is each sync manager
-pub sync_manager_same : (before after : List ℕ) (i : ℕ) → SameRegisters before after → i < 8
+pub sync_manager_same : (before after : List ℕ) (i : ℕ) → SameRegisters before after → i < SYNC_MANAGER_COUNT
     → sync_manager_at after i ≡ sync_manager_at before i
 unfolding sync_manager_at
 sync_manager_same before after i same below = ap sync_man_of (run_same before after (2048 + 8 * i) 8 same
     (omega arith))
 
 -- each FMMU
-pub fmmu_same : (before after : List ℕ) (i : ℕ) → SameRegisters before after → i < 8 → fmmu_at after i
+pub fmmu_same : (before after : List ℕ) (i : ℕ) → SameRegisters before after → i < FMMU_COUNT → fmmu_at after i
     ≡ fmmu_at before i
 unfolding fmmu_at
 fmmu_same before after i same below = ap fmmu_of (run_same before after (1536 + 16 * i) 16 same (omega arith))

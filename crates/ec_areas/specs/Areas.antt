@@ -1,6 +1,6 @@
 -- An active sync manager guards an area; what it keeps from reads and from writes through FMMUs
 -- (IEC 61158-4-12, sync manager).
-use Rattle.std.specs.Prelude.{ℕ, ◌+◌, Bool, ◌&&◌, ◌||◌, not, nat_le, nat_lt, List}
+use Rattle.std.specs.Prelude.{ℕ, Bool, ◌&&◌, ◌||◌, not, nat_le, nat_lt, List}
 use Rattle.std.specs.List.{list_any}
 use Rattle.ec_regs.specs.AddressRange.{within}
 use Rattle.ec_regs.specs.SyncMan.{is_mailbox, master_reads, master_writes, is_active}

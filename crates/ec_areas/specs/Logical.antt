@@ -1,7 +1,7 @@
 -- A logical command reaches the bits of a controller that its FMMUs map, where the areas of its sync managers
 -- allow it (IEC 61158-4-12, FMMU). Bit numbers are 8 * byte address + bit.
-use Rattle.std.specs.Prelude.{◌≡◌, ◌&&◌, ◌||◌, ℕ, zero, suc, ◌+◌, ◌-◌, ◌/◌, ◌<◌, Bool, true, false, nat_le}
-use Rattle.std.specs.Prelude.{nat_lt, if◌then◌else◌, Option, None, Some, List, [], ◌∷◌}
+use Rattle.std.specs.Prelude.{◌≡◌, ◌&&◌, ◌||◌, ℕ, zero, suc, ◌+◌, ◌-◌, ◌/◌, ◌<◌, ◌≤◌, Bool, true, false}
+use Rattle.std.specs.Prelude.{nat_le, nat_lt, if◌then◌else◌, Option, None, Some, List, [], ◌∷◌}
 use Rattle.std.specs.List.{Any}
 use Rattle.std.specs.Option.{is_some, IsSome}
 use Rattle.ec_regs.specs.Bits.{later}
@@ -101,3 +101,17 @@ pub record NamesPairs (map : ℕ → Option ℕ) (paired : ℕ → ℕ → Type 
 unfoldable pub names : (ℕ → Option ℕ) → ℕ → Bool
 names map zero = false
 names map (suc n) = names map n || is_some (map n)
+
+-- does a readable pair have its logical bit among the n from logical bit `from` on
+abbrev pub reads_some : List SyncMan → List Fmmu → ℕ → ℕ → Bool
+reads_some managers fmmus from n = names (read_places managers fmmus from) n
+
+-- does a writable pair
+abbrev pub writes_some : List SyncMan → List Fmmu → ℕ → ℕ → Bool
+writes_some managers fmmus from n = names (target_places managers fmmus from) n
+
+-- these two are paired, and the logical bit is one of the n from logical bit `from` on
+pub record IsPairWithin (paired : ℕ → ℕ → Type 0) (from n l p : ℕ) : Type 0 where
+  pub pair : paired l p
+  pub starts : from ≤ l
+  pub ends : l < from + n

@@ -21,6 +21,7 @@
 //! - [`read_mapped`], [`write_mapped`]: a bit moves exactly where an FMMU has a readable or writable pair
 //!   with it, from or to the place of such a pair; all else stays; the answer tells whether any bit moved
 //!   (clauses `bits`, `served`; `pair`, `target`, `source`);
+//! - [`reads_some`], [`writes_some`]: whether such a read or write would move a bit (`served`, `pair`);
 //! - [`are_apart`]: whether FMMUs for reading and for writing share no bit of the memory;
 //! - [`serves_physical_read`], [`serves_physical_write`]: which ranges a physical command may read and write;
 //!   [`emptied_by`], [`filled_by`]: which mailbox that empties and fills;
@@ -38,6 +39,7 @@ mod areas;
 mod logical;
 mod logical_write;
 mod met;
+mod named;
 mod ranges;
 mod reach;
 mod records;
@@ -48,6 +50,7 @@ pub use apart::are_apart;
 pub use areas::{is_readable, is_writable};
 pub use logical::read_mapped;
 pub use logical_write::write_mapped;
+pub use named::{reads_some, writes_some};
 pub use ranges::{
     emptied_by, filled_by, serves_physical_read, serves_physical_write, takes_writes,
 };

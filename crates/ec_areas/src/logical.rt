@@ -3,7 +3,8 @@
 ghost use Rattle.std.specs.Prelude.{◌≡◌, ◌+◌, ◌*◌, ◌/◌, ◌<◌, length};
 ghost use Rattle.ec_regs.specs.Bits.{with_bits};
 ghost use Rattle.ec_regs.specs.declared.registers.TheConstants.{MEMORY_SIZE};
-ghost use Rattle.ec_areas.specs.Logical.{read_place, read_map, read_places, names, IsReadable, NamesPairs};
+ghost use Rattle.ec_areas.specs.Logical.{read_place, read_map, read_places, names, reads_some};
+ghost use Rattle.ec_areas.specs.Logical.{IsReadable, NamesPairs};
 ghost use Rattle.ec_areas.specs.Met.{IsRunOf, readable_in};
 
 use crate::areas::is_readable;
@@ -87,7 +88,7 @@ pub fn read_mapped(
     requires { length memory.now ≡ MEMORY_SIZE }
     ensures bits { into.new
         ≡ with_bits into.old memory.now (read_places managers.now fmmus.now (8 * address)) }
-    ensures served { result ≡ names (read_places managers.now fmmus.now (8 * address)) (8 * length into.old) }
+    ensures served { result ≡ reads_some managers.now fmmus.now (8 * address) (8 * length into.old) }
 
     // A bit has a place exactly where an FMMU has a readable pair with it: the place of such a pair.
     ensures pair { NamesPairs (read_map managers.now fmmus.now) (IsReadable managers.now fmmus.now) }

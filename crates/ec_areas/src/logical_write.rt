@@ -2,7 +2,7 @@
 
 ghost use Rattle.std.specs.Prelude.{◌≡◌, ◌+◌, ◌*◌, ◌<◌, length};
 ghost use Rattle.ec_regs.specs.Bits.{AreBytes, with_bits};
-ghost use Rattle.ec_areas.specs.Logical.{write_target, write_place, write_map, target_map, target_places};
+ghost use Rattle.ec_areas.specs.Logical.{write_target, write_place, write_map, target_map, writes_some};
 ghost use Rattle.ec_areas.specs.Logical.{number_within, names, IsWritable, NamesPairs};
 ghost use Rattle.ec_areas.specs.Met.{IsRunOf, target_in, writable_in};
 
@@ -87,8 +87,7 @@ pub fn write_mapped(
     requires { AreBytes memory.old }
     ensures bits { memory.new ≡ with_bits memory.old payload.now
         (write_map managers.now fmmus.now (8 * address) (8 * length payload.now)) }
-    ensures served { result
-        ≡ names (target_places managers.now fmmus.now (8 * address)) (8 * length payload.now) }
+    ensures served { result ≡ writes_some managers.now fmmus.now (8 * address) (8 * length payload.now) }
 
     // A bit goes somewhere exactly where an FMMU has a writable pair with it: to the place of such a pair.
     // A physical bit takes data where one of the bits is paired with it.

@@ -1,7 +1,7 @@
 //! The records of FMMUs and sync managers in a controller's memory (IEC 61158-4-12, register layout).
 
 ghost use Rattle.std.specs.Prelude.{◌≡◌, ◌<◌, length};
-ghost use Rattle.ec_regs.specs.declared.registers.TheConstants.{MEMORY_SIZE};
+ghost use Rattle.ec_regs.specs.declared.registers.TheConstants.{FMMU_COUNT, SYNC_MANAGER_COUNT, MEMORY_SIZE};
 ghost use Rattle.ec_areas.specs.Records.{fmmu_at, fmmus_of, sync_manager_at, sync_managers_of};
 
 use ec_regs::registers::{FMMU_BASE, FMMU_SIZE, SYNC_MANAGER_BASE, SYNC_MANAGER_SIZE};
@@ -11,7 +11,7 @@ use ec_regs::{Fmmu, Fmmus, PlannedFmmu, PlannedSyncMan, SyncMan, SyncManagers};
 #[tactic(auto, unfolding(crate::specs::Records::fmmu_at))]
 pub fn fmmu_at(memory: &[u8], number: usize) -> Fmmu
     requires size { length memory.now ≡ MEMORY_SIZE }
-    requires number { number < 8 }
+    requires number { number < FMMU_COUNT }
     ensures { result ≡ fmmu_at memory.now number }
 {
     let at = FMMU_BASE as usize + FMMU_SIZE as usize * number;
@@ -40,7 +40,7 @@ pub fn fmmus_of(memory: &[u8]) -> Fmmus
 #[tactic(auto, unfolding(crate::specs::Records::sync_manager_at))]
 pub fn sync_manager_at(memory: &[u8], number: usize) -> SyncMan
     requires size { length memory.now ≡ MEMORY_SIZE }
-    requires number { number < 8 }
+    requires number { number < SYNC_MANAGER_COUNT }
     ensures { result ≡ sync_manager_at memory.now number }
 {
     let at = SYNC_MANAGER_BASE as usize + SYNC_MANAGER_SIZE as usize * number;

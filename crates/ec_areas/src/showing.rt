@@ -12,6 +12,7 @@ ghost use Rattle.ec_areas.specs.Showing.{last_byte, reaches, SaysOfLastBytes, Te
 
 use crate::areas::is_writable;
 use crate::met::{Run, run_met};
+use ec_regs::registers::SYNC_MANAGER_COUNT;
 use ec_regs::{PlannedFmmu, PlannedSyncMan, SyncManagers};
 
 /// How many bits a byte has.
@@ -79,7 +80,7 @@ pub fn last_bytes_written(
     fmmus: &[PlannedFmmu],
     address: u32,
     count: usize,
-) -> [bool; 8]
+) -> [bool; SYNC_MANAGER_COUNT]
     ensures { SaysOfLastBytes
         (λ byte. names (λ b. write_map managers.now fmmus.now (8 * address) (8 * count) (8 * byte + b)) 8)
         managers.now result }
@@ -91,11 +92,14 @@ pub fn last_bytes_written(
 }
 
 /// What a test says of each area, by number.
-pub fn told_of_each<F: Fn(&PlannedSyncMan) -> bool>(areas: &SyncManagers, test: F) -> [bool; 8]
+pub fn told_of_each<F: Fn(&PlannedSyncMan) -> bool>(
+    areas: &SyncManagers,
+    test: F,
+) -> [bool; SYNC_MANAGER_COUNT]
     requires { F.IsAlwaysCallable test }
     ensures { TellsOfEach (FnReturnsAt F.Fn test) areas.now result }
 {
-    let mut told = [false; 8];
+    let mut told = [false; SYNC_MANAGER_COUNT];
     for (i, area) in areas.iter().enumerate() {
         told[i] = test(area);
     }

@@ -16,7 +16,6 @@ use Rattle.ec_esc.specs.Application.{with_al, al_status, al_status_code, mail_ar
 use Rattle.ec_regs.specs.SyncMan.{is_active, is_mailbox}
 use Rattle.ec_regs.proofs.Laws.{status_of-status_byte}
 use Rattle.ec_esc.specs.State.{ControllerState, with_run}
-use Rattle.ec_regs.specs.SyncMan.{status_address}
 
 -- ---- a run of a list replaced
 

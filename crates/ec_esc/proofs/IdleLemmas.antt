@@ -9,6 +9,7 @@ use Rattle.std.proofs.lemmas.Bool.Decides.{nat_tests}
 use Rattle.std.proofs.lemmas.List.{ext_get_or}
 use Rattle.std.proofs.lemmas.List.FromFn.{length-map-range_with_len, get_or-map-range_with_len}
 use Rattle.std.specs.Prelude.{not}
+use Rattle.ec_regs.specs.declared.registers.TheConstants.{SYNC_MANAGER_COUNT}
 use Rattle.ec_regs.specs.Bits.{AreBytes, with_bits}
 use Rattle.ec_regs.specs.SyncMan.{is_active, is_buffered, master_writes}
 use Rattle.ec_regs.specs.declared.sync_man.SyncMan.{SyncMan}
@@ -32,7 +33,7 @@ switched_self true = refl
 switched_self false = refl
 
 -- a sync manager that stays is not switched
-switched_same : (before after : List ℕ) (i : ℕ) → SameRegisters before after → i < 8
+switched_same : (before after : List ℕ) (i : ℕ) → SameRegisters before after → i < SYNC_MANAGER_COUNT
     → is_switched before after i ≡ false
 switched_same before after i same below =
     let s : SyncMan = sync_manager_at before i in
@@ -41,7 +42,7 @@ switched_same before after i same below =
     ∙ switched_self (is_active s)
 
 -- a byte of a sync manager's record is that of one of eight
-number_below : (a : ℕ) → is_in_sync_manager a ≡ true → sync_manager_number a < 8
+number_below : (a : ℕ) → is_in_sync_manager a ≡ true → sync_manager_number a < SYNC_MANAGER_COUNT
 number_below a inside =
     let parts = and_parts (leb 2048 a) (ltb a 2112) inside in
     let high : ltb a 2112 ≡ true = parts.1 in

@@ -1,14 +1,26 @@
--- The laws that crates above cite: on what the application is shown, and on the half of a pass that writes.
-use Rattle.std.proofs.Common.{◌≡◌, ℕ, ◌<◌, Bool, false, List, length, get_or, ◌/◌, None}
+-- The laws that crates above cite: on what a working counter gains, on what the application is shown, and on
+-- the half of a pass that writes.
+use Rattle.std.proofs.Common.{◌≡◌, ◌+◌, ◌&&◌, cond, ℕ, ◌<◌, Bool, false, List, length, get_or, ◌/◌, None}
 use Rattle.ec_regs.specs.declared.sync_man.SyncMan.{SyncMan}
 use Rattle.ec_regs.specs.declared.registers.TheConstants.{PROCESS_MEMORY}
 use Rattle.ec_regs.specs.Bits.{with_bits}
 use Rattle.ec_areas.specs.Records.{sync_managers_of}
 use Rattle.ec_esc.specs.Writing.{shown_byte, shown_after}
 use Rattle.ec_esc.specs.State.{ControllerState, IsController}
-use Rattle.ec_esc.specs.Pass.{Half, touches, written_by}
+use Rattle.ec_esc.specs.Pass.{Half, touches, written_by, effect, gain_of, serves_reading, serves_writing}
+use Rattle.ec_wire.specs.Command.{addressing, reads, writes}
+use Rattle.ec_wire.specs.declared.command.Command.{Command}
+use Rattle.ec_esc.proofs.GainLemmas as gains
 use Rattle.ec_esc.proofs.ShowLemmas as showing
 use Rattle.ec_esc.proofs.IdleLemmas as idle
+
+-- ---- the working counter
+
+-- it gains 1 for a read that is served, and for a write that is served 2 beside a read and 1 alone
+pub gain_served : (x : Command) (c : ControllerState) (address n : ℕ) → gain_of (effect x c address n)
+    ≡ cond (reads x && serves_reading (addressing x) c address n) 1 0
+    + cond (writes x && serves_writing (addressing x) c address n) (cond (reads x) 2 1) 0
+gain_served = gains.gain-effect
 
 -- ---- shown bytes
 

@@ -9,4 +9,5 @@ pub mod IdleLemmas
 pub mod ServedLemmas
 pub mod PlannedLemmas
 pub mod ExchangeLemmas
+pub mod GainLemmas
 pub mod Laws

@@ -7,6 +7,7 @@ use Rattle.std.proofs.Math.Bool.{and-false}
 use Rattle.std.proofs.lemmas.Bool.{and_cases, le-ltb, ltb-false}
 use Rattle.std.proofs.lemmas.List.{ext_get_or, length-take-le, length-drop}
 use Rattle.std.specs.Option.{is_some}
+use Rattle.ec_regs.specs.declared.registers.TheConstants.{FMMU_COUNT, SYNC_MANAGER_COUNT}
 use Rattle.ec_regs.specs.Al.{state_of, status_byte}
 use Rattle.ec_regs.specs.Bits.{AreBytes, with_bits}
 use Rattle.ec_regs.specs.Fmmu.{fmmu_of}
@@ -91,7 +92,7 @@ run_stays before after from n at size changes inside apart =
 -- so an FMMU stays of whose record no byte changes
 pub fmmu_stays : (before after : List ℕ) (from n number : ℕ) → ChangesWithin from n before after
     → length before ≡ MEMORY_SIZE
-    → number < 8 → (ltb (1536 + 16 * number) (from + n) && ltb from (1536 + 16 * number + 16)) ≡ false
+    → number < FMMU_COUNT → (ltb (1536 + 16 * number) (from + n) && ltb from (1536 + 16 * number + 16)) ≡ false
     → fmmu_at after number ≡ fmmu_at before number
 unfolding fmmu_at
 fmmu_stays before after from n number changes size below apart =
@@ -100,7 +101,7 @@ fmmu_stays before after from n number changes size below apart =
 -- and a sync manager
 pub manager_stays : (before after : List ℕ) (from n number : ℕ) → ChangesWithin from n before after
     → length before ≡ MEMORY_SIZE
-    → number < 8 → (ltb (2048 + 8 * number) (from + n) && ltb from (2048 + 8 * number + 8)) ≡ false
+    → number < SYNC_MANAGER_COUNT → (ltb (2048 + 8 * number) (from + n) && ltb from (2048 + 8 * number + 8)) ≡ false
     → sync_manager_at after number ≡ sync_manager_at before number
 unfolding sync_manager_at
 manager_stays before after from n number changes size below apart =
@@ -155,24 +156,24 @@ renewed_kept {T} n old new now so_far same = record {
 -- ---- all eight of them
 
 -- FMMUs of which all are decoded anew are those of the memory
-pub fmmus_renewed : (old new : List Fmmu) (memory : List ℕ) → RenewedTo 8 old new (fmmu_at memory)
-    → length new ≡ 8
+pub fmmus_renewed : (old new : List Fmmu) (memory : List ℕ) → RenewedTo FMMU_COUNT old new (fmmu_at memory)
+    → length new ≡ FMMU_COUNT
     → new ≡ fmmus_of memory
 fmmus_renewed old new memory all size =
     let d : Fmmu = fmmu_at memory 0 in
     ext_get_or d new (fmmus_of memory) (size ∙ sym (length-fmmus_of memory))
     (λ j inside.
-    let below : j < 8 = omega arith in all.done d j below ∙ sym (get_or-fmmus_of memory d j below))
+    let below : j < FMMU_COUNT = omega arith in all.done d j below ∙ sym (get_or-fmmus_of memory d j below))
 
 -- and so are sync managers
 pub managers_renewed : (old new : List SyncMan) (memory : List ℕ)
-    → RenewedTo 8 old new (sync_manager_at memory) → length new ≡ 8
+    → RenewedTo SYNC_MANAGER_COUNT old new (sync_manager_at memory) → length new ≡ SYNC_MANAGER_COUNT
     → new ≡ sync_managers_of memory
 managers_renewed old new memory all size =
     let d : SyncMan = sync_manager_at memory 0 in
     ext_get_or d new (sync_managers_of memory) (size ∙ sym (length-sync_managers_of memory))
     (λ j inside.
-    let below : j < 8 = omega arith in all.done d j below ∙ sym (get_or-sync_managers_of memory d j below))
+    let below : j < SYNC_MANAGER_COUNT = omega arith in all.done d j below ∙ sym (get_or-sync_managers_of memory d j below))
 
 -- all FMMUs stay where a range meets none of their bytes
 pub fmmus_stay : (before after : List ℕ) (from n : ℕ) → ChangesWithin from n before after

@@ -8,6 +8,7 @@ use Rattle.std.proofs.lemmas.Bool.Decides.{nat_tests}
 use Rattle.std.proofs.lemmas.List.{ext_get_or}
 use Rattle.std.proofs.lemmas.List.FromFn.{length-map-range_with_len, get_or-map-range_with_len}
 use Rattle.std.specs.Prelude.{not}
+use Rattle.ec_regs.specs.declared.registers.TheConstants.{SYNC_MANAGER_COUNT}
 use Rattle.ec_regs.specs.declared.sync_man.SyncMan.{SyncMan}
 use Rattle.ec_regs.specs.SyncMan.{is_active}
 use Rattle.ec_areas.specs.Records.{sync_manager_at, sync_managers_of}
@@ -47,7 +48,7 @@ status_is a status =
     grind (arith, nat_tests)
 
 -- the status byte of a sync manager is one
-status_of : (n : ℕ) → n < 8 → is_status (status_address n) ≡ true
+status_of : (n : ℕ) → n < SYNC_MANAGER_COUNT → is_status (status_address n) ≡ true
 status_of n below =
     let low : leb 2048 (status_address n) ≡ true = grind (arith, nat_tests) in
     let high : ltb (status_address n) 2112 ≡ true = grind (arith, nat_tests) in
@@ -69,7 +70,7 @@ settled_other before after n a other =
     (cases_Bool (is_status a))
 
 -- one more that was switched
-pub settled_more : (before after now : List ℕ) (n : ℕ) → n < 8 → status_address n < length now
+pub settled_more : (before after now : List ℕ) (n : ℕ) → n < SYNC_MANAGER_COUNT → status_address n < length now
     → is_switched before after n ≡ true → ((a : ℕ) → get_or now a 0 ≡ settled_to before after n a)
     → (a : ℕ) → get_or (set now (status_address n) 0) a 0 ≡ settled_to before after (n + 1) a
 settled_more before after now n below inside switched so_far a =
@@ -84,7 +85,7 @@ settled_more before after now n below inside switched so_far a =
     (cases_eq a (status_address n))
 
 -- one more that was not
-pub settled_skip : (before after now : List ℕ) (n : ℕ) → n < 8
+pub settled_skip : (before after now : List ℕ) (n : ℕ) → n < SYNC_MANAGER_COUNT
     → is_switched before after n ≡ false → ((a : ℕ) → get_or now a 0 ≡ settled_to before after n a)
     → (a : ℕ) → get_or now a 0 ≡ settled_to before after (n + 1) a
 settled_skip before after now n below kept so_far a =
@@ -123,7 +124,7 @@ settled_all before after zs size bytes_are =
 
 -- the records of the memory before and of the memory after say which sync managers were switched
 pub switched_by_records : (arrived now : List ℕ) (before after : List SyncMan) (d e : SyncMan) (n : ℕ)
-    (answer : Bool) → n < 8
+    (answer : Bool) → n < SYNC_MANAGER_COUNT
     → before ≡ sync_managers_of arrived → after ≡ sync_managers_of now
     → answer ≡ cond (is_active (get_or before n d)) (not (is_active (get_or after n e))) (is_active
     (get_or after n e))

@@ -13,7 +13,7 @@ use Rattle.ec_wire.specs.declared.command.Addressing.TheVariants.{Nobody, AutoIn
 use Rattle.ec_wire.specs.declared.command.Addressing.TheVariants.{ConfiguredStation, All, Logical}
 use Rattle.ec_wire.specs.declared.command.Command.{Command}
 use Rattle.ec_areas.specs.Records.{fmmus_of, sync_managers_of}
-use Rattle.ec_areas.specs.Logical.{read_places, target_places, write_map, names}
+use Rattle.ec_areas.specs.Logical.{read_places, write_map, names, reads_some, writes_some}
 use Rattle.ec_regs.specs.AddressRange.{within}
 use Rattle.ec_areas.specs.Ranges.{takes_writes, serves_physical_read, serves_physical_write}
 use Rattle.ec_areas.specs.Ranges.{emptied_by, filled_by}
@@ -33,12 +33,13 @@ write_sources c address count =
 
 -- is there a readable pair in the range
 abbrev pub serves_read : ControllerState → ℕ → ℕ → Bool
-serves_read c address count = names (read_sources c address) (8 * count)
+serves_read c address count =
+    reads_some (sync_managers_of c.memory) (fmmus_of c.memory) (8 * address) (8 * count)
 
 -- is there a writable one
 abbrev pub serves_write : ControllerState → ℕ → ℕ → Bool
 serves_write c address count =
-    names (target_places (sync_managers_of c.memory) (fmmus_of c.memory) (8 * address)) (8 * count)
+    writes_some (sync_managers_of c.memory) (fmmus_of c.memory) (8 * address) (8 * count)
 
 -- ---- the range of a physical datagram begins at its ADO
 
@@ -147,6 +148,10 @@ pub record Effect : Type 0 where
   pub reading : Half
   pub writing : Half
 
+-- what the working counter gains by both
+abbrev pub gain_of : Effect → ℕ
+gain_of e = e.reading.gain + e.writing.gain
+
 -- one way alone
 abbrev pub only_reads : Half → Effect
 only_reads half = record { reading = half; writing = nothing }
@@ -159,6 +164,15 @@ effect x c address count = record {
   reading = where_served (reads x) (read_half (addressing x) c address count);
   writing = where_served (writes x) (write_half (addressing x) (if reads x then 2 else 1) c address count);
 }
+
+-- is what the data take served, and what the memory takes, by whom the command addresses
+abbrev pub serves_reading : Addressing → ControllerState → ℕ → ℕ → Bool
+serves_reading Logical c address count = serves_read c address count
+serves_reading a c address count = is_addressed a c address && serves_range_read c (ado_of address) count
+
+abbrev pub serves_writing : Addressing → ControllerState → ℕ → ℕ → Bool
+serves_writing Logical c address count = serves_write c address count
+serves_writing a c address count = is_addressed a c address && serves_range_write c (ado_of address) count
 
 -- ---- the rule
 
@@ -178,7 +192,7 @@ address_after d = if counts_adp d.command then (adp d + 1) % 65536 + 65536 * ado
 abbrev pub served : Effect → ControllerState → DatagramRecord → DatagramRecord
 served e c d = record d {
   payload = with_bits d.payload c.memory e.reading.places;
-  counter = counter_after d (e.reading.gain + e.writing.gain);
+  counter = counter_after d (gain_of e);
 }
 
 -- the datagram as it leaves

@@ -6,7 +6,7 @@ ghost use Rattle.ec_wire.specs.Datagram.{nth, adp, ado};
 ghost use Rattle.ec_esc.specs.Pass.{is_addressed};
 
 use crate::controller::Controller;
-use ec_wire::{Addressing, FrameBuf};
+use ec_wire::{Addressing, FrameBuf, adp_of};
 
 /// Counts the ADP of the datagram at `k` up, modulo 65536; all else stays.
 pub(crate) fn count_up(frame: &mut FrameBuf, k: usize)
@@ -27,10 +27,17 @@ impl Controller {
         requires { k < length frame.now }
         ensures { result ≡ is_addressed addressing self.now (nth frame.now k).address }
     {
+        self.is_named(addressing, frame.address(k))
+    }
+
+    /// Does an address name the controller, in a command that addresses so?
+    pub(crate) fn is_named(&self, addressing: Addressing, address: u32) -> bool
+        ensures { result ≡ is_addressed addressing self.now address }
+    {
         match addressing {
             Addressing::Nobody => false,
-            Addressing::AutoIncrement => frame.adp(k) == 0,
-            Addressing::ConfiguredStation => frame.adp(k) == self.station(),
+            Addressing::AutoIncrement => adp_of(address) == 0,
+            Addressing::ConfiguredStation => adp_of(address) == self.station(),
             Addressing::All | Addressing::Logical => true,
         }
     }

@@ -5,6 +5,7 @@
 ghost use Rattle.std.specs.Prelude.{true, false, ◌≡◌, ◌+◌, ◌-◌, ◌%◌, ◌<◌, ◌≤◌, IfOk};
 ghost use Rattle.std.specs.Prelude.{OnOk, OnErr, Some, ◌++◌, length, slice_index, option_map, replicate};
 ghost use Rattle.std.specs.Result.{result_err};
+ghost use Rattle.ec_regs.specs.declared.registers.TheConstants.{SYNC_MANAGER_COUNT};
 ghost use Rattle.ec_regs.specs.declared.registers.TheConstants.{AL_STATUS, PROCESS_MEMORY, MEMORY_SIZE};
 ghost use Rattle.ec_regs.specs.Al.{state_of};
 ghost use Rattle.ec_regs.specs.SyncMan.{is_full};
@@ -147,7 +148,7 @@ impl Controller {
     /// The outputs in the area of a sync manager, 0 to 7, as the application is shown them, or `None` where
     /// it guards no buffered area that the master writes (IEC 61158-4-12, sync manager, buffered mode).
     pub fn outputs(&self, sm: usize) -> Option<&[u8]>
-        requires { sm < 8 }
+        requires { sm < SYNC_MANAGER_COUNT }
         ensures { option_map (λ bytes. bytes.now) result ≡ outputs_of self.now sm }
     {
         let manager = self.syncman(sm);
@@ -162,7 +163,7 @@ impl Controller {
     /// master reads (IEC 61158-4-12, sync manager, buffered mode); all else stays. On an error nothing
     /// changes.
     pub fn put_inputs(&mut self, sm: usize, bytes: &[u8]) -> Result<(), AreaFault>
-        requires { sm < 8 }
+        requires { sm < SYNC_MANAGER_COUNT }
         ensures ok { OnOk result (self.new ≡ with_inputs self.old sm bytes.now) }
         ensures err { result_err result ≡ put_inputs_fault (sync_manager_at self.old.memory sm) bytes.now }
         ensures unchanged { OnErr result (self.new ≡ self.old) }
@@ -177,7 +178,7 @@ impl Controller {
     /// 128 bytes, and marks it empty (IEC 61158-4-12, sync manager, mailbox mode); all else stays. On an
     /// error nothing changes.
     pub fn take_mail(&mut self, sm: usize) -> Result<ArrayVec<u8, LONGEST_MAIL>, AreaFault>
-        requires { sm < 8 }
+        requires { sm < SYNC_MANAGER_COUNT }
         ensures mail { IfOk result (λ mail. mail.items
             ≡ mail_of (sync_manager_at self.old.memory sm) self.old.memory) }
         ensures ok { OnOk result (self.new ≡ with_mail_taken self.old sm) }
@@ -197,7 +198,7 @@ impl Controller {
     /// zeros after them, and it is marked full (IEC 61158-4-12, sync manager, mailbox mode); all else
     /// stays. On an error nothing changes.
     pub fn put_mail(&mut self, sm: usize, bytes: &[u8]) -> Result<(), AreaFault>
-        requires { sm < 8 }
+        requires { sm < SYNC_MANAGER_COUNT }
         ensures ok { OnOk result (self.new ≡ with_mail_put self.old sm bytes.now) }
         ensures err { result_err result ≡ put_mail_fault (sync_manager_at self.old.memory sm) bytes.now }
         ensures unchanged { OnErr result (self.new ≡ self.old) }

@@ -1,6 +1,7 @@
 //! The controller: its state, and the calls from the application's side.
 
 ghost use Rattle.std.specs.Prelude.{◌≡◌, ◌+◌, ◌-◌, ◌<◌, ◌≤◌, ℕ, IfOk, length, slice_index};
+ghost use Rattle.ec_regs.specs.declared.registers.TheConstants.{FMMU_COUNT, SYNC_MANAGER_COUNT};
 ghost use Rattle.ec_regs.specs.declared.registers.TheConstants.{PROCESS_MEMORY, MEMORY_SIZE};
 
 use crate::planned::PlannedMemory;
@@ -78,7 +79,7 @@ impl Controller {
 
     /// Sets the record of an FMMU, and leaves all else.
     pub fn set_fmmu(&mut self, i: usize, fmmu: &Fmmu)
-        requires { i < 8 }
+        requires { i < FMMU_COUNT }
         ensures { self.new ≡ with_fmmu self.old i fmmu.now }
     {
         self.memory
@@ -103,7 +104,7 @@ impl Controller {
     /// Sets the record of a sync manager with status 0. Where it is active then, its area is shown as it
     /// stands in the memory; all else stays.
     pub fn set_syncman(&mut self, i: usize, manager: &SyncMan)
-        requires { i < 8 }
+        requires { i < SYNC_MANAGER_COUNT }
         ensures { self.new ≡ with_sync_manager self.old i (record manager.now { status = 0 }) }
     {
         let empty = SyncMan {

@@ -2,6 +2,7 @@
 //! mailbox mode).
 
 ghost use Rattle.std.specs.Prelude.{◌≡◌, ◌<◌, Some, length};
+ghost use Rattle.ec_regs.specs.declared.registers.TheConstants.{SYNC_MANAGER_COUNT};
 ghost use Rattle.ec_regs.specs.declared.registers.TheConstants.{MEMORY_SIZE};
 ghost use Rattle.ec_esc.specs.Writing.{with_emptied, with_filled};
 
@@ -11,7 +12,7 @@ use ec_regs::{MAILBOX_FULL, status_address};
 
 /// Fills the mailbox of the sync manager with a number; all else stays.
 pub(crate) fn fill_mailbox(memory: &mut PlannedMemory, number: usize)
-    requires { number < 8 }
+    requires { number < SYNC_MANAGER_COUNT }
     ensures value { memory.new ≡ with_filled (Some number) memory.old }
     ensures size { length memory.new ≡ MEMORY_SIZE }
 {
@@ -23,7 +24,7 @@ pub(crate) fn fill_mailbox(memory: &mut PlannedMemory, number: usize)
 impl Controller {
     /// Marks the mailbox of a sync manager empty; all else stays.
     pub(crate) fn mark_empty(&mut self, sm: usize)
-        requires { sm < 8 }
+        requires { sm < SYNC_MANAGER_COUNT }
         ensures { self.new ≡ record self.old { memory = with_emptied (Some sm) self.old.memory } }
     {
         let at = status_address(sm);
@@ -33,7 +34,7 @@ impl Controller {
 
     /// Marks the mailbox of a sync manager full; all else stays.
     pub(crate) fn mark_full(&mut self, sm: usize)
-        requires { sm < 8 }
+        requires { sm < SYNC_MANAGER_COUNT }
         ensures { self.new ≡ record self.old { memory = with_filled (Some sm) self.old.memory } }
     {
         fill_mailbox(&mut self.memory, sm);

@@ -1,14 +1,15 @@
 //! What the application's side reads of a controller.
 
 ghost use Rattle.std.specs.Prelude.{◌≡◌, ◌+◌, ◌-◌, ◌<◌, ◌≤◌, length, slice_range};
+ghost use Rattle.ec_regs.specs.declared.registers.TheConstants.{FMMU_COUNT, SYNC_MANAGER_COUNT};
 ghost use Rattle.ec_regs.specs.declared.registers.TheConstants.{STATION_ADDRESS, PROCESS_MEMORY, MEMORY_SIZE};
 ghost use Rattle.ec_esc.specs.State.{IsController, word_at};
-ghost use Rattle.ec_areas.specs.Records.{fmmu_at, sync_manager_at};
+ghost use Rattle.ec_areas.specs.Records.{fmmu_at, sync_manager_at, sync_managers_of};
 
 use crate::controller::Controller;
 use crate::process::are_bytes;
 use ec_regs::registers::{PROCESS_MEMORY, STATION_ADDRESS};
-use ec_regs::{Fmmu, SyncMan};
+use ec_regs::{Fmmu, SyncMan, SyncManagers};
 
 impl Controller {
     /// The station address, by which FP commands name the slave (IEC 61158-4-12, station address). (Its
@@ -24,7 +25,7 @@ impl Controller {
 
     /// The record of an FMMU, 0 to 7, as it stands in the memory.
     pub fn fmmu(&self, i: usize) -> Fmmu
-        requires { i < 8 }
+        requires { i < FMMU_COUNT }
         ensures { result ≡ fmmu_at self.now.memory i }
     {
         self.memory.fmmus()[i].fmmu()
@@ -32,10 +33,17 @@ impl Controller {
 
     /// The record of a sync manager as it stands in the memory.
     pub fn syncman(&self, i: usize) -> SyncMan
-        requires { i < 8 }
+        requires { i < SYNC_MANAGER_COUNT }
         ensures { result ≡ sync_manager_at self.now.memory i }
     {
         self.memory.managers()[i].manager()
+    }
+
+    /// The records of all sync managers, by number, as they stand in the memory.
+    pub fn syncmans(&self) -> &SyncManagers
+        ensures { result.now ≡ sync_managers_of self.now.memory }
+    {
+        self.memory.managers()
     }
 
     /// The memory's bytes from an address on.

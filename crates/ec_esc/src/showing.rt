@@ -6,6 +6,7 @@ ghost use Rattle.ec_areas.specs.Showing.{SaysOfLastBytes};
 ghost use Rattle.ec_esc.specs.Writing.{hands_over, shown_after};
 
 use crate::controller::Controller;
+use ec_regs::registers::SYNC_MANAGER_COUNT;
 use ec_regs::{PlannedSyncMan, SyncManagers};
 
 /// Is an area shown anew after a write: it became active, or it is buffered, the master writes it, and its
@@ -28,7 +29,7 @@ impl Controller {
         &mut self,
         before: &SyncManagers,
         after: &SyncManagers,
-        last_written: &[bool; 8],
+        last_written: &[bool; SYNC_MANAGER_COUNT],
     )
         ensures { (is_written : ℕ → Bool) → SaysOfLastBytes is_written after.now last_written.now
             → self.new ≡ record self.old {

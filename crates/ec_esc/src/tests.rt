@@ -4,6 +4,7 @@
 mod application;
 mod controller;
 mod door;
+mod gain;
 mod logical_read;
 mod logical_write;
 mod physical;

@@ -2,7 +2,7 @@
 
 ghost use Rattle.ec_regs.specs.Bits.{AreBytes};
 
-use crate::{last_bytes_written, read_mapped, write_mapped};
+use crate::{last_bytes_written, read_mapped, reads_some, write_mapped, writes_some};
 use ec_regs::{Fmmu, Memory, PlannedFmmu, PlannedSyncMan, SyncMan, SyncManagers};
 
 /// A sync manager that guards nothing.
@@ -127,6 +127,46 @@ fn a_write_changes_four_bits_and_shows_their_area(rt: HostRuntime) {
         written,
         [false, false, true, false, false, false, false, false]
     );
+}
+
+#[test]
+fn a_range_has_a_pair_where_one_of_its_bits_is_mapped(rt: HostRuntime) {
+    let fmmus = [PlannedFmmu::new(READ), PlannedFmmu::new(WRITE)];
+    // The bytes before, both bytes of the runs, and the byte behind.
+    assert!(rt; !reads_some(&areas(), &fmmus, 0x0000_FFFF, 1));
+    assert!(rt; reads_some(&areas(), &fmmus, 0x0000_FFFF, 2));
+    assert!(rt; reads_some(&areas(), &fmmus, 0x0001_0001, 1));
+    assert!(rt; !reads_some(&areas(), &fmmus, 0x0001_0002, 1));
+    assert!(rt; writes_some(&areas(), &fmmus, 0x0001_0000, 1));
+    assert!(rt; writes_some(&areas(), &fmmus, 0x0001_0001, 1));
+    assert!(rt; !writes_some(&areas(), &fmmus, 0x0001_0002, 1));
+    // No bytes, and none of the FMMUs.
+    assert!(rt; !reads_some(&areas(), &fmmus, 0x0001_0000, 0));
+    assert!(rt; !reads_some(&areas(), &fmmus[1..], 0x0001_0000, 2));
+    assert!(rt; !writes_some(&areas(), &fmmus[..1], 0x0001_0000, 2));
+}
+
+#[test]
+fn bits_that_areas_keep_are_no_pairs(rt: HostRuntime) {
+    // The first byte is the last register, which may be read and not written; the second is the byte of
+    // outputs, which may be written and not read.
+    let onto_both = Fmmu {
+        physical: 0x0FFF,
+        start: 0,
+        stop: 7,
+        bit: 0,
+        ..READ
+    };
+    let reading = [PlannedFmmu::new(onto_both)];
+    assert!(rt; reads_some(&areas(), &reading, 0x0001_0000, 1));
+    assert!(rt; !reads_some(&areas(), &reading, 0x0001_0001, 1));
+    let writing = [PlannedFmmu::new(Fmmu {
+        kind: 2,
+        ..onto_both
+    })];
+    assert!(rt; !writes_some(&areas(), &writing, 0x0001_0000, 1));
+    assert!(rt; writes_some(&areas(), &writing, 0x0001_0001, 1));
+    assert!(rt; writes_some(&areas(), &writing, 0x0001_0000, 2));
 }
 
 #[test]

@@ -4,7 +4,7 @@
 
 use crate::tests::by_pairs::{reaches_by_pairs, read_by_pairs, write_by_pairs};
 use crate::tests::examples::{NO_AREA, write};
-use crate::{last_bytes_written, read_mapped};
+use crate::{last_bytes_written, read_mapped, reads_some, writes_some};
 use ec_regs::{Fmmu, Memory, PlannedFmmu, PlannedSyncMan, SyncMan, SyncManagers};
 use std::process::Abort;
 
@@ -96,6 +96,8 @@ fn reads_agree_with_the_walk(rt: HostRuntime) {
                 );
                 assert_eq!(rt; data, wanted, "{fmmu:?} {area:?} {address}");
                 assert_eq!(rt; served, found, "{fmmu:?} {area:?} {address}");
+                let named = reads_some(&managers, &planned, address, count);
+                assert_eq!(rt; named, found, "{fmmu:?} {area:?} {address}");
             }
         }
     }
@@ -129,6 +131,8 @@ fn writes_agree<R: Abort + AllocGlobal>(rt: &R, direction: u8) {
                 let written = &memory.bytes()[0x10FE..0x1106];
                 assert_eq!(rt; written, &wanted[..], "{fmmu:?} {area:?} {address}");
                 assert_eq!(rt; served, found, "{fmmu:?} {area:?} {address}");
+                let named = writes_some(&managers, &planned, address, count);
+                assert_eq!(rt; named, found, "{fmmu:?} {area:?} {address}");
                 let shown = last_bytes_written(&managers, &planned, address, count)[2];
                 let last = area.start.saturating_add(area.length).saturating_sub(1);
                 let reached = reaches_by_pairs(&managers, &[fmmu], address, 8 * count, last.into());

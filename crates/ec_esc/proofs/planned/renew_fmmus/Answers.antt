@@ -1,5 +1,6 @@
 use Rattle.std.proofs.Common.{◌≡◌, ◌<◌, ℕ, List, length, get_or, sym, ◌∙◌, ap, arith}
 use Rattle.std.proofs.lemmas.List.{length-set}
+use Rattle.ec_regs.specs.declared.registers.TheConstants.{FMMU_COUNT}
 use Rattle.ec_regs.specs.declared.fmmu.Fmmu.{Fmmu}
 use Rattle.ec_areas.specs.Records.{fmmu_at}
 use Rattle.ec_areas.proofs.Laws.{get_or-fmmus_of}
@@ -26,8 +27,8 @@ loop-number-preserved c =
     let old : List Fmmu = c.args.fmmus.now in
     let fmmus : List Fmmu = c.loop-number.fmmus in
     let memory : List ℕ = c.args.memory.now in
-    let below : number < 8 = c.loop-number-test.true in
-    let size : length fmmus ≡ 8 = c.loop-number.invariant.size in
+    let below : number < FMMU_COUNT = c.loop-number-test.true in
+    let size : length fmmus ≡ FMMU_COUNT = c.loop-number.invariant.size in
     elim c.if-meets.branch [
       | then-meets w ↦ rw (w.fmmus-is, w.new.ensures, w.fmmu_at.ensures) record {
         size = length-set fmmus number (fmmu_at memory number) ∙ size;
@@ -51,6 +52,6 @@ loop-number-preserved c =
 
 pub returns : goal.returns
 returns c before old_is changes =
-    let all : c.loop-number.number ≡ 8 = omega arith in
+    let all : c.loop-number.number ≡ FMMU_COUNT = omega arith in
     fmmus_renewed c.args.fmmus.now c.loop-number.fmmus c.args.memory.now
     (rw (sym all) (c.loop-number.invariant.renewed before old_is changes)) c.loop-number.invariant.size

@@ -1,5 +1,6 @@
 use Rattle.std.proofs.Common.{◌≡◌, ◌<◌, ℕ, List, length, get_or, sym, ◌∙◌, ap, arith}
 use Rattle.std.proofs.lemmas.List.{length-set}
+use Rattle.ec_regs.specs.declared.registers.TheConstants.{SYNC_MANAGER_COUNT}
 use Rattle.ec_regs.specs.declared.sync_man.SyncMan.{SyncMan}
 use Rattle.ec_areas.specs.Records.{sync_manager_at}
 use Rattle.ec_areas.proofs.Laws.{get_or-sync_managers_of}
@@ -27,8 +28,8 @@ loop-number-preserved c =
     let old : List SyncMan = c.args.managers.now in
     let managers : List SyncMan = c.loop-number.managers in
     let memory : List ℕ = c.args.memory.now in
-    let below : number < 8 = c.loop-number-test.true in
-    let size : length managers ≡ 8 = c.loop-number.invariant.size in
+    let below : number < SYNC_MANAGER_COUNT = c.loop-number-test.true in
+    let size : length managers ≡ SYNC_MANAGER_COUNT = c.loop-number.invariant.size in
     elim c.if-meets.branch [
       | then-meets w ↦ rw (w.managers-is, w.new.ensures, w.sync_manager_at.ensures) record {
         size = length-set managers number (sync_manager_at memory number) ∙ size;
@@ -53,6 +54,6 @@ loop-number-preserved c =
 
 pub returns : goal.returns
 returns c before old_is changes =
-    let all : c.loop-number.number ≡ 8 = omega arith in
+    let all : c.loop-number.number ≡ SYNC_MANAGER_COUNT = omega arith in
     managers_renewed c.args.managers.now c.loop-number.managers c.args.memory.now
     (rw (sym all) (c.loop-number.invariant.renewed before old_is changes)) c.loop-number.invariant.size

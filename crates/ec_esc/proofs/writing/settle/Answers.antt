@@ -1,6 +1,7 @@
 use Rattle.std.specs.Prelude.{not}
 use Rattle.std.proofs.Common.{◌≡◌, ℕ, ◌<◌, List, length, get_or, set, cond, refl, sym, ◌∙◌, ap, arith}
 use Rattle.std.proofs.lemmas.List.{length-set}
+use Rattle.ec_regs.specs.declared.registers.TheConstants.{SYNC_MANAGER_COUNT}
 use Rattle.ec_regs.specs.declared.registers.TheConstants.{MEMORY_SIZE}
 use Rattle.ec_areas.specs.Records.{sync_managers_of}
 use Rattle.ec_regs.specs.SyncMan.{is_active}
@@ -32,7 +33,7 @@ pub loop-number-preserved : goal.loop-number-preserved
 loop-number-preserved c =
     let now = c.args.memory.now in
     let number = c.loop-number.number in
-    let below : number < 8 = c.loop-number-test.true in
+    let below : number < SYNC_MANAGER_COUNT = c.loop-number-test.true in
     let room : length now ≡ MEMORY_SIZE = c.managers.ensures.size in
     let inside : status_address number < length c.loop-number.memory =
     omega (arith, c.loop-number.invariant.size) in
@@ -59,7 +60,7 @@ loop-number-preserved c =
 
 pub returns-clause-value : goal.returns-clause-value
 returns-clause-value c arrived before_is =
-    let all : c.loop-number.number ≡ 8 = omega arith in
+    let all : c.loop-number.number ≡ SYNC_MANAGER_COUNT = omega arith in
     settled_all arrived c.args.memory.now c.loop-number.memory c.loop-number.invariant.size
     (λ a. c.loop-number.invariant.bytes arrived before_is a
     ∙ ap (λ (n : ℕ). settled_to arrived c.args.memory.now n a) all)

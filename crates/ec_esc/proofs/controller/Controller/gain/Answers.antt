@@ -1,0 +1,14 @@
+use Rattle.std.proofs.Common.{sym}
+use Rattle.ec_esc.proofs.GainLemmas.{gain-effect}
+use Rattle.ec_esc.proofs.controller.Controller.gain.Goals as goal
+
+pub returns-clause-value : goal.returns-clause-value
+returns-clause-value c =
+    rw (
+      c.counted.ensures.value,
+      c.counted-2.ensures.value,
+      c.reads_at-is_read.ensures,
+      c.writes_at-is_written.ensures,
+      c.write_gain.ensures.value,
+    )
+    (sym (gain-effect c.args.command c.args.self.now c.args.address c.args.count))
