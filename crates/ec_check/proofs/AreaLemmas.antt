@@ -1,5 +1,6 @@
 -- Areas that meet, number by number.
 use Rattle.std.proofs.Common.{ℕ, ◌<◌, ◌≤◌, List, [], ◌∷◌, length, refl, arith}
+use Rattle.ec_regs.specs.declared.registers.TheConstants.{SYNC_MANAGER_COUNT}
 use Rattle.ec_esc.specs.State.{ControllerState}
 use Rattle.ec_check.specs.declared.fault.MapFault.{MapFault}
 use Rattle.ec_check.specs.declared.fault.MapFault.TheVariants.{AreasMeet}
@@ -17,21 +18,21 @@ meeting_go_on line bound end (AreasMeet i k m b) broken begins =
 meeting_go_on line bound end fault broken begins = absurd (omega (arith, begins.0))
 
 -- then with a sync manager
-pub meeting_of_go_on : (line : List ControllerState) (slave bound : ℕ) → 8 ≤ bound
+pub meeting_of_go_on : (line : List ControllerState) (slave bound : ℕ) → SYNC_MANAGER_COUNT ≤ bound
     → GoesOnBelow (3 ∷ slave ∷ []) line bound
 meeting_of_go_on line slave bound end (AreasMeet i k m b) broken begins = (
   k,
-  let order : k < m = broken.order in let there : m < 8 = broken.number_there in omega arith,
+  let order : k < m = broken.order in let there : m < SYNC_MANAGER_COUNT = broken.number_there in omega arith,
   (refl, (begins.1.0, (refl, tt))),
 )
 meeting_of_go_on line slave bound end fault broken begins = absurd (omega (arith, begins.0))
 
 -- and then with another
-pub meeting_with_go_on : (line : List ControllerState) (slave number bound : ℕ) → 8 ≤ bound
+pub meeting_with_go_on : (line : List ControllerState) (slave number bound : ℕ) → SYNC_MANAGER_COUNT ≤ bound
     → GoesOnBelow (3 ∷ slave ∷ number ∷ []) line bound
 meeting_with_go_on line slave number bound end (AreasMeet i k m b) broken begins = (
   m,
-  let there : m < 8 = broken.number_there in omega arith,
+  let there : m < SYNC_MANAGER_COUNT = broken.number_there in omega arith,
   (refl, (begins.1.0, (begins.1.1.0, (refl, tt)))),
 )
 meeting_with_go_on line slave number bound end fault broken begins = absurd (omega (arith, begins.0))

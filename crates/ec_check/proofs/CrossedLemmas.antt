@@ -1,6 +1,7 @@
 -- Logical bits that are read from one slave and written to another, number by number.
 use Rattle.std.proofs.Common.{◌≡◌, ℕ, ◌<◌, ◌≤◌, false, List, [], ◌∷◌, length, refl, arith}
 use Rattle.std.proofs.lemmas.Bool.{both_ways}
+use Rattle.ec_regs.specs.declared.registers.TheConstants.{FMMU_COUNT}
 use Rattle.ec_regs.specs.Pairs.{reads}
 use Rattle.ec_esc.specs.State.{ControllerState}
 use Rattle.ec_check.specs.declared.fault.MapFault.{MapFault}
@@ -20,10 +21,10 @@ crossed_go_on line bound end (ReadAndWritten i k j m b) broken begins =
 crossed_go_on line bound end fault broken begins = absurd (omega (arith, begins.0))
 
 -- then with an FMMU
-pub reader_go_on : (line : List ControllerState) (reader bound : ℕ) → 8 ≤ bound
+pub reader_go_on : (line : List ControllerState) (reader bound : ℕ) → FMMU_COUNT ≤ bound
     → GoesOnBelow (7 ∷ reader ∷ []) line bound
 reader_go_on line reader bound end (ReadAndWritten i k j m b) broken begins =
-    (k, let there : k < 8 = broken.read.there.number_there in omega arith, (refl, (begins.1.0, (refl, tt))))
+    (k, let there : k < FMMU_COUNT = broken.read.there.number_there in omega arith, (refl, (begins.1.0, (refl, tt))))
 reader_go_on line reader bound end fault broken begins = absurd (omega (arith, begins.0))
 
 -- then with another slave
@@ -37,11 +38,11 @@ reader_fmmu_go_on line reader reader_fmmu bound end (ReadAndWritten i k j m b) b
 reader_fmmu_go_on line reader reader_fmmu bound end fault broken begins = absurd (omega (arith, begins.0))
 
 -- and then with one of its FMMUs
-pub writer_go_on : (line : List ControllerState) (reader reader_fmmu writer bound : ℕ) → 8 ≤ bound
+pub writer_go_on : (line : List ControllerState) (reader reader_fmmu writer bound : ℕ) → FMMU_COUNT ≤ bound
     → GoesOnBelow (7 ∷ reader ∷ reader_fmmu ∷ writer ∷ []) line bound
 writer_go_on line reader reader_fmmu writer bound end (ReadAndWritten i k j m b) broken begins = (
   m,
-  let there : m < 8 = broken.written.there.number_there in omega arith,
+  let there : m < FMMU_COUNT = broken.written.there.number_there in omega arith,
   (refl, (begins.1.0, (begins.1.1.0, (begins.1.1.1.0, (refl, tt))))),
 )
 writer_go_on line reader reader_fmmu writer bound end fault broken begins = absurd (omega (arith, begins.0))

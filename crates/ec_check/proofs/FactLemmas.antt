@@ -8,6 +8,7 @@ use Rattle.std.proofs.lemmas.Bool.Decides.{nat_tests}
 use Rattle.std.proofs.lemmas.List.Folds.{list_any_at}
 use Rattle.std.proofs.lemmas.List.Elements.{All-from_get_or, All-get_or, All-from_recursion}
 use Rattle.std.proofs.lemmas.List.Elements.{recursion_from_All}
+use Rattle.ec_regs.specs.declared.registers.TheConstants.{FMMU_COUNT, SYNC_MANAGER_COUNT}
 use Rattle.ec_regs.specs.Pairs.{is_switched_on}
 use Rattle.ec_regs.specs.Pairs.{reads, writes, IsPair, first_logical, first_physical, pair_count}
 use Rattle.ec_regs.specs.declared.fmmu.Fmmu.{Fmmu}
@@ -96,10 +97,10 @@ pub LiesInArea-fit : (line : List ControllerState) (slave number : ℕ) → IsFi
 LiesInArea-fit line slave number fit there some =
     let f : Fmmu = fmmu_of line slave number in
     ⊎_elim
-    (λ (found : (k : ℕ) × (k < 8) × (holds_first_byte (sync_manager_of line slave k) f ≡ true)).
+    (λ (found : (k : ℕ) × (k < SYNC_MANAGER_COUNT) × (holds_first_byte (sync_manager_of line slave k) f ≡ true)).
     lies_in_end line slave number _ fit there some
     (IsAreaEnd-holds line slave found.0 f some found.1 found.2))
-    (λ (none : (k : ℕ) → k < 8 → holds_first_byte (sync_manager_of line slave k) f ≡ false).
+    (λ (none : (k : ℕ) → k < SYNC_MANAGER_COUNT → holds_first_byte (sync_manager_of line slave k) f ≡ false).
     ⊎_elim
     (λ (mail : begins_at_mail_status f ≡ true).
     lies_in_end line slave number _ fit there some (IsAreaEnd-mail line slave f some mail))
@@ -133,7 +134,7 @@ read_pair line slave l p there readable =
     let memory : List ℕ = (controller_of line slave).memory in
     let k : ℕ = readable.0 in
     let f : Fmmu = readable.1 in
-    let below : k < 8 = omega (arith, readable.2, length-fmmus_of memory) in
+    let below : k < FMMU_COUNT = omega (arith, readable.2, length-fmmus_of memory) in
     let is : f ≡ fmmu_at memory k = sym readable.3 ∙ get_or-fmmus_of memory f k below in
     let pair : IsPair (fmmu_at memory k) l p = rw is at readable.4.mapped in (
       k,
@@ -156,7 +157,7 @@ written_pair line slave l p there writable =
     let memory : List ℕ = (controller_of line slave).memory in
     let k : ℕ = writable.0 in
     let f : Fmmu = writable.1 in
-    let below : k < 8 = omega (arith, writable.2, length-fmmus_of memory) in
+    let below : k < FMMU_COUNT = omega (arith, writable.2, length-fmmus_of memory) in
     let is : f ≡ fmmu_at memory k = sym writable.3 ∙ get_or-fmmus_of memory f k below in (
       k,
       record { slave_there = there; number_there = below },
@@ -225,7 +226,7 @@ written_once line slave l m p fit there first second =
     (cases_order one.0 two.0)
 
 -- a byte of a buffered area that the master reads is steady
-input_at : (line : List ControllerState) (slave number address : ℕ) → number < 8
+input_at : (line : List ControllerState) (slave number address : ℕ) → number < SYNC_MANAGER_COUNT
     → is_active (sync_manager_of line slave number) ≡ true → is_buffered (sync_manager_of line slave number)
     ≡ true
     → master_reads (sync_manager_of line slave number) ≡ true

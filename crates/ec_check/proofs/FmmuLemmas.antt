@@ -3,6 +3,7 @@ use Rattle.std.proofs.Common.{◌≡◌, ⊎_elim, inl, inr, ℕ, ◌+◌, ◌*�
 use Rattle.std.proofs.Common.{eqb, leb, List, [], ◌∷◌, length, refl, arith}
 use Rattle.std.proofs.lemmas.Bool.{and_parts, and_from, or_cases, or_left, or_right, leb-true, le-leb}
 use Rattle.std.proofs.lemmas.Bool.{eqb-true, eq-eqb, cases_Bool}
+use Rattle.ec_regs.specs.declared.registers.TheConstants.{FMMU_COUNT}
 use Rattle.ec_regs.specs.Pairs.{is_switched_on}
 use Rattle.ec_regs.specs.Pairs.{can_map, first_logical, first_physical, pair_count}
 use Rattle.ec_regs.specs.declared.fmmu.Fmmu.{Fmmu}
@@ -30,10 +31,10 @@ bad_go_on line bound end (BadFmmu i k) broken begins =
 bad_go_on line bound end fault broken begins = absurd (omega (arith, begins.0))
 
 -- and then with an FMMU
-pub bad_of_go_on : (line : List ControllerState) (slave bound : ℕ) → 8 ≤ bound
+pub bad_of_go_on : (line : List ControllerState) (slave bound : ℕ) → FMMU_COUNT ≤ bound
     → GoesOnBelow (2 ∷ slave ∷ []) line bound
 bad_of_go_on line slave bound end (BadFmmu i k) broken begins =
-    (k, let there : k < 8 = broken.there.number_there in omega arith, (refl, (begins.1.0, (refl, tt))))
+    (k, let there : k < FMMU_COUNT = broken.there.number_there in omega arith, (refl, (begins.1.0, (refl, tt))))
 bad_of_go_on line slave bound end fault broken begins = absurd (omega (arith, begins.0))
 
 -- there is no fault of this one if it is not bad

@@ -11,4 +11,5 @@ pub mod FmmuLemmas
 pub mod OutsideLemmas
 pub mod FitLemmas
 pub mod FactLemmas
+pub mod MappingLemmas
 pub mod Laws

@@ -3,6 +3,7 @@ use Rattle.std.proofs.Common.{◌≡◌, ◌⊎◌, ⊎_elim, inl, inr, ℕ, ◌
 use Rattle.std.proofs.Common.{◌||◌, eqb, leb, ltb, List, [], ◌∷◌, length, refl, sym, ap, ◌∙◌, arith}
 use Rattle.std.proofs.lemmas.Bool.{and_parts, and_from, leb-true, le-leb, ltb-true, lt-ltb, eqb-true, eq-eqb}
 use Rattle.std.proofs.lemmas.Bool.{both_ways, cases_order}
+use Rattle.ec_regs.specs.declared.registers.TheConstants.{FMMU_COUNT, SYNC_MANAGER_COUNT}
 use Rattle.ec_regs.specs.Pairs.{is_switched_on}
 use Rattle.ec_regs.specs.Pairs.{reads, first_physical, pair_count}
 use Rattle.ec_regs.specs.declared.fmmu.Fmmu.{Fmmu}
@@ -35,10 +36,10 @@ outside_go_on line bound end (OutsideArea i k a) broken begins =
 outside_go_on line bound end fault broken begins = absurd (omega (arith, begins.0))
 
 -- and then with an FMMU
-pub outside_of_go_on : (line : List ControllerState) (slave bound : ℕ) → 8 ≤ bound
+pub outside_of_go_on : (line : List ControllerState) (slave bound : ℕ) → FMMU_COUNT ≤ bound
     → GoesOnBelow (4 ∷ slave ∷ []) line bound
 outside_of_go_on line slave bound end (OutsideArea i k a) broken begins =
-    (k, let there : k < 8 = broken.there.number_there in omega arith, (refl, (begins.1.0, (refl, tt))))
+    (k, let there : k < FMMU_COUNT = broken.there.number_there in omega arith, (refl, (begins.1.0, (refl, tt))))
 outside_of_go_on line slave bound end fault broken begins = absurd (omega (arith, begins.0))
 
 -- there is no fault of an FMMU that leaves its area nowhere
@@ -99,7 +100,7 @@ suits-active s f suitable =
 -- two areas of sync managers that share a byte are of one sync manager
 same_manager : (line : List ControllerState) (slave m n address : ℕ) (f : Fmmu) → HasNone (3 ∷ []) line
     → slave < length line
-    → n < 8 → suits (sync_manager_of line slave m) f ≡ true → suits (sync_manager_of line slave n) f ≡ true
+    → n < SYNC_MANAGER_COUNT → suits (sync_manager_of line slave m) f ≡ true → suits (sync_manager_of line slave n) f ≡ true
     → (sync_manager_of line slave m).start ≤ address
     → address < (sync_manager_of line slave m).start + (sync_manager_of line slave m).length
     → (sync_manager_of line slave n).start ≤ address
@@ -209,7 +210,7 @@ HoldsAllOf-last area f some all =
 
 -- a sync manager whose area of its kind holds its first byte
 pub IsAreaEnd-holds : (line : List ControllerState) (slave number : ℕ) (f : Fmmu) → 1 ≤ pair_count f
-    → number < 8
+    → number < SYNC_MANAGER_COUNT
     → holds_first_byte (sync_manager_of line slave number) f ≡ true
     → IsAreaEnd line slave f
     ((sync_manager_of line slave number).start + (sync_manager_of line slave number).length)
@@ -244,7 +245,7 @@ IsAreaEnd-mail line slave f some begins =
 
 -- none of them
 pub HasNoArea-none : (line : List ControllerState) (slave : ℕ) (f : Fmmu) → 1 ≤ pair_count f
-    → ((n : ℕ) → n < 8 → holds_first_byte (sync_manager_of line slave n) f ≡ false)
+    → ((n : ℕ) → n < SYNC_MANAGER_COUNT → holds_first_byte (sync_manager_of line slave n) f ≡ false)
     → begins_at_mail_status f ≡ false
     → HasNoArea line slave f
 HasNoArea-none line slave f some none no_mail area (inl guarded) holds =

@@ -1,6 +1,7 @@
 -- Logical bits that are read twice, number by number.
 use Rattle.std.proofs.Common.{◌≡◌, ⊎_elim, ℕ, ◌<◌, ◌≤◌, false, List, [], ◌∷◌, length, refl, arith}
 use Rattle.std.proofs.lemmas.Bool.{both_ways}
+use Rattle.ec_regs.specs.declared.registers.TheConstants.{FMMU_COUNT}
 use Rattle.ec_regs.specs.Pairs.{reads}
 use Rattle.ec_esc.specs.State.{ControllerState}
 use Rattle.ec_check.specs.declared.fault.MapFault.{MapFault}
@@ -20,10 +21,10 @@ read_go_on line bound end (TwiceRead i k j m b) broken begins =
 read_go_on line bound end fault broken begins = absurd (omega (arith, begins.0))
 
 -- then with an FMMU
-pub read_by_go_on : (line : List ControllerState) (slave bound : ℕ) → 8 ≤ bound
+pub read_by_go_on : (line : List ControllerState) (slave bound : ℕ) → FMMU_COUNT ≤ bound
     → GoesOnBelow (6 ∷ slave ∷ []) line bound
 read_by_go_on line slave bound end (TwiceRead i k j m b) broken begins =
-    (k, let there : k < 8 = broken.first.there.number_there in omega arith, (refl, (begins.1.0, (refl, tt))))
+    (k, let there : k < FMMU_COUNT = broken.first.there.number_there in omega arith, (refl, (begins.1.0, (refl, tt))))
 read_by_go_on line slave bound end fault broken begins = absurd (omega (arith, begins.0))
 
 -- then with another slave or the same
@@ -37,11 +38,11 @@ read_again_go_on line slave fmmu bound end (TwiceRead i k j m b) broken begins =
 read_again_go_on line slave fmmu bound end fault broken begins = absurd (omega (arith, begins.0))
 
 -- and then with one of its FMMUs
-pub read_again_by_go_on : (line : List ControllerState) (slave fmmu later_slave bound : ℕ) → 8 ≤ bound
+pub read_again_by_go_on : (line : List ControllerState) (slave fmmu later_slave bound : ℕ) → FMMU_COUNT ≤ bound
     → GoesOnBelow (6 ∷ slave ∷ fmmu ∷ later_slave ∷ []) line bound
 read_again_by_go_on line slave fmmu later_slave bound end (TwiceRead i k j m b) broken begins = (
   m,
-  let there : m < 8 = broken.second.there.number_there in omega arith,
+  let there : m < FMMU_COUNT = broken.second.there.number_there in omega arith,
   (refl, (begins.1.0, (begins.1.1.0, (begins.1.1.1.0, (refl, tt))))),
 )
 read_again_by_go_on line slave fmmu later_slave bound end fault broken begins =

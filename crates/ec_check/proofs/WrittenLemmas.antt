@@ -1,5 +1,6 @@
 -- Physical bits that are written twice, number by number.
 use Rattle.std.proofs.Common.{ℕ, ◌<◌, ◌≤◌, List, [], ◌∷◌, length, refl, arith}
+use Rattle.ec_regs.specs.declared.registers.TheConstants.{FMMU_COUNT}
 use Rattle.ec_esc.specs.State.{ControllerState}
 use Rattle.ec_check.specs.declared.fault.MapFault.{MapFault}
 use Rattle.ec_check.specs.declared.fault.MapFault.TheVariants.{TwiceWritten}
@@ -17,18 +18,18 @@ written_go_on line bound end (TwiceWritten i k m b) broken begins =
 written_go_on line bound end fault broken begins = absurd (omega (arith, begins.0))
 
 -- then with an FMMU
-pub written_in_go_on : (line : List ControllerState) (slave bound : ℕ) → 8 ≤ bound
+pub written_in_go_on : (line : List ControllerState) (slave bound : ℕ) → FMMU_COUNT ≤ bound
     → GoesOnBelow (5 ∷ slave ∷ []) line bound
 written_in_go_on line slave bound end (TwiceWritten i k m b) broken begins =
-    (k, let there : k < 8 = broken.first.there.number_there in omega arith, (refl, (begins.1.0, (refl, tt))))
+    (k, let there : k < FMMU_COUNT = broken.first.there.number_there in omega arith, (refl, (begins.1.0, (refl, tt))))
 written_in_go_on line slave bound end fault broken begins = absurd (omega (arith, begins.0))
 
 -- and then with another
-pub written_again_go_on : (line : List ControllerState) (slave fmmu bound : ℕ) → 8 ≤ bound
+pub written_again_go_on : (line : List ControllerState) (slave fmmu bound : ℕ) → FMMU_COUNT ≤ bound
     → GoesOnBelow (5 ∷ slave ∷ fmmu ∷ []) line bound
 written_again_go_on line slave fmmu bound end (TwiceWritten i k m b) broken begins = (
   m,
-  let there : m < 8 = broken.second.there.number_there in omega arith,
+  let there : m < FMMU_COUNT = broken.second.there.number_there in omega arith,
   (refl, (begins.1.0, (begins.1.1.0, (refl, tt)))),
 )
 written_again_go_on line slave fmmu bound end fault broken begins = absurd (omega (arith, begins.0))

@@ -5,3 +5,4 @@ pub mod Rules
 pub mod Fit
 pub mod Search
 pub mod Facts
+pub mod Mapping

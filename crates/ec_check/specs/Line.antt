@@ -1,6 +1,7 @@
 -- What a line of slaves is mapped by. Contracts see a line as the list of its slaves' controllers
 -- (IEC 61158-4-12, station address, FMMU and sync manager).
 use Rattle.std.specs.Prelude.{◌≡◌, ℕ, ◌<◌, false, List, [], length, map, slice_index_or}
+use Rattle.ec_regs.specs.declared.registers.TheConstants.{FMMU_COUNT, SYNC_MANAGER_COUNT}
 use Rattle.ec_regs.specs.Pairs.{pair_count}
 use Rattle.ec_regs.specs.declared.fmmu.Fmmu.{Fmmu}
 use Rattle.ec_regs.specs.declared.sync_man.SyncMan.{SyncMan}
@@ -38,12 +39,12 @@ sync_manager_of line slave number = sync_manager_at (controller_of line slave).m
 -- an FMMU of this number stands on the line in the slave of this number
 pub record HasFmmu (line : List ControllerState) (slave number : ℕ) : Type 0 where
   pub slave_there : slave < length line
-  pub number_there : number < 8
+  pub number_there : number < FMMU_COUNT
 
 -- and a sync manager
 pub record HasSyncManager (line : List ControllerState) (slave number : ℕ) : Type 0 where
   pub slave_there : slave < length line
-  pub number_there : number < 8
+  pub number_there : number < SYNC_MANAGER_COUNT
 
 -- the FMMU stands on the line under its numbers
 pub record StandsOn (line : List ControllerState) (f : Standing) : Type 0 where

@@ -4,6 +4,7 @@
 -- bit.
 use Rattle.std.specs.Prelude.{◌≡◌, ◌≢◌, ◌⊎◌, ◌&&◌, ℕ, ◌+◌, ◌/◌, ◌<◌, ◌≤◌, Bool, true, if◌then◌else◌, List, []}
 use Rattle.std.specs.Prelude.{◌∷◌, length}
+use Rattle.ec_regs.specs.declared.registers.TheConstants.{SYNC_MANAGER_COUNT}
 use Rattle.ec_regs.specs.Pairs.{is_switched_on}
 use Rattle.ec_regs.specs.Pairs.{reads, writes, first_physical, IsPair}
 use Rattle.ec_regs.specs.declared.fmmu.Fmmu.{Fmmu}
@@ -85,7 +86,7 @@ pub record IsMeetingOfAreas (line : List ControllerState) (slave number later_nu
   where
     pub slave_there : slave < length line
     pub order : number < later_number
-    pub number_there : later_number < 8
+    pub number_there : later_number < SYNC_MANAGER_COUNT
     pub first : IsInArea (sync_manager_of line slave number) address
     pub second : IsInArea (sync_manager_of line slave later_number) address
 
@@ -113,7 +114,7 @@ suits s f = is_active s && is_buffered s && (if reads f then master_reads s else
 -- it is the area of such a sync manager of the slave
 pub record IsGuarded (line : List ControllerState) (slave : ℕ) (f : Fmmu) (area : Area) : Type 0 where
   pub number : ℕ
-  pub there : number < 8
+  pub there : number < SYNC_MANAGER_COUNT
   pub suitable : suits (sync_manager_of line slave number) f ≡ true
   pub from : area.from ≡ (sync_manager_of line slave number).start
   pub to : area.to ≡ (sync_manager_of line slave number).start + (sync_manager_of line slave number).length

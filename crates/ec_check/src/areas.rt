@@ -1,6 +1,7 @@
 //! No two active areas of a slave share a byte.
 
 ghost use Rattle.std.specs.Prelude.{◌≡◌, ◌<◌, ◌≤◌, [], ◌∷◌, IsTrue, length};
+ghost use Rattle.ec_regs.specs.declared.registers.TheConstants.{SYNC_MANAGER_COUNT};
 ghost use Rattle.ec_regs.specs.declared.registers.TheConstants.{MEMORY_SIZE};
 ghost use Rattle.ec_check.specs.Line.{controllers};
 ghost use Rattle.ec_check.specs.Order.{IsLowest};
@@ -37,7 +38,7 @@ fn areas_of(line: &[Slave], slave: usize) -> Result<(), MapFault>
 /// One area and the later ones of its slave.
 fn areas_met_by(line: &[Slave], slave: usize, number: usize) -> Result<(), MapFault>
     requires slave { slave < length line.now }
-    requires number { number < 8 }
+    requires number { number < SYNC_MANAGER_COUNT }
     ensures { Answers (3 ∷ slave ∷ number ∷ []) (controllers line.now) result }
 {
     for later_number in number + 1..SYNC_MANAGER_COUNT {
@@ -55,7 +56,7 @@ fn compare_areas(
 ) -> Result<(), MapFault>
     requires slave { slave < length line.now }
     requires order { number < later_number }
-    requires number { later_number < 8 }
+    requires number { later_number < SYNC_MANAGER_COUNT }
     ensures { Answers (3 ∷ slave ∷ number ∷ later_number ∷ []) (controllers line.now) result }
 {
     let first = sync_manager_of(line, slave, number);

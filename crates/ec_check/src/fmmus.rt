@@ -1,6 +1,7 @@
 //! Each active FMMU reads or writes, and maps bits that exist.
 
 ghost use Rattle.std.specs.Prelude.{◌≡◌, ◌<◌, [], ◌∷◌, length};
+ghost use Rattle.ec_regs.specs.declared.registers.TheConstants.{FMMU_COUNT};
 ghost use Rattle.ec_check.specs.Line.{controllers};
 ghost use Rattle.ec_check.specs.Search.{Answers};
 ghost use Rattle.ec_check.specs.Runs.{is_good};
@@ -38,7 +39,7 @@ fn bad_fmmus_of(line: &[Slave], slave: usize) -> Result<(), MapFault>
 /// Is this FMMU bad?
 fn test_fmmu(line: &[Slave], slave: usize, fmmu: usize) -> Result<(), MapFault>
     requires slave { slave < length line.now }
-    requires fmmu { fmmu < 8 }
+    requires fmmu { fmmu < FMMU_COUNT }
     ensures { Answers (2 ∷ slave ∷ fmmu ∷ []) (controllers line.now) result }
 {
     let record = fmmu_of(line, slave, fmmu);

@@ -47,5 +47,5 @@ mod twice_read;
 mod twice_written;
 
 pub use checker::check;
-pub use facts::fit_line;
+pub use facts::{fit_by_mapping, fit_line};
 pub use fault::MapFault;

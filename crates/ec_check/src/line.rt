@@ -1,6 +1,7 @@
 //! What a line of slaves is mapped by: the stations, FMMUs and sync managers of its controllers.
 
 ghost use Rattle.std.specs.Prelude.{◌≡◌, ◌<◌, length};
+ghost use Rattle.ec_regs.specs.declared.registers.TheConstants.{FMMU_COUNT, SYNC_MANAGER_COUNT};
 ghost use Rattle.ec_check.specs.Line.{controllers, station_of, fmmu_of, sync_manager_of, StandsOn};
 
 use ec_app::Slave;
@@ -30,7 +31,7 @@ pub(crate) fn station_of(line: &[Slave], slave: usize) -> u16
 /// An FMMU of a slave, by its number.
 pub(crate) fn fmmu_of(line: &[Slave], slave: usize, number: usize) -> Fmmu
     requires slave { slave < length line.now }
-    requires number { number < 8 }
+    requires number { number < FMMU_COUNT }
     ensures { result ≡ fmmu_of (controllers line.now) slave number }
 {
     line[slave].controller().fmmu(number)
@@ -39,7 +40,7 @@ pub(crate) fn fmmu_of(line: &[Slave], slave: usize, number: usize) -> Fmmu
 /// An FMMU of a slave, by its number, with both numbers.
 pub(crate) fn standing_at(line: &[Slave], slave: usize, number: usize) -> Standing
     requires slave { slave < length line.now }
-    requires number { number < 8 }
+    requires number { number < FMMU_COUNT }
     ensures stands { StandsOn (controllers line.now) result }
     ensures slave { result.slave ≡ slave }
     ensures number { result.number ≡ number }
@@ -56,7 +57,7 @@ pub(crate) fn standing_at(line: &[Slave], slave: usize, number: usize) -> Standi
 /// A sync manager of a slave, by its number.
 pub(crate) fn sync_manager_of(line: &[Slave], slave: usize, number: usize) -> SyncMan
     requires slave { slave < length line.now }
-    requires number { number < 8 }
+    requires number { number < SYNC_MANAGER_COUNT }
     ensures { result ≡ sync_manager_of (controllers line.now) slave number }
 {
     line[slave].controller().syncman(number)

@@ -1,6 +1,7 @@
 //! Each FMMU lies in one area of its kind.
 
 ghost use Rattle.std.specs.Prelude.{◌≡◌, ◌<◌, ◌≤◌, ◌+◌, ◌-◌, ◌/◌, [], ◌∷◌, IsTrue, length, MatchOption};
+ghost use Rattle.ec_regs.specs.declared.registers.TheConstants.{FMMU_COUNT};
 ghost use Rattle.ec_regs.specs.Pairs.{first_physical, pair_count};
 ghost use Rattle.ec_check.specs.Line.{controllers, fmmu_of};
 ghost use Rattle.ec_check.specs.Rules.{suits, IsAreaEnd, HasNoArea};
@@ -40,7 +41,7 @@ fn outside_of(line: &[Slave], slave: usize) -> Result<(), MapFault>
 /// Does this FMMU lie in one area of its kind?
 fn place_fmmu(line: &[Slave], slave: usize, fmmu: usize) -> Result<(), MapFault>
     requires slave { slave < length line.now }
-    requires fmmu { fmmu < 8 }
+    requires fmmu { fmmu < FMMU_COUNT }
     requires areas { HasNone (3 ∷ []) (controllers line.now) }
     ensures { Answers (4 ∷ slave ∷ fmmu ∷ []) (controllers line.now) result }
 {

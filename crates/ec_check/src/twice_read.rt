@@ -1,6 +1,7 @@
 //! No two FMMUs of the line read one logical bit.
 
 ghost use Rattle.std.specs.Prelude.{◌≡◌, ◌<◌, ◌≤◌, ℕ, [], ◌∷◌, true, length};
+ghost use Rattle.ec_regs.specs.declared.registers.TheConstants.{FMMU_COUNT};
 ghost use Rattle.ec_regs.specs.Pairs.{reads};
 ghost use Rattle.ec_check.specs.Line.{controllers, HasFmmu, StandsOn};
 ghost use Rattle.ec_check.specs.Order.{IsBefore};
@@ -65,7 +66,7 @@ fn read_again_by(line: &[Slave], first: &Standing, later_slave: usize) -> Result
 /// The first FMMU of a slave that comes after one of the same slave or of an earlier one.
 fn first_after(first: &Standing, later_slave: usize) -> usize
     requires order { first.now.slave ≤ later_slave }
-    requires number { first.now.number < 8 }
+    requires number { first.now.number < FMMU_COUNT }
     ensures before { (n : ℕ) → n < result
         → ¬ IsBefore (first.now.slave ∷ first.now.number ∷ []) (later_slave ∷ n ∷ []) }
     ensures after { (n : ℕ) → result ≤ n

@@ -1,6 +1,7 @@
 //! No two FMMUs of a slave write one physical bit.
 
 ghost use Rattle.std.specs.Prelude.{◌≡◌, ◌<◌, [], ◌∷◌, length};
+ghost use Rattle.ec_regs.specs.declared.registers.TheConstants.{FMMU_COUNT};
 ghost use Rattle.ec_check.specs.Line.{controllers};
 ghost use Rattle.ec_check.specs.Search.{Answers};
 
@@ -34,7 +35,7 @@ fn written_twice_in(line: &[Slave], slave: usize) -> Result<(), MapFault>
 /// One FMMU and the later ones of its slave.
 fn written_again(line: &[Slave], slave: usize, fmmu: usize) -> Result<(), MapFault>
     requires slave { slave < length line.now }
-    requires fmmu { fmmu < 8 }
+    requires fmmu { fmmu < FMMU_COUNT }
     ensures { Answers (5 ∷ slave ∷ fmmu ∷ []) (controllers line.now) result }
 {
     for later_fmmu in fmmu + 1..FMMU_COUNT {
@@ -52,7 +53,7 @@ fn compare_written(
 ) -> Result<(), MapFault>
     requires slave { slave < length line.now }
     requires order { fmmu < later_fmmu }
-    requires fmmu { later_fmmu < 8 }
+    requires fmmu { later_fmmu < FMMU_COUNT }
     ensures { Answers (5 ∷ slave ∷ fmmu ∷ later_fmmu ∷ []) (controllers line.now) result }
 {
     let first = fmmu_of(line, slave, fmmu);

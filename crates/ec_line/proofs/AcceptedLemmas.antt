@@ -10,7 +10,6 @@ use Rattle.ec_regs.specs.declared.sync_man.SyncMan.{SyncMan}
 use Rattle.ec_regs.specs.declared.registers.TheConstants.{PROCESS_MEMORY}
 use Rattle.ec_regs.specs.SyncMan.{master_reads, master_writes}
 use Rattle.ec_wire.specs.Datagram.{DatagramRecord, adp_of, ado_of}
-use Rattle.ec_regs.specs.AddressRange.{within}
 use Rattle.ec_areas.specs.Ranges.{LiesBuffered}
 use Rattle.ec_areas.specs.Records.{fmmus_of, sync_managers_of}
 use Rattle.ec_areas.proofs.Laws.{write_map_register, emptied_registers, emptied_buffered}

@@ -13,7 +13,10 @@ use Rattle.ec_areas.specs.Records.{fmmus_of, sync_managers_of}
 use Rattle.ec_areas.proofs.Laws.{NamesPairs-read_map, NamesPairs-write_map, reads_registers}
 use Rattle.ec_esc.specs.State.{ControllerState, word_at}
 use Rattle.ec_esc.specs.Pass.{Half, nothing, where_served, effect, serves_read, serves_write, read_sources}
-use Rattle.ec_esc.specs.Pass.{write_sources, serves_range_read, serves_range_write}
+use Rattle.ec_esc.specs.Pass.{write_sources, serves_range_read, serves_range_write, serves_reading}
+use Rattle.ec_esc.specs.Pass.{serves_writing}
+use Rattle.ec_esc.proofs.Laws.{gain_served}
+use Rattle.ec_wire.specs.Command.{addressing, reads, writes}
 use Rattle.ec_esc.specs.Pass.{range_sources, range_targets, broadcast_sources, read_mailbox, written_mailbox}
 use Rattle.ec_line.specs.Accepted.{Accepts}
 use Rattle.ec_line.specs.Answers.{Agree}
@@ -239,46 +242,26 @@ broadcast_gain a n c accepts =
     record { places = broadcast_sources c (ado_of a); gain = 1; mail = read_mailbox c (ado_of a) n } in
     ap (λ b. (where_served b h).gain + 0) served
 
--- what a half counts at most
-where_bound : (b : Bool) (h : Half) (bound more : ℕ) → h.gain ≤ bound → more ≤ 0
-    → (where_served b h).gain + more ≤ bound
-where_bound true h bound more below none = omega arith
-where_bound false h bound more below none = omega arith
+-- a number under a condition is at most that number
+cond_bound : (b : Bool) (n : ℕ) → cond b n 0 ≤ n
+cond_bound true n = omega arith
+cond_bound false n = omega arith
 
--- and by no more than three is counted of anything
-gain_bound_kind : (k : Kind) (a n : ℕ) (c : ControllerState)
-    → gain (record { kind = k; address = a; count = n }) c ≤ 3
-unfolding gain
-gain_bound_kind Lrd a n c =
-    where_bound (serves_read c a n) (record { places = read_sources c a; gain = 1; mail = None }) 3 0
-    (omega arith) (omega arith)
-gain_bound_kind Lwr a n c =
-    let h : Half = record { places = write_sources c a n; gain = 1; mail = None } in
-    omega (arith, where_bound (serves_write c a n) h 3 0 (omega arith) (omega arith))
-gain_bound_kind Lrw a n c =
-    let h : Half = record { places = read_sources c a; gain = 1; mail = None } in
-    let g : Half = record { places = write_sources c a n; gain = 2; mail = None } in
-    omega (
-      arith,
-      where_bound (serves_read c a n) h 1 0 (omega arith) (omega arith),
-      where_bound (serves_write c a n) g 2 0 (omega arith) (omega arith),
-    )
-gain_bound_kind Brd a n c =
-    where_bound (serves_range_read c (ado_of a) n)
-    (record { places = broadcast_sources c (ado_of a); gain = 1; mail = read_mailbox c (ado_of a) n }) 3 0
-    (omega arith) (omega arith)
-gain_bound_kind Fprd a n c =
-    where_bound (eqb (adp_of a) (word_at c.memory 16) && serves_range_read c (ado_of a) n)
-    (record { places = range_sources (ado_of a); gain = 1; mail = read_mailbox c (ado_of a) n }) 3 0
-    (omega arith) (omega arith)
-gain_bound_kind Fpwr a n c =
-    let h : Half =
-    record { places = range_targets c (ado_of a) n; gain = 1; mail = written_mailbox c (ado_of a) n } in
-    omega (
-      arith,
-      where_bound (eqb (adp_of a) (word_at c.memory 16) && serves_range_write c (ado_of a) n) h 3 0
-          (omega arith) (omega arith),
-    )
+cond_most : (b : Bool) → cond b 2 1 ≤ 2
+cond_most true = omega arith
+cond_most false = omega arith
 
+-- no more than three is counted of anything
 pub gain_bound : (r : Request) (c : ControllerState) → gain r c ≤ 3
-gain_bound r c = gain_bound_kind r.kind r.address r.count c
+unfolding gain
+gain_bound r c =
+    let x = command_of r.kind in
+    let read : Bool = reads x && serves_reading (addressing x) c r.address r.count in
+    let written : Bool = writes x && serves_writing (addressing x) c r.address r.count in
+    omega (
+      arith,
+      gain_served x c r.address r.count,
+      cond_bound read 1,
+      cond_bound written (cond (reads x) 2 1),
+      cond_most (reads x),
+    )

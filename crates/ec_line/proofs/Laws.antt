@@ -17,6 +17,7 @@ use Rattle.ec_esc.specs.Pass.{serves_range_read, pass}
 use Rattle.ec_line.specs.Answers.{Answers, AllAgree}
 use Rattle.ec_line.specs.Answered.{Answered, sent_of, AnsweredFrame}
 use Rattle.ec_line.specs.Claims.{effect_of, claim, gain, taken}
+use Rattle.ec_line.specs.Moved.{AllMoved}
 use Rattle.ec_line.specs.Request.{Request, OnWay}
 use Rattle.ec_wire.specs.declared.kind.Kind.TheVariants.{Lrd, Lwr, Lrw, Brd}
 use Rattle.ec_line.specs.Accepted.{Accepts, AcceptsAll}
@@ -81,6 +82,18 @@ own_a = own.own_a
 pub own_b : (t : Trip) (line : List ControllerState) → AllByRecursion (λ e. OnWay e.request e.sent) t.entries
     → IsOwn (sent_of t.entries) (passed t line).b
 own_b = own.own_b
+
+-- the counters of copy A have moved by at most three for each controller
+pub moved_a : (t : Trip) (line : List ControllerState)
+    → AllByRecursion (λ e. OnWay e.request e.sent) t.entries
+    → AllMoved (3 * length line) (sent_of t.entries) (passed t line).a
+moved_a = own.moved_a
+
+-- and those of copy B
+pub moved_b : (t : Trip) (line : List ControllerState)
+    → AllByRecursion (λ e. OnWay e.request e.sent) t.entries
+    → AllMoved (3 * length line) (sent_of t.entries) (passed t line).b
+moved_b = own.moved_b
 
 -- ---- steady bytes
 

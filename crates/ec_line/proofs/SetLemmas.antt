@@ -14,8 +14,7 @@ use Rattle.ec_esc.specs.Pass.{Half, where_served, serves_read, serves_write, rea
 use Rattle.ec_line.specs.Claims.{effect_of, claim, taken}
 use Rattle.ec_line.specs.Fit.{Reads, Writes, IsFitAlone}
 use Rattle.ec_line.specs.Request.{Request}
-use Rattle.ec_wire.specs.declared.kind.Kind.{Kind}
-use Rattle.ec_wire.specs.declared.kind.Kind.TheVariants.{Lrd, Lwr, Lrw, Brd, Fprd, Fpwr}
+use Rattle.ec_wire.specs.declared.kind.Kind.TheVariants.{Lrd, Lwr, Lrw}
 use Rattle.ec_line.proofs.SteadyLemmas.{claim_in, where_some}
 use Rattle.ec_line.proofs.FitLemmas.{claimed_place}
 

@@ -10,7 +10,7 @@ use Rattle.ec_esc.specs.State.{ControllerState, word_at}
 use Rattle.ec_line.specs.After.{Entry}
 use Rattle.ec_line.specs.Request.{Request}
 use Rattle.ec_wire.specs.declared.kind.Kind.{Kind}
-use Rattle.ec_wire.specs.declared.kind.Kind.TheVariants.{Lrd, Lwr, Lrw, Brd, Fprd, Fpwr}
+use Rattle.ec_wire.specs.declared.kind.Kind.TheVariants.{Brd, Fprd, Fpwr}
 
 -- the range lies whole in the area of the sync manager, which is active, buffered and of a direction
 pub record IsWithinArea (direction : SyncMan → Bool) (s : SyncMan) (from count : ℕ) : Type 0 where

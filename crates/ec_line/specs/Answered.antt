@@ -9,7 +9,7 @@ use Rattle.ec_line.specs.After.{Entry}
 use Rattle.ec_line.specs.Claims.{claim, gain}
 use Rattle.ec_line.specs.Request.{Request, OnWay}
 use Rattle.ec_wire.specs.declared.kind.Kind.{Kind}
-use Rattle.ec_wire.specs.declared.kind.Kind.TheVariants.{Lrd, Lwr, Lrw, Brd, Fprd, Fpwr}
+use Rattle.ec_wire.specs.declared.kind.Kind.TheVariants.{Brd}
 
 -- the address after n slaves: the ADP of a broadcast read was counted up by each
 abbrev pub moved_address : Kind → ℕ → ℕ → ℕ

@@ -1,10 +1,10 @@
 -- What one controller puts into the data of a request, takes of them, and counts. It hangs on the controller
 -- and the request alone, not on the data that arrive.
-use Rattle.std.specs.Prelude.{ℕ, ◌+◌, ◌*◌, nat_lt, if◌then◌else◌, Option, None}
+use Rattle.std.specs.Prelude.{ℕ, ◌*◌, nat_lt, if◌then◌else◌, Option, None}
 use Rattle.std.specs.Option.{option_map}
 use Rattle.ec_regs.specs.Bits.{bit}
 use Rattle.ec_esc.specs.State.{ControllerState}
-use Rattle.ec_esc.specs.Pass.{Effect, effect}
+use Rattle.ec_esc.specs.Pass.{Effect, effect, gain_of}
 use Rattle.ec_line.specs.Request.{Request}
 use Rattle.ec_wire.specs.Kind.{command_of}
 
@@ -25,4 +25,4 @@ taken r c = (effect_of r c).writing.places
 
 -- what the working counter gains
 unfoldable pub gain : Request → ControllerState → ℕ
-gain r c = (effect_of r c).reading.gain + (effect_of r c).writing.gain
+gain r c = gain_of (effect_of r c)

@@ -10,3 +10,4 @@ pub mod Trip
 pub mod Memory
 pub mod Run
 pub mod Shown
+pub mod Moved

@@ -19,6 +19,7 @@ ghost use Rattle.ec_line.specs.Claims.{claim, taken, gain};
 ghost use Rattle.ec_line.specs.Fit.{IsFitAlone, IsFitLine, Reads, Writes};
 ghost use Rattle.ec_wire.specs.declared.kind.Kind.TheVariants.{Lrd, Lwr, Lrw};
 ghost use Rattle.ec_line.specs.Memory.{SameMemories};
+ghost use Rattle.ec_line.specs.Moved.{AllMoved};
 ghost use Rattle.ec_line.specs.Request.{Request, OnWay};
 ghost use Rattle.ec_line.specs.Run.{trips_run, TripsReady, AnsweredTrips, CountsWholeAll};
 ghost use Rattle.ec_line.specs.Run.{after_trips, reached_trips, visited_trips, IsWholeTrip};
@@ -127,7 +128,8 @@ pub fn twice_is_once()
 {}
 
 /// What a logical read or exchange claims of a controller that is fit alone is said by the set of its
-/// readable pairs: the bit that a pair names, and nothing where no pair names the data bit.
+/// readable pairs: the bit that a pair names, and nothing where no pair names the data bit. A logical write
+/// claims nothing.
 pub fn claims_by_pairs()
     ensures lrd { (a n : ℕ) (c : ControllerState) (i p : ℕ) → IsFitAlone c → i < 8 * n → Reads c (8 * a + i) p
         → claim (record { kind = Lrd; address = a; count = n }) c i ≡ Some (bit c.memory p) }
@@ -137,10 +139,13 @@ pub fn claims_by_pairs()
         → claim (record { kind = Lrd; address = a; count = n }) c i ≡ None }
     ensures not_lrw { (a n : ℕ) (c : ControllerState) (i : ℕ) → ((p : ℕ) → ¬ Reads c (8 * a + i) p)
         → claim (record { kind = Lrw; address = a; count = n }) c i ≡ None }
+    ensures lwr { (a n : ℕ) (c : ControllerState) (i : ℕ)
+        → claim (record { kind = Lwr; address = a; count = n }) c i ≡ None }
 {}
 
 /// What it takes of a logical write or exchange is said by the set of its writable pairs: a memory bit that a
-/// pair names takes the pair's data bit, and every other bit of the memory takes nothing.
+/// pair names takes the pair's data bit, and every other bit of the memory takes nothing. Of a logical read
+/// it takes nothing.
 pub fn takes_by_pairs()
     ensures lwr { (a n : ℕ) (c : ControllerState) (p i : ℕ) → IsFitAlone c → i < 8 * n
         → Writes c (8 * a + i) p
@@ -154,6 +159,8 @@ pub fn takes_by_pairs()
     ensures not_lrw { (a n : ℕ) (c : ControllerState) (p : ℕ) → ((i : ℕ) → i < 8 * n
         → ¬ Writes c (8 * a + i) p)
         → taken (record { kind = Lrw; address = a; count = n }) c p ≡ None }
+    ensures lrd { (a n : ℕ) (c : ControllerState) (p : ℕ)
+        → taken (record { kind = Lrd; address = a; count = n }) c p ≡ None }
 {}
 
 /// The relation of answers: nobody answers with what was sent; those that answer one after the other, or one
@@ -184,7 +191,8 @@ pub fn one_copy()
 {}
 
 /// A copy that went over a line is no stranger: it has the datagrams of the sent frame, each with the
-/// command, the index, the data length and the fixed address that were sent, whatever the controllers are.
+/// command, the index, the data length and the fixed address that were sent, and each working counter has
+/// moved by at most three for each controller, whatever the controllers are.
 pub fn own_copies()
     ensures a { (t : Trip) (line : List ControllerState)
         → AllByRecursion (λ e. OnWay e.request e.sent) t.entries
@@ -192,4 +200,10 @@ pub fn own_copies()
     ensures b { (t : Trip) (line : List ControllerState)
         → AllByRecursion (λ e. OnWay e.request e.sent) t.entries
         → IsOwn (sent_of t.entries) (passed t line).b }
+    ensures moved_a { (t : Trip) (line : List ControllerState)
+        → AllByRecursion (λ e. OnWay e.request e.sent) t.entries
+        → AllMoved (3 * length line) (sent_of t.entries) (passed t line).a }
+    ensures moved_b { (t : Trip) (line : List ControllerState)
+        → AllByRecursion (λ e. OnWay e.request e.sent) t.entries
+        → AllMoved (3 * length line) (sent_of t.entries) (passed t line).b }
 {}

@@ -1,28 +1,31 @@
 -- What the checker's answers give the promises about cycles.
 use Rattle.std.proofs.Common.{◌≡◌, ◌⊎◌, ⊎_elim, inl, inr, ℕ, zero, suc, ◌+◌, ◌*◌, ◌<◌, ◌≤◌, ◌^◌, Bool}
-use Rattle.std.proofs.Common.{true, false, ◌&&◌, eqb, leb, None, List, [], ◌∷◌, length}
+use Rattle.std.proofs.Common.{true, false, cond, ◌&&◌, leb, List, [], ◌∷◌, length}
 use Rattle.std.proofs.Common.{get_or, refl, sym, ap, ◌∙◌, arith}
 use Rattle.std.specs.List.{AllByRecursion, Any, list_any}
 use Rattle.std.proofs.lemmas.Bool.{and_parts, or_cases, or_left, or_right, leb-true}
 use Rattle.std.proofs.lemmas.List.Elements.{All-from_get_or, recursion_from_All}
 use Rattle.ec_regs.specs.SyncMan.{is_active, is_buffered, master_reads, master_writes}
 use Rattle.ec_regs.specs.declared.sync_man.SyncMan.{SyncMan}
-use Rattle.ec_regs.specs.declared.registers.TheConstants.{PROCESS_MEMORY, STATION_ADDRESS}
-use Rattle.ec_wire.specs.Datagram.{adp_of, ado_of}
+use Rattle.ec_regs.specs.declared.registers.TheConstants.{PROCESS_MEMORY}
+use Rattle.ec_wire.specs.Datagram.{ado_of}
 use Rattle.ec_areas.specs.Records.{sync_managers_of}
-use Rattle.ec_esc.specs.State.{ControllerState, word_at}
-use Rattle.ec_esc.specs.Pass.{Half, where_served, read_sources, write_sources, range_sources, range_targets}
-use Rattle.ec_esc.specs.Pass.{read_mailbox, written_mailbox, serves_range_read, serves_range_write}
+use Rattle.ec_esc.specs.State.{ControllerState}
+use Rattle.ec_esc.specs.Pass.{effect, gain_of, serves_range_read, serves_reading, serves_writing}
+use Rattle.ec_esc.specs.Pass.{serves_read as reads_bits, serves_write as writes_bits}
+use Rattle.ec_esc.proofs.Laws.{gain_served}
+use Rattle.ec_areas.proofs.Laws.{reads_registers}
+use Rattle.ec_wire.specs.Command.{addressing, reads, writes}
+use Rattle.ec_wire.specs.Kind.{command_of}
 use Rattle.ec_line.specs.Accepted.{Accepts, AcceptsPlace, IsWithinArea, LiesInArea, LiesInRegisters}
 use Rattle.ec_line.specs.Claims.{gain}
 use Rattle.ec_wire.specs.declared.kind.Kind.{Kind}
 use Rattle.ec_wire.specs.declared.kind.Kind.TheVariants.{Lrd, Lwr, Lrw, Brd, Fprd, Fpwr}
-use Rattle.ec_line.proofs.Laws.{broadcast_gain}
 use Rattle.ec_check.specs.Fit.{IsFit}
 use Rattle.ec_check.specs.Line.{controller_of, station_of}
-use Rattle.ec_map.specs.Item.{ItemRecord, IsItem}
+use Rattle.ec_map.specs.Item.{ItemRecord, IsItem, is_in_range, wire_address}
 use Rattle.ec_map.specs.Place.{is_input_run, is_output_run, holds_run, may_read, may_write, IsPlaced}
-use Rattle.ec_map.specs.Share.{if_served, reads_bits, writes_bits, share_by, share, request_of}
+use Rattle.ec_map.specs.Share.{share, request_of, serves_read, serves_write}
 use Rattle.ec_map.proofs.PlaceLemmas.{may_read-IsPlaced, may_write-IsPlaced}
 use Rattle.ec_map.proofs.ItemLemmas.{item_size, item_range}
 
@@ -138,53 +141,54 @@ Accepts-IsPlaced line r fit item placed =
 
 -- ---- what a counter gains
 
--- a half that is served counts its gain
-gain_half : (b : Bool) (h : Half) → (where_served b h).gain ≡ if_served b h.gain
-gain_half true h = refl
-gain_half false h = refl
-
-gain_by : (k : Kind) (a n p : ℕ) (xs : List ℕ) (c : ControllerState)
-    → IsItem (record { kind = k; address = a; payload = xs; counter = n; adp = p })
-    → gain (request_of (record { kind = k; address = a; payload = xs; counter = n; adp = p })) c
-    ≡ share_by k (record { kind = k; address = a; payload = xs; counter = n; adp = p }) c
+-- the share of an item of a kind: 1 for a read that is served, and for a write 2 beside a read and 1 alone
+share_served : (k : Kind) (r : ItemRecord) (c : ControllerState) → r.kind ≡ k
+    → share r c
+    ≡ cond
+    (reads (command_of k)
+    && serves_reading (addressing (command_of k)) c (wire_address (record r { kind = k })) (length r.payload))
+    1 0
+    + cond
+    (writes (command_of k)
+    && serves_writing (addressing (command_of k)) c (wire_address (record r { kind = k })) (length r.payload))
+    (cond (reads (command_of k)) 2 1) 0
 unfolding gain
-gain_by Lrd a n p xs c item =
-    let h : Half = record { places = read_sources c a; gain = 1; mail = None } in
-    omega (arith, gain_half (reads_bits c a (length xs)) h)
-gain_by Lwr a n p xs c item =
-    let h : Half = record { places = write_sources c a (length xs); gain = 1; mail = None } in
-    omega (arith, gain_half (writes_bits c a (length xs)) h)
-gain_by Lrw a n p xs c item =
-    let h : Half = record { places = read_sources c a; gain = 1; mail = None } in
-    let g : Half = record { places = write_sources c a (length xs); gain = 2; mail = None } in
-    omega (arith, gain_half (reads_bits c a (length xs)) h, gain_half (writes_bits c a (length xs)) g)
-gain_by Brd a n p xs c item =
-    let registers : a + length xs ≤ PROCESS_MEMORY =
-    leb-true (a + length xs) PROCESS_MEMORY (item_range _ item) in
-    let small : p < 2 ^ 16 = item.adp in
-    broadcast_gain (p + 65536 * a) (length xs) c (record { some = item_size _ item; place = omega arith })
-gain_by Fprd a n p xs c item =
-    let h : Half =
-    record { places = range_sources (ado_of a); gain = 1; mail = read_mailbox c (ado_of a) (length xs) } in
-    omega (
-      arith,
-      gain_half
-          (eqb (adp_of a) (word_at c.memory STATION_ADDRESS) && serves_range_read c (ado_of a) (length xs)) h,
-    )
-gain_by Fpwr a n p xs c item =
-    let h : Half =
-    record {
-      places = range_targets c (ado_of a) (length xs);
-      gain = 1;
-      mail = written_mailbox c (ado_of a)
-          (length xs);
-    } in
-    omega (
-      arith,
-      gain_half
-          (eqb (adp_of a) (word_at c.memory STATION_ADDRESS) && serves_range_write c (ado_of a) (length xs))
-          h,
-    )
+share_served k r c is =
+    ap (λ (j : Kind). gain_of (effect (command_of j) c (wire_address (record r { kind = j }))
+    (length r.payload))) is
+    ∙ gain_served (command_of k) c (wire_address (record r { kind = k })) (length r.payload)
 
-pub gain-share : (r : ItemRecord) (c : ControllerState) → IsItem r → gain (request_of r) c ≡ share r c
-gain-share r c item = gain_by r.kind r.address r.counter r.adp r.payload c item
+pub share_lrd : (r : ItemRecord) (c : ControllerState) → r.kind ≡ Lrd
+    → share r c ≡ cond (reads_bits c r.address (length r.payload)) 1 0
+share_lrd r c is = omega (arith, share_served Lrd r c is)
+
+pub share_lwr : (r : ItemRecord) (c : ControllerState) → r.kind ≡ Lwr
+    → share r c ≡ cond (writes_bits c r.address (length r.payload)) 1 0
+share_lwr r c is = omega (arith, share_served Lwr r c is)
+
+pub share_lrw : (r : ItemRecord) (c : ControllerState) → r.kind ≡ Lrw
+    → share r c
+    ≡ cond (reads_bits c r.address (length r.payload)) 1 0
+    + cond (writes_bits c r.address (length r.payload)) 2 0
+share_lrw r c is = share_served Lrw r c is
+
+-- a broadcast read of registers is always served
+pub share_brd : (r : ItemRecord) (c : ControllerState) → IsItem r → r.kind ≡ Brd → share r c ≡ 1
+share_brd r c item is =
+    let n : ℕ = length r.payload in
+    let a : ℕ = r.adp + 65536 * r.address in
+    let inside : leb (r.address + n) PROCESS_MEMORY ≡ true =
+    ap (λ (k : Kind). is_in_range k r.address n) (sym is) ∙ item_range r item in
+    let registers : r.address + n ≤ PROCESS_MEMORY = leb-true (r.address + n) PROCESS_MEMORY inside in
+    let small : r.adp < 2 ^ 16 = item.adp in
+    let served : serves_range_read c (ado_of a) n ≡ true =
+    reads_registers (sync_managers_of c.memory) (ado_of a) n (item_size r item) (omega arith) in
+    share_served Brd r c is ∙ ap (λ b. cond b 1 0 + 0) served
+
+pub share_fprd : (r : ItemRecord) (c : ControllerState) → r.kind ≡ Fprd
+    → share r c ≡ cond (serves_read c r) 1 0
+share_fprd r c is = omega (arith, share_served Fprd r c is)
+
+pub share_fpwr : (r : ItemRecord) (c : ControllerState) → r.kind ≡ Fpwr
+    → share r c ≡ cond (serves_write c r) 1 0
+share_fpwr r c is = omega (arith, share_served Fpwr r c is)

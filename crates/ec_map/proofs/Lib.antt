@@ -1,5 +1,5 @@
-pub mod ReachLemmas
 pub mod PlaceLemmas
+pub mod MappingLemmas
 pub mod LawLemmas
 pub mod ItemLemmas
 pub mod Laws

@@ -1,12 +1,12 @@
 -- Where an addressed item may go.
 use Rattle.std.proofs.Common.{◌≡◌, ⊎_elim, ℕ, ◌<◌, true, false, List, length, refl, sym, ◌∙◌}
-use Rattle.std.proofs.lemmas.Bool.{cases_Bool, cases_order, both_ways}
+use Rattle.std.proofs.lemmas.Bool.{cases_Bool}
 use Rattle.ec_esc.specs.State.{ControllerState}
 use Rattle.ec_check.specs.declared.fault.MapFault.TheVariants.{TwinStation}
 use Rattle.ec_check.specs.Fit.{IsFit}
 use Rattle.ec_check.specs.Line.{controller_of, station_of}
 use Rattle.ec_map.specs.Item.{ItemRecord}
-use Rattle.ec_map.specs.Place.{station_named, ado_named, may_read, may_write, IsFirstOfStation, HasNoStation}
+use Rattle.ec_map.specs.Place.{station_named, ado_named, may_read, may_write, IsFirstOfStation}
 use Rattle.ec_map.specs.Place.{IsPlaced}
 use Rattle.ec_wire.specs.declared.kind.Kind.TheVariants.{Fprd, Fpwr}
 use Rattle.ec_map.specs.declared.place.PlaceFault.TheVariants.{OutsideRead, OutsideWrite}

@@ -63,6 +63,12 @@ pub record IsItem (r : ItemRecord) : Type 0 where
   pub counter : r.counter < 2 ^ 16
   pub adp : r.adp < 2 ^ 16
 
+-- another item of this kind and address, and as many bytes, whatever they are and whatever was answered
+pub record AsksTheSame (r other : ItemRecord) : Type 0 where
+  pub kind : other.kind ≡ r.kind
+  pub address : other.address ≡ r.address
+  pub size : length other.payload ≡ length r.payload
+
 -- an item at first
 abbrev pub new_item : Kind → ℕ → List ℕ → ItemRecord
 new_item kind address payload =

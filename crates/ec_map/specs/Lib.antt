@@ -1,4 +1,3 @@
 pub mod Item
 pub mod Place
-pub mod Reach
 pub mod Share

@@ -179,7 +179,7 @@ impl Item {
     }
 
     /// The address in its datagram.
-    fn wire_address(&self) -> u32
+    pub(crate) fn wire_address(&self) -> u32
         ensures { result ≡ wire_address self.now }
     {
         if is_broadcast(self.kind) {

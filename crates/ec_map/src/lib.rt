@@ -24,8 +24,8 @@
 //! - [`check`], of the crate below, tells whether a line is mapped as a cycle needs it, and [`check_item`]
 //!   whether an addressed item reads or writes where it may (`accepted`, `refused`).
 //! - [`expected`] is what a line adds to the working counter of an item, modulo 65,536.
-//! - The laws [`placed_item`], [`accepted_items`], [`shares_are_gains`] and [`shares_by_pairs`] tie these to
-//!   what a pass of each slave does.
+//! - The laws [`placed_item`], [`accepted_items`], [`shares_by_kind`] and [`shares_by_pairs`] tie these to
+//!   what a pass of each slave does: a slave's share is what the counter of the item's datagram gains there.
 //!
 //! Nothing here takes memory. What the contracts speak of stands in specs/: an item and its datagram
 //! (`Item`), where an addressed item may go (`Place`), and a slave's share in the counter (`Share`).
@@ -34,15 +34,16 @@ mod item;
 mod kind;
 mod place;
 mod promises;
-mod reach;
 mod shares;
 #[cfg(test)]
 mod tests;
 
-pub use ec_check::{MapFault, check, fit_line};
+pub use ec_check::{MapFault, check, fit_by_mapping, fit_line};
 pub use ec_wire::Kind;
 pub use item::Item;
 pub use kind::ItemFault;
 pub use place::{PlaceFault, check_item, placed_item};
-pub use promises::{accepted_items, shares_are_gains};
-pub use shares::{expected, shares_by_pairs};
+pub use promises::{
+    accepted_items, placed_by_mapping, same_shares, shares_by_kind, shares_by_pairs,
+};
+pub use shares::expected;

@@ -2,7 +2,6 @@
 
 ghost use Rattle.std.specs.Prelude.{◌≡◌, ◌≤◌, ◌<◌, ℕ, true, List, OnOk, IfErr, MatchOption, length};
 ghost use Rattle.std.specs.List.{list_any};
-ghost use Rattle.ec_areas.specs.Records.{sync_managers_of};
 ghost use Rattle.ec_wire.specs.declared.datagram.TheConstants.{MAX_DATA};
 ghost use Rattle.ec_esc.specs.State.{ControllerState};
 ghost use Rattle.ec_check.specs.Fit.{IsFit};
@@ -16,7 +15,7 @@ use crate::item::Item;
 use ec_app::Slave;
 use ec_esc::Controller;
 use ec_regs::registers::PROCESS_MEMORY;
-use ec_regs::{AddressRange, PlannedSyncMan, SyncMan, SyncManagers};
+use ec_regs::{AddressRange, PlannedSyncMan, SyncMan};
 use ec_wire::{Kind, ado_of, adp_of};
 
 /// An addressed item that goes where a cycle may not. It names the slave, the first one of the item's
@@ -85,27 +84,17 @@ fn check_write(line: &[Slave], item: &Item) -> Result<(), PlaceFault>
 }
 
 /// The station that an addressed item names.
-pub(crate) fn station_named(item: &Item) -> u16
+fn station_named(item: &Item) -> u16
     ensures { result ≡ station_named item.now }
 {
     adp_of(item.address())
 }
 
 /// The first byte of the memory that an addressed item names.
-pub(crate) fn ado_named(item: &Item) -> u16
+fn ado_named(item: &Item) -> u16
     ensures { result ≡ ado_named item.now }
 {
     ado_of(item.address())
-}
-
-/// The range of the memory that an addressed item names.
-pub(crate) fn range_named(item: &Item) -> AddressRange
-    ensures { result ≡ record { first = ado_named item.now; count = length item.now.payload } }
-{
-    AddressRange {
-        first: ado_named(item),
-        count: item.len() as u16,
-    }
 }
 
 /// The first slave with a station address.
@@ -121,29 +110,13 @@ fn first_of_station(line: &[Slave], station: u16) -> Option<usize>
     None
 }
 
-/// All sync managers of a controller, by number.
-pub(crate) fn managers_of(controller: &Controller) -> SyncManagers
-    ensures { result ≡ sync_managers_of controller.now.memory }
-{
-    [
-        PlannedSyncMan::new(controller.syncman(0)),
-        PlannedSyncMan::new(controller.syncman(1)),
-        PlannedSyncMan::new(controller.syncman(2)),
-        PlannedSyncMan::new(controller.syncman(3)),
-        PlannedSyncMan::new(controller.syncman(4)),
-        PlannedSyncMan::new(controller.syncman(5)),
-        PlannedSyncMan::new(controller.syncman(6)),
-        PlannedSyncMan::new(controller.syncman(7)),
-    ]
-}
-
 /// May a cycle read that many bytes from an address on?
 fn may_read(controller: &Controller, from: u16, count: usize) -> bool
     requires { count ≤ MAX_DATA }
     ensures { result ≡ may_read controller.now from count }
 {
     let to = usize::from(from) + count;
-    to <= usize::from(PROCESS_MEMORY) || lies_in_inputs(&managers_of(controller), from, count)
+    to <= usize::from(PROCESS_MEMORY) || lies_in_inputs(controller.syncmans(), from, count)
 }
 
 /// May a cycle write that many bytes from an address on?
@@ -151,7 +124,7 @@ fn may_write(controller: &Controller, from: u16, count: usize) -> bool
     requires { count ≤ MAX_DATA }
     ensures { result ≡ may_write controller.now from count }
 {
-    lies_in_outputs(&managers_of(controller), from, count)
+    lies_in_outputs(controller.syncmans(), from, count)
 }
 
 /// Do that many bytes lie in one active buffered area that the master reads?
