@@ -1,5 +1,6 @@
 -- The laws that crates above cite: on the controllers of a ring, the links that a copy passes, and trips.
-use Rattle.std.specs.Prelude.{◌≡◌, ℕ, List, length, ◌≤◌, false, None}
+use Rattle.std.specs.Prelude.{◌≡◌, ℕ, List, length, ◌+◌, ◌≤◌, ◌<◌, true, false, None, Some}
+use Rattle.std.proofs.Common.{arith}
 use Rattle.ec_wire.specs.Datagram.{DatagramRecord}
 use Rattle.ec_esc.specs.State.{ControllerState}
 use Rattle.ec_line.specs.Trip.{front_pass, back_pass, passed}
@@ -7,12 +8,14 @@ use Rattle.ec_line.specs.After.{Entry}
 use Rattle.ec_line.specs.Answered.{sent_of}
 use Rattle.ec_app.specs.State.{SlaveState}
 use Rattle.ec_ring.specs.Ring.{controllers, with_controllers, RingState, with_line}
-use Rattle.ec_ring.specs.Links.{IsOnlyDown}
+use Rattle.ec_ring.specs.Links.{is_up, AreUp, IsOnlyDown, first_down, last_down}
 use Rattle.ec_ring.specs.Reach.{front, back, arrival_a, arrival_b}
 use Rattle.ec_ring.specs.declared.links.Links.{Links}
 use Rattle.ec_ring.specs.Travel.{travelled, trip_of, as_trip}
 use Rattle.ec_ring.specs.declared.weather.Weather.{Weather}
-use Rattle.ec_ring.specs.Walk.{is_circulating}
+use Rattle.ec_ring.specs.Walk.{is_circulating, walked_from_a, walked_from_b}
+use Rattle.ec_ring.proofs.LinkLemmas as cables
+use Rattle.ec_ring.proofs.LinkLemmas.{IsFirst, IsLast}
 use Rattle.ec_ring.proofs.RingLemmas as rings
 use Rattle.ec_ring.proofs.PassLemmas as passes
 use Rattle.ec_ring.proofs.ReachLemmas as reach
@@ -52,6 +55,28 @@ lost-front = reach.lost-front
 pub lost-back : (links : Links) (n : ℕ) → arrival_b links n ≡ None → back links n ≡ n
 lost-back = reach.lost-back
 
+-- where no first link is found down all links of the line are up
+pub no-first_down : (links : Links) (n : ℕ) → first_down links (n + 1) ≡ None → AreUp links 0 n
+no-first_down links n none = λ k from to. cables.first_down-none links (n + 1) none k (omega (arith, to))
+
+-- where no last link is found down all links of the line are up
+pub no-last_down : (links : Links) (n : ℕ) → last_down links (n + 1) ≡ None → AreUp links 0 n
+no-last_down links n none = λ k from to. cables.last_down-none links (n + 1) none k (omega (arith, to))
+
+-- the first link that is found down is one of the line, it is down, and those before it are up
+pub is-first_down : (links : Links) (n k : ℕ) → first_down links (n + 1) ≡ Some k
+    → (k ≤ n) × (is_up links k ≡ false) × ((j : ℕ) → j < k → is_up links j ≡ true)
+is-first_down links n k found =
+    let first : IsFirst links (n + 1) k = cables.first_down-some links (n + 1) k found in
+    (omega (arith, first.below), first.down, first.up)
+
+-- the last link that is found down is one of the line, it is down, and those behind it are up
+pub is-last_down : (links : Links) (n k : ℕ) → last_down links (n + 1) ≡ Some k
+    → (k ≤ n) × (is_up links k ≡ false) × ((j : ℕ) → k < j → j ≤ n → is_up links j ≡ true)
+is-last_down links n k found =
+    let last : IsLast links (n + 1) k = cables.last_down-some links (n + 1) k found in
+    (omega (arith, last.below), last.down, λ j after to. last.up j after (omega (arith, to)))
+
 -- ---- trips
 
 -- a copy that passes the first slaves leaves as many controllers as there were
@@ -63,6 +88,16 @@ length-front_pass = travels.length-front_pass
 pub length-back_pass : (n : ℕ) (line : List ControllerState) (f : List DatagramRecord)
     → length (back_pass n line f).line ≡ length line
 length-back_pass = travels.length-back_pass
+
+-- the way of copy A leaves as many controllers as there were
+pub length-walked_from_a : (links : Links) (f : List DatagramRecord) (line : List ControllerState)
+    → length (walked_from_a links f line).line ≡ length line
+length-walked_from_a = travels.length-walked_from_a
+
+-- the way of copy B leaves as many controllers as there were
+pub length-walked_from_b : (links : Links) (f : List DatagramRecord) (line : List ControllerState)
+    → length (walked_from_b links f line).line ≡ length line
+length-walked_from_b = travels.length-walked_from_b
 
 -- the controllers that the first copy leaves are the line that the second one passes
 pub line-between : (r s : RingState) (line : List ControllerState) → s ≡ with_line r line

@@ -6,4 +6,5 @@ pub mod RingLemmas
 pub mod TravelLemmas
 pub mod ReachLemmas
 pub mod TripLemmas
+pub mod ArrivalLemmas
 pub mod Laws

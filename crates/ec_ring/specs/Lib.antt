@@ -5,3 +5,4 @@ pub mod Ring
 pub mod Travel
 pub mod Lending
 pub mod Weather
+pub mod Arrivals

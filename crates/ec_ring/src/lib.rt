@@ -40,6 +40,7 @@
 //! What the contracts speak of stands in specs/: `Links` and `Reach` (how far a copy gets), `Walk` (one
 //! copy's way), `Travel` (both copies), `Ring`.
 
+pub mod arrivals;
 pub mod links;
 pub mod port;
 pub mod promises;
@@ -47,6 +48,7 @@ pub mod ring;
 pub mod travel;
 pub mod weather;
 
+pub use arrivals::{Arrival, Arrivals, HeardPorts};
 pub use links::{Links, MAX_LINKS, MAX_SLAVES};
 pub use port::{Port, PortFault};
 pub use ring::{Ring, RingFault};

@@ -1,5 +1,6 @@
 //! Frames over lines of slaves with broken links, with the bytes written out by hand.
 
+mod arrivals;
 mod breaks;
 mod by_hand;
 mod circulating;
