@@ -26,7 +26,6 @@ use Rattle.ec_line.proofs.Laws.{gain_lasts, same_steady_trans}
 use Rattle.ec_check.specs.Line.{controllers}
 use Rattle.ec_map.specs.Item.{ItemRecord, IsItem, is_broadcast, with_adp, datagram_of}
 use Rattle.ec_map.specs.Share.{share, request_of}
-use Rattle.ec_map.proofs.Laws.{gain-share}
 use Rattle.ec_ring.proofs.Laws.{length-controllers}
 use Rattle.ec_master.specs.Cut.{concat, entries_from}
 use Rattle.ec_master.specs.Unordered.{ByStation, station, by_station, slave_after, IsAnswer, AreAnswers}
@@ -98,14 +97,13 @@ answered_later r xs ys d e fit accept later answer = record {
 
 -- ---- one item
 
--- the slaves' shares are what their controllers gain
-shares : (r : ItemRecord) (ss : List SlaveState) → IsItem r → sum_by (gain (request_of r)) (controllers ss)
+-- the controllers' shares are those of their slaves
+shares : (r : ItemRecord) (ss : List SlaveState) → sum_by (share r) (controllers ss)
     ≡ sum_by (λ s. share r s.controller) ss
-shares r [] item = refl
-shares r (s ∷ ss) item =
-    sum_by-cons (gain (request_of r)) s.controller (controllers ss)
-    ∙ ap (λ n. n + sum_by (gain (request_of r)) (controllers ss)) (gain-share r s.controller item)
-    ∙ ap (λ n. share r s.controller + n) (shares r ss item)
+shares r [] = refl
+shares r (s ∷ ss) =
+    sum_by-cons (share r) s.controller (controllers ss)
+    ∙ ap (λ n. share r s.controller + n) (shares r ss)
     ∙ sym (sum_by-cons (λ (s : SlaveState). share r s.controller) s ss)
 
 -- the ADP of a broadcast read, and of every other item the one that it had
@@ -177,7 +175,7 @@ answer_by_station r k ss g item apart are answer =
       counter =
           answer.counter
           ∙ ap (λ n. (r.counter + n) % 65536)
-          (shares r ss item ∙ sym (sum_of_stations-sum_by (λ s. share r s.controller) ss 65536 apart below));
+          (shares r ss ∙ sym (sum_of_stations-sum_by (λ s. share r s.controller) ss 65536 apart below));
       adp =
           ap (λ a. cond (is_broadcast r.kind) (adp_of a) r.adp) answer.address
           ∙ adp_moved r.kind r.address r.adp (length (controllers ss)) item.adp

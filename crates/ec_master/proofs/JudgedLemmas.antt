@@ -1,5 +1,5 @@
 -- The verdict, counter by counter.
-use Rattle.std.proofs.Common.{◌≡◌, ℕ, zero, suc, ◌+◌, ◌<◌, ◌∙◌, ap, sym, refl, arith}
+use Rattle.std.proofs.Common.{◌≡◌, ℕ, zero, suc, ◌+◌, ◌<◌, ◌∙◌, ap, sym, subst, refl, arith, false}
 use Rattle.std.proofs.Common.{List, [], ◌∷◌, length, map, drop, get_or, drop-cons, length-append}
 use Rattle.std.proofs.lemmas.Bool.{eq-eqb, ne_eqb, lt-ltb, le-ltb}
 use native.Mathlib.Nat.{ne_of_lt, le_of_lt}
@@ -7,22 +7,27 @@ use Rattle.ec_wire.specs.Datagram.{DatagramRecord, nth, blank}
 use Rattle.std.specs.List.{AllByRecursion}
 use Rattle.ec_esc.specs.State.{ControllerState}
 use Rattle.ec_line.specs.After.{Entry}
-use Rattle.ec_line.specs.Answered.{AnsweredFrame}
-use Rattle.ec_line.specs.Run.{AnsweredTrips}
-use Rattle.ec_line.specs.Trip.{Trip}
+use Rattle.ec_line.specs.Answered.{sent_of}
+use Rattle.ec_line.specs.Request.{OnWay}
+use Rattle.ec_line.specs.Run.{trips_run}
+use Rattle.ec_line.specs.Trip.{Trip, passed, joined_of}
+use Rattle.ec_regs.proofs.Laws.{each-both}
 use Rattle.ec_map.specs.Item.{ItemRecord, IsItem}
 use Rattle.ec_ring.specs.Ring.{RingState, line_of}
+use Rattle.ec_ring.specs.Travel.{trip_of}
+use Rattle.ec_ring.specs.Weather.{calm}
+use Rattle.ec_ring.specs.declared.links.Links.{Links}
 use Rattle.ec_ring.specs.declared.weather.Weather.{Weather}
 use Rattle.ec_wire.specs.declared.kind.Kind.{Kind}
 use Rattle.ec_wire.specs.declared.kind.Kind.TheVariants.{Lrd, Lwr, Lrw, Brd, Fprd, Fpwr}
-use Rattle.ec_master.specs.Cut.{concat}
-use Rattle.ec_master.specs.Travelled.{trips_under, run_under, answers_under}
-use Rattle.ec_master.specs.Unordered.{IsAccepted}
+use Rattle.ec_master.specs.Cut.{concat, cut, entries_from, frames_of, IsFrameOf}
+use Rattle.ec_master.specs.Travelled.{trips_of, answers_under}
 use Rattle.ec_map.specs.Share.{expected_of}
 use Rattle.ec_master.specs.Certificate.{verdict_under}
 use Rattle.ec_master.specs.Verdict.{moved, verdict, verdict_from}
 use Rattle.ec_master.proofs.CutLemmas.{length-entries}
-use Rattle.ec_master.proofs.VerdictLemmas.{entries_carried, entries_under, returned_answers}
+use Rattle.ec_master.proofs.SlaveLemmas.{concat-cut, each-concat, entries-on_way}
+use Rattle.ec_master.proofs.TravelLemmas.{joined_sizes, sizes-count, length-sent_of, entries-not_circulating}
 use Rattle.ec_master.specs.Work.{with_answer, with_answers, nth_item, no_item}
 use Rattle.ec_master.specs.declared.verdict.Verdict.{Verdict}
 use Rattle.ec_master.specs.declared.verdict.Verdict.TheVariants.{Good, Short, Over}
@@ -111,41 +116,62 @@ stands items taken answers es k inside size expected same = record {
 
 -- ---- as many answers as items
 
-frame-count : (es : List Entry) (xs : List ControllerState) (gs : List DatagramRecord)
-    → AnsweredFrame es xs gs → length gs ≡ length es
-frame-count [] xs [] answered = refl
-frame-count [] xs (g ∷ gs) answered = absurd answered
-frame-count (e ∷ es) xs [] answered = absurd answered
-frame-count (e ∷ es) xs (g ∷ gs) answered = ap suc (frame-count es xs gs answered.1)
+-- datagrams of items, none circulating
+abbrev Sent : List Entry → Type 0
+Sent es =
+    AllByRecursion (λ e. OnWay e.request e.sent) es × AllByRecursion (λ e. e.sent.circulating ≡ false) es
 
-trips-count : (ts : List Trip) (who : Trip → List ControllerState) (joined : List (List DatagramRecord))
-    → AnsweredTrips ts who joined
-    → length (concat joined) ≡ length (entries_carried ts)
-trips-count [] who [] answered = refl
-trips-count [] who (g ∷ gs) answered = absurd answered
-trips-count (t ∷ ts) who [] answered = absurd answered
-trips-count (t ∷ ts) who (g ∷ gs) answered =
-    length-append g (concat gs)
-    ∙ (λ i. frame-count t.entries (who t) g answered.0 i + trips-count ts who gs answered.1 i)
-    ∙ sym (length-append t.entries (entries_carried ts))
+trip-count : (w : Weather) (f : List Entry) (n : ℕ) (line : List ControllerState) → Sent f
+    → length (joined_of (trip_of w f n) (passed (trip_of w f n) line)) ≡ length f
+trip-count w f n line sent =
+    sizes-count (sent_of f) _
+    (joined_sizes w f (sent_of f) n line (record { datagrams = refl; way = sent.0; not_circulating = sent.1 }))
+    ∙ length-sent_of f
 
-pub answers-count : (ws : List Weather) (r : RingState) (items : List ItemRecord) → IsAccepted r.slaves items
-    → AllByRecursion IsItem items
+trips-count : (ws : List Weather) (links : Links) (n : ℕ) (fs : List (List Entry))
+    (line : List ControllerState) → AllByRecursion Sent fs
+    → length (concat (trips_run (trips_of ws links n fs) line).joined) ≡ length (concat fs)
+unfolding trips_of trips_run
+trips-count ws links n [] line sent = refl
+trips-count [] links n (f ∷ fs) line sent =
+    let t : Trip = trip_of (calm links) f n in
+    let later : List ControllerState = (passed t line).line in
+    length-append (joined_of t (passed t line)) (concat (trips_run (trips_of [] links n fs) later).joined)
+    ∙ (λ i. trip-count (calm links) f n line sent.0 i + trips-count [] links n fs later sent.1 i)
+    ∙ sym (length-append f (concat fs))
+trips-count (w ∷ ws) links n (f ∷ fs) line sent =
+    let t : Trip = trip_of w f n in
+    let later : List ControllerState = (passed t line).line in
+    length-append (joined_of t (passed t line)) (concat (trips_run (trips_of ws links n fs) later).joined)
+    ∙ (λ i. trip-count w f n line sent.0 i + trips-count ws links n fs later sent.1 i)
+    ∙ sym (length-append f (concat fs))
+
+frames-sent : (items : List ItemRecord) → AllByRecursion IsItem items → AllByRecursion Sent (frames_of items)
+frames-sent items are =
+    let es : List Entry = entries_from 0 items in
+    let W : Entry → Type 0 = λ e. OnWay e.request e.sent in
+    let C : Entry → Type 0 = λ e. e.sent.circulating ≡ false in
+    each-both (λ f. AllByRecursion W f) (λ f. AllByRecursion C f) Sent (cut es) (λ f way calm. (way, calm))
+    (each-concat W (cut es)
+    (subst (λ (l : List Entry). AllByRecursion W l) (sym (concat-cut es)) (entries-on_way 0 items are)))
+    (each-concat C (cut es)
+    (subst (λ (l : List Entry). AllByRecursion C l) (sym (concat-cut es)) (entries-not_circulating 0 items)))
+
+pub answers-count : (ws : List Weather) (r : RingState) (items : List ItemRecord) → AllByRecursion IsItem items
     → length (answers_under ws r items) ≡ length items
-answers-count ws r items accepted are =
-    trips-count (trips_under ws r items) _ (run_under ws r items).joined
-    (returned_answers ws r items accepted are)
-    ∙ ap (λ (es : List Entry). length es) (entries_under ws r items) ∙ length-entries 0 items
+answers-count ws r items are =
+    trips-count ws r.links (length r.slaves) (frames_of items) (line_of r) (frames-sent items are)
+    ∙ ap (λ (es : List Entry). length es) (concat-cut (entries_from 0 items)) ∙ length-entries 0 items
 
 -- ---- the verdict on a cycle
 
 pub judged : (ws : List Weather) (r : RingState) (items : List ItemRecord) (expected : List ℕ)
     (taken : List ItemRecord) (v : Verdict)
-    → IsAccepted r.slaves items → AllByRecursion IsItem items → expected ≡ map (expected_of (line_of r)) items
+    → AllByRecursion IsItem items → expected ≡ map (expected_of (line_of r)) items
     → taken ≡ with_answers items (answers_under ws r items)
     → ((answers : List DatagramRecord) → length answers ≡ length items → taken ≡ with_answers items answers
     → v ≡ verdict items answers expected)
     → v ≡ verdict_under ws r items
-judged ws r items expected taken v accepted are counts same by =
-    by (answers_under ws r items) (answers-count ws r items accepted are) same
+judged ws r items expected taken v are counts same by =
+    by (answers_under ws r items) (answers-count ws r items are) same
     ∙ ap (verdict items (answers_under ws r items)) counts

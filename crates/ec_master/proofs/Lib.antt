@@ -10,6 +10,9 @@ pub mod CarryLemmas
 pub mod TravelLemmas
 pub mod JudgedLemmas
 pub mod PortLemmas
+pub mod AgainLemmas
+pub mod RoundLemmas
 pub mod SufficeLemmas
+pub mod TwoRunsLemmas
 pub mod DivisionLemmas
 pub mod RangeLemmas

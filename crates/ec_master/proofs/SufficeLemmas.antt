@@ -29,6 +29,7 @@ use Rattle.ec_master.specs.Ports.{EndsIn, IsPortCycle}
 use Rattle.ec_master.specs.Suffice.{AllThatCame, Brings, in_turn, exchanged, GivenBy, AllGivenBy, SaysOf}
 use Rattle.ec_master.specs.Suffice.{SaysOfEach, FramesSuffice}
 use Rattle.ec_master.specs.Travelled.{trips_under, run_under, answers_under}
+use Rattle.ec_master.specs.Again.{AskTheSame}
 use Rattle.ec_master.specs.Unordered.{by_station, AreAnswers, IsAccepted}
 use Rattle.ec_master.specs.Verdict.{verdict}
 use Rattle.ec_master.specs.Work.{with_answers}
@@ -36,8 +37,10 @@ use Rattle.ec_master.specs.declared.cycle.CycleFault.{CycleFault}
 use Rattle.ec_ring.specs.declared.port.PortFault.{PortFault}
 use Rattle.ec_master.specs.declared.verdict.Verdict.{Verdict}
 use Rattle.ec_master.specs.declared.verdict.Verdict.TheVariants.{Good, Short, Over}
+use Rattle.ec_master.proofs.AgainLemmas.{again, still_expected, asks-itself, asks-answers}
 use Rattle.ec_master.proofs.CarryLemmas.{either, own_itself}
-use Rattle.ec_master.proofs.CertificateLemmas.{good_answers}
+use Rattle.ec_master.proofs.CertificateLemmas.{good_answers, good_memories, good_shows}
+use Rattle.ec_master.proofs.RoundLemmas as rounds
 use Rattle.ec_master.proofs.SlaveLemmas.{entries-trips_of, trips_ready}
 use Rattle.ec_master.proofs.VerdictLemmas.{verdict-counts}
 
@@ -158,11 +161,11 @@ frames-trips ws r items =
     ∙ ap (λ (fs : List (List Entry)). map sent_of fs)
     (entries-trips_of ws r.links (length r.slaves) (frames_of items))
 
-taken-good : (v : Verdict) (items : List ItemRecord) (answers : List DatagramRecord) → v ≡ Good
+pub taken-good : (v : Verdict) (items : List ItemRecord) (answers : List DatagramRecord) → v ≡ Good
     → taken_on v items answers ≡ with_answers items answers
 taken-good v items answers good = ap (λ (x : Verdict). taken_on x items answers) good
 
-taken-other : (v : Verdict) (items : List ItemRecord) (answers : List DatagramRecord) → v ≢ Good
+pub taken-other : (v : Verdict) (items : List ItemRecord) (answers : List DatagramRecord) → v ≢ Good
     → taken_on v items answers ≡ items
 taken-other Good items answers other = absurd (other refl)
 taken-other (Short k) items answers other = refl
@@ -181,14 +184,30 @@ says ws r items expected result items_later room accepted are counts ends =
     let v : Verdict = verdict items answers expected in
     let same : v ≡ verdict_under ws r items = ap (verdict items answers) counts in
     let by_counts = same ∙ verdict-counts ws r items room accepted are in
+    let asked : (x : Verdict) → x ≡ v → AskTheSame items (taken_on x items answers) =
+    λ x is. elim x as (λ (x : Verdict). x ≡ v → AskTheSame items (taken_on x items answers)) [
+      | Good ↦ λ is. asks-answers (by_station r.slaves) items _
+          (good_answers ws r items room accepted are (sym same ∙ sym is))
+      | Short k ↦ λ is. asks-itself items
+      | Over k ↦ λ is. asks-itself items
+    ] is in
     record {
       counted = ends.0 ∙ ap (λ (x : Verdict). Ok x) by_counts;
       good = λ good.
           let is : v ≡ Good = let e : Ok v ≡ Ok Good = sym ends.0 ∙ good in cc in
           subst (AreAnswers (by_station r.slaves) items) (sym (ends.1 ∙ taken-good v items answers is))
           (good_answers ws r items room accepted are (sym same ∙ is));
+      memories = λ good n.
+          let is : v ≡ Good = let e : Ok v ≡ Ok Good = sym ends.0 ∙ good in cc in
+          good_memories ws r items n room accepted are (sym same ∙ is);
+      outputs = λ good n k s inside there shows.
+          let is : v ≡ Good = let e : Ok v ≡ Ok Good = sym ends.0 ∙ good in cc in
+          good_shows ws r items n k s room accepted are (sym same ∙ is) inside there shows;
       untouched = λ other. ends.1
           ∙ taken-other v items answers (λ is. other (ends.0 ∙ ap (λ (x : Verdict). Ok x) is));
+      asks_the_same = subst (AskTheSame items) (sym ends.1) (asked v refl);
+      again = λ others asks. again ws r items others accepted are asks;
+      still_expected = λ others also asks. still_expected ws r items others accepted are also asks;
     }
 
 pub frames-suffice : (items : List ItemRecord) (expected : List ℕ) (came : AllThatCame)
@@ -263,9 +282,9 @@ by_what_came trips before later (sent ∷ rest) outcome sends =
 pub cycle-suffices : {P : Type 0} (trips : Trips P) (before later : P) (items : List ItemRecord)
     (expected : List ℕ)
     (result : Result Verdict CycleFault) (items_later : List ItemRecord) → AllByRecursion IsItem items
-    → IsPortCycle trips before items expected result items_later later
+    → length expected ≡ length items → IsPortCycle trips before items expected result items_later later
     → FramesSuffice trips before items expected result items_later later
-cycle-suffices trips before later items expected result items_later are cycle =
+cycle-suffices trips before later items expected result items_later are counts cycle =
     let by = by_what_came trips before later (map sent_of (frames_of items)) cycle.outcome cycle.sends in
     let alone : IsPortCycle in_turn by.came items expected result items_later [] =
     record { outcome = cycle.outcome; sends = by.sends; ends = cycle.ends } in
@@ -274,4 +293,8 @@ cycle-suffices trips before later items expected result items_later are cycle =
       brought = by.brought;
       cycle = alone;
       says = frames-suffice items expected by.came result items_later are alone;
+      this_round = λ k good begun few recent.
+          rounds.this_round k items expected by.came items_later begun counts few recent
+          (subst (λ (x : Result Verdict CycleFault). IsPortCycle in_turn by.came items expected x items_later [])
+          good alone);
     }

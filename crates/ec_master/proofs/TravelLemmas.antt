@@ -210,7 +210,7 @@ sizes_items k items c j there same inside =
 
 -- ---- one frame
 
-entries-not_circulating : (k : ℕ) (rs : List ItemRecord)
+pub entries-not_circulating : (k : ℕ) (rs : List ItemRecord)
     → AllByRecursion (λ e. e.sent.circulating ≡ false) (entries_from k rs)
 unfolding entries_from
 entries-not_circulating k [] = tt

@@ -1,9 +1,9 @@
 -- The verdict of a cycle is that of the counts of passes; what a good one says of the counters; and that it
 -- is good where each slave is passed once.
-use Rattle.std.proofs.Common.{◌≡◌, ℕ, suc, ◌+◌, ◌*◌, ◌%◌, ◌<◌, ◌≤◌, Bool, true, false, cond, eqb, ltb, ◌||◌}
+use Rattle.std.proofs.Common.{◌≡◌, ℕ, zero, suc, ◌+◌, ◌*◌, ◌%◌, ◌<◌, ◌≤◌, Bool, true, false, cond, eqb, ltb, ◌||◌}
 use Rattle.std.proofs.Common.{List, [], ◌∷◌, ◌++◌, length, map, take, drop, Option, None, Some}
 use Rattle.std.proofs.Common.{sym, subst, ◌∙◌, ap, refl, arith}
-use Rattle.std.specs.Prelude.{is_none}
+use Rattle.std.specs.Prelude.{is_none, unwrap_or}
 use Rattle.std.specs.List.{AllByRecursion, sum_by}
 use Rattle.std.proofs.lemmas.Bool.{eqb-true, eq-eqb}
 use Rattle.std.proofs.lemmas.List.{length-append, length-take, length-drop, take-append-drop, drop_all}
@@ -18,19 +18,20 @@ use Rattle.ec_line.specs.Trip.{Trip, returned}
 use Rattle.ec_line.proofs.Laws.{trips_answered, sum_bound}
 use Rattle.ec_map.specs.Item.{ItemRecord, IsItem, datagram_of}
 use Rattle.ec_map.specs.Share.{share, expected_of, request_of}
-use Rattle.ec_map.proofs.Laws.{gain-share}
-use Rattle.ec_ring.specs.Links.{IsOnlyDown}
+use Rattle.ec_ring.specs.Links.{is_up, last_down}
 use Rattle.ec_ring.specs.Reach.{front, back, arrival_a, arrival_b}
 use Rattle.ec_ring.specs.Ring.{RingState, line_of}
 use Rattle.ec_ring.specs.Travel.{trip_of}
 use Rattle.ec_ring.specs.declared.links.Links.{Links}
 use Rattle.ec_ring.specs.declared.port.Port.{Port}
+use Rattle.ec_ring.specs.declared.port.Port.TheVariants.{A, B}
 use Rattle.ec_ring.specs.declared.weather.Weather.{Weather}
 use Rattle.ec_ring.proofs.Laws.{front-is-back, lost-front, lost-back, length-controllers}
 use Rattle.ec_master.specs.Certificate.{carriers, count_of, whole_count, counts_from, verdict_by_counts}
 use Rattle.ec_master.specs.Certificate.{verdict_under, IsOneDown}
 use Rattle.ec_master.specs.Cut.{concat, entries_from, frames_of}
 use Rattle.ec_master.specs.Travelled.{trips_of, trips_under, run_under, answers_under}
+use Rattle.ec_master.specs.Travelled.{weathers_of, weathers_under}
 use Rattle.ec_ring.specs.Weather.{calm}
 use Rattle.ec_master.specs.Unordered.{IsAccepted}
 use Rattle.ec_master.specs.Verdict.{moved, verdict_from}
@@ -71,7 +72,8 @@ answered-each who (t ∷ ts) (g ∷ gs) answered =
 
 -- ---- counts
 
-sum-same : {S : Type 0} (f g : S → ℕ) (xs : List S) → ((x : S) → f x ≡ g x) → sum_by f xs ≡ sum_by g xs
+-- sums of the same numbers
+pub sum-same : {S : Type 0} (f g : S → ℕ) (xs : List S) → ((x : S) → f x ≡ g x) → sum_by f xs ≡ sum_by g xs
 sum-same f g [] same = refl
 sum-same f g (x ∷ xs) same =
     omega (arith, sum_by-cons f x xs, sum_by-cons g x xs, same x, sum-same f g xs same)
@@ -89,30 +91,23 @@ length-returned t xs =
     let both = length-append (cond t.lost_a [] (take t.front xs)) (cond t.lost_b [] (drop t.back xs)) in
     omega (arith, both, a, b, length-take t.front xs, length-drop t.back xs)
 
--- shares are gains, member by member
-pub count-gains : (r : ItemRecord) (xs : List ControllerState) → IsItem r
-    → sum_by (gain (request_of r)) xs ≡ sum_by (share r) xs
-count-gains r xs item = sum-same (gain (request_of r)) (share r) xs (λ c. gain-share r c item)
-
 -- a counter has moved by the count
 count-moved : (r : ItemRecord) (j : ℕ) (t : Trip) (line : List ControllerState) (g : DatagramRecord)
     → length line ≤ 256 → IsItem r → Answered (request_of r) (returned t line) (datagram_of r j) g
     → moved r.counter g.counter ≡ count_of r t line
 count-moved r j t line g room item answered =
-    let counted : g.counter ≡ (r.counter + sum_by (gain (request_of r)) (returned t line)) % 65536 =
-    answered.counter in
-    let same = count-gains r (returned t line) item in
-    let bound = sum_bound (request_of r) (returned t line) in
+    let counted : g.counter ≡ (r.counter + count_of r t line) % 65536 = answered.counter in
+    let bound : count_of r t line ≤ 3 * length (returned t line) =
+    sum_bound (request_of r) (returned t line) in
     let size = length-returned t line in
     let small : r.counter < 65536 = item.counter in
-    omega (arith, counted, same, bound, size, small, room)
+    omega (arith, counted, bound, size, small, room)
 
-expected-whole : (r : ItemRecord) (line : List ControllerState) → length line ≤ 256 → IsItem r
+expected-whole : (r : ItemRecord) (line : List ControllerState) → length line ≤ 256
     → expected_of line r ≡ whole_count r line
-expected-whole r line room item =
-    let same = count-gains r line item in
-    let bound = sum_bound (request_of r) line in
-    omega (arith, same, bound, room)
+expected-whole r line room =
+    let bound : whole_count r line ≤ 3 * length line = sum_bound (request_of r) line in
+    omega (arith, bound, room)
 
 -- ---- the verdict by counts
 
@@ -132,7 +127,7 @@ verdict-counts-from j k (r ∷ rs) (u ∷ us) (g ∷ gs) line room items answere
     let rest : Verdict = verdict_from (suc k) rs gs (map (expected_of line) rs) in
     let V : ℕ → ℕ → Verdict → Verdict = λ a b v. cond (eqb a b) v (cond (ltb a b) (Short k) (Over k)) in
     ap (λ (a : ℕ). V a e rest) (count-moved r j u line g room items.0 answered.0)
-    ∙ ap (λ (b : ℕ). V count b rest) (expected-whole r line room items.0)
+    ∙ ap (λ (b : ℕ). V count b rest) (expected-whole r line room)
     ∙ ap (λ (v : Verdict). V count whole v)
     (verdict-counts-from (suc j) (suc k) rs us gs line room items.1 answered.1)
 
@@ -200,7 +195,7 @@ good-equal j k (r ∷ rs) (u ∷ us) (g ∷ gs) line items answered good =
     let whole : ℕ = whole_count r line in
     let step = good-step (eqb count whole) (ltb count whole) (counts_from (suc k) rs us line) k good in
     let same : count ≡ whole = eqb-true count whole step.0 in (
-      count-gains r (returned u line) items.0 ∙ same ∙ sym (count-gains r line items.0),
+      same,
       good-equal (suc j) (suc k) rs us gs line items.1 answered.1 step.1,
     )
 
@@ -280,18 +275,38 @@ piece_b links line None none =
     sym (ap (λ (q : ℕ). drop q line) (none refl) ∙ drop_all (length line) line (omega arith))
 piece_b links line (Some port) none = refl
 
+-- links that are up and down alike from 0 to n leave copy B the same way
+last_down-same : (a b : Links) (m : ℕ) → ((k : ℕ) → k < m → is_up b k ≡ is_up a k)
+    → last_down b m ≡ last_down a m
+unfolding last_down
+last_down-same a b zero same = refl
+last_down-same a b (suc m) same =
+    ap (λ (up : Bool). cond up (last_down b m) (Some m)) (same m (omega arith))
+    ∙ ap (λ (o : Option ℕ). cond (is_up a m) o (Some m))
+    (last_down-same a b m (λ k below. same k (omega (arith, below))))
+
+last_same : (w : Weather) (n : ℕ) → IsOneDown n w → last_down w.b (n + 1) ≡ last_down w.a (n + 1)
+last_same w n down = last_down-same w.a w.b (n + 1) (λ k below. down.same k (omega (arith, below)))
+
+arrival_same : (w : Weather) (n : ℕ) → IsOneDown n w → arrival_b w.b n ≡ arrival_b w.a n
+arrival_same w n down =
+    ap (λ (up : Bool). cond up (Some (cond (is_none (last_down w.b (n + 1))) A B)) None)
+    (down.same n (omega arith))
+    ∙ ap (λ (o : Option ℕ). cond (is_up w.a n) (Some (cond (is_none o) A B)) None) (last_same w n down)
+
 passes-once : (w : Weather) (f : List Entry) (line : List ControllerState) → IsOneDown (length line) w
     → PassesOnce line (trip_of w f (length line))
 passes-once w f line down =
     let n : ℕ = length line in
     let p : ℕ = front w.a n in
-    let A : Bool → List ControllerState = λ lost. cond (lost || is_none (arrival_a w.a n)) [] (take p line) in
-    let B : Bool → Links → List ControllerState =
-    λ lost links. cond (lost || is_none (arrival_b links n)) [] (drop (back links n) line) in
-    ap (λ (lost : Bool). A lost ++ B w.lost_b w.b) down.came_a
-    ∙ ap (λ (lost : Bool). A false ++ B lost w.b) down.came_b
-    ∙ ap (λ (links : Links). A false ++ B false links) down.same
-    ∙ ap (λ (l : List ControllerState). l ++ B false w.a)
+    let C : Bool → List ControllerState = λ lost. cond (lost || is_none (arrival_a w.a n)) [] (take p line) in
+    let D : Bool → Option Port → ℕ → List ControllerState =
+    λ lost arrival from. cond (lost || is_none arrival) [] (drop from line) in
+    ap (λ (lost : Bool). C lost ++ D w.lost_b (arrival_b w.b n) (back w.b n)) down.came_a
+    ∙ ap (λ (lost : Bool). C false ++ D lost (arrival_b w.b n) (back w.b n)) down.came_b
+    ∙ ap (λ (arrival : Option Port). C false ++ D false arrival (back w.b n)) (arrival_same w n down)
+    ∙ ap (λ (o : Option ℕ). C false ++ D false (arrival_b w.a n) (unwrap_or o n)) (last_same w n down)
+    ∙ ap (λ (l : List ControllerState). l ++ D false (arrival_b w.a n) (back w.a n))
     (piece_a w.a n line (arrival_a w.a n) (lost-front w.a n))
     ∙ ap (λ (l : List ControllerState). take p line ++ l)
     (piece_b w.a line (arrival_b w.a n) (lost-back w.a n))
@@ -299,14 +314,14 @@ passes-once w f line down =
     ∙ take-append-drop p line
 
 trips-once : (ws : List Weather) (links : Links) (fs : List (List Entry)) (line : List ControllerState)
-    → AllByRecursion (IsOneDown (length line)) ws → IsOneDown (length line) (calm links)
+    → AllByRecursion (IsOneDown (length line)) (weathers_of ws links fs)
     → AllByRecursion (PassesOnce line) (trips_of ws links (length line) fs)
-unfolding trips_of
-trips-once ws links [] line down last = tt
-trips-once [] links (f ∷ fs) line down last =
-    (passes-once (calm links) f line last, trips-once [] links fs line down last)
-trips-once (w ∷ ws) links (f ∷ fs) line down last =
-    (passes-once w f line down.0, trips-once ws links fs line down.1 last)
+unfolding trips_of weathers_of
+trips-once ws links [] line down = tt
+trips-once [] links (f ∷ fs) line down =
+    (passes-once (calm links) f line down.0, trips-once [] links fs line down.1)
+trips-once (w ∷ ws) links (f ∷ fs) line down =
+    (passes-once w f line down.0, trips-once ws links fs line down.1)
 
 carriers-first : (P : Trip → Type 0) (t : Trip) (es : List Entry) (us : List Trip) → P t → AllByRecursion P us
     → AllByRecursion P (map (λ (e : Entry). t) es ++ us)
@@ -334,18 +349,15 @@ once-good k (r ∷ rs) (u ∷ us) line once =
 -- so the verdict is good
 pub one_down_good : (ws : List Weather) (r : RingState) (items : List ItemRecord) → length r.slaves ≤ 256
     → IsAccepted r.slaves items → AllByRecursion IsItem items
-    → AllByRecursion (IsOneDown (length r.slaves)) ws
-    → (link : ℕ) → IsOnlyDown r.links (length r.slaves) link → verdict_under ws r items ≡ Good
-one_down_good ws r items room accepted are_items down link only =
-    let last : IsOneDown (length r.slaves) (calm r.links) =
-    record { same = refl; link = link; only = only; came_a = refl; came_b = refl } in
+    → AllByRecursion (IsOneDown (length r.slaves)) (weathers_under ws r items)
+    → verdict_under ws r items ≡ Good
+one_down_good ws r items room accepted are_items down =
     let line : List ControllerState = line_of r in
     let size : length r.slaves ≡ length line = sym (length-controllers r.slaves) in
     let ts : List Trip = trips_under ws r items in
     let once : AllByRecursion (PassesOnce line) (trips_of ws r.links (length line) (frames_of items)) =
     trips-once ws r.links (frames_of items) line
-    (subst (λ (n : ℕ). AllByRecursion (IsOneDown n) ws) size down)
-    (subst (λ (n : ℕ). IsOneDown n (calm r.links)) size last) in
+    (subst (λ (n : ℕ). AllByRecursion (IsOneDown n) (weathers_under ws r items)) size down) in
     let under : AllByRecursion (PassesOnce line) ts =
     subst (λ (n : ℕ). AllByRecursion (PassesOnce line) (trips_of ws r.links n (frames_of items))) (sym size)
     once in

@@ -1,4 +1,5 @@
--- The items of a work: those that its array holds, those that have taken answers, and those that are rewound.
+-- The items of a work: those that its array holds, those that have taken answers, and those that begin a
+-- round.
 use Rattle.std.proofs.Common.{◌≡◌, ℕ, zero, suc, ◌+◌, ◌<◌, ◌≤◌, ◌∙◌, arith, ap, sym, refl, suc-add, zero-add}
 use Rattle.std.proofs.Common.{List, [], ◌∷◌, ◌++◌, length, map, take, drop, get_or, set, Some}
 use Rattle.std.proofs.lemmas.List.{get_or-take, length-take-le}
@@ -7,7 +8,7 @@ use Rattle.std.specs.List.{slice_get}
 use Rattle.std.specs.Prelude.{◌↔◌, OnOk, IsErr, Result, Ok, Err}
 use Rattle.ec_wire.specs.Datagram.{DatagramRecord, nth}
 use Rattle.ec_map.specs.Item.{ItemRecord}
-use Rattle.ec_master.specs.Work.{with_answer, with_answers, with_answers_at, rewound}
+use Rattle.ec_master.specs.Work.{with_answer, with_answers, with_answers_at}
 
 -- ---- the front of the array
 
@@ -79,29 +80,28 @@ set-with_answers_at (suc k) j (r ∷ rs) ds e h i =
     rw (suc-add k j)
     (ap (λ (xs : List ItemRecord). r ∷ xs) (set-with_answers_at k j rs ds e (omega (arith, h)) i))
 
--- ---- rewinding
+-- ---- items that are changed one after the other
 
-pub set-rewound : (k : ℕ) (rs : List ItemRecord) (e : ItemRecord) → k < length rs
-    → set (map rewound (take k rs) ++ drop k rs) k (rewound (get_or rs k e)) ≡ map rewound (take (suc k) rs)
-    ++ drop (suc k) rs
-set-rewound k [] e h = absurd (omega (arith, h))
-set-rewound zero (r ∷ rs) e h = refl
-set-rewound (suc k) (r ∷ rs) e h =
-    ap (λ (xs : List ItemRecord). rewound r ∷ xs) (set-rewound k rs e (omega (arith, h)))
+pub set-changed : (f : ItemRecord → ItemRecord) (k : ℕ) (rs : List ItemRecord) (e : ItemRecord) → k < length rs
+    → set (map f (take k rs) ++ drop k rs) k (f (get_or rs k e)) ≡ map f (take (suc k) rs) ++ drop (suc k) rs
+set-changed f k [] e h = absurd (omega (arith, h))
+set-changed f zero (r ∷ rs) e h = refl
+set-changed f (suc k) (r ∷ rs) e h =
+    ap (λ (xs : List ItemRecord). f r ∷ xs) (set-changed f k rs e (omega (arith, h)))
 
-pub get-rewound : (k : ℕ) (rs : List ItemRecord) (e : ItemRecord)
-    → get_or (map rewound (take k rs) ++ drop k rs) k e ≡ get_or rs k e
-get-rewound zero [] e = refl
-get-rewound (suc k) [] e = refl
-get-rewound zero (r ∷ rs) e = refl
-get-rewound (suc k) (r ∷ rs) e = get-rewound k rs e
+pub get-changed : (f : ItemRecord → ItemRecord) (k : ℕ) (rs : List ItemRecord) (e : ItemRecord)
+    → get_or (map f (take k rs) ++ drop k rs) k e ≡ get_or rs k e
+get-changed f zero [] e = refl
+get-changed f (suc k) [] e = refl
+get-changed f zero (r ∷ rs) e = refl
+get-changed f (suc k) (r ∷ rs) e = get-changed f k rs e
 
-pub length-rewound : (k : ℕ) (rs : List ItemRecord) → length (map rewound (take k rs) ++ drop k rs)
-    ≡ length rs
-length-rewound zero [] = refl
-length-rewound (suc k) [] = refl
-length-rewound zero (r ∷ rs) = refl
-length-rewound (suc k) (r ∷ rs) = ap suc (length-rewound k rs)
+pub length-changed : (f : ItemRecord → ItemRecord) (k : ℕ) (rs : List ItemRecord)
+    → length (map f (take k rs) ++ drop k rs) ≡ length rs
+length-changed f zero [] = refl
+length-changed f (suc k) [] = refl
+length-changed f zero (r ∷ rs) = refl
+length-changed f (suc k) (r ∷ rs) = ap suc (length-changed f k rs)
 
 -- ---- pushing and copying
 

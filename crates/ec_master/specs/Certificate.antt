@@ -1,6 +1,6 @@
 -- What the working counters of a cycle certify: the verdict by counts of passes, and what it promises of the
 -- slaves by their stations.
-use Rattle.std.specs.Prelude.{◌≡◌, ℕ, suc, ◌==◌, nat_lt, nat_le, ◌||◌, false, if◌then◌else◌, Option}
+use Rattle.std.specs.Prelude.{◌≡◌, ◌≤◌, ℕ, suc, ◌==◌, nat_lt, nat_le, ◌||◌, false, if◌then◌else◌, Option}
 use Rattle.std.specs.Prelude.{List, [], ◌∷◌, ◌++◌, map, sum_by, slice_index}
 use Rattle.std.specs.Option.{option_map}
 use Rattle.ec_esc.specs.State.{ControllerState}
@@ -9,7 +9,7 @@ use Rattle.ec_line.specs.After.{Entry}
 use Rattle.ec_line.specs.Trip.{Trip, returned}
 use Rattle.ec_map.specs.Item.{ItemRecord}
 use Rattle.ec_map.specs.Share.{share, expected_of}
-use Rattle.ec_ring.specs.Links.{IsOnlyDown}
+use Rattle.ec_ring.specs.Links.{is_up, IsOnlyDown}
 use Rattle.ec_ring.specs.Ring.{RingState, line_of}
 use Rattle.ec_ring.specs.declared.weather.Weather.{Weather}
 use Rattle.ec_master.specs.Travelled.{answers_under}
@@ -69,9 +69,9 @@ entries_at (t ∷ ts) k = (if nat_lt k t.front || nat_le t.back k then t.entries
 
 -- ---- weathers
 
--- both copies travel under the same links, of which at most one is down, and come back
+-- both copies travel under the same links of a line of n slaves, of which at most one is down, and come back
 pub record IsOneDown (n : ℕ) (w : Weather) : Type 0 where
-  pub same : w.b ≡ w.a
+  pub same : (k : ℕ) → k ≤ n → is_up w.b k ≡ is_up w.a k
   pub link : ℕ
   pub only : IsOnlyDown w.a n link
   pub came_a : w.lost_a ≡ false

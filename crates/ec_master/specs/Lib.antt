@@ -8,3 +8,6 @@ pub mod Certificate
 pub mod Ports
 pub mod Suffice
 pub mod RingTrips
+pub mod Again
+pub mod Rounds
+pub mod Acceptance

@@ -22,6 +22,16 @@ trips_of ws links n [] = []
 trips_of [] links n (f ∷ fs) = trip_of (calm links) f n ∷ trips_of [] links n fs
 trips_of (w ∷ ws) links n (f ∷ fs) = trip_of w f n ∷ trips_of ws links n fs
 
+-- the weather of each frame: its own, and past the list of weathers that of the line's own links
+unfoldable pub weathers_of : List Weather → Links → List (List Entry) → List Weather
+weathers_of ws links [] = []
+weathers_of [] links (f ∷ fs) = calm links ∷ weathers_of [] links fs
+weathers_of (w ∷ ws) links (f ∷ fs) = w ∷ weathers_of ws links fs
+
+-- the weathers of the frames that a work sends, as many as there are frames
+abbrev pub weathers_under : List Weather → RingState → List ItemRecord → List Weather
+weathers_under ws r items = weathers_of ws r.links (frames_of items)
+
 -- the trips of a work, and what they come to: the joined frames, and the line afterwards
 abbrev pub trips_under : List Weather → RingState → List ItemRecord → List Trip
 trips_under ws r items = trips_of ws r.links (length r.slaves) (frames_of items)

@@ -4,7 +4,7 @@ use Rattle.std.specs.Prelude.{◌≡◌, ℕ, zero, suc, ◌+◌, ◌%◌, ◌==
 use Rattle.std.specs.Prelude.{List, [], ◌∷◌, length}
 use Rattle.std.specs.Option.{option_map}
 use Rattle.std.specs.List.{AllByRecursion}
-use Rattle.ec_regs.specs.Bits.{bit}
+use Rattle.ec_regs.specs.Bits.{AreBytes, bit}
 use Rattle.ec_regs.specs.declared.registers.TheConstants.{STATION_ADDRESS}
 use Rattle.ec_esc.specs.State.{IsController, word_at}
 use Rattle.ec_app.specs.State.{SlaveState}
@@ -94,6 +94,10 @@ slaves_after_all (r ∷ rs) slaves = slaves_after_all rs (slaves_after r slaves)
 pub record IsCycle (before : ByStation) (sent got : List ItemRecord) (later : ByStation) : Type 0 where
   pub answers : AreAnswers before sent got
   pub slaves : (n : ℕ) → later n ≡ slaves_after_all sent before n
+
+-- the data of an item are bytes, as those of every item of a work are
+abbrev pub HasBytes : ItemRecord → Type 0
+HasBytes r = AreBytes r.payload
 
 -- ---- of which slaves and items it is promised
 

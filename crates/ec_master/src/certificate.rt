@@ -1,24 +1,32 @@
 //! What the working counters of a cycle certify, whatever befell its frames, each promise the contract of a
 //! function that does nothing.
 
-ghost use Rattle.std.specs.Prelude.{◌≡◌, ℕ, ◌≤◌, ◌<◌, ◌+◌, Some, List, [], length, slice_get, Result};
+ghost use Rattle.std.specs.Prelude.{◌≡◌, ℕ, ◌≤◌, ◌<◌, ◌+◌, Some, List, [], length, map, slice_get};
+ghost use Rattle.std.specs.Prelude.{Result, Ok};
 ghost use Rattle.std.specs.List.{AllByRecursion};
 ghost use Rattle.std.specs.Option.{option_map};
 ghost use Rattle.ec_regs.specs.declared.registers.TheConstants.{PROCESS_MEMORY, PROCESS_MEMORY_SIZE};
 ghost use Rattle.ec_app.specs.State.{SlaveState};
-ghost use Rattle.ec_line.specs.After.{after_frame};
+ghost use Rattle.ec_esc.specs.State.{ControllerState};
+ghost use Rattle.ec_esc.specs.declared.counting.TheConstants.{MOST_CONTROLLERS};
+ghost use Rattle.ec_line.specs.After.{Entry, after_frame};
+ghost use Rattle.ec_line.specs.Request.{OnWay};
+ghost use Rattle.ec_line.specs.Trip.{Trip, passed};
+ghost use Rattle.ec_ring.specs.Travel.{as_trip};
+ghost use Rattle.ec_master.specs.Rounds.{round_counter, AreOfRound};
 ghost use Rattle.ec_line.specs.Shown.{ShowsLast, NoAreaTwice};
 ghost use Rattle.ec_map.specs.Item.{ItemRecord, IsItem};
-ghost use Rattle.ec_ring.specs.Links.{IsOnlyDown};
 ghost use Rattle.ec_ring.specs.Ring.{RingState, line_of};
 ghost use Rattle.ec_ring.specs.declared.links.TheConstants.{MAX_SLAVES};
 ghost use Rattle.ec_ring.specs.declared.weather.Weather.{Weather};
+ghost use Rattle.ec_map.specs.Share.{expected_of};
+ghost use Rattle.ec_master.specs.Again.{AskTheSame};
 ghost use Rattle.ec_master.specs.Certificate.{verdict_under, verdict_by_counts, entries_at, IsOneDown};
 ghost use Rattle.ec_master.specs.Certificate.{memory_at, application_at, shown_at};
 ghost use Rattle.ec_master.specs.Cut.{frames_of};
 ghost use Rattle.ec_master.specs.Ports.{IsPortCycle};
 ghost use Rattle.ec_master.specs.Suffice.{AllThatCame, in_turn, SaysOfEach};
-ghost use Rattle.ec_master.specs.Travelled.{trips_under, answers_under, ring_under};
+ghost use Rattle.ec_master.specs.Travelled.{trips_under, answers_under, ring_under, weathers_under};
 ghost use Rattle.ec_master.specs.Unordered.{by_station, slaves_after_all, AreAnswers, IsAccepted};
 ghost use Rattle.ec_master.specs.Work.{with_answers};
 ghost use Rattle.ec_master.specs.declared.cycle.CycleFault.{CycleFault};
@@ -83,17 +91,41 @@ pub fn applications_kept()
         ≡ application_at (by_station r.slaves) n }
 {}
 
-/// With at most one link down, the same for both copies, and nothing lost the verdict is good.
+/// Where each frame that is sent travels with at most one link down, the same for both copies, and nothing is
+/// lost, the verdict is good.
 pub fn one_link_down()
     ensures { (ws : List Weather) (r : RingState) (items : List ItemRecord)
         → length r.slaves ≤ MAX_SLAVES → IsAccepted r.slaves items → AllByRecursion IsItem items
-        → AllByRecursion (IsOneDown (length r.slaves)) ws
-        → (link : ℕ) → IsOnlyDown r.links (length r.slaves) link → verdict_under ws r items ≡ Good }
+        → AllByRecursion (IsOneDown (length r.slaves)) (weathers_under ws r items)
+        → verdict_under ws r items ≡ Good }
+{}
+
+/// A line is checked once. Behind a cycle in any weather, whatever its verdict, items that ask the same are
+/// accepted, and what is expected of their counters is as it was.
+pub fn checked_once()
+    ensures again { (ws : List Weather) (r : RingState) (items others : List ItemRecord)
+        → IsAccepted r.slaves items → AllByRecursion IsItem items → AskTheSame items others
+        → IsAccepted (ring_under ws r items).slaves others }
+    ensures still_expected { (ws : List Weather) (r : RingState) (items others : List ItemRecord)
+        → IsAccepted r.slaves items → AllByRecursion IsItem items → AllByRecursion IsItem others
+        → AskTheSame items others
+        → map (expected_of (line_of (ring_under ws r items))) others ≡ map (expected_of (line_of r)) items }
+{}
+
+/// The copies of a frame that goes out in a round, over a line of at most 256 controllers, are of that round,
+/// whatever befalls them: so what is late is late by whole rounds, which a good verdict excludes
+/// (`frames_suffice`, `this_round`).
+pub fn of_round()
+    ensures { (k : ℕ) (t : Trip) (line : List ControllerState) → length line ≤ MOST_CONTROLLERS
+        → AllByRecursion (λ (e : Entry). OnWay e.request e.sent) t.entries
+        → AllByRecursion (λ (e : Entry). e.sent.counter ≡ round_counter k) t.entries
+        → AreOfRound k (Ok (as_trip t (passed t line)).came) }
 {}
 
 /// Of ports only what came back of each frame counts. Where it is what a ring's trips give, the copies in
 /// either place, the cycle ends in no fault; its verdict is that by counts; on a good one the items have the
-/// answers of the unordered cycle of the ring's slaves, and on another they are as before.
+/// answers of the unordered cycle of the ring's slaves, which have its memories and shown bytes (these where
+/// in each frame the last item that shows a byte is the last that writes it); on another they are as before.
 pub fn frames_suffice()
     ensures { (items : List ItemRecord) (expected : List ℕ) (came : AllThatCame)
         (result : Result Verdict CycleFault) (items_later : List ItemRecord) → AllByRecursion IsItem items

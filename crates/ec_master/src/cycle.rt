@@ -9,7 +9,7 @@ ghost use Rattle.ec_master.specs.Suffice.{FramesSuffice};
 
 use crate::cut::frame_from;
 use crate::ports::Ports;
-use crate::verdict::{Verdict, judge};
+use crate::verdict::{Verdict, conclude};
 use crate::work::Work;
 use ec_merge::join_frames;
 use ec_wire::FrameBuf;
@@ -56,10 +56,15 @@ fn carry_all<P: Ports>(ports: &mut P, work: &Work) -> Result<Work, CycleFault>
     Ok(taken)
 }
 
-/// A cycle over ports: the work's frames go out one after the other, the copies of each are joined, and the
-/// counters of the answers are judged. On a good verdict, and only then, the work takes the answers. At the
-/// first trip that fails, and at the first copy that is none of its frame, the cycle ends without a verdict.
-/// It takes no memory.
+/// A cycle over ports: the work's frames go out one after the other, the copies of each are joined, and
+/// the counters of the answers are judged (`cycle`). On a good verdict, and only then, the work takes the
+/// answers. At the first trip that fails, and at the first copy that is none of its frame, the cycle ends
+/// without a verdict. It is handed no allocator, so it takes no memory but what the ports' own calls take.
+///
+/// Nothing else is known of what came; but of each ring that would have given it, all is known that a cycle
+/// over the ring says, memories included (`frames_suffice`). A good verdict rests on no copy that is late by
+/// one to fifteen rounds, where each cycle begins its round (`Work::begin_round`; `this_round` of
+/// `frames_suffice`).
 pub fn run_cycle<P: Ports>(
     ports: &mut P,
     work: &mut Work,
@@ -73,9 +78,5 @@ pub fn run_cycle<P: Ports>(
 {
     work.are_items();
     let taken = carry_all(ports, work)?;
-    let verdict = judge(work, &taken, expected);
-    if verdict == Verdict::Good {
-        *work = taken;
-    }
-    Ok(verdict)
+    Ok(conclude(work, taken, expected))
 }

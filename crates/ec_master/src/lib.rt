@@ -45,6 +45,7 @@
 //! frames (`Travelled`), what counters say (`Verdict`, `Certificate`), what frames alone say (`Suffice`), and
 //! trips end to end (`Ports`).
 
+mod acceptance;
 pub mod certificate;
 mod cut;
 mod cycle;
@@ -56,6 +57,7 @@ mod verdict;
 mod weather;
 mod work;
 
+pub use acceptance::{Refusal, accept, all_expected, checked_cycle};
 pub use cycle::{CycleFault, run_cycle};
 pub use ec_ring::PortFault;
 pub use ports::Ports;

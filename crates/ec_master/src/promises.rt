@@ -1,6 +1,6 @@
 //! The laws of a cycle over a ring, each the contract of a function that does nothing.
 
-ghost use Rattle.std.specs.Prelude.{◌≡◌, ◌⊎◌, ◌&&◌, ◌+◌, ◌*◌, ◌/◌, ◌<◌, ℕ, true, false, None, Some};
+ghost use Rattle.std.specs.Prelude.{◌≡◌, ◌⊎◌, ◌&&◌, ◌+◌, ◌*◌, ◌/◌, ◌<◌, ◌≤◌, ℕ, true, false, None, Some};
 ghost use Rattle.std.specs.Prelude.{List, [], ◌∷◌, length, map};
 ghost use Rattle.std.specs.List.{AllByRecursion};
 ghost use Rattle.ec_regs.specs.Bits.{bit};
@@ -15,10 +15,13 @@ ghost use Rattle.ec_map.specs.Place.{ado_named};
 ghost use Rattle.ec_map.specs.Share.{serves_read, serves_write, request_of};
 ghost use Rattle.ec_ring.specs.Links.{IsOnlyDown};
 ghost use Rattle.ec_ring.specs.Ring.{RingState};
+ghost use Rattle.ec_ring.specs.declared.links.TheConstants.{MAX_SLAVES};
 ghost use Rattle.ec_ring.specs.declared.weather.Weather.{Weather};
 ghost use Rattle.ec_master.specs.Cut.{cut, entries_from, fits_frame, IsCut};
 ghost use Rattle.ec_master.specs.Travelled.{answers_under, ring_under, reached, unreached};
-ghost use Rattle.ec_master.specs.Unordered.{station, by_station, IsCycle, IsAccepted};
+ghost use Rattle.ec_master.specs.Certificate.{verdict_under, memory_at};
+ghost use Rattle.ec_master.specs.Unordered.{station, by_station, ByStation, HasBytes, IsCycle, IsAccepted};
+ghost use Rattle.ec_master.specs.declared.verdict.Verdict.TheVariants.{Good};
 ghost use Rattle.ec_master.specs.Work.{with_answers};
 
 /// Frames, copies, places and links do not show. Over a ring with no link down but perhaps one, a cycle is
@@ -40,6 +43,41 @@ pub fn order_free()
     ensures stations { (ws : List Weather) (r : RingState) (items : List ItemRecord)
         → IsAccepted r.slaves items → AllByRecursion IsItem items
         → map station (ring_under ws r items).slaves ≡ map station r.slaves }
+{}
+
+/// The unordered cycle has one outcome: data, counters and slaves, where the data are bytes.
+pub fn one_cycle()
+    ensures { (before later after : ByStation) (sent got other : List ItemRecord)
+        → AllByRecursion HasBytes got → AllByRecursion HasBytes other → IsCycle before sent got later
+        → IsCycle before sent other after → (other ≡ got) × ((n : ℕ) → after n ≡ later n) }
+{}
+
+/// Order and break do not show: two rings with the same slaves by their stations, in whatever order they
+/// stand, each with no link down but perhaps one, give a work the same data and counters and leave the same
+/// slaves.
+pub fn two_orders()
+    ensures { (r s : RingState) (items : List ItemRecord) (k m : ℕ)
+        → IsOnlyDown r.links (length r.slaves) k → IsOnlyDown s.links (length s.slaves) m
+        → IsAccepted r.slaves items → IsAccepted s.slaves items → AllByRecursion IsItem items
+        → AllByRecursion HasBytes (with_answers items (answers_under [] r items))
+        → AllByRecursion HasBytes (with_answers items (answers_under [] s items))
+        → ((n : ℕ) → by_station s.slaves n ≡ by_station r.slaves n)
+        → (with_answers items (answers_under [] s items) ≡ with_answers items (answers_under [] r items))
+        × ((n : ℕ) → by_station (ring_under [] s items).slaves n
+        ≡ by_station (ring_under [] r items).slaves n) }
+{}
+
+/// What befell the frames does not show in a good cycle: in any two weathers that end in `Good` a work gets
+/// the same data and counters, and each memory is the same.
+pub fn two_good()
+    ensures { (ws us : List Weather) (r : RingState) (items : List ItemRecord)
+        → length r.slaves ≤ MAX_SLAVES → IsAccepted r.slaves items → AllByRecursion IsItem items
+        → AllByRecursion HasBytes (with_answers items (answers_under ws r items))
+        → AllByRecursion HasBytes (with_answers items (answers_under us r items))
+        → verdict_under ws r items ≡ Good → verdict_under us r items ≡ Good
+        → (with_answers items (answers_under us r items) ≡ with_answers items (answers_under ws r items))
+        × ((n : ℕ) → memory_at (by_station (ring_under us r items).slaves) n
+        ≡ memory_at (by_station (ring_under ws r items).slaves) n) }
 {}
 
 /// The frames of a work are the one division of its items into consecutive frames, none empty, each of which

@@ -1,6 +1,7 @@
 //! A master's cycle over a ring.
 
 ghost use Rattle.std.specs.Prelude.{◌≡◌, ◌+◌, ◌<◌, ◌≤◌, ℕ, [], List, length, map, slice_index_or};
+ghost use Rattle.std.specs.List.{AllByRecursion};
 ghost use Rattle.ec_wire.specs.Datagram.{nth};
 ghost use Rattle.ec_line.specs.After.{Entry};
 ghost use Rattle.ec_line.specs.Trip.{joined_of, passed};
@@ -13,6 +14,9 @@ ghost use Rattle.ec_master.specs.declared.work.TheConstants.{MAX_ITEMS};
 ghost use Rattle.ec_master.specs.Travelled.{answers_under, ring_under, AtMostOneDown, reached};
 ghost use Rattle.ec_ring.specs.Weather.{calm};
 ghost use Rattle.ec_master.specs.Travelled.{unreached};
+ghost use Rattle.ec_master.specs.Again.{AskTheSame};
+ghost use Rattle.ec_map.specs.Item.{ItemRecord, IsItem};
+ghost use Rattle.ec_map.specs.Share.{expected_of};
 ghost use Rattle.ec_master.specs.Unordered.{station, by_station, IsCycle, IsAccepted};
 
 use crate::cut::frame_from;
@@ -97,6 +101,9 @@ pub(crate) fn travel<T: Travel>(ring: &mut T, weather: &[Weather], work: &mut Wo
 /// slaves are afterwards those of the cycle over slaves that are known by their stations alone
 /// (`order_free`): neither the order of the slaves nor the break shows. With more links down they are those
 /// of that cycle over the slaves that a copy reaches (`reached`), and the others are as before (`unreached`).
+///
+/// A line is checked once: behind the cycle it accepts the work again, also with other data (`again`, of any
+/// items that ask the same), and what is expected of each counter is as it was (`still_expected`).
 pub fn ring_cycle<T: Travel>(ring: &mut T, work: &mut Work)
     ensures order_free { AtMostOneDown (T.ring ring.old) → IsAccepted (T.ring ring.old).slaves work.old
         → IsCycle (by_station (T.ring ring.old).slaves) work.old work.new
@@ -110,6 +117,14 @@ pub fn ring_cycle<T: Travel>(ring: &mut T, work: &mut Work)
         → map station (T.ring ring.new).slaves ≡ map station (T.ring ring.old).slaves }
     ensures links { (T.ring ring.new).links ≡ (T.ring ring.old).links }
     ensures frames { work.new ≡ with_answers work.old (answers_under [] (T.ring ring.old) work.old) }
+    ensures ring { T.ring ring.new ≡ ring_under [] (T.ring ring.old) work.old }
+    ensures asks_the_same { IsAccepted (T.ring ring.old).slaves work.old → AskTheSame work.old work.new }
+    ensures again { (others : List ItemRecord) → IsAccepted (T.ring ring.old).slaves work.old
+        → AskTheSame work.old others → IsAccepted (T.ring ring.new).slaves others }
+    ensures still_expected { (others : List ItemRecord) → IsAccepted (T.ring ring.old).slaves work.old
+        → AllByRecursion IsItem others → AskTheSame work.old others
+        → map (expected_of (line_of (T.ring ring.new))) others
+        ≡ map (expected_of (line_of (T.ring ring.old))) work.old }
 {
     work.are_items();
     travel(ring, &[], work);

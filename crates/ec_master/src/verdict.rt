@@ -2,6 +2,7 @@
 
 ghost use Rattle.std.specs.Prelude.{◌≡◌, ◌<◌, List, length};
 ghost use Rattle.ec_wire.specs.Datagram.{DatagramRecord};
+ghost use Rattle.ec_master.specs.Ports.{taken_on};
 ghost use Rattle.ec_master.specs.Verdict.{verdict, moved};
 ghost use Rattle.ec_master.specs.Work.{nth_item, with_answers};
 
@@ -36,6 +37,22 @@ pub(crate) fn judge(work: &Work, taken: &Work, expected: &[u16]) -> Verdict
         }
     }
     Verdict::Good
+}
+
+/// The verdict on a work and the answers that it would take: on a good one, and only then, it takes them.
+pub(crate) fn conclude(work: &mut Work, taken: Work, expected: &[u16]) -> Verdict
+    requires taken { length taken ≡ length work.old }
+    requires expected { length expected.now ≡ length work.old }
+    ensures judged { (answers : List DatagramRecord) → length answers ≡ length work.old
+        → taken ≡ with_answers work.old answers → result ≡ verdict work.old answers expected.now }
+    ensures taken { (answers : List DatagramRecord) → taken ≡ with_answers work.old answers
+        → work.new ≡ taken_on result work.old answers }
+{
+    let verdict = judge(work, &taken, expected);
+    if verdict == Verdict::Good {
+        *work = taken;
+    }
+    verdict
 }
 
 /// By how much the counter of the item at `k` moved, modulo 65,536.

@@ -7,16 +7,19 @@ ghost use Rattle.ec_regs.specs.declared.registers.TheConstants.{PROCESS_MEMORY, 
 ghost use Rattle.ec_app.specs.State.{SlaveState};
 ghost use Rattle.ec_line.specs.After.{after_frame};
 ghost use Rattle.ec_line.specs.Shown.{ShowsLast, NoAreaTwice};
+ghost use Rattle.ec_map.specs.Item.{ItemRecord, IsItem};
 ghost use Rattle.ec_map.specs.Share.{expected_of};
 ghost use Rattle.ec_ring.specs.Ring.{line_of};
-ghost use Rattle.ec_master.specs.Certificate.{verdict_by_counts, entries_at, IsOneDown};
+ghost use Rattle.ec_master.specs.Certificate.{verdict_under, verdict_by_counts, entries_at, IsOneDown};
 ghost use Rattle.ec_master.specs.Certificate.{memory_at, application_at, shown_at};
 ghost use Rattle.ec_master.specs.Cut.{frames_of};
-ghost use Rattle.ec_master.specs.Travelled.{trips_under, ring_under, AtMostOneDown};
+ghost use Rattle.ec_master.specs.Again.{AskTheSame};
+ghost use Rattle.ec_master.specs.Ports.{taken_on};
+ghost use Rattle.ec_master.specs.Travelled.{trips_under, answers_under, ring_under, weathers_under};
 ghost use Rattle.ec_master.specs.Unordered.{by_station, slaves_after_all, AreAnswers, IsAccepted};
 
 use crate::ring::travel;
-use crate::verdict::{Verdict, judge};
+use crate::verdict::{Verdict, conclude};
 use crate::work::Work;
 use ec_ring::{Travel, Weather};
 
@@ -35,8 +38,15 @@ use ec_ring::{Travel, Weather};
 /// - `untouched_work`: on another verdict the work is unchanged;
 /// - `memory_on_every_verdict`: a slave's memory is that after the items of those frames of which a copy
 ///   reached it, each once;
-/// - `good_when_one_link_is_down`: with at most one link down, the same for both copies, and nothing lost the
-///   verdict is `Good`.
+/// - `good_when_one_link_is_down`: where each frame that is sent travels with at most one link down, the same
+///   for both copies, and nothing is lost, the verdict is `Good`.
+///
+/// A line is checked once: behind the cycle, whatever its verdict, it accepts the work again, also with other
+/// data (`again`, of any items that ask the same), and `expected` is what is expected of them
+/// (`still_expected`).
+///
+/// On any line and for any items the verdict is that on the answers that the frames' trips bring (`judged`),
+/// and the work takes these on `Good` alone (`taken`).
 pub fn weather_cycle<T: Travel>(
     ring: &mut T,
     weather: &[Weather],
@@ -72,17 +82,23 @@ pub fn weather_cycle<T: Travel>(
         → application_at (by_station (T.ring ring.new).slaves) n
         ≡ application_at (by_station (T.ring ring.old).slaves) n }
     ensures good_when_one_link_is_down { IsAccepted (T.ring ring.old).slaves work.old
-        → AllByRecursion (IsOneDown (length (T.ring ring.old).slaves)) weather.now
-        → AtMostOneDown (T.ring ring.old) → result ≡ Verdict.Good }
+        → AllByRecursion (IsOneDown (length (T.ring ring.old).slaves))
+        (weathers_under weather.now (T.ring ring.old) work.old) → result ≡ Verdict.Good }
+    ensures judged { result ≡ verdict_under weather.now (T.ring ring.old) work.old }
+    ensures taken { work.new
+        ≡ taken_on result work.old (answers_under weather.now (T.ring ring.old) work.old) }
+    ensures asks_the_same { IsAccepted (T.ring ring.old).slaves work.old → AskTheSame work.old work.new }
+    ensures again { (others : List ItemRecord) → IsAccepted (T.ring ring.old).slaves work.old
+        → AskTheSame work.old others → IsAccepted (T.ring ring.new).slaves others }
+    ensures still_expected { (others : List ItemRecord) → IsAccepted (T.ring ring.old).slaves work.old
+        → AllByRecursion IsItem others → AskTheSame work.old others
+        → map (expected_of (line_of (T.ring ring.new))) others
+        ≡ expected.now }
     ensures links { (T.ring ring.new).links ≡ (T.ring ring.old).links }
     ensures frames { T.ring ring.new ≡ ring_under weather.now (T.ring ring.old) work.old }
 {
     work.are_items();
     let mut taken = work.copy();
     travel(ring, weather, &mut taken);
-    let verdict = judge(work, &taken, expected);
-    if verdict == Verdict::Good {
-        *work = taken;
-    }
-    verdict
+    conclude(work, taken, expected)
 }

@@ -5,8 +5,9 @@ ghost use Rattle.std.specs.Prelude.{OnOk, OnErr, IsErr};
 ghost use Rattle.std.specs.Borrow.{sem};
 ghost use Rattle.std.specs.List.{AllByRecursion};
 ghost use Rattle.ec_master.specs.Lending.{LendsItem};
+ghost use Rattle.ec_master.specs.Rounds.{begun, round_counter};
 ghost use Rattle.ec_master.specs.Work.{nth_item, rewound, with_answer, with_answers_at};
-ghost use Rattle.ec_map.specs.Item.{IsItem, datagram_of};
+ghost use Rattle.ec_map.specs.Item.{IsItem, datagram_of, with_adp};
 ghost use Rattle.ec_wire.specs.Datagram.{nth, record_of};
 
 use ec_map::Item;
@@ -15,6 +16,12 @@ use std::marker::Model;
 
 /// The most items of a work.
 pub const MAX_ITEMS: usize = 32;
+
+/// By how much the counters of a round differ from those of the one before it.
+const ROUND_STEP: u16 = 2048;
+
+/// How many rounds have counters of their own.
+const ROUNDS: u64 = 32;
 
 /// A work has `MAX_ITEMS` items.
 #[derive(Clone, Copy, PartialEq, Eq, Debug)]
@@ -119,8 +126,8 @@ impl Work {
         item.datagram(k as u8)
     }
 
-    /// What a proof knows of the items of every work.
-    pub(crate) fn are_items(&self)
+    /// Does nothing; its clauses are what a proof knows of the items of every work.
+    pub fn are_items(&self)
         ensures items { AllByRecursion IsItem self.now }
         ensures limit { length self.now ≤ MAX_ITEMS }
     {
@@ -147,8 +154,19 @@ impl Work {
     pub fn rewind(&mut self)
         ensures { self.new ≡ map rewound self.old }
     {
+        self.begin_round(0);
+    }
+
+    /// Begins a round: sets the counters to those with which the frames of cycle number `round` go out, and
+    /// the ADP of broadcast reads to 0; all else stays. Of rounds that are less than 32 apart no two have the
+    /// same counters, so a copy that comes some rounds late shows in the verdict (`run_cycle`,
+    /// `frames_suffice`).
+    pub fn begin_round(&mut self, round: u64)
+        ensures { self.new ≡ map (begun round) self.old }
+    {
+        let counter = round_counter(round);
         for k in 0..self.len() {
-            rewind_item(self.item_mut(k));
+            begin_item(self.item_mut(k), counter);
         }
     }
 }
@@ -165,10 +183,17 @@ fn take_answer(item: &mut Item, joined: &FrameBuf, j: usize)
     item.set_adp(joined.adp(j));
 }
 
-/// Sets an item's counter, and the ADP of a broadcast read, to 0.
-fn rewind_item(item: &mut Item)
-    ensures { item.new ≡ rewound item.old }
+/// The counter with which the frames of a round go out.
+fn round_counter(round: u64) -> u16
+    ensures { result ≡ round_counter round }
 {
-    item.set_counter(0);
+    ROUND_STEP * (round % ROUNDS) as u16
+}
+
+/// Sets an item's counter to that of a round, and the ADP of a broadcast read to 0.
+fn begin_item(item: &mut Item, counter: u16)
+    ensures { item.new ≡ with_adp (record item.old { counter = counter }) 0 }
+{
+    item.set_counter(counter);
     item.set_adp(0);
 }

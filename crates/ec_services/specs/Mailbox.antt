@@ -54,7 +54,7 @@ mail_write peer sdo =
 abbrev pub next_counter : ℕ → ℕ
 next_counter counter = if counter == 7 then 1 else counter + 1
 
--- the peer's counter moves exactly where one slave took the request
+-- the peer's counter moves exactly where the write of the request came back with the working counter 1
 abbrev pub with_counted : Peer → Answer → Peer
 with_counted peer (Err fault) = peer
 with_counted peer (Ok back) =

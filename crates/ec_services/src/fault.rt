@@ -3,7 +3,8 @@
 /// Why a service has no result.
 #[derive(Clone, Copy, PartialEq, Eq, Debug)]
 pub enum MasterFault {
-    /// No slave took a write, or none answered a read of AL status, or there is none on the line.
+    /// A write came back with the working counter 0 (a slave may have taken it all the same, where the copies
+    /// that passed it were lost), or no slave answered a read of AL status, or there is none on the line.
     NoSlave,
     /// The slave refused the state, with this AL status code (IEC 61158-6-12, AL status code).
     Refused(u16),

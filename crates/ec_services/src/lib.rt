@@ -20,7 +20,8 @@
 //!
 //! What is promised, of each call in its clause `service`:
 //!
-//! - [`assign_stations`] gives each slave its station address by its place.
+//! - [`assign_stations`] writes to each place that a broadcast read counted its station address, and names
+//!   the first write that not exactly one slave answered.
 //! - [`request_state`] asks a slave for a state, and waits until it is there or refuses, with its code.
 //! - [`sdo_upload`] and [`sdo_download`] read and write an object of a [`Peer`] by one mail and its answer.
 //! - [`RingPorts`] is a ring of simulated slaves as two ports, where every slave takes its step after each

@@ -63,7 +63,7 @@ fn count_slaves<P: Ports>(ports: &mut P) -> Result<u16, MasterFault>
     slave_count(&ask(ports, &sent)?)
 }
 
-/// Gives the slave at a place its station address.
+/// Writes its station address to the slave at a place.
 fn write_station<P: Ports>(ports: &mut P, place: u16, station: u16) -> Result<(), MasterFault>
     ensures asked { IsAsked P.trips ports.old (write {A = Unit {0}} (station_write place station))
         (done result) ports.new }
@@ -75,8 +75,8 @@ fn write_station<P: Ports>(ports: &mut P, place: u16, station: u16) -> Result<()
     write(ports, &sent)
 }
 
-/// Gives the slaves their station addresses by their places on the line, rising from `first`, and answers how
-/// many there are (IEC 61158-4-12, configured station address). A broadcast read of AL status counts them;
+/// Writes station addresses to the places of the line, rising from `first`, and answers how many slaves were
+/// counted (IEC 61158-4-12, configured station address). A broadcast read of AL status counts them;
 /// then each is written to by its place. It takes no memory.
 ///
 /// A trip that fails is `Port`, and a copy of another frame `Stranger`. Then, by the broadcast read: `Broken`

@@ -73,7 +73,7 @@ fn exchange<P: Ports>(
 
 /// Reads an object of a slave (IEC 61158-6-12, SDO upload, expedited): writes the request into the peer's
 /// mailbox, then reads its other mailbox at most `limit` times, until a mail is there. It takes no memory.
-/// The peer's counter moves on exactly where one slave took the request.
+/// The peer's counter moves on exactly where the write of the request came back with the working counter 1.
 ///
 /// A trip that fails is `Port`, and a copy of another frame `Stranger`. `NoSlave`: no slave took the request,
 /// as where the mailbox is full; `Abort`: the slave ended the transfer; `NoAnswer`: `limit` reads found no

@@ -1,11 +1,14 @@
 -- What the frames come to is the unordered cycle.
 use Rattle.std.proofs.Common.{◌∙◌, ap, sym, subst, List, [], map}
 use Rattle.ec_map.specs.Item.{ItemRecord}
-use Rattle.ec_ring.specs.Ring.{RingState}
+use Rattle.ec_map.specs.Share.{expected_of}
+use Rattle.ec_ring.specs.Ring.{RingState, line_of}
 use Rattle.ec_master.specs.Travelled.{ring_under, reached, unreached}
-use Rattle.ec_master.specs.Unordered.{station, by_station, IsCycle}
+use Rattle.ec_master.specs.Again.{AskTheSame}
+use Rattle.ec_master.specs.Unordered.{station, by_station, IsCycle, IsAccepted}
 use Rattle.ec_master.proofs.OrderLemmas.{whole_cycle, reached_cycle, unreached_same}
 use Rattle.ec_master.proofs.SlaveLemmas.{stations_kept}
+use Rattle.ec_master.proofs.AgainLemmas.{again, still_expected, asks-answers}
 use Rattle.ec_master.proofs.ring.ring_cycle.Goals as goal
 
 pub returns-clause-order_free : goal.returns-clause-order_free
@@ -44,3 +47,21 @@ returns-clause-places g c accepted =
 
 pub returns-clause-links : goal.returns-clause-links
 returns-clause-links g c = ap (λ (x : RingState). x.links) c.travel.ensures.ring
+
+pub returns-clause-asks_the_same : goal.returns-clause-asks_the_same
+returns-clause-asks_the_same g c accepted =
+    let r : RingState = g.T.Travel.ring c.args.ring.now in
+    let items = c.args.work.now in
+    subst (AskTheSame items) (sym c.travel.ensures.work)
+    (asks-answers _ items _ (reached_cycle r items accepted c.are_items.ensures.items).answers)
+
+pub returns-clause-again : goal.returns-clause-again
+returns-clause-again g c others accepted asks =
+    subst (λ (later : RingState). IsAccepted later.slaves others) (sym c.travel.ensures.ring)
+    (again [] (g.T.Travel.ring c.args.ring.now) c.args.work.now others accepted c.are_items.ensures.items asks)
+
+pub returns-clause-still_expected : goal.returns-clause-still_expected
+returns-clause-still_expected g c others accepted also asks =
+    ap (λ (later : RingState). map (expected_of (line_of later)) others) c.travel.ensures.ring
+    ∙ still_expected [] (g.T.Travel.ring c.args.ring.now) c.args.work.now others accepted
+    c.are_items.ensures.items also asks

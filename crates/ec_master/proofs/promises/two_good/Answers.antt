@@ -1,0 +1,5 @@
+use Rattle.ec_master.proofs.TwoRunsLemmas as lemmas
+use Rattle.ec_master.proofs.promises.two_good.Goals as goal
+
+pub returns : goal.returns
+returns c = lemmas.two_good
