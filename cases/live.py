@@ -6,6 +6,7 @@ import os
 import select
 import socket
 import subprocess
+import time
 
 CASES = []
 
@@ -188,6 +189,19 @@ def slaves_step_after_each_packet(stage):
 
 
 @case
+def packets_that_come_late_are_answered(stage):
+    """The service waits by then: at an end that it does not wait for nobody would ever be answered."""
+    with stage.serve("slave 1\nslave 2\nlink 1 down\n", "--packets", "4") as line:
+        with stage.master() as one, stage.master() as other:
+            for _ in range(2):
+                time.sleep(0.2)
+                yield "answer at B", ONE.replace("0200000001", "0240000001"), asked(other, stage.port + 1)
+                time.sleep(0.2)
+                yield "answer at A", ONE, asked(one, stage.port)
+            yield "end", "packets 4 frames 4 dropped 0\n0\n", line.end()
+
+
+@case
 def outputs_of_a_service_are_told(stage):
     write = bytes.fromhex("0d10 0500 0110 0010 0100 0000 c3 0000")
     with stage.serve(SLAVE, "--packets", "1") as line, stage.master() as master:
@@ -290,6 +304,7 @@ def output_that_closes_between_packets_is_told(stage):
     pipe = os.path.join(stage.folder, "pipe")
     os.mkfifo(pipe)
     ours, theirs = socket.socketpair()
+    ours.settimeout(stage.limit)
     with ours, theirs, stage.start("show", "pipe", stdout=theirs) as show:
         with open(pipe, "wb", buffering=0) as capture:
             capture.write(CAPTURE + RECORD)

@@ -1,7 +1,10 @@
--- Why a command ends where its source could not be read to its end.
+-- Why a command ends where its source could not be read to its end, or its sockets could not be opened.
 use Rattle.ecat.specs.declared.act.Failure.{Failure}
-use Rattle.ecat.specs.declared.act.Failure.TheVariants.{Read, NoMemory, Scene}
+use Rattle.ecat.specs.declared.act.Failure.TheVariants.{Read, NoMemory, Scene, Bind, NoMemoryForSockets}
 use Rattle.ecat_scene.specs.declared.fault.SceneFault.TheVariants.{TooLong as TextTooLong}
+use Rattle.ecat_serve.specs.declared.sockets.BindFault.{BindFault}
+use Rattle.ecat_serve.specs.declared.sockets.BindFault.TheVariants.{NoSuchPort, NoSocket}
+use Rattle.ecat_serve.specs.declared.sockets.BindFault.TheVariants.{NoMemory as NoMemoryToWait}
 use Rattle.ecat_source.specs.declared.whole.ReadAllFault.{ReadAllFault}
 use Rattle.ecat_source.specs.declared.whole.ReadAllFault.TheVariants.{TooLong, Read as ReadFailed}
 use Rattle.ecat_source.specs.declared.whole.ReadAllFault.TheVariants.{NoMemory as NoMoreMemory}
@@ -11,3 +14,9 @@ abbrev pub unread : ReadAllFault → Failure
 unread TooLong = Scene TextTooLong
 unread ReadFailed = Read
 unread NoMoreMemory = NoMemory
+
+-- want of memory for sockets is told apart from all else that keeps them shut
+abbrev pub unbound : BindFault → Failure
+unbound NoSuchPort = Bind
+unbound NoSocket = Bind
+unbound NoMemoryToWait = NoMemoryForSockets

@@ -4,6 +4,7 @@ pub mod Cycles
 pub mod Failures
 pub mod Objects
 pub mod Packets
+pub mod Refusals
 pub mod Rows
 pub mod Services
 pub mod Words

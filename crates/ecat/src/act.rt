@@ -26,6 +26,10 @@ const FAILED: u8 = 3;
 /// Why a command ends before its output does.
 #[derive(Drop)]
 pub enum Failure {
+    /// Memory ran out for the words of the command line.
+    NoMemoryForWords,
+    /// The file could not be opened.
+    Open,
     /// A read of the source failed.
     Read,
     /// Memory ran out.
@@ -40,6 +44,10 @@ pub enum Failure {
     TooMany,
     /// A frame came back that is none of those sent; no ring makes one.
     Stranger,
+    /// A socket could not be opened.
+    Bind,
+    /// Memory ran out for the sockets.
+    NoMemoryForSockets,
     /// A send or a receive failed.
     Port,
     /// The scene has actions or weathers, for which there are no packets.
@@ -96,7 +104,11 @@ pub fn report<W: Write, V: Write>(failure: &Failure, out: &mut W, err: &mut V) -
             err,
             b"scene: NoMemory\n",
         ),
+        Failure::NoMemoryForWords => failed(err, b"arguments: NoMemory\n"),
+        Failure::Open => failed(err, b"file: Open\n"),
         Failure::Read => failed(err, b"file: Read\n"),
+        Failure::Bind => failed(err, b"socket: Bind\n"),
+        Failure::NoMemoryForSockets => failed(err, b"socket: NoMemory\n"),
         Failure::Output => failed(err, b"output: Write\n"),
         Failure::Port => failed(err, b"cycle: Port\n"),
         Failure::Actions => refused(writeln!(out, "scene: actions"), err),
@@ -110,7 +122,7 @@ pub fn report<W: Write, V: Write>(failure: &Failure, out: &mut W, err: &mut V) -
 }
 
 /// Writes a line to `err`; a fault of that is passed over.
-pub fn failed<V: Write>(err: &mut V, line: &[u8]) -> u8 {
+fn failed<V: Write>(err: &mut V, line: &[u8]) -> u8 {
     let _ = err.write_all(line);
     FAILED
 }

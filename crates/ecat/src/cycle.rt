@@ -1,15 +1,12 @@
 //! The cycle of a scene: its items go over the ring, and what they bring back is printed.
 
-ghost use Rattle.std.specs.Prelude.{◌≡◌, Some, length, map, take};
-ghost use Rattle.ec_check.specs.Line.{controllers};
-ghost use Rattle.ec_map.specs.Share.{expected_of};
+ghost use Rattle.std.specs.Prelude.{◌≡◌, Some};
 ghost use Rattle.ecat.specs.Cycles.{item_head_words, item_tail_words, verdict_status, verdict_words};
 
 use crate::act::{Failure, GOOD, REFUSED};
 use crate::print::Lines;
-use ec_app::Slave;
-use ec_map::{Item, Kind, expected};
-use ec_master::{MAX_ITEMS, Verdict, Work, ring_cycle, weather_cycle};
+use ec_map::{Item, Kind};
+use ec_master::{MAX_ITEMS, Verdict, Work, all_expected, ring_cycle, weather_cycle};
 use ec_ring::{Ring, Weather};
 use ec_wire::Command;
 use std::fmt;
@@ -99,17 +96,6 @@ pub fn cycle<W: Write>(
     }
     print_items(work, &expected, lines)?;
     Ok(status)
-}
-
-/// What the line adds to the working counter of each item, by the item's number; 0 where a work has no item.
-pub fn all_expected(line: &[Slave], work: &Work) -> [u16; MAX_ITEMS]
-    ensures { take (length work.now) result ≡ map (expected_of (controllers line.now)) work.now }
-{
-    let mut all = [0; MAX_ITEMS];
-    for k in 0..work.len() {
-        all[k] = expected(line, work.item(k));
-    }
-    all
 }
 
 /// Prints a verdict, and answers the status.

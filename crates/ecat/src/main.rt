@@ -18,12 +18,12 @@ mod slave_rows;
 mod udp;
 mod vectors;
 
-use act::{act, failed};
+use act::{Failure, act, report};
 use ecat_args::{Args, ArgsFault};
-use ecat_serve::{BindFault, UdpEnds};
+use ecat_serve::UdpEnds;
 use ecat_source::{Bytes, Counted, Source};
 use ecat_udp::UdpLine;
-use serve::{Service, act_serve, ring_to_serve};
+use serve::{Service, act_serve, ring_to_serve, unbound};
 use std::net::Net;
 use std::process::ExitCode;
 use std::rt::{Env, Files, Stdin};
@@ -49,22 +49,24 @@ where
         Ok(all) => {
             for word in all {
                 if words.push(word).is_err() {
-                    return no_memory(err);
+                    return report(&Failure::NoMemoryForWords, out, err);
                 }
             }
         }
-        Err(error) if error.kind() == io::ErrorKind::OutOfMemory => return no_memory(err),
+        Err(error) if error.kind() == io::ErrorKind::OutOfMemory => {
+            return report(&Failure::NoMemoryForWords, out, err);
+        }
         Err(_) => return bad_arguments(err),
     }
     let mut texts = Vec::new(rt.alloc());
     for word in &words {
         if texts.push(word.as_str()).is_err() {
-            return no_memory(err);
+            return report(&Failure::NoMemoryForWords, out, err);
         }
     }
     match Args::read(rt.alloc(), texts.as_slice()) {
         Ok(args) => open(rt, &args, input, out, err),
-        Err(ArgsFault::NoMemory) => no_memory(err),
+        Err(ArgsFault::NoMemory) => report(&Failure::NoMemoryForWords, out, err),
         Err(ArgsFault::BadNumber) => bad_arguments(err),
         Err(ArgsFault::Line(error)) => {
             let _ = write!(err, "{error}");
@@ -90,7 +92,7 @@ where
         Args::Vectors => return act(rt.alloc(), args, &mut Bytes::new(b""), out, err),
     };
     let Ok(file) = fs::open(rt, path) else {
-        return failed(err, b"file: Open\n");
+        return report(&Failure::Open, out, err);
     };
     let mut source = Counted::new(file);
     match args {
@@ -120,7 +122,7 @@ where
     };
     match UdpLine::bind(rt, port) {
         Ok(line) => act_udp(prepared, line, out, err),
-        Err(_) => failed(err, b"socket: Bind\n"),
+        Err(_) => report(&Failure::Bind, out, err),
     }
 }
 
@@ -150,13 +152,8 @@ where
     };
     match UdpEnds::bind(rt, rt.alloc(), service.port, awaited) {
         Ok(mut ends) => act_serve(ring, service, &mut ends, out, err),
-        Err(BindFault::NoMemory) => failed(err, b"socket: NoMemory\n"),
-        Err(_) => failed(err, b"socket: Bind\n"),
+        Err(fault) => report(&unbound(fault), out, err),
     }
-}
-
-fn no_memory<V: io::Write>(err: &mut V) -> u8 {
-    failed(err, b"arguments: NoMemory\n")
 }
 
 fn bad_arguments<V: io::Write>(err: &mut V) -> u8 {

@@ -1,7 +1,8 @@
 //! `ecat serve`: the line of a scene, for a master that somebody else wrote.
 
-ghost use Rattle.std.specs.Prelude.{Some};
-ghost use Rattle.ecat.specs.Services.{counts_words};
+ghost use Rattle.std.specs.Prelude.{◌≡◌, Some};
+ghost use Rattle.ecat.specs.Failures.{unbound};
+ghost use Rattle.ecat.specs.Services.{address_words, counts_words, most_packets, where_of, where_words};
 
 use crate::act::{Failure, GOOD, report};
 use crate::line::{ring_of, scene_for_packets};
@@ -9,11 +10,11 @@ use crate::print::Lines;
 use crate::run::print_areas;
 use ec_master::PortFault;
 use ec_ring::Ring;
-use ecat_serve::{Ends, Served};
+use ecat_serve::{BindFault, Ends, Served};
 use ecat_source::Source;
 use std::alloc::Global;
 use std::fmt;
-use std::io::{self, Write};
+use std::io::Write;
 
 /// Where a line is served, and for how long.
 #[derive(Clone, Copy)]
@@ -27,6 +28,57 @@ pub struct Service {
 impl From<PortFault> for Failure {
     fn from(_fault: PortFault) -> Failure {
         Failure::Port
+    }
+}
+
+/// Why a line could not be served.
+pub fn unbound(fault: BindFault) -> Failure
+    ensures { result ≡ unbound fault }
+{
+    match fault {
+        BindFault::NoMemory => Failure::NoMemoryForSockets,
+        BindFault::NoSuchPort | BindFault::NoSocket => Failure::Bind,
+    }
+}
+
+/// The address of an end at this port, as it is printed.
+#[derive(Drop)]
+struct Address(u32);
+
+impl fmt::Display for Address {
+    ghost output = { λ address. Some (address_words address.0) };
+
+    #[tactic(auto, unfolding(crate::specs::Services::address_words))]
+    fn fmt<W: fmt::Write>(&self, f: &mut fmt::Formatter<W>) -> fmt::Result {
+        let port = self.0;
+        write!(f, "127.0.0.1:{port}")
+    }
+}
+
+/// Where the ends of a line lie, as it is printed.
+#[derive(Drop)]
+struct WhereText {
+    port_a: u32,
+    port_b: u32,
+}
+
+impl fmt::Display for WhereText {
+    ghost output = { λ text. Some (where_words text) };
+
+    fn fmt<W: fmt::Write>(&self, f: &mut fmt::Formatter<W>) -> fmt::Result {
+        let end_a = Address(self.port_a);
+        let end_b = Address(self.port_b);
+        write!(f, "serving A {end_a} B {end_b}")
+    }
+}
+
+/// Where the ends of a line at this port lie.
+fn where_of(port: u16) -> WhereText
+    ensures { result ≡ where_of port }
+{
+    WhereText {
+        port_a: u32::from(port),
+        port_b: u32::from(port) + 1,
     }
 }
 
@@ -101,12 +153,9 @@ where
 {
     let mut served = Served::new(ring);
     let mut lines = Lines::new(out);
-    print_where(service.port, &mut lines)?;
-    let most = match service.packets {
-        Some(count) => u64::from(count),
-        None => u64::MAX,
-    };
-    let counts = served.serve(ends, most)?;
+    lines.text(where_of(service.port))?;
+    lines.end()?;
+    let counts = served.serve(ends, most_packets(service.packets))?;
     lines.text(CountsText {
         packets: counts.packets(),
         frames: counts.frames,
@@ -117,9 +166,12 @@ where
     Ok(GOOD)
 }
 
-/// Prints where the ends are.
-fn print_where<W: Write>(port: u16, lines: &mut Lines<'_, W>) -> io::Result<()> {
-    let next = u32::from(port) + 1;
-    lines.text(format_args!("serving A 127.0.0.1:{port} B 127.0.0.1:{next}"))?;
-    lines.end()
+/// After how many packets a service ends; without a number after as many as can be counted.
+fn most_packets(packets: Option<u32>) -> u64
+    ensures { result ≡ most_packets packets }
+{
+    match packets {
+        Some(count) => u64::from(count),
+        None => u64::MAX,
+    }
 }

@@ -4,12 +4,12 @@ ghost use Rattle.std.specs.Prelude.{◌≡◌, length};
 
 use crate::act::{Failure, GOOD, REFUSED, report};
 use crate::check::refuse;
-use crate::cycle::{all_expected, print_items, print_verdict, work_of};
+use crate::cycle::{print_items, print_verdict, work_of};
 use crate::line::{ring_of, scene_for_packets};
 use crate::print::Lines;
 use crate::run::print_areas;
 use ec_map::Item;
-use ec_master::{CycleFault, Work, run_cycle};
+use ec_master::{CycleFault, Work, all_expected, run_cycle};
 use ec_ring::Ring;
 use ecat_source::Source;
 use ecat_udp::{PacketLine, UdpPorts};

@@ -1,5 +1,7 @@
 //! The reading of a scene: its lines in their order, then the links that they name.
 ghost use Rattle.std.specs.Prelude.{◌≡◌, ◌≢◌, Err};
+ghost use Rattle.ecat_scene.specs.Order.{fault_of};
+ghost use Rattle.ecat_scene.specs.declared.fault.SceneFault.TheVariants.{TooLong};
 
 use crate::fault::{LineFault, SceneFault, Stop};
 use crate::scene::Scene;
@@ -40,8 +42,6 @@ impl Drop for Reader {
 }
 
 impl Reader {
-    ghost use Rattle.ecat_scene.specs.declared.fault.SceneFault.TheVariants.{TooLong};
-
     pub(crate) fn new(alloc: Global) -> Reader {
         let scene = Scene {
             slaves: Vec::new(alloc),
@@ -66,11 +66,7 @@ impl Reader {
             self.line = self.line.saturating_add(1);
             match self.read_line(line) {
                 Ok(()) => {}
-                Err(Stop::Fault(fault)) => return Err(SceneFault::Line {
-                    line: self.line,
-                    fault,
-                }),
-                Err(Stop::NoMemory) => return Err(SceneFault::NoMemory),
+                Err(stop) => return Err(fault_of(self.line, stop)),
             }
         }
         if let Some(line) = self.line_of_a_wrong_link() {
@@ -125,5 +121,16 @@ impl Reader {
             [b"weather", rest @ ..] => self.weather(rest),
             _ => Err(Stop::Fault(LineFault::UnknownWord)),
         }
+    }
+}
+
+/// What is told where a line stops the reading: what is wrong with it, or that memory ran out.
+fn fault_of(line: usize, stop: Stop) -> SceneFault
+    ensures told { result ≡ fault_of line stop }
+    ensures not_too_long { result ≢ TooLong }
+{
+    match stop {
+        Stop::Fault(fault) => SceneFault::Line { line, fault },
+        Stop::NoMemory => SceneFault::NoMemory,
     }
 }

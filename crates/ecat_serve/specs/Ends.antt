@@ -1,10 +1,12 @@
 -- What the ends of a line are asked: which packets are received and which are sent, each told by the ends
 -- before and behind; and where on this machine the ends lie.
-use Rattle.std.specs.Prelude.{◌≡◌, ◌+◌, List, [], ◌∷◌, ℕ, Option, Result, ⊤}
+use Rattle.std.specs.Prelude.{◌≡◌, ◌+◌, Bool, true, false, List, [], ◌∷◌, ℕ, Option, Result, ⊤}
 use Rattle.std.specs.Net.Addr.{ipv4_octets}
 use Rattle.std.specs.Net.Socket.{v4_ip}
 use Rattle.std.specs.declared.net.socket_addr.SocketAddr.TheVariants.{V4, V6}
 use Rattle.std.specs.declared.net.socket_addr.SocketAddr.{SocketAddr}
+use Rattle.std.specs.declared.io.ErrorKind.{ErrorKind}
+use Rattle.std.specs.declared.io.ErrorKind.TheVariants.{Interrupted, WouldBlock}
 use Rattle.ec_ring.specs.declared.port.PortFault.{PortFault}
 use Rattle.ec_ring.specs.declared.port.Port.{Port}
 use Rattle.ec_ring.specs.declared.port.Port.TheVariants.{A, B}
@@ -40,3 +42,9 @@ asked_port B port = port + 1
 abbrev pub IsOnLoopback : SocketAddr → Type 0
 IsOnLoopback (V4 address) = ipv4_octets (v4_ip address) ≡ 127 ∷ 0 ∷ 0 ∷ 1 ∷ []
 IsOnLoopback (V6 address) = ⊥
+
+-- an error that says to try again: nothing is there yet, or a signal came before there was
+abbrev pub says_again : ErrorKind → Bool
+says_again WouldBlock = true
+says_again Interrupted = true
+says_again _ = false

@@ -27,7 +27,7 @@
 //!   (`Served::serve_one`, `IsRound` in `specs/Rounds.antt`);
 //! - rounds follow one another until so many packets have come, none is to come, or a call fails, and each
 //!   packet is counted once (`Served::serve`, `Serves`);
-//! - a service takes no memory: it is handed no allocator.
+//! - a service is handed no allocator, and takes no memory where its ends take none.
 //!
 //! and of `UdpEnds`: where the ends lie (`asked_address`), and which of two that wait is served next.
 //!

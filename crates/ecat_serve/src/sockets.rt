@@ -1,9 +1,10 @@
 //! The ends of a line at the system's sockets.
 
-ghost use Rattle.std.specs.Prelude.{◌≡◌, ◌≤◌, ◌<◌, ◌⊎◌, ◌↔◌, Err, IfOk, IfErr, IfSome};
+ghost use Rattle.std.specs.Prelude.{◌≡◌, ◌≢◌, ◌≤◌, ◌<◌, ◌⊎◌, ◌↔◌, Err, IfOk, IfErr, IfSome};
+ghost use Rattle.std.specs.IoError.{error_kind};
 ghost use Rattle.std.specs.Net.Socket.{socket_port};
 ghost use Rattle.ec_ring.specs.declared.port.Port.TheVariants.{A, B};
-ghost use Rattle.ecat_serve.specs.Ends.{any_receive, any_send, asked_port, other, IsOnLoopback};
+ghost use Rattle.ecat_serve.specs.Ends.{any_receive, any_send, asked_port, other, says_again, IsOnLoopback};
 ghost use Rattle.ec_wire.specs.declared.frame.TheConstants.{PACKET_ROOM};
 
 use crate::ends::{Arrived, Ends};
@@ -279,8 +280,10 @@ fn asked_port(at: Port, port: u16) -> u16
     }
 }
 
-/// The events of an end.
-fn token_of(at: Port) -> Token {
+/// The events of an end, which are none of the input's.
+fn token_of(at: Port) -> Token
+    ensures { result ≢ INPUT }
+{
     match at {
         Port::A => END_A,
         Port::B => END_B,
@@ -297,7 +300,9 @@ fn other(end: Port) -> Port
     }
 }
 
-/// Does the error say that there is no packet yet?
-fn may_try_again(fault: &io::Error) -> bool {
+/// Does the error say that there is nothing yet, or that a signal came before there was?
+fn may_try_again(fault: &io::Error) -> bool
+    ensures { result ≡ says_again (error_kind fault.now) }
+{
     matches!(fault.kind(), ErrorKind::WouldBlock | ErrorKind::Interrupted)
 }

@@ -32,6 +32,8 @@ pub(crate) struct Rig<L: PacketLine> {
     ring: Ring,
     line: Lossy<L>,
     random: Random,
+    /// How many cycles went before.
+    round: u64,
 }
 
 impl<L: PacketLine + Drop> Rig<L> {
@@ -41,6 +43,7 @@ impl<L: PacketLine + Drop> Rig<L> {
             ring,
             line,
             random: Random::new(SEED),
+            round: 0,
         }
     }
 
@@ -56,6 +59,7 @@ impl<L: PacketLine + Drop> Rig<L> {
             mut ring,
             line,
             mut random,
+            round,
         } = self;
         let inputs = drawn(&mut random);
         let outputs = drawn(&mut random);
@@ -68,6 +72,7 @@ impl<L: PacketLine + Drop> Rig<L> {
         };
         let lost = line.lost();
         let mut ports = UdpPorts::new(ring, line);
+        work.begin_round(round);
         let verdict = run(&mut ports, &mut work)?;
         let (mut ring, line) = ports.into_parts();
         let lossless = line.lost() == lost;
@@ -78,7 +83,16 @@ impl<L: PacketLine + Drop> Rig<L> {
         if !set_inner_link(&mut ring, broken, true) {
             return Err(Wrong::Unready);
         }
-        Ok((Rig { ring, line, random }, verdict))
+        let round = round.wrapping_add(1);
+        Ok((
+            Rig {
+                ring,
+                line,
+                random,
+                round,
+            },
+            verdict,
+        ))
     }
 }
 

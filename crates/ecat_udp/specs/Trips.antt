@@ -1,5 +1,5 @@
 -- What is stated of a trip over packets, and what it does to the ring.
-use Rattle.std.specs.Prelude.{◌≡◌, ◌⊎◌, List, Result, ⊤}
+use Rattle.std.specs.Prelude.{◌≡◌, ◌⊎◌, List, Result}
 use Rattle.ec_wire.specs.Datagram.{DatagramRecord}
 use Rattle.ec_ring.specs.Ring.{RingState, line_of, with_line}
 use Rattle.ec_ring.specs.Walk.{walked}
@@ -7,11 +7,7 @@ use Rattle.ec_ring.specs.declared.port.Port.{Port}
 use Rattle.ec_ring.specs.declared.port.Port.TheVariants.{A, B}
 use Rattle.ec_ring.specs.declared.weather.Came.{Came}
 use Rattle.ec_ring.specs.declared.port.PortFault.{PortFault}
-
--- Of what comes back nothing is stated: what a socket gives is up to the system. So each trip is one that can
--- be made.
-abbrev pub any_trip : {P : Type 0} → P → List DatagramRecord → Result Came PortFault → P → Type 0
-any_trip before sent came later = ⊤
+use Rattle.ecat_udp.specs.State.{PortsState}
 
 -- the ring behind a copy that has walked over it from a port, under its own links
 abbrev pub after_copy : Port → List DatagramRecord → RingState → RingState
@@ -25,3 +21,9 @@ IsWalkedOnce from before later =
 -- at most one copy from port A, and then at most one from port B, have walked over the ring
 abbrev pub IsWalked : RingState → RingState → Type 0
 IsWalked before later = (between : RingState) × IsWalkedOnce A before between × IsWalkedOnce B between later
+
+-- A trip walks copies over the ring behind the ports. Of what comes back nothing is stated: what a socket
+-- gives is up to the system.
+abbrev pub WalkedTrips : {L : Type 0} → PortsState L → List DatagramRecord → Result Came PortFault
+    → PortsState L → Type 0
+WalkedTrips before sent came later = IsWalked before.ring later.ring

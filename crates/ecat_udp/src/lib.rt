@@ -41,7 +41,7 @@
 //!   from port B, so links stay and applications take no step;
 //! - a packet is a copy exactly where it is a frame in the UDP form;
 //! - the address of each socket of a `UdpLine` is 127.0.0.1, its port that of its name (`asked_address`);
-//! - a trip takes no memory: it is handed no allocator.
+//! - a trip is handed no allocator (that the sockets' own calls take no memory is seen by reading).
 //!
 //! Of the bytes that come, nothing is stated: they are up to the system (`specs/Trips.antt`).
 

@@ -5,7 +5,7 @@ ghost use Rattle.ec_wire.specs.Datagram.{DatagramRecord};
 ghost use Rattle.ec_wire.specs.Fault.{IsSpelt};
 ghost use Rattle.ec_wire.specs.declared.fault.Form.TheVariants.{Udp};
 ghost use Rattle.ecat_udp.specs.Sockets.{master_at, line_at};
-ghost use Rattle.ecat_udp.specs.Trips.{any_trip, after_copy, IsWalkedOnce, IsWalked};
+ghost use Rattle.ecat_udp.specs.Trips.{WalkedTrips, after_copy, IsWalkedOnce, IsWalked};
 
 use crate::line::{PacketLine, Socket};
 use ec_master::{PortFault, Ports};
@@ -121,7 +121,7 @@ impl<L: PacketLine> UdpPorts<L> {
 }
 
 impl<L: PacketLine> Ports for UdpPorts<L> {
-    ghost trips = { any_trip };
+    ghost trips = { WalkedTrips };
 
     ghost failed = { λ ports. L.failed ports.line };
 

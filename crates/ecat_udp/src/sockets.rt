@@ -1,6 +1,6 @@
 //! The system's sockets.
 
-ghost use Rattle.std.specs.Prelude.{◌≡◌, ◌*◌, ◌≤◌, ◌<◌, ◌⊎◌, ◌↔◌, IfOk, IsErr, Err};
+ghost use Rattle.std.specs.Prelude.{◌≡◌, ◌+◌, ◌-◌, ◌*◌, ◌^◌, ◌≤◌, ◌<◌, ◌⊎◌, ◌↔◌, IfOk, IsErr, IsOk, Err};
 ghost use Rattle.std.specs.Duration.{as_nanos};
 ghost use Rattle.std.specs.Net.Socket.{socket_port};
 ghost use Rattle.ecat_udp.specs.Sockets.{asked_port, IsOnLoopback};
@@ -119,8 +119,9 @@ impl UdpLine {
 
     /// Counts a failure; at the greatest count there is none.
     fn fail(&mut self) -> Result<(), PortFault>
-        ensures counted { IsErr result → self.old.failures < self.new.failures }
+        ensures counted { IsErr result → self.new.failures ≡ self.old.failures + 1 }
         ensures never_lower { self.old.failures ≤ self.new.failures }
+        ensures passed_over { IsOk result → self.old.failures ≡ 2 ^ 64 - 1 }
     {
         if self.failures == u64::MAX {
             return Ok(());

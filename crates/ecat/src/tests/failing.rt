@@ -4,15 +4,17 @@ ghost use Rattle.std.specs.Prelude.{◌≡◌, false};
 ghost use Rattle.ecat.specs.Commands.{goes_over_packets};
 
 use super::{ROOM, written};
-use crate::act::act;
+use crate::act::{Failure, act, report};
 use crate::udp::{act_udp, prepare_udp};
 use ec_master::PortFault;
 use ec_wire::PACKET_ROOM;
 use ecat_args::Args;
-use ecat_source::{Bytes, FailsAt};
+use ecat_scene::{LineFault, SceneFault};
+use ecat_source::{Bytes, FailsAt, PcapFault};
 use ecat_udp::{PacketLine, Socket};
 use std::alloc::Global;
 use std::io::{self, Cursor, Write};
+use std::process::Abort;
 
 /// Two slaves with a broken cable between them; what `run` prints of them is three lines.
 const EXAMPLE: &[u8] = b"slave 0x1001\nstate 8\nsm 2 0x1000 1 write\nsm 3 0x1100 1 read\n\
@@ -142,4 +144,70 @@ fn each_write_that_fails_ends_a_cycle_over_packets(rt: HostRuntime) {
         assert_eq!(rt; answer, 3, "write {writes}");
         assert!(rt; !written(&err).is_empty());
     }
+}
+
+/// Asserts that a failure is told by this line of standard error, and that the status is 3.
+fn fails(rt: &impl Abort, failure: Failure, line: &[u8]) {
+    let mut out = Cursor::new([0u8; ROOM]);
+    let mut err = Cursor::new([0u8; ROOM]);
+    assert_eq!(rt; report(&failure, &mut out, &mut err), 3);
+    assert_eq!(rt; written(&err), line);
+    assert!(rt; written(&out).is_empty());
+}
+
+/// Asserts that a refusal is told by this line of standard output, and that the status is 1; and where the
+/// output takes nothing that this is told, with the status 3.
+fn refuses(rt: &impl Abort, failure: Failure, line: &[u8]) {
+    let mut out = Cursor::new([0u8; ROOM]);
+    let mut err = Cursor::new([0u8; ROOM]);
+    assert_eq!(rt; report(&failure, &mut out, &mut err), 1);
+    assert_eq!(rt; written(&out), line);
+    assert!(rt; written(&err).is_empty());
+    assert_eq!(rt; report(&failure, &mut Stops { left: 0 }, &mut err), 3);
+    assert_eq!(rt; written(&err), b"output: Write\n".as_slice());
+}
+
+#[test]
+fn what_fails_is_told_to_standard_error(rt: HostRuntime) {
+    fails(&rt, Failure::NoMemoryForWords, b"arguments: NoMemory\n");
+    fails(&rt, Failure::Open, b"file: Open\n");
+    fails(&rt, Failure::Read, b"file: Read\n");
+    fails(&rt, Failure::NoMemory, b"scene: NoMemory\n");
+    fails(
+        &rt,
+        Failure::Scene(SceneFault::NoMemory),
+        b"scene: NoMemory\n",
+    );
+    fails(&rt, Failure::Capture(PcapFault::Read), b"capture: Read\n");
+    fails(
+        &rt,
+        Failure::Capture(PcapFault::NoMemory),
+        b"capture: NoMemory\n",
+    );
+    fails(&rt, Failure::Output, b"output: Write\n");
+    fails(&rt, Failure::Bind, b"socket: Bind\n");
+    fails(&rt, Failure::NoMemoryForSockets, b"socket: NoMemory\n");
+    fails(&rt, Failure::Port, b"cycle: Port\n");
+}
+
+#[test]
+fn what_is_refused_is_told_to_standard_output(rt: HostRuntime) {
+    let fault = SceneFault::Line {
+        line: 7,
+        fault: LineFault::Twin,
+    };
+    refuses(&rt, Failure::Scene(fault), b"scene: line 7: Twin\n");
+    refuses(
+        &rt,
+        Failure::Scene(SceneFault::TooLong),
+        b"scene: TooLong\n",
+    );
+    refuses(
+        &rt,
+        Failure::Capture(PcapFault::Failed),
+        b"capture: Failed\n",
+    );
+    refuses(&rt, Failure::TooMany, b"scene: TooMany\n");
+    refuses(&rt, Failure::Stranger, b"cycle: Stranger\n");
+    refuses(&rt, Failure::Actions, b"scene: actions\n");
 }

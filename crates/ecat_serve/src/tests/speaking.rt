@@ -18,14 +18,14 @@ pub struct Input<'a> {
     pub stream: &'a UnixStream,
     /// What the system is to tell of.
     pub waits_for: RawFd,
-    /// Does each read fail?
-    pub fails: bool,
+    /// How each read fails, if it does.
+    pub fails: Option<ErrorKind>,
 }
 
 impl Read for Input<'_> {
     fn read(&mut self, into: &mut [u8]) -> io::Result<usize> {
-        if self.fails {
-            return Err(io::Error::from(ErrorKind::Other));
+        if let Some(kind) = self.fails {
+            return Err(io::Error::from(kind));
         }
         let mut stream = self.stream;
         stream.read(into)

@@ -6,7 +6,7 @@ use crate::{Ends, UdpEnds};
 use ec_ring::{Port, PortFault};
 use std::fmt::Debug;
 use std::fs::File;
-use std::io::Write;
+use std::io::{ErrorKind, Write};
 use std::net::{Ipv4Addr, SocketAddr, UdpSocket};
 use std::os::fd::AsRawFd;
 use std::os::unix::net::UnixStream;
@@ -43,7 +43,7 @@ fn input_of(stream: &UnixStream) -> Input<'_> {
     Input {
         stream,
         waits_for: stream.as_raw_fd(),
-        fails: false,
+        fails: None,
     }
 }
 
@@ -52,6 +52,7 @@ fn a_packet_at_either_end_ends_the_wait(rt: HostRuntime) {
     let master = somebody(&rt);
     for place in [0, 1] {
         let (mut ends, port) = open(&rt, rt.alloc(), None);
+        assert_same(&rt, ends.has_ended(), false);
         assert_same(&rt, ends.wait(at_once()), Ok(false));
         speak(&rt, &master, port.wrapping_add(place), &ASKED);
         assert_same(&rt, ends.wait(in_time()), Ok(true));
@@ -142,12 +143,27 @@ fn what_the_input_brings_is_passed_over(rt: HostRuntime) {
 fn a_read_of_the_input_that_fails_is_a_fault(rt: HostRuntime) {
     let (near, far) = UnixStream::pair(&rt).expect(&rt, "two sockets");
     let input = Input {
-        fails: true,
+        fails: Some(ErrorKind::Other),
         ..input_of(&near)
     };
     let (mut ends, _) = open(&rt, rt.alloc(), Some(input));
     drop(far);
     assert_same(&rt, next(&mut ends), Err(PortFault));
+}
+
+#[test]
+fn a_read_of_the_input_that_is_to_be_tried_again_is_none(rt: HostRuntime) {
+    let (near, mut far) = UnixStream::pair(&rt).expect(&rt, "two sockets");
+    assert_same(&rt, far.write(b"\n").ok(), Some(1));
+    for kind in [ErrorKind::WouldBlock, ErrorKind::Interrupted] {
+        let input = Input {
+            fails: Some(kind),
+            ..input_of(&near)
+        };
+        let (mut ends, _) = open(&rt, rt.alloc(), Some(input));
+        assert_same(&rt, ends.wait(in_time()), Ok(true));
+        assert_same(&rt, ends.has_ended(), false);
+    }
 }
 
 #[test]

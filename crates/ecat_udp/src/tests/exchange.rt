@@ -5,6 +5,7 @@ use ec_map::{Item, Kind};
 use ec_master::Work;
 use ec_regs::{Fmmu, SyncMan};
 use ec_ring::Ring;
+use ec_wire::{Form, FrameBuf};
 use std::alloc::Global;
 use std::process::Abort;
 
@@ -85,6 +86,27 @@ pub fn left(rt: &impl Abort, work: &Work) -> ([u8; 2], u16) {
     let item = work.item(0);
     match item.data() {
         [first, second] => ([*first, *second], item.counter()),
+        _ => panic!(rt; "not two bytes"),
+    }
+}
+
+/// A broadcast read of the station addresses, with this index.
+pub fn station_read(rt: &impl Abort, index: u8) -> FrameBuf {
+    let bytes = [
+        0x0E, 0x10, 0x07, index, 0x00, 0x00, 0x10, 0x00, 0x02, 0x00, 0x00, 0x00, 0x00, 0x00, 0x00,
+        0x00,
+    ];
+    FrameBuf::read(&bytes, Form::Udp).ok().expect(rt, "a frame")
+}
+
+/// The index, the data and the counter of such a read, if it came back.
+pub fn stations(rt: &impl Abort, copy: &Option<FrameBuf>) -> Option<(u8, [u8; 2], u16)> {
+    let Some(frame) = copy else {
+        return None;
+    };
+    assert_eq!(rt; frame.count(), 1);
+    match frame.data(0) {
+        [low, high] => Some((frame.index(0), [*low, *high], frame.counter(0))),
         _ => panic!(rt; "not two bytes"),
     }
 }

@@ -1,11 +1,12 @@
 //! Which packets go out in a trip, and what those count for that come.
 
 use super::assert_same;
-use crate::tests::exchange::{EXPECTED, left, ring, taken, work};
+use crate::tests::exchange::{EXPECTED, left, ring, station_read, stations, taken, work};
 use crate::tests::memory::{Call, MemoryLine};
 use crate::{PacketLine, Socket, UdpPorts};
 use ec_map::{Item, Kind};
 use ec_master::{PortFault, Ports, Verdict, Work, run_cycle};
+use ec_ring::Came;
 use ec_wire::PACKET_ROOM;
 
 /// A line to which no packet comes.
@@ -132,4 +133,17 @@ fn a_frame_with_bytes_behind_it_is_no_copy(rt: HostRuntime) {
         assert_same(&rt, taken(&rt, &ring), [0, 0]);
         assert_same(&rt, line.made(), 6);
     }
+}
+
+#[test]
+fn each_copy_comes_back_at_its_own_port(rt: HostRuntime) {
+    let mut ring = ring(&rt, rt.alloc());
+    assert_eq!(rt; ring.slaves().len(), 2);
+    ring.set_link(1, false);
+    let mut ports = UdpPorts::new(ring, MemoryLine::new(0, 0));
+    let Came { a, b } = ports
+        .trip(&station_read(&rt, 7))
+        .expect(&rt, "no call fails");
+    assert_same(&rt, stations(&rt, &a), Some((7, [0x01, 0x10], 1)));
+    assert_same(&rt, stations(&rt, &b), Some((7, [0x02, 0x10], 1)));
 }

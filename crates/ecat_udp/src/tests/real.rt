@@ -3,9 +3,10 @@
 ghost use Rattle.std.specs.Prelude.{◌<◌};
 
 use super::assert_same;
-use crate::tests::exchange::{EXPECTED, left, ring, taken, work};
+use crate::tests::exchange::{EXPECTED, left, ring, station_read, stations, taken, work};
 use crate::{BindFault, PacketLine, Socket, UdpLine, UdpPorts};
 use ec_master::{CycleFault, PortFault, Ports, Verdict, run_cycle};
+use ec_ring::Came;
 use ec_wire::{Command, Datagram, FrameBuf};
 use std::net::Net;
 use std::process::Abort;
@@ -135,4 +136,21 @@ fn a_frame_that_nobody_asked_for_is_a_stranger(rt: HostRuntime) {
     let verdict = run_cycle(&mut ports, &mut work, &EXPECTED);
     assert_same(&rt, verdict, Err(CycleFault::Stranger));
     assert_same(&rt, left(&rt, &work), ([0x5A, 0xA5], 0));
+}
+
+#[test]
+fn the_frame_that_comes_first_walks_in_place_of_the_copy(rt: HostRuntime) {
+    let (mut line, _) = open(&rt);
+    let early = station_read(&rt, 9);
+    assert_same(
+        &rt,
+        line.send(Socket::LineB, Socket::LineA, early.bytes()),
+        Ok(()),
+    );
+    let mut ports = UdpPorts::new(ring(&rt, rt.alloc()), line);
+    let Came { a, b } = ports
+        .trip(&station_read(&rt, 7))
+        .expect(&rt, "no call fails");
+    assert_same(&rt, stations(&rt, &b), Some((9, [0x03, 0x10], 2)));
+    assert_same(&rt, stations(&rt, &a), Some((7, [0, 0], 0)));
 }
