@@ -142,8 +142,10 @@ fn a_range_has_a_pair_where_one_of_its_bits_is_mapped(rt: HostRuntime) {
     assert!(rt; !writes_some(&areas(), &fmmus, 0x0001_0002, 1));
     // No bytes, and none of the FMMUs.
     assert!(rt; !reads_some(&areas(), &fmmus, 0x0001_0000, 0));
-    assert!(rt; !reads_some(&areas(), &fmmus[1..], 0x0001_0000, 2));
-    assert!(rt; !writes_some(&areas(), &fmmus[..1], 0x0001_0000, 2));
+    let writing = [PlannedFmmu::new(WRITE)];
+    assert!(rt; !reads_some(&areas(), &writing, 0x0001_0000, 2));
+    let reading = [PlannedFmmu::new(READ)];
+    assert!(rt; !writes_some(&areas(), &reading, 0x0001_0000, 2));
 }
 
 #[test]
