@@ -2,3 +2,5 @@ pub mod SdoLemmas
 pub mod MailLemmas
 pub mod MailStepLemmas
 pub mod ObjectLemmas
+pub mod LeftLemmas
+pub mod Laws

@@ -1,10 +1,10 @@
 -- What a slave finds before it answers a mail: a mailbox that takes the answer, also once the request was
 -- taken, and a request where the controller gave one.
-use Rattle.std.proofs.Common.{◌≡◌, ℕ, ◌-◌, ◌≤◌, Bool, true, false, not, cond, ◌&&◌, leb, List, ◌++◌, length}
-use Rattle.std.proofs.Common.{get_or, set, drop, None, Some, Result, Ok, Err, sym, ◌∙◌, ap, refl, arith}
+use Rattle.std.proofs.Common.{◌≡◌, ℕ, ◌≤◌, Bool, true, false, not, cond, ◌&&◌, leb, List, length}
+use Rattle.std.proofs.Common.{get_or, set, None, Some, Result, Ok, Err, sym, ◌∙◌, ap, refl, arith}
 use Rattle.std.proofs.lemmas.Bool.{and_parts}
 use Rattle.std.proofs.lemmas.Bool.Decides.{nat_tests}
-use Rattle.std.proofs.lemmas.List.{take-append-drop, drop-set-lt, get_or-set_other}
+use Rattle.std.proofs.lemmas.List.{drop-set-lt, get_or-set_other}
 use Rattle.std.specs.Prelude.{bit_and}
 use Rattle.std.specs.Result.{IsOk, result_err}
 use Rattle.ec_regs.specs.declared.sync_man.SyncMan.{SyncMan}
@@ -39,7 +39,7 @@ IsOk-result_err (Err e) none = absurd (cc)
 -- ---- the mailbox of answers
 
 -- an active mailbox has at least 16 bytes
-mailbox_length-ge : (s : SyncMan) → is_active s ≡ true → is_mailbox s ≡ true → 16 ≤ s.length
+pub mailbox_length-ge : (s : SyncMan) → is_active s ≡ true → is_mailbox s ≡ true → 16 ≤ s.length
 unfolding is_active
 mailbox_length-ge s active mailbox = grind (arith, nat_tests)
 

@@ -10,3 +10,4 @@ pub mod AlStep
 pub mod MailStep
 pub mod Slave
 pub mod AbortCode
+pub mod Left

@@ -28,16 +28,19 @@
 //!   again as they were read.
 //! - [`Mail::read`] answers the mail that the bytes begin with or their first fault (`found`, `good`,
 //!   `fault`, `only`); no mail's bytes begin another's (`mail::one_mail`).
+//! - A step leaves every register but AL status, its code and the status bytes of both mailboxes (the law
+//!   [`promises::step_leaves`]).
 //!
 //! What its contracts speak of stands in specs/: a slave and its step (`State`, `Slave`), the two machines
-//! (`AlStep`, `MailStep`), the sync managers' parts (`Roles`), and the words of mails, SDOs, objects and
-//! values.
+//! (`AlStep`, `MailStep`) and what they leave (`Left`), the sync managers' parts (`Roles`), and the words of
+//! mails, SDOs, objects and values.
 
 pub mod abort_code;
 mod al_step;
 pub mod mail;
 mod mail_step;
 pub mod objects;
+pub mod promises;
 pub mod roles;
 pub mod sdo;
 pub mod slave;

@@ -1,18 +1,21 @@
--- The laws that crates above cite: on what a working counter gains, on what the application is shown, and on
--- the half of a pass that writes.
-use Rattle.std.proofs.Common.{◌≡◌, ◌+◌, ◌&&◌, cond, ℕ, ◌<◌, Bool, false, List, length, get_or, ◌/◌, None}
+-- The laws that crates above cite: on what a working counter gains, on what the application is shown, on the
+-- half of a pass that writes, and on what stays where the application writes.
+use Rattle.std.proofs.Common.{◌≡◌, ◌⊎◌, ◌+◌, ◌&&◌, cond, ℕ, ◌<◌, ◌≤◌, Bool, false, List, length, get_or, ◌/◌, None}
 use Rattle.ec_regs.specs.declared.sync_man.SyncMan.{SyncMan}
-use Rattle.ec_regs.specs.declared.registers.TheConstants.{PROCESS_MEMORY}
-use Rattle.ec_regs.specs.Bits.{with_bits}
-use Rattle.ec_areas.specs.Records.{sync_managers_of}
+use Rattle.ec_regs.specs.declared.registers.TheConstants.{PROCESS_MEMORY, MEMORY_SIZE}
+use Rattle.ec_regs.specs.Bits.{AreBytes, with_bits}
+use Rattle.ec_areas.specs.Records.{sync_manager_at, sync_managers_of}
+use Rattle.ec_esc.specs.Application.{put_inputs_fault, with_inputs}
 use Rattle.ec_esc.specs.Writing.{shown_byte, shown_after}
-use Rattle.ec_esc.specs.State.{ControllerState, IsController}
+use Rattle.ec_esc.specs.State.{ControllerState, IsController, with_run}
 use Rattle.ec_esc.specs.Pass.{Half, touches, written_by, effect, gain_of, serves_reading, serves_writing}
 use Rattle.ec_wire.specs.Command.{addressing, reads, writes}
 use Rattle.ec_wire.specs.declared.command.Command.{Command}
 use Rattle.ec_esc.proofs.GainLemmas as gains
 use Rattle.ec_esc.proofs.ShowLemmas as showing
 use Rattle.ec_esc.proofs.IdleLemmas as idle
+use Rattle.ec_esc.proofs.ApplicationLemmas as application
+use Rattle.ec_esc.proofs.LeftLemmas as left
 
 -- ---- the working counter
 
@@ -59,3 +62,25 @@ pub written_plain : (c : ControllerState) (half : Half) (payload : List ℕ) →
           (with_bits c.memory payload half.places) c.shown;
     }
 written_plain = idle.written_plain
+
+-- ---- the application's side
+
+-- a run that is replaced within a list leaves its length
+pub length-with_run : (xs ys : List ℕ) (at : ℕ) → at + length ys ≤ length xs
+    → length (with_run xs at ys) ≡ length xs
+length-with_run = application.length-with_run
+
+-- and the elements beside the run
+pub get_or-with_run_beside : (xs ys : List ℕ) (at k : ℕ) → at + length ys ≤ length xs
+    → (k < at) ⊎ (at + length ys ≤ k) → get_or (with_run xs at ys) k 0 ≡ get_or xs k 0
+get_or-with_run_beside = left.get_or-with_run_beside
+
+-- inputs that are put lie in process memory
+pub inputs_place : (s : SyncMan) (bytes : List ℕ) → put_inputs_fault s bytes ≡ None
+    → (PROCESS_MEMORY ≤ s.start) × (s.start + length bytes ≤ MEMORY_SIZE)
+inputs_place = left.inputs_place
+
+-- a controller that puts inputs stays one
+pub inputs_controller : (c : ControllerState) (i : ℕ) (bytes : List ℕ) → IsController c → AreBytes bytes
+    → put_inputs_fault (sync_manager_at c.memory i) bytes ≡ None → IsController (with_inputs c i bytes)
+inputs_controller = left.inputs_controller

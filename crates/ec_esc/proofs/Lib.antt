@@ -10,4 +10,5 @@ pub mod ServedLemmas
 pub mod PlannedLemmas
 pub mod ExchangeLemmas
 pub mod GainLemmas
+pub mod LeftLemmas
 pub mod Laws

@@ -1,0 +1,192 @@
+-- A step of a slave leaves the registers that neither of its two machines writes.
+use Rattle.std.proofs.Common.{◌≡◌, ℕ, ◌+◌, ◌-◌, ◌≤◌, Bool, true, false, ◌&&◌, cond, List, [], ◌∷◌}
+use Rattle.std.proofs.Common.{length, get_or, set, Option, None, Some, ◌∙◌, refl, arith, inl}
+use Rattle.std.proofs.Common.{length-append, get_or-set_other}
+use Rattle.std.specs.Prelude.{replicate, bit_and, bit_or}
+use Rattle.std.specs.Int.{w16, to_le_bytes}
+use Rattle.std.proofs.lemmas.Bool.{and_parts}
+use Rattle.std.proofs.lemmas.List.{length-set, length-replicate}
+use Rattle.ec_regs.specs.Al.{status_byte}
+use Rattle.ec_regs.specs.AlStatusCode.{al_status_code}
+use Rattle.ec_regs.specs.SyncMan.{is_active, is_mailbox, master_reads}
+use Rattle.ec_regs.specs.declared.al.AlStatus.{AlStatus}
+use Rattle.ec_regs.specs.declared.registers.TheConstants.{AL_STATUS, AL_STATUS_CODE}
+use Rattle.ec_regs.specs.declared.registers.TheConstants.{MEMORY_SIZE}
+use Rattle.ec_regs.specs.declared.sync_man.SyncMan.{SyncMan}
+use Rattle.ec_areas.specs.Records.{sync_manager_at}
+use Rattle.ec_areas.proofs.Laws.{active_place}
+use Rattle.ec_esc.specs.Application.{new_control, with_control_taken, with_al, al_status, mail_area}
+use Rattle.ec_esc.specs.Application.{with_mail_taken, with_mail_put}
+use Rattle.ec_esc.specs.State.{ControllerState, with_run}
+use Rattle.ec_esc.proofs.Laws.{length-with_run, get_or-with_run_beside}
+use Rattle.ec_app.specs.AbortCode.{abort_code}
+use Rattle.ec_app.specs.AlStep.{al_answer, with_al_answer, after_request, al_step}
+use Rattle.ec_app.specs.Left.{SameLeft}
+use Rattle.ec_app.specs.Mail.{mail_bytes, mail_of, sent}
+use Rattle.ec_app.specs.MailStep.{reply, mail_back, with_reply, mail_answer, after_mail, is_dropped}
+use Rattle.ec_app.specs.MailStep.{after_bytes, can_answer, has_request, request_bytes, mail_step}
+use Rattle.ec_app.specs.Roles.{is_answer_mailbox}
+use Rattle.ec_app.specs.Sdo.{sdo_bytes, index, sub}
+use Rattle.ec_app.specs.Slave.{step}
+use Rattle.ec_app.specs.State.{SlaveState}
+use Rattle.ec_app.specs.declared.al_step.AlAnswer.{AlAnswer}
+use Rattle.ec_app.specs.declared.al_step.AlAnswer.TheVariants.{Ignored, Refused, Entered}
+use Rattle.ec_app.specs.declared.mail.Mail.{Mail}
+use Rattle.ec_app.specs.declared.mail.TheConstants.{REQUEST, RESPONSE}
+use Rattle.ec_app.specs.declared.mail_step.MailAnswer.{MailAnswer}
+use Rattle.ec_app.specs.declared.mail_step.MailAnswer.TheVariants.{Nothing, Aborted, Uploaded, Downloaded}
+use Rattle.ec_app.specs.declared.sdo.Sdo.{Sdo}
+use Rattle.ec_app.specs.declared.sdo.Sdo.TheVariants.{Abort, UploadAnswer, DownloadAnswer}
+use Rattle.ec_app.specs.declared.value.Value.{Value}
+use Rattle.ec_app.specs.declared.value.Value.TheVariants.{One, Two, Four}
+use Rattle.ec_app.proofs.MailStepLemmas.{mailbox_length-ge, can_answer-taken}
+
+-- ---- what stays
+
+same_refl : (m : List ℕ) → SameLeft m m
+same_refl m = record { size = refl; bytes = λ a left. refl }
+
+same_then : (x y z : List ℕ) → SameLeft x y → SameLeft y z → SameLeft x z
+same_then x y z one two =
+    record { size = two.size ∙ one.size; bytes = λ a left. two.bytes a left ∙ one.bytes a left }
+
+-- either way of a test
+either : {S : Type 0} (P : S → Type 0) (b : Bool) (x y : S) → (b ≡ true → P x) → (b ≡ false → P y)
+    → P (cond b x y)
+either P true x y holds fails = holds refl
+either P false x y holds fails = fails refl
+
+-- ---- AL status
+
+pub al_left : (c : ControllerState) (status : AlStatus) (code : ℕ) → length c.memory ≡ MEMORY_SIZE
+    → SameLeft c.memory (with_al c status code).memory
+al_left c status code size =
+    let bytes : List ℕ = status_byte status ∷ 0 ∷ [] in
+    let spelt : List ℕ = to_le_bytes w16 code in
+    let first : List ℕ = with_run c.memory AL_STATUS bytes in
+    let first_size : length first ≡ length c.memory = length-with_run c.memory bytes AL_STATUS (omega arith) in
+    same_then c.memory first (with_run first AL_STATUS_CODE spelt)
+    (record {
+      size = first_size;
+      bytes = λ a left. get_or-with_run_beside c.memory bytes AL_STATUS a (omega arith) left.al_status;
+    })
+    (record {
+      size = length-with_run first spelt AL_STATUS_CODE (omega arith);
+      bytes = λ a left. get_or-with_run_beside first spelt AL_STATUS_CODE a (omega arith) left.al_status_code;
+    })
+
+answered_left : (s : SlaveState) (answer : AlAnswer) → length s.controller.memory ≡ MEMORY_SIZE
+    → SameLeft s.controller.memory (with_al_answer s answer).controller.memory
+answered_left s Ignored size = same_refl s.controller.memory
+answered_left s (Refused code) size =
+    al_left s.controller (record { state = (al_status s.controller).state; error = true }) (al_status_code code)
+    size
+answered_left s (Entered state) size = al_left s.controller (record { state = state; error = false }) 0 size
+
+request_left : (s : SlaveState) (request : Option ℕ) → length s.controller.memory ≡ MEMORY_SIZE
+    → SameLeft s.controller.memory (after_request request s).controller.memory
+request_left s None size = same_refl s.controller.memory
+request_left s (Some control) size = answered_left s (al_answer s control) size
+
+al_step_left : (s : SlaveState) → length s.controller.memory ≡ MEMORY_SIZE
+    → SameLeft s.controller.memory (al_step s).controller.memory
+unfolding al_step
+al_step_left s size =
+    request_left (record s { controller = with_control_taken s.controller }) (new_control s.controller) size
+
+-- ---- mail
+
+taken_left : (c : ControllerState) → SameLeft c.memory (with_mail_taken c 0).memory
+taken_left c =
+    let status : ℕ = bit_and (get_or c.memory 2053 0) 247 in
+    record {
+      size = length-set c.memory 2053 status;
+      bytes = λ a left. get_or-set_other c.memory 2053 a status 0 left.requests;
+    }
+
+filled_left : (m : List ℕ) (status : ℕ) → SameLeft m (set m 2061 status)
+filled_left m status =
+    record {
+      size = length-set m 2061 status;
+      bytes = λ a left. get_or-set_other m 2061 a status 0 left.answers;
+    }
+
+-- a mail of sixteen bytes lies in the mailbox of answers
+put_left : (c : ControllerState) (mail : List ℕ) → length c.memory ≡ MEMORY_SIZE → can_answer c ≡ true
+    → length mail ≡ 16 → SameLeft c.memory (with_mail_put c 1 mail).memory
+put_left c mail size room sixteen =
+    let s : SyncMan = sync_manager_at c.memory 1 in
+    let answers : is_answer_mailbox s ≡ true = (and_parts _ _ (and_parts _ _ room).0).1 in
+    let area = and_parts (is_active s && is_mailbox s) (master_reads s) answers in
+    let kind = and_parts (is_active s) (is_mailbox s) area.0 in
+    let enough : 16 ≤ s.length = mailbox_length-ge s kind.0 kind.1 in
+    let place = active_place s kind.0 in
+    let bytes : List ℕ = mail_area s mail in
+    let zeros : List ℕ = replicate (s.length - length mail) 0 in
+    let zeros_size : length zeros ≡ s.length - length mail = length-replicate {A = ℕ} (s.length - length mail) 0 in
+    let bytes_size : length bytes ≡ s.length =
+    omega (arith, length-append mail zeros, zeros_size, sixteen, enough) in
+    let inside : s.start + length bytes ≤ length c.memory = omega (arith, place.1) in
+    let put : List ℕ = with_run c.memory s.start bytes in
+    same_then c.memory put (with_mail_put c 1 mail).memory
+    (record {
+      size = length-with_run c.memory bytes s.start inside;
+      bytes = λ a left.
+          get_or-with_run_beside c.memory bytes s.start a inside (inl (omega (arith, left.register, place.0)));
+    })
+    (filled_left put (bit_or (get_or put 2061 0) 8))
+
+-- an answer to a mail has sixteen bytes, and its SDO eight of them
+back_left : (c : ControllerState) (m : Mail) (service : ℕ) (sdo : Sdo) → length c.memory ≡ MEMORY_SIZE
+    → can_answer c ≡ true → length (sdo_bytes sdo) ≡ 8
+    → SameLeft c.memory (with_reply c (Some (mail_back m service sdo))).memory
+back_left c m service sdo size room eight =
+    put_left c (mail_bytes (sent (mail_back m service sdo))) size room (omega (arith, eight))
+
+reply_left : (c : ControllerState) (m : Mail) (answer : MailAnswer) → length c.memory ≡ MEMORY_SIZE
+    → can_answer c ≡ true → SameLeft c.memory (with_reply c (reply m answer)).memory
+reply_left c m Nothing size room = same_refl c.memory
+reply_left c m (Aborted reason) size room =
+    back_left c m REQUEST (Abort (index m.sdo) (sub m.sdo) (abort_code reason)) size room refl
+reply_left c m (Uploaded value) size room =
+    back_left c m RESPONSE (UploadAnswer (index m.sdo) (sub m.sdo) value) size room (eight value)
+  where
+    eight : (v : Value) → length (sdo_bytes (UploadAnswer (index m.sdo) (sub m.sdo) v)) ≡ 8
+    eight (One x) = refl
+    eight (Two x) = refl
+    eight (Four x) = refl
+reply_left c m (Downloaded value) size room =
+    back_left c m RESPONSE (DownloadAnswer (index m.sdo) (sub m.sdo)) size room refl
+
+bytes_left : (bytes : List ℕ) (s : SlaveState) → length s.controller.memory ≡ MEMORY_SIZE
+    → can_answer s.controller ≡ true → SameLeft s.controller.memory (after_bytes bytes s).controller.memory
+bytes_left bytes s size room =
+    let m : Mail = mail_of bytes in
+    either (λ (t : SlaveState). SameLeft s.controller.memory t.controller.memory)
+    (is_dropped s.application.kept bytes) s (after_mail m s) (λ dropped. same_refl s.controller.memory)
+    (λ kept. reply_left s.controller m (mail_answer m s.application.objects) size room)
+
+mail_step_left : (s : SlaveState) → length s.controller.memory ≡ MEMORY_SIZE
+    → SameLeft s.controller.memory (mail_step s).controller.memory
+unfolding mail_step
+mail_step_left s size =
+    let c : ControllerState = s.controller in
+    let taken : SlaveState = record s { controller = with_mail_taken c 0 } in
+    let first = taken_left c in
+    either (λ (t : SlaveState). SameLeft c.memory t.controller.memory) (can_answer c && has_request c)
+    (after_bytes (request_bytes c) taken) s
+    (λ both.
+    same_then c.memory taken.controller.memory (after_bytes (request_bytes c) taken).controller.memory first
+    (bytes_left (request_bytes c) taken (first.size ∙ size)
+    (can_answer-taken c ∙ (and_parts (can_answer c) (has_request c) both).0)))
+    (λ none. same_refl c.memory)
+
+-- ---- a step
+
+pub step_leaves : (s : SlaveState) → length s.controller.memory ≡ MEMORY_SIZE
+    → SameLeft s.controller.memory (step s).controller.memory
+unfolding step
+step_leaves s size =
+    let first = al_step_left s size in
+    same_then s.controller.memory (al_step s).controller.memory (step s).controller.memory first
+    (mail_step_left (al_step s) (first.size ∙ size))
