@@ -1,16 +1,24 @@
--- The laws that crates above cite: on the controllers of slaves, what a fit line gives a cycle, and what is the
--- same of lines with one mapping.
-use Rattle.std.proofs.Common.{◌≡◌, ℕ, ◌<◌, List, length, get_or}
+-- The laws that crates above cite: on the controllers of slaves, what a fit line gives a cycle, and what is
+-- the same of lines with one mapping.
+use Rattle.std.proofs.Common.{◌≡◌, ℕ, ◌<◌, None, List, length, get_or}
 use Rattle.std.specs.List.{AllByRecursion}
+use Rattle.std.specs.List.Sorted.{IsPermutation}
+use Rattle.ec_regs.specs.SyncMan.{is_active}
+use Rattle.ec_regs.specs.declared.sync_man.SyncMan.{SyncMan}
+use Rattle.ec_areas.specs.Records.{sync_manager_at}
+use Rattle.ec_esc.specs.Application.{put_inputs_fault, with_inputs}
 use Rattle.ec_esc.specs.State.{ControllerState, IsController}
 use Rattle.ec_line.specs.Fit.{IsFitLine}
+use Rattle.ec_app.specs.Slave.{step}
 use Rattle.ec_app.specs.State.{SlaveState}
 use Rattle.ec_check.specs.Line.{controllers, controller_of, station_of}
-use Rattle.ec_check.specs.Mapping.{mapping_of, mapping}
+use Rattle.ec_check.specs.Mapping.{without_status, mapping_of, mapping}
 use Rattle.ec_check.specs.Fit.{IsFit}
 use Rattle.ec_check.proofs.LineLemmas as lines
 use Rattle.ec_check.proofs.FactLemmas as facts
 use Rattle.ec_check.proofs.MappingLemmas as mappings
+use Rattle.ec_check.proofs.LastsLemmas as lasts
+use Rattle.ec_check.proofs.PlacesLemmas as places
 
 -- the controller under a number is that of the slave under it
 pub controller_of-controllers : (slaves : List SlaveState) (i : ℕ) (s : SlaveState) → i < length slaves
@@ -45,3 +53,32 @@ same_station = mappings.same_station
 pub fit_by_mapping : (line later : List ControllerState) → mapping later ≡ mapping line → IsFit line
     → IsFit later
 fit_by_mapping = mappings.fit_by_mapping
+
+-- controllers with one mapping have the same sync manager under each number, but for its status byte
+pub manager_by_mapping : (c d : ControllerState) (number : ℕ) → mapping_of d ≡ mapping_of c → number < 8
+    → without_status (sync_manager_at d.memory number) ≡ without_status (sync_manager_at c.memory number)
+manager_by_mapping = mappings.manager_by_mapping
+
+-- whether a sync manager is active does not hang on its status byte
+pub active_without : (s : SyncMan) → is_active (without_status s) ≡ is_active s
+active_without = mappings.active_without
+
+-- a step of a slave leaves the mapping of its controller
+pub mapping_step : (s : SlaveState) → IsController s.controller
+    → mapping_of (step s).controller ≡ mapping_of s.controller
+mapping_step = lasts.mapping_step
+
+-- and so do inputs that are put
+pub mapping_inputs : (c : ControllerState) (i : ℕ) (bytes : List ℕ) → IsController c
+    → put_inputs_fault (sync_manager_at c.memory i) bytes ≡ None
+    → mapping_of (with_inputs c i bytes) ≡ mapping_of c
+mapping_inputs = lasts.mapping_inputs
+
+-- a fit line is fit in any order of its slaves
+pub fit_in_any_order : (line later : List ControllerState) → IsPermutation line later → IsFit line → IsFit later
+fit_in_any_order = places.fit_in_any_order
+
+-- an element of a list in another order stood in the list before
+pub stood_before : {X : Type 0} (xs ys : List X) (k : ℕ) (d : X) → IsPermutation xs ys → k < length ys
+    → (j : ℕ) × (j < length xs) × (get_or ys k d ≡ get_or xs j d)
+stood_before = places.stood_before

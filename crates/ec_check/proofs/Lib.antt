@@ -12,4 +12,6 @@ pub mod OutsideLemmas
 pub mod FitLemmas
 pub mod FactLemmas
 pub mod MappingLemmas
+pub mod LastsLemmas
+pub mod PlacesLemmas
 pub mod Laws

@@ -1,23 +1,22 @@
 -- Lines with one mapping break the same rules.
-use Rattle.std.proofs.Common.{◌≡◌, ◌⊎◌, inl, inr, ℕ, ◌<◌, Bool, true, sym, subst, ◌∙◌, ap, refl, arith}
-use Rattle.std.proofs.Common.{List, length, map, get_or}
+use Rattle.std.proofs.Common.{◌≡◌, inl, inr, ℕ, ◌<◌, true, sym, subst, ◌∙◌, ap, refl, arith}
+use Rattle.std.proofs.Common.{List, length, get_or}
 use Rattle.std.proofs.Math.ListN.{get_or-map}
 use Rattle.std.proofs.lemmas.List.{length-map}
 use Rattle.ec_regs.specs.Pairs.{is_switched_on, reads, writes}
 use Rattle.ec_regs.specs.SyncMan.{is_active}
 use Rattle.ec_regs.specs.declared.fmmu.Fmmu.{Fmmu}
 use Rattle.ec_regs.specs.declared.sync_man.SyncMan.{SyncMan}
-use Rattle.ec_areas.specs.Records.{fmmu_at, fmmus_of, sync_manager_at, sync_managers_of}
+use Rattle.ec_areas.specs.Records.{fmmu_at, sync_manager_at, sync_managers_of}
 use Rattle.ec_areas.proofs.Laws.{get_or-fmmus_of, get_or-sync_managers_of}
 use Rattle.ec_esc.specs.State.{ControllerState}
 use Rattle.ec_check.specs.Fit.{Breaks, IsFit}
 use Rattle.ec_check.specs.Line.{controller_of, no_controller, station_of, fmmu_of, sync_manager_of, HasFmmu}
 use Rattle.ec_check.specs.Mapping.{without_status, Mapping, mapping_of, mapping}
 use Rattle.ec_check.specs.Rules.{MapsLogical, MapsPhysical, ReadsLogical, WritesLogical, WritesPhysical}
-use Rattle.ec_check.specs.Rules.{IsTwinStation, IsGoodFmmu, IsBadFmmu, IsInArea, IsMeetingOfAreas, Area, Holds}
-use Rattle.ec_check.specs.Rules.{HoldsAllOf, suits, IsGuarded, IsMailStatus, IsAreaFor, first_byte, HasNoArea}
-use Rattle.ec_check.specs.Rules.{IsAreaEnd, LeavesAreasAt, IsOutsideArea, IsTwiceWritten, IsTwiceRead}
-use Rattle.ec_check.specs.Rules.{IsReadAndWritten}
+use Rattle.ec_check.specs.Rules.{IsGoodFmmu, IsInArea, Area}
+use Rattle.ec_check.specs.Rules.{HoldsAllOf, suits, IsAreaFor}
+use Rattle.ec_check.specs.Rules.{LeavesAreasAt, IsOutsideArea}
 use Rattle.ec_check.specs.declared.fault.MapFault.{MapFault}
 use Rattle.ec_check.specs.declared.fault.MapFault.TheVariants.{TwinStation, BadFmmu, AreasMeet, OutsideArea}
 use Rattle.ec_check.specs.declared.fault.MapFault.TheVariants.{TwiceWritten, TwiceRead, ReadAndWritten}
@@ -52,24 +51,29 @@ same_fmmu line later slave number alike below =
     ∙ ap (λ (m : Mapping). get_or m.fmmus number d) (same_mapping line later slave alike)
     ∙ get_or-fmmus_of before d number below
 
+-- of two controllers
+pub manager_by_mapping : (c d : ControllerState) (number : ℕ) → mapping_of d ≡ mapping_of c → number < 8
+    → without_status (sync_manager_at d.memory number) ≡ without_status (sync_manager_at c.memory number)
+unfolding mapping_of
+manager_by_mapping c d number same below =
+    let e : SyncMan = sync_manager_at c.memory number in
+    ap without_status (sym (get_or-sync_managers_of d.memory e number below))
+    ∙ sym (get_or-map without_status (sync_managers_of d.memory) number e)
+    ∙ ap (λ (m : Mapping). get_or m.sync_managers number (without_status e)) same
+    ∙ get_or-map without_status (sync_managers_of c.memory) number e
+    ∙ ap without_status (get_or-sync_managers_of c.memory e number below)
+
 same_manager : (line later : List ControllerState) (slave number : ℕ) → mapping later ≡ mapping line
     → number < 8
     → without_status (sync_manager_of later slave number) ≡ without_status (sync_manager_of line slave number)
-unfolding sync_manager_of mapping_of
+unfolding sync_manager_of
 same_manager line later slave number alike below =
-    let before : List ℕ = (controller_of line slave).memory in
-    let after : List ℕ = (controller_of later slave).memory in
-    let d : SyncMan = sync_manager_at before number in
-    ap without_status (sym (get_or-sync_managers_of after d number below))
-    ∙ sym (get_or-map without_status (sync_managers_of after) number d)
-    ∙ ap (λ (m : Mapping). get_or m.sync_managers number (without_status d))
-    (same_mapping line later slave alike)
-    ∙ get_or-map without_status (sync_managers_of before) number d
-    ∙ ap without_status (get_or-sync_managers_of before d number below)
+    manager_by_mapping (controller_of line slave) (controller_of later slave) number
+    (same_mapping line later slave alike) below
 
 -- ---- the status byte plays no part
 
-active_without : (s : SyncMan) → is_active (without_status s) ≡ is_active s
+pub active_without : (s : SyncMan) → is_active (without_status s) ≡ is_active s
 unfolding is_active
 active_without s = refl
 

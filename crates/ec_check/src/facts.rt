@@ -1,14 +1,20 @@
 //! What a fit line gives a cycle, and what fitness hangs on, as laws.
 
-ghost use Rattle.std.specs.Prelude.{◌≡◌, ℕ, true, List};
+ghost use Rattle.std.specs.Prelude.{◌≡◌, ℕ, true, None, List};
 ghost use Rattle.std.specs.List.{AllByRecursion};
+ghost use Rattle.std.specs.List.Sorted.{IsPermutation};
 ghost use Rattle.ec_regs.specs.Pairs.{is_switched_on};
+ghost use Rattle.ec_regs.specs.declared.al.AlStatus.{AlStatus};
+ghost use Rattle.ec_areas.specs.Records.{sync_manager_at};
+ghost use Rattle.ec_esc.specs.Application.{put_inputs_fault, with_al, with_inputs};
 ghost use Rattle.ec_esc.specs.State.{ControllerState, IsController};
+ghost use Rattle.ec_app.specs.Slave.{step};
+ghost use Rattle.ec_app.specs.State.{SlaveState};
 ghost use Rattle.ec_line.specs.Fit.{IsFitLine};
 ghost use Rattle.ec_check.specs.Line.{fmmu_of, HasFmmu};
 ghost use Rattle.ec_check.specs.Fit.{IsFit};
 ghost use Rattle.ec_check.specs.Facts.{IsWellPlaced};
-ghost use Rattle.ec_check.specs.Mapping.{mapping};
+ghost use Rattle.ec_check.specs.Mapping.{mapping, mapping_of};
 
 /// Each active FMMU of a fit line is good and lies in one area of its kind; and the line has the facts that
 /// the promises about cycles take.
@@ -24,4 +30,22 @@ pub fn fit_line()
 /// its FMMUs and sync managers, but for the status bytes of these.
 pub fn fit_by_mapping()
     ensures { (line later : List ControllerState) → mapping later ≡ mapping line → IsFit line → IsFit later }
+{}
+
+/// Whether a line is fit does not hang on the order of its slaves.
+pub fn fit_in_any_order()
+    ensures { (line later : List ControllerState) → IsPermutation line later → IsFit line → IsFit later }
+{}
+
+/// What an application does leaves the mapping of its controller: a step of its slave (`Slave::step`), AL
+/// status and AL status code that it sets (`Controller::set_al`), and inputs that it puts
+/// (`Controller::put_inputs`; IEC 61158-4-12, sync manager, and IEC 61158-6-12, AL management and CoE).
+pub fn mapping_lasts()
+    ensures step { (s : SlaveState) → IsController s.controller
+        → mapping_of (step s).controller ≡ mapping_of s.controller }
+    ensures al { (c : ControllerState) (status : AlStatus) (code : ℕ) → IsController c
+        → mapping_of (with_al c status code) ≡ mapping_of c }
+    ensures inputs { (c : ControllerState) (sm : ℕ) (bytes : List ℕ) → IsController c
+        → put_inputs_fault (sync_manager_at c.memory sm) bytes ≡ None
+        → mapping_of (with_inputs c sm bytes) ≡ mapping_of c }
 {}

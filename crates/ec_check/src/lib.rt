@@ -20,7 +20,8 @@
 //! - [`check`] is Ok exactly where none of seven rules is broken (`accepted`), and else names the first that
 //!   is, in their order, with the smallest numbers and the lowest address or bit (`refused`). It works on
 //!   runs of bits, never bit by bit, and takes no memory.
-//! - [`fit_line`] is the law that says what an accepted line gives a cycle.
+//! - [`fit_line`] is the law that says what an accepted line gives a cycle; [`fit_by_mapping`] and
+//!   [`mapping_lasts`] say that it stays one while slaves take their steps and put inputs.
 //!
 //! - `fault`: why a line is refused.
 //! - `stations`, `fmmus`, `areas`, `outside`, `twice_written`, `twice_read`, `crossed`: the rules, in this
@@ -46,6 +47,6 @@ mod tests;
 mod twice_read;
 mod twice_written;
 
-pub use checker::check;
-pub use facts::{fit_by_mapping, fit_line};
+pub use checker::{are_controllers, check};
+pub use facts::{fit_by_mapping, fit_in_any_order, fit_line, mapping_lasts};
 pub use fault::MapFault;

@@ -2,4 +2,11 @@ pub mod PlaceLemmas
 pub mod MappingLemmas
 pub mod LawLemmas
 pub mod ItemLemmas
+pub mod OrderLemmas
+pub mod FirstLemmas
+pub mod CoveredLemmas
+pub mod WrittenLemmas
+pub mod NotShownLemmas
+pub mod LastingLemmas
+pub mod AnyOrderLemmas
 pub mod Laws

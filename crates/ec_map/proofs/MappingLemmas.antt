@@ -1,5 +1,5 @@
 -- Where items may go hangs on the line's mapping and on what they ask, and so do shares on the latter.
-use Rattle.std.proofs.Common.{◌≡◌, ℕ, ◌+◌, ◌<◌, ◌||◌, Bool, true, false, cond, leb, sym, ◌∙◌, ap, refl, arith}
+use Rattle.std.proofs.Common.{◌≡◌, ℕ, ◌+◌, ◌||◌, Bool, cond, leb, sym, ◌∙◌, ap, refl, arith}
 use Rattle.std.proofs.Common.{List, [], ◌∷◌, length, map}
 use Rattle.std.specs.List.{list_any}
 use Rattle.ec_regs.specs.SyncMan.{is_active}
@@ -13,19 +13,19 @@ use Rattle.ec_areas.specs.Records.{sync_managers_of}
 use Rattle.ec_esc.specs.Pass.{serves_reading, serves_writing}
 use Rattle.ec_esc.specs.Pass.{serves_read as reads_bits, serves_write as writes_bits}
 use Rattle.ec_esc.specs.State.{ControllerState}
-use Rattle.ec_check.specs.Line.{controller_of, station_of}
+use Rattle.ec_check.specs.Line.{controller_of}
 use Rattle.ec_check.specs.Mapping.{without_status, Mapping, mapping_of, mapping}
 use Rattle.ec_check.proofs.Laws.{same_length, same_mapping, same_station}
 use Rattle.ec_map.specs.Item.{ItemRecord, IsItem, AsksTheSame}
-use Rattle.ec_map.specs.Place.{station_named, ado_named, is_input_run, is_output_run, may_read, may_write}
-use Rattle.ec_map.specs.Place.{IsFirstOfStation, IsOutsideRead, IsOutsideWrite, IsPlaceFault, IsPlaced}
+use Rattle.ec_map.specs.Place.{ado_named, is_input_run, is_output_run, may_read, may_write}
+use Rattle.ec_map.specs.Place.{IsFirstOfStation, IsPlaceFault, IsPlaced}
 use Rattle.ec_map.specs.Share.{share}
 use Rattle.ec_map.specs.declared.place.PlaceFault.{PlaceFault}
 use Rattle.ec_map.specs.declared.place.PlaceFault.TheVariants.{OutsideRead, OutsideWrite}
 use Rattle.ec_map.proofs.LawLemmas.{share_lrd, share_lwr, share_lrw, share_brd, share_fprd, share_fpwr}
 
 -- a test that no status byte plays a part in holds of some sync manager as it does without them
-any_without : (test : SyncMan → Bool) (ss : List SyncMan)
+pub any_without : (test : SyncMan → Bool) (ss : List SyncMan)
     → ((s : SyncMan) → test (without_status s) ≡ test s)
     → list_any test (map without_status ss) ≡ list_any test ss
 any_without test [] same = refl
@@ -39,7 +39,7 @@ output_without : (from n : ℕ) (s : SyncMan) → is_output_run from n (without_
 unfolding is_active
 output_without from n s = refl
 
-some_same : (test : SyncMan → Bool) (c d : ControllerState)
+pub some_same : (test : SyncMan → Bool) (c d : ControllerState)
     → ((s : SyncMan) → test (without_status s) ≡ test s) → mapping_of d ≡ mapping_of c
     → list_any test (sync_managers_of d.memory) ≡ list_any test (sync_managers_of c.memory)
 unfolding mapping_of

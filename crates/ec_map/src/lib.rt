@@ -26,22 +26,33 @@
 //! - [`expected`] is what a line adds to the working counter of an item, modulo 65,536.
 //! - The laws [`placed_item`], [`accepted_items`], [`shares_by_kind`] and [`shares_by_pairs`] tie these to
 //!   what a pass of each slave does: a slave's share is what the counter of the item's datagram gains there.
+//!   [`shares_by_mapping`] says that it lasts as long as the mapping does.
 //!
 //! Nothing here takes memory. What the contracts speak of stands in specs/: an item and its datagram
 //! (`Item`), where an addressed item may go (`Place`), and a slave's share in the counter (`Share`).
 
+mod covered;
 mod item;
 mod kind;
+mod lasting;
+mod line;
+mod not_shown;
 mod place;
 mod promises;
 mod shares;
 #[cfg(test)]
 mod tests;
+mod written;
 
-pub use ec_check::{MapFault, check, fit_by_mapping, fit_line};
+pub use covered::{Gap, Way, first_uncovered};
+pub use ec_check::{
+    MapFault, are_controllers, check, fit_by_mapping, fit_in_any_order, fit_line, mapping_lasts,
+};
 pub use ec_wire::Kind;
 pub use item::Item;
 pub use kind::ItemFault;
+pub use lasting::{placed_in_any_order, shares_by_mapping};
+pub use not_shown::{NotShown, WhyNotShown, first_not_shown};
 pub use place::{PlaceFault, check_item, placed_item};
 pub use promises::{
     accepted_items, placed_by_mapping, same_shares, shares_by_kind, shares_by_pairs,

@@ -1,0 +1,7 @@
+use Rattle.std.proofs.Common.{◌≡◌, false, take}
+use Rattle.ec_map.specs.Covered.{is_asked}
+use Rattle.ec_map.proofs.covered.asked_until.Given as goal
+
+-- no item so far asks for the bit
+abbrev pub invariant-loop-item : goal.invariant-loop-item
+invariant-loop-item l = is_asked l.way l.bit (take l.item-index l.items) ≡ false
