@@ -6,6 +6,7 @@ use Rattle.std.specs.Option.{option_map, option_and_then}
 use Rattle.std.proofs.lemmas.Bool.{eq-eqb}
 use Rattle.std.proofs.lemmas.List.{length-take-le, length-drop}
 use Rattle.ec_wire.specs.Datagram.{DatagramRecord, ado, nth}
+use Rattle.ec_merge.specs.Rule.{distance}
 use Rattle.ec_esc.specs.State.{ControllerState}
 use Rattle.ec_esc.specs.declared.counting.TheConstants.{MOST_CONTROLLERS}
 use Rattle.ec_line.specs.Trip.{line_pass, circulated}
@@ -13,7 +14,7 @@ use Rattle.ec_ring.specs.Reach.{front, back, arrival_a, arrival_b, turns}
 use Rattle.ec_ring.specs.Walk.{walked_from_a, walked_from_b}
 use Rattle.ec_ring.specs.declared.links.Links.{Links}
 use Rattle.ec_ring.specs.declared.port.Port.{Port}
-use Rattle.ec_diag.specs.Heard.{IsProbe, counted_up, is_broadcast_read, is_told_by, heard_of, heard_walk}
+use Rattle.ec_diag.specs.Heard.{IsProbe, is_broadcast_read, is_told_by, heard_of, heard_walk}
 use Rattle.ec_diag.specs.Heard.{heard_a, heard_b}
 use Rattle.ec_diag.specs.declared.heard.Heard.{Heard}
 use Rattle.ec_diag.proofs.CableLemmas.{front_inside, back_inside}
@@ -46,8 +47,8 @@ came_heard d e turned n port probe room counted =
     let told : is_told_by d e ≡ true = came_told d e turned n probe counted in
     let moved : e.counter ≡ (d.counter + n) % 65536 = counted.counter in
     let start : d.counter < 65536 = probe.counter in
-    let count : counted_up d.counter e.counter ≡ n = omega arith in
-    ap (λ (b : Bool). cond b (Some (heard_as (counted_up d.counter e.counter) e.circulating port)) None) told
+    let count : distance d.counter e.counter ≡ n = omega arith in
+    ap (λ (b : Bool). cond b (Some (heard_as (distance d.counter e.counter) e.circulating port)) None) told
     ∙ ap (λ (k : ℕ). Some (heard_as k e.circulating port)) count
     ∙ ap (λ (t : Bool). Some (heard_as n t port)) counted.circulating
 

@@ -1,11 +1,12 @@
 -- What one copy of a frame tells that came back: where it arrived, how far its broadcast read was counted up,
 -- and whether it turned round at a closed port 0 (IEC 61158-4-12, the ports of a slave, the circulating bit).
-use Rattle.std.specs.Prelude.{◌≡◌, ℕ, ◌+◌, ◌-◌, ◌%◌, ◌≤◌, ◌<◌, Bool, false, not, ◌==◌, ◌&&◌, ◌⊎◌}
+use Rattle.std.specs.Prelude.{◌≡◌, ℕ, ◌+◌, ◌-◌, ◌≤◌, ◌<◌, Bool, false, not, ◌==◌, ◌&&◌, ◌⊎◌}
 use Rattle.std.specs.Prelude.{if◌then◌else◌, Option, None, Some, List, length, option_map, option_and_then}
 use Rattle.ec_regs.specs.declared.registers.TheConstants.{PROCESS_MEMORY}
 use Rattle.ec_wire.specs.Datagram.{DatagramRecord, ado, nth, code_of}
 use Rattle.ec_wire.specs.declared.command.Command.{Command}
 use Rattle.ec_wire.specs.declared.command.Command.TheVariants.{Brd}
+use Rattle.ec_merge.specs.Rule.{distance}
 use Rattle.ec_ring.specs.Reach.{front, back, arrival_a, arrival_b, turns}
 use Rattle.ec_ring.specs.Walk.{Walked}
 use Rattle.ec_ring.specs.declared.links.Links.{Links}
@@ -32,10 +33,6 @@ CanBeHeard links n h = (heard_a links n ≡ Some h) ⊎ (heard_b links n ≡ Som
 
 -- ---- of datagrams
 
--- how far a working counter was counted up, modulo 65,536
-abbrev pub counted_up : ℕ → ℕ → ℕ
-counted_up sent came = (came + 65536 - sent) % 65536
-
 -- is the command a broadcast read
 abbrev pub is_broadcast_read : Command → Bool
 is_broadcast_read command = code_of command == 7
@@ -51,7 +48,7 @@ is_told_by sent came =
 abbrev pub heard_of : DatagramRecord → DatagramRecord → Port → Option Heard
 heard_of sent came port =
     if is_told_by sent came
-    then Some (record { at = port; count = counted_up sent.counter came.counter; turned = came.circulating })
+    then Some (record { at = port; count = distance sent.counter came.counter; turned = came.circulating })
     else None
 
 -- ---- of a copy's way
