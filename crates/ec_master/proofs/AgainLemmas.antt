@@ -18,7 +18,7 @@ use Rattle.ec_ring.specs.declared.weather.Weather.{Weather}
 use Rattle.ec_ring.proofs.Laws.{line-between}
 use Rattle.ec_master.specs.Again.{AskTheSame}
 use Rattle.ec_master.specs.Travelled.{run_under, ring_under}
-use Rattle.ec_master.specs.Unordered.{ByStation, IsAnswer, AreAnswers, slaves_after, IsAccepted}
+use Rattle.ec_master.specs.Unordered.{ByStation, AreAnswers, slaves_after, IsAccepted}
 use Rattle.ec_master.proofs.CertificateLemmas.{run_later}
 use Rattle.ec_master.proofs.VerdictLemmas.{sum-same}
 
@@ -69,7 +69,7 @@ gains-later q (x ∷ xs) (y ∷ ys) are later =
 
 -- ---- items that ask the same
 
-expected_asked : (r s : ItemRecord) (line : List ControllerState) → IsItem r → IsItem s → AsksTheSame r s
+pub expected_asked : (r s : ItemRecord) (line : List ControllerState) → IsItem r → IsItem s → AsksTheSame r s
     → expected_of line s ≡ expected_of line r
 expected_asked r s line item_r item_s asks =
     ap (λ (n : ℕ). n % 65536)
@@ -94,7 +94,7 @@ asks-answers slaves (r ∷ rs) (g ∷ gs) answers = (
   asks-answers (slaves_after r slaves) rs gs answers.1,
 )
 
-placed-later : (line later : List ControllerState) (items others : List ItemRecord)
+pub placed-later : (line later : List ControllerState) (items others : List ItemRecord)
     → mapping later ≡ mapping line → AskTheSame items others → AllByRecursion (IsPlaced line) items
     → AllByRecursion (IsPlaced later) others
 placed-later line later [] [] alike asks placed = tt

@@ -5,6 +5,7 @@ use Rattle.std.proofs.lemmas.Bool.{eq-eqb, ne_eqb, lt-ltb, le-ltb}
 use native.Mathlib.Nat.{ne_of_lt, le_of_lt}
 use Rattle.ec_wire.specs.Datagram.{DatagramRecord, nth, blank}
 use Rattle.std.specs.List.{AllByRecursion}
+use Rattle.ec_merge.specs.Rule.{distance}
 use Rattle.ec_esc.specs.State.{ControllerState}
 use Rattle.ec_line.specs.After.{Entry}
 use Rattle.ec_line.specs.Answered.{sent_of}
@@ -24,7 +25,7 @@ use Rattle.ec_master.specs.Cut.{concat, cut, entries_from, frames_of, IsFrameOf}
 use Rattle.ec_master.specs.Travelled.{trips_of, answers_under}
 use Rattle.ec_map.specs.Share.{expected_of}
 use Rattle.ec_master.specs.Certificate.{verdict_under}
-use Rattle.ec_master.specs.Verdict.{moved, verdict, verdict_from}
+use Rattle.ec_master.specs.Verdict.{verdict, verdict_from}
 use Rattle.ec_master.proofs.CutLemmas.{length-entries}
 use Rattle.ec_master.proofs.SlaveLemmas.{concat-cut, each-concat, entries-on_way}
 use Rattle.ec_master.proofs.TravelLemmas.{joined_sizes, sizes-count, length-sent_of, entries-not_circulating}
@@ -68,26 +69,26 @@ verdict_at k rs ds es inside one two =
 
 pub verdict-as_expected : (k : ℕ) (r : ItemRecord) (d : DatagramRecord) (e : ℕ) (rs : List ItemRecord)
     (ds : List DatagramRecord) (es : List ℕ)
-    → moved r.counter d.counter ≡ e
+    → distance r.counter d.counter ≡ e
     → verdict_from k (r ∷ rs) (d ∷ ds) (e ∷ es) ≡ verdict_from (suc k) rs ds es
 unfolding verdict_from
-verdict-as_expected k r d e rs ds es same = rw (eq-eqb (moved r.counter d.counter) e same) refl
+verdict-as_expected k r d e rs ds es same = rw (eq-eqb (distance r.counter d.counter) e same) refl
 
 pub verdict-short : (k : ℕ) (r : ItemRecord) (d : DatagramRecord) (e : ℕ) (rs : List ItemRecord)
     (ds : List DatagramRecord) (es : List ℕ)
-    → moved r.counter d.counter < e → verdict_from k (r ∷ rs) (d ∷ ds) (e ∷ es) ≡ Short k
+    → distance r.counter d.counter < e → verdict_from k (r ∷ rs) (d ∷ ds) (e ∷ es) ≡ Short k
 unfolding verdict_from
 verdict-short k r d e rs ds es less =
-    rw (ne_eqb (moved r.counter d.counter) e (ne_of_lt less), lt-ltb (moved r.counter d.counter) e less) refl
+    rw (ne_eqb (distance r.counter d.counter) e (ne_of_lt less), lt-ltb (distance r.counter d.counter) e less) refl
 
 pub verdict-over : (k : ℕ) (r : ItemRecord) (d : DatagramRecord) (e : ℕ) (rs : List ItemRecord)
     (ds : List DatagramRecord) (es : List ℕ)
-    → e < moved r.counter d.counter → verdict_from k (r ∷ rs) (d ∷ ds) (e ∷ es) ≡ Over k
+    → e < distance r.counter d.counter → verdict_from k (r ∷ rs) (d ∷ ds) (e ∷ es) ≡ Over k
 unfolding verdict_from
 verdict-over k r d e rs ds es more =
     rw (
-      ne_eqb (moved r.counter d.counter) e (λ same. ne_of_lt more (sym same)),
-      le-ltb (moved r.counter d.counter) e (le_of_lt more),
+      ne_eqb (distance r.counter d.counter) e (λ same. ne_of_lt more (sym same)),
+      le-ltb (distance r.counter d.counter) e (le_of_lt more),
     ) refl
 
 pub verdict-none : (k : ℕ) (ds : List DatagramRecord) (es : List ℕ) → verdict_from k [] ds es ≡ Good
@@ -100,8 +101,8 @@ pub record StandsAt (items taken : List ItemRecord) (answers : List DatagramReco
   pub here : verdict_from k (drop k items) (drop k answers) (drop k es)
       ≡ verdict_from k (nth_item items k ∷ drop (suc k) items) (nth answers k ∷ drop (suc k) answers)
       (get_or es k 0 ∷ drop (suc k) es)
-  pub counted : moved (nth_item items k).counter (nth_item taken k).counter
-      ≡ moved (nth_item items k).counter (nth answers k).counter
+  pub counted : distance (nth_item items k).counter (nth_item taken k).counter
+      ≡ distance (nth_item items k).counter (nth answers k).counter
 
 pub stands : (items taken : List ItemRecord) (answers : List DatagramRecord) (es : List ℕ) (k : ℕ)
     → k < length items
@@ -110,14 +111,14 @@ pub stands : (items taken : List ItemRecord) (answers : List DatagramRecord) (es
 stands items taken answers es k inside size expected same = record {
   here = verdict_at k items answers es inside size expected;
   counted =
-      ap (λ (rs : List ItemRecord). moved (nth_item items k).counter (nth_item rs k).counter) same
-      ∙ ap (moved (nth_item items k).counter) (counter-with_answers k items answers inside size);
+      ap (λ (rs : List ItemRecord). distance (nth_item items k).counter (nth_item rs k).counter) same
+      ∙ ap (distance (nth_item items k).counter) (counter-with_answers k items answers inside size);
 }
 
 -- ---- as many answers as items
 
 -- datagrams of items, none circulating
-abbrev Sent : List Entry → Type 0
+abbrev pub Sent : List Entry → Type 0
 Sent es =
     AllByRecursion (λ e. OnWay e.request e.sent) es × AllByRecursion (λ e. e.sent.circulating ≡ false) es
 
@@ -146,7 +147,7 @@ trips-count (w ∷ ws) links n (f ∷ fs) line sent =
     ∙ (λ i. trip-count w f n line sent.0 i + trips-count ws links n fs later sent.1 i)
     ∙ sym (length-append f (concat fs))
 
-frames-sent : (items : List ItemRecord) → AllByRecursion IsItem items → AllByRecursion Sent (frames_of items)
+pub frames-sent : (items : List ItemRecord) → AllByRecursion IsItem items → AllByRecursion Sent (frames_of items)
 frames-sent items are =
     let es : List Entry = entries_from 0 items in
     let W : Entry → Type 0 = λ e. OnWay e.request e.sent in

@@ -16,3 +16,13 @@ pub mod SufficeLemmas
 pub mod TwoRunsLemmas
 pub mod DivisionLemmas
 pub mod RangeLemmas
+pub mod ReportLemmas
+pub mod WeatherLemmas
+pub mod BetweenLemmas
+pub mod ByteLemmas
+pub mod ShownLemmas
+pub mod AnyOrderLemmas
+pub mod CoveredLemmas
+pub mod CoveredLineLemmas
+pub mod ShownLineLemmas
+pub mod CoveredGoodLemmas

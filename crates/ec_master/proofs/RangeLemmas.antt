@@ -259,3 +259,28 @@ item_reads r c kind controller =
     ap (λ (q : Request). (after q r.payload c).memory) (request-asked Fprd r is)
     ∙ after_none (asked Fprd r) r.payload c controller (λ p. refl))
     kind
+
+-- ---- what an addressed write takes
+
+pub taken_by_range : (r : ItemRecord) (c : ControllerState) (i : ℕ) → r.kind ≡ Fpwr → serves_write c r ≡ true
+    → i < 8 * length r.payload → takes_writes c.memory (ado_named r + i / 8) ≡ true
+    → taken (request_of r) c (8 * ado_named r + i) ≡ Some i
+unfolding asked
+taken_by_range r c i is served inside takes =
+    ap (λ (q : Request). taken q c (8 * ado_named r + i)) (request-asked Fpwr r is)
+    ∙ taken_fpwr r.address (length r.payload) c i served inside takes
+
+pub untaken_beside : (r : ItemRecord) (c : ControllerState) (p : ℕ) → r.kind ≡ Fpwr
+    → (within (ado_named r) (length r.payload) (p / 8) && takes_writes c.memory (p / 8)) ≡ false
+    → taken (request_of r) c p ≡ None
+unfolding asked
+untaken_beside r c p is other =
+    ap (λ (q : Request). taken q c p) (request-asked Fpwr r is)
+    ∙ untaken_fpwr r.address (length r.payload) c p other
+
+pub untaken_idle : (r : ItemRecord) (c : ControllerState) (p : ℕ) → r.kind ≡ Fpwr → serves_write c r ≡ false
+    → taken (request_of r) c p ≡ None
+unfolding asked
+untaken_idle r c p is idle =
+    ap (λ (q : Request). taken q c p) (request-asked Fpwr r is)
+    ∙ idle_fpwr r.address (length r.payload) c p idle

@@ -11,7 +11,7 @@ use Rattle.ec_wire.specs.Datagram.{DatagramRecord}
 use Rattle.ec_esc.specs.State.{ControllerState}
 use Rattle.ec_esc.specs.declared.counting.TheConstants.{MOST_CONTROLLERS}
 use Rattle.ec_merge.specs.Frames.{IsOwn, joined_record, joined_frame}
-use Rattle.ec_merge.specs.Rule.{joined_count}
+use Rattle.ec_merge.specs.Rule.{distance, joined_count}
 use Rattle.ec_line.specs.After.{Entry}
 use Rattle.ec_line.specs.Answered.{sent_of}
 use Rattle.ec_line.specs.Moved.{AllMoved}
@@ -27,7 +27,7 @@ use Rattle.ec_master.specs.Ports.{came_or, ComesTo, PortTrip, Outcome, with_firs
 use Rattle.ec_master.specs.Ports.{IsPortCycle}
 use Rattle.ec_master.specs.Rounds.{round_counter, IsOfRound, CopyOfRound, IsRecent, AreRecent, AreOfRound}
 use Rattle.ec_master.specs.Suffice.{AllThatCame, in_turn}
-use Rattle.ec_master.specs.Verdict.{moved, verdict, verdict_from}
+use Rattle.ec_master.specs.Verdict.{verdict, verdict_from}
 use Rattle.ec_master.specs.declared.cycle.CycleFault.{CycleFault}
 use Rattle.ec_master.specs.declared.verdict.Verdict.{Verdict}
 use Rattle.ec_master.specs.declared.verdict.Verdict.TheVariants.{Good, Short, Over}
@@ -45,7 +45,7 @@ round_before k j d is = omega (arith, is)
 -- two copies that gained little and are together at most thirty rounds late count too much where one is late
 none_late : (s a b ra rb da db ga gb : ℕ) → s < 65536 → ra < 65536 → rb < 65536
     → (ra + 2048 * da) % 65536 ≡ s → (rb + 2048 * db) % 65536 ≡ s → da ≤ 15 → db ≤ 15 → ga ≤ 1023
-    → gb ≤ 1023 → a ≡ (ra + ga) % 65536 → b ≡ (rb + gb) % 65536 → moved s (joined_count s a b) < 4096
+    → gb ≤ 1023 → a ≡ (ra + ga) % 65536 → b ≡ (rb + gb) % 65536 → distance s (joined_count s a b) < 4096
     → (da ≡ 0) × (db ≡ 0)
 none_late s a b ra rb da db ga gb small_s small_a small_b round_a round_b late_a late_b few_a few_b is_a is_b few =
     let sum : da + db ≡ 0 =
@@ -72,7 +72,7 @@ Sent k s = s.counter ≡ round_counter k
 
 -- what counts as little as a line does
 Few : ℕ → DatagramRecord → Type 0
-Few k g = moved (round_counter k) g.counter < 4096
+Few k g = distance (round_counter k) g.counter < 4096
 
 of_this_round : (k j : ℕ) (d : DatagramRecord) → IsOfRound j d → k ≡ j + 0 → IsOfRound k d
 of_this_round k j d is same = record {
@@ -88,8 +88,8 @@ unfolding Sent Few
 one_datagram k ja jb s x y past_a late_a past_b late_b sent is_x is_y few =
     let back_a : k ≡ ja + (k - ja) = omega (arith, past_a) in
     let back_b : k ≡ jb + (k - jb) = omega (arith, past_b) in
-    let at : moved s.counter (joined_count s.counter x.counter y.counter) < 4096 =
-    subst (λ (r : ℕ). moved r (joined_count s.counter x.counter y.counter) < 4096) (sym sent) few in
+    let at : distance s.counter (joined_count s.counter x.counter y.counter) < 4096 =
+    subst (λ (r : ℕ). distance r (joined_count s.counter x.counter y.counter) < 4096) (sym sent) few in
     let none = none_late s.counter x.counter y.counter (round_counter ja) (round_counter jb) (k - ja) (k - jb)
     is_x.gain is_y.gain (omega (arith, sent)) (omega arith) (omega arith)
     (round_before k ja (k - ja) back_a ∙ sym sent) (round_before k jb (k - jb) back_b ∙ sym sent)
@@ -270,10 +270,10 @@ good_few k n [] (g ∷ gs) expected size counts begun few good = absurd (omega (
 good_few k n (r ∷ rs) [] expected size counts begun few good = tt
 good_few k n (r ∷ rs) (g ∷ gs) [] size counts begun few good = absurd (omega (arith, counts))
 good_few k n (r ∷ rs) (g ∷ gs) (e ∷ es) size counts begun few good =
-    let count : ℕ = moved r.counter g.counter in
+    let count : ℕ = distance r.counter g.counter in
     let step = good_first (eqb count e) (ltb count e) (verdict_from (suc n) rs gs es) n good in
-    let same : moved (round_counter k) g.counter ≡ e =
-    ap (λ (c : ℕ). moved c g.counter) (sym begun.0) ∙ eqb-true count e step.0 in (
+    let same : distance (round_counter k) g.counter ≡ e =
+    ap (λ (c : ℕ). distance c g.counter) (sym begun.0) ∙ eqb-true count e step.0 in (
       subst (λ (m : ℕ). m < 4096) (sym same) few.0,
       good_few k (suc n) rs gs es (omega (arith, size)) (omega (arith, counts)) begun.1 few.1 step.1,
     )

@@ -47,7 +47,7 @@ use Rattle.ec_master.proofs.VerdictLemmas.{verdict-counts}
 -- ---- one frame
 
 -- every datagram of a trip is one of its request
-abbrev OnWays : Trip → Type 0
+abbrev pub OnWays : Trip → Type 0
 OnWays t = AllByRecursion (λ (e : Entry). OnWay e.request e.sent) t.entries
 
 -- copies that are no strangers, and are joined as the trip's are
@@ -89,7 +89,7 @@ own_exchanged t line came is =
       joined = joined_frame_symmetric s (came_or came.b s) (came_or came.a s) ∙ is.joined;
     }
 
-own_given : (t : Trip) (line : List ControllerState) (came : Came) → OnWays t → GivenBy t line (Ok came)
+pub own_given : (t : Trip) (line : List ControllerState) (came : Came) → OnWays t → GivenBy t line (Ok came)
     → JoinsAs t line came
 own_given t line came ways (inl same) = subst (JoinsAs t line) (sym same) (own_gives t line ways)
 own_given t line came ways (inr other) =
@@ -97,7 +97,7 @@ own_given t line came ways (inr other) =
     (own_exchanged t line (as_trip t (passed t line)).came (own_gives t line ways))
 
 -- so they come to the joined frame of the trip
-comes-given : (t : Trip) (line : List ControllerState) (came : Result Came PortFault)
+pub comes-given : (t : Trip) (line : List ControllerState) (came : Result Came PortFault)
     (answer : Result (List DatagramRecord) CycleFault) → OnWays t → GivenBy t line came
     → ComesTo (sent_of t.entries) came answer → answer ≡ Ok (joined_of t (passed t line))
 comes-given t line (Err failed) answer ways given comes = absurd given
@@ -110,14 +110,14 @@ comes-given t line (Ok came) (Ok joined) ways given comes =
 -- ---- the frames of a cycle
 
 -- the first trip gives what came first, and those behind it the rest
-first-given : (t : Trip) (ts : List Trip) (line : List ControllerState) (came : AllThatCame)
+pub first-given : (t : Trip) (ts : List Trip) (line : List ControllerState) (came : AllThatCame)
     (first : Result Came PortFault) (rest : AllThatCame) → came ≡ first ∷ rest → AllGivenBy (t ∷ ts) line came
     → GivenBy t line first × AllGivenBy ts (passed t line).line rest
 unfolding AllGivenBy
 first-given t ts line came first rest is given = subst (AllGivenBy (t ∷ ts) line) is given
 
 -- what one frame comes to, and the others behind it
-abbrev Behind : AllThatCame → List (List DatagramRecord) → Outcome → Result (List DatagramRecord) CycleFault
+abbrev pub Behind : AllThatCame → List (List DatagramRecord) → Outcome → Result (List DatagramRecord) CycleFault
     → Type 0
 Behind between rest outcome (Err fault) = (outcome ≡ Err fault) × ([] ≡ between)
 Behind between rest outcome (Ok joined) =
@@ -154,7 +154,7 @@ given-run (t ∷ ts) line came outcome ways given sends =
 -- ---- the end of a cycle
 
 -- the frames of a work are those of its trips
-frames-trips : (ws : List Weather) (r : RingState) (items : List ItemRecord)
+pub frames-trips : (ws : List Weather) (r : RingState) (items : List ItemRecord)
     → map (λ (t : Trip). sent_of t.entries) (trips_under ws r items) ≡ map sent_of (frames_of items)
 frames-trips ws r items =
     sym (map-map sent_of (λ (t : Trip). t.entries) (trips_under ws r items))

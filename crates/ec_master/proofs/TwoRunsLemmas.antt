@@ -1,21 +1,24 @@
 -- Cycles of the same slaves have one outcome, whatever their order, the break and what befell the frames.
-use Rattle.std.proofs.Common.{◌≡◌, ◌≤◌, ◌*◌, ◌<◌, ℕ, Bool, true, false, eqb, cond, sym, subst, ◌∙◌, ap, refl}
-use Rattle.std.proofs.Common.{List, [], ◌∷◌, length, ⊎_elim, arith}
+use Rattle.std.proofs.Common.{◌≡◌, ◌≤◌, ℕ, true, false, eqb, sym, subst, ◌∙◌, refl}
+use Rattle.std.proofs.Common.{List, [], ◌∷◌, length, ⊎_elim}
 use Rattle.std.specs.List.{AllByRecursion}
+use Rattle.std.specs.List.Sorted.{IsPermutation}
 use Rattle.std.proofs.lemmas.Bool.{eqb-true, eq-eqb, true≢false, cases_Bool}
 use Rattle.ec_regs.specs.Bits.{bit}
 use Rattle.ec_regs.proofs.Laws.{same_from_list_bits}
-use Rattle.ec_map.specs.Item.{ItemRecord, IsItem, is_broadcast}
+use Rattle.ec_map.specs.Item.{ItemRecord, IsItem}
 use Rattle.ec_ring.specs.Links.{IsOnlyDown}
 use Rattle.ec_ring.specs.Ring.{RingState}
 use Rattle.ec_ring.specs.declared.links.TheConstants.{MAX_SLAVES}
 use Rattle.ec_ring.specs.declared.weather.Weather.{Weather}
 use Rattle.ec_master.specs.Certificate.{verdict_under, memory_at}
 use Rattle.ec_master.specs.Travelled.{answers_under, ring_under}
-use Rattle.ec_master.specs.Unordered.{ByStation, by_station, slaves_after, slaves_after_all, IsClaimed, IsAnswer}
+use Rattle.ec_master.specs.Unordered.{ByStation, by_station, slaves_after, IsClaimed, IsAnswer}
 use Rattle.ec_master.specs.Unordered.{AreAnswers, IsCycle, HasBytes, IsAccepted}
 use Rattle.ec_master.specs.Work.{with_answers}
 use Rattle.ec_master.specs.declared.verdict.Verdict.TheVariants.{Good}
+use Rattle.ec_master.proofs.AnyOrderLemmas.{accepted_in_any_order, stations_in_any_order}
+use Rattle.ec_master.proofs.ByteLemmas.{answers_are_bytes}
 use Rattle.ec_master.proofs.CertificateLemmas.{good_answers, good_memories}
 use Rattle.ec_master.proofs.OrderLemmas.{whole_cycle}
 
@@ -75,29 +78,37 @@ one_cycle before later after sent got other bytes more one two = (
 pub two_orders : (r s : RingState) (items : List ItemRecord) (k m : ℕ)
     → IsOnlyDown r.links (length r.slaves) k → IsOnlyDown s.links (length s.slaves) m
     → IsAccepted r.slaves items → IsAccepted s.slaves items → AllByRecursion IsItem items
-    → AllByRecursion HasBytes (with_answers items (answers_under [] r items))
-    → AllByRecursion HasBytes (with_answers items (answers_under [] s items))
-    → ((n : ℕ) → by_station s.slaves n ≡ by_station r.slaves n)
+    → AllByRecursion HasBytes items → ((n : ℕ) → by_station s.slaves n ≡ by_station r.slaves n)
     → (with_answers items (answers_under [] s items) ≡ with_answers items (answers_under [] r items))
     × ((n : ℕ) → by_station (ring_under [] s items).slaves n ≡ by_station (ring_under [] r items).slaves n)
-two_orders r s items k m down_r down_s accepted_r accepted_s are bytes_r bytes_s same =
+two_orders r s items k m down_r down_s accepted_r accepted_s are bytes same =
     let stations : by_station s.slaves ≡ by_station r.slaves = (λ i n. same n i) in
     one_cycle (by_station r.slaves) (by_station (ring_under [] r items).slaves)
-    (by_station (ring_under [] s items).slaves) items _ _ bytes_r bytes_s
+    (by_station (ring_under [] s items).slaves) items _ _ (answers_are_bytes [] r items bytes)
+    (answers_are_bytes [] s items bytes)
     (whole_cycle r items k down_r accepted_r are)
     (subst (λ (b : ByStation). IsCycle b items (with_answers items (answers_under [] s items))
     (by_station (ring_under [] s items).slaves)) stations (whole_cycle s items m down_s accepted_s are))
 
+pub two_orders_of_one : (r s : RingState) (items : List ItemRecord) (k m : ℕ)
+    → IsOnlyDown r.links (length r.slaves) k → IsOnlyDown s.links (length s.slaves) m
+    → IsPermutation r.slaves s.slaves → IsAccepted r.slaves items → AllByRecursion IsItem items
+    → AllByRecursion HasBytes items
+    → (with_answers items (answers_under [] s items) ≡ with_answers items (answers_under [] r items))
+    × ((n : ℕ) → by_station (ring_under [] s items).slaves n ≡ by_station (ring_under [] r items).slaves n)
+two_orders_of_one r s items k m down_r down_s order accepted are bytes =
+    two_orders r s items k m down_r down_s accepted (accepted_in_any_order r.slaves s.slaves items order accepted)
+    are bytes (λ n. stations_in_any_order r.slaves s.slaves items n order accepted)
+
 pub two_good : (ws us : List Weather) (r : RingState) (items : List ItemRecord)
     → length r.slaves ≤ MAX_SLAVES → IsAccepted r.slaves items → AllByRecursion IsItem items
-    → AllByRecursion HasBytes (with_answers items (answers_under ws r items))
-    → AllByRecursion HasBytes (with_answers items (answers_under us r items))
-    → verdict_under ws r items ≡ Good → verdict_under us r items ≡ Good
+    → AllByRecursion HasBytes items → verdict_under ws r items ≡ Good → verdict_under us r items ≡ Good
     → (with_answers items (answers_under us r items) ≡ with_answers items (answers_under ws r items))
     × ((n : ℕ) → memory_at (by_station (ring_under us r items).slaves) n
     ≡ memory_at (by_station (ring_under ws r items).slaves) n)
-two_good ws us r items room accepted are bytes more good_ws good_us = (
-  one_outcome (by_station r.slaves) items _ _ bytes more (good_answers ws r items room accepted are good_ws)
+two_good ws us r items room accepted are bytes good_ws good_us = (
+  one_outcome (by_station r.slaves) items _ _ (answers_are_bytes ws r items bytes)
+      (answers_are_bytes us r items bytes) (good_answers ws r items room accepted are good_ws)
       (good_answers us r items room accepted are good_us),
   λ n. good_memories us r items n room accepted are good_us
       ∙ sym (good_memories ws r items n room accepted are good_ws),

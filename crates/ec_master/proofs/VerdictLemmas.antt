@@ -9,6 +9,7 @@ use Rattle.std.proofs.lemmas.Bool.{eqb-true, eq-eqb}
 use Rattle.std.proofs.lemmas.List.{length-append, length-take, length-drop, take-append-drop, drop_all}
 use Rattle.std.proofs.lemmas.List.Sums.{sum_by-cons}
 use Rattle.ec_wire.specs.Datagram.{DatagramRecord}
+use Rattle.ec_merge.specs.Rule.{distance}
 use Rattle.ec_esc.specs.State.{ControllerState}
 use Rattle.ec_line.specs.After.{Entry}
 use Rattle.ec_line.specs.Answered.{Answered, AnsweredFrame}
@@ -34,7 +35,7 @@ use Rattle.ec_master.specs.Travelled.{trips_of, trips_under, run_under, answers_
 use Rattle.ec_master.specs.Travelled.{weathers_of, weathers_under}
 use Rattle.ec_ring.specs.Weather.{calm}
 use Rattle.ec_master.specs.Unordered.{IsAccepted}
-use Rattle.ec_master.specs.Verdict.{moved, verdict_from}
+use Rattle.ec_master.specs.Verdict.{verdict_from}
 use Rattle.ec_master.specs.declared.verdict.Verdict.{Verdict}
 use Rattle.ec_master.specs.declared.verdict.Verdict.TheVariants.{Good, Short, Over}
 use Rattle.ec_master.proofs.SlaveLemmas.{concat-cut, entries-trips_of, trips_ready}
@@ -92,9 +93,9 @@ length-returned t xs =
     omega (arith, both, a, b, length-take t.front xs, length-drop t.back xs)
 
 -- a counter has moved by the count
-count-moved : (r : ItemRecord) (j : ℕ) (t : Trip) (line : List ControllerState) (g : DatagramRecord)
+pub count-moved : (r : ItemRecord) (j : ℕ) (t : Trip) (line : List ControllerState) (g : DatagramRecord)
     → length line ≤ 256 → IsItem r → Answered (request_of r) (returned t line) (datagram_of r j) g
-    → moved r.counter g.counter ≡ count_of r t line
+    → distance r.counter g.counter ≡ count_of r t line
 count-moved r j t line g room item answered =
     let counted : g.counter ≡ (r.counter + count_of r t line) % 65536 = answered.counter in
     let bound : count_of r t line ≤ 3 * length (returned t line) =
@@ -120,7 +121,7 @@ verdict-counts-from j k [] us gs line room items answered = refl
 verdict-counts-from j k (r ∷ rs) [] gs line room items answered = absurd answered
 verdict-counts-from j k (r ∷ rs) (u ∷ us) [] line room items answered = absurd answered
 verdict-counts-from j k (r ∷ rs) (u ∷ us) (g ∷ gs) line room items answered =
-    let m : ℕ = moved r.counter g.counter in
+    let m : ℕ = distance r.counter g.counter in
     let e : ℕ = expected_of line r in
     let count : ℕ = count_of r u line in
     let whole : ℕ = whole_count r line in

@@ -11,3 +11,6 @@ pub mod RingTrips
 pub mod Again
 pub mod Rounds
 pub mod Acceptance
+pub mod Report
+pub mod WeatherTrips
+pub mod Covered

@@ -25,7 +25,9 @@ ghost use Rattle.ec_master.specs.Certificate.{verdict_under, verdict_by_counts, 
 ghost use Rattle.ec_master.specs.Certificate.{memory_at, application_at, shown_at};
 ghost use Rattle.ec_master.specs.Cut.{frames_of};
 ghost use Rattle.ec_master.specs.Ports.{IsPortCycle};
-ghost use Rattle.ec_master.specs.Suffice.{AllThatCame, in_turn, SaysOfEach};
+ghost use Rattle.ec_master.specs.Suffice.{AllThatCame, AllGivenBy, Brings, in_turn, SaysOfEach};
+ghost use Rattle.ec_master.specs.WeatherTrips.{InWeather, WeatherTrips};
+ghost use Rattle.ec_line.specs.Answered.{sent_of};
 ghost use Rattle.ec_master.specs.Travelled.{trips_under, answers_under, ring_under, weathers_under};
 ghost use Rattle.ec_master.specs.Unordered.{by_station, slaves_after_all, AreAnswers, IsAccepted};
 ghost use Rattle.ec_master.specs.Work.{with_answers};
@@ -131,4 +133,17 @@ pub fn frames_suffice()
         (result : Result Verdict CycleFault) (items_later : List ItemRecord) → AllByRecursion IsItem items
         → IsPortCycle in_turn came items expected result items_later []
         → SaysOfEach items expected came result items_later }
+{}
+
+/// What comes back over `WeatherPorts` is what the trips of its ring give, so what is said of ports by what
+/// came (`run_cycle`, `frames_suffice`; `Reporting::cycle`, `told`) is said of that ring in its weathers.
+/// Where all frames have gone out, the ring is the one behind them.
+pub fn weathers_give()
+    ensures gives { (items : List ItemRecord) (before later : InWeather) (came : AllThatCame)
+        → AllByRecursion IsItem items → Brings WeatherTrips before (map sent_of (frames_of items)) came later
+        → AllGivenBy (trips_under before.ahead before.ring items) (line_of before.ring) came }
+    ensures ring { (items : List ItemRecord) (before later : InWeather) (came : AllThatCame)
+        → AllByRecursion IsItem items → Brings WeatherTrips before (map sent_of (frames_of items)) came later
+        → length came ≡ length (frames_of items)
+        → later.ring ≡ ring_under before.ahead before.ring items }
 {}

@@ -37,34 +37,45 @@
 //!   (`cycle`); and where what came back is what an accepted ring would give, the items get on `Good` the
 //!   answers of that cycle, and else stay as they are (`frames_suffice`).
 //!
+//! A line is checked once, for ever: an accepted work stays accepted, and the same is expected of it, behind
+//! each cycle (`again`, `still_expected`) and between cycles, while slaves take their steps and put inputs,
+//! links change and items begin rounds ([`between`], [`step_slaves`](between::step_slaves)).
+//!
 //! Inside, `work` is what a master asks, and what answers give it; `cut` the frames that a work goes out in;
 //! `ring`, `weather` and `cycle` the three cycles; `ports` what the third goes out over; `verdict` what the
-//! counters say; `laws` and `certificate` what the clauses rest on, over any ring and weathers.
+//! counters say; `promises`, `certificate` and `between` laws over any ring and weathers.
 //!
 //! What the contracts speak of stands in specs/: the cycle in no order (`Unordered`), what comes back of
 //! frames (`Travelled`), what counters say (`Verdict`, `Certificate`), what frames alone say (`Suffice`), and
 //! trips end to end (`Ports`).
 
 mod acceptance;
+pub mod between;
 pub mod certificate;
+pub mod covered;
 mod cut;
 mod cycle;
 mod ports;
 pub mod promises;
+mod report;
 mod ring;
 mod ring_ports;
+pub mod shown;
 mod verdict;
 mod weather;
+mod weather_ports;
 mod work;
 
 pub use acceptance::{Refusal, accept, all_expected, checked_cycle};
 pub use cycle::{CycleFault, run_cycle};
 pub use ec_ring::PortFault;
 pub use ports::Ports;
+pub use report::{CopiesBack, Report, Reporting};
 pub use ring::ring_cycle;
 pub use ring_ports::RingPorts;
 pub use verdict::Verdict;
 pub use weather::weather_cycle;
+pub use weather_ports::WeatherPorts;
 pub use work::{Full, MAX_ITEMS, Work};
 
 #[cfg(test)]

@@ -3,10 +3,12 @@
 ghost use Rattle.std.specs.Prelude.{◌≡◌, ◌⊎◌, ◌&&◌, ◌+◌, ◌*◌, ◌/◌, ◌<◌, ◌≤◌, ℕ, true, false, None, Some};
 ghost use Rattle.std.specs.Prelude.{List, [], ◌∷◌, length, map};
 ghost use Rattle.std.specs.List.{AllByRecursion};
+ghost use Rattle.std.specs.List.Sorted.{IsPermutation};
 ghost use Rattle.ec_regs.specs.Bits.{bit};
 ghost use Rattle.ec_regs.specs.AddressRange.{within};
 ghost use Rattle.ec_areas.specs.Ranges.{takes_writes};
 ghost use Rattle.ec_esc.specs.State.{ControllerState, IsController};
+ghost use Rattle.ec_app.specs.State.{SlaveState};
 ghost use Rattle.ec_line.specs.After.{Entry, after};
 ghost use Rattle.ec_line.specs.Claims.{claim};
 ghost use Rattle.ec_wire.specs.declared.kind.Kind.TheVariants.{Brd, Fprd, Fpwr};
@@ -45,23 +47,46 @@ pub fn order_free()
         → map station (ring_under ws r items).slaves ≡ map station r.slaves }
 {}
 
-/// The unordered cycle has one outcome: data, counters and slaves, where the data are bytes.
+/// Items whose data are bytes, as those of every work are (`Work::data_are_bytes`), take answers whose data
+/// are, over any ring and in any weather.
+pub fn answers_are_bytes()
+    ensures { (ws : List Weather) (r : RingState) (items : List ItemRecord) → AllByRecursion HasBytes items
+        → AllByRecursion HasBytes (with_answers items (answers_under ws r items)) }
+{}
+
+/// The unordered cycle has one outcome: data, counters and slaves, where the data are bytes, as those of
+/// every work are (`Work::data_are_bytes`).
 pub fn one_cycle()
     ensures { (before later after : ByStation) (sent got other : List ItemRecord)
         → AllByRecursion HasBytes got → AllByRecursion HasBytes other → IsCycle before sent got later
         → IsCycle before sent other after → (other ≡ got) × ((n : ℕ) → after n ≡ later n) }
 {}
 
-/// Order and break do not show: two rings with the same slaves by their stations, in whatever order they
-/// stand, each with no link down but perhaps one, give a work the same data and counters and leave the same
-/// slaves.
+/// Acceptance does not hang on the order of the slaves, and neither do slaves by their stations.
+pub fn accepted_in_any_order()
+    ensures accepted { (slaves later : List SlaveState) (items : List ItemRecord)
+        → IsPermutation slaves later → IsAccepted slaves items → IsAccepted later items }
+    ensures stations { (slaves later : List SlaveState) (items : List ItemRecord) (n : ℕ)
+        → IsPermutation slaves later → IsAccepted slaves items
+        → by_station later n ≡ by_station slaves n }
+{}
+
+/// Order and break do not show: two rings with the same slaves, in whatever order they stand, each with no
+/// link down but perhaps one, give a work the same data and counters and leave the same slaves. The slaves
+/// are those of one accepted ring in another order (`any_order`), or those of two accepted rings by their
+/// stations (`by_stations`).
 pub fn two_orders()
-    ensures { (r s : RingState) (items : List ItemRecord) (k m : ℕ)
+    ensures any_order { (r s : RingState) (items : List ItemRecord) (k m : ℕ)
+        → IsOnlyDown r.links (length r.slaves) k → IsOnlyDown s.links (length s.slaves) m
+        → IsPermutation r.slaves s.slaves → IsAccepted r.slaves items → AllByRecursion IsItem items
+        → AllByRecursion HasBytes items
+        → (with_answers items (answers_under [] s items) ≡ with_answers items (answers_under [] r items))
+        × ((n : ℕ) → by_station (ring_under [] s items).slaves n
+        ≡ by_station (ring_under [] r items).slaves n) }
+    ensures by_stations { (r s : RingState) (items : List ItemRecord) (k m : ℕ)
         → IsOnlyDown r.links (length r.slaves) k → IsOnlyDown s.links (length s.slaves) m
         → IsAccepted r.slaves items → IsAccepted s.slaves items → AllByRecursion IsItem items
-        → AllByRecursion HasBytes (with_answers items (answers_under [] r items))
-        → AllByRecursion HasBytes (with_answers items (answers_under [] s items))
-        → ((n : ℕ) → by_station s.slaves n ≡ by_station r.slaves n)
+        → AllByRecursion HasBytes items → ((n : ℕ) → by_station s.slaves n ≡ by_station r.slaves n)
         → (with_answers items (answers_under [] s items) ≡ with_answers items (answers_under [] r items))
         × ((n : ℕ) → by_station (ring_under [] s items).slaves n
         ≡ by_station (ring_under [] r items).slaves n) }
@@ -72,9 +97,7 @@ pub fn two_orders()
 pub fn two_good()
     ensures { (ws us : List Weather) (r : RingState) (items : List ItemRecord)
         → length r.slaves ≤ MAX_SLAVES → IsAccepted r.slaves items → AllByRecursion IsItem items
-        → AllByRecursion HasBytes (with_answers items (answers_under ws r items))
-        → AllByRecursion HasBytes (with_answers items (answers_under us r items))
-        → verdict_under ws r items ≡ Good → verdict_under us r items ≡ Good
+        → AllByRecursion HasBytes items → verdict_under ws r items ≡ Good → verdict_under us r items ≡ Good
         → (with_answers items (answers_under us r items) ≡ with_answers items (answers_under ws r items))
         × ((n : ℕ) → memory_at (by_station (ring_under us r items).slaves) n
         ≡ memory_at (by_station (ring_under ws r items).slaves) n) }

@@ -5,6 +5,7 @@ mod cut;
 mod cycle;
 mod door;
 mod many;
+mod reported;
 
 use std::fmt::Debug;
 use std::process::Abort;

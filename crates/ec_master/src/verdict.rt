@@ -3,7 +3,8 @@
 ghost use Rattle.std.specs.Prelude.{◌≡◌, ◌<◌, List, length};
 ghost use Rattle.ec_wire.specs.Datagram.{DatagramRecord};
 ghost use Rattle.ec_master.specs.Ports.{taken_on};
-ghost use Rattle.ec_master.specs.Verdict.{verdict, moved};
+ghost use Rattle.ec_merge.specs.Rule.{distance};
+ghost use Rattle.ec_master.specs.Verdict.{verdict};
 ghost use Rattle.ec_master.specs.Work.{nth_item, with_answers};
 
 use crate::work::Work;
@@ -59,7 +60,7 @@ pub(crate) fn conclude(work: &mut Work, taken: Work, expected: &[u16]) -> Verdic
 fn counted(work: &Work, taken: &Work, k: usize) -> u16
     requires work { k < length work.now }
     requires taken { k < length taken.now }
-    ensures { result ≡ moved (nth_item work.now k).counter (nth_item taken.now k).counter }
+    ensures { result ≡ distance (nth_item work.now k).counter (nth_item taken.now k).counter }
 {
     taken.item(k).counter().wrapping_sub(work.item(k).counter())
 }

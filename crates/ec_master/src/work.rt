@@ -6,8 +6,10 @@ ghost use Rattle.std.specs.Borrow.{sem};
 ghost use Rattle.std.specs.List.{AllByRecursion};
 ghost use Rattle.ec_master.specs.Lending.{LendsItem};
 ghost use Rattle.ec_master.specs.Rounds.{begun, round_counter};
+ghost use Rattle.ec_master.specs.Unordered.{HasBytes};
 ghost use Rattle.ec_master.specs.Work.{nth_item, rewound, with_answer, with_answers_at};
 ghost use Rattle.ec_map.specs.Item.{IsItem, datagram_of, with_adp};
+ghost use Rattle.ec_regs.specs.Bits.{AreBytes};
 ghost use Rattle.ec_wire.specs.Datagram.{nth, record_of};
 
 use ec_map::Item;
@@ -136,6 +138,16 @@ impl Work {
         }
     }
 
+    /// Does nothing; its clause is what a proof knows of the data of every work: those of each item are
+    /// bytes.
+    pub fn data_are_bytes(&self)
+        ensures { AllByRecursion HasBytes self.now }
+    {
+        for k in 0..self.len() {
+            are_bytes(self.item(k).data());
+        }
+    }
+
     /// Gives the items from `first` on the answers of a frame, each its own.
     pub(crate) fn take_answers(&mut self, first: usize, joined: &FrameBuf)
         requires room { first + length joined.now ≤ length self.old }
@@ -159,8 +171,8 @@ impl Work {
 
     /// Begins a round: sets the counters to those with which the frames of cycle number `round` go out, and
     /// the ADP of broadcast reads to 0; all else stays. Of rounds that are less than 32 apart no two have the
-    /// same counters, so a copy that comes some rounds late shows in the verdict (`run_cycle`,
-    /// `frames_suffice`).
+    /// same counters. When a copy that comes some rounds late shows in the verdict is said at `run_cycle`
+    /// (`frames_suffice`).
     pub fn begin_round(&mut self, round: u64)
         ensures { self.new ≡ map (begun round) self.old }
     {
@@ -170,6 +182,11 @@ impl Work {
         }
     }
 }
+
+/// What is known of every slice of bytes: each of its elements is below 256.
+fn are_bytes(bytes: &[u8])
+    ensures { AreBytes bytes.now }
+{}
 
 /// Gives an item the answer of the datagram at `j`: its data, its working counter, and its ADP where the item
 /// is a broadcast read.

@@ -39,7 +39,7 @@ pub(super) fn byte(logical: u32, physical: u16, kind: u8) -> Fmmu {
 }
 
 /// A slave that takes a logical byte of its own as it arrives, and puts 0x12 in its place.
-fn slave(rt: &impl Abort, alloc: Global, place: u16) -> Slave
+pub(super) fn slave(rt: &impl Abort, alloc: Global, place: u16) -> Slave
     requires { place < 256 }
 {
     let logical = 0x0001_0000 + u32::from(place);
