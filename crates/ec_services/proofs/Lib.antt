@@ -1,2 +1,3 @@
 pub mod TalkLemmas
 pub mod AreaLemmas
+pub mod CourseLemmas

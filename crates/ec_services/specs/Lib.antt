@@ -1,5 +1,9 @@
 pub mod Ask
+pub mod Course
 pub mod Stations
 pub mod States
+pub mod Acknowledgement
 pub mod Mailbox
+pub mod Settling
 pub mod Transfer
+pub mod Surely

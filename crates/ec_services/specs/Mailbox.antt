@@ -54,6 +54,10 @@ mail_write peer sdo =
 abbrev pub next_counter : ℕ → ℕ
 next_counter counter = if counter == 7 then 1 else counter + 1
 
+-- the peer with the counter of the request after the next
+abbrev pub skipped : Peer → Peer
+skipped peer = record peer { counter = next_counter peer.counter }
+
 -- the peer's counter moves exactly where the write of the request came back with the working counter 1
 abbrev pub with_counted : Peer → Answer → Peer
 with_counted peer (Err fault) = peer

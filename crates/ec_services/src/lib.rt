@@ -23,25 +23,39 @@
 //! - [`assign_stations`] writes to each place that a broadcast read counted its station address, and names
 //!   the first write that not exactly one slave answered.
 //! - [`request_state`] asks a slave for a state, and waits until it is there or refuses, with its code.
+//! - [`acknowledge`] acknowledges an error of a slave, and waits until it is gone.
 //! - [`sdo_upload`] and [`sdo_download`] read and write an object of a [`Peer`] by one mail and its answer.
+//! - [`upload_surely`] and [`download_surely`] do so whatever is lost on the way or was left behind before:
+//!   they post where one answer shows both mailboxes empty, until a mail answers the last post.
+//! - [`settle`] waits until one answer shows both mailboxes empty; [`Peer::skip`] moves the counter on.
+//! - [`locate`] says where the cable is broken, by one broadcast read over ports that tell where copies
+//!   arrive ([`ec_ring::HeardPorts`]), and [`CutOff`] who is cut off: the calls of `ec_diag`.
 //! - [`RingPorts`] is a ring of simulated slaves as two ports, where every slave takes its step after each
 //!   trip.
 //!
 //! Each service is a talk of questions: a datagram goes out alone in a frame, and a table says what its
-//! answer decides (specs/: `Ask`, and one file for each service). So contracts name each frame that goes out,
-//! and each fault by the answer that it comes of.
+//! answer decides (specs/: `Ask`, and one file for each service). Where what goes out next hangs on what was
+//! learned, it is a course of trips (`Course`). So contracts name each frame that goes out, and each fault by
+//! the answer that it comes of.
 
+mod acknowledgement;
 mod ask;
 mod fault;
 mod mailbox;
+mod settling;
 mod states;
 mod stations;
+mod surely;
 mod transfer;
 
+pub use acknowledgement::acknowledge;
+pub use ec_diag::{CutOff, Located, locate};
 pub use fault::MasterFault;
 pub use mailbox::{Area, Peer};
+pub use settling::settle;
 pub use states::request_state;
 pub use stations::assign_stations;
+pub use surely::{download_surely, upload_surely};
 pub use transfer::{sdo_download, sdo_upload};
 
 #[cfg(test)]

@@ -50,8 +50,23 @@ fn next_counter(counter: u8) -> u8
     if counter == 7 { 1 } else { counter + 1 }
 }
 
+impl Peer {
+    ghost use Rattle.ec_services.specs.Mailbox.{skipped};
+
+    /// Moves the counter on by one in its cycle from 1 to 7, as a write does that was counted. For a request
+    /// whose write came to no certain end: the slave takes a request with the counter of its last for that
+    /// one again.
+    pub fn skip(&mut self)
+        requires { self.old.counter ≤ 7 }
+        ensures skipped { self.new ≡ skipped self.old }
+        ensures still_peer { IsPeer self.old → IsPeer self.new }
+    {
+        self.counter = next_counter(self.counter);
+    }
+}
+
 /// The mail of a request as it is written: zeros after it fill the mailbox.
-fn mail_write(peer: &Peer, sdo: &Sdo) -> Datagram
+pub(crate) fn mail_write(peer: &Peer, sdo: &Sdo) -> Datagram
     requires { IsPeer peer.now }
     ensures { record_of result ≡ mail_write peer.now sdo.now }
 {
@@ -94,7 +109,7 @@ pub(crate) fn post<P: Ports>(ports: &mut P, peer: &mut Peer, sdo: &Sdo) -> Resul
 }
 
 /// The read of the mailbox of answers, whole.
-fn mail_read(peer: &Peer) -> Datagram
+pub(crate) fn mail_read(peer: &Peer) -> Datagram
     requires { IsPeer peer.now }
     ensures { record_of result ≡ mail_read peer.now }
 {

@@ -15,13 +15,17 @@ use ec_regs::{AlState, AlStatus};
 use ec_wire::{Command, address_of};
 
 /// The bytes of AL status, two reserved bytes and the AL status code.
-const STATUS_BYTES: usize = 6;
+pub(crate) const STATUS_BYTES: usize = 6;
 
 /// Where the AL status code stands in them.
 const CODE_AT: usize = 4;
 
 /// Writes the state and the acknowledgement into AL control.
-fn write_control<P: Ports>(ports: &mut P, station: u16, state: AlState) -> Result<(), MasterFault>
+pub(crate) fn write_control<P: Ports>(
+    ports: &mut P,
+    station: u16,
+    state: AlState,
+) -> Result<(), MasterFault>
     ensures asked { IsAsked P.trips ports.old (write {A = Unit {0}} (control_write station state))
         (done result) ports.new }
     ensures counted { result ≡ Err Port → P.failed ports.old < P.failed ports.new }

@@ -1,5 +1,6 @@
 //! The services over rings of simulated slaves and over ports in memory, with the bytes written out by hand.
 
+mod acknowledged;
 mod answers;
 mod asked;
 mod counted;
@@ -9,9 +10,12 @@ mod line;
 mod objects;
 mod peer;
 mod sent;
+mod settling;
 mod states;
 mod stations;
 mod status;
+mod storm;
+mod surely;
 
 use std::fmt::Debug;
 use std::process::Abort;

@@ -21,7 +21,7 @@ fn answers(mail: &Mail, counter: u8, asked: &Sdo) -> bool
 }
 
 /// The mail that answers a request, in bytes that were read.
-fn answer_in(bytes: &[u8], counter: u8, asked: &Sdo) -> Result<Mail, MasterFault>
+pub(crate) fn answer_in(bytes: &[u8], counter: u8, asked: &Sdo) -> Result<Mail, MasterFault>
     ensures { result ≡ answer_in counter asked.now bytes.now }
 {
     fields_of_mail();
@@ -32,7 +32,7 @@ fn answer_in(bytes: &[u8], counter: u8, asked: &Sdo) -> Result<Mail, MasterFault
 }
 
 /// What an answer to an upload comes to.
-fn uploaded_by(mail: &Mail) -> Result<Value, MasterFault>
+pub(crate) fn uploaded_by(mail: &Mail) -> Result<Value, MasterFault>
     ensures { result ≡ uploaded_by mail.now }
 {
     match mail.sdo {
@@ -43,7 +43,7 @@ fn uploaded_by(mail: &Mail) -> Result<Value, MasterFault>
 }
 
 /// What an answer to a download comes to.
-fn downloaded_by(mail: &Mail) -> Result<(), MasterFault>
+pub(crate) fn downloaded_by(mail: &Mail) -> Result<(), MasterFault>
     ensures { result ≡ downloaded_by mail.now }
 {
     match mail.sdo {
@@ -79,9 +79,11 @@ fn exchange<P: Ports>(
 /// as where the mailbox is full; `Abort`: the slave ended the transfer; `NoAnswer`: `limit` reads found no
 /// mail; `BadAnswer`: more than one slave answered, or the mail is no answer to this request.
 ///
-/// An answer that comes after `limit` reads stays in the slave's mailbox, where the next transfer finds it. A
-/// request that a slave took although its copies were lost leaves the counter, so that the slave takes the
-/// next one for the same again.
+/// Nothing but its counter, its index and its subindex tells an answer from that to an earlier request, so
+/// that `Ok` may bring what was answered before. An answer that comes after `limit` reads stays in the
+/// slave's mailbox, where the next transfer finds it. A request that a slave took although its copies were
+/// lost leaves the counter, so that the slave takes the next one for the same again. `upload_surely` recovers
+/// from both.
 pub fn sdo_upload<P: Ports>(
     ports: &mut P,
     peer: &mut Peer,
@@ -101,6 +103,10 @@ pub fn sdo_upload<P: Ports>(
 
 /// Writes an object of a slave (IEC 61158-6-12, SDO download, expedited), in the way of `sdo_upload` and with
 /// its faults.
+///
+/// `Ok` does not promise that the object holds the value: where a slave took the request before although its
+/// copies were lost, it takes this one for that again and stores nothing, and the answer may be the one to
+/// the request before. `download_surely` is for that.
 pub fn sdo_download<P: Ports>(
     ports: &mut P,
     peer: &mut Peer,

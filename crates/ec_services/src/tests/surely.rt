@@ -1,0 +1,254 @@
+//! Objects of a slave whatever is lost on the way.
+
+use crate::tests::assert_same;
+use crate::tests::line::slave;
+use crate::tests::peer::{download, peer, upload};
+use crate::tests::storm::{KINDS, NONE, Storm};
+use crate::{MasterFault, Peer, download_surely, request_state, upload_surely};
+use ec_app::{Objects, Rights, Value};
+use ec_regs::AlState;
+use std::alloc::Global;
+use std::process::Abort;
+
+/// The identity's vendor, which may be read alone.
+const VENDOR: (u16, u8) = (0x1018, 1);
+
+/// A value that may be read and written.
+const SETTING: (u16, u8) = (0x2000, 0);
+
+/// No trouble at all.
+const CALM: [usize; 3] = [NONE, NONE, NONE];
+
+/// What is written first, and what is written then.
+const FIRST: Value = Value::Two(0x1111);
+
+const SECOND: Value = Value::Two(0x2222);
+
+/// Trips that are enough for a transfer with up to three troubles.
+const ENOUGH: u32 = 24;
+
+/// The troubles of the first six trips, which the tests go through; without one a transfer makes four.
+const TROUBLES: usize = 6 * KINDS;
+
+/// The ports of a ring of one slave in this state with these two objects.
+fn storm(rt: &impl Abort, alloc: Global, state: AlState) -> Storm {
+    let mut objects = Objects::new();
+    let vendor = objects.add(0x1018, 1, Rights::ReadOnly, Value::Four(2));
+    assert_eq!(rt; vendor, Ok(()));
+    let setting = objects.add(0x2000, 0, Rights::Both, Value::Two(0));
+    assert_eq!(rt; setting, Ok(()));
+    Storm::new(rt, alloc, slave(rt, alloc, state, objects), CALM)
+}
+
+/// What the slave holds as the setting.
+fn setting(ports: &Storm) -> Option<Value> {
+    let slave = ports.ring().slaves().first()?;
+    Some(slave.objects().get(0x2000, 0)?.1)
+}
+
+/// What the sure upload of an object comes to.
+fn sure_upload(
+    rt: &impl Abort,
+    ports: &mut Storm,
+    peer: &mut Peer,
+    object: (u16, u8),
+    trips: u32,
+) -> Result<Value, MasterFault> {
+    assert!(rt; 1 <= peer.counter && peer.counter <= 7);
+    assert!(rt; 16 <= peer.to.length && peer.to.length <= 128);
+    assert!(rt; 16 <= peer.from.length && peer.from.length <= 128);
+    upload_surely(ports, peer, object.0, object.1, trips)
+}
+
+/// What the sure download of a value comes to.
+fn sure_download(
+    rt: &impl Abort,
+    ports: &mut Storm,
+    peer: &mut Peer,
+    object: (u16, u8),
+    value: Value,
+    trips: u32,
+) -> Result<(), MasterFault> {
+    assert!(rt; 1 <= peer.counter && peer.counter <= 7);
+    assert!(rt; 16 <= peer.to.length && peer.to.length <= 128);
+    assert!(rt; 16 <= peer.from.length && peer.from.length <= 128);
+    download_surely(ports, peer, object.0, object.1, value, trips)
+}
+
+/// Moves the counter on so many times.
+fn skip(rt: &impl Abort, peer: &mut Peer, times: usize) {
+    for _time in 0..times {
+        assert!(rt; 1 <= peer.counter && peer.counter <= 7);
+        peer.skip();
+    }
+}
+
+/// A slave that has stored the first value, whose answer with the counter 1 waits in its mailbox; and its
+/// peer, whose next request has the counter 1 again.
+fn left_behind(rt: &impl Abort, alloc: Global) -> (Storm, Peer) {
+    let (mut ports, mut peer) = (storm(rt, alloc, AlState::PreOp), peer());
+    let left = download(rt, &mut ports, &mut peer, SETTING, FIRST, 0);
+    assert_same(rt, left, Err(MasterFault::NoAnswer));
+    assert_same(rt, setting(&ports), Some(FIRST));
+    skip(rt, &mut peer, 6);
+    assert_same(rt, peer.counter, 1);
+    (ports, peer)
+}
+
+/// With these troubles, both from a clean start and where an answer was left behind, a download stores its
+/// value, an upload brings it, and a refused download stores nothing.
+fn recovers(rt: &impl Abort, alloc: Global, troubles: [usize; 3]) {
+    let (mut ports, mut asked) = left_behind(rt, alloc);
+    ports.begin(troubles);
+    let done = sure_download(rt, &mut ports, &mut asked, SETTING, SECOND, ENOUGH);
+    assert_same(rt, done, Ok(()));
+    assert_same(rt, setting(&ports), Some(SECOND));
+    ports.begin(troubles);
+    let read = sure_upload(rt, &mut ports, &mut asked, SETTING, ENOUGH);
+    assert_same(rt, read, Ok(SECOND));
+    ports.begin(troubles);
+    let refused = sure_download(rt, &mut ports, &mut asked, VENDOR, Value::Four(3), ENOUGH);
+    assert_same(rt, refused, Err(MasterFault::Abort(0x0601_0002)));
+    ports.begin(CALM);
+    let vendor = sure_upload(rt, &mut ports, &mut asked, VENDOR, 4);
+    assert_same(rt, vendor, Ok(Value::Four(2)));
+}
+
+#[test]
+fn four_trips_are_enough_without_trouble(rt: HostRuntime) {
+    let (mut ports, mut peer) = (storm(&rt, rt.alloc(), AlState::PreOp), peer());
+    let late = sure_download(&rt, &mut ports, &mut peer, SETTING, FIRST, 3);
+    assert_same(&rt, late, Err(MasterFault::NoAnswer));
+    assert_same(&rt, (peer.counter, ports.trips), (2, 3));
+    ports.begin(CALM);
+    let early = sure_upload(&rt, &mut ports, &mut peer, SETTING, 1);
+    assert_same(&rt, early, Err(MasterFault::NoAnswer));
+    assert_same(&rt, (peer.counter, ports.trips), (2, 1));
+    let (mut ports, mut peer) = (storm(&rt, rt.alloc(), AlState::PreOp), peer);
+    let done = sure_download(&rt, &mut ports, &mut peer, SETTING, FIRST, 4);
+    assert_same(&rt, done, Ok(()));
+    assert_same(&rt, (peer.counter, ports.trips), (3, 4));
+    assert_same(&rt, setting(&ports), Some(FIRST));
+    ports.begin(CALM);
+    let read = sure_upload(&rt, &mut ports, &mut peer, SETTING, ENOUGH);
+    assert_same(&rt, read, Ok(FIRST));
+    assert_same(&rt, (peer.counter, ports.trips), (4, 4));
+}
+
+#[test]
+fn download_after_a_lost_write_is_done_surely_alone(rt: HostRuntime) {
+    for surely in [false, true] {
+        let (mut ports, mut peer) = (storm(&rt, rt.alloc(), AlState::PreOp), peer());
+        ports.begin([1, NONE, NONE]);
+        let lost = download(&rt, &mut ports, &mut peer, SETTING, FIRST, 3);
+        assert_same(&rt, lost, Err(MasterFault::NoSlave));
+        assert_same(&rt, peer.counter, 1);
+        assert_same(&rt, setting(&ports), Some(FIRST));
+        if surely {
+            let done = sure_download(&rt, &mut ports, &mut peer, SETTING, SECOND, ENOUGH);
+            assert_same(&rt, done, Ok(()));
+            assert_same(&rt, setting(&ports), Some(SECOND));
+        } else {
+            let done = download(&rt, &mut ports, &mut peer, SETTING, SECOND, 3);
+            assert_same(&rt, done, Ok(()));
+            assert_same(&rt, setting(&ports), Some(FIRST));
+        }
+    }
+}
+
+#[test]
+fn download_after_six_broken_off_calls_is_done_surely_alone(rt: HostRuntime) {
+    let (mut ports, mut peer) = left_behind(&rt, rt.alloc());
+    let done = download(&rt, &mut ports, &mut peer, SETTING, SECOND, 3);
+    assert_same(&rt, done, Ok(()));
+    assert_same(&rt, setting(&ports), Some(FIRST));
+    let (mut ports, mut peer) = left_behind(&rt, rt.alloc());
+    let done = sure_download(&rt, &mut ports, &mut peer, SETTING, SECOND, ENOUGH);
+    assert_same(&rt, done, Ok(()));
+    assert_same(&rt, setting(&ports), Some(SECOND));
+}
+
+#[test]
+fn one_trouble_is_recovered_from(rt: HostRuntime) {
+    for one in 0..TROUBLES {
+        recovers(&rt, rt.alloc(), [one, NONE, NONE]);
+    }
+}
+
+#[test]
+fn two_troubles_are_recovered_from(rt: HostRuntime) {
+    for one in 0..TROUBLES {
+        for two in 0..one {
+            recovers(&rt, rt.alloc(), [one, two, NONE]);
+        }
+    }
+}
+
+#[test]
+fn three_troubles_are_recovered_from(rt: HostRuntime) {
+    for one in 0..TROUBLES {
+        for two in 0..one {
+            for three in 0..two {
+                recovers(&rt, rt.alloc(), [one, two, three]);
+            }
+        }
+    }
+}
+
+#[test]
+fn broken_off_anywhere_the_next_call_is_right(rt: HostRuntime) {
+    for trips in 0..7 {
+        for one in 0..TROUBLES {
+            let (mut ports, mut peer) = left_behind(&rt, rt.alloc());
+            ports.begin([one, NONE, NONE]);
+            let _broken_off = sure_download(&rt, &mut ports, &mut peer, SETTING, FIRST, trips);
+            let done = sure_download(&rt, &mut ports, &mut peer, SETTING, SECOND, ENOUGH);
+            assert_same(&rt, done, Ok(()));
+            assert_same(&rt, setting(&ports), Some(SECOND));
+        }
+    }
+}
+
+#[test]
+fn request_that_waits_is_not_overtaken(rt: HostRuntime) {
+    let (mut ports, mut peer) = (storm(&rt, rt.alloc(), AlState::Init), peer());
+    let waits = sure_download(&rt, &mut ports, &mut peer, SETTING, FIRST, ENOUGH);
+    assert_same(&rt, waits, Err(MasterFault::NoAnswer));
+    assert_same(
+        &rt,
+        (peer.counter, setting(&ports)),
+        (2, Some(Value::Two(0))),
+    );
+    let waits = sure_download(&rt, &mut ports, &mut peer, SETTING, SECOND, ENOUGH);
+    assert_same(&rt, waits, Err(MasterFault::NoAnswer));
+    assert_same(
+        &rt,
+        (peer.counter, setting(&ports)),
+        (2, Some(Value::Two(0))),
+    );
+    let up = request_state(&mut ports, peer.station, AlState::PreOp, 3);
+    assert_same(&rt, up, Ok(()));
+    let done = sure_download(&rt, &mut ports, &mut peer, SETTING, SECOND, ENOUGH);
+    assert_same(&rt, done, Ok(()));
+    assert_same(&rt, setting(&ports), Some(SECOND));
+}
+
+#[test]
+fn mail_of_somebody_else_is_dropped(rt: HostRuntime) {
+    let (mut ports, mut other) = (storm(&rt, rt.alloc(), AlState::PreOp), peer());
+    let left = upload(&rt, &mut ports, &mut other, VENDOR, 0);
+    assert_same(&rt, left, Err(MasterFault::NoAnswer));
+    let mut peer = peer();
+    ports.begin(CALM);
+    let read = sure_upload(&rt, &mut ports, &mut peer, SETTING, ENOUGH);
+    assert_same(&rt, read, Ok(Value::Two(0)));
+}
+
+#[test]
+fn station_of_no_slave_has_no_answer(rt: HostRuntime) {
+    let (mut ports, mut peer) = (storm(&rt, rt.alloc(), AlState::PreOp), peer());
+    peer.station = 0x1002;
+    let read = sure_upload(&rt, &mut ports, &mut peer, SETTING, ENOUGH);
+    assert_same(&rt, read, Err(MasterFault::NoAnswer));
+    assert_same(&rt, peer.counter, 1);
+}
