@@ -1,3 +1,4 @@
+pub mod Bench
 pub mod Fields
 pub mod Order
 pub mod Text

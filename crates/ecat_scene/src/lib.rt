@@ -25,8 +25,10 @@
 //!
 //! - `scene`: what a scene is; `fault`: what can be wrong with its text.
 //! - `reader`: the lines in their order; `slave_lines`, `work_lines`: what each of them says.
+//! - `bench`: the commands by which a line is worked on while it is served, a line of text each.
 //! - `words`, `number`: the words of a line, and the numbers and rows of bytes among them.
 
+mod bench;
 mod fault;
 mod number;
 mod reader;
@@ -35,6 +37,7 @@ mod slave_lines;
 mod words;
 mod work_lines;
 
+pub use bench::{BenchCommand, CommandFault, SlaveName};
 pub use fault::{LineFault, SceneFault};
 pub use scene::{
     Action, FmmuSetting, Load, MAX_ACTIONS, MAX_ITEMS, MAX_SLAVES, MAX_TEXT, MAX_WEATHERS, Scene,

@@ -1,5 +1,6 @@
 //! A scene as plain data.
 ghost use Rattle.std.specs.Prelude.{◌+◌, ◌<◌, ◌≤◌, ◌↔◌, ◌≡◌, length, vec_len, Err};
+ghost use Rattle.ec_regs.specs.declared.registers.TheConstants.{FMMU_COUNT, SYNC_MANAGER_COUNT};
 
 use crate::fault::SceneFault;
 use crate::reader::Reader;
@@ -31,7 +32,7 @@ pub struct SyncManSetting {
     pub index: usize,
     /// What it is set to.
     pub record: SyncMan,
-    ghost in_range: { index < 8 },
+    ghost in_range: { index < SYNC_MANAGER_COUNT },
 }
 
 /// The record of one FMMU.
@@ -41,7 +42,7 @@ pub struct FmmuSetting {
     pub index: usize,
     /// What it is set to.
     pub record: Fmmu,
-    ghost in_range: { index < 8 },
+    ghost in_range: { index < FMMU_COUNT },
 }
 
 /// Bytes for the process memory.

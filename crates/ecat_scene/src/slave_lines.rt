@@ -10,8 +10,9 @@ use crate::reader::Reader;
 use crate::scene::{FmmuSetting, Load, MAX_SLAVES, SceneSlave, Setting, SyncManSetting};
 use bitflags::Flags;
 use ec_app::{ObjectFault, Objects, Rights, Value};
-use ec_regs::registers::{MEMORY_SIZE, PROCESS_MEMORY};
+use ec_regs::registers::{FMMU_COUNT, MEMORY_SIZE, PROCESS_MEMORY, SYNC_MANAGER_COUNT};
 use ec_regs::{AlState, Fmmu, FmmuType, SyncMan, SyncManControl};
+use std::alloc::Global;
 
 /// The first address behind the memory.
 const MEMORY_END: usize = MEMORY_SIZE as usize;
@@ -66,10 +67,7 @@ impl Reader {
             return Err(Stop::Fault(LineFault::WrongCount));
         };
         self.test_slave()?;
-        let code = byte(number(code)?)?;
-        let Some(state) = AlState::from_code(code) else {
-            return Err(Stop::Fault(LineFault::OutOfRange));
-        };
+        let state = state_of(code)?;
         self.last_slave()?.state = state;
         Ok(())
     }
@@ -104,7 +102,7 @@ impl Reader {
         let start = number(start)?;
         let length = number(length)?;
         let control = control_of(kind)?;
-        let index = index_of(index)?;
+        let index = index_of(index, SYNC_MANAGER_COUNT)?;
         let record = sync_man_of(start, length, control.bits())?;
         let setting = Setting::SyncMan(SyncManSetting { index, record });
         self.last_slave()?.settings.push(setting)?;
@@ -127,7 +125,7 @@ impl Reader {
         let physical = number(physical)?;
         let bit = number(bit)?;
         let kind = type_of(kind)?;
-        let index = index_of(index)?;
+        let index = index_of(index, FMMU_COUNT)?;
         let record = fmmu_of(logical, length, start, stop, physical, bit, kind.bits())?;
         let setting = Setting::Fmmu(FmmuSetting { index, record });
         self.last_slave()?.settings.push(setting)?;
@@ -142,15 +140,8 @@ impl Reader {
             return Err(Stop::Fault(LineFault::WrongCount));
         };
         self.test_slave()?;
-        let address = number(address)?;
-        test_bytes(row)?;
-        let address = word(address)?;
-        let bytes = bytes(self.alloc, row)?;
-        if address < PROCESS_MEMORY || usize::from(address) + bytes.len() > MEMORY_END {
-            return Err(Stop::Fault(LineFault::OutOfRange));
-        }
-        let setting = Setting::Load(Load { address, bytes });
-        self.last_slave()?.settings.push(setting)?;
+        let load = load_of(self.alloc, address, row)?;
+        self.last_slave()?.settings.push(Setting::Load(load))?;
         Ok(())
     }
 
@@ -176,6 +167,27 @@ impl Reader {
             Err(ObjectFault::Twin) => Err(Stop::Fault(LineFault::Twin)),
         }
     }
+}
+
+/// The state of a code: 1, 2, 4 or 8.
+pub(crate) fn state_of(code: &[u8]) -> Result<AlState, LineFault> {
+    let code = byte(number(code)?)?;
+    match AlState::from_code(code) {
+        Some(state) => Ok(state),
+        None => Err(LineFault::OutOfRange),
+    }
+}
+
+/// The bytes of a row for process memory from an address on.
+pub(crate) fn load_of(alloc: Global, address: &[u8], row: &[u8]) -> Result<Load, Stop> {
+    let address = number(address)?;
+    test_bytes(row)?;
+    let address = word(address)?;
+    let bytes = bytes(alloc, row)?;
+    if address < PROCESS_MEMORY || usize::from(address) + bytes.len() > MEMORY_END {
+        return Err(Stop::Fault(LineFault::OutOfRange));
+    }
+    Ok(Load { address, bytes })
 }
 
 /// The record of an enabled sync manager of these numbers.
@@ -242,11 +254,11 @@ fn type_of(kind: &[u8]) -> Result<FmmuType, LineFault> {
     }
 }
 
-/// The number of a sync manager or an FMMU, 0 to 7.
-fn index_of(number: u64) -> Result<usize, LineFault>
-    ensures { result ≡ fitting 8 number }
+/// The number of one of so many records.
+fn index_of(number: u64, count: usize) -> Result<usize, LineFault>
+    ensures { result ≡ fitting count number }
 {
-    if number < 8 {
+    if number < count as u64 {
         Ok(number as usize)
     } else {
         Err(LineFault::OutOfRange)

@@ -1,6 +1,7 @@
 -- What a packet gets back: a frame walks over the line from the end where it came in (IEC 61158-4-12, a
--- slave's ports), and what arrives goes to whoever spoke last at the end where it arrives.
-use Rattle.std.specs.Prelude.{◌≡◌, ℕ, ◌==◌, ◌&&◌, not, is_none, List, Option, None, Some, length}
+-- slave's ports), and what arrives and is not lost there goes to whoever spoke last at that end.
+use Rattle.std.specs.Prelude.{◌≡◌, ℕ, ◌-◌, ◌==◌, ◌&&◌, not, nat_lt, is_none, List, Option, None, Some, length}
+use Rattle.std.specs.Prelude.{if◌then◌else◌}
 use Rattle.std.specs.Prelude.{Result, Ok}
 use Rattle.std.specs.declared.net.socket_addr.SocketAddr.{SocketAddr}
 use Rattle.ec_wire.specs.Datagram.{DatagramRecord}
@@ -12,7 +13,7 @@ use Rattle.ec_ring.specs.Walk.{walked}
 use Rattle.ec_ring.specs.declared.links.Links.{Links}
 use Rattle.ec_ring.specs.declared.port.Port.{Port}
 use Rattle.ecat_serve.specs.Ends.{Sends}
-use Rattle.ecat_serve.specs.State.{ServedState, peer_at}
+use Rattle.ecat_serve.specs.State.{ServedState, losing, peer_at, to_lose_at}
 
 -- the links under which frames walk are the ring's, but the last one is down while nobody has ever spoken to
 -- end B: it is the last port of a real line, and empty
@@ -33,6 +34,16 @@ pub record Walks (before : ServedState) (from : Port) (frame : List DatagramReco
   pub leaves : later ≡ record before {
     ring = stepped (with_line before.ring (walked from links frame (line_of before.ring)).line);
   }
+
+-- what of an arrival is not lost: nothing where a copy that arrives there is still to be
+abbrev pub spared : ServedState → Arrival → Arrival
+spared s None = None
+spared s (Some arrived) = if nat_lt 0 (to_lose_at s arrived.1) then None else Some arrived
+
+-- the line behind an arrival: at its end one copy fewer is to be lost, if any was
+abbrev pub once_lost : ServedState → Arrival → ServedState
+once_lost s None = s
+once_lost s (Some arrived) = losing s arrived.1 (to_lose_at s arrived.1 - 1)
 
 -- the packet of a frame is sent from an end to somebody; where there is nobody, nothing is
 abbrev pub SendsTo : {E : Type 0} → Sends E → E → Port → Option SocketAddr → List DatagramRecord

@@ -1,10 +1,13 @@
 -- What the ends of a line are asked: which packets are received and which are sent, each told by the ends
 -- before and behind; and where on this machine the ends lie.
-use Rattle.std.specs.Prelude.{◌≡◌, ◌+◌, Bool, true, false, List, [], ◌∷◌, ℕ, Option, Result, ⊤}
+use Rattle.std.specs.Prelude.{◌≡◌, ◌+◌, Bool, true, false, List, [], ◌∷◌, ℕ, Option, None, Some, Result}
+use Rattle.std.specs.Prelude.{Ok, Err, ⊤, if◌then◌else◌}
+use Rattle.std.specs.IoError.{error_kind}
 use Rattle.std.specs.Net.Addr.{ipv4_octets}
 use Rattle.std.specs.Net.Socket.{v4_ip}
 use Rattle.std.specs.declared.net.socket_addr.SocketAddr.TheVariants.{V4, V6}
 use Rattle.std.specs.declared.net.socket_addr.SocketAddr.{SocketAddr}
+use Rattle.std.specs.declared.io.Error.{Error}
 use Rattle.std.specs.declared.io.ErrorKind.{ErrorKind}
 use Rattle.std.specs.declared.io.ErrorKind.TheVariants.{Interrupted, WouldBlock}
 use Rattle.ec_ring.specs.declared.port.PortFault.{PortFault}
@@ -48,3 +51,9 @@ abbrev pub says_again : ErrorKind → Bool
 says_again WouldBlock = true
 says_again Interrupted = true
 says_again _ = false
+
+-- what a receive at an end comes to: how many bytes came of whom; nothing where it may be tried again, and
+-- else a fault
+abbrev pub received : Port → Result (ℕ × SocketAddr) Error → Result (Option Arrived) PortFault
+received at (Ok got) = Ok (Some (record { at = at; from = got.1; count = got.0 }))
+received at (Err error) = if says_again (error_kind error) then Ok None else Err (record {})

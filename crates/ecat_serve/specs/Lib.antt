@@ -1,4 +1,6 @@
 pub mod State
 pub mod Ends
 pub mod Answering
+pub mod Bench
+pub mod Lines
 pub mod Rounds

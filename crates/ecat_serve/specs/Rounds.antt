@@ -5,7 +5,7 @@ use Rattle.ec_wire.specs.Fault.{IsSpelt}
 use Rattle.ec_wire.specs.declared.fault.Form.TheVariants.{Udp}
 use Rattle.ec_ring.specs.declared.port.PortFault.{PortFault}
 use Rattle.ec_ring.specs.Ring.{stepped}
-use Rattle.ecat_serve.specs.Answering.{Arrival, Replies, Walks}
+use Rattle.ecat_serve.specs.Answering.{Arrival, Replies, Walks, once_lost, spared}
 use Rattle.ecat_serve.specs.Ends.{Receives, Sends}
 use Rattle.ecat_serve.specs.State.{ServedState, spoken}
 use Rattle.ecat_serve.specs.declared.ends.Arrived.{Arrived}
@@ -21,15 +21,18 @@ round_of (Ok _) = Ok Frame
 round_of (Err fault) = Err fault
 
 -- a packet that is a frame in the UDP form: who sent it has spoken, the frame walks, and what arrives is sent
+-- unless it is to be lost where it arrives
 pub record IsAnswered {E : Type 0} (sends : Sends E) (arrived : Arrived) (packet : List ℕ)
     (before : ServedState) (ends : E) (result : Result Round PortFault) (later : ServedState) (ends_later : E)
     : Type 0 where
   pub frame : List DatagramRecord
   pub spelt : IsSpelt Udp packet frame
+  pub walked : ServedState
   pub arrival : Arrival
-  pub walks : Walks (spoken before arrived.at arrived.from) arrived.at frame arrival later
+  pub walks : Walks (spoken before arrived.at arrived.from) arrived.at frame arrival walked
+  pub loses : later ≡ once_lost walked arrival
   pub sent : Result (Unit {0}) PortFault
-  pub replies : Replies sends later arrival ends sent ends_later
+  pub replies : Replies sends later (spared walked arrival) ends sent ends_later
   pub ends_as : result ≡ round_of sent
 
 -- a packet that is none: it is dropped, and each slave takes its step all the same

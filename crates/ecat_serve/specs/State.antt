@@ -1,5 +1,6 @@
--- A line that is served: its ring, and who spoke last at each of its ends, if anybody did.
-use Rattle.std.specs.Prelude.{Option, Some}
+-- A line that is served: its ring, who spoke last at each of its ends, if anybody did, and how many of the
+-- copies that arrive at each end are still to be lost.
+use Rattle.std.specs.Prelude.{ℕ, Option, None, Some}
 use Rattle.std.specs.declared.net.socket_addr.SocketAddr.{SocketAddr}
 use Rattle.ec_ring.specs.Ring.{RingState}
 use Rattle.ec_ring.specs.declared.port.Port.{Port}
@@ -9,6 +10,8 @@ pub record ServedState : Type 0 where
   pub ring : RingState
   pub peer_a : Option SocketAddr
   pub peer_b : Option SocketAddr
+  pub to_lose_a : ℕ
+  pub to_lose_b : ℕ
 
 -- who spoke last at an end
 abbrev pub peer_at : ServedState → Port → Option SocketAddr
@@ -19,3 +22,18 @@ peer_at s B = s.peer_b
 abbrev pub spoken : ServedState → Port → SocketAddr → ServedState
 spoken s A peer = record s { peer_a = Some peer }
 spoken s B peer = record s { peer_b = Some peer }
+
+-- the same line, where nobody has spoken at an end
+abbrev pub unplugged : ServedState → Port → ServedState
+unplugged s A = record s { peer_a = None }
+unplugged s B = record s { peer_b = None }
+
+-- how many copies that arrive at an end are still to be lost
+abbrev pub to_lose_at : ServedState → Port → ℕ
+to_lose_at s A = s.to_lose_a
+to_lose_at s B = s.to_lose_b
+
+-- the same line, where so many are
+abbrev pub losing : ServedState → Port → ℕ → ServedState
+losing s A count = record s { to_lose_a = count }
+losing s B count = record s { to_lose_b = count }

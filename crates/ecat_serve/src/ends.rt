@@ -2,8 +2,10 @@
 
 ghost use Rattle.std.specs.Prelude.{◌≤◌, IfOk, IfSome};
 ghost use Rattle.ecat_serve.specs.Ends.{Receives, Sends};
+ghost use Rattle.ecat_serve.specs.Lines.{IsInRoom};
 ghost use Rattle.ec_wire.specs.declared.frame.TheConstants.{PACKET_ROOM};
 
+use crate::lines::{InputLine, LINE_ROOM};
 use ec_ring::{Port, PortFault};
 use ec_wire::PACKET_ROOM;
 use std::net::SocketAddr;
@@ -19,6 +21,13 @@ pub struct Arrived {
     pub count: usize,
 }
 
+/// The lines of somebody who works on a line while it is served. Which come is up to him.
+pub trait Console {
+    /// Takes the next line that came, into the front of the room; `None` where none has come.
+    fn take_line(&mut self, into: &mut [u8; LINE_ROOM]) -> Option<InputLine>
+        ensures room { IfSome result (λ line. IsInRoom line) };
+}
+
 /// The two ends of a line: end A before its first slave, end B behind its last. An implementation says which
 /// packets come and what a send does; nothing else is known of either.
 pub trait Ends {
@@ -30,7 +39,8 @@ pub trait Ends {
     ghost sends: { Sends Self };
 
     /// Waits for a packet at either end, and receives it into the front of the room; `None` where no more is
-    /// to come. A packet that is longer than the room fills it.
+    /// to come, or where something else is to be looked at first. A packet that is longer than the room fills
+    /// it.
     fn receive(&mut self, into: &mut [u8; PACKET_ROOM]) -> Result<Option<Arrived>, PortFault>
         ensures run { receives self.old result into.new self.new }
         ensures room { IfOk result (λ found. IfSome found (λ arrived. arrived.count ≤ PACKET_ROOM)) };

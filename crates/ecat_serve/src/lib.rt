@@ -6,6 +6,8 @@
 //! - `Ends`: what the two ends are asked, a receive that waits at both and a send. It is a trait, so that
 //!   packets can also come from memory.
 //! - `UdpEnds`: two UDP sockets on 127.0.0.1, which end with an input, as the standard one, if they get one.
+//! - `Served::set_link`, `lose`, `unplug`, `load` and `set_state` (`bench`): what somebody does to the line
+//!   between its packets, and `Console`: the lines by which he says so, which `UdpEnds` takes of its input.
 //!
 //! A packet that is a frame in the UDP form walks from the end where it came in, under the ring's own links;
 //! then each slave takes its step, and what arrives leaves from the end where it arrives, to whoever spoke
@@ -27,17 +29,25 @@
 //!   (`Served::serve_one`, `IsRound` in `specs/Rounds.antt`);
 //! - rounds follow one another until so many packets have come, none is to come, or a call fails, and each
 //!   packet is counted once (`Served::serve`, `Serves`);
+//! - a link, a slave's inputs and its state change as they are asked to, or nothing does (`BenchFault`); so
+//!   many copies are lost at an end as were to be, and no more (`spared`, `once_lost`);
+//! - the lines of an input are what LF separates, in whatever pieces it comes (`InputLines::take`, `taken` in
+//!   `specs/Lines.antt`);
 //! - a service is handed no allocator, and takes no memory where its ends take none.
 //!
 //! and of `UdpEnds`: where the ends lie (`asked_address`), and which of two that wait is served next.
 //!
 //! Of the packets that come to a socket nothing is stated: they are up to the system.
 
+pub mod bench;
 pub mod ends;
+pub mod lines;
 pub mod served;
 pub mod sockets;
 
-pub use ends::{Arrived, Ends};
+pub use bench::BenchFault;
+pub use ends::{Arrived, Console, Ends};
+pub use lines::{InputLine, LINE_ROOM};
 pub use served::{Counts, Round, Served};
 pub use sockets::{BindFault, UdpEnds};
 

@@ -1,12 +1,12 @@
 //! A line that is served to whoever speaks to its ends.
 
-ghost use Rattle.std.specs.Prelude.{◌≡◌, ◌+◌, ◌^◌, ◌<◌, ◌≤◌, ◌⊎◌, IfOk, None};
+ghost use Rattle.std.specs.Prelude.{◌≡◌, ◌+◌, ◌-◌, ◌^◌, ◌<◌, ◌≤◌, ◌⊎◌, IfOk, None, nat_lt};
 ghost use Rattle.ec_wire.specs.Datagram.{DatagramRecord};
 ghost use Rattle.ec_wire.specs.Fault.{IsSpelt};
 ghost use Rattle.ec_wire.specs.declared.fault.Form.TheVariants.{Udp};
-ghost use Rattle.ecat_serve.specs.Answering.{AreServed, Replies, Walks};
+ghost use Rattle.ecat_serve.specs.Answering.{AreServed, Replies, Walks, once_lost, spared};
 ghost use Rattle.ecat_serve.specs.Rounds.{IsAnswered, IsDropped, IsRound, Serves, round_of};
-ghost use Rattle.ecat_serve.specs.State.{peer_at, spoken};
+ghost use Rattle.ecat_serve.specs.State.{losing, peer_at, spoken, to_lose_at};
 
 use crate::ends::{Arrived, Ends};
 use ec_ring::{Links, Port, PortFault, Ring, Travel};
@@ -43,12 +43,15 @@ impl Counts {
     }
 }
 
-/// A ring whose two ends anybody may speak to, and who spoke last at each of them. Contracts see these three.
+/// A ring whose two ends anybody may speak to, who spoke last at each of them, and how many of the copies
+/// that arrive there are still to be lost. Contracts see these five.
 #[derive(Drop)]
 pub struct Served {
-    ring: Ring,
-    peer_a: Option<SocketAddr>,
-    peer_b: Option<SocketAddr>,
+    pub(crate) ring: Ring,
+    pub(crate) peer_a: Option<SocketAddr>,
+    pub(crate) peer_b: Option<SocketAddr>,
+    to_lose_a: u64,
+    to_lose_b: u64,
 }
 
 impl Model for Served {
@@ -56,20 +59,30 @@ impl Model for Served {
 
     ghost Value = { ServedState };
 
-    ghost view = { λ s. record { ring = s.ring; peer_a = s.peer_a; peer_b = s.peer_b } };
+    ghost view = { λ s. record {
+      ring = s.ring;
+      peer_a = s.peer_a;
+      peer_b = s.peer_b;
+      to_lose_a = s.to_lose_a;
+      to_lose_b = s.to_lose_b;
+    } };
 }
 
 impl Served {
-    /// A ring to whose ends nobody has spoken yet.
+    /// A ring to whose ends nobody has spoken yet, and where no copy is to be lost.
     pub fn new(ring: Ring) -> Served
         ensures ring { result.ring ≡ ring }
         ensures peer_a { result.peer_a ≡ None }
         ensures peer_b { result.peer_b ≡ None }
+        ensures to_lose_a { result.to_lose_a ≡ 0 }
+        ensures to_lose_b { result.to_lose_b ≡ 0 }
     {
         Served {
             ring,
             peer_a: None,
             peer_b: None,
+            to_lose_a: 0,
+            to_lose_b: 0,
         }
     }
 
@@ -103,10 +116,11 @@ impl Served {
     }
 
     /// Waits for one packet, and answers it where it is a frame in the UDP form: who sent it has spoken at
-    /// the end where it came in; the frame walks from there under the ring's own links, the last of which is
-    /// down while nobody has ever spoken to end B; each slave takes its step; and what arrives is sent from
-    /// the end where it arrives to whoever spoke last there, if anybody did. A packet that is no frame is
-    /// dropped, and each slave takes its step. It takes no memory.
+    /// the end where it came in; the frame walks from there under the ring's own links, the last of which
+    /// is down while nobody has ever spoken to end B; each slave takes its step; and what arrives is sent
+    /// from the end where it arrives to whoever spoke last there, if anybody did, unless a copy is still to
+    /// be lost there: then it is that one. A packet that is no frame is dropped, and each slave takes its
+    /// step. It takes no memory.
     pub fn serve_one<E: Ends>(&mut self, ends: &mut E) -> Result<Round, PortFault>
         ensures { IsRound E.receives E.sends self.old ends.old result self.new ends.new }
     {
@@ -131,7 +145,8 @@ impl Served {
             Ok(frame) => {
                 self.hear(arrived);
                 let arrival = self.walk(arrived.at, frame);
-                self.reply(ends, arrival)?;
+                let spared = self.spare(arrival);
+                self.reply(ends, spared)?;
                 Ok(Round::Frame)
             }
             Err(_) => {
@@ -170,6 +185,47 @@ impl Served {
         let arrival = self.ring.walk(from, frame, &links);
         self.ring.step_all();
         arrival
+    }
+
+    /// What of an arrival is not lost: where copies are still to be lost at its end, it is one of them.
+    fn spare(&mut self, arrival: Option<(FrameBuf, Port)>) -> Option<(FrameBuf, Port)>
+        ensures spared { result ≡ spared self.old arrival }
+        ensures line { self.new ≡ once_lost self.old arrival }
+    {
+        match arrival {
+            Some((_, port)) if self.loses_one(port) => None,
+            arrival => arrival,
+        }
+    }
+
+    /// A copy arrives at an end: is it to be lost? If so, one fewer is from now on.
+    fn loses_one(&mut self, at: Port) -> bool
+        ensures lost { result ≡ nat_lt 0 (to_lose_at self.old at) }
+        ensures line { self.new ≡ losing self.old at (to_lose_at self.old at - 1) }
+    {
+        let count = self.to_lose(at);
+        self.set_to_lose(at, count.saturating_sub(1));
+        0 < count
+    }
+
+    /// How many copies that arrive at an end are still to be lost.
+    pub fn to_lose(&self, at: Port) -> u64
+        ensures { result ≡ to_lose_at self.now at }
+    {
+        match at {
+            Port::A => self.to_lose_a,
+            Port::B => self.to_lose_b,
+        }
+    }
+
+    /// Sets how many are.
+    pub(crate) fn set_to_lose(&mut self, at: Port, count: u64)
+        ensures { self.new ≡ losing self.old at count }
+    {
+        match at {
+            Port::A => self.to_lose_a = count,
+            Port::B => self.to_lose_b = count,
+        }
     }
 
     /// Sends what arrived to whoever spoke last at the end where it arrived.

@@ -4,10 +4,12 @@ ghost use Rattle.std.specs.Prelude.{◌≡◌, ◌≢◌, ◌≤◌, ◌<◌, �
 ghost use Rattle.std.specs.IoError.{error_kind};
 ghost use Rattle.std.specs.Net.Socket.{socket_port};
 ghost use Rattle.ec_ring.specs.declared.port.Port.TheVariants.{A, B};
-ghost use Rattle.ecat_serve.specs.Ends.{any_receive, any_send, asked_port, other, says_again, IsOnLoopback};
+ghost use Rattle.ecat_serve.specs.Ends.{any_receive, any_send, asked_port, other, received, says_again};
+ghost use Rattle.ecat_serve.specs.Ends.{IsOnLoopback};
 ghost use Rattle.ec_wire.specs.declared.frame.TheConstants.{PACKET_ROOM};
 
-use crate::ends::{Arrived, Ends};
+use crate::ends::{Arrived, Console, Ends};
+use crate::lines::{InputLine, InputLines, LINE_ROOM, PIECE_ROOM};
 use ec_ring::{Port, PortFault};
 use ec_wire::PACKET_ROOM;
 use mio::net::UdpSocket;
@@ -31,8 +33,8 @@ const INPUT: Token = Token(2);
 /// How many events are taken at a time: one of each kind.
 const MOST_EVENTS: usize = 3;
 
-/// How many bytes of standard input are read at a time, and passed over.
-const INPUT_ROOM: usize = 512;
+/// After how many packets in a row a line of the input comes before the next one.
+const MOST_IN_A_ROW: u8 = 32;
 
 /// Why a line of sockets could not be opened.
 #[derive(Clone, Copy, PartialEq, Eq, Debug)]
@@ -68,24 +70,17 @@ impl End {
         ensures room { IfOk result (λ found. IfSome found (λ arrived. arrived.count ≤ PACKET_ROOM)) }
         ensures here { IfOk result (λ found. IfSome found (λ arrived. arrived.at ≡ self.now.at)) }
     {
-        match self.socket.recv_from(into) {
-            Ok((count, from)) => Ok(Some(Arrived {
-                at: self.at,
-                from,
-                count,
-            })),
-            Err(fault) if may_try_again(&fault) => Ok(None),
-            Err(_) => Err(PortFault),
-        }
+        received(self.at, self.socket.recv_from(into))
     }
 }
 
 /// Two UDP sockets on 127.0.0.1, one at each end of a line.
 ///
-/// A receive waits until a packet is there, for as long as it takes. Where packets wait at both ends, the end
-/// that was not the last one comes first. Of a packet of more than 1,501 bytes the first 1,501 are received.
-/// Where there is an input, no more packets are to come once it has ended and no packet waits; what it brings
-/// is passed over. Each error of the system but "try again" is a fault.
+/// A receive waits until a packet is there, for as long as it takes. Where packets wait at both ends, the
+/// end that was not the last one comes first. Of a packet of more than 1,501 bytes the first 1,501 are
+/// received. Where there is an input, no more packets are to come once it has ended and no packet waits.
+/// What it brings is passed over, or kept as lines: then a receive also ends where a line is there and no
+/// packet waits, and after 32 packets in a row. Each error of the system but "try again" is a fault.
 #[derive(Drop)]
 pub struct UdpEnds<I: Read + AsRawFd + Drop> {
     poll: Poll,
@@ -94,7 +89,10 @@ pub struct UdpEnds<I: Read + AsRawFd + Drop> {
     end_b: End,
     next: Port,
     input: Option<I>,
-    ended: bool,
+    waits: bool,
+    lines: InputLines,
+    keeps_lines: bool,
+    in_a_row: u8,
     ghost at_a: { end_a.at ≡ A },
     ghost at_b: { end_b.at ≡ B },
 }
@@ -102,7 +100,7 @@ pub struct UdpEnds<I: Read + AsRawFd + Drop> {
 impl<I: Read + AsRawFd + Drop> UdpEnds<I> {
     /// Opens end A on this port (that of EtherCAT is 34980) and end B on the next one. Whether a port is free
     /// is up to the system. With an input the service ends where that does. An input for which one can't
-    /// wait, as a file, counts as one that has ended.
+    /// wait, as a file, counts as one that has ended, unless its lines are kept.
     pub fn bind(
         net: &impl Net,
         alloc: Global,
@@ -128,12 +126,12 @@ impl<I: Read + AsRawFd + Drop> UdpEnds<I> {
         let poll = Poll::new(net)?;
         let end_a = End::open(net, poll.registry(), Port::A, port)?;
         let end_b = End::open(net, poll.registry(), Port::B, port)?;
-        let ended = match &input {
+        let waits = match &input {
             Some(input) => poll
                 .registry()
                 .register(&mut SourceFd(&input.as_raw_fd()), INPUT, Interest::READABLE)
-                .is_err(),
-            None => false,
+                .is_ok(),
+            None => true,
         };
         Ok(UdpEnds {
             poll,
@@ -142,8 +140,16 @@ impl<I: Read + AsRawFd + Drop> UdpEnds<I> {
             end_b,
             next: Port::A,
             input,
-            ended,
+            waits,
+            lines: InputLines::new(),
+            keeps_lines: false,
+            in_a_row: 0,
         })
+    }
+
+    /// Has what the input brings be kept, as lines to be taken, from now on.
+    pub fn keep_lines(&mut self) {
+        self.keeps_lines = true;
     }
 
     /// The socket of an end.
@@ -158,7 +164,20 @@ impl<I: Read + AsRawFd + Drop> UdpEnds<I> {
 
     /// Has the input ended?
     pub(crate) fn has_ended(&self) -> bool {
-        self.ended
+        self.lines.has_ended() || !(self.waits || self.keeps_lines)
+    }
+
+    /// Is a line of the input to come before the next packet? It is where as many packets came in a row as
+    /// may.
+    fn is_due(&mut self) -> Result<bool, PortFault> {
+        if !self.keeps_lines || self.in_a_row < MOST_IN_A_ROW {
+            return Ok(false);
+        }
+        self.in_a_row = 0;
+        if !self.lines.holds_line() {
+            self.wait(Some(Duration::from_secs(0)))?;
+        }
+        Ok(self.lines.holds_line())
     }
 
     /// Receives a packet that waits at either end, if one does. The end where it came in is the last one to
@@ -185,6 +204,10 @@ impl<I: Read + AsRawFd + Drop> UdpEnds<I> {
     /// Waits until something comes at an end or from the input, so long at most where there is a limit.
     /// The answer is whether anything came.
     pub(crate) fn wait(&mut self, limit: Option<Duration>) -> Result<bool, PortFault> {
+        if !self.waits && !self.has_ended() {
+            self.read_input()?;
+            return Ok(true);
+        }
         if self.poll.poll(&mut self.events, limit).is_err() {
             return Err(PortFault);
         }
@@ -204,20 +227,28 @@ impl<I: Read + AsRawFd + Drop> UdpEnds<I> {
         false
     }
 
-    /// Passes over some of what the input brings, and sees whether it has ended.
+    /// Reads some of what the input brings, and sees whether it has ended.
     fn read_input(&mut self) -> Result<(), PortFault> {
         let Some(input) = &mut self.input else {
             return Ok(());
         };
-        let mut room = [0; INPUT_ROOM];
-        match input.read(&mut room) {
+        let mut room = [0; PIECE_ROOM];
+        let most = self.lines.room().min(PIECE_ROOM);
+        match input.read(&mut room[..most]) {
             Ok(0) => {
-                self.ended = true;
+                self.lines.end();
                 return Ok(());
             }
-            Ok(_) => {}
+            Ok(count) => {
+                if self.keeps_lines {
+                    self.lines.put(&room[..count]);
+                }
+            }
             Err(fault) if may_try_again(&fault) => {}
             Err(_) => return Err(PortFault),
+        }
+        if !self.waits {
+            return Ok(());
         }
         // What is left is told of anew only once it is asked for anew.
         self.poll
@@ -233,11 +264,16 @@ impl<I: Read + AsRawFd + Drop> Ends for UdpEnds<I> {
     ghost sends = { any_send };
 
     fn receive(&mut self, into: &mut [u8; PACKET_ROOM]) -> Result<Option<Arrived>, PortFault> {
+        if self.is_due()? {
+            return Ok(None);
+        }
         for _turn in 0..u64::MAX {
             if let Some(arrived) = self.receive_waiting(into)? {
+                self.in_a_row = self.in_a_row.saturating_add(1);
                 return Ok(Some(arrived));
             }
-            if self.has_ended() {
+            self.in_a_row = 0;
+            if self.has_ended() || self.lines.holds_line() {
                 return Ok(None);
             }
             self.wait(None)?;
@@ -250,6 +286,12 @@ impl<I: Read + AsRawFd + Drop> Ends for UdpEnds<I> {
             Ok(_) => Ok(()),
             Err(_) => Err(PortFault),
         }
+    }
+}
+
+impl<I: Read + AsRawFd + Drop> Console for UdpEnds<I> {
+    fn take_line(&mut self, into: &mut [u8; LINE_ROOM]) -> Option<InputLine> {
+        self.lines.take(into)
     }
 }
 
@@ -297,6 +339,25 @@ fn other(end: Port) -> Port
     match end {
         Port::A => Port::B,
         Port::B => Port::A,
+    }
+}
+
+/// What a receive at an end comes to: nothing where it may be tried again.
+fn received(
+    at: Port,
+    outcome: io::Result<(usize, SocketAddr)>,
+) -> Result<Option<Arrived>, PortFault>
+    ensures { result ≡ received at outcome }
+{
+    match outcome {
+        Ok((count, from)) => Ok(Some(Arrived { at, from, count })),
+        Err(fault) => {
+            if may_try_again(&fault) {
+                Ok(None)
+            } else {
+                Err(PortFault)
+            }
+        }
     }
 }
 

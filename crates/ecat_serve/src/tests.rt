@@ -1,6 +1,9 @@
 //! A line that is served: in memory, where a call may fail, and over real sockets.
 
+mod bench;
+mod console;
 mod faults;
+mod input;
 mod line;
 mod memory;
 mod packets;

@@ -9,10 +9,12 @@ returns-in_ok-reply-in-Ok g c =
     inl (record {
       frame = c.in-Ok.frame;
       spelt = c.in-Ok.ensures.found;
+      walked = c.walk-arrival.new.self;
       arrival = c.walk-arrival.result;
       walks = rw (← c.hear.ensures) c.walk-arrival.ensures;
+      loses = c.spare-spared.ensures.line;
       sent = Ok tt;
-      replies = c.in_ok-reply-in-Ok.ensures;
+      replies = rw (← c.spare-spared.ensures.spared) c.in_ok-reply-in-Ok.ensures;
       ends_as = refl;
     })
 
@@ -22,10 +24,12 @@ returns-in_err-reply-in-Ok g c =
     inl (record {
       frame = c.in-Ok.frame;
       spelt = c.in-Ok.ensures.found;
+      walked = c.walk-arrival.new.self;
       arrival = c.walk-arrival.result;
       walks = rw (← c.hear.ensures) c.walk-arrival.ensures;
+      loses = c.spare-spared.ensures.line;
       sent = Err c.in_err-reply-in-Ok.field-0.0;
-      replies = c.in_err-reply-in-Ok.ensures;
+      replies = rw (← c.spare-spared.ensures.spared) c.in_err-reply-in-Ok.ensures;
       ends_as = rw (p.1, p.2) refl;
     })
 

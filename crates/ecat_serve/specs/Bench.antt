@@ -1,0 +1,55 @@
+-- What is done to a line between its rounds, and why it is refused: links that are on the line (IEC
+-- 61158-4-12, a slave's ports), process memory and AL status of one of its slaves (IEC 61158-6-12, AL
+-- status).
+use Rattle.std.specs.Prelude.{◌≡◌, ℕ, ◌+◌, nat_lt, if◌then◌else◌, Option, None, Some, List, length, slice_get}
+use Rattle.ec_app.specs.AlStep.{with_state}
+use Rattle.ec_app.specs.Lending.{with_controller}
+use Rattle.ec_app.specs.State.{SlaveState}
+use Rattle.ec_esc.specs.State.{with_bytes}
+use Rattle.ec_regs.specs.declared.al.AlState.{AlState}
+use Rattle.ec_regs.specs.declared.registers.TheConstants.{MEMORY_SIZE, PROCESS_MEMORY}
+use Rattle.ec_ring.specs.Ring.{with_slave}
+use Rattle.ec_ring.specs.declared.links.Links.{Links}
+use Rattle.ecat_serve.specs.State.{ServedState}
+use Rattle.ecat_serve.specs.declared.bench.BenchFault.{BenchFault}
+use Rattle.ecat_serve.specs.declared.bench.BenchFault.TheVariants.{NoLink, NoSlave, OutsideMemory}
+
+-- the same line under these links
+abbrev pub with_links : ServedState → Links → ServedState
+with_links s links = record s { ring = record s.ring { links = links } }
+
+-- the slave at a place is changed, and all else is as before
+pub record Changes (before : ServedState) (place : ℕ) (change : SlaveState → SlaveState) (later : ServedState)
+    : Type 0 where
+  pub slave : SlaveState
+  pub there : slice_get before.ring.slaves place ≡ Some slave
+  pub leaves : later ≡ record before { ring = with_slave before.ring place (change slave) }
+
+-- a slave whose process memory has these bytes from an address on, and shows them
+abbrev pub loaded : ℕ → List ℕ → SlaveState → SlaveState
+loaded address bytes slave = with_controller slave (with_bytes slave.controller address bytes)
+
+-- a slave in this state, with no error
+abbrev pub put_in : AlState → SlaveState → SlaveState
+put_in state slave = with_controller slave (with_state slave.controller state)
+
+-- ---- what is refused
+
+-- a line of n slaves has the links 0 to n
+abbrev pub link_fault : ServedState → ℕ → Option BenchFault
+link_fault s k = if nat_lt (length s.ring.slaves) k then Some NoLink else None
+
+-- and the slaves 0 to n - 1
+abbrev pub slave_fault : ServedState → ℕ → Option BenchFault
+slave_fault s place = if nat_lt place (length s.ring.slaves) then None else Some NoSlave
+
+-- bytes lie in process memory
+abbrev pub bytes_fault : ℕ → List ℕ → Option BenchFault
+bytes_fault address bytes =
+    if nat_lt address PROCESS_MEMORY then Some OutsideMemory else
+    (if nat_lt MEMORY_SIZE (address + length bytes) then Some OutsideMemory else None)
+
+-- the bytes of a slave that is there
+abbrev pub load_fault : ServedState → ℕ → ℕ → List ℕ → Option BenchFault
+load_fault s place address bytes =
+    if nat_lt place (length s.ring.slaves) then bytes_fault address bytes else Some NoSlave

@@ -1,0 +1,139 @@
+//! What is done to a line between its rounds: cables, lost copies, inputs and states.
+
+ghost use Rattle.std.specs.Prelude.{◌≡◌, ◌≢◌, ℕ, ◌+◌, ◌-◌, ◌^◌, ◌==◌, ◌<◌, ◌≤◌};
+ghost use Rattle.std.specs.Prelude.{OnOk, OnErr, length, min, position};
+ghost use Rattle.std.specs.Result.{result_err};
+ghost use Rattle.ec_esc.specs.State.{word_at};
+ghost use Rattle.ec_regs.specs.declared.registers.TheConstants.{MEMORY_SIZE, PROCESS_MEMORY, STATION_ADDRESS};
+ghost use Rattle.ec_ring.specs.Links.{is_up};
+ghost use Rattle.ecat_serve.specs.Bench.{Changes, bytes_fault, link_fault, load_fault, loaded};
+ghost use Rattle.ecat_serve.specs.Bench.{put_in, slave_fault, with_links};
+ghost use Rattle.ecat_serve.specs.State.{losing, to_lose_at, unplugged};
+
+use crate::served::Served;
+use ec_app::Slave;
+use ec_regs::AlState;
+use ec_regs::registers::{MEMORY_SIZE, PROCESS_MEMORY};
+use ec_ring::Port;
+
+/// Why a line was not changed as asked. Where several hold, the first of them in this order is told.
+#[derive(Clone, Copy, PartialEq, Eq, Debug)]
+pub enum BenchFault {
+    /// The line has no such link: its last one has the number of its slaves.
+    NoLink,
+    /// The line has no such slave.
+    NoSlave,
+    /// The bytes do not lie in process memory, 0x1000 to 0x2FFF.
+    OutsideMemory,
+}
+
+impl Served {
+    /// Puts a link up or down, 0 before the first slave to n behind the last of n; all else stays. Without
+    /// such a link nothing changes.
+    pub fn set_link(&mut self, k: usize, up: bool) -> Result<(), BenchFault>
+        ensures err { result_err result ≡ link_fault self.old k }
+        ensures unchanged { OnErr result (self.new ≡ self.old) }
+        ensures at { OnOk result (is_up self.new.ring.links k ≡ up) }
+        ensures others { OnOk result ((j : ℕ) → j ≢ k
+            → is_up self.new.ring.links j ≡ is_up self.old.ring.links j) }
+        ensures stays { OnOk result (self.new ≡ with_links self.old self.new.ring.links) }
+    {
+        if self.ring.slaves().len() < k {
+            return Err(BenchFault::NoLink);
+        }
+        self.ring.set_link(k, up);
+        Ok(())
+    }
+
+    /// Has this many more of the copies that arrive at an end be lost there; all else stays. What would be
+    /// past the greatest number is that number.
+    pub fn lose(&mut self, at: Port, count: u64)
+        ensures { self.new ≡ losing self.old at (min (to_lose_at self.old at + count) (2 ^ 64 - 1)) }
+    {
+        let before = self.to_lose(at);
+        self.set_to_lose(at, before.saturating_add(count));
+    }
+
+    /// Unplugs whoever spoke last at an end: from now on nobody has spoken there, so that nothing is sent
+    /// from it, and at end B the last link counts as down. All else stays; the next frame there plugs in
+    /// again.
+    pub fn unplug(&mut self, at: Port)
+        ensures { self.new ≡ unplugged self.old at }
+    {
+        match at {
+            Port::A => self.peer_a = None,
+            Port::B => self.peer_b = None,
+        }
+    }
+
+    /// The place of the first slave whose station address this is, the first slave's place being 0.
+    pub fn place_of(&self, station: u16) -> Option<usize>
+        ensures { result ≡ position
+            (λ slave. word_at slave.controller.memory STATION_ADDRESS == station) self.now.ring.slaves }
+    {
+        self.ring
+            .slaves()
+            .iter()
+            .position(|slave| slave.controller().station() == station)
+    }
+
+    /// Writes bytes to the process memory of the slave at a place, and shows them, as its application's
+    /// inputs would be; all else stays. On an error nothing changes.
+    pub fn load(&mut self, place: usize, address: u16, bytes: &[u8]) -> Result<(), BenchFault>
+        ensures err { result_err result ≡ load_fault self.old place address bytes.now }
+        ensures unchanged { OnErr result (self.new ≡ self.old) }
+        ensures ok { OnOk result (Changes self.old place (loaded address bytes.now) self.new) }
+    {
+        self.check_slave(place)?;
+        check_bytes(address, bytes)?;
+        load_slave(self.ring.slave_mut(place), address, bytes);
+        Ok(())
+    }
+
+    /// Puts the slave at a place into a state, with no error and with the AL status code 0 (IEC 61158-6-12,
+    /// AL status); all else stays. Without such a slave nothing changes.
+    pub fn set_state(&mut self, place: usize, state: AlState) -> Result<(), BenchFault>
+        ensures err { result_err result ≡ slave_fault self.old place }
+        ensures unchanged { OnErr result (self.new ≡ self.old) }
+        ensures ok { OnOk result (Changes self.old place (put_in state) self.new) }
+    {
+        self.check_slave(place)?;
+        self.ring.slave_mut(place).set_state(state);
+        Ok(())
+    }
+
+    /// Tests that a slave has this place.
+    fn check_slave(&self, place: usize) -> Result<(), BenchFault>
+        ensures err { result_err result ≡ slave_fault self.now place }
+        ensures there { OnOk result (place < length self.now.ring.slaves) }
+    {
+        if self.ring.slaves().len() <= place {
+            return Err(BenchFault::NoSlave);
+        }
+        Ok(())
+    }
+}
+
+/// Tests that bytes lie in process memory.
+fn check_bytes(address: u16, bytes: &[u8]) -> Result<(), BenchFault>
+    ensures err { result_err result ≡ bytes_fault address bytes.now }
+    ensures from { OnOk result (PROCESS_MEMORY ≤ address) }
+    ensures to { OnOk result (address + length bytes.now ≤ MEMORY_SIZE) }
+{
+    if address < PROCESS_MEMORY {
+        return Err(BenchFault::OutsideMemory);
+    }
+    if usize::from(MEMORY_SIZE) < usize::from(address) + bytes.len() {
+        return Err(BenchFault::OutsideMemory);
+    }
+    Ok(())
+}
+
+/// Writes bytes to the process memory of a slave, and shows them; all else stays.
+fn load_slave(slave: &mut Slave, address: u16, bytes: &[u8])
+    requires from { PROCESS_MEMORY ≤ address }
+    requires to { address + length bytes.now ≤ MEMORY_SIZE }
+    ensures { slave.new ≡ loaded address bytes.now slave.old }
+{
+    slave.controller_mut().load(address, bytes);
+}
