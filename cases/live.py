@@ -4,6 +4,7 @@ Each is a function of a `Stage`. It gives what `cases/try` compares: a name, wha
 """
 import os
 import select
+import shutil
 import socket
 import subprocess
 import time
@@ -21,9 +22,15 @@ TWO = "0e100707020030010200000001000200"
 # Nothing of this is a frame in the UDP form: cut, padded, empty, of another type, too long.
 RUBBISH = [ASKED[:-1], ASKED + b"\0", b"", ASKED[:1] + b"\x40" + ASKED[2:], bytes(1600)]
 
+# What a word is answered by that is no command.
+REFUSED_WORD = "refused: UnknownWord, wanted link, mem, state, lose, unplug, areas, line, counts or quit"
+
 # A capture's header, and the record of a packet of 14 bytes.
 CAPTURE = bytes.fromhex("d4c3b2a1 0200 0400 00000000 00000000 ffff0000 01000000")
 RECORD = bytes.fromhex("00000000 00000000 0e000000 0e000000 ffffffffffff 020000000001 0806")
+
+# A program under strace, whose waits for sockets fail.
+NO_WAITS = ["strace", "-qq", "-o", "/dev/null", "-e", "inject=epoll_wait,epoll_pwait:error=EBADF"]
 
 
 class Running:
@@ -201,6 +208,123 @@ def packets_that_come_late_are_answered(stage):
             yield "end", "packets 4 frames 4 dropped 0\n0\n", line.end()
 
 
+def controlled(stage, scene, *words):
+    """Serves a scene under commands."""
+    return stage.serve(scene, "--control", *words, stdin=subprocess.PIPE)
+
+
+def command(line, text):
+    """Gives a command, and answers the line that comes first of its answer."""
+    line.process.stdin.write(text.encode() + b"\n")
+    return line.line()
+
+
+@case
+def cable_breaks_between_two_packets(stage):
+    with controlled(stage, "slave 1\nslave 2\n") as line, stage.master() as master:
+        yield "whole", TWO, asked(master, stage.port)
+        yield "break", "ok\n", command(line, "link 1 down")
+        yield "broken", ONE, asked(master, stage.port)
+        yield "no link", "refused: OutOfRange,", command(line, "link 3 up")[:20]
+        yield "broken still", ONE, asked(master, stage.port)
+        yield "mend", "ok\n", command(line, "link 1 up")
+        yield "mended", TWO, asked(master, stage.port)
+        yield "quit", "ok\n", command(line, "quit")
+        yield "end", "packets 4 frames 4 dropped 0\n0\n", line.end()
+
+
+@case
+def copies_are_lost_on_command(stage):
+    with controlled(stage, "slave 1\n") as line, stage.master() as master:
+        yield "lose", "ok\n", command(line, "lose A 2")
+        for _ in range(2):
+            master.sendto(ASKED, ("127.0.0.1", stage.port))
+        yield "answer of the third", ONE, asked(master, stage.port)
+        yield "counts", "packets 3 frames 3 dropped 0\n", command(line, "counts")
+        master.settimeout(0.05)
+        try:
+            yield "no more", "", master.recv(2000).hex()
+        except TimeoutError:
+            pass
+        yield "ok", "ok\n", line.line()
+
+
+@case
+def unplugged_end_gets_nothing_until_it_speaks(stage):
+    with controlled(stage, "slave 1\nslave 2\n") as line:
+        with stage.master() as one, stage.master() as other:
+            other.sendto(ASKED, ("127.0.0.1", stage.port + 1))
+            yield "counts", "packets 1 frames 1 dropped 0\n", command(line, "counts")
+            yield "ok", "ok\n", line.line()
+            one.sendto(ASKED, ("127.0.0.1", stage.port))
+            yield "from A, at B", TWO, other.recv(2000).hex()
+            yield "unplug", "ok\n", command(line, "unplug B")
+            yield "from A, at A", TWO, asked(one, stage.port)
+            other.sendto(ASKED, ("127.0.0.1", stage.port + 1))
+            yield "from B, at A", ASKED.hex(), one.recv(2000).hex()
+
+
+@case
+def inputs_and_states_move_between_two_packets(stage):
+    read = bytes.fromhex("0d10 0a00 0000 0100 0100 0000 00 0000")
+    scene = "slave 1\nsm 3 0x1100 1 read\nfmmu 0 0x10000 1 0 7 0x1100 0 read\n"
+    with controlled(stage, scene) as line, stage.master() as master:
+        yield "input", "ok\n", command(line, "mem 0 0x1100 5a")
+        yield "answer", "0d100a0000000100010000005a0100", asked(master, stage.port, read)
+        yield "state", "ok\n", command(line, "state 0x0001 8")
+        yield "status", ONE.replace("01000100", "08000100"), asked(master, stage.port)
+
+
+@case
+def half_a_command_waits_for_its_end(stage):
+    with controlled(stage, "slave 1\n") as line, stage.master() as master:
+        line.process.stdin.write(b"link 0 do")
+        yield "before", ONE, asked(master, stage.port)
+        line.process.stdin.write(b"wn\ncou")
+        yield "broken", "ok\n", line.line()
+        line.process.stdin.close()
+        line.process.stdin = None
+        yield "end", REFUSED_WORD + "\npackets 1 frames 1 dropped 0\n0\n", line.end()
+
+
+@case
+def line_of_input_has_1024_bytes_at_most(stage):
+    with controlled(stage, "slave 1\n") as line:
+        yield "most", "ok\n", command(line, "#" + "x" * 1023)
+        yield "more", "refused: TooLong, wanted 1024 bytes at most\n", command(line, "#" + "x" * 1024)
+        yield "many more", "refused: TooLong, wanted 1024 bytes at most\n", command(line, "#" + "x" * 9999)
+        yield "next", "ok\n", command(line, "link 0 down")
+
+
+@case
+def commands_come_between_packets_that_never_end(stage):
+    """More packets wait than are taken in a row."""
+    with controlled(stage, "slave 1\n") as line, stage.master() as master:
+        for _ in range(100):
+            master.sendto(b"no frame", ("127.0.0.1", stage.port))
+        yield "counts", "packets", command(line, "counts")[:7]
+        yield "ok", "ok\n", line.line()
+
+
+@case
+def commands_of_a_file_are_done(stage):
+    stage.file("commands", "link 0 down\ncounts\n")
+    with open(os.path.join(stage.folder, "commands"), "rb") as commands:
+        with stage.serve("slave 1\n", "--control", stdin=commands) as line:
+            counts = "packets 0 frames 0 dropped 0\n"
+            yield "end", f"ok\n{counts}ok\n{counts}0\n", line.end()
+
+
+@case
+def service_under_commands_ends_after_its_packets(stage):
+    with controlled(stage, "slave 1\n", "--packets", "2") as line, stage.master() as master:
+        yield "answer", ONE, asked(master, stage.port)
+        yield "break", "ok\n", command(line, "link 0 down")
+        master.sendto(ASKED, ("127.0.0.1", stage.port))
+        yield "counts", "packets 2 frames 2 dropped 0\n", line.line()
+        yield "status", "0", str(line.process.wait(stage.limit))
+
+
 @case
 def outputs_of_a_service_are_told(stage):
     write = bytes.fromhex("0d10 0500 0110 0010 0100 0000 c3 0000")
@@ -333,3 +457,18 @@ def largest_item_is_told_whole(stage):
     told = f"item 0 LRD data {digits} wkc 0 of 0\n"
     yield "run", told + "0\n", stage.ends("run", "s")
     yield "udp", "good\n" + told + "0\n", stage.ends("udp", "s", "--port", str(stage.port))
+
+
+@case
+def wait_that_fails_ends_a_service(stage):
+    """Where strace is not to be had there is nothing to see."""
+    quiet = {"stderr": subprocess.DEVNULL}
+    if not shutil.which("strace") or subprocess.run([*NO_WAITS, "true"], **quiet).returncode:
+        return
+    stage.file("s", SLAVE)
+    words = [*NO_WAITS, stage.ecat, "serve", "s", "--port", str(stage.port), "--packets", "1"]
+    streams = {"stdin": subprocess.DEVNULL, "capture_output": True, "text": True}
+    done = subprocess.run(words, cwd=stage.folder, timeout=stage.limit, **streams)
+    yield "output", f"serving A 127.0.0.1:{stage.port} B 127.0.0.1:{stage.port + 1}\n", done.stdout
+    yield "error", "cycle: Port\n", done.stderr
+    yield "status", "3\n", f"{done.returncode}\n"

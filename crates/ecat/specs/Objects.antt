@@ -1,5 +1,7 @@
--- What is printed of a transfer: the value, or what is in the way; and the value of the command line.
+-- What is printed of a transfer: the value, or what is in the way, and how many trips it took; and the value
+-- of the command line.
 use Rattle.std.specs.Prelude.{ℕ, ◌++◌, List, codes}
+use Rattle.std.specs.Fmt.{decimal}
 use Rattle.ec_app.specs.declared.value.Value.{Value}
 use Rattle.ec_app.specs.declared.value.Value.TheVariants.{One, Two, Four}
 use Rattle.ec_services.specs.declared.fault.MasterFault.{MasterFault}
@@ -26,6 +28,10 @@ fault_words BadAnswer = codes "fault BadAnswer"
 fault_words Broken = codes "fault Broken"
 fault_words Port = codes "fault Port"
 fault_words Stranger = codes "fault Stranger"
+
+-- how many trips were made
+unfoldable pub trips_words : ℕ → List ℕ
+trips_words made = codes "trips " ++ decimal made
 
 -- the value of the command line, of its size
 abbrev pub value_of : Word → Value

@@ -4,10 +4,13 @@ ghost use Rattle.std.specs.Prelude.{◌≡◌, false};
 ghost use Rattle.ecat.specs.Commands.{goes_over_packets};
 
 use crate::check::check;
+use crate::cover::cover;
 use crate::run::run;
 use crate::sdo::{Asked, sdo, value_of};
 use crate::show::show;
+use crate::sweep::sweep;
 use crate::vectors::vectors;
+use crate::where_broken::where_broken;
 use ecat_args::Args;
 use ecat_scene::SceneFault;
 use ecat_source::{PcapFault, Source};
@@ -70,13 +73,17 @@ where
 {
     let done = match args {
         Args::Check { .. } => check(alloc, source, out),
-        Args::Run { .. } => run(alloc, source, out),
+        Args::Cover { .. } => cover(alloc, source, out),
+        Args::Where { .. } => where_broken(alloc, source, out),
+        Args::Run { judge, .. } => run(alloc, *judge, source, out),
+        Args::Sweep { .. } => sweep(alloc, source, out),
         Args::Show { .. } => show(alloc, source, out),
         Args::Sdo {
             station,
             index,
             sub,
             value,
+            surely,
             ..
         } => {
             let asked = Asked {
@@ -84,8 +91,9 @@ where
                 index: *index,
                 sub: *sub,
                 value: value.map(value_of),
+                surely: *surely,
             };
-            sdo(alloc, &asked, source, out)
+            sdo(alloc, &asked, source, out, err)
         }
         Args::Vectors => vectors(alloc, out),
         Args::Udp { .. } | Args::Serve { .. } => unreachable!(),

@@ -14,7 +14,7 @@ use std::io::{self, Write};
 
 /// A verdict as it is printed.
 #[derive(Drop)]
-struct VerdictText(Verdict);
+pub struct VerdictText(pub Verdict);
 
 impl fmt::Display for VerdictText {
     ghost output = { λ text. Some (verdict_words text.0) };
@@ -106,7 +106,7 @@ pub fn print_verdict<W: Write>(verdict: Verdict, lines: &mut Lines<'_, W>) -> io
 }
 
 /// The exit status that a verdict gives.
-fn status_of(verdict: Verdict) -> u8
+pub fn status_of(verdict: Verdict) -> u8
     ensures { result ≡ verdict_status verdict }
 {
     match verdict {

@@ -95,17 +95,16 @@ pub fn ring_of(
         return Err(Failure::TooMany);
     };
     for link in links_down {
-        put_down(&mut ring, *link);
+        put(&mut ring, *link as usize, false);
     }
     Ok(ring)
 }
 
-/// Puts a link down, if the ring has it.
-fn put_down(ring: &mut Ring, link: u64) {
+/// Puts a link up or down, if the ring has it.
+pub fn put(ring: &mut Ring, link: usize, up: bool) {
     let last = ring.slaves().len();
-    let link = link as usize;
     if link <= last {
-        ring.set_link(link, false);
+        ring.set_link(link, up);
     }
 }
 

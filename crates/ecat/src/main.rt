@@ -2,11 +2,15 @@
 #![tactic(auto)]
 
 mod act;
+mod cable;
 mod carry;
 mod check;
+mod control;
+mod cover;
 mod cycle;
 mod cycle_rows;
 mod frame_rows;
+mod judge;
 mod line;
 mod print;
 mod run;
@@ -14,11 +18,16 @@ mod scene_rows;
 mod sdo;
 mod serve;
 mod show;
+mod slave_lines;
 mod slave_rows;
+mod stepping_ports;
+mod sweep;
 mod udp;
 mod vectors;
+mod where_broken;
 
 use act::{Failure, act, report};
+use control::act_control;
 use ecat_args::{Args, ArgsFault};
 use ecat_serve::UdpEnds;
 use ecat_source::{Bytes, Counted, Source};
@@ -28,7 +37,7 @@ use std::net::Net;
 use std::process::ExitCode;
 use std::rt::{Env, Files, Stdin};
 use std::{env, fs, io};
-use udp::{act_udp, prepare_udp};
+use udp::{Wanted, act_udp, prepare_udp};
 
 /// The words of the command line are no command.
 const BAD_ARGUMENTS: u8 = 2;
@@ -85,7 +94,10 @@ where
     let path = match args {
         Args::Show { file } => *file,
         Args::Check { scene }
-        | Args::Run { scene }
+        | Args::Cover { scene }
+        | Args::Where { scene }
+        | Args::Run { scene, .. }
+        | Args::Sweep { scene }
         | Args::Sdo { scene, .. }
         | Args::Udp { scene, .. }
         | Args::Serve { scene, .. } => *scene,
@@ -96,11 +108,23 @@ where
     };
     let mut source = Counted::new(file);
     match args {
-        Args::Udp { port, .. } => udp_at(rt, *port, &mut source, out, err),
-        Args::Serve { port, packets, .. } => {
+        Args::Udp { port, judge, .. } => {
+            let wanted = Wanted {
+                port: *port,
+                judge: *judge,
+            };
+            udp_at(rt, wanted, &mut source, out, err)
+        }
+        Args::Serve {
+            port,
+            packets,
+            control,
+            ..
+        } => {
             let service = Service {
                 port: *port,
                 packets: *packets,
+                control: *control,
             };
             serve_at(rt, service, input, &mut source, out, err)
         }
@@ -109,7 +133,7 @@ where
 }
 
 /// Does the work of a scene over sockets, which are opened once it is known that there is work.
-fn udp_at<R, S, W, V>(rt: &R, port: u16, source: &mut S, out: &mut W, err: &mut V) -> u8
+fn udp_at<R, S, W, V>(rt: &R, wanted: Wanted, source: &mut S, out: &mut W, err: &mut V) -> u8
 where
     R: Net + AllocGlobal,
     S: Source,
@@ -120,14 +144,14 @@ where
         Ok(prepared) => prepared,
         Err(status) => return status,
     };
-    match UdpLine::bind(rt, port) {
-        Ok(line) => act_udp(prepared, line, out, err),
+    match UdpLine::bind(rt, wanted.port) {
+        Ok(line) => act_udp(prepared, wanted.judge, line, out, err),
         Err(_) => report(&Failure::Bind, out, err),
     }
 }
 
 /// Serves the line of a scene. Its ends are opened once it is known that there is one. The service ends with
-/// the input where no number of packets ends it.
+/// the input where that has commands, or where no number of packets ends it.
 fn serve_at<R, S, W, V>(
     rt: &R,
     service: Service,
@@ -147,12 +171,18 @@ where
         Err(status) => return status,
     };
     let awaited = match service.packets {
-        Some(_) => None,
-        None => Some(input),
+        Some(_) if !service.control => None,
+        _ => Some(input),
     };
-    match UdpEnds::bind(rt, rt.alloc(), service.port, awaited) {
-        Ok(mut ends) => act_serve(ring, service, &mut ends, out, err),
-        Err(fault) => report(&unbound(fault), out, err),
+    let mut ends = match UdpEnds::bind(rt, rt.alloc(), service.port, awaited) {
+        Ok(ends) => ends,
+        Err(fault) => return report(&unbound(fault), out, err),
+    };
+    if service.control {
+        ends.keep_lines();
+        act_control(rt.alloc(), ring, service, &mut ends, out, err)
+    } else {
+        act_serve(ring, service, &mut ends, out, err)
     }
 }
 

@@ -6,12 +6,14 @@ ghost use Rattle.ecat.specs.Areas.{area_words};
 use crate::act::{Failure, GOOD, REFUSED};
 use crate::carry::carry;
 use crate::check::refuse;
-use crate::cycle::{cycle, work_of};
+use crate::cycle::{cycle, print_items, status_of, work_of};
+use crate::judge::{judged_cycle, print_cable};
 use crate::line::{ring_of, scene_of, weathers_of};
 use crate::print::Lines;
 use ec_app::Slave;
+use ec_master::{Reporting, WeatherPorts, Work, all_expected};
 use ec_regs::registers::SYNC_MANAGER_COUNT;
-use ec_ring::Ring;
+use ec_ring::{Ring, Weather};
 use ecat_scene::Action;
 use ecat_source::Source;
 use std::alloc::Global;
@@ -37,8 +39,14 @@ impl fmt::Display for AreaHead {
 
 /// Runs the scene that the source holds: its frames and steps in their order; if it has items, one cycle of
 /// them, where the line as it then is and the items are accepted; then a line for each active buffered area
-/// that the master writes. All memory is taken before anything is printed.
-pub fn run<S: Source, W: Write>(alloc: Global, source: &mut S, out: &mut W) -> Result<u8, Failure> {
+/// that the master writes. With `judge` the cycle is judged whatever the scene has, and what is in the way of
+/// a good verdict is printed. All memory is taken before anything is printed.
+pub fn run<S: Source, W: Write>(
+    alloc: Global,
+    judge: bool,
+    source: &mut S,
+    out: &mut W,
+) -> Result<u8, Failure> {
     let scene = scene_of(alloc, source)?;
     let weathers = weathers_of(alloc, scene.weathers.as_slice())?;
     let mut ring = ring_of(alloc, scene.slaves, scene.links_down.as_slice())?;
@@ -46,16 +54,40 @@ pub fn run<S: Source, W: Write>(alloc: Global, source: &mut S, out: &mut W) -> R
     for action in &scene.actions {
         act_on(&mut ring, action, &mut lines)?;
     }
-    let mut status = GOOD;
-    if !scene.items.is_empty() {
-        if refuse(ring.slaves(), scene.items.as_slice(), &mut lines)? {
-            return Ok(REFUSED);
-        }
-        let mut work = work_of(scene.items)?;
-        status = cycle(&mut ring, &mut work, weathers.as_slice(), &mut lines)?;
+    if scene.items.is_empty() {
+        print_areas(ring.slaves(), &mut lines)?;
+        return Ok(GOOD);
     }
+    if refuse(ring.slaves(), scene.items.as_slice(), &mut lines)? {
+        return Ok(REFUSED);
+    }
+    let mut work = work_of(scene.items)?;
+    if judge {
+        return judged(ring, &mut work, weathers.as_slice(), &mut lines);
+    }
+    let status = cycle(&mut ring, &mut work, weathers.as_slice(), &mut lines)?;
     print_areas(ring.slaves(), &mut lines)?;
     Ok(status)
+}
+
+/// Does one cycle of the work over the ring, and prints its verdict, what is in the way of a good one, the
+/// items and the areas.
+fn judged<W: Write>(
+    ring: Ring,
+    work: &mut Work,
+    weathers: &[Weather],
+    lines: &mut Lines<'_, W>,
+) -> Result<u8, Failure> {
+    let expected = all_expected(ring.slaves(), work);
+    let count = work.len();
+    let mut ports = Reporting::new(WeatherPorts::new(ring, weathers));
+    let verdict = judged_cycle(&mut ports, work, &expected[..count], lines)?;
+    let (ports, report) = ports.into_parts();
+    let mut ring = ports.into_ring();
+    print_cable(verdict, &report, &mut ring, weathers, lines)?;
+    print_items(work, &expected, lines)?;
+    print_areas(ring.slaves(), lines)?;
+    Ok(status_of(verdict))
 }
 
 /// Prints a line for each active buffered area of the slaves that the master writes.

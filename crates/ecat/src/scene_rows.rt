@@ -31,7 +31,7 @@ pub fn prints(
         return Ok(false);
     }
     let mut out = Cursor::new([0u8; ROOM]);
-    let answer = run(alloc, &mut Bytes::new(text.as_slice()), &mut out)?;
+    let answer = run(alloc, false, &mut Bytes::new(text.as_slice()), &mut out)?;
     Ok(answer == status && written(&out) == printed)
 }
 

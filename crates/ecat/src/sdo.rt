@@ -2,17 +2,21 @@
 
 ghost use Rattle.std.specs.Prelude.{◌≡◌, IfSome, IfOk, Some};
 ghost use Rattle.ec_services.specs.Mailbox.{IsPeer};
-ghost use Rattle.ecat.specs.Objects.{fault_words, value_of, value_words};
+ghost use Rattle.ecat.specs.Objects.{fault_words, trips_words, value_of, value_words};
 
 use crate::act::{Failure, GOOD, REFUSED};
-use crate::line::{ring_of, scene_of};
+use crate::line::{ring_of, scene_of, weathers_of};
 use crate::print::Lines;
+use crate::stepping_ports::SteppingPorts;
 use ec_app::roles::{ANSWER_MAILBOX, REQUEST_MAILBOX, is_answer_mailbox, is_request_mailbox};
 use ec_app::{Slave, Value};
 use ec_master::RingPorts;
 use ec_regs::SyncMan;
-use ec_ring::Ring;
-use ec_services::{Area, MasterFault, Peer, sdo_download, sdo_upload};
+use ec_ring::{Ring, Weather};
+use ec_services::{
+    Area, MasterFault, Peer, download_surely, sdo_download, sdo_upload, upload_surely,
+};
+use ecat_scene::Scene;
 use ecat_source::Source;
 use std::alloc::Global;
 use std::fmt;
@@ -20,6 +24,9 @@ use std::io::{self, Write};
 
 /// The most reads of the mailbox of answers.
 const LIMIT: u32 = 8;
+
+/// The most trips of a transfer that is done surely.
+const TRIPS: u32 = 64;
 
 /// What the command asks of an object.
 #[derive(Clone, Copy)]
@@ -32,23 +39,58 @@ pub struct Asked {
     pub sub: u8,
     /// What to write; without it the object is read.
     pub value: Option<Value>,
+    /// Whether trips are made until it is done, whatever copies are lost.
+    pub surely: bool,
 }
 
 /// Reads or writes an object of a slave of the scene that the source holds, over its ring, and prints the
-/// value, `written`, or what is in the way. The actions, items and weathers of the scene are passed over.
-pub fn sdo<S: Source, W: Write>(
+/// value, `written`, or what is in the way. The actions and items of the scene are passed over, and so are
+/// its weathers, unless it is done surely: each trip is under the next of them then, and `err` is told how
+/// many trips there were.
+pub fn sdo<S, W, V>(
     alloc: Global,
     asked: &Asked,
     source: &mut S,
     out: &mut W,
-) -> Result<u8, Failure> {
+    err: &mut V,
+) -> Result<u8, Failure>
+where
+    S: Source,
+    W: Write,
+    V: Write,
+{
     let scene = scene_of(alloc, source)?;
-    let ring = ring_of(alloc, scene.slaves, scene.links_down.as_slice())?;
     let mut lines = Lines::new(out);
+    if asked.surely {
+        return sdo_surely(alloc, asked, scene, &mut lines, err);
+    }
+    let ring = ring_of(alloc, scene.slaves, scene.links_down.as_slice())?;
     let status = match peer_at(ring.slaves(), asked.station) {
         None => print(FaultText(MasterFault::NoSlave), REFUSED, &mut lines)?,
         Some(peer) => transfer(ring, peer, asked, &mut lines)?,
     };
+    Ok(status)
+}
+
+/// Reads or writes the object surely, in the weathers of the scene, prints what came of it, and tells `err`
+/// how many trips there were. All memory is taken before anything is printed.
+fn sdo_surely<W: Write, V: Write>(
+    alloc: Global,
+    asked: &Asked,
+    scene: Scene,
+    lines: &mut Lines<'_, W>,
+    err: &mut V,
+) -> Result<u8, Failure> {
+    let weathers = weathers_of(alloc, scene.weathers.as_slice())?;
+    let ring = ring_of(alloc, scene.slaves, scene.links_down.as_slice())?;
+    let peer = peer_at(ring.slaves(), asked.station);
+    let mut ports = SteppingPorts::new(ring, weathers.as_slice());
+    let status = match peer {
+        None => print(FaultText(MasterFault::NoSlave), REFUSED, lines)?,
+        Some(peer) => transfer_surely(&mut ports, peer, asked, lines)?,
+    };
+    let trips = TripsText(ports.made());
+    let _ = writeln!(err, "{trips}");
     Ok(status)
 }
 
@@ -113,17 +155,54 @@ fn transfer<W: Write>(
     requires { IsPeer peer }
 {
     let mut ports = RingPorts::new(ring);
+    let Asked { index, sub, .. } = *asked;
     match asked.value {
-        None => match sdo_upload(&mut ports, &mut peer, asked.index, asked.sub, LIMIT) {
-            Ok(value) => print(ValueText(value), GOOD, lines),
-            Err(fault) => print(FaultText(fault), REFUSED, lines),
-        },
-        Some(value) => {
-            match sdo_download(&mut ports, &mut peer, asked.index, asked.sub, value, LIMIT) {
-                Ok(()) => print("written", GOOD, lines),
-                Err(fault) => print(FaultText(fault), REFUSED, lines),
-            }
-        }
+        None => print_read(sdo_upload(&mut ports, &mut peer, index, sub, LIMIT), lines),
+        Some(value) => print_written(
+            sdo_download(&mut ports, &mut peer, index, sub, value, LIMIT),
+            lines,
+        ),
+    }
+}
+
+/// Reads or writes the object, whatever copies are lost, and prints what came of it.
+fn transfer_surely<W: Write>(
+    ports: &mut SteppingPorts<'_>,
+    mut peer: Peer,
+    asked: &Asked,
+    lines: &mut Lines<'_, W>,
+) -> io::Result<u8>
+    requires { IsPeer peer }
+{
+    let Asked { index, sub, .. } = *asked;
+    match asked.value {
+        None => print_read(upload_surely(ports, &mut peer, index, sub, TRIPS), lines),
+        Some(value) => print_written(
+            download_surely(ports, &mut peer, index, sub, value, TRIPS),
+            lines,
+        ),
+    }
+}
+
+/// Prints what came of an object that was read, and answers the exit status.
+fn print_read<W: Write>(
+    read: Result<Value, MasterFault>,
+    lines: &mut Lines<'_, W>,
+) -> io::Result<u8> {
+    match read {
+        Ok(value) => print(ValueText(value), GOOD, lines),
+        Err(fault) => print(FaultText(fault), REFUSED, lines),
+    }
+}
+
+/// Prints what came of an object that was written, and answers the exit status.
+fn print_written<W: Write>(
+    written: Result<(), MasterFault>,
+    lines: &mut Lines<'_, W>,
+) -> io::Result<u8> {
+    match written {
+        Ok(()) => print("written", GOOD, lines),
+        Err(fault) => print(FaultText(fault), REFUSED, lines),
     }
 }
 
@@ -161,6 +240,20 @@ impl fmt::Display for FaultText {
             MasterFault::Port => write!(f, "fault Port"),
             MasterFault::Stranger => write!(f, "fault Stranger"),
         }
+    }
+}
+
+/// How many trips were made, as it is printed.
+#[derive(Drop)]
+struct TripsText(u32);
+
+impl fmt::Display for TripsText {
+    ghost output = { λ text. Some (trips_words text.0) };
+
+    #[tactic(auto, unfolding(crate::specs::Objects::trips_words))]
+    fn fmt<W: fmt::Write>(&self, f: &mut fmt::Formatter<W>) -> fmt::Result {
+        let made = self.0;
+        write!(f, "trips {made}")
     }
 }
 

@@ -10,11 +10,11 @@ use crate::print::Lines;
 use crate::run::print_areas;
 use ec_master::PortFault;
 use ec_ring::Ring;
-use ecat_serve::{BindFault, Ends, Served};
+use ecat_serve::{BindFault, Counts, Ends, Served};
 use ecat_source::Source;
 use std::alloc::Global;
 use std::fmt;
-use std::io::Write;
+use std::io::{self, Write};
 
 /// Where a line is served, and for how long.
 #[derive(Clone, Copy)]
@@ -23,6 +23,8 @@ pub struct Service {
     pub port: u16,
     /// After how many packets the service ends; without it where no more are to come.
     pub packets: Option<u32>,
+    /// Whether the input has commands.
+    pub control: bool,
 }
 
 impl From<PortFault> for Failure {
@@ -153,21 +155,40 @@ where
 {
     let mut served = Served::new(ring);
     let mut lines = Lines::new(out);
-    lines.text(where_of(service.port))?;
-    lines.end()?;
+    print_where(service.port, &mut lines)?;
     let counts = served.serve(ends, most_packets(service.packets))?;
+    print_end(counts, served.ring(), &mut lines)?;
+    Ok(GOOD)
+}
+
+/// Prints where a line at this port is served.
+pub fn print_where<W: Write>(port: u16, lines: &mut Lines<'_, W>) -> io::Result<()> {
+    lines.text(where_of(port))?;
+    lines.end()
+}
+
+/// Prints how many packets came.
+pub fn print_counts<W: Write>(counts: Counts, lines: &mut Lines<'_, W>) -> io::Result<()> {
     lines.text(CountsText {
         packets: counts.packets(),
         frames: counts.frames,
         dropped: counts.dropped,
     })?;
-    lines.end()?;
-    print_areas(served.ring().slaves(), &mut lines)?;
-    Ok(GOOD)
+    lines.end()
+}
+
+/// Prints how many packets came, and the areas that the master writes as they are at the end.
+pub fn print_end<W: Write>(
+    counts: Counts,
+    ring: &Ring,
+    lines: &mut Lines<'_, W>,
+) -> io::Result<()> {
+    print_counts(counts, lines)?;
+    print_areas(ring.slaves(), lines)
 }
 
 /// After how many packets a service ends; without a number after as many as can be counted.
-fn most_packets(packets: Option<u32>) -> u64
+pub fn most_packets(packets: Option<u32>) -> u64
     ensures { result ≡ most_packets packets }
 {
     match packets {

@@ -4,15 +4,20 @@
 ghost use Rattle.std.specs.Prelude.{◌≡◌, false};
 ghost use Rattle.ecat.specs.Commands.{goes_over_packets};
 
+mod cables;
 mod checking;
+mod controlling;
+mod covers;
 mod cycles;
 mod failing;
+mod judging;
 mod objects;
 mod packets;
 mod rings;
 mod running;
 mod serving;
 mod showing;
+mod sweeps;
 mod worked;
 
 use crate::act::act;
@@ -60,7 +65,10 @@ fn answers<S: Source>(
 fn runs(rt: &(impl AllocGlobal + Abort), scene: &[u8], status: u8, out: &[u8]) {
     answers(
         rt,
-        &Args::Run { scene: "s" },
+        &Args::Run {
+            scene: "s",
+            judge: false,
+        },
         &mut Bytes::new(scene),
         status,
         out,

@@ -4,12 +4,13 @@ ghost use Rattle.std.specs.Prelude.{◌≡◌, length};
 
 use crate::act::{Failure, GOOD, REFUSED, report};
 use crate::check::refuse;
-use crate::cycle::{print_items, print_verdict, work_of};
+use crate::cycle::{print_items, print_verdict, status_of, work_of};
+use crate::judge::{judged_cycle, print_cable};
 use crate::line::{ring_of, scene_for_packets};
 use crate::print::Lines;
 use crate::run::print_areas;
 use ec_map::Item;
-use ec_master::{CycleFault, Work, all_expected, run_cycle};
+use ec_master::{CycleFault, Reporting, Work, all_expected, run_cycle};
 use ec_ring::Ring;
 use ecat_source::Source;
 use ecat_udp::{PacketLine, UdpPorts};
@@ -23,6 +24,15 @@ impl From<CycleFault> for Failure {
             CycleFault::Stranger => Failure::Stranger,
         }
     }
+}
+
+/// What the words of `udp` say of its cycle.
+#[derive(Clone, Copy)]
+pub struct Wanted {
+    /// The port of the line's end A. The end B has the next one.
+    pub port: u16,
+    /// Whether what is in the way of a good verdict is printed.
+    pub judge: bool,
 }
 
 /// What `udp` does once its sockets are open: the ring of a scene and its items, which are accepted.
@@ -69,13 +79,13 @@ fn checked<S: Source, W: Write>(
 }
 
 /// Does `udp`, whose packets `line` carries, and answers the exit status. It takes no memory.
-pub fn act_udp<L, W, V>(prepared: Prepared, line: L, out: &mut W, err: &mut V) -> u8
+pub fn act_udp<L, W, V>(prepared: Prepared, judge: bool, line: L, out: &mut W, err: &mut V) -> u8
 where
     L: PacketLine + Drop,
     W: Write,
     V: Write,
 {
-    match udp(prepared, line, out) {
+    match udp(prepared, judge, line, out) {
         Ok(status) => status,
         Err(failure) => report(&failure, out, err),
     }
@@ -83,21 +93,44 @@ where
 
 /// If there are items, one cycle of them over the packets; then a line for each active buffered area that the
 /// master writes.
-fn udp<L, W>(prepared: Prepared, line: L, out: &mut W) -> Result<u8, Failure>
+fn udp<L, W>(prepared: Prepared, judge: bool, line: L, out: &mut W) -> Result<u8, Failure>
 where
     L: PacketLine + Drop,
     W: Write,
 {
     let Prepared { ring, items } = prepared;
-    let mut ports = UdpPorts::new(ring, line);
     let mut lines = Lines::new(out);
-    let mut status = GOOD;
-    if !items.is_empty() {
-        let mut work = work_of(items)?;
-        status = cycle(&mut ports, &mut work, &mut lines)?;
+    if items.is_empty() {
+        print_areas(ring.slaves(), &mut lines)?;
+        return Ok(GOOD);
     }
+    let mut work = work_of(items)?;
+    let mut ports = UdpPorts::new(ring, line);
+    if judge {
+        return judged(ports, &mut work, &mut lines);
+    }
+    let status = cycle(&mut ports, &mut work, &mut lines)?;
     print_areas(ports.ring().slaves(), &mut lines)?;
     Ok(status)
+}
+
+/// Does one cycle of the work, and prints its verdict, what is in the way of a good one, the items and the
+/// areas.
+fn judged<L: PacketLine + Drop, W: Write>(
+    ports: UdpPorts<L>,
+    work: &mut Work,
+    lines: &mut Lines<'_, W>,
+) -> Result<u8, Failure> {
+    let expected = all_expected(ports.ring().slaves(), work);
+    let count = work.len();
+    let mut ports = Reporting::new(ports);
+    let verdict = judged_cycle(&mut ports, work, &expected[..count], lines)?;
+    let (ports, report) = ports.into_parts();
+    let (mut ring, _) = ports.into_parts();
+    print_cable(verdict, &report, &mut ring, &[], lines)?;
+    print_items(work, &expected, lines)?;
+    print_areas(ring.slaves(), lines)?;
+    Ok(status_of(verdict))
 }
 
 /// Does one cycle, and prints its verdict and a line for each item.

@@ -116,9 +116,20 @@ Full-request action.Append id how values rows e h = absurd (true≢false (sym e)
 Full-request action.Count id how values rows e h = absurd (true≢false (sym e))
 Full-request _ id how values rows e h = h
 
--- an argument that has a value in each use, or asks for help
+-- a use of a flag, for which values stand, one at least, and a call for help
+Full-missing : (x : ArgAction) (id : Text) (how : Reading) (missing : List Text) (rows : List Row)
+    → (is_request x || nat_lt 0 (length missing)) ≡ true → Full rows → Full (used_as x id how missing rows)
+Full-missing x id how (v ∷ vs) rows u h = Full-used_as x id how v vs rows h
+Full-missing x id how [] rows u h = go (is_request x) refl u
+  where
+    go : (b : Bool) → is_request x ≡ b → (b || false) ≡ true → Full (used_as x id how [] rows)
+    go true asks u = Full-request x id how [] rows asks h
+    go false asks u = absurd (true≢false (sym u))
+
+-- an argument that has a value in each use, asks for help, or is a flag, for which a value stands
 abbrev pub is_usable : Rule → Bool
-is_usable a = nat_lt 0 (unwrap_or_range a.range).start_inclusive || is_request (action_of a)
+is_usable a = nat_lt 0 (unwrap_or_range a.range).start_inclusive
+    || (is_request (action_of a) || nat_lt 0 (length a.missing))
 
 abbrev Usable : Rule → Type 0
 Usable a = is_usable a ≡ true
@@ -130,11 +141,11 @@ Full-used again a (v ∷ vs) rows usable e h = Full-used_as (action_of a) a.id _
 Full-used again a [] rows usable e h = go (nat_lt 0 (unwrap_or_range a.range).start_inclusive) refl usable
   where
     go : (b : Bool) → nat_lt 0 (unwrap_or_range a.range).start_inclusive ≡ b
-        → (b || is_request (action_of a)) ≡ true → Full (used a [] rows)
+        → (b || (is_request (action_of a) || nat_lt 0 (length a.missing))) ≡ true → Full (used a [] rows)
     go true least u =
         let bad : InvalidValue ∷ [] ≡ [] = rw least at e in
         absurd (some_kind _ bad)
-    go false least u = Full-request (action_of a) a.id _ (values_or_missing a []) rows u h
+    go false least u = Full-missing (action_of a) a.id _ (values_or_missing a []) rows u h
 
 -- what is found among usable arguments is usable
 usable_found : (q : Rule → Bool) (c : List Rule) → list_all is_usable c ≡ true → IfSome (find q c) Usable

@@ -3,11 +3,12 @@ use Rattle.std.specs.Prelude.{◌≡◌, ◌≢◌, ◌⊎◌, List, [], Some, N
 use Rattle.clap.specs.Words.{IsAmong, Text, fault_of, kind_of, subcommand_of, takes}
 use Rattle.clap.specs.declared.error.Error.{Error}
 use Rattle.clap.specs.declared.error.kind.ErrorKind.TheVariants.{OutOfMemory}
-use Rattle.ecat_args.specs.Given.{Given, IsComplete, index_in, packets_in, port_in, station_in}
-use Rattle.ecat_args.specs.Given.{sub_in, value_in, word_in}
+use Rattle.ecat_args.specs.Given.{Given, IsComplete, control_in, index_in, judge_in, packets_in, port_in}
+use Rattle.ecat_args.specs.Given.{station_in, sub_in, surely_in, value_in, word_in}
 use Rattle.ecat_args.specs.Line.{line}
 use Rattle.ecat_args.specs.declared.args.Args.{Args}
-use Rattle.ecat_args.specs.declared.args.Args.TheVariants.{Show, Check, Run, Sdo, Udp, Serve, Vectors}
+use Rattle.ecat_args.specs.declared.args.Args.TheVariants.{Show, Check, Cover, Where, Run, Sweep, Sdo}
+use Rattle.ecat_args.specs.declared.args.Args.TheVariants.{Udp, Serve, Vectors}
 use Rattle.ecat_args.specs.declared.args.ArgsFault.{ArgsFault}
 use Rattle.ecat_args.specs.declared.args.ArgsFault.TheVariants.{Line, BadNumber, NoMemory}
 
@@ -17,18 +18,25 @@ Says (Show file) given =
     (given.0 ≡ codes "show") × (word_in given (codes "FILE") ≡ Some file.now)
 Says (Check scene) given =
     (given.0 ≡ codes "check") × (word_in given (codes "SCENE") ≡ Some scene.now)
-Says (Run scene) given =
+Says (Cover scene) given =
+    (given.0 ≡ codes "cover") × (word_in given (codes "SCENE") ≡ Some scene.now)
+Says (Where scene) given =
+    (given.0 ≡ codes "where") × (word_in given (codes "SCENE") ≡ Some scene.now)
+Says (Run scene judge) given =
     (given.0 ≡ codes "run") × (word_in given (codes "SCENE") ≡ Some scene.now)
-Says (Sdo scene station index sub value) given =
+    × (judge_in given ≡ judge)
+Says (Sweep scene) given =
+    (given.0 ≡ codes "sweep") × (word_in given (codes "SCENE") ≡ Some scene.now)
+Says (Sdo scene station index sub value surely) given =
     (given.0 ≡ codes "sdo") × (word_in given (codes "SCENE") ≡ Some scene.now)
     × (station_in given ≡ Some station) × (index_in given ≡ Some index)
-    × (sub_in given ≡ Some sub) × (value_in given ≡ Some value)
-Says (Udp scene port) given =
+    × (sub_in given ≡ Some sub) × (value_in given ≡ Some value) × (surely_in given ≡ surely)
+Says (Udp scene port judge) given =
     (given.0 ≡ codes "udp") × (word_in given (codes "SCENE") ≡ Some scene.now)
-    × (port_in given ≡ Some port)
-Says (Serve scene port packets) given =
+    × (port_in given ≡ Some port) × (judge_in given ≡ judge)
+Says (Serve scene port packets control) given =
     (given.0 ≡ codes "serve") × (word_in given (codes "SCENE") ≡ Some scene.now)
-    × (port_in given ≡ Some port) × (packets_in given ≡ Some packets)
+    × (port_in given ≡ Some port) × (packets_in given ≡ Some packets) × (control_in given ≡ control)
 Says Vectors given = given.0 ≡ codes "vectors"
 
 -- a word of the command that has to be a number or a value is none in its range

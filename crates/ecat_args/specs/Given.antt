@@ -1,6 +1,6 @@
 -- A command that clap gives: its name, and the words that were given for it, each under the name
 -- that it has in the definition of the line.
-use Rattle.std.specs.Prelude.{◌≡◌, ◌∷◌, ℕ, List, [], Option, Some, None, true, codes, is_some}
+use Rattle.std.specs.Prelude.{◌≡◌, ◌∷◌, ℕ, Bool, List, [], Option, Some, None, true, false, codes, is_some}
 use Rattle.std.specs.Prelude.{if◌then◌else◌, option_and_then, option_map}
 use Rattle.std.specs.List.{list_all, list_any}
 use Rattle.std.specs.Str.{bytes_eq}
@@ -56,24 +56,41 @@ packets_by (Some word) = option_map (λ n. Some n) (number_within 1 4294967295 w
 abbrev pub packets_in : Given → Option (Option ℕ)
 packets_in given = packets_by (word_in given (codes "N"))
 
+-- whether a flag was given: clap writes down `true` for it, and `false` where it was not
+abbrev pub flag_by : Option Text → Bool
+flag_by None = false
+flag_by (Some word) = bytes_eq word (codes "true")
+
+abbrev pub judge_in : Given → Bool
+judge_in given = flag_by (word_in given (codes "judge"))
+
+abbrev pub surely_in : Given → Bool
+surely_in given = flag_by (word_in given (codes "surely"))
+
+abbrev pub control_in : Given → Bool
+control_in given = flag_by (word_in given (codes "control"))
+
 -- the names of the commands
 abbrev pub command_names : List Text
-command_names = codes "show" ∷ codes "check" ∷ codes "run" ∷ codes "sdo" ∷ codes "udp"
-    ∷ codes "serve" ∷ codes "vectors" ∷ []
+command_names = codes "show" ∷ codes "check" ∷ codes "cover" ∷ codes "where" ∷ codes "run"
+    ∷ codes "sweep" ∷ codes "sdo" ∷ codes "udp" ∷ codes "serve" ∷ codes "vectors" ∷ []
 
 -- the names of the words that a command needs
 abbrev pub needed_words : Text → List Text
 needed_words command =
     if bytes_eq command (codes "show") then codes "FILE" ∷ []
     else if bytes_eq command (codes "check") then codes "SCENE" ∷ []
+    else if bytes_eq command (codes "cover") then codes "SCENE" ∷ []
+    else if bytes_eq command (codes "where") then codes "SCENE" ∷ []
     else if bytes_eq command (codes "run") then codes "SCENE" ∷ []
+    else if bytes_eq command (codes "sweep") then codes "SCENE" ∷ []
     else if bytes_eq command (codes "sdo")
     then codes "SCENE" ∷ codes "STATION" ∷ codes "INDEX" ∷ codes "SUB" ∷ []
     else if bytes_eq command (codes "udp") then codes "SCENE" ∷ []
     else if bytes_eq command (codes "serve") then codes "SCENE" ∷ []
     else []
 
--- the command is one of the seven, and the words that it needs were given
+-- the command is one of the ten, and the words that it needs were given
 abbrev pub IsComplete : Given → Type 0
 IsComplete given = (list_any (bytes_eq given.0) command_names ≡ true)
     × (list_all (λ name. is_some (word_in given name)) (needed_words given.0) ≡ true)

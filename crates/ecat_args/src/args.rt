@@ -4,7 +4,7 @@ ghost use Rattle.std.specs.Prelude.{option_map};
 ghost use Rattle.clap.specs.Words.{first_of, found_of, rows_of};
 ghost use Rattle.clap.specs.Walk.{texts};
 ghost use Rattle.ecat_args.specs.Answer.{Explains, HasBadNumber, Says, Takes};
-ghost use Rattle.ecat_args.specs.Given.{IsComplete, packets_by, port_by, value_by};
+ghost use Rattle.ecat_args.specs.Given.{IsComplete, flag_by, packets_by, port_by, value_by};
 
 use crate::line::line;
 use crate::number::{Value, number, value_of};
@@ -37,12 +37,29 @@ pub enum Args<'a> {
         /// The path of the scene.
         scene: &'a str,
     },
-    /// `run SCENE`: does the actions of a scene, and then its work.
-    Run {
+    /// `cover SCENE`: says whether the items of a scene carry all that its line is mapped for.
+    Cover {
         /// The path of the scene.
         scene: &'a str,
     },
-    /// `sdo SCENE STATION INDEX SUB [VALUE]`: one upload, or a download of the value.
+    /// `where SCENE`: says where the cable of a scene is broken, and who is missing.
+    Where {
+        /// The path of the scene.
+        scene: &'a str,
+    },
+    /// `run SCENE [--judge]`: does the actions of a scene, and then its work.
+    Run {
+        /// The path of the scene.
+        scene: &'a str,
+        /// Whether its cycle is judged, and what is short is named.
+        judge: bool,
+    },
+    /// `sweep SCENE`: does the cycle of a scene whole, and with each cable broken.
+    Sweep {
+        /// The path of the scene.
+        scene: &'a str,
+    },
+    /// `sdo SCENE STATION INDEX SUB [VALUE] [--surely]`: one upload, or a download of the value.
     Sdo {
         /// The path of the scene.
         scene: &'a str,
@@ -54,15 +71,19 @@ pub enum Args<'a> {
         sub: u8,
         /// What to write; without it the object is read.
         value: Option<Value>,
+        /// Whether trips are made until it is done, whatever copies are lost.
+        surely: bool,
     },
-    /// `udp SCENE [--port P]`: does the work of a scene through UDP sockets.
+    /// `udp SCENE [--port P] [--judge]`: does the work of a scene through UDP sockets.
     Udp {
         /// The path of the scene.
         scene: &'a str,
         /// The port of the line's end A, 1024 to 65534. The end B has the next one.
         port: u16,
+        /// Whether what is short is named.
+        judge: bool,
     },
-    /// `serve SCENE [--port P] [--packets N]`: puts the line of a scene on the network.
+    /// `serve SCENE [--port P] [--packets N] [--control]`: puts the line of a scene on the network.
     Serve {
         /// The path of the scene.
         scene: &'a str,
@@ -70,6 +91,8 @@ pub enum Args<'a> {
         port: u16,
         /// After how many packets it ends, one at least; without it at the end of the input.
         packets: Option<u32>,
+        /// Whether the lines of the input are commands to the line.
+        control: bool,
     },
     /// `vectors`: runs the worked rows.
     Vectors,
@@ -144,7 +167,17 @@ fn command<'a>(name: &str, given: &ArgMatches<'a>) -> Option<Args<'a>>
         "check" => Some(Args::Check {
             scene: text(given, "SCENE"),
         }),
+        "cover" => Some(Args::Cover {
+            scene: text(given, "SCENE"),
+        }),
+        "where" => Some(Args::Where {
+            scene: text(given, "SCENE"),
+        }),
         "run" => Some(Args::Run {
+            scene: text(given, "SCENE"),
+            judge: flag(given, "judge"),
+        }),
+        "sweep" => Some(Args::Sweep {
             scene: text(given, "SCENE"),
         }),
         "sdo" => sdo(given),
@@ -173,6 +206,16 @@ fn text<'a>(given: &ArgMatches<'a>, name: &str) -> &'a str
     }
 }
 
+// Is the flag of this name given?
+fn flag(given: &ArgMatches<'_>, name: &str) -> bool
+    ensures { result ≡ flag_by (first_of name.now (rows_of (found_of given.now))) }
+{
+    match word(given, name) {
+        Some(text) => text == "true",
+        None => false,
+    }
+}
+
 // What `sdo` says, unless a number is bad.
 fn sdo<'a>(given: &ArgMatches<'a>) -> Option<Args<'a>>
     requires { IsComplete (codes "sdo", rows_of (found_of given.now)) }
@@ -189,6 +232,7 @@ fn sdo<'a>(given: &ArgMatches<'a>) -> Option<Args<'a>>
         index: index as u16,
         sub: sub as u8,
         value,
+        surely: flag(given, "surely"),
     })
 }
 
@@ -212,6 +256,7 @@ fn udp<'a>(given: &ArgMatches<'a>) -> Option<Args<'a>>
     Some(Args::Udp {
         scene: text(given, "SCENE"),
         port,
+        judge: flag(given, "judge"),
     })
 }
 
@@ -227,6 +272,7 @@ fn serve<'a>(given: &ArgMatches<'a>) -> Option<Args<'a>>
         scene: text(given, "SCENE"),
         port,
         packets,
+        control: flag(given, "control"),
     })
 }
 

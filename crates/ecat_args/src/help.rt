@@ -4,7 +4,7 @@
 pub(crate) const STATUSES: &str = "\
 Exit status:
   0  all is well
-  1  the content is refused, or the cycle is not good
+  1  the content is refused, a cycle is not good, or a cable is broken
   2  the words are no command
   3  a file, a socket, the output or memory failed";
 
@@ -17,7 +17,10 @@ digits, or 0x and hexadecimal digits. The help of a command has more.
 Examples:
   ecat show scenes/startup.pcap
   ecat check scenes/check/accepted.scene
+  ecat cover scenes/check/accepted.scene
+  ecat where scenes/run/two_slaves_link_1_down.scene
   ecat run scenes/run/example.scene
+  ecat sweep scenes/run/example.scene
   ecat sdo scenes/sdo/objects.scene 0x1001 0x1018 1
   ecat udp scenes/run/example.scene --port 4000
   ecat serve scenes/serve/line.scene --packets 100
@@ -41,30 +44,72 @@ can do its items. Prints accepted, or refused and the first broken rule.
 Example:
   ecat check scenes/check/accepted.scene";
 
+/// Of `cover`.
+pub(crate) const COVER: &str = "\
+Checks as check does, and then that the items carry each bit that a slave is
+mapped for and that each slave is shown its outputs. Prints covered, or the
+first that is not: uncovered and a bit, as a byte address, a point and the bit
+of that byte; or not shown and the sync manager of the outputs.
+
+Example:
+  ecat cover scenes/check/accepted.scene";
+
+/// Of `where`.
+pub(crate) const WHERE: &str = "\
+Sends one frame from both ports over the line of a scene, under its links down
+or its first weather, if it has one. Prints where each copy came back and how
+many slaves counted on it; and then whole, or which links are down and which
+slaves are cut off, as far as the copies tell. Whole gives the status 0, else
+it is 1. The actions and items of the scene are passed over.
+
+Example:
+  ecat where scenes/run/two_slaves_link_1_down.scene";
+
 /// Of `run`.
 pub(crate) const RUN: &str = "\
 Does the actions of a scene, checks its line and items, and does one cycle.
 Prints each frame as it comes back; good, short K or over K, if the scene has
 weather; each item with its data and its working counter, as wkc 2 of 2; and
 each area that the master writes, in the memory and as the application sees it.
+With --judge the verdict is always printed, and after it what is in the way:
+the items that are short, the frames whose copies are lost, where the cable is
+broken and which slaves are cut off; or that the redundancy is lost.
 
 Example:
   ecat run scenes/run/example.scene";
+
+/// Of `sweep`.
+pub(crate) const SWEEP: &str = "\
+Checks the line and items of a scene, and then does its cycle many times: with
+the whole ring, with each link broken, with each two links broken, and with
+each copy of each frame lost. Prints the verdict of each, and the slaves that
+are cut off; and at the end how many cycles were good, short and over. The
+status is 0 where the whole ring and each single break are good, else 1. The
+actions of the scene are done before, its broken links are mended, and its
+weathers passed over.
+
+Example:
+  ecat sweep scenes/run/example.scene";
 
 /// Of `sdo`.
 pub(crate) const SDO: &str = "\
 Reads an object of a slave by mail, or writes VALUE to it. Prints value and the
 number, or written; abort and the slave's code; or fault and what is in the
 way. The actions, items and weathers of the scene are passed over.
+With --surely it makes trips until it is done, whatever copies are lost, but 64
+at most: the first ones in the weathers of the scene, the others under its
+links. How many it took is printed on standard error.
 
 Example:
-  ecat sdo scenes/sdo/objects.scene 0x1001 0x1018 1";
+  ecat sdo scenes/sdo/objects.scene 0x1001 0x1018 1
+  ecat sdo scenes/sdo/objects.scene 0x1001 0x1018 1 --surely";
 
 /// Of `udp`.
 pub(crate) const UDP: &str = "\
 Does the items of a scene in one cycle over UDP sockets on 127.0.0.1: the end A
 of the line has the port P, the end B the next one. Prints good, short K or
 over K, and then what run prints. A scene with actions or weathers is refused.
+With --judge what is in the way of a verdict is printed after it, as by run.
 
 Example:
   ecat udp scenes/run/example.scene --port 4000";
@@ -78,6 +123,16 @@ where it arrives, to whoever spoke there last. Prints where it serves, and at
 its end the counts packets, frames and dropped, and the areas of the slaves.
 It ends after N packets, or without --packets at the end of standard input.
 A scene with actions or weathers is refused; its items are passed over.
+With --control each line of standard input is a command, which is done between
+two packets and answered by ok, what it asks for and ok, or refused and why:
+  link K up|down            mends or breaks a link, 0 before the first slave
+  mem SLAVE ADDRESS BYTES   loads process memory, as inputs
+  state SLAVE 1|2|4|8       puts a slave into a state
+  lose A|B N                loses the next N copies that arrive at an end
+  unplug A|B                nobody has spoken at that end any more
+  areas, line, counts       print the areas, the slaves, the packets
+  quit                      ends it, as the end of the input does
+SLAVE is a place, 0 the first, or a station in hexadecimal digits as 0x1001.
 
 Example:
   ecat serve scenes/serve/line.scene --packets 100";

@@ -3,10 +3,13 @@
 //! ```text
 //! ecat show FILE
 //! ecat check SCENE
-//! ecat run SCENE
-//! ecat sdo SCENE STATION INDEX SUB [VALUE]
-//! ecat udp SCENE [--port P]
-//! ecat serve SCENE [--port P] [--packets N]
+//! ecat cover SCENE
+//! ecat where SCENE
+//! ecat run SCENE [--judge]
+//! ecat sweep SCENE
+//! ecat sdo SCENE STATION INDEX SUB [VALUE] [--surely]
+//! ecat udp SCENE [--port P] [--judge]
+//! ecat serve SCENE [--port P] [--packets N] [--control]
 //! ecat vectors
 //! ```
 //!

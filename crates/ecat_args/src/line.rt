@@ -2,11 +2,12 @@
 ghost use Rattle.std.specs.Prelude.{◌≡◌, IfOk, codes, false};
 ghost use Rattle.clap.specs.Words.{app_of, new_app, new_rule, rule_of};
 ghost use Rattle.clap.specs.declared.builder.command.Command.TheViews.{out-Command as fields_of};
-ghost use Rattle.ecat_args.specs.Line.{needed_rule, packets_rule, port_rule, line, show_line};
-ghost use Rattle.ecat_args.specs.Line.{check_line, run_line, sdo_line, udp_line, serve_line, vectors_line};
+ghost use Rattle.ecat_args.specs.Line.{judge_rule, needed_rule, flag_rule, packets_rule, port_rule, line};
+ghost use Rattle.ecat_args.specs.Line.{show_line, check_line, cover_line, where_line, run_line, sweep_line};
+ghost use Rattle.ecat_args.specs.Line.{sdo_line, udp_line, serve_line, vectors_line};
 
 use crate::help;
-use clap::{Arg, Command};
+use clap::{Arg, ArgAction, Command};
 use std::alloc::{AllocError, Global};
 
 // A word that has to be given.
@@ -63,6 +64,28 @@ fn packets<'a>(alloc: Global) -> Arg<'a>
     packets.long("packets")
 }
 
+// A word that is given or not, after two hyphens.
+fn flag<'a>(alloc: Global, name: &'a str, help: &'a str) -> Arg<'a>
+    ensures rule { rule_of result ≡ flag_rule name.entry.now }
+    ensures local { result.global ≡ false }
+{
+    optional(alloc, name, help)
+        .long(name)
+        .action(ArgAction::SetTrue)
+}
+
+// Whether the cycle is judged.
+fn judge<'a>(alloc: Global) -> Arg<'a>
+    ensures rule { rule_of result ≡ judge_rule }
+    ensures local { result.global ≡ false }
+{
+    flag(
+        alloc,
+        "judge",
+        "Judges the cycle: which items are short, whose copies are lost, where the cable is broken",
+    )
+}
+
 // A command with no words so far: its line in the list of commands, and what its help tells.
 fn command<'a>(alloc: Global, name: &'a str, about: &'a str, text: &'a str) -> Command<'a>
     ensures line { app_of result ≡ new_app name.entry.now }
@@ -92,16 +115,45 @@ fn check<'a>(alloc: Global) -> Result<Command<'a>, AllocError>
     command(alloc, "check", about, help::CHECK).arg(scene(alloc))
 }
 
-// `run SCENE`
+// `cover SCENE`
+fn cover<'a>(alloc: Global) -> Result<Command<'a>, AllocError>
+    ensures line { IfOk result (λ c. app_of c ≡ cover_line) }
+    ensures local { IfOk result (λ c. (fields_of c).has_globals ≡ false) }
+{
+    let about = "Says whether the items of a scene carry all that its slaves are mapped for";
+    command(alloc, "cover", about, help::COVER).arg(scene(alloc))
+}
+
+// `where SCENE`
+fn where_broken<'a>(alloc: Global) -> Result<Command<'a>, AllocError>
+    ensures line { IfOk result (λ c. app_of c ≡ where_line) }
+    ensures local { IfOk result (λ c. (fields_of c).has_globals ≡ false) }
+{
+    let about = "Says where the cable of a scene is broken, and who is missing";
+    command(alloc, "where", about, help::WHERE).arg(scene(alloc))
+}
+
+// `run SCENE [--judge]`
 fn run<'a>(alloc: Global) -> Result<Command<'a>, AllocError>
     ensures line { IfOk result (λ c. app_of c ≡ run_line) }
     ensures local { IfOk result (λ c. (fields_of c).has_globals ≡ false) }
 {
     let about = "Does the actions of a scene, and then its work";
-    command(alloc, "run", about, help::RUN).arg(scene(alloc))
+    command(alloc, "run", about, help::RUN)
+        .arg(scene(alloc))?
+        .arg(judge(alloc))
 }
 
-// `sdo SCENE STATION INDEX SUB [VALUE]`
+// `sweep SCENE`
+fn sweep<'a>(alloc: Global) -> Result<Command<'a>, AllocError>
+    ensures line { IfOk result (λ c. app_of c ≡ sweep_line) }
+    ensures local { IfOk result (λ c. (fields_of c).has_globals ≡ false) }
+{
+    let about = "Does the work of a scene with each cable broken, each two, and each copy lost";
+    command(alloc, "sweep", about, help::SWEEP).arg(scene(alloc))
+}
+
+// `sdo SCENE STATION INDEX SUB [VALUE] [--surely]`
 fn sdo<'a>(alloc: Global) -> Result<Command<'a>, AllocError>
     ensures line { IfOk result (λ c. app_of c ≡ sdo_line) }
     ensures local { IfOk result (λ c. (fields_of c).has_globals ≡ false) }
@@ -114,16 +166,22 @@ fn sdo<'a>(alloc: Global) -> Result<Command<'a>, AllocError>
         "VALUE",
         "What to write: 0x and 2, 4 or 8 hexadecimal digits",
     );
+    let surely = flag(
+        alloc,
+        "surely",
+        "Makes trips until it is done, whatever copies are lost: 64 at most",
+    );
     let about = "Reads an object of a slave, or writes VALUE to it";
     command(alloc, "sdo", about, help::SDO)
         .arg(scene(alloc))?
         .arg(station)?
         .arg(index)?
         .arg(sub)?
-        .arg(value)
+        .arg(value)?
+        .arg(surely)
 }
 
-// `udp SCENE [--port P]`
+// `udp SCENE [--port P] [--judge]`
 fn udp<'a>(alloc: Global) -> Result<Command<'a>, AllocError>
     ensures line { IfOk result (λ c. app_of c ≡ udp_line) }
     ensures local { IfOk result (λ c. (fields_of c).has_globals ≡ false) }
@@ -131,19 +189,26 @@ fn udp<'a>(alloc: Global) -> Result<Command<'a>, AllocError>
     let about = "Does the work of a scene through UDP sockets";
     command(alloc, "udp", about, help::UDP)
         .arg(scene(alloc))?
-        .arg(port(alloc))
+        .arg(port(alloc))?
+        .arg(judge(alloc))
 }
 
-// `serve SCENE [--port P] [--packets N]`
+// `serve SCENE [--port P] [--packets N] [--control]`
 fn serve<'a>(alloc: Global) -> Result<Command<'a>, AllocError>
     ensures line { IfOk result (λ c. app_of c ≡ serve_line) }
     ensures local { IfOk result (λ c. (fields_of c).has_globals ≡ false) }
 {
+    let control = flag(
+        alloc,
+        "control",
+        "Reads commands to the line from standard input, while it serves",
+    );
     let about = "Puts the line of a scene on the network, behind UDP sockets";
     command(alloc, "serve", about, help::SERVE)
         .arg(scene(alloc))?
         .arg(port(alloc))?
-        .arg(packets(alloc))
+        .arg(packets(alloc))?
+        .arg(control)
 }
 
 // `vectors`
@@ -163,7 +228,10 @@ pub(crate) fn line<'a>(alloc: Global) -> Result<Command<'a>, AllocError>
         .subcommand_required(true)
         .subcommand(show(alloc)?)?
         .subcommand(check(alloc)?)?
+        .subcommand(cover(alloc)?)?
+        .subcommand(where_broken(alloc)?)?
         .subcommand(run(alloc)?)?
+        .subcommand(sweep(alloc)?)?
         .subcommand(sdo(alloc)?)?
         .subcommand(udp(alloc)?)?
         .subcommand(serve(alloc)?)?

@@ -9,7 +9,7 @@ ghost use Rattle.std.specs.Prelude.{◌≡◌, length};
 mod checker;
 mod ring;
 
-use checker::checking;
+use checker::{checking, covering, showing};
 use ec_esc::Controller;
 use ec_merge::join_bytes;
 use ec_regs::{Fmmu, SyncMan};
@@ -27,7 +27,7 @@ const RUNS: u32 = 1000;
 const ROUNDS: u32 = 20;
 
 /// The works, by name.
-const WORKS: [&str; 9] = [
+const WORKS: [&str; 11] = [
     "read_1",
     "read_124",
     "lrw_1486_aligned",
@@ -35,6 +35,8 @@ const WORKS: [&str; 9] = [
     "brd_1486",
     "join_1486",
     "check_256",
+    "uncovered_256",
+    "not_shown_256",
     "ring_256",
     "cycle_256",
 ];
@@ -66,6 +68,8 @@ where
     measure_odd_bits(rt, out)?;
     writeln!(out, "join_1486 {}", joining(rt)?)?;
     writeln!(out, "check_256 {}", checking(rt)?)?;
+    writeln!(out, "uncovered_256 {}", covering(rt)?)?;
+    writeln!(out, "not_shown_256 {}", showing(rt)?)?;
     writeln!(out, "ring_256 {}", walking(rt)?)?;
     writeln!(out, "cycle_256 {}", cycling(rt)?)
 }

@@ -8,7 +8,7 @@
 //!   counts its failures.
 //! - `UdpLine`: four UDP sockets on 127.0.0.1. It is a `PacketLine`.
 //! - `UdpPorts`: a master's two ports over a `PacketLine`, and behind them a `Ring`. It is an
-//!   `ec_master::Ports`.
+//!   `ec_master::Ports`, and an `ec_ring::HeardPorts`: a copy arrived at the port where it was received.
 //!
 //! A trip makes at most eight calls of the line, in this order:
 //!

@@ -1,15 +1,16 @@
 //! A master's two ports whose frames go out in UDP packets.
 
 ghost use Rattle.std.specs.Prelude.{◌≡◌, ◌≤◌, ◌<◌, List, IsErr, IfSome, Some};
+ghost use Rattle.std.specs.Option.{option_map};
 ghost use Rattle.ec_wire.specs.Datagram.{DatagramRecord};
 ghost use Rattle.ec_wire.specs.Fault.{IsSpelt};
 ghost use Rattle.ec_wire.specs.declared.fault.Form.TheVariants.{Udp};
 ghost use Rattle.ecat_udp.specs.Sockets.{master_at, line_at};
-ghost use Rattle.ecat_udp.specs.Trips.{WalkedTrips, after_copy, IsWalkedOnce, IsWalked};
+ghost use Rattle.ecat_udp.specs.Trips.{WalkedTrips, HeardTrips, after_copy, IsWalkedOnce, IsWalked};
 
 use crate::line::{PacketLine, Socket};
 use ec_master::{PortFault, Ports};
-use ec_ring::{Came, Port, Ring, Travel};
+use ec_ring::{Arrival, Arrivals, Came, HeardPorts, Port, Ring, Travel};
 use ec_wire::{Form, FrameBuf, PACKET_ROOM};
 use std::marker::Model;
 
@@ -138,6 +139,35 @@ impl<L: PacketLine> Ports for UdpPorts<L> {
 
     fn failures(&self) -> u64 {
         self.line.failures()
+    }
+}
+
+/// Where a copy arrived is known: at the port where it was received.
+impl<L: PacketLine> HeardPorts for UdpPorts<L> {
+    ghost trips = { HeardTrips };
+
+    ghost failed = { λ ports. L.failed ports.line };
+
+    fn trip_heard(&mut self, sent: &FrameBuf) -> Result<Arrivals, PortFault> {
+        let came = self.trip(sent)?;
+        Ok(Arrivals {
+            a: arrival(came.a, Port::A),
+            b: arrival(came.b, Port::B),
+        })
+    }
+
+    fn failures(&self) -> u64 {
+        self.line.failures()
+    }
+}
+
+/// A copy, if one was received, as one that arrived at this port.
+fn arrival(copy: Option<FrameBuf>, at: Port) -> Option<Arrival>
+    ensures { result ≡ option_map (λ (x : List DatagramRecord). record { frame = x; at = at }) copy }
+{
+    match copy {
+        Some(frame) => Some(Arrival { frame, at }),
+        None => None,
     }
 }
 

@@ -21,7 +21,10 @@ const EXAMPLE: &[u8] = b"slave 0x1001\nstate 8\nsm 2 0x1000 1 write\nsm 3 0x1100
     fmmu 0 0x10000 1 0 7 0x1000 0 write\nfmmu 1 0x10000 1 0 7 0x1100 0 read\nmem 0x1100 12\n\
     slave 0x1002\nstate 4\nlink 1 down\nlrw 0x10000 ff\nbrd 0x0130 0000\n";
 
-const RUN: Args<'static> = Args::Run { scene: "s" };
+const RUN: Args<'static> = Args::Run {
+    scene: "s",
+    judge: false,
+};
 
 const SDO: Args<'static> = Args::Sdo {
     scene: "s",
@@ -29,6 +32,7 @@ const SDO: Args<'static> = Args::Sdo {
     index: 0x1018,
     sub: 1,
     value: None,
+    surely: false,
 };
 
 /// How many bytes a read gives.
@@ -138,7 +142,7 @@ fn each_write_that_fails_ends_a_cycle_over_packets(rt: HostRuntime) {
         let mut out = Stops { left: writes };
         let mut source = Bytes::new(EXAMPLE);
         let answer = match prepare_udp(rt.alloc(), &mut source, &mut out, &mut err) {
-            Ok(prepared) => act_udp(prepared, Silent, &mut out, &mut err),
+            Ok(prepared) => act_udp(prepared, false, Silent, &mut out, &mut err),
             Err(status) => status,
         };
         assert_eq!(rt; answer, 3, "write {writes}");

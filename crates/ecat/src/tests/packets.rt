@@ -84,9 +84,22 @@ impl PacketLine for Fake {
     }
 }
 
-/// `udp` over a text and a line; want of memory is accepted where nothing was printed.
+/// `udp` over a text and a line.
 fn goes<L: PacketLine + Drop>(
     rt: &(impl AllocGlobal + Abort),
+    scene: &[u8],
+    line: L,
+    status: u8,
+    out: &[u8],
+    err: &[u8],
+) {
+    goes_as(rt, false, scene, line, status, out, err);
+}
+
+/// `udp`, with `--judge` or without; want of memory is accepted where nothing was printed.
+fn goes_as<L: PacketLine + Drop>(
+    rt: &(impl AllocGlobal + Abort),
+    judge: bool,
     scene: &[u8],
     line: L,
     status: u8,
@@ -97,7 +110,7 @@ fn goes<L: PacketLine + Drop>(
     let mut complained = Cursor::new([0u8; ROOM]);
     let source = &mut Bytes::new(scene);
     let answer = match prepare_udp(rt.alloc(), source, &mut printed, &mut complained) {
-        Ok(prepared) => act_udp(prepared, line, &mut printed, &mut complained),
+        Ok(prepared) => act_udp(prepared, judge, line, &mut printed, &mut complained),
         Err(status) => status,
     };
     let failed = written(&complained);
@@ -139,6 +152,39 @@ fn a_line_that_loses_all_is_short(rt: HostRuntime) {
     let out = b"short 0\nitem 0 LRW data ff wkc 0 of 3\nitem 1 BRD data 0000 wkc 0 of 2 adp 0\n\
         slave 0 sm 2 open 00 shown 00\n";
     goes(&rt, EXAMPLE, Fake::new(Way::Loses), 1, out, b"");
+}
+
+#[test]
+fn a_judged_cycle_over_packets_says_what_is_in_the_way(rt: HostRuntime) {
+    let good =
+        b"good\nredundancy lost: link 1 down: between slave 0 (0x1001) and slave 1 (0x1002)\n\
+        item 0 LRW data 12 wkc 3 of 3\nitem 1 BRD data 0c00 wkc 2 of 2 adp 2\n\
+        slave 0 sm 2 open ff shown ff\n";
+    goes_as(&rt, true, EXAMPLE, open(&rt), 0, good, b"");
+    let lost = b"short 0\nitem 0: came 0 of 3\nitem 1: came 0 of 2\nframe 0: both lost\n\
+        link 1 down: between slave 0 (0x1001) and slave 1 (0x1002)\n\
+        item 0 LRW data ff wkc 0 of 3\nitem 1 BRD data 0000 wkc 0 of 2 adp 0\n\
+        slave 0 sm 2 open 00 shown 00\n";
+    goes_as(&rt, true, EXAMPLE, Fake::new(Way::Loses), 1, lost, b"");
+    let stranger = b"cycle: Stranger\n";
+    goes_as(
+        &rt,
+        true,
+        EXAMPLE,
+        Fake::new(Way::Replaces),
+        1,
+        stranger,
+        b"",
+    );
+    goes_as(
+        &rt,
+        true,
+        EXAMPLE,
+        Fake::new(Way::Fails),
+        3,
+        b"",
+        b"cycle: Port\n",
+    );
 }
 
 #[test]

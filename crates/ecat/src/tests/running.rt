@@ -10,7 +10,10 @@ const FIRST: &[u8] =
     b"slave 0x1001\nsm 3 0x1100 1 read\nfmmu 0 0x10000 1 0 7 0x1100 0 read\nmem 0x1100 12\n\
     frame 0d100a000000010001000000000000\n";
 
-const RUN: Args<'static> = Args::Run { scene: "s" };
+const RUN: Args<'static> = Args::Run {
+    scene: "s",
+    judge: false,
+};
 
 #[test]
 fn the_first_scene_prints_its_frame(rt: HostRuntime) {

@@ -93,6 +93,7 @@ fn serves(
     let service = Service {
         port: 34980,
         packets,
+        control: false,
     };
     let source = &mut Bytes::new(scene);
     let ends = &mut Two::new(failing);
@@ -161,6 +162,7 @@ fn fails<S: Source>(rt: &(impl AllocGlobal + Abort), source: &mut S, line: &[u8]
     let service = Service {
         port: 34980,
         packets: None,
+        control: false,
     };
     let mut complained = Cursor::new([0u8; ROOM]);
     let mut ends = Two::new(0);

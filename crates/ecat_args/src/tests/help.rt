@@ -13,7 +13,10 @@ digits, or 0x and hexadecimal digits. The help of a command has more.
 Examples:
   ecat show scenes/startup.pcap
   ecat check scenes/check/accepted.scene
+  ecat cover scenes/check/accepted.scene
+  ecat where scenes/run/two_slaves_link_1_down.scene
   ecat run scenes/run/example.scene
+  ecat sweep scenes/run/example.scene
   ecat sdo scenes/sdo/objects.scene 0x1001 0x1018 1
   ecat udp scenes/run/example.scene --port 4000
   ecat serve scenes/serve/line.scene --packets 100
@@ -25,7 +28,10 @@ Usage: ecat <COMMAND>
 Commands:
   show     Prints the frames of a capture
   check    Says whether the slaves of a scene fit together on one line
+  cover    Says whether the items of a scene carry all that its slaves are mapped for
+  where    Says where the cable of a scene is broken, and who is missing
   run      Does the actions of a scene, and then its work
+  sweep    Does the work of a scene with each cable broken, each two, and each copy lost
   sdo      Reads an object of a slave, or writes VALUE to it
   udp      Does the work of a scene through UDP sockets
   serve    Puts the line of a scene on the network, behind UDP sockets
@@ -38,7 +44,7 @@ Options:
 
 Exit status:
   0  all is well
-  1  the content is refused, or the cycle is not good
+  1  the content is refused, a cycle is not good, or a cable is broken
   2  the words are no command
   3  a file, a socket, the output or memory failed
 ";
@@ -52,6 +58,16 @@ where it arrives, to whoever spoke there last. Prints where it serves, and at
 its end the counts packets, frames and dropped, and the areas of the slaves.
 It ends after N packets, or without --packets at the end of standard input.
 A scene with actions or weathers is refused; its items are passed over.
+With --control each line of standard input is a command, which is done between
+two packets and answered by ok, what it asks for and ok, or refused and why:
+  link K up|down            mends or breaks a link, 0 before the first slave
+  mem SLAVE ADDRESS BYTES   loads process memory, as inputs
+  state SLAVE 1|2|4|8       puts a slave into a state
+  lose A|B N                loses the next N copies that arrive at an end
+  unplug A|B                nobody has spoken at that end any more
+  areas, line, counts       print the areas, the slaves, the packets
+  quit                      ends it, as the end of the input does
+SLAVE is a place, 0 the first, or a station in hexadecimal digits as 0x1001.
 
 Example:
   ecat serve scenes/serve/line.scene --packets 100
@@ -69,12 +85,15 @@ Options:
       --packets <N>
           After how many packets it ends, 1 to 4294967295; at the input's end if not given
 
+      --control
+          Reads commands to the line from standard input, while it serves
+
   -h, --help
           Print help (see a summary with '-h')
 
 Exit status:
   0  all is well
-  1  the content is refused, or the cycle is not good
+  1  the content is refused, a cycle is not good, or a cable is broken
   2  the words are no command
   3  a file, a socket, the output or memory failed
 ";
@@ -97,7 +116,7 @@ fn a_call_for_help_is_a_refusal(rt: HostRuntime) {
     assert_eq!(rt; read(alloc, &["ecat", "sdo", "--help"]), help);
     assert_eq!(rt; read(alloc, &["ecat", "help", "serve"]), help);
     let text = text_of(alloc, &["ecat", "help", "sdo"]).expect(&rt, "memory");
-    assert!(rt; text.contains("Usage: ecat sdo <SCENE> <STATION> <INDEX> <SUB> [VALUE]"));
+    assert!(rt; text.contains("Usage: ecat sdo [OPTIONS] <SCENE> <STATION> <INDEX> <SUB> [VALUE]"));
 }
 
 #[test]

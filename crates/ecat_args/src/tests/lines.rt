@@ -1,4 +1,4 @@
-//! The seven commands, and lines that are none of them.
+//! The ten commands, and lines that are none of them.
 use super::{Refusal, read};
 use crate::{Args, Value};
 use clap::error::ErrorKind;
@@ -16,7 +16,22 @@ fn each_command_reads_its_words(rt: HostRuntime) {
     );
     assert_eq!(rt;
         read(alloc, &["ecat", "run", "a.scene"]),
-        Ok(Args::Run { scene: "a.scene" })
+        Ok(Args::Run {
+            scene: "a.scene",
+            judge: false
+        })
+    );
+    assert_eq!(rt;
+        read(alloc, &["ecat", "cover", "a.scene"]),
+        Ok(Args::Cover { scene: "a.scene" })
+    );
+    assert_eq!(rt;
+        read(alloc, &["ecat", "where", "a.scene"]),
+        Ok(Args::Where { scene: "a.scene" })
+    );
+    assert_eq!(rt;
+        read(alloc, &["ecat", "sweep", "a.scene"]),
+        Ok(Args::Sweep { scene: "a.scene" })
     );
     assert_eq!(rt; read(alloc, &["ecat", "vectors"]), Ok(Args::Vectors));
 }
@@ -30,6 +45,7 @@ fn sdo_takes_a_value_or_none(rt: HostRuntime) {
         index: 0x1018,
         sub: 1,
         value: None,
+        surely: false,
     };
     assert_eq!(rt;
         read(alloc, &["ecat", "sdo", "a.scene", "0x1001", "0x1018", "1"]),
@@ -41,6 +57,7 @@ fn sdo_takes_a_value_or_none(rt: HostRuntime) {
         index: 2,
         sub: 3,
         value: Some(Value::Two(0x0405)),
+        surely: false,
     };
     assert_eq!(rt;
         read(alloc, &["ecat", "sdo", "a.scene", "1", "2", "3", "0x0405"]),
@@ -54,11 +71,13 @@ fn udp_takes_a_port_or_uses_34980(rt: HostRuntime) {
     let own = Args::Udp {
         scene: "a.scene",
         port: 34980,
+        judge: false,
     };
     assert_eq!(rt; read(alloc, &["ecat", "udp", "a.scene"]), Ok(own));
     let other = Args::Udp {
         scene: "a.scene",
         port: 4000,
+        judge: false,
     };
     assert_eq!(rt;
         read(alloc, &["ecat", "udp", "a.scene", "--port", "4000"]),
@@ -71,18 +90,162 @@ fn udp_takes_a_port_or_uses_34980(rt: HostRuntime) {
 }
 
 #[test]
+fn a_cycle_is_judged_where_it_is_asked(rt: HostRuntime) {
+    let alloc = rt.alloc();
+    let run = Ok(Args::Run {
+        scene: "a.scene",
+        judge: true,
+    });
+    assert_eq!(rt; read(alloc, &["ecat", "run", "a.scene", "--judge"]), run);
+    assert_eq!(rt; read(alloc, &["ecat", "run", "--judge", "a.scene"]), run);
+    assert_eq!(rt;
+        read(
+            alloc,
+            &["ecat", "udp", "--judge", "--port", "4000", "a.scene"]
+        ),
+        Ok(Args::Udp {
+            scene: "a.scene",
+            port: 4000,
+            judge: true,
+        })
+    );
+    assert_eq!(rt;
+        read(alloc, &["ecat", "run", "--", "--judge"]),
+        Ok(Args::Run {
+            scene: "--judge",
+            judge: false,
+        })
+    );
+}
+
+#[test]
+fn an_object_is_read_or_written_surely_where_it_is_asked(rt: HostRuntime) {
+    let alloc = rt.alloc();
+    let upload = Ok(Args::Sdo {
+        scene: "a.scene",
+        station: 1,
+        index: 2,
+        sub: 3,
+        value: None,
+        surely: true,
+    });
+    assert_eq!(rt;
+        read(
+            alloc,
+            &["ecat", "sdo", "a.scene", "1", "2", "3", "--surely"]
+        ),
+        upload
+    );
+    assert_eq!(rt;
+        read(
+            alloc,
+            &["ecat", "sdo", "--surely", "a.scene", "1", "2", "3"]
+        ),
+        upload
+    );
+    let download = Args::Sdo {
+        scene: "a.scene",
+        station: 1,
+        index: 2,
+        sub: 3,
+        value: Some(Value::One(4)),
+        surely: true,
+    };
+    assert_eq!(rt;
+        read(
+            alloc,
+            &["ecat", "sdo", "a.scene", "1", "2", "3", "--surely", "0x04"]
+        ),
+        Ok(download)
+    );
+}
+
+#[test]
+fn serve_reads_commands_where_it_is_asked(rt: HostRuntime) {
+    let alloc = rt.alloc();
+    let own = Args::Serve {
+        scene: "a.scene",
+        port: 34980,
+        packets: None,
+        control: true,
+    };
+    assert_eq!(rt;
+        read(alloc, &["ecat", "serve", "a.scene", "--control"]),
+        Ok(own)
+    );
+    let all = Args::Serve {
+        scene: "a.scene",
+        port: 4000,
+        packets: Some(100),
+        control: true,
+    };
+    assert_eq!(rt;
+        read(
+            alloc,
+            &[
+                "ecat",
+                "serve",
+                "--control",
+                "--packets=100",
+                "--port",
+                "4000",
+                "a.scene"
+            ]
+        ),
+        Ok(all)
+    );
+}
+
+#[test]
+fn a_flag_has_no_value_and_is_given_once(rt: HostRuntime) {
+    let alloc = rt.alloc();
+    assert_eq!(rt;
+        read(alloc, &["ecat", "run", "a.scene", "--judge=true"]),
+        Err(Refusal::Line(ErrorKind::TooManyValues))
+    );
+    assert_eq!(rt;
+        read(alloc, &["ecat", "run", "a.scene", "--judge", "--judge"]),
+        Err(Refusal::Line(ErrorKind::ArgumentConflict))
+    );
+    assert_eq!(rt;
+        read(alloc, &["ecat", "sweep", "a.scene", "--judge"]),
+        Err(Refusal::Line(ErrorKind::UnknownArgument))
+    );
+    assert_eq!(rt;
+        read(
+            alloc,
+            &["ecat", "sdo", "a.scene", "1", "2", "3", "--surely=0x04"]
+        ),
+        Err(Refusal::Line(ErrorKind::TooManyValues))
+    );
+    assert_eq!(rt;
+        read(
+            alloc,
+            &["ecat", "serve", "a.scene", "--control", "--control"]
+        ),
+        Err(Refusal::Line(ErrorKind::ArgumentConflict))
+    );
+    assert_eq!(rt;
+        read(alloc, &["ecat", "udp", "a.scene", "--surely"]),
+        Err(Refusal::Line(ErrorKind::UnknownArgument))
+    );
+}
+
+#[test]
 fn serve_takes_a_port_or_uses_34980(rt: HostRuntime) {
     let alloc = rt.alloc();
     let own = Args::Serve {
         scene: "a.scene",
         port: 34980,
         packets: None,
+        control: false,
     };
     assert_eq!(rt; read(alloc, &["ecat", "serve", "a.scene"]), Ok(own));
     let other = Args::Serve {
         scene: "a.scene",
         port: 4000,
         packets: None,
+        control: false,
     };
     assert_eq!(rt;
         read(alloc, &["ecat", "serve", "a.scene", "--port", "4000"]),
@@ -101,6 +264,7 @@ fn serve_takes_a_number_of_packets_or_none(rt: HostRuntime) {
         scene: "a.scene",
         port: 34980,
         packets: Some(100),
+        control: false,
     };
     assert_eq!(rt;
         read(alloc, &["ecat", "serve", "a.scene", "--packets", "100"]),
@@ -110,6 +274,7 @@ fn serve_takes_a_number_of_packets_or_none(rt: HostRuntime) {
         scene: "a.scene",
         port: 4000,
         packets: Some(100),
+        control: false,
     };
     assert_eq!(rt;
         read(

@@ -13,7 +13,13 @@ fn is_or_no_memory(answer: Result<Args<'_>, Refusal>, wanted: Result<Args<'_>, R
 fn a_command_is_read_or_memory_ran_out(rt: HostRuntime) {
     let answer = read(rt.alloc(), &["ecat", "run", "a.scene"]);
     assert!(rt;
-        is_or_no_memory(answer, Ok(Args::Run { scene: "a.scene" })),
+        is_or_no_memory(
+            answer,
+            Ok(Args::Run {
+                scene: "a.scene",
+                judge: false
+            })
+        ),
         "{answer:?}"
     );
 }

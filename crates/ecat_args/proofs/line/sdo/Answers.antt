@@ -11,8 +11,11 @@ returns-clause-line c =
     let index = app_of-arg c.in_ok-arg-3.ensures station c.needed-index.ensures.rule
     c.needed-index.ensures.local in
     let sub = app_of-arg c.in_ok-arg-4.ensures index c.needed-sub.ensures.rule c.needed-sub.ensures.local in
-    let value = c.optional-value.ensures in
-    IfOk-weaker c.arg-5.result _ _ (λ r added. app_of-arg added sub value.rule value.local) c.arg-5.ensures
+    let value = app_of-arg c.in_ok-arg-5.ensures sub c.optional-value.ensures.rule
+    c.optional-value.ensures.local in
+    let surely = c.flag-surely.ensures in
+    IfOk-weaker c.arg-6.result _ _ (λ r added. app_of-arg added value surely.rule surely.local)
+    c.arg-6.ensures
 
 pub returns-clause-local : goal.returns-clause-local
 returns-clause-local c =
@@ -20,5 +23,6 @@ returns-clause-local c =
     let station = has_globals-arg c.in_ok-arg-2.ensures scene c.needed-station.ensures.local in
     let index = has_globals-arg c.in_ok-arg-3.ensures station c.needed-index.ensures.local in
     let sub = has_globals-arg c.in_ok-arg-4.ensures index c.needed-sub.ensures.local in
-    let value = c.optional-value.ensures in
-    IfOk-weaker c.arg-5.result _ _ (λ r added. has_globals-arg added sub value.local) c.arg-5.ensures
+    let value = has_globals-arg c.in_ok-arg-5.ensures sub c.optional-value.ensures.local in
+    let surely = c.flag-surely.ensures in
+    IfOk-weaker c.arg-6.result _ _ (λ r added. has_globals-arg added value surely.local) c.arg-6.ensures

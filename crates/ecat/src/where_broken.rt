@@ -1,0 +1,42 @@
+//! `ecat where`: where the cable of a scene is broken, and who is missing.
+
+use crate::act::Failure;
+use crate::cable::{print_break, print_copies};
+use crate::line::{ring_of, scene_of, weathers_of};
+use crate::print::Lines;
+use ec_diag::{Located, probe};
+use ec_ring::{Ring, Travel, Weather};
+use ecat_source::Source;
+use std::alloc::Global;
+use std::io::{self, Write};
+
+/// Sends one frame over the line of the scene that the source holds, in its first weather, or under its links
+/// where it has none, and prints where the copies came back and where the cable is broken. The actions and
+/// items of the scene are passed over.
+pub fn where_broken<S: Source, W: Write>(
+    alloc: Global,
+    source: &mut S,
+    out: &mut W,
+) -> Result<u8, Failure> {
+    let scene = scene_of(alloc, source)?;
+    let weathers = weathers_of(alloc, scene.weathers.as_slice())?;
+    let mut ring = ring_of(alloc, scene.slaves, scene.links_down.as_slice())?;
+    let weather = match weathers.first() {
+        Some(weather) => *weather,
+        None => Weather::calm(ring.links()),
+    };
+    Ok(print_probe(&mut ring, &weather, &mut Lines::new(out))?)
+}
+
+/// Sends one frame in this weather, and prints what its copies tell.
+fn print_probe<W: Write>(
+    ring: &mut Ring,
+    weather: &Weather,
+    lines: &mut Lines<'_, W>,
+) -> io::Result<u8> {
+    let sent = probe();
+    let came = ring.arrivals(&sent, weather);
+    print_copies(&sent, &came, lines)?;
+    let located = Located::Unknown.and_arrivals(ring.slaves().len(), &sent, &came);
+    print_break(located, ring.slaves(), lines)
+}
