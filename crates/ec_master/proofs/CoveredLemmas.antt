@@ -1,6 +1,6 @@
 -- What stands for each mapped bit, item after item.
-use Rattle.std.proofs.Common.{◌≡◌, ◌≢◌, ◌⊎◌, ⊎_elim, inl, inr, ℕ, ◌+◌, ◌-◌, ◌*◌, ◌/◌, ◌<◌, ◌≤◌, Bool, true, false}
-use Rattle.std.proofs.Common.{if◌then◌else◌, ◌&&◌, ◌||◌, cond, eqb, leb, ltb, Option, None, Some, List, [], ◌∷◌, length}
+use Rattle.std.proofs.Common.{◌≡◌, ◌⊎◌, ⊎_elim, inl, inr, ℕ, ◌+◌, ◌-◌, ◌*◌, ◌/◌, ◌<◌, ◌≤◌, Bool, true, false}
+use Rattle.std.proofs.Common.{if◌then◌else◌, ◌&&◌, cond, eqb, Option, None, Some, List, [], ◌∷◌, length}
 use Rattle.std.proofs.Common.{zero, suc, get_or, refl, sym, subst, ap, ◌∙◌, arith}
 use Rattle.std.specs.List.{AllByRecursion}
 use Rattle.std.specs.Option.{option_map}
@@ -40,15 +40,15 @@ use Rattle.ec_check.specs.Fit.{IsFit}
 use Rattle.ec_check.specs.Line.{controllers}
 use Rattle.ec_check.proofs.Laws.{IsFitLine-fit}
 use Rattle.ec_map.specs.Item.{ItemRecord, IsItem, is_bit_of, is_broadcast}
-use Rattle.ec_map.specs.Place.{station_named, IsPlaced}
+use Rattle.ec_map.specs.Place.{IsPlaced}
 use Rattle.ec_map.proofs.Laws.{Accepts-IsPlaced}
 use Rattle.ec_map.specs.Covered.{asks, asks_bit}
 use Rattle.ec_map.specs.Share.{request_of}
 use Rattle.ec_map.specs.declared.covered.Way.TheVariants.{Reads, Writes}
-use Rattle.ec_master.specs.Covered.{HasInputs, HaveInputs, sent_bit, last_sent, IsWriteTo, NoWriteTo}
+use Rattle.ec_master.specs.Covered.{HaveInputs, sent_bit, last_sent, IsWriteTo, NoWriteTo}
 use Rattle.ec_master.specs.Covered.{writes_at, IsOutputByte, CompletesWhere, IsCompleted}
 use Rattle.ec_master.specs.Unordered.{ByStation, station, slave_after, slaves_after, slaves_after_all}
-use Rattle.ec_master.specs.Unordered.{AreAnswers, IsAnswer, by_station, IsAccepted}
+use Rattle.ec_master.specs.Unordered.{AreAnswers, by_station, IsAccepted}
 use Rattle.ec_master.proofs.StationLemmas.{by_station_each, each-controller}
 
 -- ---- a slave as it is now

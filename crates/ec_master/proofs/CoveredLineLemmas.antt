@@ -1,5 +1,5 @@
 -- What a covered line gives each pair of a slave: an item asks for it.
-use Rattle.std.proofs.Common.{◌≡◌, ◌⊎◌, ⊎_elim, inl, inr, ℕ, zero, suc, ◌-◌, ◌*◌, ◌<◌, Bool, true, false, cond, ◌||◌, eqb}
+use Rattle.std.proofs.Common.{◌≡◌, ◌⊎◌, ⊎_elim, inl, inr, ℕ, suc, ◌-◌, ◌*◌, ◌<◌, true, false, eqb}
 use Rattle.std.proofs.Common.{Option, None, Some, List, [], ◌∷◌, length, refl, sym, ap, ◌∙◌, arith}
 use Rattle.std.proofs.lemmas.Bool.{cases_Bool}
 use Rattle.ec_regs.specs.Bits.{bit, later}
@@ -13,7 +13,7 @@ use Rattle.ec_app.specs.State.{SlaveState}
 use Rattle.ec_line.specs.Fit.{Reads as ReadsPair, Writes as WritesPair}
 use Rattle.ec_check.specs.Line.{controllers, controller_of, fmmu_of, HasFmmu}
 use Rattle.ec_map.specs.Item.{ItemRecord}
-use Rattle.ec_map.specs.Covered.{asks_bit, is_asked, goes, IsGap, IsCovered}
+use Rattle.ec_map.specs.Covered.{asks_bit, is_asked, goes, IsCovered}
 use Rattle.ec_map.specs.declared.covered.Way.{Way}
 use Rattle.ec_map.specs.declared.covered.Way.TheVariants.{Reads, Writes}
 use Rattle.ec_master.specs.Covered.{sent_bit, last_sent}

@@ -21,7 +21,7 @@ use Rattle.ec_ring.specs.declared.links.Links.{Links}
 use Rattle.ec_ring.specs.declared.weather.Weather.{Weather}
 use Rattle.ec_wire.specs.declared.kind.Kind.{Kind}
 use Rattle.ec_wire.specs.declared.kind.Kind.TheVariants.{Lrd, Lwr, Lrw, Brd, Fprd, Fpwr}
-use Rattle.ec_master.specs.Cut.{concat, cut, entries_from, frames_of, IsFrameOf}
+use Rattle.ec_master.specs.Cut.{concat, cut, entries_from, frames_of}
 use Rattle.ec_master.specs.Travelled.{trips_of, answers_under}
 use Rattle.ec_map.specs.Share.{expected_of}
 use Rattle.ec_master.specs.Certificate.{verdict_under}

@@ -10,7 +10,7 @@ use Rattle.ec_regs.proofs.Laws.{each-front, each-back, each-map}
 use Rattle.ec_wire.specs.Datagram.{DatagramRecord}
 use Rattle.ec_esc.specs.State.{ControllerState}
 use Rattle.ec_esc.specs.declared.counting.TheConstants.{MOST_CONTROLLERS}
-use Rattle.ec_merge.specs.Frames.{IsOwn, joined_record, joined_frame}
+use Rattle.ec_merge.specs.Frames.{joined_record, joined_frame}
 use Rattle.ec_merge.specs.Rule.{distance, joined_count}
 use Rattle.ec_line.specs.After.{Entry}
 use Rattle.ec_line.specs.Answered.{sent_of}
@@ -22,7 +22,7 @@ use Rattle.ec_map.specs.Item.{ItemRecord}
 use Rattle.ec_ring.specs.Travel.{as_trip}
 use Rattle.ec_ring.specs.declared.port.PortFault.{PortFault}
 use Rattle.ec_ring.specs.declared.weather.Came.{Came}
-use Rattle.ec_master.specs.Cut.{concat, cut, entry_of, entries_from, frames_of}
+use Rattle.ec_master.specs.Cut.{concat, cut, entries_from, frames_of}
 use Rattle.ec_master.specs.Ports.{came_or, ComesTo, PortTrip, Outcome, with_first, Sends, EndsIn}
 use Rattle.ec_master.specs.Ports.{IsPortCycle}
 use Rattle.ec_master.specs.Rounds.{round_counter, IsOfRound, CopyOfRound, IsRecent, AreRecent, AreOfRound}

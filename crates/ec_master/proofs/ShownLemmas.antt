@@ -1,6 +1,6 @@
 -- Which bytes an application is shown anew after an item, by the areas of outputs and their last bytes.
 use Rattle.std.proofs.Common.{◌≡◌, ℕ, zero, suc, ◌+◌, ◌*◌, ◌<◌, Bool, true, false, cond, not, ◌&&◌, ◌||◌, refl}
-use Rattle.std.proofs.Common.{ap, subst, sym, ◌∙◌, arith, List, [], ◌∷◌, length, get_or, None, Some}
+use Rattle.std.proofs.Common.{ap, subst, ◌∙◌, arith, List, [], ◌∷◌, get_or, None, Some}
 use Rattle.std.specs.Prelude.{slice_get, slice_index}
 use Rattle.std.specs.Option.{is_some}
 use Rattle.ec_regs.specs.Bits.{with_bits}

@@ -1,11 +1,10 @@
 -- On an accepted line whose areas of outputs are shown, each mapped output lies in an area that each item
 -- which writes its byte completes, and that some item completes.
 use Rattle.std.proofs.Common.{◌≡◌, ◌⊎◌, ⊎_elim, inl, inr, ℕ, zero, suc, ◌+◌, ◌-◌, ◌*◌, ◌^◌, ◌/◌, ◌%◌, ◌<◌, ◌≤◌, Bool, true}
-use Rattle.std.proofs.Common.{false, cond, ◌&&◌, ◌||◌, eqb, leb, ltb, Option, None, Some, List, [], ◌∷◌, length}
+use Rattle.std.proofs.Common.{false, ◌&&◌, ◌||◌, eqb, leb, ltb, Option, None, Some, List, [], ◌∷◌, length}
 use Rattle.std.proofs.Common.{get_or, refl, sym, ap, subst, ◌∙◌, arith}
-use Rattle.std.specs.List.{AllByRecursion, slice_get, Any}
+use Rattle.std.specs.List.{AllByRecursion, slice_get}
 use Rattle.std.specs.Option.{is_some}
-use Rattle.std.specs.Prelude.{not}
 use Rattle.std.proofs.lemmas.Bool.{and_parts, cases_Bool, cases_lt, cases_order, both_ways, ne_eqb, eqb-true, le-leb}
 use Rattle.std.proofs.lemmas.Bool.{lt-ltb, leb-true}
 use Rattle.std.proofs.lemmas.Bool.Decides.{nat_tests}
@@ -19,7 +18,7 @@ use Rattle.ec_regs.specs.declared.registers.TheConstants.{PROCESS_MEMORY, MEMORY
 use Rattle.ec_regs.specs.declared.fmmu.TheConstants.{LAST_BIT}
 use Rattle.ec_regs.specs.declared.sync_man.SyncMan.{SyncMan}
 use Rattle.ec_regs.specs.Pairs.{is_switched_on, can_map, pair_count, reads, writes}
-use Rattle.ec_regs.specs.SyncMan.{is_active, is_buffered, is_mailbox, master_reads, master_writes}
+use Rattle.ec_regs.specs.SyncMan.{is_mailbox, master_reads}
 use Rattle.ec_regs.specs.SyncMan.{guards_outputs}
 use Rattle.ec_regs.specs.AddressRange.{within}
 use Rattle.ec_regs.proofs.Laws.{pair_count_unmapped}

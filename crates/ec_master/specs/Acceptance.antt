@@ -5,7 +5,6 @@ use Rattle.std.specs.List.{AllByRecursion}
 use Rattle.ec_app.specs.State.{SlaveState}
 use Rattle.ec_check.specs.Fit.{IsFit, IsFirstFault}
 use Rattle.ec_check.specs.Line.{controllers}
-use Rattle.ec_check.specs.declared.fault.MapFault.{MapFault}
 use Rattle.ec_map.specs.Item.{ItemRecord}
 use Rattle.ec_map.specs.Place.{IsPlaced, IsPlaceFault}
 use Rattle.ec_map.specs.declared.place.PlaceFault.{PlaceFault}

@@ -1,11 +1,15 @@
 -- What stands in the master's image and in a slave's memory for each mapped bit, and what the slave's
 -- application is shown, once a cycle is over (IEC 61158-4-12, FMMU and sync manager, buffered mode).
-use Rattle.std.specs.Prelude.{◌≡◌, ◌⊎◌, ◌-◌, ◌*◌, ℕ, Bool, true, if◌then◌else◌, Option, None, Some}
-use Rattle.std.specs.Prelude.{List, [], ◌∷◌, slice_get}
+use Rattle.std.specs.Prelude.{◌≡◌, ◌⊎◌, ◌+◌, ◌-◌, ◌*◌, ◌/◌, ◌%◌, ℕ, Bool, true, if◌then◌else◌, Option, None}
+use Rattle.std.specs.Prelude.{Some, List, [], ◌∷◌, slice_get}
+use Rattle.std.specs.Int.{bit_at}
 use Rattle.std.specs.List.{AllByRecursion}
+use Rattle.std.specs.Option.{option_map}
 use Rattle.ec_regs.specs.Bits.{bit, later}
 use Rattle.ec_regs.specs.SyncMan.{guards_outputs}
+use Rattle.ec_regs.specs.declared.registers.TheConstants.{PROCESS_MEMORY}
 use Rattle.ec_regs.specs.declared.sync_man.SyncMan.{SyncMan}
+use Rattle.ec_app.specs.State.{SlaveState}
 use Rattle.ec_areas.specs.Areas.{holds}
 use Rattle.ec_areas.specs.Records.{sync_managers_of}
 use Rattle.ec_areas.specs.Showing.{last_byte}
@@ -13,12 +17,14 @@ use Rattle.ec_wire.specs.declared.kind.Kind.TheVariants.{Fpwr}
 use Rattle.ec_esc.specs.Pass.{touches}
 use Rattle.ec_esc.specs.State.{ControllerState}
 use Rattle.ec_line.specs.Claims.{taken}
-use Rattle.ec_line.specs.Fit.{Reads as ReadsPair}
+use Rattle.ec_line.specs.Fit.{Reads as ReadsPair, Writes as WritesPair}
 use Rattle.ec_map.specs.Item.{ItemRecord}
 use Rattle.ec_map.specs.Place.{station_named}
 use Rattle.ec_map.specs.Covered.{asks_bit}
 use Rattle.ec_map.specs.Share.{request_of}
 use Rattle.ec_map.specs.declared.covered.Way.TheVariants.{Reads, Writes}
+use Rattle.ec_master.specs.Certificate.{shown_at}
+use Rattle.ec_master.specs.Unordered.{by_station}
 
 -- ---- inputs
 
@@ -81,3 +87,19 @@ pub record IsShownWhole (c : ControllerState) (items : List ItemRecord) (address
   pub byte : IsOutputByte c number address area
   pub completes : AllByRecursion (CompletesWhere c address area) items
   pub completed : IsCompleted c area items
+
+-- ---- once a cycle is over
+
+-- the answers have each input that a slave maps and that the item reads, as it was before the cycle
+abbrev pub InputsStand : List SlaveState → List ItemRecord → List ItemRecord → Type 0
+InputsStand slaves items got =
+    (n : ℕ) (s : SlaveState) → by_station slaves n ≡ Some s → HaveInputs s.controller items got
+
+-- each slave's application is shown, for each output that it maps, the bit that was sent last, where no item
+-- is an addressed write to the slave's station
+abbrev pub OutputsAreShown : List SlaveState → List ItemRecord → List SlaveState → Type 0
+OutputsAreShown slaves items later =
+    (n l p k : ℕ) (s : SlaveState) → NoWriteTo n items → by_station slaves n ≡ Some s
+    → WritesPair s.controller l p → p / 8 ≡ PROCESS_MEMORY + k
+    → (v : ℕ) × (last_sent items l ≡ Some v)
+    × (option_map (λ (byte : ℕ). bit_at byte (p % 8)) (shown_at (by_station later) k n) ≡ Some v)

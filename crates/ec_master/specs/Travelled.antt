@@ -1,5 +1,5 @@
 -- The frames of a work travel over a ring, one after the other.
-use Rattle.std.specs.Prelude.{ℕ, ◌-◌, false, List, [], ◌∷◌, ◌++◌, length, take, drop}
+use Rattle.std.specs.Prelude.{ℕ, ◌-◌, List, [], ◌∷◌, ◌++◌, length, take, drop}
 use Rattle.ec_wire.specs.Datagram.{DatagramRecord}
 use Rattle.ec_app.specs.State.{SlaveState}
 use Rattle.ec_line.specs.After.{Entry}

@@ -3,7 +3,7 @@
 use Rattle.std.specs.Prelude.{◌≡◌, List, [], ◌∷◌, Result, Ok}
 use Rattle.ec_wire.specs.Datagram.{DatagramRecord}
 use Rattle.ec_ring.specs.Ring.{RingState, line_of, with_line}
-use Rattle.ec_ring.specs.Travel.{Travelled, travelled}
+use Rattle.ec_ring.specs.Travel.{travelled}
 use Rattle.ec_ring.specs.Weather.{calm}
 use Rattle.ec_ring.specs.declared.links.Links.{Links}
 use Rattle.ec_ring.specs.declared.port.PortFault.{PortFault}

@@ -1,10 +1,8 @@
 //! What stands in the master's image, in each slave's memory and before its application once a cycle is over,
 //! bit by bit, each promise the contract of a function that does nothing.
 
-ghost use Rattle.std.specs.Prelude.{◌≡◌, ◌+◌, ◌/◌, ◌%◌, ◌≤◌, ℕ, true, Some, List, length, slice_index};
-ghost use Rattle.std.specs.Int.{bit_at};
+ghost use Rattle.std.specs.Prelude.{◌≡◌, ◌+◌, ◌/◌, ◌≤◌, ℕ, true, Some, List, length, slice_index, Result, Ok};
 ghost use Rattle.std.specs.List.{AllByRecursion};
-ghost use Rattle.std.specs.Option.{option_map};
 ghost use Rattle.ec_regs.specs.Bits.{bit};
 ghost use Rattle.ec_regs.specs.declared.registers.TheConstants.{PROCESS_MEMORY};
 ghost use Rattle.ec_regs.specs.declared.sync_man.SyncMan.{SyncMan};
@@ -16,13 +14,17 @@ ghost use Rattle.ec_map.specs.NotShown.{AreShown};
 ghost use Rattle.ec_map.specs.declared.covered.Way.TheVariants as ways;
 ghost use Rattle.ec_map.specs.Item.{ItemRecord, IsItem};
 ghost use Rattle.ec_master.specs.Covered.{HaveInputs, NoWriteTo, last_sent, IsOutputByte};
+ghost use Rattle.ec_master.specs.Covered.{InputsStand, OutputsAreShown};
 ghost use Rattle.ec_master.specs.Covered.{CompletesWhere, IsCompleted, IsShownWhole};
 ghost use Rattle.ec_ring.specs.Ring.{RingState};
 ghost use Rattle.ec_ring.specs.declared.links.TheConstants.{MAX_SLAVES};
 ghost use Rattle.ec_ring.specs.declared.weather.Weather.{Weather};
-ghost use Rattle.ec_master.specs.Certificate.{verdict_under, shown_at};
+ghost use Rattle.ec_master.specs.Certificate.{verdict_under};
+ghost use Rattle.ec_master.specs.Suffice.{SaysOf};
 ghost use Rattle.ec_master.specs.Travelled.{answers_under, ring_under};
 ghost use Rattle.ec_master.specs.Work.{with_answers};
+ghost use Rattle.ec_master.specs.declared.cycle.CycleFault.{CycleFault};
+ghost use Rattle.ec_master.specs.declared.verdict.Verdict.{Verdict};
 ghost use Rattle.ec_master.specs.declared.verdict.Verdict.TheVariants.{Good};
 ghost use Rattle.ec_master.specs.Unordered.{by_station, slaves_after_all, AreAnswers, IsAccepted};
 
@@ -84,20 +86,25 @@ pub fn covered_outputs()
 /// On an accepted line where `first_uncovered` and `first_not_shown` find nothing, a cycle whose verdict is
 /// good, whatever was lost or passed twice, has each mapped input of each slave in the items, as it was
 /// before the cycle; and shows each slave's application, for each mapped output, the bit that the master sent
-/// last, where no item is an addressed write to the slave's station.
+/// last, where no item is an addressed write to the slave's station. `weather_cycle` says so of its own
+/// verdict (`inputs_stand`, `outputs_are_shown`), and `ring_cycle` of every cycle with at most one link down;
+/// over ports it is so of each ring that would have given what came (`over_ports`; of the end of `run_cycle`
+/// that ring is said to be one by `frames_suffice`).
 pub fn covered_and_good()
-    ensures inputs { (ws : List Weather) (r : RingState) (items : List ItemRecord) (n : ℕ) (s : SlaveState)
+    ensures inputs { (ws : List Weather) (r : RingState) (items : List ItemRecord)
         → length r.slaves ≤ MAX_SLAVES → IsAccepted r.slaves items → AllByRecursion IsItem items
-        → verdict_under ws r items ≡ Good → by_station r.slaves n ≡ Some s
-        → HaveInputs s.controller items (with_answers items (answers_under ws r items)) }
-    ensures outputs { (ws : List Weather) (r : RingState) (items : List ItemRecord) (n l p k : ℕ)
-        (s : SlaveState) → length r.slaves ≤ MAX_SLAVES → IsAccepted r.slaves items
+        → verdict_under ws r items ≡ Good
+        → InputsStand r.slaves items (with_answers items (answers_under ws r items)) }
+    ensures outputs { (ws : List Weather) (r : RingState) (items : List ItemRecord)
+        → length r.slaves ≤ MAX_SLAVES → IsAccepted r.slaves items → AllByRecursion IsItem items
+        → IsCovered (controllers r.slaves) items → AreShown (controllers r.slaves) items
+        → verdict_under ws r items ≡ Good
+        → OutputsAreShown r.slaves items (ring_under ws r items).slaves }
+    ensures over_ports { (ws : List Weather) (r : RingState) (items later : List ItemRecord)
+        (result : Result Verdict CycleFault) → length r.slaves ≤ MAX_SLAVES → IsAccepted r.slaves items
         → AllByRecursion IsItem items → IsCovered (controllers r.slaves) items
-        → AreShown (controllers r.slaves) items → NoWriteTo n items → verdict_under ws r items ≡ Good
-        → by_station r.slaves n ≡ Some s → Writes s.controller l p → p / 8 ≡ PROCESS_MEMORY + k
-        → (v : ℕ) × (last_sent items l ≡ Some v)
-        × (option_map (λ (byte : ℕ). bit_at byte (p % 8))
-        (shown_at (by_station (ring_under ws r items).slaves) k n) ≡ Some v) }
+        → AreShown (controllers r.slaves) items → SaysOf ws r items result later → result ≡ Ok Good
+        → InputsStand r.slaves items later × OutputsAreShown r.slaves items (ring_under ws r items).slaves }
 {
     fit_line();
 }

@@ -8,6 +8,7 @@ ghost use Rattle.ec_line.specs.Trip.{joined_of, passed};
 ghost use Rattle.ec_ring.specs.Ring.{line_of, with_line};
 ghost use Rattle.ec_ring.specs.declared.links.TheConstants.{MAX_SLAVES};
 ghost use Rattle.ec_ring.specs.Travel.{trip_of};
+ghost use Rattle.ec_master.specs.Covered.{InputsStand, OutputsAreShown};
 ghost use Rattle.ec_master.specs.Cut.{IsFrameOf, frame_at};
 ghost use Rattle.ec_master.specs.Work.{with_answers, nth_item};
 ghost use Rattle.ec_master.specs.declared.work.TheConstants.{MAX_ITEMS};
@@ -15,12 +16,16 @@ ghost use Rattle.ec_master.specs.Travelled.{answers_under, ring_under, AtMostOne
 ghost use Rattle.ec_ring.specs.Weather.{calm};
 ghost use Rattle.ec_master.specs.Travelled.{unreached};
 ghost use Rattle.ec_master.specs.Again.{AskTheSame};
+ghost use Rattle.ec_check.specs.Line.{controllers};
+ghost use Rattle.ec_map.specs.Covered.{IsCovered};
 ghost use Rattle.ec_map.specs.Item.{ItemRecord, IsItem};
+ghost use Rattle.ec_map.specs.NotShown.{AreShown};
 ghost use Rattle.ec_map.specs.Share.{expected_of};
 ghost use Rattle.ec_master.specs.Unordered.{station, by_station, IsCycle, IsAccepted};
 
 use crate::cut::frame_from;
 use crate::work::Work;
+use ec_map::fit_line;
 use ec_merge::join_frames;
 use ec_ring::{Links, Travel, Weather};
 use ec_wire::FrameBuf;
@@ -102,6 +107,11 @@ pub(crate) fn travel<T: Travel>(ring: &mut T, weather: &[Weather], work: &mut Wo
 /// (`order_free`): neither the order of the slaves nor the break shows. With more links down they are those
 /// of that cycle over the slaves that a copy reaches (`reached`), and the others are as before (`unreached`).
 ///
+/// With at most one link down the work then has each input that a slave maps and an item reads, as it was
+/// before the cycle (`inputs_stand`), and each slave's application is shown, for each output that it maps, the
+/// bit that the master sent last (`outputs_are_shown`), where the items cover the line (`ec_map`,
+/// `first_uncovered` and `first_not_shown` find nothing) and none is an addressed write to its station.
+///
 /// A line is checked once: behind the cycle it accepts the work again, also with other data (`again`, of any
 /// items that ask the same), and what is expected of each counter is as it was (`still_expected`).
 pub fn ring_cycle<T: Travel>(ring: &mut T, work: &mut Work)
@@ -115,6 +125,13 @@ pub fn ring_cycle<T: Travel>(ring: &mut T, work: &mut Work)
         → unreached (T.ring ring.new) ≡ unreached (T.ring ring.old) }
     ensures places { IsAccepted (T.ring ring.old).slaves work.old
         → map station (T.ring ring.new).slaves ≡ map station (T.ring ring.old).slaves }
+    ensures inputs_stand { AtMostOneDown (T.ring ring.old) → IsAccepted (T.ring ring.old).slaves work.old
+        → InputsStand (T.ring ring.old).slaves work.old work.new }
+    ensures outputs_are_shown { AtMostOneDown (T.ring ring.old)
+        → IsAccepted (T.ring ring.old).slaves work.old
+        → IsCovered (controllers (T.ring ring.old).slaves) work.old
+        → AreShown (controllers (T.ring ring.old).slaves) work.old
+        → OutputsAreShown (T.ring ring.old).slaves work.old (T.ring ring.new).slaves }
     ensures links { (T.ring ring.new).links ≡ (T.ring ring.old).links }
     ensures frames { work.new ≡ with_answers work.old (answers_under [] (T.ring ring.old) work.old) }
     ensures ring { T.ring ring.new ≡ ring_under [] (T.ring ring.old) work.old }
@@ -127,5 +144,6 @@ pub fn ring_cycle<T: Travel>(ring: &mut T, work: &mut Work)
         ≡ map (expected_of (line_of (T.ring ring.old))) work.old }
 {
     work.are_items();
+    fit_line();
     travel(ring, &[], work);
 }

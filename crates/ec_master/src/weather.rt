@@ -7,11 +7,15 @@ ghost use Rattle.ec_regs.specs.declared.registers.TheConstants.{PROCESS_MEMORY, 
 ghost use Rattle.ec_app.specs.State.{SlaveState};
 ghost use Rattle.ec_line.specs.After.{after_frame};
 ghost use Rattle.ec_line.specs.Shown.{ShowsLast, NoAreaTwice};
+ghost use Rattle.ec_check.specs.Line.{controllers};
+ghost use Rattle.ec_map.specs.Covered.{IsCovered};
 ghost use Rattle.ec_map.specs.Item.{ItemRecord, IsItem};
+ghost use Rattle.ec_map.specs.NotShown.{AreShown};
 ghost use Rattle.ec_map.specs.Share.{expected_of};
 ghost use Rattle.ec_ring.specs.Ring.{line_of};
 ghost use Rattle.ec_master.specs.Certificate.{verdict_under, verdict_by_counts, entries_at, IsOneDown};
 ghost use Rattle.ec_master.specs.Certificate.{memory_at, application_at, shown_at};
+ghost use Rattle.ec_master.specs.Covered.{InputsStand, OutputsAreShown};
 ghost use Rattle.ec_master.specs.Cut.{frames_of};
 ghost use Rattle.ec_master.specs.Again.{AskTheSame};
 ghost use Rattle.ec_master.specs.Ports.{taken_on};
@@ -21,6 +25,7 @@ ghost use Rattle.ec_master.specs.Unordered.{by_station, slaves_after_all, AreAns
 use crate::ring::travel;
 use crate::verdict::{Verdict, conclude};
 use crate::work::Work;
+use ec_map::fit_line;
 use ec_ring::{Travel, Weather};
 
 /// One cycle over a ring in any weather: frame i travels under weather i, and those past the list under the
@@ -35,6 +40,11 @@ use ec_ring::{Travel, Weather};
 /// - `good_outputs`, `good_outputs_alone`: so is each shown byte, where in each frame the last item that
 ///   shows it anew is the last that writes it, and where no two items of a frame write into one area of
 ///   outputs;
+/// - `inputs_stand`: on `Good` the work has each input that a slave maps and an item reads, as it was before
+///   the cycle;
+/// - `outputs_are_shown`: on `Good` each slave's application is shown, for each output that it maps, the bit
+///   that the master sent last, where the items cover the line (`ec_map`, `first_uncovered` and
+///   `first_not_shown` find nothing) and none is an addressed write to the slave's station;
 /// - `untouched_work`: on another verdict the work is unchanged;
 /// - `memory_on_every_verdict`: a slave's memory is that after the items of those frames of which a copy
 ///   reached it, each once;
@@ -78,6 +88,12 @@ pub fn weather_cycle<T: Travel>(
         → option_map (λ (t : SlaveState). t.controller.memory) (slice_get (T.ring ring.new).slaves k)
         ≡ Some (after_frame (entries_at (trips_under weather.now (T.ring ring.old) work.old) k)
         s.controller).memory }
+    ensures inputs_stand { IsAccepted (T.ring ring.old).slaves work.old → result ≡ Verdict.Good
+        → InputsStand (T.ring ring.old).slaves work.old work.new }
+    ensures outputs_are_shown { IsAccepted (T.ring ring.old).slaves work.old
+        → IsCovered (controllers (T.ring ring.old).slaves) work.old
+        → AreShown (controllers (T.ring ring.old).slaves) work.old → result ≡ Verdict.Good
+        → OutputsAreShown (T.ring ring.old).slaves work.old (T.ring ring.new).slaves }
     ensures applications { (n : ℕ) → IsAccepted (T.ring ring.old).slaves work.old
         → application_at (by_station (T.ring ring.new).slaves) n
         ≡ application_at (by_station (T.ring ring.old).slaves) n }
@@ -98,6 +114,7 @@ pub fn weather_cycle<T: Travel>(
     ensures frames { T.ring ring.new ≡ ring_under weather.now (T.ring ring.old) work.old }
 {
     work.are_items();
+    fit_line();
     let mut taken = work.copy();
     travel(ring, weather, &mut taken);
     conclude(work, taken, expected)

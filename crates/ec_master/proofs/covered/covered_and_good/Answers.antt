@@ -5,4 +5,5 @@ pub returns : goal.returns
 returns c = record {
   inputs = lemmas.good_inputs;
   outputs = lemmas.good_outputs c.fit_line.ensures.placed;
+  over_ports = lemmas.over_ports c.fit_line.ensures.placed;
 }

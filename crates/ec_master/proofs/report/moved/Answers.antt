@@ -1,6 +1,5 @@
-use Rattle.std.proofs.Common.{◌≡◌, ◌<◌, ◌≤◌, arith, sym, ap, ◌∙◌, ℕ, List, Option, Some, length, get_or, subst}
-use Rattle.ec_wire.specs.Datagram.{DatagramRecord, nth, blank}
-use Rattle.ec_merge.specs.Rule.{distance}
+use Rattle.std.proofs.Common.{◌<◌, ◌≤◌, arith, sym, ap, ◌∙◌, ℕ, List, Option, length, get_or}
+use Rattle.ec_wire.specs.Datagram.{DatagramRecord, nth}
 use Rattle.ec_master.specs.Ports.{came_or}
 use Rattle.ec_master.specs.Report.{moved_in}
 use Rattle.ec_master.proofs.ReportLemmas.{moved-there, moved-missing, moved-itself}

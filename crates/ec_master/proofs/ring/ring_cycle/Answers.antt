@@ -3,12 +3,14 @@ use Rattle.std.proofs.Common.{◌∙◌, ap, sym, subst, List, [], map}
 use Rattle.ec_map.specs.Item.{ItemRecord}
 use Rattle.ec_map.specs.Share.{expected_of}
 use Rattle.ec_ring.specs.Ring.{RingState, line_of}
-use Rattle.ec_master.specs.Travelled.{ring_under, reached, unreached}
+use Rattle.ec_master.specs.Travelled.{AtMostOneDown, ring_under, reached, unreached}
 use Rattle.ec_master.specs.Again.{AskTheSame}
 use Rattle.ec_master.specs.Unordered.{station, by_station, IsCycle, IsAccepted}
+use Rattle.ec_master.proofs.CoveredGoodLemmas.{answered_inputs, cycle_outputs}
 use Rattle.ec_master.proofs.OrderLemmas.{whole_cycle, reached_cycle, unreached_same}
 use Rattle.ec_master.proofs.SlaveLemmas.{stations_kept}
 use Rattle.ec_master.proofs.AgainLemmas.{again, still_expected, asks-answers}
+use Rattle.ec_master.proofs.ring.ring_cycle.Given as given
 use Rattle.ec_master.proofs.ring.ring_cycle.Goals as goal
 
 pub returns-clause-order_free : goal.returns-clause-order_free
@@ -22,6 +24,24 @@ returns-clause-order_free g c one accepted =
     IsCycle (by_station r.slaves) items got (by_station (ring_under [] r items).slaves))
     (sym c.travel.ensures.work)
     (whole_cycle r items one.0 one.1 accepted c.are_items.ensures.items))
+
+-- the cycle is that of the slaves without their order
+unordered : (g : given.Over) (c : goal.After-travel g) → AtMostOneDown (g.T.Travel.ring c.args.ring.now)
+    → IsAccepted (g.T.Travel.ring c.args.ring.now).slaves c.args.work.now
+    → IsCycle (by_station (g.T.Travel.ring c.args.ring.now).slaves) c.args.work.now c.travel.new.work
+    (by_station (g.T.Travel.ring c.travel.new.ring).slaves)
+unordered g c one accepted = returns-clause-order_free g c one accepted
+
+pub returns-clause-inputs_stand : goal.returns-clause-inputs_stand
+returns-clause-inputs_stand g c one accepted =
+    answered_inputs (g.T.Travel.ring c.args.ring.now).slaves c.args.work.now c.travel.new.work accepted
+    c.are_items.ensures.items (unordered g c one accepted).answers
+
+pub returns-clause-outputs_are_shown : goal.returns-clause-outputs_are_shown
+returns-clause-outputs_are_shown g c one accepted covers shown =
+    cycle_outputs c.fit_line.ensures.placed (g.T.Travel.ring c.args.ring.now).slaves c.args.work.now
+    c.travel.new.work (g.T.Travel.ring c.travel.new.ring).slaves accepted c.are_items.ensures.items covers shown
+    (unordered g c one accepted)
 
 pub returns-clause-reached : goal.returns-clause-reached
 returns-clause-reached g c accepted =

@@ -6,9 +6,9 @@ use Rattle.ec_app.specs.State.{SlaveState}
 use Rattle.ec_map.specs.Item.{ItemRecord}
 use Rattle.ec_map.specs.Share.{expected_of}
 use Rattle.ec_ring.specs.Ring.{RingState, line_of}
-use Rattle.ec_ring.specs.declared.weather.Weather.{Weather}
 use Rattle.ec_master.specs.Certificate.{memory_at, application_at, shown_at, verdict_under}
 use Rattle.ec_regs.specs.declared.registers.TheConstants.{PROCESS_MEMORY}
+use Rattle.ec_master.specs.Covered.{InputsStand, OutputsAreShown}
 use Rattle.ec_master.specs.Cut.{frames_of}
 use Rattle.ec_master.specs.Ports.{taken_on}
 use Rattle.ec_master.specs.Travelled.{answers_under, ring_under}
@@ -19,6 +19,7 @@ use Rattle.ec_master.specs.declared.verdict.Verdict.TheVariants.{Good, Short, Ov
 use Rattle.ec_master.specs.Work.{with_answers}
 use Rattle.ec_master.proofs.AgainLemmas.{again, still_expected, asks-itself, asks-answers}
 use Rattle.ec_master.proofs.CertificateLemmas as certificate
+use Rattle.ec_master.proofs.CoveredGoodLemmas as covered
 use Rattle.ec_master.proofs.JudgedLemmas.{judged}
 use Rattle.ec_master.proofs.SufficeLemmas.{taken-good, taken-other}
 use Rattle.ec_master.proofs.VerdictLemmas.{verdict-counts, one_down_good}
@@ -102,6 +103,22 @@ returns-clause-good_outputs_alone g c n k s accepted good below there alone =
     ∙ certificate.good_shows c.args.weather.now (g.T.Travel.ring c.args.ring.now) items n k s
     c.travel.ensures.limit accepted c.are_items.ensures.items (sym (verdict_is g c) ∙ good) below there
     (certificate.shows-last-apart s.controller (PROCESS_MEMORY + k) (frames_of items) alone)
+
+pub returns-clause-inputs_stand : goal.returns-clause-inputs_stand
+returns-clause-inputs_stand g c accepted good =
+    let r : RingState = g.T.Travel.ring c.args.ring.now in
+    let items = c.args.work.now in
+    subst (InputsStand r.slaves items)
+    (sym (taken_is g c ∙ taken-good c.conclude.result items (answers_under c.args.weather.now r items) good))
+    (covered.good_inputs c.args.weather.now r items c.travel.ensures.limit accepted
+    c.are_items.ensures.items (sym (verdict_is g c) ∙ good))
+
+pub returns-clause-outputs_are_shown : goal.returns-clause-outputs_are_shown
+returns-clause-outputs_are_shown g c accepted covers shown good =
+    let r : RingState = g.T.Travel.ring c.args.ring.now in
+    subst (λ (later : RingState). OutputsAreShown r.slaves c.args.work.now later.slaves) (sym (ring g c))
+    (covered.good_outputs c.fit_line.ensures.placed c.args.weather.now r c.args.work.now c.travel.ensures.limit
+    accepted c.are_items.ensures.items covers shown (sym (verdict_is g c) ∙ good))
 
 pub returns-clause-untouched_work : goal.returns-clause-untouched_work
 returns-clause-untouched_work g c other =

@@ -1,4 +1,4 @@
-use Rattle.std.proofs.Common.{◌≡◌, ◌<◌, ◌++◌, ◌∙◌, arith, ap, sym, ℕ, List, [], ◌∷◌, length, take}
+use Rattle.std.proofs.Common.{◌≡◌, ◌++◌, ◌∙◌, arith, ap, sym, ℕ, List, [], ◌∷◌, length, take}
 use Rattle.std.proofs.lemmas.List.{length-take}
 use Rattle.ec_master.specs.Report.{ReportRecord}
 use Rattle.ec_master.specs.declared.work.TheConstants.{MAX_ITEMS}
