@@ -39,6 +39,8 @@ impl<L: PacketLine> Lossy<L> {
 impl<L: PacketLine> PacketLine for Lossy<L> {
     ghost failed = { λ lossy. L.failed lossy.line };
 
+    ghost gives = { λ before at packet later. L.gives before.line at packet later.line };
+
     fn send(&mut self, from: Socket, to: Socket, bytes: &[u8]) -> Result<(), PortFault> {
         if self.random.draw() % ONE_IN == 0 {
             self.lost = self.lost.wrapping_add(1);

@@ -1,3 +1,4 @@
 pub mod State
 pub mod Sockets
+pub mod Received
 pub mod Trips

@@ -1,7 +1,9 @@
 //! What carries the packets between a master and the ends of its line.
 
-ghost use Rattle.std.specs.Prelude.{◌≡◌, ◌≤◌, ◌<◌, ℕ, IfOk, IfSome, IsErr};
+ghost use Rattle.std.specs.Prelude.{◌≡◌, ◌≤◌, ◌<◌, ℕ, IfOk, IfSome, IsErr, take};
+ghost use Rattle.std.specs.Option.{option_map};
 ghost use Rattle.ec_wire.specs.declared.frame.TheConstants.{PACKET_ROOM};
+ghost use Rattle.ecat_udp.specs.Received.{Gives};
 
 use ec_master::PortFault;
 use ec_ring::Port;
@@ -26,6 +28,9 @@ pub trait PacketLine {
     /// How many sends and receives have failed.
     ghost failed: { Self → ℕ };
 
+    /// What a receive at a socket gives: a packet or none, and the line behind it.
+    ghost gives: { Gives Self };
+
     /// Sends a packet from one socket to another. At the greatest count of failures, 2^64 - 1, the answer is
     /// `Ok` where a fault would be.
     fn send(&mut self, from: Socket, to: Socket, bytes: &[u8]) -> Result<(), PortFault>
@@ -41,6 +46,8 @@ pub trait PacketLine {
         into: &mut [u8; PACKET_ROOM],
     ) -> Result<Option<usize>, PortFault>
         ensures room { IfOk result (λ found. IfSome found (λ count. count ≤ PACKET_ROOM)) }
+        ensures gives { IfOk result (λ found. gives self.old at
+            (option_map (λ (count : ℕ). take count into.new) found) self.new) }
         ensures counted { IsErr result → failed self.old < failed self.new }
         ensures never_lower { failed self.old ≤ failed self.new };
 

@@ -1,11 +1,12 @@
 //! A master's two ports whose frames go out in UDP packets.
 
-ghost use Rattle.std.specs.Prelude.{◌≡◌, ◌≤◌, ◌<◌, List, IsErr, IfSome, Some};
+ghost use Rattle.std.specs.Prelude.{◌≡◌, ◌≤◌, ◌<◌, List, IsErr, IfOk, IfSome, Some};
 ghost use Rattle.std.specs.Option.{option_map};
 ghost use Rattle.ec_wire.specs.Datagram.{DatagramRecord};
 ghost use Rattle.ec_wire.specs.Fault.{IsSpelt};
 ghost use Rattle.ec_wire.specs.declared.fault.Form.TheVariants.{Udp};
 ghost use Rattle.ecat_udp.specs.Sockets.{master_at, line_at};
+ghost use Rattle.ecat_udp.specs.Received.{IsReceived, AreReceived};
 ghost use Rattle.ecat_udp.specs.Trips.{WalkedTrips, HeardTrips, after_copy, IsWalkedOnce, IsWalked};
 
 use crate::line::{PacketLine, Socket};
@@ -98,6 +99,7 @@ impl<L: PacketLine> UdpPorts<L> {
 
     /// Receives what comes back at both ports, at port A first.
     fn receive_copies(&mut self) -> Result<Came, PortFault>
+        ensures received { IfOk result (λ came. AreReceived L.gives came self.new.line) }
         ensures ring { self.new.ring ≡ self.old.ring }
         ensures counted { IsErr result → L.failed self.old.line < L.failed self.new.line }
         ensures never_lower { L.failed self.old.line ≤ L.failed self.new.line }
@@ -109,6 +111,7 @@ impl<L: PacketLine> UdpPorts<L> {
 
     /// Receives a frame at a socket: none where no packet came, or one that is no frame.
     fn receive_frame(&mut self, at: Socket) -> Result<Option<FrameBuf>, PortFault>
+        ensures received { IfOk result (λ copy. IsReceived L.gives at self.old.line copy self.new.line) }
         ensures ring { self.new.ring ≡ self.old.ring }
         ensures counted { IsErr result → L.failed self.old.line < L.failed self.new.line }
         ensures never_lower { L.failed self.old.line ≤ L.failed self.new.line }
@@ -122,14 +125,16 @@ impl<L: PacketLine> UdpPorts<L> {
 }
 
 impl<L: PacketLine> Ports for UdpPorts<L> {
-    ghost trips = { WalkedTrips };
+    ghost trips = { WalkedTrips L.gives };
 
     ghost failed = { λ ports. L.failed ports.line };
 
-    /// Takes both copies over the ring, that from port A first, and receives at both ports what comes back.
-    /// The first call of the line that fails is the last.
+    /// Takes both copies over the ring, that from port A first, and receives at both ports what comes back: a
+    /// packet that was received is a copy exactly where it spells a frame (`received`). The first call of the
+    /// line that fails is the last.
     fn trip(&mut self, sent: &FrameBuf) -> Result<Came, PortFault>
         ensures ring { IsWalked self.old.ring self.new.ring }
+        ensures received { IfOk result (λ came. AreReceived L.gives came self.new.line) }
         ensures counted { IsErr result → L.failed self.old.line < L.failed self.new.line }
         ensures never_lower { L.failed self.old.line ≤ L.failed self.new.line }
     {
@@ -144,7 +149,7 @@ impl<L: PacketLine> Ports for UdpPorts<L> {
 
 /// Where a copy arrived is known: at the port where it was received.
 impl<L: PacketLine> HeardPorts for UdpPorts<L> {
-    ghost trips = { HeardTrips };
+    ghost trips = { HeardTrips L.gives };
 
     ghost failed = { λ ports. L.failed ports.line };
 

@@ -1,6 +1,6 @@
 //! The system's sockets.
 
-ghost use Rattle.std.specs.Prelude.{◌≡◌, ◌+◌, ◌-◌, ◌*◌, ◌^◌, ◌≤◌, ◌<◌, ◌⊎◌, ◌↔◌, IfOk, IsErr, IsOk, Err};
+ghost use Rattle.std.specs.Prelude.{⊤, ◌≡◌, ◌+◌, ◌-◌, ◌*◌, ◌^◌, ◌≤◌, ◌<◌, ◌⊎◌, ◌↔◌, IfOk, IsErr, IsOk, Err};
 ghost use Rattle.std.specs.Duration.{as_nanos};
 ghost use Rattle.std.specs.Net.Socket.{socket_port};
 ghost use Rattle.ecat_udp.specs.Sockets.{asked_port, IsOnLoopback};
@@ -133,6 +133,9 @@ impl UdpLine {
 
 impl PacketLine for UdpLine {
     ghost failed = { λ line. line.failures };
+
+    // what a socket gives is up to the system
+    ghost gives = { λ before at packet later. ⊤ };
 
     fn send(&mut self, from: Socket, to: Socket, bytes: &[u8]) -> Result<(), PortFault> {
         let address = self.end(to).address;

@@ -1,6 +1,6 @@
 //! Reads and writes that fail, each in turn.
 
-ghost use Rattle.std.specs.Prelude.{◌≡◌, false};
+ghost use Rattle.std.specs.Prelude.{◌≡◌, None, false};
 ghost use Rattle.ecat.specs.Commands.{goes_over_packets};
 
 use super::{ROOM, written};
@@ -64,6 +64,8 @@ struct Silent;
 
 impl PacketLine for Silent {
     ghost failed = { λ line. 0 };
+
+    ghost gives = { λ before at packet later. packet ≡ None };
 
     fn send(&mut self, _from: Socket, _to: Socket, _bytes: &[u8]) -> Result<(), PortFault> {
         Ok(())

@@ -1,6 +1,6 @@
 //! Cycles over packets: over real sockets, and over lines that fail, lose all, or carry another frame.
 
-ghost use Rattle.std.specs.Prelude.{◌≡◌, ◌≤◌, ◌<◌, IsErr};
+ghost use Rattle.std.specs.Prelude.{⊤, ◌≡◌, ◌≤◌, ◌<◌, IsErr};
 
 use super::{ROOM, written};
 use crate::udp::{act_udp, prepare_udp};
@@ -61,6 +61,8 @@ impl Fake {
 
 impl PacketLine for Fake {
     ghost failed = { λ line. line.failed };
+
+    ghost gives = { λ before at packet later. ⊤ };
 
     fn send(&mut self, _from: Socket, _to: Socket, _bytes: &[u8]) -> Result<(), PortFault> {
         self.fail()

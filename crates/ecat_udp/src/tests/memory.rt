@@ -1,6 +1,6 @@
 //! A line in memory, which writes its calls down, and may fail at one of them.
 
-ghost use Rattle.std.specs.Prelude.{◌≡◌, ◌≤◌, ◌<◌, IsErr};
+ghost use Rattle.std.specs.Prelude.{⊤, ◌≡◌, ◌≤◌, ◌<◌, IsErr};
 
 use crate::{PacketLine, Socket};
 use ec_master::PortFault;
@@ -91,6 +91,8 @@ fn place(socket: Socket) -> usize
 
 impl PacketLine for MemoryLine {
     ghost failed = { λ line. line.failed };
+
+    ghost gives = { λ before at packet later. ⊤ };
 
     fn send(&mut self, from: Socket, to: Socket, bytes: &[u8]) -> Result<(), PortFault> {
         self.call(Call::Send(from, to))?;

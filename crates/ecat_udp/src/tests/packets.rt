@@ -1,5 +1,7 @@
 //! Which packets go out in a trip, and what those count for that come.
 
+ghost use Rattle.std.specs.Prelude.{◌≡◌, None};
+
 use super::assert_same;
 use crate::tests::exchange::{EXPECTED, left, ring, station_read, stations, taken, work};
 use crate::tests::memory::{Call, MemoryLine};
@@ -15,6 +17,8 @@ struct Silent;
 
 impl PacketLine for Silent {
     ghost failed = { λ _. 0 };
+
+    ghost gives = { λ before at packet later. packet ≡ None };
 
     fn send(&mut self, _from: Socket, _to: Socket, _bytes: &[u8]) -> Result<(), PortFault> {
         Ok(())
