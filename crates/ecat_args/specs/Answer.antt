@@ -3,8 +3,9 @@ use Rattle.std.specs.Prelude.{◌≡◌, ◌≢◌, ◌⊎◌, List, [], Some, N
 use Rattle.clap.specs.Words.{IsAmong, Text, fault_of, kind_of, subcommand_of, takes}
 use Rattle.clap.specs.declared.error.Error.{Error}
 use Rattle.clap.specs.declared.error.kind.ErrorKind.TheVariants.{OutOfMemory}
-use Rattle.ecat_args.specs.Given.{Given, IsComplete, control_in, index_in, judge_in, packets_in, port_in}
-use Rattle.ecat_args.specs.Given.{station_in, sub_in, surely_in, value_in, word_in}
+use Rattle.ecat_args.specs.Given.{Given, IsComplete, IsNoAddress, LiesAt, control_in, forever_in, index_in}
+use Rattle.ecat_args.specs.Given.{judge_in, log_in, packets_in, port_in, station_in, sub_in, surely_in}
+use Rattle.ecat_args.specs.Given.{value_in, word_in}
 use Rattle.ecat_args.specs.Line.{line}
 use Rattle.ecat_args.specs.declared.args.Args.{Args}
 use Rattle.ecat_args.specs.declared.args.Args.TheVariants.{Show, Check, Cover, Where, Run, Sweep, Sdo}
@@ -34,18 +35,21 @@ Says (Sdo scene station index sub value surely) given =
 Says (Udp scene port judge) given =
     (given.0 ≡ codes "udp") × (word_in given (codes "SCENE") ≡ Some scene.now)
     × (port_in given ≡ Some port) × (judge_in given ≡ judge)
-Says (Serve scene port packets control) given =
+Says (Serve scene port packets address forever control log) given =
     (given.0 ≡ codes "serve") × (word_in given (codes "SCENE") ≡ Some scene.now)
-    × (port_in given ≡ Some port) × (packets_in given ≡ Some packets) × (control_in given ≡ control)
+    × (port_in given ≡ Some port) × (packets_in given ≡ Some packets)
+    × LiesAt (word_in given (codes "ADDRESS")) address
+    × (forever_in given ≡ forever) × (control_in given ≡ control) × (log_in given ≡ log)
 Says Vectors given = given.0 ≡ codes "vectors"
 
--- a word of the command that has to be a number or a value is none in its range
+-- a word of the command that has to be a number, a value or an address is none in its range
 abbrev pub HasBadNumber : Given → Type 0
 HasBadNumber given =
     ((given.0 ≡ codes "sdo") × ((station_in given ≡ None) ⊎ (index_in given ≡ None)
     ⊎ (sub_in given ≡ None) ⊎ (value_in given ≡ None)))
     ⊎ ((given.0 ≡ codes "udp") × (port_in given ≡ None))
-    ⊎ ((given.0 ≡ codes "serve") × ((port_in given ≡ None) ⊎ (packets_in given ≡ None)))
+    ⊎ ((given.0 ≡ codes "serve") × ((port_in given ≡ None) ⊎ (packets_in given ≡ None)
+    ⊎ IsNoAddress (word_in given (codes "ADDRESS"))))
 
 -- clap's definition of the line takes the words, and what it gives of them is complete and
 -- satisfies P

@@ -4,6 +4,9 @@ use Rattle.std.specs.Prelude.{◌≡◌, ◌∷◌, ℕ, Bool, List, [], Option,
 use Rattle.std.specs.Prelude.{if◌then◌else◌, option_and_then, option_map}
 use Rattle.std.specs.List.{list_all, list_any}
 use Rattle.std.specs.Str.{bytes_eq}
+use Rattle.std.specs.Net.Addr.{ipv4_octets}
+use Rattle.std.specs.Net.Grammar.{IsIpv4Text}
+use Rattle.std.specs.declared.net.ipv4_addr.Ipv4Addr.{Ipv4Addr}
 use Rattle.clap.specs.Words.{Row, Text, first_of}
 use Rattle.ecat_args.specs.Number.{number_within, value_of}
 use Rattle.ecat_args.specs.declared.number.Value.{Value}
@@ -69,6 +72,23 @@ surely_in given = flag_by (word_in given (codes "surely"))
 
 abbrev pub control_in : Given → Bool
 control_in given = flag_by (word_in given (codes "control"))
+
+abbrev pub forever_in : Given → Bool
+forever_in given = flag_by (word_in given (codes "forever"))
+
+abbrev pub log_in : Given → Bool
+log_in given = flag_by (word_in given (codes "log"))
+
+-- the address of `serve`: where no word was given it is 127.0.0.1, and else the one that the word writes,
+-- four decimal numbers with dots between them
+abbrev pub LiesAt : Option Text → Ipv4Addr → Type 0
+LiesAt None address = ipv4_octets address ≡ 127 ∷ 0 ∷ 0 ∷ 1 ∷ []
+LiesAt (Some word) address = IsIpv4Text word address
+
+-- a word was given that writes no address
+abbrev pub IsNoAddress : Option Text → Type 0
+IsNoAddress None = ⊥
+IsNoAddress (Some word) = (address : Ipv4Addr) → IsIpv4Text word address → ⊥
 
 -- the names of the commands
 abbrev pub command_names : List Text

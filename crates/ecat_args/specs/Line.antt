@@ -66,10 +66,23 @@ packets_rule = record (new_rule (codes "N")) { long = Some (codes "packets") }
 abbrev pub control_rule : Rule
 control_rule = flag_rule (codes "control")
 
--- `serve SCENE [--port P] [--packets N] [--control]`
+-- `--bind ADDRESS`
+abbrev pub address_rule : Rule
+address_rule = record (new_rule (codes "ADDRESS")) { long = Some (codes "bind") }
+
+-- `--forever`
+abbrev pub forever_rule : Rule
+forever_rule = flag_rule (codes "forever")
+
+-- `--log`
+abbrev pub log_rule : Rule
+log_rule = flag_rule (codes "log")
+
+-- `serve SCENE [--port P] [--packets N] [--bind ADDRESS] [--forever] [--control] [--log]`
 abbrev pub serve_line : App
-serve_line = with_rule (with_rule (with_rule (with_rule (new_app (codes "serve"))
-    (needed_rule (codes "SCENE"))) port_rule) packets_rule) control_rule
+serve_line = with_rule (with_rule (with_rule (with_rule (with_rule (with_rule (with_rule
+    (new_app (codes "serve")) (needed_rule (codes "SCENE"))) port_rule) packets_rule) address_rule)
+    forever_rule) control_rule) log_rule
 
 -- `vectors`
 abbrev pub vectors_line : App

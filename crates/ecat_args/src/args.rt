@@ -1,16 +1,19 @@
 //! What the words of the command line ask for.
 ghost use Rattle.std.specs.Prelude.{◌≡◌, IfErr, IfOk, IsSome, MatchOption, Some, codes};
 ghost use Rattle.std.specs.Prelude.{option_map};
+ghost use Rattle.std.specs.Net.Grammar.{IsIpv4Text};
 ghost use Rattle.clap.specs.Words.{first_of, found_of, rows_of};
 ghost use Rattle.clap.specs.Walk.{texts};
 ghost use Rattle.ecat_args.specs.Answer.{Explains, HasBadNumber, Says, Takes};
-ghost use Rattle.ecat_args.specs.Given.{IsComplete, flag_by, packets_by, port_by, value_by};
+ghost use Rattle.ecat_args.specs.Given.{IsComplete, IsNoAddress, LiesAt, flag_by, packets_by, port_by};
+ghost use Rattle.ecat_args.specs.Given.{value_by};
 
 use crate::line::line;
 use crate::number::{Value, number, value_of};
 use clap::ArgMatches;
 use clap::error::ErrorKind;
 use std::alloc::{AllocError, Global};
+use std::net::Ipv4Addr;
 
 /// The port of the line's end A where the words name none: EtherCAT's own, 34980.
 const DEFAULT_PORT: u16 = 0x88a4;
@@ -83,7 +86,8 @@ pub enum Args<'a> {
         /// Whether what is short is named.
         judge: bool,
     },
-    /// `serve SCENE [--port P] [--packets N] [--control]`: puts the line of a scene on the network.
+    /// `serve SCENE [--port P] [--packets N] [--bind ADDRESS] [--forever] [--control] [--log]`: puts the line
+    /// of a scene on the network.
     Serve {
         /// The path of the scene.
         scene: &'a str,
@@ -91,8 +95,14 @@ pub enum Args<'a> {
         port: u16,
         /// After how many packets it ends, one at least; without it at the end of the input.
         packets: Option<u32>,
+        /// The address of both ends: that of this machine alone, unless another one was given.
+        address: Ipv4Addr,
+        /// Whether it serves on where the input has ended.
+        forever: bool,
         /// Whether the lines of the input are commands to the line.
         control: bool,
+        /// Whether each packet is told of.
+        log: bool,
     },
     /// `vectors`: runs the worked rows.
     Vectors,
@@ -103,7 +113,7 @@ pub enum Args<'a> {
 pub enum ArgsFault {
     /// The words are no command line of the program, or ask for help. The error has the text.
     Line(clap::Error),
-    /// A word that is to be a number is not one, or is out of its range.
+    /// A word that is to be a number or an address is not one, or is out of its range.
     BadNumber,
     /// Memory ran out.
     NoMemory,
@@ -268,11 +278,15 @@ fn serve<'a>(given: &ArgMatches<'a>) -> Option<Args<'a>>
 {
     let port = port_given(given)?;
     let packets = packets_given(given)?;
+    let address = address_given(given)?;
     Some(Args::Serve {
         scene: text(given, "SCENE"),
         port,
         packets,
+        address,
+        forever: flag(given, "forever"),
         control: flag(given, "control"),
+        log: flag(given, "log"),
     })
 }
 
@@ -293,5 +307,26 @@ fn packets_given(given: &ArgMatches<'_>) -> Option<Option<u32>>
     match word(given, "N") {
         Some(text) => Some(Some(number(text, LEAST_PACKETS, u32::MAX)?)),
         None => Some(None),
+    }
+}
+
+// The address of both ends, or that of this machine alone, unless it is bad.
+fn address_given(given: &ArgMatches<'_>) -> Option<Ipv4Addr>
+    ensures { MatchOption result (IsNoAddress (first_of (codes "ADDRESS") (rows_of (found_of given.now))))
+        (LiesAt (first_of (codes "ADDRESS") (rows_of (found_of given.now)))) }
+{
+    match word(given, "ADDRESS") {
+        Some(text) => address_of(text),
+        None => Some(Ipv4Addr::LOCALHOST),
+    }
+}
+
+// The address that a text writes, if it writes one.
+fn address_of(text: &str) -> Option<Ipv4Addr>
+    ensures { MatchOption result (IsNoAddress (Some text.now)) (IsIpv4Text text.now) }
+{
+    match text.parse() {
+        Ok(address) => Some(address),
+        Err(_) => None,
     }
 }

@@ -9,12 +9,12 @@
 //! ecat sweep SCENE
 //! ecat sdo SCENE STATION INDEX SUB [VALUE] [--surely]
 //! ecat udp SCENE [--port P] [--judge]
-//! ecat serve SCENE [--port P] [--packets N] [--control]
+//! ecat serve SCENE [--port P] [--packets N] [--bind ADDRESS] [--forever] [--control] [--log]
 //! ecat vectors
 //! ```
 //!
 //! A number is decimal digits, or `0x` and hexadecimal digits of either case. `VALUE` is `0x` and
-//! exactly 2, 4 or 8 hexadecimal digits, which give its size.
+//! exactly 2, 4 or 8 hexadecimal digits, which give its size. `ADDRESS` is an IPv4 address, as 127.0.0.1.
 //!
 //! A use, which the test `words_are_read_as_the_page_shows` tries; `rt` is what `main` is given:
 //!

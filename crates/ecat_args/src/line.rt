@@ -2,7 +2,8 @@
 ghost use Rattle.std.specs.Prelude.{◌≡◌, IfOk, codes, false};
 ghost use Rattle.clap.specs.Words.{app_of, new_app, new_rule, rule_of};
 ghost use Rattle.clap.specs.declared.builder.command.Command.TheViews.{out-Command as fields_of};
-ghost use Rattle.ecat_args.specs.Line.{judge_rule, needed_rule, flag_rule, packets_rule, port_rule, line};
+ghost use Rattle.ecat_args.specs.Line.{address_rule, judge_rule, needed_rule, flag_rule, packets_rule};
+ghost use Rattle.ecat_args.specs.Line.{port_rule, line};
 ghost use Rattle.ecat_args.specs.Line.{show_line, check_line, cover_line, where_line, run_line, sweep_line};
 ghost use Rattle.ecat_args.specs.Line.{sdo_line, udp_line, serve_line, vectors_line};
 
@@ -62,6 +63,19 @@ fn packets<'a>(alloc: Global) -> Arg<'a>
         "After how many packets it ends, 1 to 4294967295; at the input's end if not given",
     );
     packets.long("packets")
+}
+
+// The address of the line's ends.
+fn address<'a>(alloc: Global) -> Arg<'a>
+    ensures rule { rule_of result ≡ address_rule }
+    ensures local { result.global ≡ false }
+{
+    let address = optional(
+        alloc,
+        "ADDRESS",
+        "The IPv4 address of both ends; 127.0.0.1 if not given, for this machine alone",
+    );
+    address.long("bind")
 }
 
 // A word that is given or not, after two hyphens.
@@ -193,7 +207,7 @@ fn udp<'a>(alloc: Global) -> Result<Command<'a>, AllocError>
         .arg(judge(alloc))
 }
 
-// `serve SCENE [--port P] [--packets N] [--control]`
+// `serve SCENE [--port P] [--packets N] [--bind ADDRESS] [--forever] [--control] [--log]`
 fn serve<'a>(alloc: Global) -> Result<Command<'a>, AllocError>
     ensures line { IfOk result (λ c. app_of c ≡ serve_line) }
     ensures local { IfOk result (λ c. (fields_of c).has_globals ≡ false) }
@@ -203,12 +217,25 @@ fn serve<'a>(alloc: Global) -> Result<Command<'a>, AllocError>
         "control",
         "Reads commands to the line from standard input, while it serves",
     );
+    let forever = flag(
+        alloc,
+        "forever",
+        "Leaves standard input alone, so that it serves on where that has ended",
+    );
+    let log = flag(
+        alloc,
+        "log",
+        "Tells of each packet on standard error, a line each",
+    );
     let about = "Puts the line of a scene on the network, behind UDP sockets";
     command(alloc, "serve", about, help::SERVE)
         .arg(scene(alloc))?
         .arg(port(alloc))?
         .arg(packets(alloc))?
-        .arg(control)
+        .arg(address(alloc))?
+        .arg(forever)?
+        .arg(control)?
+        .arg(log)
 }
 
 // `vectors`

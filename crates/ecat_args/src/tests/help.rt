@@ -56,8 +56,14 @@ the port P, its end B on the next port. Each packet that is a frame in the UDP
 form walks from the end where it came in. What comes back leaves from the end
 where it arrives, to whoever spoke there last. Prints where it serves, and at
 its end the counts packets, frames and dropped, and the areas of the slaves.
-It ends after N packets, or without --packets at the end of standard input.
+It ends after N packets, or without --packets at the end of standard input,
+which --forever leaves alone, as --packets does: so it stays in the background.
 A scene with actions or weathers is refused; its items are passed over.
+With --bind both ends lie at ADDRESS, 0.0.0.0 for each address of this machine:
+whoever reaches the ports may write outputs then.
+With --log standard error has a line for each packet: its number, end and size,
+and of a frame each datagram, with the counter as it came and as it left, and
+where it left; or why it was dropped, and ethernet or padded where it looks so.
 With --control each line of standard input is a command, which is done between
 two packets and answered by ok, what it asks for and ok, or refused and why:
   link K up|down            mends or breaks a link, 0 before the first slave
@@ -71,6 +77,7 @@ SLAVE is a place, 0 the first, or a station in hexadecimal digits as 0x1001.
 
 Example:
   ecat serve scenes/serve/line.scene --packets 100
+  ecat serve scenes/serve/line.scene --forever --log
 
 Usage: ecat serve [OPTIONS] <SCENE>
 
@@ -85,8 +92,17 @@ Options:
       --packets <N>
           After how many packets it ends, 1 to 4294967295; at the input's end if not given
 
+      --bind <ADDRESS>
+          The IPv4 address of both ends; 127.0.0.1 if not given, for this machine alone
+
+      --forever
+          Leaves standard input alone, so that it serves on where that has ended
+
       --control
           Reads commands to the line from standard input, while it serves
+
+      --log
+          Tells of each packet on standard error, a line each
 
   -h, --help
           Print help (see a summary with '-h')

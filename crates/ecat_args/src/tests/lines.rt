@@ -2,6 +2,7 @@
 use super::{Refusal, read};
 use crate::{Args, Value};
 use clap::error::ErrorKind;
+use std::net::Ipv4Addr;
 
 #[test]
 fn each_command_reads_its_words(rt: HostRuntime) {
@@ -167,7 +168,10 @@ fn serve_reads_commands_where_it_is_asked(rt: HostRuntime) {
         scene: "a.scene",
         port: 34980,
         packets: None,
+        address: Ipv4Addr::LOCALHOST,
+        forever: false,
         control: true,
+        log: false,
     };
     assert_eq!(rt;
         read(alloc, &["ecat", "serve", "a.scene", "--control"]),
@@ -177,7 +181,10 @@ fn serve_reads_commands_where_it_is_asked(rt: HostRuntime) {
         scene: "a.scene",
         port: 4000,
         packets: Some(100),
+        address: Ipv4Addr::LOCALHOST,
+        forever: false,
         control: true,
+        log: false,
     };
     assert_eq!(rt;
         read(
@@ -238,14 +245,20 @@ fn serve_takes_a_port_or_uses_34980(rt: HostRuntime) {
         scene: "a.scene",
         port: 34980,
         packets: None,
+        address: Ipv4Addr::LOCALHOST,
+        forever: false,
         control: false,
+        log: false,
     };
     assert_eq!(rt; read(alloc, &["ecat", "serve", "a.scene"]), Ok(own));
     let other = Args::Serve {
         scene: "a.scene",
         port: 4000,
         packets: None,
+        address: Ipv4Addr::LOCALHOST,
+        forever: false,
         control: false,
+        log: false,
     };
     assert_eq!(rt;
         read(alloc, &["ecat", "serve", "a.scene", "--port", "4000"]),
@@ -264,7 +277,10 @@ fn serve_takes_a_number_of_packets_or_none(rt: HostRuntime) {
         scene: "a.scene",
         port: 34980,
         packets: Some(100),
+        address: Ipv4Addr::LOCALHOST,
+        forever: false,
         control: false,
+        log: false,
     };
     assert_eq!(rt;
         read(alloc, &["ecat", "serve", "a.scene", "--packets", "100"]),
@@ -274,7 +290,10 @@ fn serve_takes_a_number_of_packets_or_none(rt: HostRuntime) {
         scene: "a.scene",
         port: 4000,
         packets: Some(100),
+        address: Ipv4Addr::LOCALHOST,
+        forever: false,
         control: false,
+        log: false,
     };
     assert_eq!(rt;
         read(
@@ -304,6 +323,49 @@ fn serve_takes_a_number_of_packets_or_none(rt: HostRuntime) {
             ]
         ),
         Ok(both)
+    );
+}
+
+#[test]
+fn serve_lies_at_an_address_and_leaves_its_input_alone_where_it_is_asked(rt: HostRuntime) {
+    let alloc = rt.alloc();
+    let asked = Args::Serve {
+        scene: "a.scene",
+        port: 34980,
+        packets: None,
+        address: Ipv4Addr::new(192, 168, 0, 7),
+        forever: true,
+        control: false,
+        log: true,
+    };
+    assert_eq!(rt;
+        read(
+            alloc,
+            &[
+                "ecat",
+                "serve",
+                "--log",
+                "a.scene",
+                "--bind",
+                "192.168.0.7",
+                "--forever"
+            ]
+        ),
+        Ok(asked)
+    );
+    assert_eq!(rt;
+        read(
+            alloc,
+            &[
+                "ecat",
+                "serve",
+                "--forever",
+                "--bind=192.168.0.7",
+                "--log",
+                "a.scene"
+            ]
+        ),
+        Ok(asked)
     );
 }
 

@@ -2,6 +2,7 @@
 use super::{Refusal, read};
 use crate::{Args, Value};
 use std::alloc::Global;
+use std::net::Ipv4Addr;
 
 /// What `sdo` reads as its three numbers.
 fn numbers(
@@ -50,6 +51,38 @@ fn packets(alloc: Global, text: &str) -> Result<Option<u32>, Refusal> {
     match read(alloc, &["ecat", "serve", "a.scene", "--packets", text])? {
         Args::Serve { packets, .. } => Ok(packets),
         _ => Err(Refusal::Other),
+    }
+}
+
+/// What `serve` reads as its address.
+fn address(alloc: Global, text: &str) -> Result<Ipv4Addr, Refusal> {
+    match read(alloc, &["ecat", "serve", "a.scene", "--bind", text])? {
+        Args::Serve { address, .. } => Ok(address),
+        _ => Err(Refusal::Other),
+    }
+}
+
+#[test]
+fn an_address_is_four_decimal_numbers(rt: HostRuntime) {
+    let alloc = rt.alloc();
+    assert_eq!(rt; address(alloc, "0.0.0.0"), Ok(Ipv4Addr::UNSPECIFIED));
+    assert_eq!(rt;
+        address(alloc, "255.10.9.1"),
+        Ok(Ipv4Addr::new(255, 10, 9, 1))
+    );
+    for text in [
+        "",
+        "1.2.3",
+        "1.2.3.4.5",
+        "1.2.3.256",
+        "1.2.3.04",
+        "1.2.3.4:5",
+        " 1.2.3.4",
+        "0x1.2.3.4",
+        "::1",
+        "localhost",
+    ] {
+        assert_eq!(rt; address(alloc, text), Err(Refusal::BadNumber), "{text:?}");
     }
 }
 

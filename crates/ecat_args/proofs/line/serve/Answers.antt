@@ -1,0 +1,29 @@
+use Rattle.std.proofs.lemmas.Result.{IfOk-weaker}
+use Rattle.ecat_args.proofs.LineLemmas.{app_of-arg, has_globals-arg}
+use Rattle.ecat_args.proofs.line.serve.Goals as goal
+
+pub returns-clause-line : goal.returns-clause-line
+returns-clause-line c =
+    let scene = app_of-arg c.in_ok-arg.ensures c.command.ensures.line c.scene.ensures.rule
+    c.scene.ensures.local in
+    let port = app_of-arg c.in_ok-arg-2.ensures scene c.port.ensures.rule c.port.ensures.local in
+    let packets = app_of-arg c.in_ok-arg-3.ensures port c.packets.ensures.rule c.packets.ensures.local in
+    let address = app_of-arg c.in_ok-arg-4.ensures packets c.address.ensures.rule c.address.ensures.local in
+    let forever = app_of-arg c.in_ok-arg-5.ensures address c.flag-forever.ensures.rule
+    c.flag-forever.ensures.local in
+    let control = app_of-arg c.in_ok-arg-6.ensures forever c.flag-control.ensures.rule
+    c.flag-control.ensures.local in
+    let log = c.flag-log.ensures in
+    IfOk-weaker c.arg-7.result _ _ (λ r added. app_of-arg added control log.rule log.local)
+    c.arg-7.ensures
+
+pub returns-clause-local : goal.returns-clause-local
+returns-clause-local c =
+    let scene = has_globals-arg c.in_ok-arg.ensures c.command.ensures.local c.scene.ensures.local in
+    let port = has_globals-arg c.in_ok-arg-2.ensures scene c.port.ensures.local in
+    let packets = has_globals-arg c.in_ok-arg-3.ensures port c.packets.ensures.local in
+    let address = has_globals-arg c.in_ok-arg-4.ensures packets c.address.ensures.local in
+    let forever = has_globals-arg c.in_ok-arg-5.ensures address c.flag-forever.ensures.local in
+    let control = has_globals-arg c.in_ok-arg-6.ensures forever c.flag-control.ensures.local in
+    let log = c.flag-log.ensures in
+    IfOk-weaker c.arg-7.result _ _ (λ r added. has_globals-arg added control log.local) c.arg-7.ensures
