@@ -1,11 +1,8 @@
 -- What the ends of a line are asked: which packets are received and which are sent, each told by the ends
--- before and behind; and where on this machine the ends lie.
-use Rattle.std.specs.Prelude.{◌≡◌, ◌+◌, Bool, true, false, List, [], ◌∷◌, ℕ, Option, None, Some, Result}
+-- before and behind; and at which ports the ends lie.
+use Rattle.std.specs.Prelude.{◌+◌, Bool, true, false, List, ℕ, Option, None, Some, Result}
 use Rattle.std.specs.Prelude.{Ok, Err, ⊤, if◌then◌else◌}
 use Rattle.std.specs.IoError.{error_kind}
-use Rattle.std.specs.Net.Addr.{ipv4_octets}
-use Rattle.std.specs.Net.Socket.{v4_ip}
-use Rattle.std.specs.declared.net.socket_addr.SocketAddr.TheVariants.{V4, V6}
 use Rattle.std.specs.declared.net.socket_addr.SocketAddr.{SocketAddr}
 use Rattle.std.specs.declared.io.Error.{Error}
 use Rattle.std.specs.declared.io.ErrorKind.{ErrorKind}
@@ -40,11 +37,6 @@ other B = A
 abbrev pub asked_port : Port → ℕ → ℕ
 asked_port A port = port
 asked_port B port = port + 1
-
--- an address of this machine alone, 127.0.0.1
-abbrev pub IsOnLoopback : SocketAddr → Type 0
-IsOnLoopback (V4 address) = ipv4_octets (v4_ip address) ≡ 127 ∷ 0 ∷ 0 ∷ 1 ∷ []
-IsOnLoopback (V6 address) = ⊥
 
 -- an error that says to try again: nothing is there yet, or a signal came before there was
 abbrev pub says_again : ErrorKind → Bool

@@ -4,3 +4,4 @@ pub mod Answering
 pub mod Bench
 pub mod Lines
 pub mod Rounds
+pub mod Watching

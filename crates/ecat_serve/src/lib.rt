@@ -5,9 +5,10 @@
 //! - `Served`: a ring to whose two ends anybody may speak. It keeps who spoke last at each end.
 //! - `Ends`: what the two ends are asked, a receive that waits at both and a send. It is a trait, so that
 //!   packets can also come from memory.
-//! - `UdpEnds`: two UDP sockets on 127.0.0.1, which end with an input, as the standard one, if they get one.
+//! - `UdpEnds`: two UDP sockets at one address, which end with an input, as the standard one, if they get one.
 //! - `Served::set_link`, `lose`, `unplug`, `load` and `set_state` (`bench`): what somebody does to the line
 //!   between its packets, and `Console`: the lines by which he says so, which `UdpEnds` takes of its input.
+//! - `Watch`: who is told of each packet, as `Served::serve_watched` does; what he is told is required to be so.
 //!
 //! A packet that is a frame in the UDP form walks from the end where it came in, under the ring's own links;
 //! then each slave takes its step, and what arrives leaves from the end where it arrives, to whoever spoke
@@ -18,7 +19,7 @@
 //! One use, which the test `a_frame_gets_its_answer_and_rubbish_none` tries:
 //!
 //! ```text
-//! let mut ends = UdpEnds::<Stdin>::bind(&rt, rt.alloc(), port, None)?;
+//! let mut ends = UdpEnds::<Stdin>::bind(&rt, rt.alloc(), Ipv4Addr::LOCALHOST, port, None)?;
 //! let mut served = Served::new(ring);
 //! let counts = served.serve(&mut ends, 1)?;
 //! ```
@@ -44,12 +45,14 @@ pub mod ends;
 pub mod lines;
 pub mod served;
 pub mod sockets;
+pub mod watch;
 
 pub use bench::BenchFault;
 pub use ends::{Arrived, Console, Ends};
 pub use lines::{InputLine, LINE_ROOM};
 pub use served::{Counts, Round, Served};
 pub use sockets::{BindFault, UdpEnds};
+pub use watch::{Leaving, Unwatched, Watch};
 
 #[cfg(test)]
 mod tests;

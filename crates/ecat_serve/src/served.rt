@@ -7,8 +7,10 @@ ghost use Rattle.ec_wire.specs.declared.fault.Form.TheVariants.{Udp};
 ghost use Rattle.ecat_serve.specs.Answering.{AreServed, Replies, Walks, once_lost, spared};
 ghost use Rattle.ecat_serve.specs.Rounds.{IsAnswered, IsDropped, IsRound, Serves, round_of};
 ghost use Rattle.ecat_serve.specs.State.{losing, peer_at, spoken, to_lose_at};
+ghost use Rattle.ecat_serve.specs.Watching.{IsFrame, leaving};
 
 use crate::ends::{Arrived, Ends};
+use crate::watch::{Leaving, Unwatched, Watch};
 use ec_ring::{Links, Port, PortFault, Ring, Travel};
 use ec_wire::{Form, FrameBuf, PACKET_ROOM};
 use std::marker::Model;
@@ -101,12 +103,26 @@ impl Served {
             result self.new ends.new }
         ensures counted { IfOk result (λ counts. counts.frames + counts.dropped ≤ most) }
     {
+        self.serve_watched(ends, most, &mut Unwatched)
+    }
+
+    /// Serves packets as `serve` does, and tells somebody of each of them once it has walked, or was dropped.
+    pub fn serve_watched<E: Ends, V: Watch>(
+        &mut self,
+        ends: &mut E,
+        most: u64,
+        watch: &mut V,
+    ) -> Result<Counts, PortFault>
+        ensures serves { Serves E.receives E.sends most (record { frames = 0; dropped = 0 }) self.old ends.old
+            result self.new ends.new }
+        ensures counted { IfOk result (λ counts. counts.frames + counts.dropped ≤ most) }
+    {
         let mut counts = Counts {
             frames: 0,
             dropped: 0,
         };
         for _round in 0..most {
-            match self.serve_one(ends)? {
+            match self.watch_one(ends, watch)? {
                 Round::Frame => counts.frames += 1,
                 Round::Dropped => counts.dropped += 1,
                 Round::Ended => return Ok(counts),
@@ -124,17 +140,29 @@ impl Served {
     pub fn serve_one<E: Ends>(&mut self, ends: &mut E) -> Result<Round, PortFault>
         ensures { IsRound E.receives E.sends self.old ends.old result self.new ends.new }
     {
+        self.watch_one(ends, &mut Unwatched)
+    }
+
+    /// Waits for one packet and answers it, and tells of it.
+    fn watch_one<E: Ends, V: Watch>(
+        &mut self,
+        ends: &mut E,
+        watch: &mut V,
+    ) -> Result<Round, PortFault>
+        ensures { IsRound E.receives E.sends self.old ends.old result self.new ends.new }
+    {
         let mut room = [0; PACKET_ROOM];
         match ends.receive(&mut room)? {
-            Some(arrived) => self.take(ends, &arrived, &room[..arrived.count]),
+            Some(arrived) => self.take(ends, watch, &arrived, &room[..arrived.count]),
             None => Ok(Round::Ended),
         }
     }
 
-    /// Answers a packet, or drops it.
-    fn take<E: Ends>(
+    /// Answers a packet, or drops it, and tells of it.
+    fn take<E: Ends, V: Watch>(
         &mut self,
         ends: &mut E,
+        watch: &mut V,
         arrived: &Arrived,
         packet: &[u8],
     ) -> Result<Round, PortFault>
@@ -143,16 +171,59 @@ impl Served {
     {
         match FrameBuf::read(packet, Form::Udp) {
             Ok(frame) => {
+                self.greet(watch, arrived);
                 self.hear(arrived);
                 let arrival = self.walk(arrived.at, frame);
+                self.tell(watch, arrived, packet, &arrival);
                 let spared = self.spare(arrival);
                 self.reply(ends, spared)?;
                 Ok(Round::Frame)
             }
-            Err(_) => {
+            Err(fault) => {
+                watch.dropped(arrived, packet, fault);
                 self.ring.step_all();
                 Ok(Round::Dropped)
             }
+        }
+    }
+
+    /// Tells of who speaks at an end, if he was not the last one there.
+    fn greet<V: Watch>(&self, watch: &mut V, arrived: &Arrived) {
+        if self.peer(arrived.at) != Some(arrived.from) {
+            watch.speaker(arrived);
+        }
+    }
+
+    /// Tells of a frame that has walked.
+    fn tell<V: Watch>(
+        &self,
+        watch: &mut V,
+        arrived: &Arrived,
+        packet: &[u8],
+        arrival: &Option<(FrameBuf, Port)>,
+    )
+        requires { IsFrame packet.now }
+    {
+        let leaving = self.leaving(arrival);
+        match arrival {
+            Some((frame, _)) => watch.frame(arrived, packet, Some(frame), leaving),
+            None => watch.frame(arrived, packet, None, leaving),
+        }
+    }
+
+    /// What becomes of an arrival.
+    fn leaving(&self, arrival: &Option<(FrameBuf, Port)>) -> Leaving
+        ensures { result ≡ leaving self.now arrival.now }
+    {
+        let Some((_, port)) = arrival else {
+            return Leaving::Nowhere;
+        };
+        if 0 < self.to_lose(*port) {
+            return Leaving::Lost(*port);
+        }
+        match self.peer(*port) {
+            Some(_) => Leaving::Left(*port),
+            None => Leaving::Unheard(*port),
         }
     }
 

@@ -2,10 +2,10 @@
 
 ghost use Rattle.std.specs.Prelude.{◌≡◌, ◌≢◌, ◌≤◌, ◌<◌, ◌⊎◌, ◌↔◌, Err, IfOk, IfErr, IfSome};
 ghost use Rattle.std.specs.IoError.{error_kind};
-ghost use Rattle.std.specs.Net.Socket.{socket_port};
+ghost use Rattle.std.specs.Net.Socket.{socket_ip, socket_port};
+ghost use Rattle.std.specs.declared.net.ip_addr.IpAddr.TheVariants.{V4};
 ghost use Rattle.ec_ring.specs.declared.port.Port.TheVariants.{A, B};
 ghost use Rattle.ecat_serve.specs.Ends.{any_receive, any_send, asked_port, other, received, says_again};
-ghost use Rattle.ecat_serve.specs.Ends.{IsOnLoopback};
 ghost use Rattle.ec_wire.specs.declared.frame.TheConstants.{PACKET_ROOM};
 
 use crate::ends::{Arrived, Console, Ends};
@@ -55,12 +55,19 @@ struct End {
 }
 
 impl End {
-    /// Opens the socket of an end for a line at this port, and has the system tell where something comes.
-    fn open(net: &impl Net, registry: &Registry, at: Port, port: u16) -> io::Result<End>
+    /// Opens the socket of an end for a line at this address and port, and has the system tell where
+    /// something comes.
+    fn open(
+        net: &impl Net,
+        registry: &Registry,
+        at: Port,
+        address: Ipv4Addr,
+        port: u16,
+    ) -> io::Result<End>
         requires { port < 65535 }
         ensures { IfOk result (λ end. end.at ≡ at) }
     {
-        let mut socket = UdpSocket::bind(net, asked_address(at, port))?;
+        let mut socket = UdpSocket::bind(net, asked_address(at, address, port))?;
         registry.register(&mut socket, token_of(at), Interest::READABLE)?;
         Ok(End { at, socket })
     }
@@ -74,7 +81,8 @@ impl End {
     }
 }
 
-/// Two UDP sockets on 127.0.0.1, one at each end of a line.
+/// Two UDP sockets at one address, one at each end of a line. At 127.0.0.1 this machine alone reaches them;
+/// whoever reaches one may write to the slaves.
 ///
 /// A receive waits until a packet is there, for as long as it takes. Where packets wait at both ends, the
 /// end that was not the last one comes first. Of a packet of more than 1,501 bytes the first 1,501 are
@@ -98,12 +106,13 @@ pub struct UdpEnds<I: Read + AsRawFd + Drop> {
 }
 
 impl<I: Read + AsRawFd + Drop> UdpEnds<I> {
-    /// Opens end A on this port (that of EtherCAT is 34980) and end B on the next one. Whether a port is free
-    /// is up to the system. With an input the service ends where that does. An input for which one can't
+    /// Opens end A at this address and port (that of EtherCAT is 34980) and end B at the next port. Whether
+    /// they can be had is up to the system. With an input the service ends where that does. An input for which one can't
     /// wait, as a file, counts as one that has ended, unless its lines are kept.
     pub fn bind(
         net: &impl Net,
         alloc: Global,
+        address: Ipv4Addr,
         port: u16,
         input: Option<I>,
     ) -> Result<UdpEnds<I>, BindFault>
@@ -113,19 +122,25 @@ impl<I: Read + AsRawFd + Drop> UdpEnds<I> {
             return Err(BindFault::NoSuchPort);
         }
         let events = room_for_events(alloc)?;
-        match UdpEnds::open(net, events, port, input) {
+        match UdpEnds::open(net, events, address, port, input) {
             Ok(ends) => Ok(ends),
             Err(_) => Err(BindFault::NoSocket),
         }
     }
 
-    /// Opens the ends for a line at this port, and has the system tell of the input.
-    fn open(net: &impl Net, events: Events, port: u16, input: Option<I>) -> io::Result<UdpEnds<I>>
+    /// Opens the ends for a line at this address and port, and has the system tell of the input.
+    fn open(
+        net: &impl Net,
+        events: Events,
+        address: Ipv4Addr,
+        port: u16,
+        input: Option<I>,
+    ) -> io::Result<UdpEnds<I>>
         requires { port < 65535 }
     {
         let poll = Poll::new(net)?;
-        let end_a = End::open(net, poll.registry(), Port::A, port)?;
-        let end_b = End::open(net, poll.registry(), Port::B, port)?;
+        let end_a = End::open(net, poll.registry(), Port::A, address, port)?;
+        let end_b = End::open(net, poll.registry(), Port::B, address, port)?;
         let waits = match &input {
             Some(input) => poll
                 .registry()
@@ -302,13 +317,13 @@ fn room_for_events(alloc: Global) -> Result<Events, BindFault>
     Events::with_capacity(alloc, MOST_EVENTS).map_err(|_| BindFault::NoMemory)
 }
 
-/// The address that an end asks the system for: one of this machine alone.
-fn asked_address(at: Port, port: u16) -> SocketAddr
+/// The address that an end asks the system for.
+fn asked_address(at: Port, address: Ipv4Addr, port: u16) -> SocketAddr
     requires { port < 65535 }
-    ensures address { IsOnLoopback result }
+    ensures address { socket_ip result ≡ V4 address }
     ensures port { socket_port result ≡ asked_port at port }
 {
-    SocketAddr::new(IpAddr::V4(Ipv4Addr::LOCALHOST), asked_port(at, port))
+    SocketAddr::new(IpAddr::V4(address), asked_port(at, port))
 }
 
 /// The port that an end asks the system for.

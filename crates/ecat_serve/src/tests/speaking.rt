@@ -46,7 +46,7 @@ pub fn open<'a>(
 ) -> (UdpEnds<Input<'a>>, u16) {
     for k in 0..100u16 {
         let port = 21000 + 2 * k;
-        if let Ok(ends) = UdpEnds::bind(rt, alloc, port, input) {
+        if let Ok(ends) = UdpEnds::bind(rt, alloc, Ipv4Addr::LOCALHOST, port, input) {
             return (ends, port);
         }
     }

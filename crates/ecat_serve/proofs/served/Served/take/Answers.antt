@@ -37,8 +37,11 @@ pub returns-in-Err : goal.returns-in-Err
 returns-in-Err g c =
     inr (record {
       no_frame = λ (frame : List DatagramRecord) spelt.
-          absurd (let no : Err c.in-Err.field-0 ≡ Ok frame = c.in-Err.ensures.only_found frame spelt in cc);
+          absurd (let no : Err c.in-Err.fault ≡ Ok frame = c.in-Err.ensures.only_found frame spelt in cc);
       ends_as = refl;
       leaves = rw (c.step_all.ensures, ← c.self.view_is) refl;
       stays = refl;
     })
+
+pub tell-requires : goal.tell-requires
+tell-requires g c = (c.in-Ok.frame, c.in-Ok.ensures.found)

@@ -1,7 +1,7 @@
 -- What the rounds that are left come to is what all come to, and no round counts more than one packet.
 use Rattle.std.proofs.Common.{◌≤◌, ◌+◌, ◌-◌}
 use Rattle.ecat_serve.proofs.RoundLemmas.{LeadsOn}
-use Rattle.ecat_serve.proofs.served.Served.serve.Given as goal
+use Rattle.ecat_serve.proofs.served.Served.serve_watched.Given as goal
 
 abbrev pub invariant-loop-round : goal.invariant-loop-round
 invariant-loop-round g l = record {
