@@ -1,0 +1,3 @@
+//! A log beside a service whose packets come from memory.
+
+mod lines;
