@@ -145,7 +145,68 @@ def service_ends_with_its_input(stage):
         yield "answer", ONE, asked(master, stage.port)
         line.process.stdin.close()
         line.process.stdin = None
-        yield "end", "packets 2 frames 2 dropped 0\nslave 0 sm 2 open 00 shown 00\n0\n", line.end()
+        told = "packets 2 frames 2 dropped 0\nslave 0 sm 2 open 00 shown 00\n"
+        yield "end", told + "input: ended; with --forever or --packets N it is left alone\n0\n", line.end()
+
+
+@case
+def service_goes_on_forever_without_an_input(stage):
+    with stage.serve("slave 1\n", "--forever") as line, stage.master() as master:
+        for _ in range(2):
+            time.sleep(0.2)
+            yield "answer", ONE, asked(master, stage.port)
+        yield "status", "None", str(line.process.poll())
+
+
+@case
+def service_lies_where_it_is_bound(stage):
+    with stage.serve("slave 1\n", "--bind", "127.0.0.3", "--packets", "1") as line, stage.master() as master:
+        yield "where", f"serving A 127.0.0.3:{stage.port} B 127.0.0.3:{stage.port + 1}\n", line.first
+        with stage.master(stage.port):
+            master.sendto(ASKED, ("127.0.0.1", stage.port))
+        master.sendto(ASKED, ("127.0.0.3", stage.port))
+        yield "answer", ONE, master.recv(2000).hex()
+        yield "end", "packets 1 frames 1 dropped 0\n0\n", line.end()
+
+
+@case
+def log_has_a_line_for_each_packet(stage):
+    ethernet = bytes.fromhex("ffffffffffff 020000000001 88a4") + ASKED
+    packets = [ASKED, ASKED + b"\0", ethernet, b"", ASKED]
+    status = "frame BRD adp 0000 ado 0130 length 2 counter 0>1 left A"
+    with stage.serve("slave 1\n", "--log", "--packets", "6") as line:
+        with stage.master() as one, stage.master() as other:
+            for packet in packets:
+                one.sendto(packet, ("127.0.0.1", stage.port))
+            for _ in range(2):
+                yield "answer", ONE, one.recv(2000).hex()
+            yield "answer", ONE, asked(other, stage.port)
+            told = ["packets 6 frames 3 dropped 3", f"speaker A 127.0.0.1:{one.getsockname()[1]}"]
+            told += [f"packet 0 A size 16 {status}", "packet 1 A size 17 dropped Trailing at 16 padded"]
+            told += ["packet 2 A size 30 dropped BadType at 1 ethernet"]
+            told += ["packet 3 A size 0 dropped Short at 0"]
+            told += [f"packet 4 A size 16 {status}", f"speaker A 127.0.0.1:{other.getsockname()[1]}"]
+            told += [f"packet 5 A size 16 {status}", "0", ""]
+            yield "end", "\n".join(told), line.end()
+
+
+@case
+def log_tells_what_commands_do(stage):
+    frame = "frame BRD adp 0000 ado 0130 length 2 counter 0>"
+    with controlled(stage, "slave 1\n", "--log") as line, stage.master() as master:
+        yield "lose", "ok\n", command(line, "lose A 1")
+        for _ in range(2):
+            master.sendto(ASKED, ("127.0.0.1", stage.port))
+        yield "answer", ONE, master.recv(2000).hex()
+        for text in ("unplug A", "link 0 down"):
+            yield text, "ok\n", command(line, text)
+        master.sendto(ASKED, ("127.0.0.1", stage.port))
+        time.sleep(0.2)
+        yield "quit", "ok\n", command(line, "quit")
+        speaker = f"speaker A 127.0.0.1:{master.getsockname()[1]}"
+        told = ["packets 3 frames 3 dropped 0", speaker, f"packet 0 A size 16 {frame}1 lost at A"]
+        told += [f"packet 1 A size 16 {frame}1 left A", speaker, f"packet 2 A size 16 {frame}- left nowhere"]
+        yield "end", "\n".join(told + ["0", ""]), line.end()
 
 
 @case

@@ -6,5 +6,5 @@ use Rattle.ecat_args.specs.declared.args.Args.TheVariants.{Udp, Serve}
 -- is the command `udp` or `serve`
 abbrev pub goes_over_packets : Args → Bool
 goes_over_packets (Udp scene port judge) = true
-goes_over_packets (Serve scene port packets control) = true
+goes_over_packets (Serve scene port packets address forever control log) = true
 goes_over_packets _ = false

@@ -9,8 +9,11 @@ use crate::run::print_areas;
 use crate::serve::{Service, most_packets, print_counts, print_end, print_where};
 use crate::slave_lines::print_line;
 use ec_ring::Ring;
+use ecat_log::Log;
 use ecat_scene::{BenchCommand, CommandFault, LineFault, SlaveName};
-use ecat_serve::{BenchFault, Console, Counts, Ends, InputLine, LINE_ROOM, Served};
+use ecat_serve::{
+    BenchFault, Console, Counts, Ends, InputLine, LINE_ROOM, Served, Unwatched, Watch,
+};
 use std::alloc::Global;
 use std::fmt;
 use std::io::{self, Write};
@@ -47,20 +50,23 @@ struct Bench {
 }
 
 impl Bench {
-    /// Serves packets until a command comes, so many at most, and answers it. Does the service go on?
-    fn turn<E, W>(
+    /// Serves packets until a command comes, so many at most, tells of each, and answers the command. Does
+    /// the service go on?
+    fn turn<E, V, W>(
         &mut self,
         alloc: Global,
         ends: &mut E,
         most: u64,
+        watch: &mut V,
         lines: &mut Lines<'_, W>,
     ) -> Result<bool, Failure>
     where
         E: Ends + Console,
+        V: Watch,
         W: Write,
     {
         let left = most.saturating_sub(self.counts.packets());
-        let came = self.served.serve(ends, left)?;
+        let came = self.served.serve_watched(ends, left, watch)?;
         self.count(came);
         if most <= self.counts.packets() {
             return Ok(false);
@@ -215,22 +221,30 @@ where
     W: Write,
     V: Write,
 {
-    match control(alloc, ring, service, ends, out) {
+    let done = if service.log {
+        control(alloc, ring, service, ends, &mut Log::new(err), out)
+    } else {
+        control(alloc, ring, service, ends, &mut Unwatched, out)
+    };
+    match done {
         Ok(status) => status,
         Err(failure) => report(&failure, out, err),
     }
 }
 
 /// Prints where the line is served, what each command is answered by, and at the end what `serve` prints.
-fn control<E, W>(
+/// Somebody is told of each packet.
+fn control<E, V, W>(
     alloc: Global,
     ring: Ring,
     service: Service,
     ends: &mut E,
+    watch: &mut V,
     out: &mut W,
 ) -> Result<u8, Failure>
 where
     E: Ends + Console,
+    V: Watch,
     W: Write,
 {
     let mut bench = Bench {
@@ -241,10 +255,10 @@ where
         },
     };
     let mut lines = Lines::new(out);
-    print_where(service.port, &mut lines)?;
+    print_where(service, &mut lines)?;
     let most = most_packets(service.packets);
     for _turn in 0..u64::MAX {
-        if !bench.turn(alloc, ends, most, &mut lines)? {
+        if !bench.turn(alloc, ends, most, watch, &mut lines)? {
             break;
         }
     }

@@ -118,13 +118,19 @@ where
         Args::Serve {
             port,
             packets,
+            address,
+            forever,
             control,
+            log,
             ..
         } => {
             let service = Service {
+                address: *address,
                 port: *port,
                 packets: *packets,
+                forever: *forever,
                 control: *control,
+                log: *log,
             };
             serve_at(rt, service, input, &mut source, out, err)
         }
@@ -151,7 +157,7 @@ where
 }
 
 /// Serves the line of a scene. Its ends are opened once it is known that there is one. The service ends with
-/// the input where that has commands, or where no number of packets ends it.
+/// the input where that has commands, or where it is not left alone.
 fn serve_at<R, S, W, V>(
     rt: &R,
     service: Service,
@@ -170,11 +176,12 @@ where
         Ok(ring) => ring,
         Err(status) => return status,
     };
-    let awaited = match service.packets {
-        Some(_) if !service.control => None,
-        _ => Some(input),
+    let awaited = if service.awaits_input() {
+        Some(input)
+    } else {
+        None
     };
-    let mut ends = match UdpEnds::bind(rt, rt.alloc(), service.port, awaited) {
+    let mut ends = match UdpEnds::bind(rt, rt.alloc(), service.address, service.port, awaited) {
         Ok(ends) => ends,
         Err(fault) => return report(&unbound(fault), out, err),
     };

@@ -2,7 +2,8 @@
 
 ghost use Rattle.std.specs.Prelude.{◌≡◌, Some};
 ghost use Rattle.ecat.specs.Failures.{unbound};
-ghost use Rattle.ecat.specs.Services.{address_words, counts_words, most_packets, where_of, where_words};
+ghost use Rattle.ecat.specs.Services.{address_words, awaits_input, counts_words, most_packets, where_of};
+ghost use Rattle.ecat.specs.Services.{where_words};
 
 use crate::act::{Failure, GOOD, report};
 use crate::line::{ring_of, scene_for_packets};
@@ -10,21 +11,38 @@ use crate::print::Lines;
 use crate::run::print_areas;
 use ec_master::PortFault;
 use ec_ring::Ring;
-use ecat_serve::{BindFault, Counts, Ends, Served};
+use ecat_log::Log;
+use ecat_serve::{BindFault, Counts, Ends, Served, Unwatched, Watch};
 use ecat_source::Source;
 use std::alloc::Global;
 use std::fmt;
 use std::io::{self, Write};
+use std::net::Ipv4Addr;
 
 /// Where a line is served, and for how long.
 #[derive(Clone, Copy)]
 pub struct Service {
+    /// The address of both ends.
+    pub address: Ipv4Addr,
     /// The port of end A. End B has the next one.
     pub port: u16,
     /// After how many packets the service ends; without it where no more are to come.
     pub packets: Option<u32>,
+    /// Whether it goes on where the input has ended.
+    pub forever: bool,
     /// Whether the input has commands.
     pub control: bool,
+    /// Whether each packet is told of.
+    pub log: bool,
+}
+
+impl Service {
+    /// Does it end with the input? Else that is left alone.
+    pub fn awaits_input(&self) -> bool
+        ensures { result ≡ awaits_input self.now }
+    {
+        self.control || (self.packets.is_none() && !self.forever)
+    }
 }
 
 impl From<PortFault> for Failure {
@@ -43,23 +61,28 @@ pub fn unbound(fault: BindFault) -> Failure
     }
 }
 
-/// The address of an end at this port, as it is printed.
+/// An end at an address and a port, as it is printed.
 #[derive(Drop)]
-struct Address(u32);
+struct Address {
+    address: Ipv4Addr,
+    port: u32,
+}
 
 impl fmt::Display for Address {
-    ghost output = { λ address. Some (address_words address.0) };
+    ghost output = { λ end. Some (address_words end.address end.port) };
 
     #[tactic(auto, unfolding(crate::specs::Services::address_words))]
     fn fmt<W: fmt::Write>(&self, f: &mut fmt::Formatter<W>) -> fmt::Result {
-        let port = self.0;
-        write!(f, "127.0.0.1:{port}")
+        let address = self.address;
+        let port = self.port;
+        write!(f, "{address}:{port}")
     }
 }
 
 /// Where the ends of a line lie, as it is printed.
 #[derive(Drop)]
 struct WhereText {
+    address: Ipv4Addr,
     port_a: u32,
     port_b: u32,
 }
@@ -68,17 +91,24 @@ impl fmt::Display for WhereText {
     ghost output = { λ text. Some (where_words text) };
 
     fn fmt<W: fmt::Write>(&self, f: &mut fmt::Formatter<W>) -> fmt::Result {
-        let end_a = Address(self.port_a);
-        let end_b = Address(self.port_b);
+        let end_a = Address {
+            address: self.address,
+            port: self.port_a,
+        };
+        let end_b = Address {
+            address: self.address,
+            port: self.port_b,
+        };
         write!(f, "serving A {end_a} B {end_b}")
     }
 }
 
-/// Where the ends of a line at this port lie.
-fn where_of(port: u16) -> WhereText
-    ensures { result ≡ where_of port }
+/// Where the ends of a line at this address and port lie.
+fn where_of(address: Ipv4Addr, port: u16) -> WhereText
+    ensures { result ≡ where_of address port }
 {
     WhereText {
+        address,
         port_a: u32::from(port),
         port_b: u32::from(port) + 1,
     }
@@ -140,30 +170,51 @@ where
     W: Write,
     V: Write,
 {
-    match serve(ring, service, ends, out) {
+    let done = if service.log {
+        serve(ring, service, ends, &mut Log::new(err), out)
+    } else {
+        serve(ring, service, ends, &mut Unwatched, out)
+    };
+    tell_end(service, &done, err);
+    match done {
         Ok(status) => status,
         Err(failure) => report(&failure, out, err),
     }
 }
 
 /// Prints where the line is served, and at the end how many packets came and a line for each active buffered
-/// area that the master writes.
-fn serve<E, W>(ring: Ring, service: Service, ends: &mut E, out: &mut W) -> Result<u8, Failure>
+/// area that the master writes. Somebody is told of each packet.
+fn serve<E, V, W>(
+    ring: Ring,
+    service: Service,
+    ends: &mut E,
+    watch: &mut V,
+    out: &mut W,
+) -> Result<u8, Failure>
 where
     E: Ends,
+    V: Watch,
     W: Write,
 {
     let mut served = Served::new(ring);
     let mut lines = Lines::new(out);
-    print_where(service.port, &mut lines)?;
-    let counts = served.serve(ends, most_packets(service.packets))?;
+    print_where(service, &mut lines)?;
+    let counts = served.serve_watched(ends, most_packets(service.packets), watch)?;
     print_end(counts, served.ring(), &mut lines)?;
     Ok(GOOD)
 }
 
-/// Prints where a line at this port is served.
-pub fn print_where<W: Write>(port: u16, lines: &mut Lines<'_, W>) -> io::Result<()> {
-    lines.text(where_of(port))?;
+/// Tells `err` that a service ended since its input did, and what has it go on. A fault of `err` is passed
+/// over.
+fn tell_end<V: Write>(service: Service, done: &Result<u8, Failure>, err: &mut V) {
+    if done.is_ok() && service.awaits_input() {
+        let _ = err.write_all(b"input: ended; with --forever or --packets N it is left alone\n");
+    }
+}
+
+/// Prints where a line is served.
+pub fn print_where<W: Write>(service: Service, lines: &mut Lines<'_, W>) -> io::Result<()> {
+    lines.text(where_of(service.address, service.port))?;
     lines.end()
 }
 

@@ -7,12 +7,12 @@
 //! packet 1 A size 17 dropped Trailing at 16 padded
 //! ```
 //!
-//! A packet has its number, from 0 on, the end where it came in and its size. A frame has its datagrams, each
-//! with its command, its address and length, and its counter as it came and as it arrived, `-` where it arrived
-//! nowhere; and then `left A`, `lost at A` where a copy was to be lost, `nobody at A` where nobody has spoken,
-//! or `left nowhere`. A packet that was dropped has the first fault and its place, and `padded` where a frame
-//! stands in front of more bytes, or `ethernet` where it is a whole Ethernet frame. Before the frame of somebody
-//! who was not the last to speak at its end, a line tells who he is.
+//! A packet has its number, from 0 on, the end where it came in and its size. A frame has its datagrams,
+//! each with its command, its address and length, and its counter as it came and as it arrived, `-` where it
+//! arrived nowhere; and then `left A`, `lost at A` where a copy was to be lost, `nobody at A` where nobody has
+//! spoken, or `left nowhere`. A packet that was dropped has the first fault and its place, and `padded` where
+//! a frame stands in front of more bytes, or `ethernet` where it is a whole Ethernet frame. Before the frame
+//! of somebody who was not the last to speak at its end, a line tells who he is.
 //!
 //! One use, which the test `a_line_for_each_packet` tries:
 //!
@@ -21,8 +21,8 @@
 //! let counts = served.serve_watched(&mut ends, 3, &mut log)?;
 //! ```
 //!
-//! What is promised: the words of each part of a line (`specs/Texts.antt`), and what is said of a packet that was
-//! dropped (`hint_of`, `Looks`). A log takes no memory, and a fault of its writer is passed over.
+//! What is promised: the words of each part of a line (`specs/Texts.antt`), and what a packet looks like that
+//! was dropped (`hint_of`, `Looks`). A log takes no memory, and a fault of its writer is passed over.
 
 pub mod hint;
 pub mod log;

@@ -16,7 +16,7 @@ const ROOM: usize = 4096;
 /// The most bytes of a part of a line.
 const PART: usize = 128;
 
-/// A log over a writer. Each line goes out as soon as it is whole, in one write, unless it has more than 4,096
+/// A log over a writer. Each line goes out as soon as it is whole, in one write unless it has more than 4,096
 /// bytes. A fault of the writer is passed over.
 #[derive(Drop)]
 pub struct Log<'a, W> {

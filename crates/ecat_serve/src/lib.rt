@@ -5,10 +5,11 @@
 //! - `Served`: a ring to whose two ends anybody may speak. It keeps who spoke last at each end.
 //! - `Ends`: what the two ends are asked, a receive that waits at both and a send. It is a trait, so that
 //!   packets can also come from memory.
-//! - `UdpEnds`: two UDP sockets at one address, which end with an input, as the standard one, if they get one.
+//! - `UdpEnds`: two UDP sockets at one address, which end with an input, as the standard one, if they get
+//!   one.
 //! - `Served::set_link`, `lose`, `unplug`, `load` and `set_state` (`bench`): what somebody does to the line
 //!   between its packets, and `Console`: the lines by which he says so, which `UdpEnds` takes of its input.
-//! - `Watch`: who is told of each packet, as `Served::serve_watched` does; what he is told is required to be so.
+//! - `Watch`: who is told of each packet by `Served::serve_watched`; what he is told is required to be so.
 //!
 //! A packet that is a frame in the UDP form walks from the end where it came in, under the ring's own links;
 //! then each slave takes its step, and what arrives leaves from the end where it arrives, to whoever spoke

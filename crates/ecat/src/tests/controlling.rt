@@ -11,7 +11,7 @@ use ec_wire::PACKET_ROOM;
 use ecat_serve::{Arrived, Console, Ends, InputLine, LINE_ROOM};
 use ecat_source::Bytes;
 use std::io::Cursor;
-use std::net::SocketAddr;
+use std::net::{Ipv4Addr, SocketAddr};
 use std::process::Abort;
 
 /// A slave that takes a byte.
@@ -56,9 +56,12 @@ fn answers(rt: &(impl AllocGlobal + Abort), commands: &[&[u8]], told: &[u8]) {
     let mut printed = Cursor::new([0u8; ROOM]);
     let mut complained = Cursor::new([0u8; ROOM]);
     let service = Service {
+        address: Ipv4Addr::LOCALHOST,
         port: 34980,
         packets: None,
+        forever: false,
         control: true,
+        log: false,
     };
     let mut ends = Typed {
         coming: commands,

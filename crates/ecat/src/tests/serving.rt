@@ -79,22 +79,29 @@ impl Ends for Two {
     }
 }
 
+/// A service of so many packets.
+fn service(packets: Option<u32>) -> Service {
+    Service {
+        address: Ipv4Addr::LOCALHOST,
+        port: 34980,
+        packets,
+        forever: false,
+        control: false,
+        log: false,
+    }
+}
+
 /// Serves a scene over ends whose call of this number fails, and asserts what is printed and answered, or
 /// that memory ran out before anything was printed.
 fn serves(
     rt: &(impl AllocGlobal + Abort),
     scene: &[u8],
-    packets: Option<u32>,
+    service: Service,
     failing: usize,
     answer: (u8, &[u8], &[u8]),
 ) {
     let mut printed = Cursor::new([0u8; ROOM]);
     let mut complained = Cursor::new([0u8; ROOM]);
-    let service = Service {
-        port: 34980,
-        packets,
-        control: false,
-    };
     let source = &mut Bytes::new(scene);
     let ends = &mut Two::new(failing);
     let status = match ring_to_serve(rt.alloc(), source, &mut printed, &mut complained) {
@@ -115,20 +122,45 @@ fn serves(
 fn a_service_ends_where_no_packet_is_to_come(rt: HostRuntime) {
     let told = b"serving A 127.0.0.1:34980 B 127.0.0.1:34981\npackets 2 frames 1 dropped 1\n\
         slave 0 sm 2 open aa shown aa\n";
-    serves(&rt, LINE, None, 0, (0, told, b""));
+    let helped = b"input: ended; with --forever or --packets N it is left alone\n";
+    serves(&rt, LINE, service(None), 0, (0, told, helped));
+}
+
+#[test]
+fn each_packet_is_logged_where_it_is_asked(rt: HostRuntime) {
+    let told = b"serving A 10.1.2.3:34980 B 10.1.2.3:34981\npackets 2 frames 1 dropped 1\n\
+        slave 0 sm 2 open aa shown aa\n";
+    let logged = b"speaker A 127.0.0.1:1\n\
+        packet 0 A size 15 frame LWR log 00010000 length 1 counter 0>1 left A\n\
+        packet 1 A size 3 dropped Short at 3\n";
+    let asked = Service {
+        address: Ipv4Addr::new(10, 1, 2, 3),
+        port: 34980,
+        packets: None,
+        forever: true,
+        control: false,
+        log: true,
+    };
+    serves(&rt, LINE, asked, 0, (0, told, logged));
 }
 
 #[test]
 fn a_service_ends_after_so_many_packets(rt: HostRuntime) {
     let told = b"serving A 127.0.0.1:34980 B 127.0.0.1:34981\npackets 1 frames 1 dropped 0\n\
         slave 0 sm 2 open aa shown aa\n";
-    serves(&rt, LINE, Some(1), 0, (0, told, b""));
+    serves(&rt, LINE, service(Some(1)), 0, (0, told, b""));
 }
 
 #[test]
 fn each_call_that_fails_ends_the_service(rt: HostRuntime) {
     for failing in 1..5usize {
-        serves(&rt, LINE, None, failing, (3, SERVING, b"cycle: Port\n"));
+        serves(
+            &rt,
+            LINE,
+            service(None),
+            failing,
+            (3, SERVING, b"cycle: Port\n"),
+        );
     }
 }
 
@@ -137,21 +169,21 @@ fn a_scene_that_acts_is_not_served(rt: HostRuntime) {
     serves(
         &rt,
         b"slave 1\nstep\n",
-        None,
+        service(None),
         0,
         (1, b"scene: actions\n", b""),
     );
     serves(
         &rt,
         b"slave 1\nweather - - - a\n",
-        None,
+        service(None),
         0,
         (1, b"scene: actions\n", b""),
     );
     serves(
         &rt,
         b"slave\n",
-        None,
+        service(None),
         0,
         (1, b"scene: line 1: WrongCount\n", b""),
     );
@@ -159,15 +191,10 @@ fn a_scene_that_acts_is_not_served(rt: HostRuntime) {
 
 /// Serves the line where nothing can be printed, and asserts which line tells what failed.
 fn fails<S: Source>(rt: &(impl AllocGlobal + Abort), source: &mut S, line: &[u8]) {
-    let service = Service {
-        port: 34980,
-        packets: None,
-        control: false,
-    };
     let mut complained = Cursor::new([0u8; ROOM]);
     let mut ends = Two::new(0);
     let status = match ring_to_serve(rt.alloc(), source, &mut NoRoom, &mut complained) {
-        Ok(ring) => act_serve(ring, service, &mut ends, &mut NoRoom, &mut complained),
+        Ok(ring) => act_serve(ring, service(None), &mut ends, &mut NoRoom, &mut complained),
         Err(status) => status,
     };
     assert_eq!(rt; status, 3);
