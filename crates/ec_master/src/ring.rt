@@ -108,8 +108,8 @@ pub(crate) fn travel<T: Travel>(ring: &mut T, weather: &[Weather], work: &mut Wo
 /// of that cycle over the slaves that a copy reaches (`reached`), and the others are as before (`unreached`).
 ///
 /// With at most one link down the work then has each input that a slave maps and an item reads, as it was
-/// before the cycle (`inputs_stand`), and each slave's application is shown, for each output that it maps, the
-/// bit that the master sent last (`outputs_are_shown`), where the items cover the line (`ec_map`,
+/// before the cycle (`inputs_stand`), and each slave's application is shown, for each output that it maps,
+/// the bit that the master sent last (`outputs_are_shown`), where the items cover the line (`ec_map`,
 /// `first_uncovered` and `first_not_shown` find nothing) and none is an addressed write to its station.
 ///
 /// A line is checked once: behind the cycle it accepts the work again, also with other data (`again`, of any

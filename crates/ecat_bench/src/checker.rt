@@ -16,6 +16,7 @@ const SLAVES: u16 = 256;
 
 /// How many items ask for all that it maps, in how many bytes each.
 const ITEMS: u32 = 32;
+
 const ITEM_BYTES: usize = 32;
 
 /// How often the time of a check is taken.

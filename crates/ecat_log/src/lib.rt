@@ -9,10 +9,10 @@
 //!
 //! A packet has its number, from 0 on, the end where it came in and its size. A frame has its datagrams,
 //! each with its command, its address and length, and its counter as it came and as it arrived, `-` where it
-//! arrived nowhere; and then `left A`, `lost at A` where a copy was to be lost, `nobody at A` where nobody has
-//! spoken, or `left nowhere`. A packet that was dropped has the first fault and its place, and `padded` where
-//! a frame stands in front of more bytes, or `ethernet` where it is a whole Ethernet frame. Before the frame
-//! of somebody who was not the last to speak at its end, a line tells who he is.
+//! arrived nowhere; and then `left A`, `lost at A` where a copy was to be lost, `nobody at A` where nobody
+//! has spoken, or `left nowhere`. A packet that was dropped has the first fault and its place, and `padded`
+//! where a frame stands in front of more bytes, or `ethernet` where it is a whole Ethernet frame. Before the
+//! frame of somebody who was not the last to speak at its end, a line tells who he is.
 //!
 //! One use, which the test `a_line_for_each_packet` tries:
 //!

@@ -107,8 +107,8 @@ pub struct UdpEnds<I: Read + AsRawFd + Drop> {
 
 impl<I: Read + AsRawFd + Drop> UdpEnds<I> {
     /// Opens end A at this address and port (that of EtherCAT is 34980) and end B at the next port. Whether
-    /// they can be had is up to the system. With an input the service ends where that does. An input for which
-    /// one can't wait, as a file, counts as one that has ended, unless its lines are kept.
+    /// they can be had is up to the system. With an input the service ends where that does. An input for
+    /// which one can't wait, as a file, counts as one that has ended, unless its lines are kept.
     pub fn bind(
         net: &impl Net,
         alloc: Global,
