@@ -1,15 +1,16 @@
 -- What the arguments say of the command that clap reads from the words, and why words are refused.
-use Rattle.std.specs.Prelude.{◌≡◌, ◌≢◌, ◌⊎◌, List, [], Some, None, codes, false}
+use Rattle.std.specs.Prelude.{◌≡◌, ◌≢◌, ◌⊎◌, List, [], Some, None, codes, false, option_map}
 use Rattle.clap.specs.Words.{IsAmong, Text, fault_of, kind_of, subcommand_of, takes}
 use Rattle.clap.specs.declared.error.Error.{Error}
 use Rattle.clap.specs.declared.error.kind.ErrorKind.TheVariants.{OutOfMemory}
 use Rattle.ecat_args.specs.Given.{Given, IsComplete, IsNoAddress, LiesAt, control_in, forever_in, index_in}
-use Rattle.ecat_args.specs.Given.{judge_in, log_in, packets_in, port_in, station_in, sub_in, surely_in}
+use Rattle.ecat_args.specs.Given.{judge_in, log_in, many_in, port_in, station_in, sub_in, surely_in}
+use Rattle.ecat_args.specs.Given.{csv_in, every_in, faults_in, limit_in, recover_in, stats_in, stop_in}
 use Rattle.ecat_args.specs.Given.{value_in, word_in}
 use Rattle.ecat_args.specs.Line.{line}
 use Rattle.ecat_args.specs.declared.args.Args.{Args}
 use Rattle.ecat_args.specs.declared.args.Args.TheVariants.{Show, Check, Cover, Where, Run, Sweep, Sdo}
-use Rattle.ecat_args.specs.declared.args.Args.TheVariants.{Udp, Serve, Vectors}
+use Rattle.ecat_args.specs.declared.args.Args.TheVariants.{Udp, Serve, Vectors, List as Lists, Master, Scan}
 use Rattle.ecat_args.specs.declared.args.ArgsFault.{ArgsFault}
 use Rattle.ecat_args.specs.declared.args.ArgsFault.TheVariants.{Line, BadNumber, NoMemory}
 
@@ -17,29 +18,43 @@ use Rattle.ecat_args.specs.declared.args.ArgsFault.TheVariants.{Line, BadNumber,
 abbrev pub Says : Args → Given → Type 0
 Says (Show file) given =
     (given.0 ≡ codes "show") × (word_in given (codes "FILE") ≡ Some file.now)
+Says (Lists file csv faults stats) given =
+    (given.0 ≡ codes "list") × (word_in given (codes "FILE") ≡ Some file.now)
+    × (csv_in given ≡ csv) × (faults_in given ≡ faults) × (stats_in given ≡ stats)
 Says (Check scene) given =
     (given.0 ≡ codes "check") × (word_in given (codes "SCENE") ≡ Some scene.now)
 Says (Cover scene) given =
     (given.0 ≡ codes "cover") × (word_in given (codes "SCENE") ≡ Some scene.now)
-Says (Where scene) given =
+Says (Where scene place) given =
     (given.0 ≡ codes "where") × (word_in given (codes "SCENE") ≡ Some scene.now)
+    × (word_in given (codes "AT") ≡ option_map (λ w. w.now) place)
 Says (Run scene judge) given =
     (given.0 ≡ codes "run") × (word_in given (codes "SCENE") ≡ Some scene.now)
     × (judge_in given ≡ judge)
 Says (Sweep scene) given =
     (given.0 ≡ codes "sweep") × (word_in given (codes "SCENE") ≡ Some scene.now)
-Says (Sdo scene station index sub value surely) given =
+Says (Sdo scene station index sub value surely place) given =
     (given.0 ≡ codes "sdo") × (word_in given (codes "SCENE") ≡ Some scene.now)
     × (station_in given ≡ Some station) × (index_in given ≡ Some index)
     × (sub_in given ≡ Some sub) × (value_in given ≡ Some value) × (surely_in given ≡ surely)
+    × (word_in given (codes "AT") ≡ option_map (λ w. w.now) place)
 Says (Udp scene port judge) given =
     (given.0 ≡ codes "udp") × (word_in given (codes "SCENE") ≡ Some scene.now)
     × (port_in given ≡ Some port) × (judge_in given ≡ judge)
 Says (Serve scene port packets address forever control log) given =
     (given.0 ≡ codes "serve") × (word_in given (codes "SCENE") ≡ Some scene.now)
-    × (port_in given ≡ Some port) × (packets_in given ≡ Some packets)
+    × (port_in given ≡ Some port) × (many_in given ≡ Some packets)
     × LiesAt (word_in given (codes "ADDRESS")) address
     × (forever_in given ≡ forever) × (control_in given ≡ control) × (log_in given ≡ log)
+Says (Master scene place cycles every limit outputs log stop recover) given =
+    (given.0 ≡ codes "master") × (word_in given (codes "SCENE") ≡ Some scene.now)
+    × (word_in given (codes "AT") ≡ Some place.now) × (many_in given ≡ Some cycles)
+    × (every_in given ≡ Some every) × (limit_in given ≡ Some limit)
+    × (word_in given (codes "OUTPUTS") ≡ option_map (λ w. w.now) outputs)
+    × (word_in given (codes "LOG") ≡ option_map (λ w. w.now) log)
+    × (stop_in given ≡ stop) × (recover_in given ≡ recover)
+Says (Scan place limit) given =
+    (given.0 ≡ codes "scan") × (word_in given (codes "AT") ≡ Some place.now) × (limit_in given ≡ Some limit)
 Says Vectors given = given.0 ≡ codes "vectors"
 
 -- a word of the command that has to be a number, a value or an address is none in its range
@@ -48,8 +63,11 @@ HasBadNumber given =
     ((given.0 ≡ codes "sdo") × ((station_in given ≡ None) ⊎ (index_in given ≡ None)
     ⊎ (sub_in given ≡ None) ⊎ (value_in given ≡ None)))
     ⊎ ((given.0 ≡ codes "udp") × (port_in given ≡ None))
-    ⊎ ((given.0 ≡ codes "serve") × ((port_in given ≡ None) ⊎ (packets_in given ≡ None)
+    ⊎ ((given.0 ≡ codes "serve") × ((port_in given ≡ None) ⊎ (many_in given ≡ None)
     ⊎ IsNoAddress (word_in given (codes "ADDRESS"))))
+    ⊎ ((given.0 ≡ codes "master") × ((many_in given ≡ None) ⊎ (every_in given ≡ None)
+    ⊎ (limit_in given ≡ None)))
+    ⊎ ((given.0 ≡ codes "scan") × (limit_in given ≡ None))
 
 -- clap's definition of the line takes the words, and what it gives of them is complete and
 -- satisfies P

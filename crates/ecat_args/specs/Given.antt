@@ -50,14 +50,23 @@ port_by (Some word) = number_within 1024 65534 word
 abbrev pub port_in : Given → Option ℕ
 port_in given = port_by (word_in given (codes "P"))
 
--- how many packets `serve` takes: where no word was given there is no such number, and `None` says
--- that the word is none
-abbrev pub packets_by : Option Text → Option (Option ℕ)
-packets_by None = Some None
-packets_by (Some word) = option_map (λ n. Some n) (number_within 1 4294967295 word)
+-- a count that may be left out: where no word was given there is none, and `None` says that the word is
+-- none
+abbrev pub count_by : Option Text → Option (Option ℕ)
+count_by None = Some None
+count_by (Some word) = option_map (λ n. Some n) (number_within 1 4294967295 word)
 
-abbrev pub packets_in : Given → Option (Option ℕ)
-packets_in given = packets_by (word_in given (codes "N"))
+-- how many packets `serve` takes, and how many cycles `master` makes
+abbrev pub many_in : Given → Option (Option ℕ)
+many_in given = count_by (word_in given (codes "N"))
+
+-- how many microseconds lie between the cycles of `master`
+abbrev pub every_in : Given → Option (Option ℕ)
+every_in given = count_by (word_in given (codes "MICROSECONDS"))
+
+-- how many microseconds a copy is waited for
+abbrev pub limit_in : Given → Option (Option ℕ)
+limit_in given = count_by (word_in given (codes "LIMIT"))
 
 -- whether a flag was given: clap writes down `true` for it, and `false` where it was not
 abbrev pub flag_by : Option Text → Bool
@@ -79,6 +88,21 @@ forever_in given = flag_by (word_in given (codes "forever"))
 abbrev pub log_in : Given → Bool
 log_in given = flag_by (word_in given (codes "log"))
 
+abbrev pub csv_in : Given → Bool
+csv_in given = flag_by (word_in given (codes "csv"))
+
+abbrev pub faults_in : Given → Bool
+faults_in given = flag_by (word_in given (codes "faults"))
+
+abbrev pub stats_in : Given → Bool
+stats_in given = flag_by (word_in given (codes "stats"))
+
+abbrev pub stop_in : Given → Bool
+stop_in given = flag_by (word_in given (codes "stop"))
+
+abbrev pub recover_in : Given → Bool
+recover_in given = flag_by (word_in given (codes "recover"))
+
 -- the address of `serve`: where no word was given it is 127.0.0.1, and else the one that the word writes,
 -- four decimal numbers with dots between them
 abbrev pub LiesAt : Option Text → Ipv4Addr → Type 0
@@ -92,13 +116,15 @@ IsNoAddress (Some word) = (address : Ipv4Addr) → IsIpv4Text word address → �
 
 -- the names of the commands
 abbrev pub command_names : List Text
-command_names = codes "show" ∷ codes "check" ∷ codes "cover" ∷ codes "where" ∷ codes "run"
-    ∷ codes "sweep" ∷ codes "sdo" ∷ codes "udp" ∷ codes "serve" ∷ codes "vectors" ∷ []
+command_names = codes "show" ∷ codes "list" ∷ codes "check" ∷ codes "cover" ∷ codes "where" ∷ codes "run"
+    ∷ codes "sweep" ∷ codes "sdo" ∷ codes "udp" ∷ codes "serve" ∷ codes "master" ∷ codes "scan"
+    ∷ codes "vectors" ∷ []
 
 -- the names of the words that a command needs
 abbrev pub needed_words : Text → List Text
 needed_words command =
     if bytes_eq command (codes "show") then codes "FILE" ∷ []
+    else if bytes_eq command (codes "list") then codes "FILE" ∷ []
     else if bytes_eq command (codes "check") then codes "SCENE" ∷ []
     else if bytes_eq command (codes "cover") then codes "SCENE" ∷ []
     else if bytes_eq command (codes "where") then codes "SCENE" ∷ []
@@ -108,9 +134,11 @@ needed_words command =
     then codes "SCENE" ∷ codes "STATION" ∷ codes "INDEX" ∷ codes "SUB" ∷ []
     else if bytes_eq command (codes "udp") then codes "SCENE" ∷ []
     else if bytes_eq command (codes "serve") then codes "SCENE" ∷ []
+    else if bytes_eq command (codes "master") then codes "SCENE" ∷ codes "AT" ∷ []
+    else if bytes_eq command (codes "scan") then codes "AT" ∷ []
     else []
 
--- the command is one of the ten, and the words that it needs were given
+-- the command is one of the thirteen, and the words that it needs were given
 abbrev pub IsComplete : Given → Type 0
 IsComplete given = (list_any (bytes_eq given.0) command_names ≡ true)
     × (list_all (λ name. is_some (word_in given name)) (needed_words given.0) ≡ true)

@@ -1,4 +1,4 @@
--- The command line of `ecat`, in clap's own words: ten commands, of which one has to be given.
+-- The command line of `ecat`, in clap's own words: thirteen commands, of which one has to be given.
 use Rattle.std.specs.Prelude.{codes, true, Some}
 use Rattle.clap.specs.Words.{App, Rule, Text, new_app, new_rule, with_rule, with_subcommand}
 use Rattle.clap.specs.declared.builder.action.ArgAction.TheVariants.{SetTrue}
@@ -11,6 +11,25 @@ needed_rule id = record (new_rule id) { required = true }
 abbrev pub show_line : App
 show_line = with_rule (new_app (codes "show")) (needed_rule (codes "FILE"))
 
+-- a flag: its name after two hyphens, with no value
+abbrev pub flag_rule : Text → Rule
+flag_rule name = record (new_rule name) { long = Some name; action = Some SetTrue }
+
+-- `--csv`, `--faults`, `--stats`
+abbrev pub csv_rule : Rule
+csv_rule = flag_rule (codes "csv")
+
+abbrev pub faults_rule : Rule
+faults_rule = flag_rule (codes "faults")
+
+abbrev pub stats_rule : Rule
+stats_rule = flag_rule (codes "stats")
+
+-- `list FILE [--csv] [--faults] [--stats]`
+abbrev pub list_line : App
+list_line = with_rule (with_rule (with_rule (with_rule (new_app (codes "list"))
+    (needed_rule (codes "FILE"))) csv_rule) faults_rule) stats_rule
+
 -- `check SCENE`
 abbrev pub check_line : App
 check_line = with_rule (new_app (codes "check")) (needed_rule (codes "SCENE"))
@@ -19,13 +38,17 @@ check_line = with_rule (new_app (codes "check")) (needed_rule (codes "SCENE"))
 abbrev pub cover_line : App
 cover_line = with_rule (new_app (codes "cover")) (needed_rule (codes "SCENE"))
 
--- `where SCENE`
-abbrev pub where_line : App
-where_line = with_rule (new_app (codes "where")) (needed_rule (codes "SCENE"))
+-- `--at AT`
+abbrev pub at_rule : Rule
+at_rule = record (new_rule (codes "AT")) { long = Some (codes "at") }
 
--- a flag: its name after two hyphens, with no value
-abbrev pub flag_rule : Text → Rule
-flag_rule name = record (new_rule name) { long = Some name; action = Some SetTrue }
+-- `--at AT`, which has to be given
+abbrev pub needed_at_rule : Rule
+needed_at_rule = record at_rule { required = true }
+
+-- `where SCENE [--at AT]`
+abbrev pub where_line : App
+where_line = with_rule (with_rule (new_app (codes "where")) (needed_rule (codes "SCENE"))) at_rule
 
 -- `--judge`
 abbrev pub judge_rule : Rule
@@ -43,11 +66,11 @@ sweep_line = with_rule (new_app (codes "sweep")) (needed_rule (codes "SCENE"))
 abbrev pub surely_rule : Rule
 surely_rule = flag_rule (codes "surely")
 
--- `sdo SCENE STATION INDEX SUB [VALUE] [--surely]`
+-- `sdo SCENE STATION INDEX SUB [VALUE] [--surely] [--at AT]`
 abbrev pub sdo_line : App
-sdo_line = with_rule (with_rule (with_rule (with_rule (with_rule (with_rule (new_app (codes "sdo"))
+sdo_line = with_rule (with_rule (with_rule (with_rule (with_rule (with_rule (with_rule (new_app (codes "sdo"))
     (needed_rule (codes "SCENE"))) (needed_rule (codes "STATION"))) (needed_rule (codes "INDEX")))
-    (needed_rule (codes "SUB"))) (new_rule (codes "VALUE"))) surely_rule
+    (needed_rule (codes "SUB"))) (new_rule (codes "VALUE"))) surely_rule) at_rule
 
 -- `--port P`
 abbrev pub port_rule : Rule
@@ -84,6 +107,44 @@ serve_line = with_rule (with_rule (with_rule (with_rule (with_rule (with_rule (w
     (new_app (codes "serve")) (needed_rule (codes "SCENE"))) port_rule) packets_rule) address_rule)
     forever_rule) control_rule) log_rule
 
+-- `--cycles N`
+abbrev pub cycles_rule : Rule
+cycles_rule = record (new_rule (codes "N")) { long = Some (codes "cycles") }
+
+-- `--every MICROSECONDS`
+abbrev pub every_rule : Rule
+every_rule = record (new_rule (codes "MICROSECONDS")) { long = Some (codes "every") }
+
+-- `--limit LIMIT`
+abbrev pub limit_rule : Rule
+limit_rule = record (new_rule (codes "LIMIT")) { long = Some (codes "limit") }
+
+-- `--outputs OUTPUTS`
+abbrev pub outputs_rule : Rule
+outputs_rule = record (new_rule (codes "OUTPUTS")) { long = Some (codes "outputs") }
+
+-- `--log LOG`
+abbrev pub log_file_rule : Rule
+log_file_rule = record (new_rule (codes "LOG")) { long = Some (codes "log") }
+
+-- `--stop`, `--recover`
+abbrev pub stop_rule : Rule
+stop_rule = flag_rule (codes "stop")
+
+abbrev pub recover_rule : Rule
+recover_rule = flag_rule (codes "recover")
+
+-- `master SCENE --at AT [--cycles N] [--every MICROSECONDS] [--limit LIMIT] [--outputs OUTPUTS] [--log LOG]
+-- [--stop] [--recover]`
+abbrev pub master_line : App
+master_line = with_rule (with_rule (with_rule (with_rule (with_rule (with_rule (with_rule (with_rule (with_rule
+    (new_app (codes "master")) (needed_rule (codes "SCENE"))) needed_at_rule) cycles_rule) every_rule)
+    limit_rule) outputs_rule) log_file_rule) stop_rule) recover_rule
+
+-- `scan --at AT [--limit LIMIT]`
+abbrev pub scan_line : App
+scan_line = with_rule (with_rule (new_app (codes "scan")) needed_at_rule) limit_rule
+
 -- `vectors`
 abbrev pub vectors_line : App
 vectors_line = new_app (codes "vectors")
@@ -99,6 +160,8 @@ ecat_line = needs_command (new_app (codes "ecat"))
 -- the whole line
 unfoldable pub line : App
 line = with_subcommand (with_subcommand (with_subcommand (with_subcommand (with_subcommand
-    (with_subcommand (with_subcommand (with_subcommand (with_subcommand (with_subcommand ecat_line
-    show_line.top) check_line.top) cover_line.top) where_line.top) run_line.top) sweep_line.top)
-    sdo_line.top) udp_line.top) serve_line.top) vectors_line.top
+    (with_subcommand (with_subcommand (with_subcommand (with_subcommand (with_subcommand
+    (with_subcommand (with_subcommand (with_subcommand ecat_line
+    show_line.top) list_line.top) check_line.top) cover_line.top) where_line.top) run_line.top)
+    sweep_line.top) sdo_line.top) udp_line.top) serve_line.top) master_line.top) scan_line.top)
+    vectors_line.top

@@ -5,7 +5,7 @@ ghost use Rattle.std.specs.Net.Grammar.{IsIpv4Text};
 ghost use Rattle.clap.specs.Words.{first_of, found_of, rows_of};
 ghost use Rattle.clap.specs.Walk.{texts};
 ghost use Rattle.ecat_args.specs.Answer.{Explains, HasBadNumber, Says, Takes};
-ghost use Rattle.ecat_args.specs.Given.{IsComplete, IsNoAddress, LiesAt, flag_by, packets_by, port_by};
+ghost use Rattle.ecat_args.specs.Given.{IsComplete, IsNoAddress, LiesAt, count_by, flag_by, port_by};
 ghost use Rattle.ecat_args.specs.Given.{value_by};
 
 use crate::line::line;
@@ -24,8 +24,8 @@ const LEAST_PORT: u32 = 1024;
 /// The greatest port of the end A: the end B has the port after it.
 const GREATEST_PORT: u32 = 65534;
 
-/// The least number of packets after which `serve` ends.
-const LEAST_PACKETS: u32 = 1;
+/// The least number of packets, of cycles and of microseconds.
+const LEAST_COUNT: u32 = 1;
 
 /// A command of the program, with its texts and numbers.
 #[derive(Clone, Copy, Debug, PartialEq, Eq)]
@@ -34,6 +34,17 @@ pub enum Args<'a> {
     Show {
         /// The path of the capture.
         file: &'a str,
+    },
+    /// `list FILE [--csv] [--faults] [--stats]`: lists the datagrams of a capture.
+    List {
+        /// The path of the capture; `-` stands for standard input.
+        file: &'a str,
+        /// Whether values are separated by commas.
+        csv: bool,
+        /// Whether damaged packets alone are listed.
+        faults: bool,
+        /// Whether working counters are counted instead.
+        stats: bool,
     },
     /// `check SCENE`: says whether the line of a scene is fit.
     Check {
@@ -45,10 +56,12 @@ pub enum Args<'a> {
         /// The path of the scene.
         scene: &'a str,
     },
-    /// `where SCENE`: says where the cable of a scene is broken, and who is missing.
+    /// `where SCENE [--at AT]`: says where the cable of a scene is broken, and who is missing.
     Where {
         /// The path of the scene.
         scene: &'a str,
+        /// Where the line lies, if it is not simulated here: the address of an end, or of both.
+        at: Option<&'a str>,
     },
     /// `run SCENE [--judge]`: does the actions of a scene, and then its work.
     Run {
@@ -62,7 +75,7 @@ pub enum Args<'a> {
         /// The path of the scene.
         scene: &'a str,
     },
-    /// `sdo SCENE STATION INDEX SUB [VALUE] [--surely]`: one upload, or a download of the value.
+    /// `sdo SCENE STATION INDEX SUB [VALUE] [--surely] [--at AT]`: one upload, or a download of the value.
     Sdo {
         /// The path of the scene.
         scene: &'a str,
@@ -76,6 +89,8 @@ pub enum Args<'a> {
         value: Option<Value>,
         /// Whether trips are made until it is done, whatever copies are lost.
         surely: bool,
+        /// Where the line lies, if it is not simulated here: the address of an end, or of both.
+        at: Option<&'a str>,
     },
     /// `udp SCENE [--port P] [--judge]`: does the work of a scene through UDP sockets.
     Udp {
@@ -103,6 +118,35 @@ pub enum Args<'a> {
         control: bool,
         /// Whether each packet is told of.
         log: bool,
+    },
+    /// `master SCENE --at AT [--cycles N] [--every MICROSECONDS] [--limit LIMIT] [--outputs OUTPUTS]
+    /// [--log LOG] [--stop] [--recover]`: brings a line somewhere else to Op, and cycles on it.
+    Master {
+        /// The path of the scene, what the slaves are to be told.
+        scene: &'a str,
+        /// Where the line lies: the address of an end, or of both.
+        at: &'a str,
+        /// After how many cycles it ends, one at least; without it at the end of the input.
+        cycles: Option<u32>,
+        /// How many microseconds lie between the beginnings of cycles; without it they are back to back.
+        every: Option<u32>,
+        /// How many microseconds a copy is waited for.
+        limit: Option<u32>,
+        /// What the outputs are; without it those of the scene.
+        outputs: Option<&'a str>,
+        /// The path of a file that gets a line for each cycle.
+        log: Option<&'a str>,
+        /// Whether it ends at the first cycle that is not good.
+        stop: bool,
+        /// Whether slaves are brought up again.
+        recover: bool,
+    },
+    /// `scan --at AT [--limit LIMIT]`: tells what slaves a line has that lies somewhere else.
+    Scan {
+        /// Where the line lies: the address of an end, or of both.
+        at: &'a str,
+        /// How many microseconds a copy is waited for.
+        limit: Option<u32>,
     },
     /// `vectors`: runs the worked rows.
     Vectors,
@@ -174,6 +218,12 @@ fn command<'a>(name: &str, given: &ArgMatches<'a>) -> Option<Args<'a>>
         "show" => Some(Args::Show {
             file: text(given, "FILE"),
         }),
+        "list" => Some(Args::List {
+            file: text(given, "FILE"),
+            csv: flag(given, "csv"),
+            faults: flag(given, "faults"),
+            stats: flag(given, "stats"),
+        }),
         "check" => Some(Args::Check {
             scene: text(given, "SCENE"),
         }),
@@ -182,6 +232,7 @@ fn command<'a>(name: &str, given: &ArgMatches<'a>) -> Option<Args<'a>>
         }),
         "where" => Some(Args::Where {
             scene: text(given, "SCENE"),
+            at: word(given, "AT"),
         }),
         "run" => Some(Args::Run {
             scene: text(given, "SCENE"),
@@ -193,6 +244,8 @@ fn command<'a>(name: &str, given: &ArgMatches<'a>) -> Option<Args<'a>>
         "sdo" => sdo(given),
         "udp" => udp(given),
         "serve" => serve(given),
+        "master" => master(given),
+        "scan" => scan(given),
         "vectors" => Some(Args::Vectors),
         _ => unreachable!(),
     }
@@ -243,6 +296,7 @@ fn sdo<'a>(given: &ArgMatches<'a>) -> Option<Args<'a>>
         sub: sub as u8,
         value,
         surely: flag(given, "surely"),
+        at: word(given, "AT"),
     })
 }
 
@@ -277,7 +331,7 @@ fn serve<'a>(given: &ArgMatches<'a>) -> Option<Args<'a>>
         (λ args. Says args (codes "serve", rows_of (found_of given.now))) }
 {
     let port = port_given(given)?;
-    let packets = packets_given(given)?;
+    let packets = count_given(given, "N")?;
     let address = address_given(given)?;
     Some(Args::Serve {
         scene: text(given, "SCENE"),
@@ -287,6 +341,41 @@ fn serve<'a>(given: &ArgMatches<'a>) -> Option<Args<'a>>
         forever: flag(given, "forever"),
         control: flag(given, "control"),
         log: flag(given, "log"),
+    })
+}
+
+// What `master` says, unless a number is bad.
+fn master<'a>(given: &ArgMatches<'a>) -> Option<Args<'a>>
+    requires { IsComplete (codes "master", rows_of (found_of given.now)) }
+    ensures { MatchOption result (HasBadNumber (codes "master", rows_of (found_of given.now)))
+        (λ args. Says args (codes "master", rows_of (found_of given.now))) }
+{
+    let cycles = count_given(given, "N")?;
+    let every = count_given(given, "MICROSECONDS")?;
+    let limit = count_given(given, "LIMIT")?;
+    Some(Args::Master {
+        scene: text(given, "SCENE"),
+        at: text(given, "AT"),
+        cycles,
+        every,
+        limit,
+        outputs: word(given, "OUTPUTS"),
+        log: word(given, "LOG"),
+        stop: flag(given, "stop"),
+        recover: flag(given, "recover"),
+    })
+}
+
+// What `scan` says, unless a number is bad.
+fn scan<'a>(given: &ArgMatches<'a>) -> Option<Args<'a>>
+    requires { IsComplete (codes "scan", rows_of (found_of given.now)) }
+    ensures { MatchOption result (HasBadNumber (codes "scan", rows_of (found_of given.now)))
+        (λ args. Says args (codes "scan", rows_of (found_of given.now))) }
+{
+    let limit = count_given(given, "LIMIT")?;
+    Some(Args::Scan {
+        at: text(given, "AT"),
+        limit,
     })
 }
 
@@ -300,12 +389,12 @@ fn port_given(given: &ArgMatches<'_>) -> Option<u16>
     }
 }
 
-// The number of packets, if one was given, unless it is bad.
-fn packets_given(given: &ArgMatches<'_>) -> Option<Option<u32>>
-    ensures { result ≡ packets_by (first_of (codes "N") (rows_of (found_of given.now))) }
+// The count of this name, if one was given, unless it is bad.
+fn count_given(given: &ArgMatches<'_>, name: &str) -> Option<Option<u32>>
+    ensures { result ≡ count_by (first_of name.now (rows_of (found_of given.now))) }
 {
-    match word(given, "N") {
-        Some(text) => Some(Some(number(text, LEAST_PACKETS, u32::MAX)?)),
+    match word(given, name) {
+        Some(text) => Some(Some(number(text, LEAST_COUNT, u32::MAX)?)),
         None => Some(None),
     }
 }

@@ -16,6 +16,7 @@ digits, or 0x and hexadecimal digits. The help of a command has more.
 
 Examples:
   ecat show scenes/startup.pcap
+  ecat list scenes/startup.pcap
   ecat check scenes/check/accepted.scene
   ecat cover scenes/check/accepted.scene
   ecat where scenes/run/two_slaves_link_1_down.scene
@@ -24,6 +25,8 @@ Examples:
   ecat sdo scenes/sdo/objects.scene 0x1001 0x1018 1
   ecat udp scenes/run/example.scene --port 4000
   ecat serve scenes/serve/line.scene --packets 100
+  ecat master scenes/serve/line.scene --at 127.0.0.1:34980,127.0.0.1:34981
+  ecat scan --at 127.0.0.1:34980
   ecat vectors
   ecat help sdo";
 
@@ -35,6 +38,22 @@ capture that is faulty or has a faulty frame is refused.
 
 Example:
   ecat show scenes/startup.pcap";
+
+/// Of `list`.
+pub(crate) const LIST: &str = "\
+Lists the datagrams of the EtherCAT frames of a capture, a line each: the
+number of the packet, seconds since the first one, the source address, the
+place of the datagram, its command, address, length, working counter and data.
+The capture is a pcap or pcapng file of Ethernet; frames are those of type
+0x88A4, behind VLAN tags too, and those of UDP port 34980.
+With --csv values are separated by commas, below a line of names. With --faults
+only packets are listed that are damaged or cut short, and why. With --stats
+datagrams that are alike in command, address, length and index are counted, by
+each working counter that came, with the packet where it came first.
+
+Example:
+  ecat list scenes/startup.pcap
+  ecat list scenes/startup.pcap --stats";
 
 /// Of `check`.
 pub(crate) const CHECK: &str = "\
@@ -61,6 +80,8 @@ or its first weather, if it has one. Prints where each copy came back and how
 many slaves counted on it; and then whole, or which links are down and which
 slaves are cut off, as far as the copies tell. Whole gives the status 0, else
 it is 1. The actions and items of the scene are passed over.
+With --at the frame goes to a line somewhere else, at its ends A and B; of the
+scene the number of slaves and their stations are taken.
 
 Example:
   ecat where scenes/run/two_slaves_link_1_down.scene";
@@ -99,6 +120,8 @@ way. The actions, items and weathers of the scene are passed over.
 With --surely it makes trips until it is done, whatever copies are lost, but 64
 at most: the first ones in the weathers of the scene, the others under its
 links. How many it took is printed on standard error.
+With --at the slave is one of a line somewhere else; the scene says where its
+mailboxes are.
 
 Example:
   ecat sdo scenes/sdo/objects.scene 0x1001 0x1018 1
@@ -143,6 +166,34 @@ SLAVE is a place, 0 the first, or a station in hexadecimal digits as 0x1001.
 Example:
   ecat serve scenes/serve/line.scene --packets 100
   ecat serve scenes/serve/line.scene --forever --log";
+
+/// Of `master`.
+pub(crate) const MASTER: &str = "\
+A master of a line somewhere else, whose ends A and B lie at AT, as
+127.0.0.1:34980,127.0.0.1:34981; with one address it has one port. The scene is
+what the slaves are to be told, and its items are what each cycle asks. It
+counts the slaves, gives them their stations, writes their sync managers and
+FMMUs, and brings them to Op, a line for each step. Then it cycles, N times or
+to the end of standard input, and is silent while all is good. It tells of a
+cycle that is not good, with the item that is short and where the cable is
+broken; of redundancy that is lost though cycles are good; and of a ring that
+is whole again. At the end it prints how many cycles were good, short, over and
+without a verdict, and the items with their last answers.
+With --outputs count the outputs are a number that grows by one each cycle.
+With --stop it ends at the first cycle that is not good. With --recover slaves
+that show an error, or came back in Init, are brought up again.
+
+Example:
+  ecat master scenes/serve/line.scene --at 127.0.0.1:34980,127.0.0.1:34981";
+
+/// Of `scan`.
+pub(crate) const SCAN: &str = "\
+Asks the slaves of a line somewhere else what they are, and prints a line for
+each: its place, station, AL state and error, its active sync managers and
+FMMUs, and its identity where it has a mailbox.
+
+Example:
+  ecat scan --at 127.0.0.1:34980,127.0.0.1:34981";
 
 /// Of `vectors`.
 pub(crate) const VECTORS: &str = "\

@@ -2,19 +2,25 @@
 //!
 //! ```text
 //! ecat show FILE
+//! ecat list FILE [--csv] [--faults] [--stats]
 //! ecat check SCENE
 //! ecat cover SCENE
-//! ecat where SCENE
+//! ecat where SCENE [--at AT]
 //! ecat run SCENE [--judge]
 //! ecat sweep SCENE
-//! ecat sdo SCENE STATION INDEX SUB [VALUE] [--surely]
+//! ecat sdo SCENE STATION INDEX SUB [VALUE] [--surely] [--at AT]
 //! ecat udp SCENE [--port P] [--judge]
 //! ecat serve SCENE [--port P] [--packets N] [--bind ADDRESS] [--forever] [--control] [--log]
+//! ecat master SCENE --at AT [--cycles N] [--every MICROSECONDS] [--limit LIMIT] [--outputs OUTPUTS]
+//!     [--log LOG] [--stop] [--recover]
+//! ecat scan --at AT [--limit LIMIT]
 //! ecat vectors
 //! ```
 //!
 //! A number is decimal digits, or `0x` and hexadecimal digits of either case. `VALUE` is `0x` and
 //! exactly 2, 4 or 8 hexadecimal digits, which give its size. `ADDRESS` is an IPv4 address, as 127.0.0.1.
+//! `AT` is where a line lies, `HOST:PORT` of its end A or those of both ends with a comma between them; its
+//! text is handed on as it stands.
 //!
 //! A use, which the test `words_are_read_as_the_page_shows` tries; `rt` is what `main` is given:
 //!

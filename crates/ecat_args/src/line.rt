@@ -2,10 +2,12 @@
 ghost use Rattle.std.specs.Prelude.{◌≡◌, IfOk, codes, false};
 ghost use Rattle.clap.specs.Words.{app_of, new_app, new_rule, rule_of};
 ghost use Rattle.clap.specs.declared.builder.command.Command.TheViews.{out-Command as fields_of};
-ghost use Rattle.ecat_args.specs.Line.{address_rule, judge_rule, needed_rule, flag_rule, packets_rule};
-ghost use Rattle.ecat_args.specs.Line.{port_rule, line};
+ghost use Rattle.ecat_args.specs.Line.{address_rule, at_rule, cycles_rule, every_rule, flag_rule};
+ghost use Rattle.ecat_args.specs.Line.{judge_rule, limit_rule, line, log_file_rule, needed_at_rule};
+ghost use Rattle.ecat_args.specs.Line.{needed_rule, outputs_rule, packets_rule, port_rule};
 ghost use Rattle.ecat_args.specs.Line.{show_line, check_line, cover_line, where_line, run_line, sweep_line};
 ghost use Rattle.ecat_args.specs.Line.{sdo_line, udp_line, serve_line, vectors_line};
+ghost use Rattle.ecat_args.specs.Line.{list_line, master_line, scan_line};
 
 use crate::help;
 use clap::{Arg, ArgAction, Command};
@@ -78,6 +80,92 @@ fn address<'a>(alloc: Global) -> Arg<'a>
     address.long("bind")
 }
 
+// Where the two ends of a line lie.
+fn at<'a>(alloc: Global) -> Arg<'a>
+    ensures rule { rule_of result ≡ at_rule }
+    ensures local { result.global ≡ false }
+{
+    let at = optional(
+        alloc,
+        "AT",
+        "Where the line lies: HOST:PORT of its end A, and of its end B behind a comma",
+    );
+    at.long("at")
+}
+
+// Where the two ends of a line lie, which has to be given.
+fn needed_at<'a>(alloc: Global) -> Arg<'a>
+    ensures rule { rule_of result ≡ needed_at_rule }
+    ensures local { result.global ≡ false }
+{
+    at(alloc).required(true)
+}
+
+// How many cycles are made.
+fn cycles<'a>(alloc: Global) -> Arg<'a>
+    ensures rule { rule_of result ≡ cycles_rule }
+    ensures local { result.global ≡ false }
+{
+    let cycles = optional(
+        alloc,
+        "N",
+        "After how many cycles it ends, 1 to 4294967295; at the input's end if not given",
+    );
+    cycles.long("cycles")
+}
+
+// How far apart cycles begin.
+fn every<'a>(alloc: Global) -> Arg<'a>
+    ensures rule { rule_of result ≡ every_rule }
+    ensures local { result.global ≡ false }
+{
+    let every = optional(
+        alloc,
+        "MICROSECONDS",
+        "How far apart the cycles begin; back to back if not given",
+    );
+    every.long("every")
+}
+
+// How long a copy is waited for.
+fn limit<'a>(alloc: Global) -> Arg<'a>
+    ensures rule { rule_of result ≡ limit_rule }
+    ensures local { result.global ≡ false }
+{
+    let limit = optional(
+        alloc,
+        "LIMIT",
+        "After how many microseconds a copy counts as lost; 20000 if not given",
+    );
+    limit.long("limit")
+}
+
+// What the outputs of the cycles are.
+fn outputs<'a>(alloc: Global) -> Arg<'a>
+    ensures rule { rule_of result ≡ outputs_rule }
+    ensures local { result.global ≡ false }
+{
+    let outputs = optional(
+        alloc,
+        "OUTPUTS",
+        "The outputs: count, a number that grows by one each cycle; the scene's if not given",
+    );
+    outputs.long("outputs")
+}
+
+// Where each cycle is told of.
+fn log_file<'a>(alloc: Global) -> Arg<'a>
+    ensures rule { rule_of result ≡ log_file_rule }
+    ensures local { result.global ≡ false }
+{
+    let log = optional(
+        alloc,
+        "LOG",
+        "A file that gets a line for each cycle: its number, its verdict and its counters",
+    );
+    log.long("log")
+}
+
 // A word that is given or not, after two hyphens.
 fn flag<'a>(alloc: Global, name: &'a str, help: &'a str) -> Arg<'a>
     ensures rule { rule_of result ≡ flag_rule name.entry.now }
@@ -120,6 +208,34 @@ fn show<'a>(alloc: Global) -> Result<Command<'a>, AllocError>
     command(alloc, "show", "Prints the frames of a capture", help::SHOW).arg(file)
 }
 
+// `list FILE [--csv] [--faults] [--stats]`
+fn list<'a>(alloc: Global) -> Result<Command<'a>, AllocError>
+    ensures line { IfOk result (λ c. app_of c ≡ list_line) }
+    ensures local { IfOk result (λ c. (fields_of c).has_globals ≡ false) }
+{
+    let file = needed(
+        alloc,
+        "FILE",
+        "The capture, a pcap or pcapng file; - for standard input",
+    );
+    let csv = flag(alloc, "csv", "Separates by commas, below a line of names");
+    let faults = flag(
+        alloc,
+        "faults",
+        "Lists packets alone that are damaged or cut short",
+    );
+    let stats = flag(
+        alloc,
+        "stats",
+        "Counts each working counter of datagrams that are alike",
+    );
+    command(alloc, "list", "Lists the datagrams of a capture", help::LIST)
+        .arg(file)?
+        .arg(csv)?
+        .arg(faults)?
+        .arg(stats)
+}
+
 // `check SCENE`
 fn check<'a>(alloc: Global) -> Result<Command<'a>, AllocError>
     ensures line { IfOk result (λ c. app_of c ≡ check_line) }
@@ -138,13 +254,15 @@ fn cover<'a>(alloc: Global) -> Result<Command<'a>, AllocError>
     command(alloc, "cover", about, help::COVER).arg(scene(alloc))
 }
 
-// `where SCENE`
+// `where SCENE [--at AT]`
 fn where_broken<'a>(alloc: Global) -> Result<Command<'a>, AllocError>
     ensures line { IfOk result (λ c. app_of c ≡ where_line) }
     ensures local { IfOk result (λ c. (fields_of c).has_globals ≡ false) }
 {
     let about = "Says where the cable of a scene is broken, and who is missing";
-    command(alloc, "where", about, help::WHERE).arg(scene(alloc))
+    command(alloc, "where", about, help::WHERE)
+        .arg(scene(alloc))?
+        .arg(at(alloc))
 }
 
 // `run SCENE [--judge]`
@@ -167,7 +285,7 @@ fn sweep<'a>(alloc: Global) -> Result<Command<'a>, AllocError>
     command(alloc, "sweep", about, help::SWEEP).arg(scene(alloc))
 }
 
-// `sdo SCENE STATION INDEX SUB [VALUE] [--surely]`
+// `sdo SCENE STATION INDEX SUB [VALUE] [--surely] [--at AT]`
 fn sdo<'a>(alloc: Global) -> Result<Command<'a>, AllocError>
     ensures line { IfOk result (λ c. app_of c ≡ sdo_line) }
     ensures local { IfOk result (λ c. (fields_of c).has_globals ≡ false) }
@@ -192,7 +310,8 @@ fn sdo<'a>(alloc: Global) -> Result<Command<'a>, AllocError>
         .arg(index)?
         .arg(sub)?
         .arg(value)?
-        .arg(surely)
+        .arg(surely)?
+        .arg(at(alloc))
 }
 
 // `udp SCENE [--port P] [--judge]`
@@ -238,6 +357,46 @@ fn serve<'a>(alloc: Global) -> Result<Command<'a>, AllocError>
         .arg(log)
 }
 
+// `master SCENE --at AT [--cycles N] [--every MICROSECONDS] [--limit LIMIT] [--outputs OUTPUTS] [--log LOG]
+// [--stop] [--recover]`
+fn master<'a>(alloc: Global) -> Result<Command<'a>, AllocError>
+    ensures line { IfOk result (λ c. app_of c ≡ master_line) }
+    ensures local { IfOk result (λ c. (fields_of c).has_globals ≡ false) }
+{
+    let stop = flag(
+        alloc,
+        "stop",
+        "Ends at the first cycle that is not good",
+    );
+    let recover = flag(
+        alloc,
+        "recover",
+        "Brings slaves up again that show an error or came back in Init",
+    );
+    let about = "Brings the line of a scene to Op, somewhere else, and cycles on it";
+    command(alloc, "master", about, help::MASTER)
+        .arg(scene(alloc))?
+        .arg(needed_at(alloc))?
+        .arg(cycles(alloc))?
+        .arg(every(alloc))?
+        .arg(limit(alloc))?
+        .arg(outputs(alloc))?
+        .arg(log_file(alloc))?
+        .arg(stop)?
+        .arg(recover)
+}
+
+// `scan --at AT [--limit LIMIT]`
+fn scan<'a>(alloc: Global) -> Result<Command<'a>, AllocError>
+    ensures line { IfOk result (λ c. app_of c ≡ scan_line) }
+    ensures local { IfOk result (λ c. (fields_of c).has_globals ≡ false) }
+{
+    let about = "Tells what slaves a line somewhere else has";
+    command(alloc, "scan", about, help::SCAN)
+        .arg(needed_at(alloc))?
+        .arg(limit(alloc))
+}
+
 // `vectors`
 fn vectors<'a>(alloc: Global) -> Command<'a>
     ensures line { app_of result ≡ vectors_line }
@@ -254,6 +413,7 @@ pub(crate) fn line<'a>(alloc: Global) -> Result<Command<'a>, AllocError>
     command(alloc, "ecat", about, help::ECAT)
         .subcommand_required(true)
         .subcommand(show(alloc)?)?
+        .subcommand(list(alloc)?)?
         .subcommand(check(alloc)?)?
         .subcommand(cover(alloc)?)?
         .subcommand(where_broken(alloc)?)?
@@ -262,5 +422,7 @@ pub(crate) fn line<'a>(alloc: Global) -> Result<Command<'a>, AllocError>
         .subcommand(sdo(alloc)?)?
         .subcommand(udp(alloc)?)?
         .subcommand(serve(alloc)?)?
+        .subcommand(master(alloc)?)?
+        .subcommand(scan(alloc)?)?
         .subcommand(vectors(alloc))
 }

@@ -13,9 +13,10 @@ returns-clause-line c =
     let sub = app_of-arg c.in_ok-arg-4.ensures index c.needed-sub.ensures.rule c.needed-sub.ensures.local in
     let value = app_of-arg c.in_ok-arg-5.ensures sub c.optional-value.ensures.rule
     c.optional-value.ensures.local in
-    let surely = c.flag-surely.ensures in
-    IfOk-weaker c.arg-6.result _ _ (λ r added. app_of-arg added value surely.rule surely.local)
-    c.arg-6.ensures
+    let surely = app_of-arg c.in_ok-arg-6.ensures value c.flag-surely.ensures.rule
+    c.flag-surely.ensures.local in
+    IfOk-weaker c.arg-7.result _ _ (λ r added. app_of-arg added surely c.at.ensures.rule c.at.ensures.local)
+    c.arg-7.ensures
 
 pub returns-clause-local : goal.returns-clause-local
 returns-clause-local c =
@@ -24,5 +25,5 @@ returns-clause-local c =
     let index = has_globals-arg c.in_ok-arg-3.ensures station c.needed-index.ensures.local in
     let sub = has_globals-arg c.in_ok-arg-4.ensures index c.needed-sub.ensures.local in
     let value = has_globals-arg c.in_ok-arg-5.ensures sub c.optional-value.ensures.local in
-    let surely = c.flag-surely.ensures in
-    IfOk-weaker c.arg-6.result _ _ (λ r added. has_globals-arg added value surely.local) c.arg-6.ensures
+    let surely = has_globals-arg c.in_ok-arg-6.ensures value c.flag-surely.ensures.local in
+    IfOk-weaker c.arg-7.result _ _ (λ r added. has_globals-arg added surely c.at.ensures.local) c.arg-7.ensures

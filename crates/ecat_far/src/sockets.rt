@@ -1,0 +1,172 @@
+//! The system's sockets, each of which speaks with one end of a line.
+
+ghost use Rattle.std.specs.Prelude.{⊤, ◌≡◌, ◌+◌, ◌-◌, ◌^◌, ◌≤◌, ◌<◌, IfOk, IfSome, IsErr, IsOk};
+ghost use Rattle.std.specs.IoError.{error_kind};
+ghost use Rattle.ec_wire.specs.declared.frame.TheConstants.{PACKET_ROOM};
+
+use crate::address::FarEnds;
+use crate::carrier::Carrier;
+use ec_ring::{Port, PortFault};
+use ec_wire::PACKET_ROOM;
+use std::io::{self, ErrorKind};
+use std::net::{Ipv4Addr, Ipv6Addr, Net, UdpSocket};
+use std::time::Duration;
+
+/// How many late packets are dropped at a port before a trip, at the most.
+const MOST_LATE: usize = 1024;
+
+/// Which socket could not be opened: its end's name does not resolve, or the system refuses.
+#[derive(Debug, Drop)]
+pub struct OpenFault {
+    /// The end of the line that the socket was to speak with.
+    pub end: Port,
+    /// What the system says.
+    pub error: io::Error,
+}
+
+/// A UDP socket at each port of the master, which speaks with the line's end there and with nobody else; with
+/// one end alone port B sends and receives nothing.
+///
+/// A receive waits so long at most; that no packet came by then is no failure, nor is that nobody listens at
+/// the line's end. Of a packet of more than 1,501 bytes the first 1,501 are received. Each other error of the
+/// system counts as a failure.
+#[derive(Drop)]
+pub struct UdpCarrier {
+    a: UdpSocket,
+    b: Option<UdpSocket>,
+    failures: u64,
+}
+
+impl UdpCarrier {
+    /// Opens a socket for each end, and looks its name up. A receive is to wait for so long, above zero.
+    pub fn open(net: &impl Net, ends: FarEnds<'_>, limit: Duration) -> Result<UdpCarrier, OpenFault>
+        ensures none_failed { IfOk result (λ carrier. ⟦<UdpCarrier as Carrier>⟧.failed carrier ≡ 0) }
+    {
+        let a = socket_at(net, Port::A, ends.a, limit)?;
+        let b = match ends.b {
+            Some(end) => Some(socket_at(net, Port::B, end, limit)?),
+            None => None,
+        };
+        Ok(UdpCarrier { a, b, failures: 0 })
+    }
+
+    /// The socket of a port, if it has one.
+    fn socket(&self, at: Port) -> Option<&UdpSocket> {
+        match at {
+            Port::A => Some(&self.a),
+            Port::B => self.b.as_ref(),
+        }
+    }
+
+    /// Counts a failure; at the greatest count there is none.
+    fn fail(&mut self) -> Result<(), PortFault>
+        ensures counted { IsErr result → self.new.failures ≡ self.old.failures + 1 }
+        ensures never_lower { self.old.failures ≤ self.new.failures }
+        ensures passed_over { IsOk result → self.old.failures ≡ 2 ^ 64 - 1 }
+    {
+        if self.failures == u64::MAX {
+            return Ok(());
+        }
+        self.failures += 1;
+        Err(PortFault)
+    }
+}
+
+impl Carrier for UdpCarrier {
+    ghost failed = { λ carrier. carrier.failures };
+
+    // what a socket gives is up to the line and to the system
+    ghost gives = { λ before at packet later. ⊤ };
+
+    fn drain(&mut self) {
+        drop_late(&self.a);
+        if let Some(socket) = &self.b {
+            drop_late(socket);
+        }
+    }
+
+    fn send(&mut self, from: Port, bytes: &[u8]) -> Result<(), PortFault> {
+        let Some(socket) = self.socket(from) else {
+            return Ok(());
+        };
+        match socket.send(bytes) {
+            Ok(_) => Ok(()),
+            Err(fault) if is_silence(&fault) => Ok(()),
+            Err(_) => self.fail(),
+        }
+    }
+
+    fn receive(
+        &mut self,
+        at: Port,
+        into: &mut [u8; PACKET_ROOM],
+    ) -> Result<Option<usize>, PortFault> {
+        let Some(socket) = self.socket(at) else {
+            return Ok(None);
+        };
+        match socket.recv(into) {
+            Ok(count) => Ok(Some(count)),
+            Err(fault) if is_silence(&fault) => Ok(None),
+            Err(_) => {
+                self.fail()?;
+                Ok(None)
+            }
+        }
+    }
+
+    fn failures(&self) -> u64 {
+        self.failures
+    }
+}
+
+/// Opens the socket of a port, to speak with the line's end there.
+fn socket_at(
+    net: &impl Net,
+    end: Port,
+    name: &str,
+    limit: Duration,
+) -> Result<UdpSocket, OpenFault> {
+    match connected(net, name, limit) {
+        Ok(socket) => Ok(socket),
+        Err(error) => Err(OpenFault { end, error }),
+    }
+}
+
+/// A socket that speaks with what a name resolves to, by IPv4 or else by IPv6.
+fn connected(net: &impl Net, name: &str, limit: Duration) -> io::Result<UdpSocket> {
+    let socket = UdpSocket::bind(net, (Ipv4Addr::UNSPECIFIED, 0))?;
+    let socket = match socket.connect(name) {
+        Ok(()) => socket,
+        Err(fault) => match UdpSocket::bind(net, (Ipv6Addr::UNSPECIFIED, 0)) {
+            Ok(other) if other.connect(name).is_ok() => other,
+            _ => return Err(fault),
+        },
+    };
+    socket.set_read_timeout(Some(limit))?;
+    Ok(socket)
+}
+
+/// Drops what waits at a socket.
+fn drop_late(socket: &UdpSocket) {
+    let mut room = [0; 1];
+    if socket.set_nonblocking(true).is_err() {
+        return;
+    }
+    for _late in 0..MOST_LATE {
+        if socket.recv(&mut room).is_err() {
+            break;
+        }
+    }
+    let _ = socket.set_nonblocking(false);
+}
+
+/// Does the error say that nothing came, or that nobody listens there?
+fn is_silence(fault: &io::Error) -> bool {
+    matches!(
+        fault.kind(),
+        ErrorKind::WouldBlock
+            | ErrorKind::TimedOut
+            | ErrorKind::Interrupted
+            | ErrorKind::ConnectionRefused
+    )
+}
