@@ -1,4 +1,4 @@
-use Rattle.ecat.proofs.cable.BreakTextDisplay.fmt.Goals as goal
+use Rattle.ecat_text.proofs.cable.BreakTextDisplay.fmt.Goals as goal
 
 pub returns-in-One-clause-writes : goal.returns-in-One-clause-writes
 returns-in-One-clause-writes g c = rw c.in-One.is c.write-in-One.ensures.writes

@@ -6,8 +6,8 @@ use Rattle.ec_check.specs.declared.fault.MapFault.TheVariants.{TwinStation, BadF
 use Rattle.ec_check.specs.declared.fault.MapFault.TheVariants.{TwiceWritten, TwiceRead, ReadAndWritten}
 use Rattle.ec_map.specs.declared.place.PlaceFault.{PlaceFault}
 use Rattle.ec_map.specs.declared.place.PlaceFault.TheVariants.{OutsideRead, OutsideWrite}
-use Rattle.ecat.specs.Words.{hexadecimal}
-use Rattle.ecat.specs.declared.check.ItemRefusal.{ItemRefusal}
+use Rattle.ecat_text.specs.Words.{hexadecimal}
+use Rattle.ecat_text.specs.declared.refusal.ItemRefusal.{ItemRefusal}
 
 -- a slave by its number on the line
 abbrev pub slave_words : ℕ → List ℕ

@@ -1,8 +1,8 @@
 -- What is printed of a judged cycle: how often an item was counted, and which copies of a frame came back.
 use Rattle.std.specs.Prelude.{ℕ, ◌++◌, Bool, true, false, List, codes}
 use Rattle.std.specs.Fmt.{decimal}
-use Rattle.ecat.specs.declared.judge.CopiesText.{CopiesText}
-use Rattle.ecat.specs.declared.judge.CountText.{CountText}
+use Rattle.ecat_text.specs.declared.judgement.CopiesText.{CopiesText}
+use Rattle.ecat_text.specs.declared.judgement.CountText.{CountText}
 
 -- how far the working counter of an item moved, and how far it should have
 abbrev pub count_words : CountText → List ℕ

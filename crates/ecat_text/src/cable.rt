@@ -1,12 +1,12 @@
 //! What is printed of a cable: the copies of a frame that came back, which links are down, who is missing.
 
 ghost use Rattle.std.specs.Prelude.{◌≡◌, Some};
-ghost use Rattle.ecat.specs.Cables.{break_of, break_status, break_words, copy_words, end_at, end_before};
-ghost use Rattle.ecat.specs.Cables.{end_words, missing_of, missing_words, places_words, port_words};
-ghost use Rattle.ecat.specs.Cables.{station_words};
+ghost use Rattle.ecat_text.specs.Cables.{break_of, break_status, break_words, copy_words, end_at, end_before};
+ghost use Rattle.ecat_text.specs.Cables.{end_words, missing_of, missing_words, places_words, port_words};
+ghost use Rattle.ecat_text.specs.Cables.{station_words};
 
-use crate::act::{GOOD, REFUSED};
-use crate::print::Lines;
+use crate::lines::Lines;
+use crate::status::{GOOD, REFUSED};
 use ec_app::Slave;
 use ec_diag::{CutOff, Heard, Located};
 use ec_ring::{Arrival, Arrivals, Port};

@@ -1,5 +1,4 @@
--- What is printed of a transfer: the value, or what is in the way, and how many trips it took; and the value
--- of the command line.
+-- What is printed of a transfer: the value, or what is in the way, and how many trips it took.
 use Rattle.std.specs.Prelude.{ℕ, ◌++◌, List, codes}
 use Rattle.std.specs.Fmt.{decimal}
 use Rattle.ec_app.specs.declared.value.Value.{Value}
@@ -7,10 +6,7 @@ use Rattle.ec_app.specs.declared.value.Value.TheVariants.{One, Two, Four}
 use Rattle.ec_services.specs.declared.fault.MasterFault.{MasterFault}
 use Rattle.ec_services.specs.declared.fault.MasterFault.TheVariants.{NoSlave, Refused, Abort, NoAnswer}
 use Rattle.ec_services.specs.declared.fault.MasterFault.TheVariants.{BadAnswer, Broken, Port, Stranger}
-use Rattle.ecat_args.specs.declared.number.Value.{Value as Word}
-use Rattle.ecat_args.specs.declared.number.Value.TheVariants.{One as OneWord, Two as TwoWord}
-use Rattle.ecat_args.specs.declared.number.Value.TheVariants.{Four as FourWord}
-use Rattle.ecat.specs.Words.{hexadecimal}
+use Rattle.ecat_text.specs.Words.{hexadecimal}
 
 -- a value, with two digits for each of its bytes
 abbrev pub value_words : Value → List ℕ
@@ -32,9 +28,3 @@ fault_words Stranger = codes "fault Stranger"
 -- how many trips were made
 unfoldable pub trips_words : ℕ → List ℕ
 trips_words made = codes "trips " ++ decimal made
-
--- the value of the command line, of its size
-abbrev pub value_of : Word → Value
-value_of (OneWord n) = One n
-value_of (TwoWord n) = Two n
-value_of (FourWord n) = Four n

@@ -4,8 +4,8 @@ use Rattle.std.specs.Fmt.{decimal}
 use Rattle.ec_master.specs.declared.verdict.Verdict.{Verdict}
 use Rattle.ec_master.specs.declared.verdict.Verdict.TheVariants.{Good, Short, Over}
 use Rattle.ec_wire.specs.Command.{name_of}
-use Rattle.ecat.specs.declared.cycle.ItemHead.{ItemHead}
-use Rattle.ecat.specs.declared.cycle.ItemTail.{ItemTail}
+use Rattle.ecat_text.specs.declared.cycle.ItemHead.{ItemHead}
+use Rattle.ecat_text.specs.declared.cycle.ItemTail.{ItemTail}
 
 -- a verdict, with the number of the item that it names
 abbrev pub verdict_words : Verdict → List ℕ

@@ -14,15 +14,15 @@ use Rattle.ec_esc.specs.State.{word_at}
 use Rattle.ec_regs.specs.declared.registers.TheConstants.{STATION_ADDRESS}
 use Rattle.ec_ring.specs.declared.port.Port.{Port}
 use Rattle.ec_ring.specs.declared.port.Port.TheVariants.{A, B}
-use Rattle.ecat.specs.Words.{hexadecimal}
-use Rattle.ecat.specs.declared.cable.CopyText.{CopyText}
-use Rattle.ecat.specs.declared.cable.End.{End}
-use Rattle.ecat.specs.declared.cable.End.TheVariants.{AtPort, AtSlave}
-use Rattle.ecat.specs.declared.cable.BreakText.{BreakText}
-use Rattle.ecat.specs.declared.cable.BreakText.TheVariants.{Whole, One, Two, First, Last, Unknown, Changed}
-use Rattle.ecat.specs.declared.cable.Missing.{Missing}
-use Rattle.ecat.specs.declared.cable.Missing.TheVariants.{Nobody, CutOff as IsCutOff, NotTold}
-use Rattle.ecat.specs.declared.cable.Places.{Places}
+use Rattle.ecat_text.specs.Words.{hexadecimal}
+use Rattle.ecat_text.specs.declared.cable.CopyText.{CopyText}
+use Rattle.ecat_text.specs.declared.cable.End.{End}
+use Rattle.ecat_text.specs.declared.cable.End.TheVariants.{AtPort, AtSlave}
+use Rattle.ecat_text.specs.declared.cable.BreakText.{BreakText}
+use Rattle.ecat_text.specs.declared.cable.BreakText.TheVariants.{Whole, One, Two, First, Last, Unknown, Changed}
+use Rattle.ecat_text.specs.declared.cable.Missing.{Missing}
+use Rattle.ecat_text.specs.declared.cable.Missing.TheVariants.{Nobody, CutOff as IsCutOff, NotTold}
+use Rattle.ecat_text.specs.declared.cable.Places.{Places}
 
 -- a port of the master by its name
 abbrev pub port_words : Port → List ℕ
