@@ -1,0 +1,61 @@
+//! One question to the slaves: a datagram that goes out alone in a frame, and what its copies join to.
+
+ghost use Rattle.std.specs.Prelude.{◌≡◌, ◌≤◌, ◌<◌, IfOk, Err, length};
+ghost use Rattle.ec_wire.specs.Datagram.{nth, record_of};
+ghost use Rattle.ec_services.specs.Ask.{request};
+ghost use Rattle.ec_services.specs.declared.fault.MasterFault.TheVariants.{Port};
+ghost use Rattle.ecat_master.specs.Ask.{IsPut, one_counted};
+
+use arrayvec::ArrayVec;
+use ec_master::Ports;
+use ec_merge::join_frames;
+use ec_services::MasterFault;
+use ec_wire::{Command, Datagram, FrameBuf, MAX_DATA};
+
+/// A datagram with these data, its index and its working counter 0.
+pub(crate) fn request(command: Command, address: u32, payload: &[u8]) -> Datagram
+    requires { length payload.now ≤ MAX_DATA }
+    ensures { record_of result ≡ request command address payload.now }
+{
+    let mut bytes = ArrayVec::new();
+    bytes.try_extend_from_slice(payload).unwrap();
+    Datagram {
+        command,
+        index: 0,
+        address,
+        circulating: false,
+        irq: 0,
+        payload: bytes,
+        counter: 0,
+    }
+}
+
+/// Sends a datagram alone in a frame, and answers what its copies join to: a frame of one datagram of its
+/// size.
+pub(crate) fn put<P: Ports>(ports: &mut P, sent: &Datagram) -> Result<FrameBuf, MasterFault>
+    ensures put { IsPut P.trips ports.old (record_of sent.now) result ports.new }
+    ensures one { IfOk result (λ joined. length joined ≡ 1) }
+    ensures size { IfOk result
+        (λ joined. length (nth joined 0).payload ≡ length sent.now.payload.items) }
+    ensures counted { result ≡ Err Port → P.failed ports.old < P.failed ports.new }
+    ensures never_lower { P.failed ports.old ≤ P.failed ports.new }
+{
+    let frame = FrameBuf::of(sent);
+    let came = match ports.trip(&frame) {
+        Ok(came) => came,
+        Err(_) => return Err(MasterFault::Port),
+    };
+    join_frames(&frame, came.a.as_ref(), came.b.as_ref()).map_err(|_| MasterFault::Stranger)
+}
+
+/// Did exactly one slave count on an answer?
+pub(crate) fn one_counted(joined: &FrameBuf) -> Result<(), MasterFault>
+    requires { length joined.now ≡ 1 }
+    ensures { result ≡ one_counted joined.now }
+{
+    match joined.counter(0) {
+        0 => Err(MasterFault::NoSlave),
+        1 => Ok(()),
+        _ => Err(MasterFault::BadAnswer),
+    }
+}
