@@ -21,32 +21,32 @@ pub record IsPut {P : Type 0} (trips : Trips P) (before : P) (sent : DatagramRec
   pub asks : Asks trips before sent answer later
   pub tells : joined ≡ joined_by answer
 
--- ---- what a joined frame says
+-- ---- what an answer says
 
 -- exactly one slave counted
-abbrev pub one_counted : List DatagramRecord → Result (Unit {0}) MasterFault
-one_counted joined =
-    let count = (nth joined 0).counter in
+abbrev pub one_counted : Result (List DatagramRecord) MasterFault → Result (Unit {0}) MasterFault
+one_counted (Err fault) = Err fault
+one_counted (Ok joined) =
     first_fitting
-    ((count == 0, Err NoSlave)
-    ∷ (nat_lt 1 count, Err BadAnswer)
+    (((nth joined 0).counter == 0, Err NoSlave)
+    ∷ (nat_lt 1 (nth joined 0).counter, Err BadAnswer)
     ∷ []) (Ok tt)
 
 -- one slave counted, or two
-abbrev pub one_or_two : List DatagramRecord → Result (Unit {0}) MasterFault
-one_or_two joined =
-    let count = (nth joined 0).counter in
+abbrev pub one_or_two : Result (List DatagramRecord) MasterFault → Result (Unit {0}) MasterFault
+one_or_two (Err fault) = Err fault
+one_or_two (Ok joined) =
     first_fitting
-    ((count == 0, Err NoSlave)
-    ∷ (nat_lt 2 count, Err BadAnswer)
+    (((nth joined 0).counter == 0, Err NoSlave)
+    ∷ (nat_lt 2 (nth joined 0).counter, Err BadAnswer)
     ∷ []) (Ok tt)
 
 -- exactly one slave counted, and it has these bytes
-abbrev pub held_by : List ℕ → List DatagramRecord → Result (Unit {0}) MasterFault
-held_by bytes joined =
-    let told = nth joined 0 in
+abbrev pub held_by : List ℕ → Result (List DatagramRecord) MasterFault → Result (Unit {0}) MasterFault
+held_by bytes (Err fault) = Err fault
+held_by bytes (Ok joined) =
     first_fitting
-    ((told.counter == 0, Err NoSlave)
-    ∷ (nat_lt 1 told.counter, Err BadAnswer)
-    ∷ (not (pointwise nat_eq told.payload bytes), Err BadAnswer)
+    (((nth joined 0).counter == 0, Err NoSlave)
+    ∷ (nat_lt 1 (nth joined 0).counter, Err BadAnswer)
+    ∷ (not (pointwise nat_eq (nth joined 0).payload bytes), Err BadAnswer)
     ∷ []) (Ok tt)

@@ -1,6 +1,6 @@
 -- Cycles one after the other: the outputs go out, the verdict comes back, the ends are counted, and the image
 -- changes on a good one alone.
-use Rattle.std.specs.Prelude.{◌≡◌, ℕ, zero, suc, ◌+◌, List, map, Result, Ok, Err}
+use Rattle.std.specs.Prelude.{◌≡◌, ℕ, zero, suc, ◌+◌, Option, None, Some, List, map, Result, Ok, Err}
 use Rattle.ec_map.specs.Item.{ItemRecord}
 use Rattle.ec_master.specs.Ports.{Trips, IsPortCycle}
 use Rattle.ec_master.specs.Rounds.{begun}
@@ -31,20 +31,20 @@ counted (Ok verdict) c = elim verdict [
 
 -- ---- one cycle
 
--- what is asked, the image of the last good cycle, and how many cycles there were
+-- what is asked, the image of the last good cycle if there was one, and how many cycles there were
 pub record CyclesState : Type 0 where
   pub asked : List ItemRecord
-  pub image : List ItemRecord
+  pub image : Option (List ItemRecord)
   pub counts : Counts
 
 abbrev pub begun_with : List ItemRecord → CyclesState
-begun_with items = record { asked = items; image = items; counts = no_cycles }
+begun_with items = record { asked = items; image = None; counts = no_cycles }
 
 -- the image behind a cycle: what it brought where it was good, and else what was there
-abbrev pub image_after : End → List ItemRecord → List ItemRecord → List ItemRecord
+abbrev pub image_after : End → Option (List ItemRecord) → List ItemRecord → Option (List ItemRecord)
 image_after (Err fault) image brought = image
 image_after (Ok verdict) image brought = elim verdict [
-  | Good ↦ brought
+  | Good ↦ Some brought
   | _ ↦ image
 ]
 

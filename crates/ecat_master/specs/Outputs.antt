@@ -16,7 +16,10 @@ abbrev pub numbered : ℕ → ItemRecord → ItemRecord
 numbered number r =
     if writes (command_of r.kind) then record r { payload = in_front (to_le_bytes w64 number) r.payload } else r
 
--- the items of the cycle with a number
+-- an item of the cycle with a number
+abbrev pub output_at : Outputs → ℕ → ItemRecord → ItemRecord
+output_at Kept cycle r = r
+output_at Count cycle r = numbered cycle r
+
 abbrev pub outputs_at : Outputs → ℕ → List ItemRecord → List ItemRecord
-outputs_at Kept cycle items = items
-outputs_at Count cycle items = map (numbered cycle) items
+outputs_at outputs cycle items = map (output_at outputs cycle) items

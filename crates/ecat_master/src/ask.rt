@@ -4,7 +4,7 @@ ghost use Rattle.std.specs.Prelude.{◌≡◌, ◌≤◌, ◌<◌, IfOk, Err, le
 ghost use Rattle.ec_wire.specs.Datagram.{nth, record_of};
 ghost use Rattle.ec_services.specs.Ask.{request};
 ghost use Rattle.ec_services.specs.declared.fault.MasterFault.TheVariants.{Port};
-ghost use Rattle.ecat_master.specs.Ask.{IsPut, one_counted};
+ghost use Rattle.ecat_master.specs.Ask.{IsPut, one_counted, one_or_two, held_by};
 
 use arrayvec::ArrayVec;
 use ec_master::Ports;
@@ -45,17 +45,64 @@ pub(crate) fn put<P: Ports>(ports: &mut P, sent: &Datagram) -> Result<FrameBuf, 
         Ok(came) => came,
         Err(_) => return Err(MasterFault::Port),
     };
-    join_frames(&frame, came.a.as_ref(), came.b.as_ref()).map_err(|_| MasterFault::Stranger)
+    match join_frames(&frame, came.a.as_ref(), came.b.as_ref()) {
+        Ok(joined) => Ok(joined),
+        Err(_) => Err(MasterFault::Stranger),
+    }
 }
 
 /// Did exactly one slave count on an answer?
-pub(crate) fn one_counted(joined: &FrameBuf) -> Result<(), MasterFault>
-    requires { length joined.now ≡ 1 }
-    ensures { result ≡ one_counted joined.now }
+pub(crate) fn one_counted(answer: &Result<FrameBuf, MasterFault>) -> Result<(), MasterFault>
+    requires { IfOk answer.now (λ joined. length joined ≡ 1) }
+    ensures { result ≡ one_counted answer.now }
 {
+    let joined = match answer {
+        Ok(joined) => joined,
+        Err(fault) => return Err(*fault),
+    };
     match joined.counter(0) {
         0 => Err(MasterFault::NoSlave),
         1 => Ok(()),
         _ => Err(MasterFault::BadAnswer),
+    }
+}
+
+/// Did one slave count on an answer, or two?
+pub(crate) fn one_or_two(answer: &Result<FrameBuf, MasterFault>) -> Result<(), MasterFault>
+    requires { IfOk answer.now (λ joined. length joined ≡ 1) }
+    ensures { result ≡ one_or_two answer.now }
+{
+    let joined = match answer {
+        Ok(joined) => joined,
+        Err(fault) => return Err(*fault),
+    };
+    match joined.counter(0) {
+        0 => Err(MasterFault::NoSlave),
+        1 | 2 => Ok(()),
+        _ => Err(MasterFault::BadAnswer),
+    }
+}
+
+/// Did exactly one slave count on an answer, and has it these bytes?
+pub(crate) fn held_by(
+    bytes: &[u8],
+    answer: &Result<FrameBuf, MasterFault>,
+) -> Result<(), MasterFault>
+    requires { IfOk answer.now (λ joined. length joined ≡ 1) }
+    ensures { result ≡ held_by bytes.now answer.now }
+{
+    let joined = match answer {
+        Ok(joined) => joined,
+        Err(fault) => return Err(*fault),
+    };
+    match joined.counter(0) {
+        0 => return Err(MasterFault::NoSlave),
+        1 => {}
+        _ => return Err(MasterFault::BadAnswer),
+    }
+    if joined.data(0) == bytes {
+        Ok(())
+    } else {
+        Err(MasterFault::BadAnswer)
     }
 }

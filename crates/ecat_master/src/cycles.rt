@@ -2,7 +2,8 @@
 
 ghost use Rattle.std.specs.Prelude.{◌≡◌, ◌≤◌, ◌<◌, ◌^◌, ◌-◌, length, Err};
 ghost use Rattle.ec_master.specs.declared.cycle.CycleFault.TheVariants.{Port};
-ghost use Rattle.ecat_master.specs.Cycles.{IsCycle, begun_with, no_cycles, image_after};
+ghost use Rattle.std.specs.Option.{option_copied};
+ghost use Rattle.ecat_master.specs.Cycles.{IsCycle, begun_with, image_after};
 
 use crate::counts::Counts;
 use crate::outputs::Outputs;
@@ -12,12 +13,12 @@ use std::marker::Model;
 /// The most cycles: a count of 64 bits has no room for another one.
 pub const MOST_CYCLES: u64 = u64::MAX;
 
-/// A work that is done again and again: what is asked, the image of the last good cycle, and how many cycles
-/// there were. Before the first good cycle the image is what is asked.
+/// A work that is done again and again: what is asked, the image of the last good cycle if there was one, and
+/// how many cycles there were.
 #[derive(Drop)]
 pub struct Cycles {
     asked: Work,
-    image: Work,
+    image: Option<Work>,
     counts: Counts,
 }
 
@@ -31,21 +32,21 @@ impl Model for Cycles {
 
 impl Cycles {
     /// A work of which no cycle was made.
-    pub fn new(work: &Work) -> Cycles
-        ensures { result ≡ begun_with work.now }
+    pub fn new(work: Work) -> Cycles
+        ensures { result ≡ begun_with work }
     {
         Cycles {
-            asked: copy_of(work),
-            image: copy_of(work),
+            asked: work,
+            image: None,
             counts: Counts::none(),
         }
     }
 
-    /// What the items brought back in the last good cycle.
-    pub fn image(&self) -> &Work
-        ensures { result.now ≡ self.now.image }
+    /// What the items brought back in the last good cycle, if there was one.
+    pub fn image(&self) -> Option<&Work>
+        ensures { option_copied result ≡ self.now.image }
     {
-        &self.image
+        self.image.as_ref()
     }
 
     /// How many cycles there were, by their ends.
@@ -76,8 +77,7 @@ impl Cycles {
         ensures counted { result ≡ Err Port → P.failed ports.old < P.failed ports.new }
         ensures never_lower { P.failed ports.old ≤ P.failed ports.new }
     {
-        let mut work = copy_of(&self.asked);
-        outputs.put(self.counts.cycles, &mut work);
+        let mut work = outputs.of(self.counts.cycles, &self.asked);
         work.begin_round(self.counts.cycles);
         let ended = run_cycle(ports, &mut work, expected);
         self.counts = self.counts.with(ended);
@@ -90,18 +90,7 @@ impl Cycles {
         ensures { self.new ≡ record self.old { image = image_after ended self.old.image work } }
     {
         if ended == Ok(Verdict::Good) {
-            self.image = work;
+            self.image = Some(work);
         }
     }
-}
-
-/// A second work with the same items.
-fn copy_of(work: &Work) -> Work
-    ensures { result ≡ work.now }
-{
-    let mut copy = Work::new();
-    for k in 0..work.len() {
-        let _ = copy.push(work.item(k).copy());
-    }
-    copy
 }

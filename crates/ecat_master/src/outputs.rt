@@ -1,7 +1,7 @@
 //! The outputs of a cycle.
 
-ghost use Rattle.std.specs.Prelude.{◌≡◌, ◌<◌, map, length};
-ghost use Rattle.ecat_master.specs.Outputs.{numbered, outputs_at};
+ghost use Rattle.std.specs.Prelude.{◌≡◌};
+ghost use Rattle.ecat_master.specs.Outputs.{in_front, numbered, output_at, outputs_at};
 
 use ec_map::Item;
 use ec_master::Work;
@@ -18,34 +18,45 @@ pub enum Outputs {
 }
 
 impl Outputs {
-    /// Gives the items of a work the outputs of the cycle with this number.
-    pub fn put(self, cycle: u64, work: &mut Work)
-        ensures { work.new ≡ outputs_at self cycle work.old }
+    /// The items of a work with the outputs of the cycle with this number.
+    pub fn of(self, cycle: u64, asked: &Work) -> Work
+        ensures { result ≡ outputs_at self cycle asked.now }
+    {
+        let mut work = Work::new();
+        for k in 0..asked.len() {
+            let _ = work.push(self.item(cycle, asked.item(k)));
+        }
+        work
+    }
+
+    /// An item with its outputs of the cycle with this number.
+    fn item(self, cycle: u64, asked: &Item) -> Item
+        ensures { result ≡ output_at self cycle asked.now }
     {
         match self {
-            Outputs::Kept => {}
-            Outputs::Count => number_items(cycle, work),
+            Outputs::Kept => asked.copy(),
+            Outputs::Count => numbered(cycle, asked),
         }
     }
 }
 
-/// Puts a number into the first bytes of each item that writes.
-fn number_items(number: u64, work: &mut Work)
-    ensures { work.new ≡ map (numbered number) work.old }
+/// An item, with a number in its first bytes if it writes.
+fn numbered(number: u64, asked: &Item) -> Item
+    ensures { result ≡ numbered number asked.now }
 {
-    let bytes = number.to_le_bytes();
-    for k in 0..work.len() {
-        number_item(&bytes, work.item_mut(k));
+    let mut item = asked.copy();
+    if item.kind().command().writes() {
+        put_in_front(&number.to_le_bytes(), &mut item);
     }
+    item
 }
 
-/// Puts bytes into the first of an item that writes.
-fn number_item(bytes: &[u8; 8], item: &mut Item) {
-    if !item.kind().command().writes() {
-        return;
-    }
+/// Puts bytes in front of an item's data, of which as many give way.
+fn put_in_front(bytes: &[u8; 8], item: &mut Item)
+    ensures { item.new ≡ record item.old { payload = in_front bytes.now item.old.payload } }
+{
     let length = item.len();
-    let count = length.min(8);
+    let count = length.min(bytes.len());
     let mut room = [0; MAX_DATA];
     room[..length].copy_from_slice(item.data());
     room[..count].copy_from_slice(&bytes[..count]);

@@ -163,9 +163,9 @@ fn read_at<P: Ports>(
     let address = address_of(way.distance.wrapping_neg(), ado);
     let mut sent = request(Command::Aprd, address, &room[..count]);
     sent.circulating = way.circulating;
-    let joined = put(ports, &sent)?;
-    one_counted(&joined)?;
-    Ok(joined)
+    let answer = put(ports, &sent);
+    one_counted(&answer)?;
+    answer
 }
 
 /// Reads what a slave shows of itself.

@@ -9,7 +9,7 @@ use crate::step::Step;
 use crate::wanted::Wanted;
 use crate::watched::Watched;
 use crate::words::{put_cable, put_fault, put_step_fault, state_name};
-use ec_diag::Located;
+use ec_diag::{CutOff, Located};
 use ec_ring::{HeardPorts, MAX_SLAVES};
 use ec_services::MasterFault;
 use std::io::{self, Write};
@@ -62,7 +62,11 @@ pub fn start<P: HeardPorts, W: Write>(
     if line.len() > MAX_SLAVES {
         return Err(StartEnd::Fault(StartFault::Count(0)));
     }
-    count(ports, line.len(), lines)?;
+    let found = count(ports, line.len(), lines)?;
+    if usize::from(found) != line.len() || found == 0 {
+        tell_cut_off(ports, line, lines)?;
+        return Err(StartEnd::Fault(StartFault::Count(found)));
+    }
     let located = look(ports, line, lines)?;
     give_stations(ports, line, located)?;
     lines.text("stations given")?;
@@ -81,7 +85,7 @@ fn count<P: HeardPorts, W: Write>(
     ports: &mut Watched<P>,
     wanted: usize,
     lines: &mut Lines<'_, W>,
-) -> Result<(), StartEnd> {
+) -> Result<u16, StartEnd> {
     let mut found = 0;
     for _try in 0..TRIES {
         match count_slaves(ports) {
@@ -94,14 +98,27 @@ fn count<P: HeardPorts, W: Write>(
     }
     lines.text("slaves ")?;
     lines.number(u64::from(found))?;
-    if usize::from(found) != wanted || wanted == 0 {
+    if usize::from(found) != wanted {
         lines.text(", wanted ")?;
         lines.number(wanted as u64)?;
-        lines.end()?;
-        return Err(StartEnd::Fault(StartFault::Count(found)));
     }
     lines.end()?;
-    Ok(())
+    Ok(found)
+}
+
+/// Tells where the cable is broken, where slaves are cut off by it.
+fn tell_cut_off<P: HeardPorts, W: Write>(
+    ports: &mut Watched<P>,
+    line: &[Wanted],
+    lines: &mut Lines<'_, W>,
+) -> io::Result<()> {
+    match look_surely(ports, line.len()) {
+        Some(located) if located.cut_off() != CutOff::Nobody && located != Located::Changed => {
+            put_cable(located, line, lines)?;
+            lines.end()
+        }
+        _ => Ok(()),
+    }
 }
 
 /// Looks where the cable is broken, which is to be nowhere or at one link.

@@ -1,13 +1,12 @@
 //! The steps by which a slave is brought up.
 
-ghost use Rattle.std.specs.Prelude.{◌≡◌, ◌≤◌, ◌<◌, Ok, Err, Unit, length};
+ghost use Rattle.std.specs.Prelude.{◌≡◌, ◌≤◌, ◌<◌, Ok, Err, length};
 ghost use Rattle.ec_services.specs.Ask.{IsAsked, Talks, done, write};
 ghost use Rattle.ec_services.specs.declared.fault.MasterFault.TheVariants.{Port};
-ghost use Rattle.ecat_master.specs.Ask.{one_or_two, held_by};
 ghost use Rattle.ecat_master.specs.Step.{number_in, register_write, holds, manager_talk, fmmu_talk};
 ghost use Rattle.ecat_master.specs.Step.{address_write, behind_question, IsDone, IsTried};
 
-use crate::ask::{one_counted, put, request};
+use crate::ask::{held_by, one_counted, one_or_two, put, request};
 use crate::wanted::Wanted;
 use ec_master::Ports;
 use ec_regs::registers::{
@@ -16,7 +15,7 @@ use ec_regs::registers::{
 };
 use ec_regs::{AlState, Fmmu, SyncMan};
 use ec_services::{MasterFault, request_state};
-use ec_wire::{Command, FrameBuf, address_of};
+use ec_wire::{Command, address_of};
 
 /// How many sync managers, and how many FMMUs, a slave has.
 const RECORDS: u8 = 8;
@@ -76,20 +75,7 @@ fn write_at<P: Ports>(
     ensures never_lower { P.failed ports.old ≤ P.failed ports.new }
 {
     let sent = request(Command::Fpwr, address_of(station, ado), bytes);
-    one_counted(&put(ports, &sent)?)
-}
-
-/// Does an answer of exactly one slave have these bytes?
-fn held_by(joined: &FrameBuf, bytes: &[u8]) -> Result<(), MasterFault>
-    requires { length joined.now ≡ 1 }
-    ensures { result ≡ held_by bytes.now joined.now }
-{
-    one_counted(joined)?;
-    if joined.data(0) == bytes {
-        Ok(())
-    } else {
-        Err(MasterFault::BadAnswer)
-    }
+    one_counted(&put(ports, &sent))
 }
 
 /// Reads a run of registers of one slave, which is to hold these bytes.
@@ -110,7 +96,7 @@ fn check_at<P: Ports>(
         address_of(station, ado),
         &room[..bytes.len()],
     );
-    held_by(&put(ports, &sent)?, bytes)
+    held_by(bytes, &put(ports, &sent))
 }
 
 /// Switches a sync manager off, writes its record, and reads back what tells its area and whether it is
@@ -169,19 +155,7 @@ fn give_station<P: Ports>(
     let address = address_of(place.wrapping_neg(), STATION_ADDRESS);
     let mut sent = request(Command::Apwr, address, &station.to_le_bytes());
     sent.circulating = circulating;
-    one_counted(&put(ports, &sent)?)
-}
-
-/// Did one slave or two count on an answer?
-fn one_or_two(joined: &FrameBuf) -> Result<(), MasterFault>
-    requires { length joined.now ≡ 1 }
-    ensures { result ≡ one_or_two joined.now }
-{
-    match joined.counter(0) {
-        0 => Err(MasterFault::NoSlave),
-        1 | 2 => Ok(()),
-        _ => Err(MasterFault::BadAnswer),
-    }
+    one_counted(&put(ports, &sent))
 }
 
 /// Gives a station address to the slave that is so far behind a broken link.
@@ -196,7 +170,7 @@ fn give_station_behind<P: Ports>(
 {
     let address = address_of(distance.wrapping_neg(), STATION_ADDRESS);
     let sent = request(Command::Apwr, address, &station.to_le_bytes());
-    one_or_two(&put(ports, &sent)?)
+    one_or_two(&put(ports, &sent))
 }
 
 /// Does a step with the slave at a place, once.

@@ -2,8 +2,11 @@
 
 mod brought;
 mod cabled;
+mod failing;
 mod line;
 mod missing;
+mod recovered;
+mod scanned;
 mod stage;
 
 use std::fmt::Debug;

@@ -3,7 +3,7 @@
 use super::assert_same;
 use super::line::{EXPECTED, wanted, work};
 use crate::ask::request;
-use crate::{Outputs, Pace, Plan, master};
+use crate::{Outputs, Pace, Plan, Wanted, master};
 use ec_master::PortFault;
 use ec_regs::{AlState, AlStatus};
 use ec_ring::{Arrivals, HeardPorts, Ring, Travel, Weather};
@@ -195,6 +195,20 @@ pub fn runs<P: HeardPorts + Drop>(
     text: &str,
 ) {
     let line = wanted(rt, rt.alloc());
+    runs_on(rt, ports, line.as_slice(), plan, cycles, status, text);
+}
+
+/// Runs a master on slaves behind these ports that are to be told this, and asserts its status and what it
+/// prints.
+pub fn runs_on<P: HeardPorts + Drop>(
+    rt: &impl Abort,
+    ports: P,
+    line: &[Wanted],
+    plan: &Plan,
+    cycles: u64,
+    status: u8,
+    text: &str,
+) {
     let work = work(rt);
     let mut out = Cursor::new([0u8; ROOM]);
     let mut err = Cursor::new([0u8; ROOM]);
@@ -206,8 +220,8 @@ pub fn runs<P: HeardPorts + Drop>(
     }
     let ended = master(
         ports,
-        line.as_slice(),
-        &work,
+        line,
+        work,
         expected,
         plan,
         &mut pace,
