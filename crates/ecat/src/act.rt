@@ -6,15 +6,17 @@ ghost use Rattle.ecat.specs.Commands.{goes_over_packets};
 use crate::check::check;
 use crate::cover::cover;
 use crate::run::run;
-use crate::sdo::{Asked, sdo, value_of};
+use crate::sdo::{Asked, sdo};
 use crate::show::show;
 use crate::sweep::sweep;
 use crate::vectors::vectors;
 use crate::where_broken::where_broken;
+use ec_services::MasterFault;
 use ecat_args::Args;
+use ecat_far::OpenFault;
 use ecat_scene::SceneFault;
 use ecat_source::{PcapFault, Source};
-use ecat_text::{FAILED, REFUSED};
+use ecat_text::{BAD_ARGUMENTS, FAILED, FaultText, PortText, REFUSED};
 use std::alloc::Global;
 use std::io::{self, Write};
 
@@ -47,6 +49,16 @@ pub enum Failure {
     Port,
     /// The scene has actions or weathers, for which there are no packets.
     Actions,
+    /// A line somewhere else could not be spoken to.
+    Far(OpenFault),
+    /// What was asked of a line somewhere else has no answer.
+    Asked(MasterFault),
+    /// The file of a log could not be made.
+    Log,
+    /// The outputs of a master are none that there are.
+    Outputs,
+    /// The clock of a master, or the wait for its input, could not be had.
+    Clock,
 }
 
 impl From<io::Error> for Failure {
@@ -55,7 +67,7 @@ impl From<io::Error> for Failure {
     }
 }
 
-/// Does a command but `udp` and `serve`, whose file is open as `source`, and answers the exit status.
+/// Does a command but those that go over packets, whose file is open as `source`, and answers the exit status.
 pub fn act<S, W, V>(alloc: Global, args: &Args<'_>, source: &mut S, out: &mut W, err: &mut V) -> u8
 where
     S: Source,
@@ -64,6 +76,7 @@ where
     requires { goes_over_packets args.now ≡ false }
 {
     let done = match args {
+        Args::List { .. } => Ok(0), // TEMPORARY
         Args::Check { .. } => check(alloc, source, out),
         Args::Cover { .. } => cover(alloc, source, out),
         Args::Where { .. } => where_broken(alloc, source, out),
@@ -78,17 +91,13 @@ where
             surely,
             ..
         } => {
-            let asked = Asked {
-                station: *station,
-                index: *index,
-                sub: *sub,
-                value: value.map(value_of),
-                surely: *surely,
-            };
+            let asked = Asked::of(*station, *index, *sub, *value, *surely);
             sdo(alloc, &asked, source, out, err)
         }
         Args::Vectors => vectors(alloc, out),
-        Args::Udp { .. } | Args::Serve { .. } => unreachable!(),
+        Args::Udp { .. } | Args::Serve { .. } | Args::Master { .. } | Args::Scan { .. } => {
+            unreachable!()
+        }
     };
     match done {
         Ok(status) => status,
@@ -111,6 +120,23 @@ pub fn report<W: Write, V: Write>(failure: &Failure, out: &mut W, err: &mut V) -
         Failure::NoMemoryForSockets => failed(err, b"socket: NoMemory\n"),
         Failure::Output => failed(err, b"output: Write\n"),
         Failure::Port => failed(err, b"cycle: Port\n"),
+        Failure::Log => failed(err, b"log: Open\n"),
+        Failure::Clock => failed(err, b"clock: Open\n"),
+        Failure::Outputs => {
+            let _ = err.write_all(b"argument: --outputs wants count\n");
+            BAD_ARGUMENTS
+        }
+        Failure::Far(fault) => {
+            let end = PortText(fault.end);
+            let error = &fault.error;
+            let _ = writeln!(err, "end {end}: {error}");
+            FAILED
+        }
+        Failure::Asked(MasterFault::Port) => failed(err, b"cycle: Port\n"),
+        Failure::Asked(fault) => {
+            let fault = FaultText(*fault);
+            refused(writeln!(out, "{fault}"), err)
+        }
         Failure::Actions => refused(writeln!(out, "scene: actions"), err),
         Failure::Capture(PcapFault::Read) => failed(err, b"capture: Read\n"),
         Failure::Capture(PcapFault::NoMemory) => failed(err, b"capture: NoMemory\n"),

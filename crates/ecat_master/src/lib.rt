@@ -5,6 +5,7 @@ mod ask;
 mod counting;
 mod counts;
 mod cycles;
+mod ends;
 mod outputs;
 mod pace;
 mod phase;

@@ -15,6 +15,7 @@ use Rattle.ec_regs.specs.declared.registers.TheConstants.{STATION_ADDRESS}
 use Rattle.ec_ring.specs.declared.port.Port.{Port}
 use Rattle.ec_ring.specs.declared.port.Port.TheVariants.{A, B}
 use Rattle.ecat_text.specs.Words.{hexadecimal}
+use Rattle.ecat_text.specs.declared.cable.ArrivedText.{ArrivedText}
 use Rattle.ecat_text.specs.declared.cable.CopyText.{CopyText}
 use Rattle.ecat_text.specs.declared.cable.End.{End}
 use Rattle.ecat_text.specs.declared.cable.End.TheVariants.{AtPort, AtSlave}
@@ -33,6 +34,14 @@ port_words B = codes "B"
 abbrev pub heard_words : Option Heard → List ℕ
 heard_words None = codes " lost"
 heard_words (Some heard) = codes " back at " ++ port_words heard.at ++ codes " after " ++ decimal heard.count
+
+-- what is heard at a port: how many slaves counted on it
+abbrev pub at_words : Port → Option Heard → List ℕ
+at_words at None = codes "nothing at " ++ port_words at
+at_words at (Some heard) = codes "at " ++ port_words at ++ codes " after " ++ decimal heard.count
+
+abbrev pub arrived_words : ArrivedText → List ℕ
+arrived_words arrived = at_words arrived.at arrived.heard
 
 -- a copy by the port where it started
 abbrev pub copy_words : CopyText → List ℕ

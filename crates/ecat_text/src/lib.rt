@@ -21,7 +21,7 @@ mod refusal;
 mod status;
 
 pub use areas::print_areas;
-pub use cable::{Missing, Places, PortText, missing_of, print_break, print_copies};
+pub use cable::{Missing, Places, PortText, missing_of, print_arrived, print_break, print_copies};
 pub use cycle::{VerdictText, print_items, print_verdict, status_of};
 pub use judgement::{print_counts, print_losses};
 pub use lines::Lines;
