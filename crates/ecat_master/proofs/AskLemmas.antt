@@ -1,6 +1,6 @@
 -- A datagram that was put is a question that was asked.
 use Rattle.std.proofs.Common.{◌≡◌, ap, sym, refl, ◌∙◌, Bool, true, false, cond, ◌==◌, nat_lt, nat_eq, not, ℕ}
-use Rattle.std.proofs.Common.{List, [], ◌∷◌, length, Option, None, Result, Ok, Err, absurd, arith}
+use Rattle.std.proofs.Common.{List, [], ◌∷◌, length, Option, None, Result, Ok, Err, arith}
 use Rattle.std.specs.Cmp.Lexicographic.{pointwise}
 use Rattle.ec_wire.specs.Datagram.{DatagramRecord, nth}
 use Rattle.ec_merge.specs.Frames.{IsOwn, joined_frame}

@@ -2,7 +2,7 @@
 -- entities): it gets its station address, its records are written and read back, it is asked for a state.
 use Rattle.std.specs.Prelude.{◌≡◌, ℕ, zero, suc, ◌+◌, ◌-◌, ◌*◌, ◌%◌, ◌==◌, nat_lt, Bool, true, false, Option}
 use Rattle.std.specs.Prelude.{None, Some, List, [], ◌∷◌, ◌++◌, length, take, replicate, Result, Ok, Err, not}
-use Rattle.std.specs.Prelude.{nat_eq, slice_get}
+use Rattle.std.specs.Prelude.{nat_eq, slice_get, slice_index}
 use Rattle.std.specs.Cmp.Lexicographic.{pointwise}
 use Rattle.std.specs.Int.{w16, to_le_bytes}
 use Rattle.ec_wire.specs.Datagram.{DatagramRecord, address_of}
@@ -24,7 +24,7 @@ use Rattle.ec_services.specs.declared.fault.MasterFault.TheVariants.{NoSlave, Ba
 use Rattle.ecat_master.specs.declared.step.Step.{Step}
 use Rattle.ecat_master.specs.declared.step.Step.TheVariants.{Station, StationBehind, StationBefore}
 use Rattle.ecat_master.specs.declared.step.Step.TheVariants.{SyncManager, Fmmu as FmmuRecord, State}
-use Rattle.ecat_master.specs.declared.step.TheConstants.{MOST_READS, AREA_BYTES}
+use Rattle.ecat_master.specs.declared.step.TheConstants.{MOST_READS, AREA_BYTES, SWITCH_AT}
 use Rattle.ecat_master.specs.declared.wanted.Wanted.{Wanted}
 
 -- ---- records of registers
@@ -50,20 +50,20 @@ holds station ado bytes = record {
 }
 
 -- a sync manager is switched off, its record is written, and its area and its switch are read back
-abbrev pub manager_talk : ℕ → ℕ → SyncMan → List (Question (Unit {0}))
-manager_talk station n s =
+abbrev pub manager_talk : ℕ → ℕ → List ℕ → List (Question (Unit {0}))
+manager_talk station n bytes =
     let at = SYNC_MANAGER_BASE + SYNC_MANAGER_SIZE * n in
     write (register_write station (at + SYNC_MANAGER_ACTIVATE) (0 ∷ []))
-    ∷ write (register_write station at (sync_man_bytes s))
-    ∷ holds station at (take AREA_BYTES (sync_man_bytes s))
-    ∷ holds station (at + SYNC_MANAGER_ACTIVATE) (s.activate ∷ [])
+    ∷ write (register_write station at bytes)
+    ∷ holds station at (take AREA_BYTES bytes)
+    ∷ holds station (at + SYNC_MANAGER_ACTIVATE) (slice_index bytes SWITCH_AT ∷ [])
     ∷ []
 
 -- the record of an FMMU is written and read back
-abbrev pub fmmu_talk : ℕ → ℕ → Fmmu → List (Question (Unit {0}))
-fmmu_talk station n f =
+abbrev pub fmmu_talk : ℕ → ℕ → List ℕ → List (Question (Unit {0}))
+fmmu_talk station n bytes =
     let at = FMMU_BASE + FMMU_SIZE * n in
-    write (register_write station at (fmmu_bytes f)) ∷ holds station at (fmmu_bytes f) ∷ []
+    write (register_write station at bytes) ∷ holds station at bytes ∷ []
 
 -- ---- station addresses
 
@@ -99,13 +99,13 @@ abbrev pub SetsManager : {P : Type 0} → Trips P → P → ℕ → ℕ → Opti
     → Type 0
 SetsManager trips before station n None result later = ⊥
 SetsManager trips before station n (Some s) result later =
-    Talks trips before (manager_talk station n s) (Ok tt) result later
+    Talks trips before (manager_talk station n (sync_man_bytes s)) (Ok tt) result later
 
 abbrev pub SetsFmmu : {P : Type 0} → Trips P → P → ℕ → ℕ → Option Fmmu → Result (Unit {0}) MasterFault → P
     → Type 0
 SetsFmmu trips before station n None result later = ⊥
 SetsFmmu trips before station n (Some f) result later =
-    Talks trips before (fmmu_talk station n f) (Ok tt) result later
+    Talks trips before (fmmu_talk station n (fmmu_bytes f)) (Ok tt) result later
 
 -- a step with the slave at a place is done once
 abbrev pub IsDone : {P : Type 0} → Trips P → P → ℕ → Wanted → Step → Result (Unit {0}) MasterFault → P → Type 0
@@ -123,12 +123,12 @@ IsDone trips before place wanted (FmmuRecord n) result later =
 IsDone trips before place wanted (State state) result later =
     IsRequested trips before wanted.station state MOST_READS result later
 
--- did no slave answer: a frame may have been lost
-abbrev pub is_unanswered : Result (Unit {0}) MasterFault → Bool
-is_unanswered (Ok _) = false
-is_unanswered (Err fault) = elim fault [
-  | NoSlave ↦ true
-  | _ ↦ false
+-- did some slave answer; where none did, a frame may have been lost
+abbrev pub is_answered : Result (Unit {0}) MasterFault → Bool
+is_answered (Ok _) = true
+is_answered (Err fault) = elim fault [
+  | NoSlave ↦ false
+  | _ ↦ true
 ]
 
 -- a step is done, and again where no slave answered, at most so many times
@@ -137,7 +137,7 @@ unfoldable pub IsTried : {P : Type 0} → Trips P → P → ℕ → Wanted → S
 IsTried trips before place wanted step zero result later = IsDone trips before place wanted step result later
 IsTried {P} trips before place wanted step (suc more) result later =
     (first : Result (Unit {0}) MasterFault) × (between : P) × IsDone trips before place wanted step first between
-    × (elim (is_unanswered first) [
-      | true ↦ IsTried trips between place wanted step more result later
-      | false ↦ (result ≡ first) × (later ≡ between)
+    × (elim (is_answered first) [
+      | true ↦ (result ≡ first) × (later ≡ between)
+      | false ↦ IsTried trips between place wanted step more result later
     ])

@@ -5,7 +5,6 @@ mod ask;
 mod counting;
 mod counts;
 mod cycles;
-mod ends;
 mod outputs;
 mod pace;
 mod phase;

@@ -1,7 +1,8 @@
 //! A master that runs: the start-up of a line, and then cycle after cycle.
 
-ghost use Rattle.std.specs.Prelude.{◌≡◌, ◌≤◌, ◌-◌, length};
-ghost use Rattle.ecat_master.specs.Cycles.{Run};
+ghost use Rattle.std.specs.Prelude.{◌≡◌, length};
+ghost use Rattle.ecat_master.specs.Cycles.{AddUp, IsRun};
+ghost use Rattle.ecat_master.specs.Watched.{WatchedTrips};
 
 use crate::counts::Counts;
 use crate::cycles::{Cycles, MOST_CYCLES};
@@ -271,15 +272,19 @@ where
     W: Write,
     V: Write,
     L: Write,
-    requires { length expected.now ≡ length cycles.old.asked }
+    requires items { length expected.now ≡ length cycles.old.asked }
+    requires sum { AddUp cycles.old.counts }
+    ensures adds_up { AddUp cycles.new.counts }
+    ensures asked { cycles.new.asked ≡ cycles.old.asked }
+    ensures cycles { IsRun (WatchedTrips P.trips) plan.now.outputs expected.now cycles.old cycles.new }
 {
     let mut last = None;
-    while cycles.counts().cycles < MOST_CYCLES && pace.next() {
+    while cycles.counts.cycles < MOST_CYCLES && pace.next() {
         let began = pace.now();
         ports.clear();
         let ended = cycles.cycle(ports, plan.outputs, expected);
         last = Some(ended);
-        let counts = cycles.counts();
+        let counts = cycles.counts;
         teller.take_time(counts, began, pace.now(), plan.progress);
         teller.tell(counts, ended, ports, expected, line, plan.log)?;
         if plan.stop && ended != Ok(Verdict::Good) {
@@ -381,9 +386,9 @@ fn put_sum<W: Write>(
     expected: &[u16],
     lines: &mut Lines<'_, W>,
 ) -> io::Result<()> {
-    put_counts(cycles.counts(), lines)?;
+    put_counts(cycles.counts, lines)?;
     lines.end()?;
-    match cycles.image() {
+    match &cycles.image {
         Some(image) => tell_image(image, expected, lines),
         None => Ok(()),
     }
