@@ -1,0 +1,3 @@
+pub mod Consuming
+pub mod Fronts
+pub mod Options

@@ -1,0 +1,6 @@
+pub mod Numbers
+pub mod Input
+pub mod Times
+pub mod Pieces
+pub mod Classic
+pub mod Blocks
