@@ -4,3 +4,5 @@ pub mod Times
 pub mod Pieces
 pub mod Classic
 pub mod Blocks
+pub mod Progress
+pub mod Ethernet

@@ -8,6 +8,7 @@ ghost use Rattle.ecat_capture.specs.Blocks.{fields_of};
 ghost use Rattle.ecat_capture.specs.Blocks.{first_snap_length, interface_body, interface_of, least_length};
 ghost use Rattle.ecat_capture.specs.Blocks.{length_fault, magic_order, next_option, obsolete_fields};
 ghost use Rattle.ecat_capture.specs.Blocks.{packet_body, packet_fault, packet_from, resolution_of};
+ghost use Rattle.ecat_capture.specs.Progress.{IsRefusal};
 ghost use Rattle.ecat_capture.specs.Blocks.{section_body, simple_fields, timed};
 
 use crate::fault::CaptureFaultKind;
@@ -15,7 +16,7 @@ use crate::order::Order;
 use crate::packet::{Found, Time, per_second_of};
 
 /// The type of a section header, the same number in both orders.
-const SECTION_HEADER: u32 = 0x0a0d_0d0a;
+pub(crate) const SECTION_HEADER: u32 = 0x0a0d_0d0a;
 
 /// The type of an interface description.
 const INTERFACE_DESCRIPTION: u32 = 1;
@@ -127,6 +128,7 @@ pub(crate) fn block_order(section: Order, front: &[u8]) -> Option<Order>
 pub(crate) fn check_length(size: u32) -> Result<(), CaptureFaultKind>
     ensures ok { OnOk result (length_fault size ≡ None) }
     ensures err { IfErr result (λ kind. length_fault size ≡ Some kind) }
+    ensures refusal { IfErr result IsRefusal }
     ensures some { OnOk result (FRONT_LEN ≤ size) }
 {
     if size < FRONT_LEN as u32 {
@@ -312,6 +314,7 @@ fn check_packet(
     requires { fields.from ≤ 28 }
     ensures ok { OnOk result (packet_fault interface size fields ≡ None) }
     ensures err { IfErr result (λ kind. packet_fault interface size fields ≡ Some kind) }
+    ensures refusal { IfErr result IsRefusal }
     ensures fits { OnOk result (fields.from + fields.captured + 4 ≤ size) }
     ensures few { OnOk result (fields.captured ≤ MAX_PACKET) }
 {
@@ -330,7 +333,8 @@ fn check_packet(
 /// The time of so many ticks, of which a second has so many, or 0 where they are too fine.
 fn timed(ticks: Option<u64>, per_second: u64) -> Result<Option<Time>, CaptureFaultKind>
     requires { per_second ≤ 2 ^ 34 }
-    ensures { result ≡ timed ticks per_second }
+    ensures value { result ≡ timed ticks per_second }
+    ensures refusal { IfErr result IsRefusal }
 {
     let Some(ticks) = ticks else {
         return Ok(None);
@@ -350,6 +354,7 @@ fn packet_from(
     requires { fields.from ≤ 28 }
     ensures value { result ≡ packet_from interface size fields }
     ensures fits { IfOk result (λ found. found.from + found.captured + 4 ≤ size) }
+    ensures refusal { IfErr result IsRefusal }
 {
     let Some(interface) = interface else {
         return Err(CaptureFaultKind::Interface);
@@ -373,6 +378,7 @@ fn packet_body(
     requires { IfSome fields (λ fields. fields.from ≤ 28) }
     ensures value { result ≡ packet_body interfaces.now size fields }
     ensures fits { IfOk result (λ body. BodyFits body size) }
+    ensures refusal { IfErr result IsRefusal }
 {
     let Some(fields) = fields else {
         return Ok(Body::Other);
@@ -386,6 +392,7 @@ fn section_body(order: Order, block: &[u8]) -> Result<Body, CaptureFaultKind>
     requires { 28 ≤ length block.now }
     ensures value { result ≡ section_body order block.now }
     ensures fits { IfOk result (λ body. BodyFits body (length block.now)) }
+    ensures refusal { IfErr result IsRefusal }
 {
     if order.half(block, 12) == VERSION {
         Ok(Body::Section(order))
@@ -403,6 +410,7 @@ fn interface_body(
     requires { 20 ≤ length block.now }
     ensures value { result ≡ interface_body order interfaces.now block.now }
     ensures fits { IfOk result (λ body. BodyFits body (length block.now)) }
+    ensures refusal { IfErr result IsRefusal }
 {
     if interfaces.len() < MAX_INTERFACES {
         Ok(Body::Interface(interface_of(order, block)))
@@ -421,6 +429,7 @@ pub(crate) fn body_of(
     requires { FRONT_LEN ≤ length block.now }
     ensures value { result ≡ body_of order interfaces.now block.now }
     ensures fits { IfOk result (λ body. BodyFits body (length block.now)) }
+    ensures refusal { IfErr result IsRefusal }
 {
     if order.word(block, block.len() - 4) as usize != block.len() {
         return Err(CaptureFaultKind::BlockLength);

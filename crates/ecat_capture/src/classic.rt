@@ -1,6 +1,7 @@
 //! The header and the records of a classic capture (the savefile format of libpcap).
 ghost use Rattle.std.specs.Prelude.{◌≡◌, ◌≤◌, IfErr, None, OnOk, Some, length};
 ghost use Rattle.ecat_capture.specs.Classic.{format_of, header_fault, record_of};
+ghost use Rattle.ecat_capture.specs.Progress.{IsRefusal};
 
 use crate::fault::CaptureFaultKind;
 use crate::order::Order;
@@ -48,6 +49,7 @@ pub(crate) fn check_header(format: Format, header: &[u8]) -> Result<(), CaptureF
     requires { length header.now ≡ HEADER_LEN }
     ensures ok { OnOk result (header_fault format header.now ≡ None) }
     ensures err { IfErr result (λ kind. header_fault format header.now ≡ Some kind) }
+    ensures refusal { IfErr result IsRefusal }
 {
     let order = format.order;
     if order.half(header, 4) != VERSION.0 || order.half(header, 6) != VERSION.1 {

@@ -30,10 +30,16 @@
 //! most the longest piece (1 MiB) and one read (64 KiB), and 64 interfaces.
 
 mod blocks;
+mod capture;
 mod classic;
+mod ethernet;
 mod fault;
 mod order;
 mod packet;
+mod pieces;
 mod window;
+
+pub use capture::{Capture, Step};
+pub use ethernet::{Payload, frame_type, payload_of};
 pub use fault::{CaptureFault, CaptureFaultKind};
 pub use packet::{Packet, Time};
