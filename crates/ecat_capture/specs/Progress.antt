@@ -224,7 +224,7 @@ pub record Steps (old new : Progress) (told : Step) : Type 0 where
   pub number : new.number ≡ number_behind old.number what
 
 -- Pieces that are no packets were taken, one after another.
-data pub Passes : Progress → Progress → Type 0 where
+pub data Passes : Progress → Progress → Type 0 where
   none : {old : Progress} → Passes old old
   more : {old between new : Progress} → Passes old between → Steps between new step.Other → Passes old new
 

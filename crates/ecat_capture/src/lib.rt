@@ -43,3 +43,6 @@ pub use capture::{Capture, Step};
 pub use ethernet::{Payload, frame_type, payload_of};
 pub use fault::{CaptureFault, CaptureFaultKind};
 pub use packet::{Packet, Time};
+
+#[cfg(test)]
+mod tests;
