@@ -42,10 +42,10 @@ block_order section bytes =
 unfoldable pub length_fault : ℕ → Option CaptureFaultKind
 length_fault size =
     first_of (
-      (nat_lt size 12, fault.BlockLength)
-      ∷ (not (size % 4 == 0), fault.BlockLength)
-      ∷ (nat_lt greatest_block size, fault.TooLong)
-      ∷ []
+    (nat_lt size 12, fault.BlockLength)
+    ∷ (not (size % 4 == 0), fault.BlockLength)
+    ∷ (nat_lt greatest_block size, fault.TooLong)
+    ∷ []
     )
 
 -- a whole block, behind blocks of a section of the first order; its own numbers have the second
@@ -153,10 +153,10 @@ timed (Some ticks) per_second =
 unfoldable pub packet_fault : Interface → ℕ → Fields → Option CaptureFaultKind
 packet_fault interface size fields =
     first_of (
-      (not (interface.link_type == 1), fault.LinkType)
-      ∷ (nat_lt greatest_packet fields.captured, fault.TooLong)
-      ∷ (nat_lt size (fields.from + padded fields.captured + 4), fault.Overrun)
-      ∷ []
+    (not (interface.link_type == 1), fault.LinkType)
+    ∷ (nat_lt greatest_packet fields.captured, fault.TooLong)
+    ∷ (nat_lt size (fields.from + padded fields.captured + 4), fault.Overrun)
+    ∷ []
     )
 
 -- the packet that has these fields and a time, or what is wrong with its time

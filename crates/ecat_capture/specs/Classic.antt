@@ -29,9 +29,9 @@ per_second format = if format.nanoseconds then 1000000000 else 1000000
 unfoldable pub header_fault : Format → List ℕ → Option CaptureFaultKind
 header_fault format bytes =
     first_of (
-      (not (half format.order 4 bytes == 2) || not (half format.order 6 bytes == 4), Version)
-      ∷ (not (word format.order 20 bytes == 1), LinkType)
-      ∷ []
+    (not (half format.order 4 bytes == 2) || not (half format.order 6 bytes == 4), Version)
+    ∷ (not (word format.order 20 bytes == 1), LinkType)
+    ∷ []
     )
 
 -- a header; time zone, accuracy and greatest length, in bytes 8 to 19, may be anything

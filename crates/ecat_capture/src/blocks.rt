@@ -256,7 +256,11 @@ fn simple_fields(order: Order, limit: u32, block: &[u8]) -> Fields
     Fields {
         interface: 0,
         ticks: None,
-        captured: if limit == 0 { original } else { original.min(limit) },
+        captured: if limit == 0 {
+            original
+        } else {
+            original.min(limit)
+        },
         original,
         from: 12,
     }
@@ -306,11 +310,7 @@ fn interface_at(interfaces: &[Interface], number: u32) -> Option<Interface>
 
 /// Says whether a packet of this interface may have these fields in a block of this length.
 #[tactic(auto, unfolding(crate::specs::Blocks::packet_fault))]
-fn check_packet(
-    interface: Interface,
-    size: usize,
-    fields: Fields,
-) -> Result<(), CaptureFaultKind>
+fn check_packet(interface: Interface, size: usize, fields: Fields) -> Result<(), CaptureFaultKind>
     requires { fields.from ≤ 28 }
     ensures ok { OnOk result (packet_fault interface size fields ≡ None) }
     ensures err { IfErr result (λ kind. packet_fault interface size fields ≡ Some kind) }

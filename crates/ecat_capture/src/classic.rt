@@ -68,7 +68,11 @@ pub(crate) fn record_of(format: Format, bytes: &[u8]) -> Found
     ensures { result ≡ record_of format bytes.now }
 {
     let order = format.order;
-    let per_second: u64 = if format.nanoseconds { 1_000_000_000 } else { 1_000_000 };
+    let per_second: u64 = if format.nanoseconds {
+        1_000_000_000
+    } else {
+        1_000_000
+    };
     let ticks = u64::from(order.word(bytes, 0)) * per_second + u64::from(order.word(bytes, 4));
     Found {
         time: Some(Time::of(per_second, ticks)),

@@ -77,10 +77,7 @@ fn take_start<S: Source>(window: &mut Window<S>) -> Result<Piece, CaptureFaultKi
 }
 
 // Takes the header of a classic capture, whose first four bytes are loaded.
-fn take_header<S: Source>(
-    format: Format,
-    window: &mut Window<S>,
-) -> Result<Piece, CaptureFaultKind>
+fn take_header<S: Source>(format: Format, window: &mut Window<S>) -> Result<Piece, CaptureFaultKind>
     requires loaded { 4 ≤ length window.old.loaded }
     requires magic { format_of (word Little 0 (take 4 window.old.loaded)) ≡ Some format }
     ensures piece { IfOk result (TakesPiece Start [] window.old window.new) }
@@ -96,10 +93,7 @@ fn take_header<S: Source>(
 }
 
 // Takes a record of a classic capture, if the bytes don't end in front of it.
-fn take_record<S: Source>(
-    format: Format,
-    window: &mut Window<S>,
-) -> Result<Piece, CaptureFaultKind>
+fn take_record<S: Source>(format: Format, window: &mut Window<S>) -> Result<Piece, CaptureFaultKind>
     ensures piece { IfOk result (TakesPiece (Records format) [] window.old window.new) }
     ensures err { IfErr result (Explains (IsCutRecord format) (RecordIsRefused format)
         window.old window.new) }
@@ -192,7 +186,7 @@ fn take_loaded<S: Source>(
     ensures err { IfErr result (Explains
         (λ bytes. IsSameStart window.old.loaded bytes × IsCutBlock section bytes)
         (λ kind front. IsSameStart window.old.loaded front
-            × BlockIsRefused section interfaces.now kind front)
+        × BlockIsRefused section interfaces.now kind front)
         window.old window.new) }
     ensures monotone { window.old.count ≤ window.new.count }
 {
@@ -224,7 +218,7 @@ fn take_sized<S: Source>(
     ensures err { IfErr result (Explains
         (λ bytes. IsSameStart window.old.loaded bytes × IsCutBlock section bytes)
         (λ kind front. IsSameStart window.old.loaded front
-            × BlockIsRefused section interfaces.now kind front)
+        × BlockIsRefused section interfaces.now kind front)
         window.old window.new) }
     ensures monotone { window.old.count ≤ window.new.count }
 {

@@ -58,13 +58,7 @@ fn expect_fault<S: Source>(
 }
 
 /// Of these bytes the first packet is refused so, at this place.
-fn expect_refusal(
-    rt: &impl Abort,
-    alloc: Global,
-    bytes: &[u8],
-    kind: CaptureFaultKind,
-    at: u64,
-) {
+fn expect_refusal(rt: &impl Abort, alloc: Global, bytes: &[u8], kind: CaptureFaultKind, at: u64) {
     let mut capture = Capture::new(alloc, Bytes::new(bytes));
     expect_fault(rt, &mut capture, kind, at);
 }

@@ -2,27 +2,26 @@
 use super::{expect_end, expect_fault, expect_packet, expect_refusal};
 use crate::{Capture, CaptureFaultKind, Packet, Step, Time};
 use ecat_source::{Bytes, Pieces};
+use std::alloc::{AllocError, Global};
 use std::test::Fail;
 
 /// A section header, little endian, of unknown length.
-const SECTION: [u8; 28] = [
+static SECTION: [u8; 28] = [
     0x0a, 0x0d, 0x0d, 0x0a, 28, 0, 0, 0, 0x4d, 0x3c, 0x2b, 0x1a, 1, 0, 0, 0, //
     0xff, 0xff, 0xff, 0xff, 0xff, 0xff, 0xff, 0xff, 28, 0, 0, 0,
 ];
 
 /// An interface of Ethernet with no limit, which counts microseconds.
-const INTERFACE: [u8; 20] = [
-    1, 0, 0, 0, 20, 0, 0, 0, 1, 0, 0, 0, 0, 0, 0, 0, 20, 0, 0, 0,
-];
+static INTERFACE: [u8; 20] = [1, 0, 0, 0, 20, 0, 0, 0, 1, 0, 0, 0, 0, 0, 0, 0, 20, 0, 0, 0];
 
 /// An interface of Ethernet that counts nanoseconds: a name "e0" with padding, the resolution, the end.
-const FINE_INTERFACE: [u8; 40] = [
+static FINE_INTERFACE: [u8; 40] = [
     1, 0, 0, 0, 40, 0, 0, 0, 1, 0, 0, 0, 0, 0, 0, 0, //
     2, 0, 2, 0, b'e', b'0', 0, 0, 9, 0, 1, 0, 9, 0, 0, 0, 0, 0, 0, 0, 40, 0, 0, 0,
 ];
 
 /// A packet of five bytes of interface 0, at 2^32 + 2,000,001 ticks, with a comment "hi".
-const PACKET: [u8; 52] = [
+static PACKET: [u8; 52] = [
     6, 0, 0, 0, 52, 0, 0, 0, 0, 0, 0, 0, 1, 0, 0, 0, 0x81, 0x84, 0x1e, 0, 5, 0, 0, 0, 5, 0, 0, 0, //
     1, 2, 3, 4, 5, 0, 0, 0, 1, 0, 2, 0, b'h', b'i', 0, 0, 0, 0, 0, 0, 52, 0, 0, 0,
 ];
@@ -42,21 +41,21 @@ const NANO: Time = Time {
 };
 
 /// A block of a type that nobody knows.
-const UNKNOWN: [u8; 16] = [0xad, 0x0b, 0, 0x40, 16, 0, 0, 0, 7, 7, 7, 7, 16, 0, 0, 0];
+static UNKNOWN: [u8; 16] = [0xad, 0x0b, 0, 0x40, 16, 0, 0, 0, 7, 7, 7, 7, 16, 0, 0, 0];
 
 /// A simple packet of five bytes.
-const SIMPLE: [u8; 24] = [
+static SIMPLE: [u8; 24] = [
     3, 0, 0, 0, 24, 0, 0, 0, 5, 0, 0, 0, 1, 2, 3, 4, 5, 0, 0, 0, 24, 0, 0, 0,
 ];
 
 /// A packet of five bytes of interface 0 in an obsolete packet block, two packets dropped before it.
-const OBSOLETE: [u8; 40] = [
+static OBSOLETE: [u8; 40] = [
     2, 0, 0, 0, 40, 0, 0, 0, 0, 0, 2, 0, 1, 0, 0, 0, 0x81, 0x84, 0x1e, 0, 5, 0, 0, 0, 5, 0, 0, 0, //
     1, 2, 3, 4, 5, 0, 0, 0, 40, 0, 0, 0,
 ];
 
 /// A section header, an interface and a packet of five bytes at 16 + 2^32 ticks, big endian.
-const BIG: [u8; 88] = [
+static BIG: [u8; 88] = [
     0x0a, 0x0d, 0x0d, 0x0a, 0, 0, 0, 28, 0x1a, 0x2b, 0x3c, 0x4d, 0, 1, 0, 0, //
     0xff, 0xff, 0xff, 0xff, 0xff, 0xff, 0xff, 0xff, 0, 0, 0, 28, //
     0, 0, 0, 1, 0, 0, 0, 20, 0, 1, 0, 0, 0, 0, 0, 0, 0, 0, 0, 20, //
@@ -64,30 +63,32 @@ const BIG: [u8; 88] = [
     1, 2, 3, 4, 5, 0, 0, 0, 0, 0, 0, 40,
 ];
 
-/// Joins blocks to a file.
-macro_rules! file_of {
-    ($alloc:expr, $($block:expr),+) => {{
-        let mut file = Vec::new($alloc);
-        $(file.extend_from_slice(&$block)?;)+
-        file
-    }};
+/// A file of these blocks.
+fn file_of(alloc: Global, blocks: &[&[u8]]) -> Result<Vec<u8>, AllocError> {
+    let mut file = Vec::new(alloc);
+    for block in blocks {
+        file.extend_from_slice(block)?;
+    }
+    Ok(file)
 }
 
 #[test]
 fn blocks_of_each_type(rt: HostRuntime) -> Result<(), Fail> {
-    let file = file_of!(
+    let file = file_of(
         rt.alloc(),
-        SECTION,
-        INTERFACE,
-        UNKNOWN,
-        PACKET,
-        SIMPLE,
-        OBSOLETE,
-        SECTION,
-        FINE_INTERFACE,
-        PACKET,
-        BIG
-    );
+        &[
+            &SECTION,
+            &INTERFACE,
+            &UNKNOWN,
+            &PACKET,
+            &SIMPLE,
+            &OBSOLETE,
+            &SECTION,
+            &FINE_INTERFACE,
+            &PACKET,
+            &BIG,
+        ],
+    )?;
     let five = [1, 2, 3, 4, 5];
     let far = Time {
         seconds: 4294,
@@ -109,7 +110,7 @@ fn blocks_of_each_type(rt: HostRuntime) -> Result<(), Fail> {
 
 #[test]
 fn each_block_is_a_step(rt: HostRuntime) -> Result<(), Fail> {
-    let file = file_of!(rt.alloc(), SECTION, INTERFACE, UNKNOWN, SIMPLE);
+    let file = file_of(rt.alloc(), &[&SECTION, &INTERFACE, &UNKNOWN, &SIMPLE])?;
     let mut capture = Capture::new(rt.alloc(), Bytes::new(&file));
     for place in [28, 48, 64] {
         assert_eq!(rt; capture.step(), Ok(Step::Other));
@@ -128,7 +129,7 @@ fn each_block_is_a_step(rt: HostRuntime) -> Result<(), Fail> {
 
 #[test]
 fn every_cut_is_short_at_its_block(rt: HostRuntime) -> Result<(), Fail> {
-    let file = file_of!(rt.alloc(), SECTION, INTERFACE, PACKET);
+    let file = file_of(rt.alloc(), &[&SECTION, &INTERFACE, &PACKET])?;
     for length in 0..100 {
         let mut capture = Capture::new(rt.alloc(), Pieces::new(&file[..length], 9));
         if length == 28 || length == 48 {
@@ -164,7 +165,7 @@ fn faults_of_blocks(rt: HostRuntime) -> Result<(), Fail> {
         (71, 1, CaptureFaultKind::TooLong, 48),
         (96, 48, CaptureFaultKind::BlockLength, 48),
     ] {
-        let mut file = file_of!(rt.alloc(), SECTION, INTERFACE, PACKET);
+        let mut file = file_of(rt.alloc(), &[&SECTION, &INTERFACE, &PACKET])?;
         file[place] = value;
         expect_refusal(&rt, rt.alloc(), &file, kind, at);
     }
@@ -173,7 +174,7 @@ fn faults_of_blocks(rt: HostRuntime) -> Result<(), Fail> {
 
 #[test]
 fn a_packet_fills_its_block_and_no_more(rt: HostRuntime) -> Result<(), Fail> {
-    let mut file = file_of!(rt.alloc(), SECTION, INTERFACE, PACKET);
+    let mut file = file_of(rt.alloc(), &[&SECTION, &INTERFACE, &PACKET])?;
     file[68] = 21;
     expect_refusal(&rt, rt.alloc(), &file, CaptureFaultKind::Overrun, 48);
     file[68] = 20;
@@ -188,7 +189,7 @@ fn a_packet_fills_its_block_and_no_more(rt: HostRuntime) -> Result<(), Fail> {
 
 #[test]
 fn a_simple_packet_is_snapped(rt: HostRuntime) -> Result<(), Fail> {
-    let mut file = file_of!(rt.alloc(), SECTION, INTERFACE, SIMPLE);
+    let mut file = file_of(rt.alloc(), &[&SECTION, &INTERFACE, &SIMPLE])?;
     file[40] = 3;
     let mut capture = Capture::new(rt.alloc(), Bytes::new(&file));
     match capture.next() {
@@ -213,7 +214,7 @@ fn resolutions_of_two_powers(rt: HostRuntime) -> Result<(), Fail> {
         (0x81, 2_148_483_648, 500_000_000, false),
         (0x92, 16_391, 629_398_345, false),
     ] {
-        let mut file = file_of!(rt.alloc(), SECTION, FINE_INTERFACE, PACKET);
+        let mut file = file_of(rt.alloc(), &[&SECTION, &FINE_INTERFACE, &PACKET])?;
         file[56] = resolution;
         let mut capture = Capture::new(rt.alloc(), Bytes::new(&file));
         let time = Time {
@@ -224,7 +225,7 @@ fn resolutions_of_two_powers(rt: HostRuntime) -> Result<(), Fail> {
         expect_packet(&rt, &mut capture, 1, Some(time), &[1, 2, 3, 4, 5]);
     }
     for resolution in [10, 0x7f, 0xa3, 0xff] {
-        let mut file = file_of!(rt.alloc(), SECTION, FINE_INTERFACE, PACKET);
+        let mut file = file_of(rt.alloc(), &[&SECTION, &FINE_INTERFACE, &PACKET])?;
         file[56] = resolution;
         expect_refusal(&rt, rt.alloc(), &file, CaptureFaultKind::TimeResolution, 68);
     }
@@ -233,7 +234,7 @@ fn resolutions_of_two_powers(rt: HostRuntime) -> Result<(), Fail> {
 
 #[test]
 fn sixty_four_interfaces_and_no_more(rt: HostRuntime) -> Result<(), Fail> {
-    let mut file = file_of!(rt.alloc(), SECTION);
+    let mut file = file_of(rt.alloc(), &[&SECTION])?;
     for _ in 0..64 {
         file.extend_from_slice(&INTERFACE)?;
     }
@@ -241,6 +242,12 @@ fn sixty_four_interfaces_and_no_more(rt: HostRuntime) -> Result<(), Fail> {
     expect_end(&rt, capture.next());
     drop(capture);
     file.extend_from_slice(&INTERFACE)?;
-    expect_refusal(&rt, rt.alloc(), &file, CaptureFaultKind::TooManyInterfaces, 1308);
+    expect_refusal(
+        &rt,
+        rt.alloc(),
+        &file,
+        CaptureFaultKind::TooManyInterfaces,
+        1308,
+    );
     Ok(())
 }

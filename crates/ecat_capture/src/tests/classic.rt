@@ -2,25 +2,27 @@
 use super::{expect_end, expect_fault, expect_packet, expect_refusal};
 use crate::{Capture, CaptureFaultKind, Time};
 use ecat_source::{Bytes, FailsAt, Pieces};
+use std::alloc::Global;
+use std::process::Abort;
 use std::test::Fail;
 
 /// The header of a little-endian capture with microseconds.
-const LITTLE: [u8; 24] = [
+static LITTLE: [u8; 24] = [
     0xd4, 0xc3, 0xb2, 0xa1, 2, 0, 4, 0, 0, 0, 0, 0, 0, 0, 0, 0, 0, 0, 4, 0, 1, 0, 0, 0,
 ];
 
 /// The header of a big-endian capture with microseconds.
-const BIG: [u8; 24] = [
+static BIG: [u8; 24] = [
     0xa1, 0xb2, 0xc3, 0xd4, 0, 2, 0, 4, 0, 0, 0, 0, 0, 0, 0, 0, 0, 4, 0, 0, 0, 0, 0, 1,
 ];
 
 /// A record of a packet of three bytes, at 0x01020304 s and 0x000a0b0c units, little endian.
-const LITTLE_RECORD: [u8; 19] = [
+static LITTLE_RECORD: [u8; 19] = [
     4, 3, 2, 1, 0x0c, 0x0b, 0x0a, 0, 3, 0, 0, 0, 3, 0, 0, 0, 0xaa, 0xbb, 0xcc,
 ];
 
 /// That record, big endian.
-const BIG_RECORD: [u8; 19] = [
+static BIG_RECORD: [u8; 19] = [
     1, 2, 3, 4, 0, 0x0a, 0x0b, 0x0c, 0, 0, 0, 3, 0, 0, 0, 3, 0xaa, 0xbb, 0xcc,
 ];
 
@@ -48,23 +50,60 @@ fn file_of(magic: [u8; 4], header: &[u8; 24], record: &[u8; 19]) -> [u8; 62] {
     file
 }
 
+/// A file of this kind has the record twice, at this time.
+fn expect_kind(
+    rt: &impl Abort,
+    alloc: Global,
+    magic: [u8; 4],
+    header: &[u8; 24],
+    record: &[u8; 19],
+    time: Time,
+) {
+    let file = file_of(magic, header, record);
+    for most in [1, 3, 7, 62] {
+        let mut capture = Capture::new(alloc, Pieces::new(&file, most));
+        expect_packet(rt, &mut capture, 1, Some(time), &[0xaa, 0xbb, 0xcc]);
+        expect_packet(rt, &mut capture, 2, Some(time), &[0xaa, 0xbb, 0xcc]);
+        expect_end(rt, capture.next());
+        expect_end(rt, capture.next());
+    }
+}
+
 #[test]
 fn four_kinds_are_read(rt: HostRuntime) {
-    for (magic, header, record, time) in [
-        ([0xd4, 0xc3, 0xb2, 0xa1], LITTLE, LITTLE_RECORD, MICRO),
-        ([0x4d, 0x3c, 0xb2, 0xa1], LITTLE, LITTLE_RECORD, NANO),
-        ([0xa1, 0xb2, 0xc3, 0xd4], BIG, BIG_RECORD, MICRO),
-        ([0xa1, 0xb2, 0x3c, 0x4d], BIG, BIG_RECORD, NANO),
-    ] {
-        let file = file_of(magic, &header, &record);
-        for most in [1, 3, 7, 62] {
-            let mut capture = Capture::new(rt.alloc(), Pieces::new(&file, most));
-            expect_packet(&rt, &mut capture, 1, Some(time), &[0xaa, 0xbb, 0xcc]);
-            expect_packet(&rt, &mut capture, 2, Some(time), &[0xaa, 0xbb, 0xcc]);
-            expect_end(&rt, capture.next());
-            expect_end(&rt, capture.next());
-        }
-    }
+    let alloc = rt.alloc();
+    expect_kind(
+        &rt,
+        alloc,
+        [0xd4, 0xc3, 0xb2, 0xa1],
+        &LITTLE,
+        &LITTLE_RECORD,
+        MICRO,
+    );
+    expect_kind(
+        &rt,
+        alloc,
+        [0x4d, 0x3c, 0xb2, 0xa1],
+        &LITTLE,
+        &LITTLE_RECORD,
+        NANO,
+    );
+    expect_kind(
+        &rt,
+        alloc,
+        [0xa1, 0xb2, 0xc3, 0xd4],
+        &BIG,
+        &BIG_RECORD,
+        MICRO,
+    );
+    expect_kind(
+        &rt,
+        alloc,
+        [0xa1, 0xb2, 0x3c, 0x4d],
+        &BIG,
+        &BIG_RECORD,
+        NANO,
+    );
 }
 
 #[test]
@@ -98,7 +137,13 @@ fn header_faults_come_in_order(rt: HostRuntime) {
     expect_refusal(&rt, rt.alloc(), &file, CaptureFaultKind::Version, 0);
     file[0] = 0xd5;
     expect_refusal(&rt, rt.alloc(), &file, CaptureFaultKind::NotCapture, 0);
-    expect_refusal(&rt, rt.alloc(), b"PK\x03\x04 and more", CaptureFaultKind::NotCapture, 0);
+    expect_refusal(
+        &rt,
+        rt.alloc(),
+        b"PK\x03\x04 and more",
+        CaptureFaultKind::NotCapture,
+        0,
+    );
     expect_refusal(&rt, rt.alloc(), b"", CaptureFaultKind::Short, 0);
 }
 

@@ -4,7 +4,7 @@ use ecat_source::Bytes;
 use std::test::Fail;
 
 /// A classic capture of one EtherCAT frame with a BRD datagram.
-const FILE: [u8; 70] = [
+static FILE: [u8; 70] = [
     0xd4, 0xc3, 0xb2, 0xa1, 2, 0, 4, 0, 0, 0, 0, 0, 0, 0, 0, 0, 0xff, 0xff, 0, 0, 1, 0, 0, 0, //
     0, 0, 0, 0, 0, 0, 0, 0, 30, 0, 0, 0, 30, 0, 0, 0, //
     0, 0, 0, 0, 0, 0, 0, 0, 0, 0, 0, 0, 0x88, 0xa4, //

@@ -1,43 +1,68 @@
 //! What of a packet is EtherCAT, by the layouts of Ethernet, IPv4, IPv6 and UDP.
 use super::assert_same;
 use crate::{Payload, frame_type, payload_of};
+use std::alloc::{AllocError, Global};
 use std::test::Fail;
 
 /// Two addresses.
-const ADDRESSES: [u8; 12] = [1, 1, 5, 4, 0, 0, 2, 1, 5, 0x10, 0, 0];
+static ADDRESSES: [u8; 12] = [1, 1, 5, 4, 0, 0, 2, 1, 5, 0x10, 0, 0];
 
 /// An IPv4 header of 34 bytes in all: UDP, not in pieces.
-const IPV4: [u8; 20] = [
+static IPV4: [u8; 20] = [
     0x45, 0, 0, 34, 0, 0, 0x40, 0, 64, 17, 0, 0, 192, 168, 0, 1, 192, 168, 0, 2,
 ];
 
 /// A UDP header of 14 bytes in all, to port 34980.
-const UDP: [u8; 8] = [0xc0, 0, 0x88, 0xa4, 0, 14, 0, 0];
+static UDP: [u8; 8] = [0xc0, 0, 0x88, 0xa4, 0, 14, 0, 0];
 
 /// An IPv6 header of 14 bytes of UDP.
-const IPV6: [u8; 40] = [
+static IPV6: [u8; 40] = [
     0x60, 0, 0, 0, 0, 14, 17, 64, 0xfe, 0x80, 0, 0, 0, 0, 0, 0, 0, 0, 0, 0, 0, 0, 0, 1, //
     0xfe, 0x80, 0, 0, 0, 0, 0, 0, 0, 0, 0, 0, 0, 0, 0, 2,
 ];
 
-/// Joins parts to a packet.
-macro_rules! packet_of {
-    ($alloc:expr, $($part:expr),+) => {{
-        let mut packet = Vec::from_slice($alloc, &ADDRESSES)?;
-        $(packet.extend_from_slice(&$part)?;)+
-        packet
-    }};
+/// A packet of two addresses and these parts.
+fn packet_of(alloc: Global, parts: &[&[u8]]) -> Result<Vec<u8>, AllocError> {
+    let mut packet = Vec::from_slice(alloc, &ADDRESSES)?;
+    for part in parts {
+        packet.extend_from_slice(part)?;
+    }
+    Ok(packet)
 }
 
 #[test]
 fn ethertype_behind_up_to_two_tags(rt: HostRuntime) -> Result<(), Fail> {
-    let plain = packet_of!(rt.alloc(), [0x88, 0xa4], [1, 2, 3]);
-    assert_same(&rt, payload_of(&plain), Payload::Ethernet { from: 14, to: 17 });
-    let tagged = packet_of!(rt.alloc(), [0x81, 0, 0xe0, 5], [0x88, 0xa4], [1, 2, 3]);
-    assert_same(&rt, payload_of(&tagged), Payload::Ethernet { from: 18, to: 21 });
-    let twice = packet_of!(rt.alloc(), [0x88, 0xa8, 0, 5, 0x81, 0, 0, 6], [0x88, 0xa4]);
-    assert_same(&rt, payload_of(&twice), Payload::Ethernet { from: 22, to: 22 });
-    let thrice = packet_of!(rt.alloc(), [0x81, 0, 0, 5, 0x81, 0, 0, 6, 0x81, 0], [0, 7, 0x88, 0xa4]);
+    let plain = packet_of(rt.alloc(), &[&[0x88, 0xa4], &[1, 2, 3]])?;
+    assert_same(
+        &rt,
+        payload_of(&plain),
+        Payload::Ethernet { from: 14, to: 17 },
+    );
+    let tagged = packet_of(
+        rt.alloc(),
+        &[&[0x81, 0, 0xe0, 5], &[0x88, 0xa4], &[1, 2, 3]],
+    )?;
+    assert_same(
+        &rt,
+        payload_of(&tagged),
+        Payload::Ethernet { from: 18, to: 21 },
+    );
+    let twice = packet_of(
+        rt.alloc(),
+        &[&[0x88, 0xa8, 0, 5, 0x81, 0, 0, 6], &[0x88, 0xa4]],
+    )?;
+    assert_same(
+        &rt,
+        payload_of(&twice),
+        Payload::Ethernet { from: 22, to: 22 },
+    );
+    let thrice = packet_of(
+        rt.alloc(),
+        &[
+            &[0x81, 0, 0, 5, 0x81, 0, 0, 6, 0x81, 0],
+            &[0, 7, 0x88, 0xa4],
+        ],
+    )?;
     assert_same(&rt, payload_of(&thrice), Payload::Other);
     assert_same(&rt, payload_of(&ADDRESSES), Payload::Short);
     assert_same(&rt, payload_of(&tagged[..17]), Payload::Short);
@@ -46,9 +71,16 @@ fn ethertype_behind_up_to_two_tags(rt: HostRuntime) -> Result<(), Fail> {
 
 #[test]
 fn udp_over_ipv4(rt: HostRuntime) -> Result<(), Fail> {
-    let mut packet = packet_of!(rt.alloc(), [8, 0], IPV4, UDP, [1, 2, 3, 4, 5, 6], [0; 12]);
+    let mut packet = packet_of(
+        rt.alloc(),
+        &[&[8, 0], &IPV4, &UDP, &[1, 2, 3, 4, 5, 6], &[0; 12]],
+    )?;
     assert_same(&rt, payload_of(&packet), Payload::Udp { from: 42, to: 48 });
-    assert_same(&rt, payload_of(&packet[..45]), Payload::Udp { from: 42, to: 45 });
+    assert_same(
+        &rt,
+        payload_of(&packet[..45]),
+        Payload::Udp { from: 42, to: 45 },
+    );
     assert_same(&rt, payload_of(&packet[..41]), Payload::Short);
     packet[34..38].copy_from_slice(&[0x88, 0xa4, 0, 53]);
     assert_same(&rt, payload_of(&packet), Payload::Udp { from: 42, to: 48 });
@@ -66,7 +98,10 @@ fn udp_over_ipv4(rt: HostRuntime) -> Result<(), Fail> {
 
 #[test]
 fn options_of_ipv4_are_passed_over(rt: HostRuntime) -> Result<(), Fail> {
-    let mut packet = packet_of!(rt.alloc(), [8, 0], IPV4, [1, 1, 1, 0], UDP, [1, 2, 3, 4, 5, 6]);
+    let mut packet = packet_of(
+        rt.alloc(),
+        &[&[8, 0], &IPV4, &[1, 1, 1, 0], &UDP, &[1, 2, 3, 4, 5, 6]],
+    )?;
     packet[14] = 0x46;
     assert_same(&rt, payload_of(&packet), Payload::Udp { from: 46, to: 52 });
     Ok(())
@@ -74,7 +109,7 @@ fn options_of_ipv4_are_passed_over(rt: HostRuntime) -> Result<(), Fail> {
 
 #[test]
 fn pieces_of_ipv4_are_told(rt: HostRuntime) -> Result<(), Fail> {
-    let mut packet = packet_of!(rt.alloc(), [8, 0], IPV4, UDP, [1, 2, 3, 4, 5, 6]);
+    let mut packet = packet_of(rt.alloc(), &[&[8, 0], &IPV4, &UDP, &[1, 2, 3, 4, 5, 6]])?;
     packet[20] = 0x20;
     assert_same(&rt, payload_of(&packet), Payload::Fragment);
     packet[36] = 0;
@@ -86,9 +121,21 @@ fn pieces_of_ipv4_are_told(rt: HostRuntime) -> Result<(), Fail> {
 
 #[test]
 fn udp_over_ipv6(rt: HostRuntime) -> Result<(), Fail> {
-    let packet = packet_of!(rt.alloc(), [0x86, 0xdd], IPV6, UDP, [1, 2, 3, 4, 5, 6]);
+    let packet = packet_of(
+        rt.alloc(),
+        &[&[0x86, 0xdd], &IPV6, &UDP, &[1, 2, 3, 4, 5, 6]],
+    )?;
     assert_same(&rt, payload_of(&packet), Payload::Udp { from: 62, to: 68 });
-    let mut piece = packet_of!(rt.alloc(), [0x86, 0xdd], IPV6, [17, 0, 0, 0, 0, 0, 0, 9], UDP, [1; 6]);
+    let mut piece = packet_of(
+        rt.alloc(),
+        &[
+            &[0x86, 0xdd],
+            &IPV6,
+            &[17, 0, 0, 0, 0, 0, 0, 9],
+            &UDP,
+            &[1; 6],
+        ],
+    )?;
     piece[20] = 44;
     assert_same(&rt, payload_of(&piece), Payload::Udp { from: 70, to: 76 });
     piece[57] = 1;

@@ -5,7 +5,7 @@ use ecat_source::{Bytes, Pieces};
 use std::test::Fail;
 
 /// The header of a classic capture, and a record of one byte.
-const FILE: [u8; 41] = [
+static FILE: [u8; 41] = [
     0xd4, 0xc3, 0xb2, 0xa1, 2, 0, 4, 0, 0, 0, 0, 0, 0, 0, 0, 0, 0, 0, 4, 0, 1, 0, 0, 0, //
     7, 0, 0, 0, 0, 0, 0, 0, 1, 0, 0, 0, 1, 0, 0, 0, 0x5a,
 ];

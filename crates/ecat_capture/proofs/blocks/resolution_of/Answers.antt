@@ -13,17 +13,17 @@ loop-init c = rw sub-zero refl
 pub returns-in-End : goal.returns-in-End
 returns-in-End c =
     sym (
-      c.loop.invariant
-      ∙ resolution-ends (length c.args.options.now) c.loop.counter c.args.order c.loop.rest.now
-      c.loop-test.true (sym c.next_option.ensures.value ∙ c.in-End.is)
+    c.loop.invariant
+    ∙ resolution-ends (length c.args.options.now) c.loop.counter c.args.order c.loop.rest.now
+    c.loop-test.true (sym c.next_option.ensures.value ∙ c.in-End.is)
     )
 
 pub returns-in-Resolution : goal.returns-in-Resolution
 returns-in-Resolution c =
     sym (
-      c.loop.invariant
-      ∙ resolution-found (length c.args.options.now) c.loop.counter c.args.order c.loop.rest.now
-      c.loop-test.true c.in-Resolution.value (sym c.next_option.ensures.value ∙ c.in-Resolution.is)
+    c.loop.invariant
+    ∙ resolution-found (length c.args.options.now) c.loop.counter c.args.order c.loop.rest.now
+    c.loop-test.true c.in-Resolution.value (sym c.next_option.ensures.value ∙ c.in-Resolution.is)
     )
 
 pub loop-preserved : goal.loop-preserved

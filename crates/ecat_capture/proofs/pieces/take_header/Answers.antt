@@ -24,9 +24,9 @@ returns-in_err-check_header-clause-err g c =
     let p = err_from_is_err_and c.from_residual-in_err-check_header.result
     c.from_residual-in_err-check_header.ensures.1 in
     let magic = ap format_of (
-      ap (word Little 0) c.front.ensures.value
-      ∙ word-first c.args.window.now c.fill.new.self f.same f.front f.more Little 0 4 24 (omega arith)
-      (omega arith) c.requires.loaded
+    ap (word Little 0) c.front.ensures.value
+    ∙ word-first c.args.window.now c.fill.new.self f.same f.front f.more Little 0 4 24 (omega arith)
+    (omega arith) c.requires.loaded
     ) ∙ c.requires.magic in
     rw (p.1, p.2)
     (Explains-refused IsCutStart StartIsRefused c.args.window.now c.fill.new.self _ c.front.result.now
@@ -40,8 +40,8 @@ returns-clause-piece g c =
     let some : c.fill.result ≡ Ok true = cc in
     let many : 24 ≤ length c.fill.new.self.loaded = c.fill.ensures.loaded some in
     let magic = ap format_of (
-      word-first c.args.window.now c.fill.new.self f.same f.front f.more Little 0 4 24 (omega arith)
-      (omega arith) c.requires.loaded
+    word-first c.args.window.now c.fill.new.self f.same f.front f.more Little 0 4 24 (omega arith)
+    (omega arith) c.requires.loaded
     ) ∙ c.requires.magic in
     let good = rw c.front.ensures.value at c.in_ok-check_header.ensures.ok in
     takes-front c.args.window.now c.fill.new.self f.same f.front f.more

@@ -24,10 +24,12 @@ returns-in_err-check_length-clause-err g c =
     (Explains-refused (λ (bytes : List ℕ). IsSameStart c.args.window.now.loaded bytes × IsCutBlock c.args.section bytes)
     (λ (kind : CaptureFaultKind) (front : List ℕ). IsSameStart c.args.window.now.loaded front
     × BlockIsRefused c.args.section c.args.interfaces.now kind front)
-    c.args.window.now c.args.window.now _ c.front-front.result.now c.in_err-check_length.ensures.refusal
-    (rw c.front-front.ensures.value start, inr (inl (
-      c.in-Some.order,
-      sym c.block_order.ensures ∙ c.in-Some.is,
-      rw c.word-size.ensures at c.in_err-check_length.ensures.err,
-    )))
+    c.args.window.now c.args.window.now _ c.front-front.result.now c.in_err-check_length.ensures.refusal (
+      rw c.front-front.ensures.value start,
+      inr (inl (
+        c.in-Some.order,
+        sym c.block_order.ensures ∙ c.in-Some.is,
+        rw c.word-size.ensures at c.in_err-check_length.ensures.err,
+      )),
+    )
     c.front-front.ensures.begins)

@@ -33,9 +33,10 @@ returns-in_err-body-clause-err g c =
     (Explains-refused (λ (bytes : List ℕ). IsSameStart c.args.window.now.loaded bytes × IsCutBlock c.args.section bytes)
     (λ (kind : CaptureFaultKind) (front : List ℕ). IsSameStart c.args.window.now.loaded front
     × BlockIsRefused c.args.section c.args.interfaces.now kind front)
-    c.args.window.now c.fill.new.self _ c.front.result.now c.in_err-body.ensures.refusal
-    (rw c.front.ensures.value start,
-    inr (inr (c.args.order, rw c.front.ensures.value block, sym c.in_err-body.ensures.value)))
+    c.args.window.now c.fill.new.self _ c.front.result.now c.in_err-body.ensures.refusal (
+      rw c.front.ensures.value start,
+      inr (inr (c.args.order, rw c.front.ensures.value block, sym c.in_err-body.ensures.value)),
+    )
     (begins-first c.args.window.now c.fill.new.self f.same f.front f.more _ c.front.ensures.begins))
 
 pub returns-clause-body : goal.returns-clause-body
