@@ -4,7 +4,7 @@ use Rattle.std.specs.Prelude.{ℕ, Bool, true, false, ◌++◌, List, codes, if�
 use Rattle.std.specs.Fmt.{decimal}
 use Rattle.ec_esc.specs.Application.{al_status, al_status_code}
 use Rattle.ec_esc.specs.State.{ControllerState}
-use Rattle.ecat.specs.Words.{hexadecimal}
+use Rattle.ecat_text.specs.Words.{hexadecimal}
 use Rattle.ecat.specs.declared.slave_lines.SlaveText.{SlaveText}
 
 -- a link

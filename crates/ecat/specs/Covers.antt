@@ -8,7 +8,7 @@ use Rattle.ec_map.specs.declared.covered.Way.TheVariants.{Reads, Writes}
 use Rattle.ec_map.specs.declared.not_shown.NotShown.{NotShown}
 use Rattle.ec_map.specs.declared.not_shown.WhyNotShown.{WhyNotShown}
 use Rattle.ec_map.specs.declared.not_shown.WhyNotShown.TheVariants.{LeftBy, NeverCompleted}
-use Rattle.ecat.specs.Words.{hexadecimal}
+use Rattle.ecat_text.specs.Words.{hexadecimal}
 
 -- a bit of the logical image: its byte address, eight digits, and its number in that byte
 unfoldable pub place_words : ℕ → List ℕ

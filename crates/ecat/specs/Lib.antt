@@ -1,16 +1,10 @@
-pub mod Areas
-pub mod Cables
 pub mod Commands
 pub mod Controls
 pub mod Covers
-pub mod Cycles
 pub mod Failures
-pub mod Judgements
-pub mod Objects
 pub mod Packets
-pub mod Refusals
 pub mod Rows
 pub mod Services
 pub mod SteppingTrips
 pub mod Sweeps
-pub mod Words
+pub mod Values

@@ -11,7 +11,7 @@ use Rattle.ec_wire.specs.declared.fault.FaultKind.TheVariants.{Short, BadType, R
 use Rattle.ec_wire.specs.declared.fault.FaultKind.TheVariants.{BadCommand, Overrun, MoreAtEnd, LeftOver}
 use Rattle.ec_wire.specs.declared.fault.FaultKind.TheVariants.{Trailing}
 use Rattle.ec_wire.specs.declared.fault.WireFault.{WireFault}
-use Rattle.ecat.specs.Words.{hexadecimal}
+use Rattle.ecat_text.specs.Words.{hexadecimal}
 use Rattle.ecat.specs.declared.show.DatagramHead.{DatagramHead}
 
 -- the kind of a fault by its name

@@ -1,8 +1,8 @@
 -- What is printed of a sweep: a line for each of its cycles, and how many had which verdict.
 use Rattle.std.specs.Prelude.{ℕ, ◌++◌, List, codes}
 use Rattle.std.specs.Fmt.{decimal}
-use Rattle.ecat.specs.Cables.{missing_words, port_words}
-use Rattle.ecat.specs.Cycles.{verdict_words}
+use Rattle.ecat_text.specs.Cables.{missing_words, port_words}
+use Rattle.ecat_text.specs.Cycles.{verdict_words}
 use Rattle.ecat.specs.declared.sweep.Case.{Case}
 use Rattle.ecat.specs.declared.sweep.Case.TheVariants.{Whole, Link, Links, Lost}
 use Rattle.ecat.specs.declared.sweep.Sums.{Sums}

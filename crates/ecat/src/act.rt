@@ -14,17 +14,9 @@ use crate::where_broken::where_broken;
 use ecat_args::Args;
 use ecat_scene::SceneFault;
 use ecat_source::{PcapFault, Source};
+use ecat_text::{FAILED, REFUSED};
 use std::alloc::Global;
 use std::io::{self, Write};
-
-/// All is well.
-pub const GOOD: u8 = 0;
-
-/// The content was refused.
-pub const REFUSED: u8 = 1;
-
-/// The source, the output or memory failed.
-const FAILED: u8 = 3;
 
 /// Why a command ends before its output does.
 #[derive(Drop)]

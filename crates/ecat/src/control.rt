@@ -3,9 +3,7 @@
 
 ghost use Rattle.std.specs.Prelude.{◌≡◌, OnErr};
 
-use crate::act::{Failure, GOOD, report};
-use crate::print::Lines;
-use crate::run::print_areas;
+use crate::act::{Failure, report};
 use crate::serve::{Service, most_packets, print_counts, print_end, print_where};
 use crate::slave_lines::print_line;
 use ec_ring::Ring;
@@ -14,6 +12,7 @@ use ecat_scene::{BenchCommand, CommandFault, LineFault, SlaveName};
 use ecat_serve::{
     BenchFault, Console, Counts, Ends, InputLine, LINE_ROOM, Served, Unwatched, Watch,
 };
+use ecat_text::{GOOD, Lines, print_areas};
 use std::alloc::Global;
 use std::fmt;
 use std::io::{self, Write};

@@ -3,13 +3,12 @@
 ghost use Rattle.std.specs.Prelude.{Some};
 ghost use Rattle.ecat.specs.Covers.{gap_words, not_shown_words, place_words};
 
-use crate::act::{Failure, GOOD, REFUSED};
-use crate::check::refuse;
+use crate::act::Failure;
 use crate::line::{scene_of, slaves_of};
-use crate::print::Lines;
 use ec_app::Slave;
 use ec_map::{Gap, Item, NotShown, Way, WhyNotShown, first_not_shown, first_uncovered};
 use ecat_source::Source;
+use ecat_text::{GOOD, Lines, REFUSED, refuse};
 use std::alloc::Global;
 use std::fmt;
 use std::io::{self, Write};

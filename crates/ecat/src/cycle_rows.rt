@@ -3,12 +3,12 @@
 use crate::act::Failure;
 use crate::cycle::{cycle, work_of};
 use crate::line::{ring_of, scene_of, weathers_of};
-use crate::print::Lines;
 use crate::scene_rows::{ROOM, THREE, prints, written};
 use ec_merge::join_frames;
 use ec_ring::{Came, Links, MAX_LINKS, Travel, Weather};
 use ec_wire::{Form, FrameBuf};
 use ecat_source::Bytes;
+use ecat_text::Lines;
 use std::alloc::Global;
 use std::io::Cursor;
 

@@ -1,55 +1,13 @@
 //! What `--judge` prints of a cycle: which items are short, whose copies are lost, where the cable is broken.
 
-ghost use Rattle.std.specs.Prelude.{◌≡◌, Some, length};
-ghost use Rattle.ecat.specs.Judgements.{count_words, copies_words};
+ghost use Rattle.std.specs.Prelude.{◌≡◌, length};
 
 use crate::act::Failure;
-use crate::cable::print_break;
-use crate::cycle::print_verdict;
-use crate::print::Lines;
 use ec_diag::{Located, probe};
-use ec_master::{CopiesBack, Ports, Report, Reporting, Verdict, Work, run_cycle};
+use ec_master::{Ports, Report, Reporting, Verdict, Work, run_cycle};
 use ec_ring::{Ring, Travel, Weather};
-use std::fmt;
+use ecat_text::{Lines, print_break, print_counts, print_losses, print_verdict};
 use std::io::{self, Write};
-
-/// How often an item was counted, as it is printed.
-#[derive(Drop)]
-struct CountText {
-    item: usize,
-    came: u16,
-    wanted: u16,
-}
-
-impl fmt::Display for CountText {
-    ghost output = { λ count. Some (count_words count) };
-
-    fn fmt<W: fmt::Write>(&self, f: &mut fmt::Formatter<W>) -> fmt::Result {
-        let CountText { item, came, wanted } = *self;
-        write!(f, "item {item}: came {came} of {wanted}")
-    }
-}
-
-/// Which copies of a frame came back, as it is printed.
-#[derive(Drop)]
-struct CopiesText {
-    frame: usize,
-    copies: CopiesBack,
-}
-
-impl fmt::Display for CopiesText {
-    ghost output = { λ text. Some (copies_words text) };
-
-    fn fmt<W: fmt::Write>(&self, f: &mut fmt::Formatter<W>) -> fmt::Result {
-        let frame = self.frame;
-        match (self.copies.a, self.copies.b) {
-            (true, true) => write!(f, "frame {frame}: both back"),
-            (true, false) => write!(f, "frame {frame}: A back, B lost"),
-            (false, true) => write!(f, "frame {frame}: A lost, B back"),
-            (false, false) => write!(f, "frame {frame}: both lost"),
-        }
-    }
-}
 
 /// Does one cycle over ports and prints its verdict. Where it is not good, prints a line for each item that
 /// did not count as wanted, and one for each frame whose copies did not both come back.
@@ -68,39 +26,6 @@ pub fn judged_cycle<P: Ports, W: Write>(
         print_losses(ports.report(), lines)?;
     }
     Ok(verdict)
-}
-
-/// Prints a line for each item that did not count as wanted.
-fn print_counts<W: Write>(
-    report: &Report,
-    expected: &[u16],
-    lines: &mut Lines<'_, W>,
-) -> io::Result<()> {
-    for (item, (came, wanted)) in report.counts().iter().zip(expected).enumerate() {
-        if came != wanted {
-            lines.text(CountText {
-                item,
-                came: *came,
-                wanted: *wanted,
-            })?;
-            lines.end()?;
-        }
-    }
-    Ok(())
-}
-
-/// Prints a line for each frame whose copies did not both come back.
-fn print_losses<W: Write>(report: &Report, lines: &mut Lines<'_, W>) -> io::Result<()> {
-    for (frame, copies) in report.copies().iter().enumerate() {
-        if !copies.a || !copies.b {
-            lines.text(CopiesText {
-                frame,
-                copies: *copies,
-            })?;
-            lines.end()?;
-        }
-    }
-    Ok(())
 }
 
 /// Prints where the cable is broken that a cycle with this report went over, by one more frame in the weather

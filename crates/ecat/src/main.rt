@@ -2,7 +2,6 @@
 #![tactic(auto)]
 
 mod act;
-mod cable;
 mod carry;
 mod check;
 mod control;
@@ -12,7 +11,6 @@ mod cycle_rows;
 mod frame_rows;
 mod judge;
 mod line;
-mod print;
 mod run;
 mod scene_rows;
 mod sdo;
@@ -31,6 +29,7 @@ use control::act_control;
 use ecat_args::{Args, ArgsFault};
 use ecat_serve::UdpEnds;
 use ecat_source::{Bytes, Counted, Source};
+use ecat_text::BAD_ARGUMENTS;
 use ecat_udp::UdpLine;
 use serve::{Service, act_serve, ring_to_serve, unbound};
 use std::net::Net;
@@ -38,9 +37,6 @@ use std::process::ExitCode;
 use std::rt::{Env, Files, Stdin};
 use std::{env, fs, io};
 use udp::{Wanted, act_udp, prepare_udp};
-
-/// The words of the command line are no command.
-const BAD_ARGUMENTS: u8 = 2;
 
 fn main(rt: HostRuntime) -> ExitCode {
     ExitCode::from(start(&rt, rt.stdin(), &mut rt.stdout(), &mut rt.stderr()))

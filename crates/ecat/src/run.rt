@@ -1,41 +1,17 @@
 //! `ecat run`: the actions of a scene, its cycle, and what its slaves show then.
 
-ghost use Rattle.std.specs.Prelude.{Some};
-ghost use Rattle.ecat.specs.Areas.{area_words};
-
-use crate::act::{Failure, GOOD, REFUSED};
+use crate::act::Failure;
 use crate::carry::carry;
-use crate::check::refuse;
-use crate::cycle::{cycle, print_items, status_of, work_of};
+use crate::cycle::{cycle, work_of};
 use crate::judge::{judged_cycle, print_cable};
 use crate::line::{ring_of, scene_of, weathers_of};
-use crate::print::Lines;
-use ec_app::Slave;
 use ec_master::{Reporting, WeatherPorts, Work, all_expected};
-use ec_regs::registers::SYNC_MANAGER_COUNT;
 use ec_ring::{Ring, Weather};
 use ecat_scene::Action;
 use ecat_source::Source;
+use ecat_text::{GOOD, Lines, REFUSED, print_areas, print_items, refuse, status_of};
 use std::alloc::Global;
-use std::fmt;
-use std::io::{self, Write};
-
-/// The line of an area, as far as its bytes.
-#[derive(Drop)]
-struct AreaHead {
-    slave: usize,
-    manager: usize,
-}
-
-impl fmt::Display for AreaHead {
-    ghost output = { λ area. Some (area_words area) };
-
-    fn fmt<W: fmt::Write>(&self, f: &mut fmt::Formatter<W>) -> fmt::Result {
-        let slave = self.slave;
-        let manager = self.manager;
-        write!(f, "slave {slave} sm {manager} open ")
-    }
-}
+use std::io::Write;
 
 /// Runs the scene that the source holds: its frames and steps in their order; if it has items, one cycle of
 /// them, where the line as it then is and the items are accepted; then a line for each active buffered area
@@ -90,14 +66,6 @@ fn judged<W: Write>(
     Ok(status_of(verdict))
 }
 
-/// Prints a line for each active buffered area of the slaves that the master writes.
-pub fn print_areas<W: Write>(line: &[Slave], lines: &mut Lines<'_, W>) -> io::Result<()> {
-    for (number, slave) in line.iter().enumerate() {
-        areas(number, slave, lines)?;
-    }
-    Ok(())
-}
-
 /// Does one action, and prints the frame that it carries.
 fn act_on<W: Write>(
     ring: &mut Ring,
@@ -112,25 +80,6 @@ fn act_on<W: Write>(
             };
             lines.bytes(b"frame ")?;
             lines.hex(joined.bytes())?;
-            lines.end()?;
-        }
-    }
-    Ok(())
-}
-
-/// The line of each active buffered area of a slave that the master writes.
-fn areas<W: Write>(number: usize, slave: &Slave, lines: &mut Lines<'_, W>) -> io::Result<()> {
-    let controller = slave.controller();
-    for index in 0..SYNC_MANAGER_COUNT {
-        let manager = controller.syncman(index);
-        if manager.guards_outputs() {
-            lines.text(AreaHead {
-                slave: number,
-                manager: index,
-            })?;
-            lines.hex(controller.bytes(manager.start, manager.length))?;
-            lines.text(" shown ")?;
-            lines.hex(controller.shown_bytes(manager.start, manager.length))?;
             lines.end()?;
         }
     }

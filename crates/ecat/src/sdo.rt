@@ -1,25 +1,23 @@
 //! `ecat sdo`: one object of a slave, read or written by mail.
 
-ghost use Rattle.std.specs.Prelude.{◌≡◌, IfSome, IfOk, Some};
+ghost use Rattle.std.specs.Prelude.{◌≡◌, IfSome};
 ghost use Rattle.ec_services.specs.Mailbox.{IsPeer};
-ghost use Rattle.ecat.specs.Objects.{fault_words, trips_words, value_of, value_words};
+ghost use Rattle.ecat.specs.Values.{value_of};
 
-use crate::act::{Failure, GOOD, REFUSED};
-use crate::line::{ring_of, scene_of, weathers_of};
-use crate::print::Lines;
+use crate::act::Failure;
+use crate::line::{ring_of, scene_of, slaves_of, weathers_of};
 use crate::stepping_ports::SteppingPorts;
 use ec_app::roles::{ANSWER_MAILBOX, REQUEST_MAILBOX, is_answer_mailbox, is_request_mailbox};
 use ec_app::{Slave, Value};
-use ec_master::RingPorts;
+use ec_master::{Ports, RingPorts};
 use ec_regs::SyncMan;
-use ec_ring::{Ring, Weather};
 use ec_services::{
     Area, MasterFault, Peer, download_surely, sdo_download, sdo_upload, upload_surely,
 };
 use ecat_scene::Scene;
 use ecat_source::Source;
+use ecat_text::{FaultText, Lines, REFUSED, TripsText, print_line, print_read, print_written};
 use std::alloc::Global;
-use std::fmt;
 use std::io::{self, Write};
 
 /// The most reads of the mailbox of answers.
@@ -66,8 +64,28 @@ where
     }
     let ring = ring_of(alloc, scene.slaves, scene.links_down.as_slice())?;
     let status = match peer_at(ring.slaves(), asked.station) {
-        None => print(FaultText(MasterFault::NoSlave), REFUSED, &mut lines)?,
-        Some(peer) => transfer(ring, peer, asked, &mut lines)?,
+        None => print_line(FaultText(MasterFault::NoSlave), REFUSED, &mut lines)?,
+        Some(peer) => transfer(&mut RingPorts::new(ring), peer, asked, &mut lines)?,
+    };
+    Ok(status)
+}
+
+/// Reads or writes an object of a slave of a line somewhere else, over these ports, as `sdo` does; the scene
+/// that the source holds says where the slave's mailboxes are.
+pub fn sdo_far<P: Ports, S: Source, W: Write>(
+    alloc: Global,
+    asked: &Asked,
+    ports: &mut P,
+    source: &mut S,
+    out: &mut W,
+) -> Result<u8, Failure> {
+    let scene = scene_of(alloc, source)?;
+    let line = slaves_of(alloc, scene.slaves)?;
+    let mut lines = Lines::new(out);
+    let status = match peer_at(line.as_slice(), asked.station) {
+        None => print_line(FaultText(MasterFault::NoSlave), REFUSED, &mut lines)?,
+        Some(peer) if asked.surely => transfer_surely(ports, peer, asked, &mut lines)?,
+        Some(peer) => transfer(ports, peer, asked, &mut lines)?,
     };
     Ok(status)
 }
@@ -86,7 +104,7 @@ fn sdo_surely<W: Write, V: Write>(
     let peer = peer_at(ring.slaves(), asked.station);
     let mut ports = SteppingPorts::new(ring, weathers.as_slice());
     let status = match peer {
-        None => print(FaultText(MasterFault::NoSlave), REFUSED, lines)?,
+        None => print_line(FaultText(MasterFault::NoSlave), REFUSED, lines)?,
         Some(peer) => transfer_surely(&mut ports, peer, asked, lines)?,
     };
     let trips = TripsText(ports.made());
@@ -145,29 +163,28 @@ fn peer_at(line: &[Slave], station: u16) -> Option<Peer>
     None
 }
 
-/// Reads or writes the object over the ring, and prints what came of it.
-fn transfer<W: Write>(
-    ring: Ring,
+/// Reads or writes the object over ports, and prints what came of it.
+fn transfer<P: Ports, W: Write>(
+    ports: &mut P,
     mut peer: Peer,
     asked: &Asked,
     lines: &mut Lines<'_, W>,
 ) -> io::Result<u8>
     requires { IsPeer peer }
 {
-    let mut ports = RingPorts::new(ring);
     let Asked { index, sub, .. } = *asked;
     match asked.value {
-        None => print_read(sdo_upload(&mut ports, &mut peer, index, sub, LIMIT), lines),
+        None => print_read(sdo_upload(ports, &mut peer, index, sub, LIMIT), lines),
         Some(value) => print_written(
-            sdo_download(&mut ports, &mut peer, index, sub, value, LIMIT),
+            sdo_download(ports, &mut peer, index, sub, value, LIMIT),
             lines,
         ),
     }
 }
 
 /// Reads or writes the object, whatever copies are lost, and prints what came of it.
-fn transfer_surely<W: Write>(
-    ports: &mut SteppingPorts<'_>,
+fn transfer_surely<P: Ports, W: Write>(
+    ports: &mut P,
     mut peer: Peer,
     asked: &Asked,
     lines: &mut Lines<'_, W>,
@@ -182,90 +199,4 @@ fn transfer_surely<W: Write>(
             lines,
         ),
     }
-}
-
-/// Prints what came of an object that was read, and answers the exit status.
-fn print_read<W: Write>(
-    read: Result<Value, MasterFault>,
-    lines: &mut Lines<'_, W>,
-) -> io::Result<u8> {
-    match read {
-        Ok(value) => print(ValueText(value), GOOD, lines),
-        Err(fault) => print(FaultText(fault), REFUSED, lines),
-    }
-}
-
-/// Prints what came of an object that was written, and answers the exit status.
-fn print_written<W: Write>(
-    written: Result<(), MasterFault>,
-    lines: &mut Lines<'_, W>,
-) -> io::Result<u8> {
-    match written {
-        Ok(()) => print("written", GOOD, lines),
-        Err(fault) => print(FaultText(fault), REFUSED, lines),
-    }
-}
-
-/// A value as it is printed, with two digits for each of its bytes.
-#[derive(Drop)]
-struct ValueText(Value);
-
-impl fmt::Display for ValueText {
-    ghost output = { λ text. Some (value_words text.0) };
-
-    fn fmt<W: fmt::Write>(&self, f: &mut fmt::Formatter<W>) -> fmt::Result {
-        match self.0 {
-            Value::One(number) => write!(f, "value 0x{number:02x}"),
-            Value::Two(number) => write!(f, "value 0x{number:04x}"),
-            Value::Four(number) => write!(f, "value 0x{number:08x}"),
-        }
-    }
-}
-
-/// Why there is no result, as it is printed.
-#[derive(Drop)]
-struct FaultText(MasterFault);
-
-impl fmt::Display for FaultText {
-    ghost output = { λ text. Some (fault_words text.0) };
-
-    fn fmt<W: fmt::Write>(&self, f: &mut fmt::Formatter<W>) -> fmt::Result {
-        match self.0 {
-            MasterFault::Abort(code) => write!(f, "abort 0x{code:08x}"),
-            MasterFault::NoSlave => write!(f, "fault NoSlave"),
-            MasterFault::Refused(_) => write!(f, "fault Refused"),
-            MasterFault::NoAnswer => write!(f, "fault NoAnswer"),
-            MasterFault::BadAnswer => write!(f, "fault BadAnswer"),
-            MasterFault::Broken => write!(f, "fault Broken"),
-            MasterFault::Port => write!(f, "fault Port"),
-            MasterFault::Stranger => write!(f, "fault Stranger"),
-        }
-    }
-}
-
-/// How many trips were made, as it is printed.
-#[derive(Drop)]
-struct TripsText(u32);
-
-impl fmt::Display for TripsText {
-    ghost output = { λ text. Some (trips_words text.0) };
-
-    #[tactic(auto, unfolding(crate::specs::Objects::trips_words))]
-    fn fmt<W: fmt::Write>(&self, f: &mut fmt::Formatter<W>) -> fmt::Result {
-        let made = self.0;
-        write!(f, "trips {made}")
-    }
-}
-
-/// Prints a line, and answers the status that is handed to it.
-fn print<T: fmt::Display + Drop, W: Write>(
-    text: T,
-    status: u8,
-    lines: &mut Lines<'_, W>,
-) -> io::Result<u8>
-    ensures { IfOk result (λ answer. answer ≡ status) }
-{
-    lines.text(text)?;
-    lines.end()?;
-    Ok(status)
 }

@@ -5,15 +5,14 @@ ghost use Rattle.ecat.specs.Failures.{unbound};
 ghost use Rattle.ecat.specs.Services.{address_words, awaits_input, counts_words, most_packets, where_of};
 ghost use Rattle.ecat.specs.Services.{where_words};
 
-use crate::act::{Failure, GOOD, report};
+use crate::act::{Failure, report};
 use crate::line::{ring_of, scene_for_packets};
-use crate::print::Lines;
-use crate::run::print_areas;
 use ec_master::PortFault;
 use ec_ring::Ring;
 use ecat_log::Log;
 use ecat_serve::{BindFault, Counts, Ends, Served, Unwatched, Watch};
 use ecat_source::Source;
+use ecat_text::{GOOD, Lines, print_areas};
 use std::alloc::Global;
 use std::fmt;
 use std::io::{self, Write};

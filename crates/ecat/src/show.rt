@@ -3,10 +3,10 @@ ghost use Rattle.std.specs.Prelude.{◌≡◌, ◌<◌, Some, length};
 ghost use Rattle.ec_wire.specs.Datagram.{nth};
 ghost use Rattle.ecat.specs.Packets.{datagram_words, head_of, kind_words, wire_fault_words};
 
-use crate::act::{Failure, GOOD, REFUSED};
-use crate::print::Lines;
+use crate::act::Failure;
 use ec_wire::{Addressing, Command, FaultKind, Form, FrameBuf, WireFault, ado_of, adp_of};
 use ecat_source::{Pcap, Source};
+use ecat_text::{GOOD, Lines, REFUSED};
 use std::alloc::Global;
 use std::fmt;
 use std::io::{self, Write};

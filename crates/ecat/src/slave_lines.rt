@@ -10,11 +10,11 @@ ghost use Rattle.ec_ring.specs.declared.links.TheConstants.{MAX_SLAVES};
 ghost use Rattle.ecat.specs.Controls.{active_words, beside_words, error_of, four_digits, link_words};
 ghost use Rattle.ecat.specs.Controls.{name_words, slave_words, status_words};
 
-use crate::print::Lines;
 use ec_app::Slave;
 use ec_esc::Controller;
 use ec_regs::registers::{FMMU_COUNT, SYNC_MANAGER_COUNT};
 use ec_ring::{Links, Ring, Travel};
+use ecat_text::Lines;
 use std::fmt;
 use std::io::{self, Write};
 

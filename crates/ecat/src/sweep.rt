@@ -3,19 +3,17 @@
 ghost use Rattle.std.specs.Prelude.{Some};
 ghost use Rattle.ecat.specs.Sweeps.{case_words, sums_words, swept_words};
 
-use crate::act::{Failure, GOOD, REFUSED};
-use crate::cable::{Missing, PortText, missing_of};
+use crate::act::Failure;
 use crate::carry::carry;
-use crate::check::refuse;
-use crate::cycle::{VerdictText, work_of};
+use crate::cycle::work_of;
 use crate::line::{put, ring_of, scene_of};
-use crate::print::Lines;
 use ec_diag::locate_ring;
 use ec_master::{MAX_ITEMS, Verdict, Work, all_expected, weather_cycle};
 use ec_ring::{Came, Links, Port, Ring, Travel, Weather};
 use ec_wire::FrameBuf;
 use ecat_scene::{Action, Scene};
 use ecat_source::Source;
+use ecat_text::{GOOD, Lines, Missing, PortText, REFUSED, VerdictText, missing_of, refuse};
 use std::alloc::Global;
 use std::fmt;
 use std::io::{self, Write};

@@ -2,18 +2,16 @@
 
 ghost use Rattle.std.specs.Prelude.{◌≡◌, length};
 
-use crate::act::{Failure, GOOD, REFUSED, report};
-use crate::check::refuse;
-use crate::cycle::{print_items, print_verdict, status_of, work_of};
+use crate::act::{Failure, report};
+use crate::cycle::work_of;
 use crate::judge::{judged_cycle, print_cable};
 use crate::line::{ring_of, scene_for_packets};
-use crate::print::Lines;
-use crate::run::print_areas;
 use ec_map::Item;
 use ec_master::{CycleFault, Reporting, Work, all_expected, run_cycle};
 use ec_ring::Ring;
 use ecat_source::Source;
 use ecat_udp::{PacketLine, UdpPorts};
+use ecat_text::{GOOD, Lines, REFUSED, print_areas, print_items, print_verdict, refuse, status_of};
 use std::alloc::Global;
 use std::io::Write;
 

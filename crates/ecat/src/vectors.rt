@@ -4,7 +4,7 @@ ghost use Rattle.std.specs.Prelude.{◌≡◌, Some};
 ghost use Rattle.std.specs.List.{list_all};
 ghost use Rattle.ecat.specs.Rows.{row_words, rows_status};
 
-use crate::act::{Failure, GOOD, REFUSED};
+use crate::act::Failure;
 use crate::cycle_rows::{
     a_lost_copy_still_counts, gaps_are_short, no_slave_is_good, passing_twice_is_over,
     the_copy_that_came_back_counts,
@@ -14,7 +14,6 @@ use crate::frame_rows::{
     copies_are_joined, cut_frames_are_short, headers_are_tested_in_order, largest_frames_are_full,
     padding_is_for_ethernet_alone,
 };
-use crate::print::Lines;
 use crate::scene_rows::{
     a_full_mailbox_takes_no_mail, a_ring_of_one_turns_once, bits_are_taken_where_they_lie,
     broadcasts_reach_all, commands_of_one_frame_are_served, outputs_are_shown_whole,
@@ -25,6 +24,7 @@ use crate::slave_rows::{
     an_error_stands_until_acknowledged, mails_are_answered_once,
     states_are_refused_with_their_codes,
 };
+use ecat_text::{GOOD, Lines, REFUSED};
 use std::alloc::Global;
 use std::fmt;
 use std::io::Write;

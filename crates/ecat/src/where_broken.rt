@@ -1,12 +1,13 @@
 //! `ecat where`: where the cable of a scene is broken, and who is missing.
 
 use crate::act::Failure;
-use crate::cable::{print_break, print_copies};
-use crate::line::{ring_of, scene_of, weathers_of};
-use crate::print::Lines;
+use crate::line::{ring_of, scene_of, slaves_of, weathers_of};
+use ec_app::Slave;
 use ec_diag::{Located, probe};
-use ec_ring::{Ring, Travel, Weather};
+use ec_ring::{Arrivals, HeardPorts, Ring, Travel, Weather};
+use ec_wire::FrameBuf;
 use ecat_source::Source;
+use ecat_text::{Lines, print_break, print_copies};
 use std::alloc::Global;
 use std::io::{self, Write};
 
@@ -36,7 +37,34 @@ fn print_probe<W: Write>(
 ) -> io::Result<u8> {
     let sent = probe();
     let came = ring.arrivals(&sent, weather);
-    print_copies(&sent, &came, lines)?;
-    let located = Located::Unknown.and_arrivals(ring.slaves().len(), &sent, &came);
-    print_break(located, ring.slaves(), lines)
+    print_told(ring.slaves(), &sent, &came, lines)
+}
+
+/// Sends one frame over ports to a line somewhere else, whose slaves are those of the scene that the source
+/// holds, and prints where the copies came back and where the cable is broken.
+pub fn where_far<P: HeardPorts, S: Source, W: Write>(
+    alloc: Global,
+    ports: &mut P,
+    source: &mut S,
+    out: &mut W,
+) -> Result<u8, Failure> {
+    let scene = scene_of(alloc, source)?;
+    let line = slaves_of(alloc, scene.slaves)?;
+    let sent = probe();
+    let Ok(came) = ports.trip_heard(&sent) else {
+        return Err(Failure::Port);
+    };
+    Ok(print_told(line.as_slice(), &sent, &came, &mut Lines::new(out))?)
+}
+
+/// Prints the copies of a frame that came back, and what they tell of the cable of a line.
+fn print_told<W: Write>(
+    line: &[Slave],
+    sent: &FrameBuf,
+    came: &Arrivals,
+    lines: &mut Lines<'_, W>,
+) -> io::Result<u8> {
+    print_copies(sent, came, lines)?;
+    let located = Located::Unknown.and_arrivals(line.len(), sent, came);
+    print_break(located, line, lines)
 }

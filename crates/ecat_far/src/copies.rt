@@ -1,6 +1,6 @@
 //! Which packets are copies of a frame that was sent.
 
-ghost use Rattle.std.specs.Prelude.{◌≡◌, ◌≤◌, ◌<◌, ◌↔◌, ℕ, List, true, length, Some};
+ghost use Rattle.std.specs.Prelude.{◌≡◌, ◌≤◌, ◌<◌, ◌↔◌, ℕ, true, length, Some, IfSome};
 ghost use Rattle.ec_wire.specs.Datagram.{nth};
 ghost use Rattle.ec_merge.specs.Frames.{IsOwn};
 ghost use Rattle.ec_merge.specs.Rule.{distance};
@@ -25,7 +25,7 @@ pub(crate) fn copy_in(sent: &FrameBuf, packet: &[u8]) -> Option<FrameBuf>
 /// A frame, if it came of the sent one.
 fn own_copy(sent: &FrameBuf, copy: FrameBuf) -> Option<FrameBuf>
     ensures kept { CameOf sent.now copy → result ≡ Some copy }
-    ensures came { (xs : List DatagramRecord) → result ≡ Some xs → (xs ≡ copy) × CameOf sent.now copy }
+    ensures came { IfSome result (λ xs. (xs ≡ copy) × CameOf sent.now copy) }
 {
     if is_own(sent, &copy) && gained_little(sent, &copy) {
         Some(copy)

@@ -1,0 +1,96 @@
+//! Cycles over two ports, one after the other.
+
+ghost use Rattle.std.specs.Prelude.{◌≡◌, ◌≤◌, ◌<◌, ◌^◌, ◌-◌, length, Err};
+ghost use Rattle.ec_master.specs.declared.cycle.CycleFault.TheVariants.{Port};
+ghost use Rattle.std.specs.Option.{option_copied};
+ghost use Rattle.ecat_master.specs.Cycles.{IsCycle, begun_with, image_after};
+
+use crate::counts::Counts;
+use crate::outputs::Outputs;
+use ec_master::{CycleFault, Ports, Verdict, Work, run_cycle};
+use std::marker::Model;
+
+/// The most cycles: a count of 64 bits has no room for another one.
+pub const MOST_CYCLES: u64 = u64::MAX;
+
+/// A work that is done again and again: what is asked, the image of the last good cycle if there was one, and
+/// how many cycles there were.
+#[derive(Drop)]
+pub struct Cycles {
+    asked: Work,
+    image: Option<Work>,
+    counts: Counts,
+}
+
+impl Model for Cycles {
+    ghost use Rattle.ecat_master.specs.Cycles.{CyclesState};
+
+    ghost Value = { CyclesState };
+
+    ghost view = { λ c. record { asked = c.asked; image = c.image; counts = c.counts } };
+}
+
+impl Cycles {
+    /// A work of which no cycle was made.
+    pub fn new(work: Work) -> Cycles
+        ensures { result ≡ begun_with work }
+    {
+        Cycles {
+            asked: work,
+            image: None,
+            counts: Counts::none(),
+        }
+    }
+
+    /// What the items brought back in the last good cycle, if there was one.
+    pub fn image(&self) -> Option<&Work>
+        ensures { option_copied result ≡ self.now.image }
+    {
+        self.image.as_ref()
+    }
+
+    /// How many cycles there were, by their ends.
+    pub fn counts(&self) -> Counts
+        ensures { result ≡ self.now.counts }
+    {
+        self.counts
+    }
+
+    /// How many items are asked.
+    pub fn items(&self) -> usize
+        ensures { result ≡ length self.now.asked }
+    {
+        self.asked.len()
+    }
+
+    /// Makes one cycle: its outputs are put into the items, which begin the round of its number, and go out
+    /// over the ports (`run_cycle`). On a good verdict, and only then, the image is what they bring back.
+    pub fn cycle<P: Ports>(
+        &mut self,
+        ports: &mut P,
+        outputs: Outputs,
+        expected: &[u16],
+    ) -> Result<Verdict, CycleFault>
+        requires items { length expected.now ≡ length self.old.asked }
+        requires room { self.old.counts.cycles < 2 ^ 64 - 1 }
+        ensures cycle { IsCycle P.trips ports.old outputs expected.now self.old result self.new ports.new }
+        ensures counted { result ≡ Err Port → P.failed ports.old < P.failed ports.new }
+        ensures never_lower { P.failed ports.old ≤ P.failed ports.new }
+    {
+        let mut work = outputs.of(self.counts.cycles, &self.asked);
+        work.begin_round(self.counts.cycles);
+        let ended = run_cycle(ports, &mut work, expected);
+        self.counts = self.counts.with(ended);
+        self.take(ended, work);
+        ended
+    }
+
+    /// Takes the image of a good cycle.
+    fn take(&mut self, ended: Result<Verdict, CycleFault>, work: Work)
+        ensures { self.new ≡ record self.old { image = image_after ended self.old.image work } }
+    {
+        if ended == Ok(Verdict::Good) {
+            self.image = Some(work);
+        }
+    }
+}

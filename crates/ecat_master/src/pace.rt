@@ -1,0 +1,11 @@
+//! What goes on between two cycles.
+
+/// What goes on between two cycles: the time, and whether there is to be another one.
+pub trait Pace {
+    /// Waits until the next cycle is due; `false` where none is to come (so many were made, the input has
+    /// ended, the output closed).
+    fn next(&mut self) -> bool;
+
+    /// Microseconds since the pace began, never falling.
+    fn now(&mut self) -> u64;
+}

@@ -1,0 +1,340 @@
+//! What stands on a line, slave by slave.
+
+ghost use Rattle.std.specs.Prelude.{◌≡◌, ◌≤◌, ◌<◌, IfSome, IfOk, length};
+ghost use Rattle.ec_services.specs.Mailbox.{IsPeer};
+ghost use Rattle.ec_wire.specs.Datagram.{nth};
+
+use crate::ask::{one_counted, put, request};
+use crate::counting::count_slaves;
+use crate::print::Lines;
+use crate::startup::look_surely;
+use crate::watched::Watched;
+use crate::words::{put_cable, put_code, put_fault, state_name};
+use ec_app::Value;
+use ec_app::roles::{ANSWER_MAILBOX, REQUEST_MAILBOX, is_answer_mailbox, is_request_mailbox};
+use ec_diag::Located;
+use ec_master::Ports;
+use ec_regs::registers::{
+    AL_STATUS, FMMU_BASE, FMMU_COUNT, STATION_ADDRESS, SYNC_MANAGER_BASE, SYNC_MANAGER_COUNT,
+};
+use ec_regs::{AlState, AlStatus, Fmmu, SyncMan};
+use ec_ring::{HeardPorts, MAX_SLAVES};
+use ec_services::{Area, MasterFault, Peer, upload_surely};
+use ec_wire::{Command, FrameBuf, address_of};
+use std::io::{self, Write};
+
+/// The object that says who a slave is (IEC 61158-6-12, object dictionary): vendor, product.
+const IDENTITY: u16 = 0x1018;
+
+/// The most trips by which an object is read.
+const TRIPS: u32 = 64;
+
+/// The bytes of AL status, two reserved bytes and the AL status code.
+const STATUS_BYTES: usize = 6;
+
+/// The bytes of a sync manager's record.
+const MANAGER_BYTES: usize = 8;
+
+/// The bytes of an FMMU's record.
+const FMMU_BYTES: usize = 16;
+
+/// Why a scan has ended early.
+#[derive(Drop)]
+pub enum ScanEnd {
+    /// A line could not be written.
+    Output,
+    /// The slaves could not be counted, or the cable not be looked at.
+    Ask(MasterFault),
+}
+
+impl From<io::Error> for ScanEnd {
+    fn from(_error: io::Error) -> ScanEnd {
+        ScanEnd::Output
+    }
+}
+
+impl From<MasterFault> for ScanEnd {
+    fn from(fault: MasterFault) -> ScanEnd {
+        ScanEnd::Ask(fault)
+    }
+}
+
+/// What a slave shows of itself.
+#[derive(Clone, Copy)]
+struct Shown {
+    station: u16,
+    status: AlStatus,
+    code: u16,
+    managers: [SyncMan; SYNC_MANAGER_COUNT],
+    fmmus: [Fmmu; FMMU_COUNT],
+}
+
+/// Writes a line for each slave that is counted: its place, its station address, its AL state and error, its
+/// active sync managers and FMMUs, and who it is where it has mailboxes; before them how many there are and
+/// where the cable is broken. Behind a broken link with slaves on both sides a slave is read by its place
+/// only where no other answers with it; the line of another one says `BadAnswer`. It answers whether
+/// all could be read.
+pub fn scan<P: HeardPorts, W: Write>(
+    ports: &mut Watched<P>,
+    lines: &mut Lines<'_, W>,
+) -> Result<bool, ScanEnd> {
+    let count = count_slaves(ports)?;
+    lines.text("slaves ")?;
+    lines.number(u64::from(count))?;
+    lines.end()?;
+    let located = match look_surely(ports, usize::from(count)) {
+        Some(located) => located,
+        None => return Err(ScanEnd::Ask(MasterFault::Port)),
+    };
+    put_cable(located, &[], lines)?;
+    lines.end()?;
+    let mut all = true;
+    for place in 0..count {
+        all = scan_slave(ports, place, located, lines)? && all;
+    }
+    Ok(all)
+}
+
+/// Writes the line of one slave, and answers whether it could be read.
+fn scan_slave<P: HeardPorts, W: Write>(
+    ports: &mut Watched<P>,
+    place: u16,
+    located: Located,
+    lines: &mut Lines<'_, W>,
+) -> Result<bool, ScanEnd> {
+    lines.text("slave ")?;
+    lines.number(u64::from(place))?;
+    let read = match look(ports, way_to(place, located)) {
+        Err(MasterFault::Port) => return Err(ScanEnd::Ask(MasterFault::Port)),
+        Err(fault) => {
+            lines.text(" ")?;
+            put_fault(fault, lines)?;
+            false
+        }
+        Ok(shown) => {
+            put_shown(&shown, lines)?;
+            put_identity(ports, &shown, lines)?;
+            true
+        }
+    };
+    lines.end()?;
+    Ok(read)
+}
+
+/// How a slave is reached by its place.
+#[derive(Clone, Copy)]
+struct Way {
+    /// Its distance from where the copy that reaches it begins to be processed.
+    distance: u16,
+    /// Whether the frame circulates, so that no slave behind a broken link takes it.
+    circulating: bool,
+}
+
+/// How the slave at a place is reached, over a cable that is broken there.
+fn way_to(place: u16, located: Located) -> Way {
+    match located {
+        Located::One(link) if usize::from(place) >= link => Way {
+            distance: place - link as u16,
+            circulating: false,
+        },
+        Located::One(_) => Way {
+            distance: place,
+            circulating: true,
+        },
+        _ => Way {
+            distance: place,
+            circulating: false,
+        },
+    }
+}
+
+/// Reads a run of registers of one slave.
+fn read_at<P: Ports>(
+    ports: &mut P,
+    way: Way,
+    ado: u16,
+    count: usize,
+) -> Result<FrameBuf, MasterFault>
+    requires { count ≤ 128 }
+    ensures one { IfOk result (λ joined. length joined ≡ 1) }
+    ensures size { IfOk result (λ joined. length (nth joined 0).payload ≡ count) }
+{
+    let room = [0; 128];
+    let address = address_of(way.distance.wrapping_neg(), ado);
+    let mut sent = request(Command::Aprd, address, &room[..count]);
+    sent.circulating = way.circulating;
+    let answer = put(ports, &sent);
+    one_counted(&answer)?;
+    answer
+}
+
+/// Reads what a slave shows of itself.
+fn look<P: Ports>(ports: &mut P, way: Way) -> Result<Shown, MasterFault> {
+    let station = read_at(ports, way, STATION_ADDRESS, 2)?;
+    let status = read_at(ports, way, AL_STATUS, STATUS_BYTES)?;
+    let managers = read_at(
+        ports,
+        way,
+        SYNC_MANAGER_BASE,
+        MANAGER_BYTES * SYNC_MANAGER_COUNT,
+    )?;
+    let fmmus = read_at(ports, way, FMMU_BASE, FMMU_BYTES * FMMU_COUNT)?;
+    let station = station.data(0);
+    let status = status.data(0);
+    Ok(Shown {
+        station: u16::from_le_bytes([station[0], station[1]]),
+        status: AlStatus::of_byte(status[0]),
+        code: u16::from_le_bytes([status[4], status[5]]),
+        managers: managers_in(managers.data(0)),
+        fmmus: fmmus_in(fmmus.data(0)),
+    })
+}
+
+/// The records of the sync managers in these bytes.
+fn managers_in(bytes: &[u8]) -> [SyncMan; SYNC_MANAGER_COUNT]
+    requires { length bytes.now ≡ 64 }
+{
+    let mut managers = [SyncMan::read(&[0; MANAGER_BYTES]); SYNC_MANAGER_COUNT];
+    for number in 0..SYNC_MANAGER_COUNT {
+        let mut record = [0; MANAGER_BYTES];
+        let at = MANAGER_BYTES * number;
+        record.copy_from_slice(&bytes[at..at + MANAGER_BYTES]);
+        managers[number] = SyncMan::read(&record);
+    }
+    managers
+}
+
+/// The records of the FMMUs in these bytes.
+fn fmmus_in(bytes: &[u8]) -> [Fmmu; FMMU_COUNT]
+    requires { length bytes.now ≡ 128 }
+{
+    let mut fmmus = [Fmmu::read(&[0; FMMU_BYTES]); FMMU_COUNT];
+    for number in 0..FMMU_COUNT {
+        let mut record = [0; FMMU_BYTES];
+        let at = FMMU_BYTES * number;
+        record.copy_from_slice(&bytes[at..at + FMMU_BYTES]);
+        fmmus[number] = Fmmu::read(&record);
+    }
+    fmmus
+}
+
+/// Puts what a slave shows of itself.
+fn put_shown<W: Write>(shown: &Shown, lines: &mut Lines<'_, W>) -> io::Result<()> {
+    lines.text(" station ")?;
+    lines.word(shown.station)?;
+    lines.text(" state ")?;
+    lines.text(state_name(shown.status.state))?;
+    if shown.status.error {
+        lines.text(" error ")?;
+        put_code(shown.code, lines)?;
+    }
+    for (number, manager) in shown.managers.iter().enumerate() {
+        if manager.is_active() {
+            put_manager(number, manager, lines)?;
+        }
+    }
+    for (number, fmmu) in shown.fmmus.iter().enumerate() {
+        if fmmu.is_switched_on() {
+            put_fmmu(number, fmmu, lines)?;
+        }
+    }
+    Ok(())
+}
+
+/// Puts an active sync manager in the words of a scene.
+fn put_manager<W: Write>(
+    number: usize,
+    manager: &SyncMan,
+    lines: &mut Lines<'_, W>,
+) -> io::Result<()> {
+    lines.text(" sm ")?;
+    lines.number(number as u64)?;
+    lines.text(" ")?;
+    lines.word(manager.start)?;
+    lines.text(" ")?;
+    lines.number(u64::from(manager.length))?;
+    lines.text(match (manager.is_mailbox(), manager.master_writes()) {
+        (true, true) => " mailbox-write",
+        (true, false) => " mailbox-read",
+        (false, true) => " write",
+        (false, false) => " read",
+    })
+}
+
+/// Puts an FMMU that is switched on in the words of a scene.
+fn put_fmmu<W: Write>(number: usize, fmmu: &Fmmu, lines: &mut Lines<'_, W>) -> io::Result<()> {
+    lines.text(" fmmu ")?;
+    lines.number(number as u64)?;
+    lines.text(" ")?;
+    lines.long(fmmu.logical)?;
+    lines.text(" ")?;
+    lines.number(u64::from(fmmu.length))?;
+    lines.text(" ")?;
+    lines.number(u64::from(fmmu.start))?;
+    lines.text(" ")?;
+    lines.number(u64::from(fmmu.stop))?;
+    lines.text(" ")?;
+    lines.word(fmmu.physical)?;
+    lines.text(" ")?;
+    lines.number(u64::from(fmmu.bit))?;
+    lines.text(match (fmmu.reads(), fmmu.writes()) {
+        (true, true) => " both",
+        (true, false) => " read",
+        (false, true) => " write",
+        (false, false) => " nothing",
+    })
+}
+
+/// The area of a mailbox.
+fn area_of(manager: &SyncMan) -> Area
+    ensures { result.length ≡ manager.now.length }
+{
+    Area {
+        start: manager.start,
+        length: manager.length,
+    }
+}
+
+/// A slave as one with which mails are exchanged, if it has both mailboxes and answers mails in its state.
+#[tactic(auto, unfolding(ec_regs::specs::SyncMan::is_active))]
+fn peer_of(shown: &Shown) -> Option<Peer>
+    ensures { IfSome result IsPeer }
+{
+    let requests = shown.managers[REQUEST_MAILBOX];
+    let answers = shown.managers[ANSWER_MAILBOX];
+    if !is_request_mailbox(&requests) || !is_answer_mailbox(&answers) {
+        return None;
+    }
+    if shown.status.state == AlState::Init {
+        return None;
+    }
+    Some(Peer {
+        station: shown.station,
+        to: area_of(&requests),
+        from: area_of(&answers),
+        counter: 1,
+    })
+}
+
+/// Puts who a slave is, if it answers mails: its vendor and its product.
+fn put_identity<P: Ports, W: Write>(
+    ports: &mut P,
+    shown: &Shown,
+    lines: &mut Lines<'_, W>,
+) -> io::Result<()> {
+    let Some(mut peer) = peer_of(shown) else {
+        return Ok(());
+    };
+    for sub in [1, 2] {
+        lines.text(" 0x1018:")?;
+        lines.number(u64::from(sub))?;
+        lines.text(" ")?;
+        match upload_surely(ports, &mut peer, IDENTITY, sub, TRIPS) {
+            Ok(Value::One(value)) => lines.number(u64::from(value))?,
+            Ok(Value::Two(value)) => lines.word(value)?,
+            Ok(Value::Four(value)) => lines.long(value)?,
+            Err(fault) => put_fault(fault, lines)?,
+        }
+    }
+    Ok(())
+}

@@ -1,0 +1,317 @@
+//! What is told of cycles while they run.
+
+ghost use Rattle.std.specs.Prelude.{◌≡◌, ◌≤◌, length};
+
+use crate::counts::Counts;
+use crate::print::Lines;
+use crate::startup::look_surely;
+use crate::wanted::Wanted;
+use crate::watched::{Signs, Watched, Ways};
+use crate::words::put_cable;
+use ec_diag::Located;
+use ec_map::{Item, Kind};
+use ec_master::{CycleFault, Verdict, Work};
+use ec_ring::HeardPorts;
+use std::io::{self, Write};
+
+/// What a cycle showed. Of two cycles that showed the same only the first is told.
+#[derive(Clone, Copy, PartialEq, Eq, Debug)]
+struct Showing {
+    /// How it ended.
+    ended: Result<Verdict, CycleFault>,
+    /// How far the counter moved of the item that its verdict names.
+    came: u16,
+    /// What its copies told.
+    signs: Signs,
+}
+
+/// What was told of the cycles so far.
+#[derive(Clone, Copy, PartialEq, Eq, Debug)]
+pub struct Told {
+    /// What the last cycle showed.
+    last: Showing,
+    /// Where the cable was broken when that was last told.
+    cable: Located,
+    /// The number of the cycle that began what goes on.
+    since: u64,
+}
+
+impl Told {
+    /// Nothing is told but where the cable is broken.
+    pub fn new(cable: Located) -> Told {
+        Told {
+            last: Showing {
+                ended: Ok(Verdict::Good),
+                came: 0,
+                signs: Signs {
+                    ways: Ways::Crossed,
+                    by_a: 0,
+                },
+            },
+            cable,
+            since: 0,
+        }
+    }
+
+    /// Where the cable was broken when that was last looked at.
+    pub fn cable(&self) -> Located {
+        self.cable
+    }
+
+    /// Tells what a cycle showed that the last one did not: that it was not good, that it is good again, that
+    /// a link is down though it was good, or that none is any more. Only then another frame goes out, which
+    /// looks where the cable is broken.
+    pub fn tell<P: HeardPorts, W: Write>(
+        &mut self,
+        cycle: u64,
+        ended: Result<Verdict, CycleFault>,
+        ports: &mut Watched<P>,
+        expected: &[u16],
+        line: &[Wanted],
+        lines: &mut Lines<'_, W>,
+    ) -> io::Result<()> {
+        let now = Showing {
+            ended,
+            came: came_of(ended, ports.counts()),
+            signs: ports.signs(),
+        };
+        if now == self.last {
+            return Ok(());
+        }
+        let before = *self;
+        self.last = now;
+        let cable = self.look(ended, ports, line.len());
+        self.cable = cable;
+        if before.is_as(&now, cable) {
+            return Ok(());
+        }
+        if before.last.ended != Ok(Verdict::Good) {
+            tell_end(cycle, cycle.saturating_sub(before.since), ended, lines)?;
+        }
+        self.since = cycle;
+        tell_showing(cycle, &now, expected, cable, line, before.cable, lines)
+    }
+
+    /// Where the cable is broken now. Nothing new is known where the ports have failed.
+    fn look<P: HeardPorts>(
+        &self,
+        ended: Result<Verdict, CycleFault>,
+        ports: &mut Watched<P>,
+        slaves: usize,
+    ) -> Located {
+        if ended == Err(CycleFault::Port) {
+            return self.cable;
+        }
+        match look_surely(ports, slaves) {
+            Some(located) => located,
+            None => self.cable,
+        }
+    }
+
+    /// Is what a cycle showed what was told already?
+    fn is_as(&self, now: &Showing, cable: Located) -> bool {
+        self.last.ended == now.ended && self.last.came == now.came && self.cable == cable
+    }
+}
+
+/// How far the counter moved of the item that a verdict names.
+fn came_of(ended: Result<Verdict, CycleFault>, counts: &[u16]) -> u16 {
+    match ended {
+        Ok(Verdict::Short(item)) | Ok(Verdict::Over(item)) => match counts.get(item) {
+            Some(count) => *count,
+            None => 0,
+        },
+        _ => 0,
+    }
+}
+
+/// Puts the number of a cycle.
+fn put_cycle<W: Write>(cycle: u64, lines: &mut Lines<'_, W>) -> io::Result<()> {
+    lines.text("cycle ")?;
+    lines.number(cycle)?;
+    lines.text(": ")
+}
+
+/// Tells that what was not good has ended, after so many cycles.
+fn tell_end<W: Write>(
+    cycle: u64,
+    lasted: u64,
+    ended: Result<Verdict, CycleFault>,
+    lines: &mut Lines<'_, W>,
+) -> io::Result<()> {
+    put_cycle(cycle, lines)?;
+    if ended == Ok(Verdict::Good) {
+        lines.text("good again after ")?;
+    } else {
+        lines.text("other than before, which lasted ")?;
+    }
+    lines.number(lasted)?;
+    lines.text(" cycles")?;
+    lines.end()
+}
+
+/// Tells what a cycle showed: where it was not good, what and where the cable is broken; where it was, what
+/// is new of the cable.
+fn tell_showing<W: Write>(
+    cycle: u64,
+    now: &Showing,
+    expected: &[u16],
+    cable: Located,
+    line: &[Wanted],
+    cable_before: Located,
+    lines: &mut Lines<'_, W>,
+) -> io::Result<()> {
+    match now.ended {
+        Ok(Verdict::Good) if cable == cable_before => Ok(()),
+        Ok(Verdict::Good) => tell_cable(cycle, cable, line, lines),
+        Ok(Verdict::Short(item)) | Ok(Verdict::Over(item)) => {
+            put_cycle(cycle, lines)?;
+            put_count(item, now.came, expected, lines)?;
+            lines.text("; ")?;
+            put_cable(cable, line, lines)?;
+            lines.end()
+        }
+        Err(CycleFault::Port) => {
+            put_cycle(cycle, lines)?;
+            lines.text("a port failed")?;
+            lines.end()
+        }
+        Err(CycleFault::Stranger) => {
+            put_cycle(cycle, lines)?;
+            lines.text("a copy came that is none of the frame; ")?;
+            put_cable(cable, line, lines)?;
+            lines.end()
+        }
+    }
+}
+
+/// Tells of a good cycle that a link is down, or that none is any more.
+fn tell_cable<W: Write>(
+    cycle: u64,
+    cable: Located,
+    line: &[Wanted],
+    lines: &mut Lines<'_, W>,
+) -> io::Result<()> {
+    put_cycle(cycle, lines)?;
+    if cable == Located::Whole {
+        lines.text("ring whole again")?;
+    } else {
+        lines.text("redundancy lost: ")?;
+        put_cable(cable, line, lines)?;
+    }
+    lines.end()
+}
+
+/// Puts how often an item was counted, and how often it was to be.
+fn put_count<W: Write>(
+    item: usize,
+    came: u16,
+    expected: &[u16],
+    lines: &mut Lines<'_, W>,
+) -> io::Result<()> {
+    lines.text("item ")?;
+    lines.number(item as u64)?;
+    lines.text(": came ")?;
+    lines.number(u64::from(came))?;
+    lines.text(" of ")?;
+    let wanted = match expected.get(item) {
+        Some(wanted) => *wanted,
+        None => 0,
+    };
+    lines.number(u64::from(wanted))
+}
+
+/// Puts how many cycles there were, by their ends.
+pub fn put_counts<W: Write>(counts: Counts, lines: &mut Lines<'_, W>) -> io::Result<()> {
+    lines.text("cycles ")?;
+    lines.number(counts.cycles)?;
+    lines.text(" good ")?;
+    lines.number(counts.good)?;
+    lines.text(" short ")?;
+    lines.number(counts.short)?;
+    lines.text(" over ")?;
+    lines.number(counts.over)?;
+    lines.text(" fault ")?;
+    lines.number(counts.fault)
+}
+
+/// Writes a line for a cycle that was made: its number, its end, and how far each counter moved.
+pub fn log_cycle<W: Write>(
+    cycle: u64,
+    ended: Result<Verdict, CycleFault>,
+    counts: &[u16],
+    lines: &mut Lines<'_, W>,
+) -> io::Result<()> {
+    lines.text("cycle ")?;
+    lines.number(cycle)?;
+    put_end(ended, lines)?;
+    lines.text(" counts")?;
+    for count in counts {
+        lines.text(" ")?;
+        lines.number(u64::from(*count))?;
+    }
+    lines.end()
+}
+
+/// Puts how a cycle ended.
+fn put_end<W: Write>(
+    ended: Result<Verdict, CycleFault>,
+    lines: &mut Lines<'_, W>,
+) -> io::Result<()> {
+    match ended {
+        Ok(Verdict::Good) => lines.text(" good"),
+        Ok(Verdict::Short(item)) => {
+            lines.text(" short ")?;
+            lines.number(item as u64)
+        }
+        Ok(Verdict::Over(item)) => {
+            lines.text(" over ")?;
+            lines.number(item as u64)
+        }
+        Err(CycleFault::Port) => lines.text(" fault Port"),
+        Err(CycleFault::Stranger) => lines.text(" fault Stranger"),
+    }
+}
+
+/// The counters of a round go out as a multiple of this.
+const ROUND: u16 = 2048;
+
+/// Writes a line for each item of an image: its data, and how often it was counted.
+pub fn tell_image<W: Write>(
+    image: &Work,
+    expected: &[u16],
+    lines: &mut Lines<'_, W>,
+) -> io::Result<()> {
+    for k in 0..image.len() {
+        tell_item(k, image.item(k), expected, lines)?;
+    }
+    Ok(())
+}
+
+/// Writes the line of one item.
+fn tell_item<W: Write>(
+    number: usize,
+    item: &Item,
+    expected: &[u16],
+    lines: &mut Lines<'_, W>,
+) -> io::Result<()> {
+    lines.text("item ")?;
+    lines.number(number as u64)?;
+    lines.text(" ")?;
+    lines.text(item.kind().command().name())?;
+    lines.text(" data ")?;
+    lines.hex(item.data())?;
+    lines.text(" wkc ")?;
+    lines.number(u64::from(item.counter() % ROUND))?;
+    lines.text(" of ")?;
+    let wanted = match expected.get(number) {
+        Some(wanted) => *wanted,
+        None => 0,
+    };
+    lines.number(u64::from(wanted))?;
+    if item.kind() == Kind::Brd {
+        lines.text(" adp ")?;
+        lines.number(u64::from(item.adp()))?;
+    }
+    lines.end()
+}

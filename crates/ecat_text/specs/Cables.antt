@@ -1,0 +1,116 @@
+-- What is printed of a cable: each copy of a frame that came back, which links are down, and which slaves are
+-- cut off (IEC 61158-4-12, the ports of a slave and the circulating bit).
+use Rattle.std.specs.Prelude.{ℕ, ◌++◌, ◌-◌, ◌==◌, zero, suc, List, Option, Some, None, codes}
+use Rattle.std.specs.Prelude.{if◌then◌else◌, slice_get}
+use Rattle.std.specs.Fmt.{decimal}
+use Rattle.std.specs.Option.{option_map_or}
+use Rattle.ec_app.specs.State.{SlaveState}
+use Rattle.ec_diag.specs.declared.cut_off.CutOff.{CutOff}
+use Rattle.ec_diag.specs.declared.cut_off.CutOff.TheVariants as cut
+use Rattle.ec_diag.specs.declared.heard.Heard.{Heard}
+use Rattle.ec_diag.specs.declared.located.Located.{Located}
+use Rattle.ec_diag.specs.declared.located.Located.TheVariants as located
+use Rattle.ec_esc.specs.State.{word_at}
+use Rattle.ec_regs.specs.declared.registers.TheConstants.{STATION_ADDRESS}
+use Rattle.ec_ring.specs.declared.port.Port.{Port}
+use Rattle.ec_ring.specs.declared.port.Port.TheVariants.{A, B}
+use Rattle.ecat_text.specs.Words.{hexadecimal}
+use Rattle.ecat_text.specs.declared.cable.CopyText.{CopyText}
+use Rattle.ecat_text.specs.declared.cable.End.{End}
+use Rattle.ecat_text.specs.declared.cable.End.TheVariants.{AtPort, AtSlave}
+use Rattle.ecat_text.specs.declared.cable.BreakText.{BreakText}
+use Rattle.ecat_text.specs.declared.cable.BreakText.TheVariants.{Whole, One, Two, First, Last, Unknown, Changed}
+use Rattle.ecat_text.specs.declared.cable.Missing.{Missing}
+use Rattle.ecat_text.specs.declared.cable.Missing.TheVariants.{Nobody, CutOff as IsCutOff, NotTold}
+use Rattle.ecat_text.specs.declared.cable.Places.{Places}
+
+-- a port of the master by its name
+abbrev pub port_words : Port → List ℕ
+port_words A = codes "A"
+port_words B = codes "B"
+
+-- where a copy arrived, and how many slaves counted on it; or that it did not come back
+abbrev pub heard_words : Option Heard → List ℕ
+heard_words None = codes " lost"
+heard_words (Some heard) = codes " back at " ++ port_words heard.at ++ codes " after " ++ decimal heard.count
+
+-- a copy by the port where it started
+abbrev pub copy_words : CopyText → List ℕ
+copy_words copy = port_words copy.from ++ heard_words copy.heard
+
+-- a station address, four digits
+unfoldable pub station_words : ℕ → List ℕ
+station_words station = codes "0x" ++ hexadecimal 4 station
+
+-- an end of a link: a port of the master, or a slave by its place on the line and its station address
+abbrev pub end_words : End → List ℕ
+end_words (AtPort port) = codes "port " ++ port_words port
+end_words (AtSlave place station) =
+    codes "slave " ++ decimal place ++ codes " (" ++ station_words station ++ codes ")"
+
+-- slaves that follow each other, by their places on the line
+abbrev pub places_words : Places → List ℕ
+places_words places = if places.first == places.last then codes "slave " ++ decimal places.first
+    else codes "slaves " ++ decimal places.first ++ codes ".." ++ decimal places.last
+
+-- a link by its number, and what is said of it
+abbrev pub link_words : ℕ → List ℕ → List ℕ
+link_words link rest = codes "link " ++ (decimal link ++ rest)
+
+-- the slaves or ports between which a link lies
+abbrev pub between_words : End → End → List ℕ
+between_words before behind =
+    codes " down: between " ++ (end_words before ++ (codes " and " ++ end_words behind))
+
+-- which links are down; where slaves are cut off, as far as their station addresses
+abbrev pub break_words : BreakText → List ℕ
+break_words Whole = codes "whole"
+break_words (One link before behind) = link_words link (between_words before behind)
+break_words (Two first last missing) = codes "links " ++ decimal first ++ codes " and " ++ decimal last
+    ++ codes " down: " ++ places_words missing ++ codes " cut off"
+break_words (First link) = link_words link (codes " is the first down, behind it unknown")
+break_words (Last link) = link_words link (codes " is the last down, before it unknown")
+break_words Unknown = codes "no copy came back: nothing known"
+break_words Changed =
+    codes "no one set of links gives these copies: the links changed between them"
+
+-- the end of a link where the slave at a place is, or a port where the line has no such slave
+abbrev pub end_at : Port → List SlaveState → ℕ → End
+end_at port line place = option_map_or
+    (λ (slave : SlaveState). AtSlave place (word_at slave.controller.memory STATION_ADDRESS))
+    (slice_get line place) (AtPort port)
+
+-- the end of link k that is nearer to port A: slave k - 1, or the port itself
+abbrev pub end_before : List SlaveState → ℕ → End
+end_before line zero = AtPort A
+end_before line (suc place) = end_at B line place
+
+-- what is known of the links of a line, with the ends of a link that is down
+abbrev pub break_of : List SlaveState → Located → BreakText
+break_of line located.Unknown = Unknown
+break_of line located.Whole = Whole
+break_of line (located.One k) = One k (end_before line k) (end_at B line k)
+break_of line (located.Between p q) = Two p q (record { first = p; last = q - 1 })
+break_of line (located.First k) = First k
+break_of line (located.Last k) = Last k
+break_of line located.Changed = Changed
+
+-- the exit status: 0 where the whole cable is found whole
+abbrev pub break_status : Located → ℕ
+break_status located.Whole = 0
+break_status _ = 1
+
+-- which of so many slaves are cut off, or may be
+abbrev pub missing_of : ℕ → CutOff → Missing
+missing_of slaves cut.Nobody = Nobody
+missing_of slaves (cut.Places p q) = IsCutOff (record { first = p; last = q })
+missing_of slaves (cut.PerhapsFrom k) = NotTold (record { first = k; last = slaves - 1 })
+missing_of slaves (cut.PerhapsBelow k) = NotTold (record { first = 0; last = k - 1 })
+missing_of slaves cut.NotTold =
+    if slaves == 0 then Nobody else NotTold (record { first = 0; last = slaves - 1 })
+
+-- who is missing, behind a comma
+abbrev pub missing_words : Missing → List ℕ
+missing_words Nobody = codes ""
+missing_words (IsCutOff places) = codes ", " ++ places_words places ++ codes " cut off"
+missing_words (NotTold places) = codes ", " ++ places_words places ++ codes " unknown"

@@ -1,0 +1,7 @@
+pub mod Areas
+pub mod Cables
+pub mod Cycles
+pub mod Judgements
+pub mod Objects
+pub mod Refusals
+pub mod Words

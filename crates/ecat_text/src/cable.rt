@@ -1,0 +1,321 @@
+//! What is printed of a cable: the copies of a frame that came back, which links are down, who is missing.
+
+ghost use Rattle.std.specs.Prelude.{◌≡◌, Some};
+ghost use Rattle.ecat_text.specs.Cables.{break_of, break_status, break_words, copy_words, end_at, end_before};
+ghost use Rattle.ecat_text.specs.Cables.{end_words, missing_of, missing_words, places_words, port_words};
+ghost use Rattle.ecat_text.specs.Cables.{station_words};
+
+use crate::lines::Lines;
+use crate::status::{GOOD, REFUSED};
+use ec_app::Slave;
+use ec_diag::{CutOff, Heard, Located};
+use ec_ring::{Arrival, Arrivals, Port};
+use ec_wire::FrameBuf;
+use std::fmt;
+use std::io::{self, Write};
+
+/// How many stations are named of those that are cut off.
+const MOST_STATIONS: usize = 8;
+
+/// A port of the master, as it is printed.
+#[derive(Drop)]
+pub struct PortText(pub Port);
+
+impl fmt::Display for PortText {
+    ghost output = { λ port. Some (port_words port.0) };
+
+    fn fmt<W: fmt::Write>(&self, f: &mut fmt::Formatter<W>) -> fmt::Result {
+        match self.0 {
+            Port::A => write!(f, "A"),
+            Port::B => write!(f, "B"),
+        }
+    }
+}
+
+/// What is heard of a copy of a frame, as it is printed.
+#[derive(Drop)]
+struct CopyText {
+    from: Port,
+    heard: Option<Heard>,
+}
+
+impl fmt::Display for CopyText {
+    ghost output = { λ copy. Some (copy_words copy) };
+
+    fn fmt<W: fmt::Write>(&self, f: &mut fmt::Formatter<W>) -> fmt::Result {
+        let from = PortText(self.from);
+        match self.heard {
+            None => write!(f, "{from} lost"),
+            Some(heard) => {
+                let at = PortText(heard.at);
+                let count = heard.count;
+                write!(f, "{from} back at {at} after {count}")
+            }
+        }
+    }
+}
+
+/// A station address, as it is printed.
+#[derive(Drop)]
+struct Station(u16);
+
+impl fmt::Display for Station {
+    ghost output = { λ station. Some (station_words station.0) };
+
+    #[tactic(auto, unfolding(crate::specs::Cables::station_words))]
+    fn fmt<W: fmt::Write>(&self, f: &mut fmt::Formatter<W>) -> fmt::Result {
+        let station = self.0;
+        write!(f, "0x{station:04x}")
+    }
+}
+
+/// An end of a link.
+#[derive(Clone, Copy)]
+enum End {
+    /// A port of the master.
+    AtPort(Port),
+    /// The slave at this place of the line, with its station address.
+    AtSlave(usize, u16),
+}
+
+impl fmt::Display for End {
+    ghost output = { λ end. Some (end_words end) };
+
+    fn fmt<W: fmt::Write>(&self, f: &mut fmt::Formatter<W>) -> fmt::Result {
+        match self {
+            End::AtPort(port) => {
+                let port = PortText(*port);
+                write!(f, "port {port}")
+            }
+            End::AtSlave(place, station) => {
+                let station = Station(*station);
+                write!(f, "slave {place} ({station})")
+            }
+        }
+    }
+}
+
+/// Slaves that follow each other on the line, from the first to the last, by their places.
+#[derive(Clone, Copy)]
+pub struct Places {
+    first: usize,
+    last: usize,
+}
+
+impl fmt::Display for Places {
+    ghost output = { λ places. Some (places_words places) };
+
+    fn fmt<W: fmt::Write>(&self, f: &mut fmt::Formatter<W>) -> fmt::Result {
+        let first = self.first;
+        let last = self.last;
+        if first == last {
+            write!(f, "slave {first}")
+        } else {
+            write!(f, "slaves {first}..{last}")
+        }
+    }
+}
+
+/// Which links are down, as it is printed; where slaves are cut off, as far as their station addresses.
+#[derive(Clone, Copy)]
+enum BreakText {
+    Whole,
+    One(usize, End, End),
+    Two(usize, usize, Places),
+    First(usize),
+    Last(usize),
+    Unknown,
+    Changed,
+}
+
+impl fmt::Display for BreakText {
+    ghost output = { λ text. Some (break_words text) };
+
+    fn fmt<W: fmt::Write>(&self, f: &mut fmt::Formatter<W>) -> fmt::Result {
+        match self {
+            BreakText::Whole => write!(f, "whole"),
+            BreakText::One(link, before, behind) => {
+                write!(f, "link {link} down: between {before} and {behind}")
+            }
+            BreakText::Two(first, last, missing) => {
+                write!(f, "links {first} and {last} down: {missing} cut off")
+            }
+            BreakText::First(link) => {
+                write!(f, "link {link} is the first down, behind it unknown")
+            }
+            BreakText::Last(link) => {
+                write!(f, "link {link} is the last down, before it unknown")
+            }
+            BreakText::Unknown => write!(f, "no copy came back: nothing known"),
+            BreakText::Changed => write!(
+                f,
+                "no one set of links gives these copies: the links changed between them"
+            ),
+        }
+    }
+}
+
+/// Which slaves of a line are missing, as far as copies tell.
+#[derive(Clone, Copy)]
+pub enum Missing {
+    /// None of them.
+    Nobody,
+    /// These are reached by no copy.
+    CutOff(Places),
+    /// Of these nothing is known.
+    NotTold(Places),
+}
+
+impl fmt::Display for Missing {
+    ghost output = { λ missing. Some (missing_words missing) };
+
+    fn fmt<W: fmt::Write>(&self, f: &mut fmt::Formatter<W>) -> fmt::Result {
+        match self {
+            Missing::Nobody => Ok(()),
+            Missing::CutOff(places) => write!(f, ", {places} cut off"),
+            Missing::NotTold(places) => write!(f, ", {places} unknown"),
+        }
+    }
+}
+
+/// Which of so many slaves are missing.
+pub fn missing_of(slaves: usize, cut_off: CutOff) -> Missing
+    ensures { result ≡ missing_of slaves cut_off }
+{
+    let all_but_one = slaves.saturating_sub(1);
+    match cut_off {
+        CutOff::Nobody => Missing::Nobody,
+        CutOff::Places(first, last) => Missing::CutOff(Places { first, last }),
+        CutOff::PerhapsFrom(first) => Missing::NotTold(Places {
+            first,
+            last: all_but_one,
+        }),
+        CutOff::PerhapsBelow(k) => Missing::NotTold(Places {
+            first: 0,
+            last: k.saturating_sub(1),
+        }),
+        CutOff::NotTold if slaves == 0 => Missing::Nobody,
+        CutOff::NotTold => Missing::NotTold(Places {
+            first: 0,
+            last: all_but_one,
+        }),
+    }
+}
+
+/// Prints what came back of a frame: a line with both copies.
+pub fn print_copies<W: Write>(
+    sent: &FrameBuf,
+    came: &Arrivals,
+    lines: &mut Lines<'_, W>,
+) -> io::Result<()> {
+    lines.text(CopyText {
+        from: Port::A,
+        heard: heard(sent, &came.a),
+    })?;
+    lines.text(", ")?;
+    lines.text(CopyText {
+        from: Port::B,
+        heard: heard(sent, &came.b),
+    })?;
+    lines.end()
+}
+
+/// What is heard of a copy of a frame, unless it was lost.
+fn heard(sent: &FrameBuf, copy: &Option<Arrival>) -> Option<Heard> {
+    match copy {
+        Some(arrival) => Heard::of(sent, &arrival.frame, arrival.at),
+        None => None,
+    }
+}
+
+/// Prints a line that says where the cable of a line is broken and who is cut off, and answers the status.
+pub fn print_break<W: Write>(
+    located: Located,
+    line: &[Slave],
+    lines: &mut Lines<'_, W>,
+) -> io::Result<u8> {
+    lines.text(break_of(line, located))?;
+    if let CutOff::Places(first, last) = located.cut_off() {
+        lines.text(" (")?;
+        print_stations(line, Places { first, last }, lines)?;
+        lines.text(")")?;
+    }
+    lines.end()?;
+    Ok(break_status(located))
+}
+
+/// Prints the station addresses of these slaves, of the first `MOST_STATIONS` if there are more.
+fn print_stations<W: Write>(
+    line: &[Slave],
+    places: Places,
+    lines: &mut Lines<'_, W>,
+) -> io::Result<()> {
+    for (place, slave) in line.iter().enumerate() {
+        if place < places.first || places.last < place {
+            continue;
+        }
+        if place > places.first {
+            lines.text(", ")?;
+        }
+        if place - places.first == MOST_STATIONS {
+            return lines.text("..");
+        }
+        lines.text(Station(slave.controller().station()))?;
+    }
+    Ok(())
+}
+
+/// What is known of the links of a line, with the ends of a link that is down.
+fn break_of(line: &[Slave], located: Located) -> BreakText
+    ensures { result ≡ break_of line.now located }
+{
+    match located {
+        Located::Unknown => BreakText::Unknown,
+        Located::Whole => BreakText::Whole,
+        Located::One(link) => {
+            BreakText::One(link, end_before(line, link), end_at(Port::B, line, link))
+        }
+        Located::Between(first, last) => BreakText::Two(
+            first,
+            last,
+            Places {
+                first,
+                last: last.saturating_sub(1),
+            },
+        ),
+        Located::First(link) => BreakText::First(link),
+        Located::Last(link) => BreakText::Last(link),
+        Located::Changed => BreakText::Changed,
+    }
+}
+
+/// The exit status: that of a refusal where anything is down or unknown.
+fn break_status(located: Located) -> u8
+    ensures { result ≡ break_status located }
+{
+    match located {
+        Located::Whole => GOOD,
+        _ => REFUSED,
+    }
+}
+
+/// The end of a link that is nearer to port A.
+fn end_before(line: &[Slave], link: usize) -> End
+    ensures { result ≡ end_before line.now link }
+{
+    if link == 0 {
+        End::AtPort(Port::A)
+    } else {
+        end_at(Port::B, line, link - 1)
+    }
+}
+
+/// The end of a link at the slave of this place, or at a port where the line has no such slave.
+fn end_at(port: Port, line: &[Slave], place: usize) -> End
+    ensures { result ≡ end_at port line.now place }
+{
+    match line.get(place) {
+        Some(slave) => End::AtSlave(place, slave.controller().station()),
+        None => End::AtPort(port),
+    }
+}

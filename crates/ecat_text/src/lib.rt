@@ -1,0 +1,33 @@
+#![tactic(auto)]
+//! The texts of the program: lines of output, and what is printed of cycles, cables, areas, objects and refusals.
+//!
+//! Each text is a `Display` whose clause says its words (`specs/`), so that a swapped word or base is refused;
+//! `Lines` writes what belongs to one line in one piece. One use:
+//!
+//! ```text
+//! let mut lines = Lines::new(out);
+//! let status = print_verdict(Verdict::Short(0), &mut lines)?;
+//! ```
+//!
+//! The output is `short 0`, and `status` is `REFUSED`.
+
+mod areas;
+mod cable;
+mod cycle;
+mod judgement;
+mod lines;
+mod object;
+mod refusal;
+mod status;
+
+pub use areas::print_areas;
+pub use cable::{Missing, Places, PortText, missing_of, print_break, print_copies};
+pub use cycle::{VerdictText, print_items, print_verdict, status_of};
+pub use judgement::{print_counts, print_losses};
+pub use lines::Lines;
+pub use object::{FaultText, TripsText, print_line, print_read, print_written};
+pub use refusal::refuse;
+pub use status::{BAD_ARGUMENTS, FAILED, GOOD, REFUSED};
+
+#[cfg(test)]
+mod tests;

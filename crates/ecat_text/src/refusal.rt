@@ -1,0 +1,141 @@
+//! Why a line or an item is refused, as it is printed.
+
+ghost use Rattle.std.specs.Prelude.{Some};
+ghost use Rattle.ecat_text.specs.Refusals.{address_words, item_refusal_words, line_refusal_words};
+
+use crate::lines::Lines;
+use ec_app::Slave;
+use ec_map::{Item, MapFault, PlaceFault, check as check_line, check_item};
+use std::fmt;
+use std::io::{self, Write};
+
+/// The address of a refusal, as it is printed.
+#[derive(Drop)]
+struct Place(u16);
+
+impl fmt::Display for Place {
+    ghost output = { λ place. Some (address_words place.0) };
+
+    #[tactic(auto, unfolding(crate::specs::Refusals::address_words))]
+    fn fmt<W: fmt::Write>(&self, f: &mut fmt::Formatter<W>) -> fmt::Result {
+        let address = self.0;
+        write!(f, " address 0x{address:04x}")
+    }
+}
+
+/// Why a line is refused, as it is printed: the rule, the parties and the place.
+#[derive(Drop)]
+struct LineRefusal(MapFault);
+
+impl fmt::Display for LineRefusal {
+    ghost output = { λ refusal. Some (line_refusal_words refusal.0) };
+
+    fn fmt<W: fmt::Write>(&self, f: &mut fmt::Formatter<W>) -> fmt::Result {
+        match self.0 {
+            MapFault::TwinStation { slave, later_slave } => {
+                write!(f, "refused: TwinStation slave {slave} slave {later_slave}")
+            }
+            MapFault::BadFmmu { slave, fmmu } => {
+                write!(f, "refused: BadFmmu slave {slave} fmmu {fmmu}")
+            }
+            MapFault::AreasMeet {
+                slave,
+                sync_manager: first,
+                later_sync_manager: later,
+                address,
+            } => {
+                let place = Place(address);
+                write!(
+                    f,
+                    "refused: AreasMeet slave {slave} sm {first} sm {later}{place}"
+                )
+            }
+            MapFault::OutsideArea {
+                slave,
+                fmmu,
+                address,
+            } => {
+                let place = Place(address);
+                write!(f, "refused: OutsideArea slave {slave} fmmu {fmmu}{place}")
+            }
+            MapFault::TwiceWritten {
+                slave,
+                fmmu,
+                later_fmmu: later,
+                bit,
+            } => write!(
+                f,
+                "refused: TwiceWritten slave {slave} fmmu {fmmu} fmmu {later} bit {bit}"
+            ),
+            MapFault::TwiceRead {
+                slave,
+                fmmu,
+                later_slave,
+                later_fmmu: later,
+                bit,
+            } => write!(
+                f,
+                "refused: TwiceRead slave {slave} fmmu {fmmu} slave {later_slave} fmmu {later} bit {bit}"
+            ),
+            MapFault::ReadAndWritten {
+                reader,
+                reader_fmmu: reads,
+                writer,
+                writer_fmmu: writes,
+                bit,
+            } => write!(
+                f,
+                "refused: ReadAndWritten slave {reader} fmmu {reads} slave {writer} fmmu {writes} bit {bit}"
+            ),
+        }
+    }
+}
+
+/// Why an item is refused, as it is printed: the rule, the item by its number, the slave and the place.
+#[derive(Drop)]
+struct ItemRefusal {
+    number: usize,
+    fault: PlaceFault,
+}
+
+impl fmt::Display for ItemRefusal {
+    ghost output = { λ refusal. Some (item_refusal_words refusal) };
+
+    fn fmt<W: fmt::Write>(&self, f: &mut fmt::Formatter<W>) -> fmt::Result {
+        let number = self.number;
+        match self.fault {
+            PlaceFault::OutsideRead { slave, address } => {
+                let place = Place(address);
+                write!(f, "refused: OutsideRead item {number} slave {slave}{place}")
+            }
+            PlaceFault::OutsideWrite { slave, address } => {
+                let place = Place(address);
+                write!(
+                    f,
+                    "refused: OutsideWrite item {number} slave {slave}{place}"
+                )
+            }
+        }
+    }
+}
+
+/// Is the line or an item refused? If so, prints why.
+pub fn refuse<W: Write>(
+    line: &[Slave],
+    items: &[Item],
+    lines: &mut Lines<'_, W>,
+) -> io::Result<bool> {
+    if let Err(fault) = check_line(line) {
+        lines.text(LineRefusal(fault))?;
+        lines.end()?;
+        return Ok(true);
+    }
+    for (number, item) in items.iter().enumerate() {
+        if let Err(fault) = check_item(line, item) {
+            lines.text(ItemRefusal { number, fault })?;
+            lines.end()?;
+            return Ok(true);
+        }
+    }
+    Ok(false)
+}
