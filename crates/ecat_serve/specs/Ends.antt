@@ -11,6 +11,10 @@ use Rattle.ec_ring.specs.declared.port.PortFault.{PortFault}
 use Rattle.ec_ring.specs.declared.port.Port.{Port}
 use Rattle.ec_ring.specs.declared.port.Port.TheVariants.{A, B}
 use Rattle.ecat_serve.specs.declared.ends.Arrived.{Arrived}
+use Rattle.ecat_serve.specs.declared.sockets.BindFault.{BindFault}
+use Rattle.ecat_serve.specs.declared.sockets.BindFault.TheVariants as bind
+use Rattle.ecat_serve.specs.declared.waiting.WaitFault.{WaitFault}
+use Rattle.ecat_serve.specs.declared.waiting.WaitFault.TheVariants as wait
 
 -- what a receive answers, and the bytes of its room behind it
 abbrev pub Receives : Type 0 → Type 1
@@ -49,3 +53,8 @@ says_again _ = false
 abbrev pub received : Port → Result (ℕ × SocketAddr) Error → Result (Option Arrived) PortFault
 received at (Ok got) = Ok (Some (record { at = at; from = got.1; count = got.0 }))
 received at (Err error) = if says_again (error_kind error) then Ok None else Err (record {})
+
+-- why a line of sockets that has nothing to wait for could not be opened
+abbrev pub unwaited : WaitFault → BindFault
+unwaited wait.NoMemory = bind.NoMemory
+unwaited wait.Refused = bind.NoSocket

@@ -7,6 +7,7 @@
 //!   packets can also come from memory.
 //! - `UdpEnds`: two UDP sockets at one address, which end with an input, as the standard one, if they get
 //!   one.
+//! - `Waiting`: what waits at two ends and at an input at once, for sockets of any kind (`EndSockets`).
 //! - `Served::set_link`, `lose`, `unplug`, `load` and `set_state` (`bench`): what somebody does to the line
 //!   between its packets, and `Console`: the lines by which he says so, which `UdpEnds` takes of its input.
 //! - `Watch`: who is told of each packet by `Served::serve_watched`; what he is told is required to be so.
@@ -37,7 +38,8 @@
 //!   `specs/Lines.antt`);
 //! - a service is handed no allocator, and takes no memory where its ends take none.
 //!
-//! and of `UdpEnds`: where the ends lie (`asked_address`), and which of two that wait is served next.
+//! and of `UdpEnds`: where the ends lie (`asked_address`), and of `Waiting` which of two ends that wait is
+//! served next.
 //!
 //! Of the packets that come to a socket nothing is stated: they are up to the system.
 
@@ -46,6 +48,7 @@ pub mod ends;
 pub mod lines;
 pub mod served;
 pub mod sockets;
+pub mod waiting;
 pub mod watch;
 
 pub use bench::BenchFault;
@@ -53,6 +56,7 @@ pub use ends::{Arrived, Console, Ends};
 pub use lines::{InputLine, LINE_ROOM};
 pub use served::{Counts, Round, Served};
 pub use sockets::{BindFault, UdpEnds};
+pub use waiting::{EndSockets, WaitFault, Waiting, may_try_again};
 pub use watch::{Leaving, Unwatched, Watch};
 
 #[cfg(test)]

@@ -1,40 +1,22 @@
 //! The ends of a line at the system's sockets.
 
-ghost use Rattle.std.specs.Prelude.{◌≡◌, ◌≢◌, ◌≤◌, ◌<◌, ◌⊎◌, ◌↔◌, Err, IfOk, IfErr, IfSome};
-ghost use Rattle.std.specs.IoError.{error_kind};
+ghost use Rattle.std.specs.Prelude.{◌≡◌, ◌≤◌, ◌<◌, ◌⊎◌, ◌↔◌, Err, IfOk, IfSome};
 ghost use Rattle.std.specs.Net.Socket.{socket_ip, socket_port};
 ghost use Rattle.std.specs.declared.net.ip_addr.IpAddr.TheVariants.{V4};
 ghost use Rattle.ec_ring.specs.declared.port.Port.TheVariants.{A, B};
-ghost use Rattle.ecat_serve.specs.Ends.{any_receive, any_send, asked_port, other, received, says_again};
+ghost use Rattle.ecat_serve.specs.Ends.{any_receive, any_send, asked_port, received, unwaited};
 ghost use Rattle.ec_wire.specs.declared.frame.TheConstants.{PACKET_ROOM};
 
 use crate::ends::{Arrived, Console, Ends};
-use crate::lines::{InputLine, InputLines, LINE_ROOM, PIECE_ROOM};
+use crate::lines::{InputLine, LINE_ROOM};
+use crate::waiting::{EndSockets, WaitFault, Waiting, may_try_again};
 use ec_ring::{Port, PortFault};
 use ec_wire::PACKET_ROOM;
 use mio::net::UdpSocket;
-use mio::unix::SourceFd;
-use mio::{Events, Interest, Poll, Registry, Token};
 use std::alloc::Global;
-use std::io::{self, ErrorKind, Read};
+use std::io::{self, Read};
 use std::net::{IpAddr, Ipv4Addr, Net, SocketAddr};
 use std::os::fd::AsRawFd;
-use std::time::Duration;
-
-/// The events of end A.
-const END_A: Token = Token(0);
-
-/// The events of end B.
-const END_B: Token = Token(1);
-
-/// The events of standard input.
-const INPUT: Token = Token(2);
-
-/// How many events are taken at a time: one of each kind.
-const MOST_EVENTS: usize = 3;
-
-/// After how many packets in a row a line of the input comes before the next one.
-const MOST_IN_A_ROW: u8 = 32;
 
 /// Why a line of sockets could not be opened.
 #[derive(Clone, Copy, PartialEq, Eq, Debug)]
@@ -55,20 +37,12 @@ struct End {
 }
 
 impl End {
-    /// Opens the socket of an end for a line at this address and port, and has the system tell where
-    /// something comes.
-    fn open(
-        net: &impl Net,
-        registry: &Registry,
-        at: Port,
-        address: Ipv4Addr,
-        port: u16,
-    ) -> io::Result<End>
+    /// Opens the socket of an end for a line at this address and port.
+    fn open(net: &impl Net, at: Port, address: Ipv4Addr, port: u16) -> io::Result<End>
         requires { port < 65535 }
         ensures { IfOk result (λ end. end.at ≡ at) }
     {
-        let mut socket = UdpSocket::bind(net, asked_address(at, address, port))?;
-        registry.register(&mut socket, token_of(at), Interest::READABLE)?;
+        let socket = UdpSocket::bind(net, asked_address(at, address, port))?;
         Ok(End { at, socket })
     }
 
@@ -78,6 +52,53 @@ impl End {
         ensures here { IfOk result (λ found. IfSome found (λ arrived. arrived.at ≡ self.now.at)) }
     {
         received(self.at, self.socket.recv_from(into))
+    }
+}
+
+/// The sockets of both ends.
+#[derive(Drop)]
+struct UdpSockets {
+    end_a: End,
+    end_b: End,
+    ghost at_a: { end_a.at ≡ A },
+    ghost at_b: { end_b.at ≡ B },
+}
+
+impl UdpSockets {
+    /// Opens both for a line at this address and port, and has the system tell where something comes.
+    fn open<I: Read + AsRawFd + Drop>(
+        net: &impl Net,
+        waiting: &Waiting<I>,
+        address: Ipv4Addr,
+        port: u16,
+    ) -> io::Result<UdpSockets>
+        requires { port < 65535 }
+    {
+        let end_a = End::open(net, Port::A, address, port)?;
+        let end_b = End::open(net, Port::B, address, port)?;
+        waiting.register(Port::A, &end_a.socket)?;
+        waiting.register(Port::B, &end_b.socket)?;
+        Ok(UdpSockets { end_a, end_b })
+    }
+
+    /// The socket of an end.
+    fn end(&self, at: Port) -> &End
+        ensures { result.now.at ≡ at }
+    {
+        match at {
+            Port::A => &self.end_a,
+            Port::B => &self.end_b,
+        }
+    }
+}
+
+impl EndSockets for UdpSockets {
+    fn receive_at(
+        &mut self,
+        at: Port,
+        into: &mut [u8; PACKET_ROOM],
+    ) -> Result<Option<Arrived>, PortFault> {
+        self.end(at).receive(into)
     }
 }
 
@@ -91,18 +112,8 @@ impl End {
 /// packet waits, and after 32 packets in a row. Each error of the system but "try again" is a fault.
 #[derive(Drop)]
 pub struct UdpEnds<I: Read + AsRawFd + Drop> {
-    poll: Poll,
-    events: Events,
-    end_a: End,
-    end_b: End,
-    next: Port,
-    input: Option<I>,
-    waits: bool,
-    lines: InputLines,
-    keeps_lines: bool,
-    in_a_row: u8,
-    ghost at_a: { end_a.at ≡ A },
-    ghost at_b: { end_b.at ≡ B },
+    pub(crate) waiting: Waiting<I>,
+    sockets: UdpSockets,
 }
 
 impl<I: Read + AsRawFd + Drop> UdpEnds<I> {
@@ -121,155 +132,19 @@ impl<I: Read + AsRawFd + Drop> UdpEnds<I> {
         if port == 0 || port == u16::MAX {
             return Err(BindFault::NoSuchPort);
         }
-        let events = room_for_events(alloc)?;
-        match UdpEnds::open(net, events, address, port, input) {
-            Ok(ends) => Ok(ends),
+        let waiting = match Waiting::new(net, alloc, input) {
+            Ok(waiting) => waiting,
+            Err(fault) => return Err(unwaited(fault)),
+        };
+        match UdpSockets::open(net, &waiting, address, port) {
+            Ok(sockets) => Ok(UdpEnds { waiting, sockets }),
             Err(_) => Err(BindFault::NoSocket),
         }
     }
 
-    /// Opens the ends for a line at this address and port, and has the system tell of the input.
-    fn open(
-        net: &impl Net,
-        events: Events,
-        address: Ipv4Addr,
-        port: u16,
-        input: Option<I>,
-    ) -> io::Result<UdpEnds<I>>
-        requires { port < 65535 }
-    {
-        let poll = Poll::new(net)?;
-        let end_a = End::open(net, poll.registry(), Port::A, address, port)?;
-        let end_b = End::open(net, poll.registry(), Port::B, address, port)?;
-        let waits = match &input {
-            Some(input) => poll
-                .registry()
-                .register(&mut SourceFd(&input.as_raw_fd()), INPUT, Interest::READABLE)
-                .is_ok(),
-            None => true,
-        };
-        Ok(UdpEnds {
-            poll,
-            events,
-            end_a,
-            end_b,
-            next: Port::A,
-            input,
-            waits,
-            lines: InputLines::new(),
-            keeps_lines: false,
-            in_a_row: 0,
-        })
-    }
-
     /// Has what the input brings be kept, as lines to be taken, from now on.
     pub fn keep_lines(&mut self) {
-        self.keeps_lines = true;
-    }
-
-    /// The socket of an end.
-    fn end(&self, at: Port) -> &End
-        ensures { result.now.at ≡ at }
-    {
-        match at {
-            Port::A => &self.end_a,
-            Port::B => &self.end_b,
-        }
-    }
-
-    /// Has the input ended?
-    pub(crate) fn has_ended(&self) -> bool {
-        self.lines.has_ended() || !(self.waits || self.keeps_lines)
-    }
-
-    /// Is a line of the input to come before the next packet? It is where as many packets came in a row as
-    /// may.
-    fn is_due(&mut self) -> Result<bool, PortFault> {
-        if !self.keeps_lines || self.in_a_row < MOST_IN_A_ROW {
-            return Ok(false);
-        }
-        self.in_a_row = 0;
-        if !self.lines.holds_line() {
-            self.wait(Some(Duration::from_secs(0)))?;
-        }
-        Ok(self.lines.holds_line())
-    }
-
-    /// Receives a packet that waits at either end, if one does. The end where it came in is the last one to
-    /// be asked the next time.
-    fn receive_waiting(
-        &mut self,
-        into: &mut [u8; PACKET_ROOM],
-    ) -> Result<Option<Arrived>, PortFault>
-        ensures room { IfOk result (λ found. IfSome found (λ arrived. arrived.count ≤ PACKET_ROOM)) }
-        ensures turns { IfOk result (λ found. IfSome found (λ arrived. self.new.next ≡ other arrived.at)) }
-    {
-        let first = self.next;
-        let second = other(first);
-        self.next = second;
-        match self.end(first).receive(into)? {
-            Some(arrived) => Ok(Some(arrived)),
-            None => {
-                self.next = first;
-                self.end(second).receive(into)
-            }
-        }
-    }
-
-    /// Waits until something comes at an end or from the input, so long at most where there is a limit.
-    /// The answer is whether anything came.
-    pub(crate) fn wait(&mut self, limit: Option<Duration>) -> Result<bool, PortFault> {
-        if !self.waits && !self.has_ended() {
-            self.read_input()?;
-            return Ok(true);
-        }
-        if self.poll.poll(&mut self.events, limit).is_err() {
-            return Err(PortFault);
-        }
-        if self.has_input() {
-            self.read_input()?;
-        }
-        Ok(!self.events.is_empty())
-    }
-
-    /// Did something come from the input?
-    fn has_input(&self) -> bool {
-        for event in &self.events {
-            if event.token() == INPUT {
-                return true;
-            }
-        }
-        false
-    }
-
-    /// Reads some of what the input brings, and sees whether it has ended.
-    fn read_input(&mut self) -> Result<(), PortFault> {
-        let Some(input) = &mut self.input else {
-            return Ok(());
-        };
-        let mut room = [0; PIECE_ROOM];
-        let most = self.lines.room().min(PIECE_ROOM);
-        match input.read(&mut room[..most]) {
-            Ok(0) => {
-                self.lines.end();
-                return Ok(());
-            }
-            Ok(count) => {
-                if self.keeps_lines {
-                    self.lines.put(&room[..count]);
-                }
-            }
-            Err(fault) if may_try_again(&fault) => {}
-            Err(_) => return Err(PortFault),
-        }
-        if !self.waits {
-            return Ok(());
-        }
-        // What is left is told of anew only once it is asked for anew.
-        self.poll
-            .registry()
-            .reregister(&mut SourceFd(&input.as_raw_fd()), INPUT, Interest::READABLE)
-            .map_err(|_| PortFault)
+        self.waiting.keep_lines();
     }
 }
 
@@ -279,25 +154,11 @@ impl<I: Read + AsRawFd + Drop> Ends for UdpEnds<I> {
     ghost sends = { any_send };
 
     fn receive(&mut self, into: &mut [u8; PACKET_ROOM]) -> Result<Option<Arrived>, PortFault> {
-        if self.is_due()? {
-            return Ok(None);
-        }
-        for _turn in 0..u64::MAX {
-            if let Some(arrived) = self.receive_waiting(into)? {
-                self.in_a_row = self.in_a_row.saturating_add(1);
-                return Ok(Some(arrived));
-            }
-            self.in_a_row = 0;
-            if self.has_ended() || self.lines.holds_line() {
-                return Ok(None);
-            }
-            self.wait(None)?;
-        }
-        Ok(None)
+        self.waiting.receive(&mut self.sockets, into)
     }
 
     fn send(&mut self, from: Port, to: SocketAddr, bytes: &[u8]) -> Result<(), PortFault> {
-        match self.end(from).socket.send_to(bytes, to) {
+        match self.sockets.end(from).socket.send_to(bytes, to) {
             Ok(_) => Ok(()),
             Err(_) => Err(PortFault),
         }
@@ -306,15 +167,18 @@ impl<I: Read + AsRawFd + Drop> Ends for UdpEnds<I> {
 
 impl<I: Read + AsRawFd + Drop> Console for UdpEnds<I> {
     fn take_line(&mut self, into: &mut [u8; LINE_ROOM]) -> Option<InputLine> {
-        self.lines.take(into)
+        self.waiting.take_line(into)
     }
 }
 
-/// Room for the events that are taken at a time.
-fn room_for_events(alloc: Global) -> Result<Events, BindFault>
-    ensures { IfErr result (λ fault. fault ≡ BindFault.NoMemory) }
+/// Why a line of sockets has nothing to wait for.
+fn unwaited(fault: WaitFault) -> BindFault
+    ensures { result ≡ unwaited fault }
 {
-    Events::with_capacity(alloc, MOST_EVENTS).map_err(|_| BindFault::NoMemory)
+    match fault {
+        WaitFault::NoMemory => BindFault::NoMemory,
+        WaitFault::Refused => BindFault::NoSocket,
+    }
 }
 
 /// The address that an end asks the system for.
@@ -337,26 +201,6 @@ fn asked_port(at: Port, port: u16) -> u16
     }
 }
 
-/// The events of an end, which are none of the input's.
-fn token_of(at: Port) -> Token
-    ensures { result ≢ INPUT }
-{
-    match at {
-        Port::A => END_A,
-        Port::B => END_B,
-    }
-}
-
-/// The end that is not this one.
-fn other(end: Port) -> Port
-    ensures { result ≡ other end }
-{
-    match end {
-        Port::A => Port::B,
-        Port::B => Port::A,
-    }
-}
-
 /// What a receive at an end comes to: nothing where it may be tried again.
 fn received(
     at: Port,
@@ -374,11 +218,4 @@ fn received(
             }
         }
     }
-}
-
-/// Does the error say that there is nothing yet, or that a signal came before there was?
-fn may_try_again(fault: &io::Error) -> bool
-    ensures { result ≡ says_again (error_kind fault.now) }
-{
-    matches!(fault.kind(), ErrorKind::WouldBlock | ErrorKind::Interrupted)
 }

@@ -52,10 +52,10 @@ fn a_packet_at_either_end_ends_the_wait(rt: HostRuntime) {
     let master = somebody(&rt);
     for place in [0, 1] {
         let (mut ends, port) = open(&rt, rt.alloc(), None);
-        assert_same(&rt, ends.has_ended(), false);
-        assert_same(&rt, ends.wait(at_once()), Ok(false));
+        assert_same(&rt, ends.waiting.has_ended(), false);
+        assert_same(&rt, ends.waiting.wait(at_once()), Ok(false));
         speak(&rt, &master, port.wrapping_add(place), &ASKED);
-        assert_same(&rt, ends.wait(in_time()), Ok(true));
+        assert_same(&rt, ends.waiting.wait(in_time()), Ok(true));
     }
 }
 
@@ -110,9 +110,9 @@ fn packets_that_wait_come_before_the_end_of_the_input(rt: HostRuntime) {
     let (mut ends, port) = open(&rt, rt.alloc(), Some(input_of(&near)));
     let master = somebody(&rt);
     drop(far);
-    assert_same(&rt, ends.has_ended(), false);
-    assert_same(&rt, ends.wait(in_time()), Ok(true));
-    assert_same(&rt, ends.has_ended(), true);
+    assert_same(&rt, ends.waiting.has_ended(), false);
+    assert_same(&rt, ends.waiting.wait(in_time()), Ok(true));
+    assert_same(&rt, ends.waiting.has_ended(), true);
     speak(&rt, &master, port, &ASKED);
     speak(&rt, &master, port.wrapping_add(1), &ASKED);
     assert_same(&rt, next(&mut ends), Ok(Some(Port::A)));
@@ -127,16 +127,16 @@ fn packets_that_wait_come_before_the_end_of_the_input(rt: HostRuntime) {
 fn what_the_input_brings_is_passed_over(rt: HostRuntime) {
     let (near, mut far) = UnixStream::pair(&rt).expect(&rt, "two sockets");
     let (mut ends, _) = open(&rt, rt.alloc(), Some(input_of(&near)));
-    assert_same(&rt, ends.wait(at_once()), Ok(false));
+    assert_same(&rt, ends.waiting.wait(at_once()), Ok(false));
     assert_same(&rt, far.write(&[b'\n'; 1000]).ok(), Some(1000));
     // Some of it, and then what is left.
-    assert_same(&rt, ends.wait(in_time()), Ok(true));
-    assert_same(&rt, ends.wait(in_time()), Ok(true));
-    assert_same(&rt, ends.wait(at_once()), Ok(false));
-    assert_same(&rt, ends.has_ended(), false);
+    assert_same(&rt, ends.waiting.wait(in_time()), Ok(true));
+    assert_same(&rt, ends.waiting.wait(in_time()), Ok(true));
+    assert_same(&rt, ends.waiting.wait(at_once()), Ok(false));
+    assert_same(&rt, ends.waiting.has_ended(), false);
     drop(far);
-    assert_same(&rt, ends.wait(in_time()), Ok(true));
-    assert_same(&rt, ends.has_ended(), true);
+    assert_same(&rt, ends.waiting.wait(in_time()), Ok(true));
+    assert_same(&rt, ends.waiting.has_ended(), true);
 }
 
 #[test]
@@ -161,8 +161,8 @@ fn a_read_of_the_input_that_is_to_be_tried_again_is_none(rt: HostRuntime) {
             ..input_of(&near)
         };
         let (mut ends, _) = open(&rt, rt.alloc(), Some(input));
-        assert_same(&rt, ends.wait(in_time()), Ok(true));
-        assert_same(&rt, ends.has_ended(), false);
+        assert_same(&rt, ends.waiting.wait(in_time()), Ok(true));
+        assert_same(&rt, ends.waiting.has_ended(), false);
     }
 }
 
@@ -176,7 +176,7 @@ fn an_input_for_which_one_cannot_wait_has_ended(rt: HostRuntime) {
     };
     let (mut ends, port) = open(&rt, rt.alloc(), Some(input));
     let master = somebody(&rt);
-    assert_same(&rt, ends.has_ended(), true);
+    assert_same(&rt, ends.waiting.has_ended(), true);
     speak(&rt, &master, port, &ASKED);
     assert_same(&rt, next(&mut ends), Ok(Some(Port::A)));
     assert_same(&rt, next(&mut ends), Ok(None));

@@ -1,0 +1,173 @@
+//! What carries a master's frames over Ethernet.
+
+ghost use Rattle.std.specs.Prelude.{◌≡◌, ◌+◌, ◌-◌, ◌^◌, ◌≤◌, IfOk, IfSome, IsErr, IsOk, length, take};
+ghost use Rattle.ec_wire.specs.declared.frame.TheConstants.{MAX_FRAME, PACKET_ROOM};
+ghost use Rattle.ecat_raw.specs.Ethernet.{answer_in};
+ghost use Rattle.ecat_raw.specs.Taken.{IsGiven, taken};
+
+use crate::ethernet::{ADDRESS_A, ADDRESS_B, answer_in, packet_of};
+use crate::sockets::{Descriptors, PACKET, PacketSocket, RawFault, open_both};
+use ec_ring::{Port, PortFault};
+use ec_wire::{MAX_FRAME, PACKET_ROOM};
+use ecat_far::Carrier;
+use std::io::{self, ErrorKind};
+use std::time::Duration;
+
+/// How many late packets are dropped at a port before a trip, at the most.
+const MOST_LATE: usize = 1024;
+
+/// A packet socket at each port of the master; with one alone port B sends and receives nothing.
+///
+/// A frame goes out to every station from `ADDRESS_A` or `ADDRESS_B`. What comes in is taken for an answer
+/// where its type is 0x88A4, with at most two tags before it, and its source address says that it has passed a
+/// controller: so a port takes neither its own frame for an answer nor another master's. Any other packet
+/// is received as one of no bytes. A receive waits so long at most; that no packet came by then is no
+/// failure. Each other error of the system counts as a failure, as of an interface that is down.
+#[derive(Drop)]
+pub struct RawCarrier {
+    a: PacketSocket,
+    b: Option<PacketSocket>,
+    limit: i32,
+    failures: u64,
+}
+
+impl RawCarrier {
+    /// Takes over inherited packet sockets, which are closed with it. A receive is to wait for so long, in
+    /// whole milliseconds and one at least.
+    pub fn open(descriptors: Descriptors, limit: Duration) -> Result<RawCarrier, RawFault>
+        ensures none_failed { IfOk result (λ carrier. ⟦<RawCarrier as Carrier>⟧.failed carrier ≡ 0) }
+    {
+        let (a, b) = open_both(descriptors)?;
+        Ok(RawCarrier::over(a, b, limit))
+    }
+
+    /// A carrier over these sockets.
+    pub(crate) fn over(a: PacketSocket, b: Option<PacketSocket>, limit: Duration) -> RawCarrier
+        ensures { result.failures ≡ 0 }
+    {
+        let limit = i32::try_from(limit.as_millis()).unwrap_or(i32::MAX).max(1);
+        RawCarrier {
+            a,
+            b,
+            limit,
+            failures: 0,
+        }
+    }
+
+    /// The socket of a port, if it has one.
+    fn socket(&self, at: Port) -> Option<&PacketSocket> {
+        match at {
+            Port::A => Some(&self.a),
+            Port::B => self.b.as_ref(),
+        }
+    }
+
+    /// Counts a failure; at the greatest count there is none.
+    fn fail(&mut self) -> Result<(), PortFault>
+        ensures counted { IsErr result → self.new.failures ≡ self.old.failures + 1 }
+        ensures never_lower { self.old.failures ≤ self.new.failures }
+        ensures passed_over { IsOk result → self.old.failures ≡ 2 ^ 64 - 1 }
+    {
+        if self.failures == u64::MAX {
+            return Ok(());
+        }
+        self.failures += 1;
+        Err(PortFault)
+    }
+}
+
+impl Carrier for RawCarrier {
+    ghost failed = { λ carrier. carrier.failures };
+
+    // which packets come is up to the line and to the system
+    ghost gives = { λ before at packet later. IfSome packet IsGiven };
+
+    fn drain(&mut self) {
+        drop_late(&self.a);
+        if let Some(socket) = &self.b {
+            drop_late(socket);
+        }
+    }
+
+    fn send(&mut self, from: Port, bytes: &[u8]) -> Result<(), PortFault> {
+        let Some(socket) = self.socket(from) else {
+            return Ok(());
+        };
+        if MAX_FRAME < bytes.len() {
+            return self.fail();
+        }
+        match socket.send(packet_of(address_of(from), bytes).as_slice()) {
+            Ok(_) => Ok(()),
+            Err(fault) if is_silence(&fault) => Ok(()),
+            Err(_) => self.fail(),
+        }
+    }
+
+    fn receive(
+        &mut self,
+        at: Port,
+        into: &mut [u8; PACKET_ROOM],
+    ) -> Result<Option<usize>, PortFault> {
+        let Some(socket) = self.socket(at) else {
+            return Ok(None);
+        };
+        let mut packet = [0; PACKET];
+        match socket.receive_within(&mut packet, self.limit) {
+            Ok(count) => Ok(Some(take_answer(&packet[..count], into))),
+            Err(fault) if is_silence(&fault) => Ok(None),
+            Err(_) => {
+                self.fail()?;
+                Ok(None)
+            }
+        }
+    }
+
+    fn failures(&self) -> u64 {
+        self.failures
+    }
+}
+
+/// The source address of what goes out from a port.
+fn address_of(port: Port) -> [u8; 6] {
+    match port {
+        Port::A => ADDRESS_A,
+        Port::B => ADDRESS_B,
+    }
+}
+
+/// Takes the frame of an answer into the front of the room, and says how many bytes it has; of any other
+/// packet it takes none.
+fn take_answer(packet: &[u8], into: &mut [u8; PACKET_ROOM]) -> usize
+    ensures room { result ≤ PACKET_ROOM }
+    ensures taken { take result into.new ≡ taken (answer_in packet.now) }
+{
+    match answer_in(packet) {
+        Some(frame) => copy_front(frame, into),
+        None => 0,
+    }
+}
+
+/// Copies a frame into the front of the room, as far as that goes, and says how many bytes it has there.
+pub(crate) fn copy_front(frame: &[u8], into: &mut [u8; PACKET_ROOM]) -> usize
+    ensures room { result ≤ PACKET_ROOM }
+    ensures copied { take result into.new ≡ take PACKET_ROOM frame.now }
+{
+    let count = PACKET_ROOM.min(frame.len());
+    into[..count].copy_from_slice(&frame[..count]);
+    count
+}
+
+/// Drops what waits at a socket.
+fn drop_late(socket: &PacketSocket) {
+    let mut room = [0; PACKET];
+    for _late in 0..MOST_LATE {
+        if socket.receive(&mut room).is_err() {
+            break;
+        }
+    }
+}
+
+/// Does the error say that nothing came, or that nothing can be sent now?
+fn is_silence(fault: &io::Error) -> bool {
+    matches!(fault.kind(), ErrorKind::WouldBlock | ErrorKind::Interrupted)
+}

@@ -1,0 +1,194 @@
+//! The ends of a line on Ethernet.
+
+ghost use Rattle.std.specs.Prelude.{◌≡◌, ◌≤◌, IfOk, IfSome};
+ghost use Rattle.ec_wire.specs.declared.frame.TheConstants.{PACKET_ROOM};
+ghost use Rattle.ecat_serve.specs.Ends.{any_receive, any_send};
+ghost use Rattle.ecat_raw.specs.Taken.{IsTaken};
+
+use crate::carrier::copy_front;
+use crate::ethernet::{ADDRESS_A, Header, answering, frame_in, header_in, header_of, sender_of, under};
+use crate::sockets::{Descriptors, PACKET, PacketSocket, RawFault, open_both};
+use ec_ring::{Port, PortFault};
+use ec_wire::{MAX_FRAME, PACKET_ROOM};
+use ecat_serve::{Arrived, Console, EndSockets, Ends, InputLine, LINE_ROOM, WaitFault, Waiting};
+use ecat_serve::may_try_again;
+use std::alloc::Global;
+use std::io::Read;
+use std::net::{Net, SocketAddr};
+use std::os::fd::AsRawFd;
+
+/// The packet sockets of both ends, and the header of the answer to what came last.
+#[derive(Drop)]
+struct RawSockets {
+    a: PacketSocket,
+    b: Option<PacketSocket>,
+    answers_under: Header,
+}
+
+impl RawSockets {
+    /// The socket of an end, if it has one.
+    fn socket(&self, at: Port) -> Option<&PacketSocket> {
+        match at {
+            Port::A => Some(&self.a),
+            Port::B => self.b.as_ref(),
+        }
+    }
+
+    /// Receives a packet that waits at an end, if one does, and says how many bytes it has.
+    fn packet_at(&self, at: Port, into: &mut [u8; PACKET]) -> Result<Option<usize>, PortFault>
+        ensures { IfOk result (λ found. IfSome found (λ count. count ≤ PACKET)) }
+    {
+        let Some(socket) = self.socket(at) else {
+            return Ok(None);
+        };
+        match socket.receive(into) {
+            Ok(count) => Ok(Some(count)),
+            Err(fault) if may_try_again(&fault) => Ok(None),
+            Err(_) => Err(PortFault),
+        }
+    }
+
+    /// Takes the frame of a packet into the front of the room, if it has one, and keeps the header under
+    /// which its answer goes.
+    fn take(
+        &mut self,
+        at: Port,
+        packet: &[u8],
+        into: &mut [u8; PACKET_ROOM],
+    ) -> Option<Arrived>
+        ensures { IsTaken at packet.now self.old.answers_under.items result into.new
+            self.new.answers_under.items }
+    {
+        let frame = frame_in(packet)?;
+        self.answers_under = answering(header_in(packet));
+        Some(Arrived {
+            at,
+            from: sender_of(packet),
+            count: copy_front(frame, into),
+        })
+    }
+
+    /// Sends a frame from an end, as the answer to what came last; from an end with no socket nothing.
+    fn send(&self, from: Port, frame: &[u8]) -> Result<(), PortFault> {
+        let Some(socket) = self.socket(from) else {
+            return Ok(());
+        };
+        if MAX_FRAME < frame.len() {
+            return Err(PortFault);
+        }
+        match socket.send(under(&self.answers_under, frame).as_slice()) {
+            Ok(_) => Ok(()),
+            Err(fault) if may_try_again(&fault) => Ok(()),
+            Err(_) => Err(PortFault),
+        }
+    }
+}
+
+impl EndSockets for RawSockets {
+    fn receive_at(
+        &mut self,
+        at: Port,
+        into: &mut [u8; PACKET_ROOM],
+    ) -> Result<Option<Arrived>, PortFault> {
+        let mut packet = [0; PACKET];
+        for _passed in 0..u64::MAX {
+            let Some(count) = self.packet_at(at, &mut packet)? else {
+                return Ok(None);
+            };
+            if let Some(arrived) = self.take(at, &packet[..count], into) {
+                return Ok(Some(arrived));
+            }
+        }
+        Ok(None)
+    }
+}
+
+/// One packet socket or two, one at each end of a line; with one there is no end B. Whoever reaches such an
+/// interface may write to the slaves.
+///
+/// A packet comes in where its type is 0x88A4, with at most two tags before it; any other is passed over. Its
+/// frame is received without padding, of more than 1,501 bytes the first 1,501, and as if it came from the
+/// link-local IPv6 address that its source address makes, at port 34980. An answer leaves under the header of
+/// what came last, to everybody, with bit 1 of the first byte of its source address set; one that the system
+/// can't take just now is lost. How it waits for packets and for an input is told at `ecat_serve::Waiting`.
+#[derive(Drop)]
+pub struct RawEnds<I: Read + AsRawFd + Drop> {
+    waiting: Waiting<I>,
+    sockets: RawSockets,
+}
+
+impl<I: Read + AsRawFd + Drop> RawEnds<I> {
+    /// Takes over inherited packet sockets, which are closed with it. With an input the service ends where
+    /// that does.
+    pub fn open(
+        net: &impl Net,
+        alloc: Global,
+        descriptors: Descriptors,
+        input: Option<I>,
+    ) -> Result<RawEnds<I>, RawFault> {
+        let (a, b) = open_both(descriptors)?;
+        RawEnds::over(net, alloc, a, b, input)
+    }
+
+    /// Ends at these sockets.
+    pub(crate) fn over(
+        net: &impl Net,
+        alloc: Global,
+        a: PacketSocket,
+        b: Option<PacketSocket>,
+        input: Option<I>,
+    ) -> Result<RawEnds<I>, RawFault> {
+        let waiting = match Waiting::new(net, alloc, input) {
+            Ok(waiting) => waiting,
+            Err(WaitFault::NoMemory) => return Err(RawFault::NoMemory),
+            Err(WaitFault::Refused) => return Err(RawFault::NotWatched),
+        };
+        register(&waiting, Port::A, &a)?;
+        if let Some(socket) = &b {
+            register(&waiting, Port::B, socket)?;
+        }
+        let sockets = RawSockets {
+            a,
+            b,
+            answers_under: header_of(ADDRESS_A),
+        };
+        Ok(RawEnds { waiting, sockets })
+    }
+
+    /// Has what the input brings be kept, as lines to be taken, from now on.
+    pub fn keep_lines(&mut self) {
+        self.waiting.keep_lines();
+    }
+}
+
+impl<I: Read + AsRawFd + Drop> Ends for RawEnds<I> {
+    ghost receives = { any_receive };
+
+    ghost sends = { any_send };
+
+    fn receive(&mut self, into: &mut [u8; PACKET_ROOM]) -> Result<Option<Arrived>, PortFault> {
+        self.waiting.receive(&mut self.sockets, into)
+    }
+
+    fn send(&mut self, from: Port, _to: SocketAddr, bytes: &[u8]) -> Result<(), PortFault> {
+        self.sockets.send(from, bytes)
+    }
+}
+
+impl<I: Read + AsRawFd + Drop> Console for RawEnds<I> {
+    fn take_line(&mut self, into: &mut [u8; LINE_ROOM]) -> Option<InputLine> {
+        self.waiting.take_line(into)
+    }
+}
+
+/// Has the system tell of what comes to the socket of an end.
+fn register<I: Read + AsRawFd + Drop>(
+    waiting: &Waiting<I>,
+    at: Port,
+    socket: &PacketSocket,
+) -> Result<(), RawFault> {
+    match waiting.register(at, socket) {
+        Ok(()) => Ok(()),
+        Err(_) => Err(RawFault::NotWatched),
+    }
+}
