@@ -1,0 +1,12 @@
+#![tactic(auto)]
+//! Trial.
+
+mod answered;
+mod frame;
+mod item;
+mod join;
+mod joining;
+mod judge;
+mod numbers;
+mod output;
+mod store;
