@@ -1,16 +1,20 @@
 //! The frames in which items go out.
 
-ghost use Rattle.std.specs.Prelude.{◌≡◌, ◌<◌, ◌≤◌, map, length};
+ghost use Rattle.std.specs.Prelude.{◌≡◌, ◌<◌, ◌≤◌, ◌+◌, ◌↔◌, ◌++◌, ◌∷◌, [], map, length, None, OnOk, OnErr};
+ghost use Rattle.std.specs.Prelude.{IsErr};
+ghost use Rattle.ec_wire.specs.Datagram.{datagram_length};
+ghost use Rattle.ec_wire.specs.Spelling.{body_length};
+ghost use Rattle.ec_map.specs.Item.{datagram_of};
 ghost use Rattle.ec_line.specs.Answered.{sent_of};
 ghost use Rattle.ec_master.specs.Cut.{frame_at};
-ghost use Rattle.rummymaple.specs.Items.{asked, AreTaken};
+ghost use Rattle.rummymaple.specs.Items.{asked, refusal, AreTaken};
 ghost use Rattle.rummymaple.specs.Frame.{IsFrame, IsPutFrame, frame_answer};
 ghost use Rattle.rummymaple.specs.declared.frame.FrameEnd.{FrameEnd};
 
 use crate::item::{Item, MAX_ITEMS, Refused, first_refused};
 use crate::numbers::Code;
-use crate::output::put_frame;
-use ec_wire::FrameBuf;
+use crate::packet::put_frame;
+use ec_wire::{FrameBuf, Full};
 
 /// How the making of a frame ended.
 #[derive(Clone, Copy, PartialEq, Eq, Debug)]
@@ -46,6 +50,29 @@ pub struct FrameAnswer {
     pub code: u32,
 }
 
+/// The frame of one item.
+#[inline(never)]
+fn frame_of(item: &Item, image: &[u8], k: usize) -> FrameBuf
+    requires taken { refusal (length image.now) item.now ≡ None }
+    requires number { k < MAX_ITEMS }
+    ensures { result ≡ datagram_of (asked image.now item.now) k ∷ [] }
+{
+    FrameBuf::of(&item.datagram(image, k))
+}
+
+/// Puts the datagram of an item behind the others, unless the datagrams would pass 1,498 bytes.
+#[inline(never)]
+fn push_item(frame: &mut FrameBuf, item: &Item, image: &[u8], k: usize) -> Result<(), Full>
+    requires taken { refusal (length image.now) item.now ≡ None }
+    requires number { k < MAX_ITEMS }
+    ensures ok { OnOk result (frame.new ≡ frame.old ++ datagram_of (asked image.now item.now) k ∷ []) }
+    ensures err { OnErr result (frame.new ≡ frame.old) }
+    ensures full { IsErr result ↔ (1498
+        < body_length frame.old + datagram_length (datagram_of (asked image.now item.now) k)) }
+{
+    frame.push(&item.datagram(image, k))
+}
+
 /// The frame that begins with the item at `first`: as many of the items from there on as fit, each with its
 /// number as index.
 fn frame_from(items: &[Item], image: &[u8], first: usize) -> FrameBuf
@@ -54,9 +81,9 @@ fn frame_from(items: &[Item], image: &[u8], first: usize) -> FrameBuf
     requires taken { AreTaken (length image.now) items.now }
     ensures { result ≡ sent_of (frame_at first (map (asked image.now) items.now)) }
 {
-    let mut frame = FrameBuf::of(&items[first].datagram(image, first));
+    let mut frame = frame_of(&items[first], image, first);
     for k in first + 1..items.len() {
-        match frame.push(&items[k].datagram(image, k)) {
+        match push_item(&mut frame, &items[k], image, k) {
             Ok(()) => {}
             Err(_) => return frame,
         }

@@ -140,6 +140,7 @@ impl Item {
     }
 
     /// The datagram that asks it, with `k` as index.
+    #[inline(never)]
     pub(crate) fn datagram(&self, image: &[u8], k: usize) -> Datagram
         requires taken { refusal (length image.now) self.now ≡ None }
         requires number { k < MAX_ITEMS }

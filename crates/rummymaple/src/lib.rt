@@ -8,5 +8,5 @@ mod join;
 mod joining;
 mod judge;
 mod numbers;
-mod output;
+mod packet;
 mod store;

@@ -5,7 +5,7 @@ use Rattle.std.proofs.lemmas.List.{drop_all, length-map}
 use Rattle.ec_line.specs.After.{Entry}
 use Rattle.ec_line.specs.Answered.{sent_of}
 use Rattle.ec_map.specs.Item.{ItemRecord}
-use Rattle.ec_wire.specs.Datagram.{DatagramRecord, datagram_length, record_of}
+use Rattle.ec_wire.specs.Datagram.{DatagramRecord, datagram_length}
 use Rattle.ec_wire.specs.Spelling.{body_length}
 use Rattle.ec_master.specs.Cut.{entry_of, entries_from, filled}
 use Rattle.rummymaple.specs.Items.{asked}
@@ -20,25 +20,25 @@ loop-k-init c =
     let first : ℕ = c.args.first in
     record {
       entries = entry_of (asked_at image items first) first ∷ [];
-      frame = c.of-frame.ensures ∙ ap (λ (d : DatagramRecord). d ∷ []) c.datagram.ensures;
+      frame = c.frame_of-frame.ensures;
       inside = omega (arith, c.requires.inside);
       rest = rw (add-one first, entries-asked image items first c.requires.inside) refl;
     }
 
-pub datagram-requires-in-loop-k-clause-taken : goal.datagram-requires-in-loop-k-clause-taken
-datagram-requires-in-loop-k-clause-taken c =
+pub push_item-requires-clause-taken : goal.push_item-requires-clause-taken
+push_item-requires-clause-taken c =
     taken_at _ c.args.items.now c.loop-k.k c.requires.taken (omega (arith, c.loop-k-test.true))
 
--- what the frame and the pushed datagram take is what the entries take
-over : (es : List Entry) (e : Entry) (frame : List DatagramRecord) (d : DatagramRecord) → frame ≡ sent_of es
-    → d ≡ e.sent
-    → 1498 < body_length frame + datagram_length d → 1498 < body_length (sent_of es) + datagram_length e.sent
-over es e frame d same one h = omega (arith, h, ap body_length same, ap datagram_length one)
+-- what the frame takes is what the entries take
+over : (es : List Entry) (e : Entry) (frame : List DatagramRecord) → frame ≡ sent_of es
+    → 1498 < body_length frame + datagram_length e.sent
+    → 1498 < body_length (sent_of es) + datagram_length e.sent
+over es e frame same h = omega (arith, h, ap body_length same)
 
-within : (es : List Entry) (e : Entry) (frame : List DatagramRecord) (d : DatagramRecord) → frame ≡ sent_of es
-    → d ≡ e.sent
-    → body_length frame + datagram_length d ≤ 1498 → body_length (sent_of es) + datagram_length e.sent ≤ 1498
-within es e frame d same one h = omega (arith, h, ap body_length same, ap datagram_length one)
+within : (es : List Entry) (e : Entry) (frame : List DatagramRecord) → frame ≡ sent_of es
+    → body_length frame + datagram_length e.sent ≤ 1498
+    → body_length (sent_of es) + datagram_length e.sent ≤ 1498
+within es e frame same h = omega (arith, h, ap body_length same)
 
 pub returns-in-Err : goal.returns-in-Err
 returns-in-Err c =
@@ -48,7 +48,7 @@ returns-in-Err c =
     let es = c.loop-k.invariant.entries in
     let e : Entry = entry_of (asked_at image items k) k in
     let full : 1498 < body_length (sent_of es) + datagram_length e.sent
-    = over es e _ _ c.loop-k.invariant.frame c.datagram-in-loop-k.ensures (c.in-Err.ensures.full.0 refl) in
+    = over es e _ c.loop-k.invariant.frame (c.in-Err.ensures.full.0 refl) in
     c.in-Err.ensures.err ∙ c.loop-k.invariant.frame
     ∙ ap sent_of
     (sym (filled-full es (entries_from (suc k) (drop (suc k) (map (asked image) items))) e
@@ -64,14 +64,10 @@ loop-k-preserved c =
     let es = c.loop-k.invariant.entries in
     let e : Entry = entry_of (asked_at image items k) k in
     let inside : k < length items = omega (arith, c.loop-k-test.true) in
-    let pushed : c.push.new.self ≡ sent_of es ++ e.sent ∷ []
-    = c.in-Ok.ensures.ok
-    ∙ ap (λ (ds : List DatagramRecord). ds ++ record_of c.datagram-in-loop-k.result ∷ [])
-    c.loop-k.invariant.frame
-    ∙ ap (λ (d : DatagramRecord). sent_of es ++ d ∷ []) c.datagram-in-loop-k.ensures in
+    let pushed : c.push_item.new.frame ≡ sent_of es ++ e.sent ∷ []
+    = c.in-Ok.ensures.ok ∙ ap (λ (ds : List DatagramRecord). ds ++ e.sent ∷ []) c.loop-k.invariant.frame in
     let fits : body_length (sent_of es) + datagram_length e.sent ≤ 1498
-    = within es e _ _ c.loop-k.invariant.frame c.datagram-in-loop-k.ensures
-    (not_full _ _ c.in-Ok.ensures.full.1) in
+    = within es e _ c.loop-k.invariant.frame (not_full _ _ c.in-Ok.ensures.full.1) in
     record {
       entries = es ++ e ∷ [];
       frame = pushed ∙ sym (sent_of-more es e);
