@@ -1,20 +1,19 @@
 //! The frames in which items go out.
 
-ghost use Rattle.std.specs.Prelude.{◌≡◌, ◌<◌, ◌≤◌, ◌+◌, ◌↔◌, ◌++◌, ◌∷◌, [], map, length, None, OnOk, OnErr};
-ghost use Rattle.std.specs.Prelude.{IsErr};
-ghost use Rattle.ec_wire.specs.Datagram.{datagram_length};
-ghost use Rattle.ec_wire.specs.Spelling.{body_length};
+ghost use Rattle.std.specs.Prelude.{◌≡◌, ◌<◌, ◌≤◌, ◌∷◌, [], map, length, slice_get, Some};
 ghost use Rattle.ec_map.specs.Item.{datagram_of};
 ghost use Rattle.ec_line.specs.Answered.{sent_of};
 ghost use Rattle.ec_master.specs.Cut.{frame_at};
-ghost use Rattle.rummymaple.specs.Items.{asked, refusal, AreTaken};
+ghost use Rattle.rummymaple.specs.Items.{asked, AreTaken};
 ghost use Rattle.rummymaple.specs.Frame.{IsFrame, IsPutFrame, frame_answer};
 ghost use Rattle.rummymaple.specs.declared.frame.FrameEnd.{FrameEnd};
+ghost use Rattle.rummymaple.specs.declared.item.Item.{Item};
 
-use crate::item::{Item, MAX_ITEMS, Refused, first_refused};
+use crate::item::{Item, MAX_ITEMS, first_refused};
 use crate::numbers::Code;
 use crate::packet::put_frame;
-use ec_wire::{FrameBuf, Full};
+use arrayvec::ArrayVec;
+use ec_wire::{Command, Datagram, FrameBuf};
 
 /// How the making of a frame ended.
 #[derive(Clone, Copy, PartialEq, Eq, Debug)]
@@ -50,48 +49,32 @@ pub struct FrameAnswer {
     pub code: u32,
 }
 
-/// The frame of one item.
-#[inline(never)]
-fn frame_of(item: &Item, image: &[u8], k: usize) -> FrameBuf
-    requires taken { refusal (length image.now) item.now ≡ None }
-    requires number { k < MAX_ITEMS }
-    ensures { result ≡ datagram_of (asked image.now item.now) k ∷ [] }
-{
-    FrameBuf::of(&item.datagram(image, k))
-}
-
-/// Puts the datagram of an item behind the others, unless the datagrams would pass 1,498 bytes.
-#[inline(never)]
-fn push_item(frame: &mut FrameBuf, item: &Item, image: &[u8], k: usize) -> Result<(), Full>
-    requires taken { refusal (length image.now) item.now ≡ None }
-    requires number { k < MAX_ITEMS }
-    ensures ok { OnOk result (frame.new ≡ frame.old ++ datagram_of (asked image.now item.now) k ∷ []) }
-    ensures err { OnErr result (frame.new ≡ frame.old) }
-    ensures full { IsErr result ↔ (1498
-        < body_length frame.old + datagram_length (datagram_of (asked image.now item.now) k)) }
-{
-    frame.push(&item.datagram(image, k))
-}
-
-/// The frame that begins with the item at `first`: as many of the items from there on as fit, each with its
-/// number as index.
-fn frame_from(items: &[Item], image: &[u8], first: usize) -> FrameBuf
+/// Puts as many of the items behind the one at `first` onto its frame as fit, each with its number as index.
+fn fill(
+    frame: &mut FrameBuf,
+    datagram: &mut Datagram,
+    items: &[Item],
+    image: &[u8],
+    first: usize,
+)
     requires inside { first < length items.now }
     requires numbers { length items.now ≤ MAX_ITEMS }
     requires taken { AreTaken (length image.now) items.now }
-    ensures { result ≡ sent_of (frame_at first (map (asked image.now) items.now)) }
+    requires begun { (i : Item) → slice_get items.now first ≡ Some i
+        → frame.old ≡ datagram_of (asked image.now i) first ∷ [] }
+    ensures { frame.new ≡ sent_of (frame_at first (map (asked image.now) items.now)) }
 {
-    let mut frame = frame_of(&items[first], image, first);
     for k in first + 1..items.len() {
-        match push_item(&mut frame, &items[k], image, k) {
+        items[k].ask(image, k, datagram);
+        match frame.push(datagram) {
             Ok(()) => {}
-            Err(_) => return frame,
+            Err(_) => return,
         }
     }
-    frame
 }
 
-/// Makes the frame that begins with the item at `first`.
+/// Makes the frame that begins with the item at `first`. It is made in place, by one datagram after the
+/// other in one place, so that a call stays small on its caller's stack.
 fn make_frame(items: &[Item], image: &[u8], first: usize, room: &mut [u8]) -> FrameEnd
     requires inside { first < length items.now }
     requires numbers { length items.now ≤ MAX_ITEMS }
@@ -99,7 +82,18 @@ fn make_frame(items: &[Item], image: &[u8], first: usize, room: &mut [u8]) -> Fr
     ensures { IsPutFrame (sent_of (frame_at first (map (asked image.now) items.now)))
         room.old result room.new }
 {
-    let frame = frame_from(items, image, first);
+    let mut datagram = Datagram {
+        command: Command::Nop,
+        index: 0,
+        address: 0,
+        circulating: false,
+        irq: 0,
+        payload: ArrayVec::new(),
+        counter: 0,
+    };
+    items[first].ask(image, first, &mut datagram);
+    let mut frame = FrameBuf::of(&datagram);
+    fill(&mut frame, &mut datagram, items, image, first);
     match put_frame(&frame, room) {
         Some(bytes) => FrameEnd::Made {
             items: frame.count(),

@@ -139,24 +139,23 @@ impl Item {
         &image[begin..end]
     }
 
-    /// The datagram that asks it, with `k` as index.
-    #[inline(never)]
-    pub(crate) fn datagram(&self, image: &[u8], k: usize) -> Datagram
+    /// Makes a datagram that asks it, with `k` as index, of one that is there: so there is one on the stack.
+    pub(crate) fn ask(&self, image: &[u8], k: usize, datagram: &mut Datagram)
         requires taken { refusal (length image.now) self.now ≡ None }
         requires number { k < MAX_ITEMS }
-        ensures { record_of result ≡ datagram_of (asked image.now self.now) k }
+        ensures { record_of datagram.new ≡ datagram_of (asked image.now self.now) k }
     {
-        let mut payload = ArrayVec::new();
-        payload.try_extend_from_slice(self.data(image)).unwrap();
-        Datagram {
-            command: self.kind().command(),
-            index: k as u8,
-            address: self.wire_address(),
-            circulating: false,
-            irq: 0,
-            payload,
-            counter: self.sent,
-        }
+        datagram.payload.clear();
+        datagram
+            .payload
+            .try_extend_from_slice(self.data(image))
+            .unwrap();
+        datagram.command = self.kind().command();
+        datagram.index = k as u8;
+        datagram.address = self.wire_address();
+        datagram.circulating = false;
+        datagram.irq = 0;
+        datagram.counter = self.sent;
     }
 }
 

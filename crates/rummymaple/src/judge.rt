@@ -7,7 +7,6 @@ ghost use Rattle.rummymaple.specs.declared.judge.JudgeEnd.{JudgeEnd};
 use crate::answered::{first_other, take_counts, verdict};
 use crate::item::Item;
 use crate::numbers::Code;
-use crate::packet::read_frame;
 use ec_master::Verdict;
 use ec_wire::{Form, FrameBuf, WireFault};
 
@@ -67,7 +66,7 @@ fn judge_frame(items: &mut [Item], first: usize, frame: &FrameBuf) -> JudgeEnd
 fn judge(items: &mut [Item], first: usize, joined: &[u8]) -> JudgeEnd
     ensures { IsJudged items.old first joined.now result items.new }
 {
-    let read = read_frame(joined, Form::Udp);
+    let read = FrameBuf::read(joined, Form::Udp);
     match &read {
         Ok(frame) => judge_frame(items, first, frame),
         Err(fault) => JudgeEnd::NotJoined(*fault),

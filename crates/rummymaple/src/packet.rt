@@ -1,21 +1,10 @@
-//! A frame read from the caller's bytes, and put into the caller's room.
+//! A frame's bytes put into the caller's room.
 
-ghost use Rattle.std.specs.Prelude.{◌≡◌, ◌<◌, IfSome, IfNone, IfOk, IfErr, length};
-ghost use Rattle.ec_wire.specs.Fault.{IsSpelt, IsFirstFault};
+ghost use Rattle.std.specs.Prelude.{◌≡◌, ◌<◌, IfSome, IfNone, length};
 ghost use Rattle.ec_wire.specs.Spelling.{spelling};
 ghost use Rattle.rummymaple.specs.Join.{IsPut};
 
-use ec_wire::{Form, FrameBuf, WireFault};
-
-/// The frame that the bytes spell, or their first fault. What the reading needs of the stack is given back
-/// before the frame is looked at.
-#[inline(never)]
-pub(crate) fn read_frame(bytes: &[u8], form: Form) -> Result<FrameBuf, WireFault>
-    ensures found { IfOk result (λ frame. IsSpelt form bytes.now frame) }
-    ensures fault { IfErr result (IsFirstFault form bytes.now) }
-{
-    FrameBuf::read(bytes, form)
-}
+use ec_wire::FrameBuf;
 
 /// Puts the frame's bytes at the front of the room and says how many they are, or leaves a room that is too
 /// small as it is.

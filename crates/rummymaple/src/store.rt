@@ -8,7 +8,6 @@ use crate::answered::{first_other, store_items};
 use crate::item::{Item, first_refused};
 use crate::judge::ItemAnswer;
 use crate::numbers::Code;
-use crate::packet::read_frame;
 use ec_wire::{Form, FrameBuf, WireFault};
 
 /// How the storing of a joined frame ended.
@@ -60,7 +59,7 @@ fn store_frame(items: &[Item], first: usize, frame: &FrameBuf, image: &mut [u8])
 fn store(items: &[Item], first: usize, joined: &[u8], image: &mut [u8]) -> StoreEnd
     ensures { IsStored items.now first joined.now image.old result image.new }
 {
-    let read = read_frame(joined, Form::Udp);
+    let read = FrameBuf::read(joined, Form::Udp);
     match &read {
         Ok(frame) => store_frame(items, first, frame, image),
         Err(fault) => StoreEnd::NotJoined(*fault),

@@ -7,7 +7,7 @@ use Rattle.ec_map.specs.Item.{is_in_range, is_broadcast}
 use Rattle.rummymaple.specs.Items.{kind_named, asked}
 use Rattle.rummymaple.proofs.ItemLemmas.{taken}
 use Rattle.std.proofs.lemmas.Bool.Decides.{nat_tests}
-use Rattle.rummymaple.proofs.item.Item.datagram.Goals as goal
+use Rattle.rummymaple.proofs.item.Item.ask.Goals as goal
 
 pub data-requires : goal.data-requires
 data-requires c = (taken _ c.args.self.now c.requires.taken).place
@@ -19,7 +19,7 @@ unwrap-requires c =
       arith,
       (taken _ c.args.self.now c.requires.taken).most,
       c.data.ensures.count,
-      ap length c.new-payload.ensures,
+      ap length c.clear.ensures,
     ))
 
 -- the registers' addresses have 16 bits
@@ -32,8 +32,8 @@ broadcast Lrw address n range is = absurd (cc)
 broadcast Fprd address n range is = absurd (cc)
 broadcast Fpwr address n range is = absurd (cc)
 
-pub wire_address-requires : goal.wire_address-requires
-wire_address-requires c is =
+pub wire_address-datagram-requires : goal.wire_address-datagram-requires
+wire_address-datagram-requires c is =
     broadcast (kind_named c.args.self.now.kind) c.args.self.now.address c.args.self.now.length
     (taken _ c.args.self.now c.requires.taken).range is
 
@@ -41,9 +41,9 @@ pub returns : goal.returns
 returns c =
     let payload : c.try_extend_from_slice.new.self.items ≡ (asked c.args.image.now c.args.self.now).payload =
     rw c.unwrap.ensures at c.try_extend_from_slice.ensures.ok
-    ∙ ap (λ xs. xs ++ c.data.result.now) c.new-payload.ensures ∙ c.data.ensures.value in
-    let command = c.command.ensures ∙ ap command_of c.kind.ensures in
-    let address = c.wire_address.ensures c.args.image.now in
+    ∙ ap (λ xs. xs ++ c.data.result.now) c.clear.ensures ∙ c.data.ensures.value in
+    let command = c.command-datagram.ensures ∙ ap command_of c.kind.ensures in
+    let address = c.wire_address-datagram.ensures c.args.image.now in
     λ t. record {
       command = command t;
       index = c.args.k;

@@ -4,7 +4,7 @@ use Rattle.ec_line.specs.After.{Entry}
 use Rattle.ec_line.specs.Answered.{sent_of}
 use Rattle.ec_master.specs.Cut.{entries_from, filled, first_frame}
 use Rattle.rummymaple.specs.Items.{asked}
-use Rattle.rummymaple.proofs.frame.frame_from.Given as goal
+use Rattle.rummymaple.proofs.frame.fill.Given as goal
 
 abbrev pub invariant-loop-k : goal.invariant-loop-k
 invariant-loop-k l = record {
