@@ -50,13 +50,7 @@ pub struct FrameAnswer {
 }
 
 /// Puts as many of the items behind the one at `first` onto its frame as fit, each with its number as index.
-fn fill(
-    frame: &mut FrameBuf,
-    datagram: &mut Datagram,
-    items: &[Item],
-    image: &[u8],
-    first: usize,
-)
+fn fill(frame: &mut FrameBuf, datagram: &mut Datagram, items: &[Item], image: &[u8], first: usize)
     requires inside { first < length items.now }
     requires numbers { length items.now ≤ MAX_ITEMS }
     requires taken { AreTaken (length image.now) items.now }
@@ -144,7 +138,12 @@ impl FrameEnd {
 /// carries: as many from there on as fit, each with its number as index and its data from the image. Any
 /// other end leaves `room` as it is.
 #[unsafe(no_mangle)]
-pub extern "C" fn rmp_frame(items: &[Item], image: &[u8], first: usize, room: &mut [u8]) -> FrameAnswer
+pub extern "C" fn rmp_frame(
+    items: &[Item],
+    image: &[u8],
+    first: usize,
+    room: &mut [u8],
+) -> FrameAnswer
     ensures { (end : FrameEnd) × (result ≡ frame_answer end)
         × IsFrame items.now image.now first room.old end room.new }
 {

@@ -174,7 +174,13 @@ fn join_packets(form: Form, sent: &[u8], a: &[u8], b: &[u8], room: &mut [u8]) ->
 /// the packets, each of length 0 where nothing came. The answer's bytes go to the front of `room`, which any
 /// other end leaves as it is.
 #[unsafe(no_mangle)]
-pub extern "C" fn rmp_join(form: u32, sent: &[u8], a: &[u8], b: &[u8], room: &mut [u8]) -> JoinAnswer
+pub extern "C" fn rmp_join(
+    form: u32,
+    sent: &[u8],
+    a: &[u8],
+    b: &[u8],
+    room: &mut [u8],
+) -> JoinAnswer
     ensures { (join : Join) × (result ≡ join_answer join)
         × IsJoin (form_of form) sent.now a.now b.now room.old join room.new }
 {

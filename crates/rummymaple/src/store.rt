@@ -69,7 +69,12 @@ fn store(items: &[Item], first: usize, joined: &[u8], image: &mut [u8]) -> Store
 /// Puts the data of a joined frame, whose datagrams answer the items from `first` on, into the image: of each
 /// item that reads, in their order. All else of the image stays, and so does all of it at any other end.
 #[unsafe(no_mangle)]
-pub extern "C" fn rmp_store(items: &[Item], first: usize, joined: &[u8], image: &mut [u8]) -> ItemAnswer
+pub extern "C" fn rmp_store(
+    items: &[Item],
+    first: usize,
+    joined: &[u8],
+    image: &mut [u8],
+) -> ItemAnswer
     ensures { (end : StoreEnd) × (result ≡ store_answer end)
         × IsStored items.now first joined.now image.old end image.new }
 {

@@ -11,8 +11,8 @@ use Rattle.rummymaple.proofs.answered.first_other.Goals as goal
 pub loop-j-preserved : goal.loop-j-preserved
 loop-j-preserved c =
     let answered : (m : ℕ) → m < c.loop-j.j + 1 → (i : Item)
-        → slice_get c.args.items.now (c.args.first + m) ≡ Some i
-        → answers i (c.args.first + m) (nth c.args.frame.now m) ≡ true
+    → slice_get c.args.items.now (c.args.first + m) ≡ Some i
+    → answers i (c.args.first + m) (nth c.args.frame.now m) ≡ true
     = below_more _ _ (λ m before i there. c.loop-j.invariant m i before there)
     (λ i there.
     ap (λ (x : Item). answers x (c.args.first + c.loop-j.j) (nth c.args.frame.now c.loop-j.j))
