@@ -11,6 +11,7 @@ use ec_ring::HeardPorts;
 use ec_wire::{Command, Datagram, FrameBuf};
 use ecat_far::{FarPorts, OpenFault, UdpCarrier, ends_of};
 use ecat_master::{Pace, Plan, ScanEnd, Wanted, Watched, master, scan, wanted_of};
+use ecat_raw::{Descriptors, RawCarrier, descriptors_of};
 use ecat_source::Source;
 use ecat_text::{GOOD, Lines, REFUSED, refuse};
 use std::alloc::Global;
@@ -18,8 +19,34 @@ use std::io::Write;
 use std::net::Net;
 use std::time::Duration;
 
-/// How long a copy is waited for where the words don't say, in microseconds.
-const DEFAULT_LIMIT: u32 = 20_000;
+/// How long a copy is waited for by UDP where the words don't say, in microseconds.
+const LIMIT: u32 = 20_000;
+
+/// How long it is waited for at a network interface.
+const RAW_LIMIT: u32 = 2_000;
+
+/// How a line is reached that lies somewhere else.
+#[derive(Clone, Copy)]
+pub enum Reach<'a> {
+    /// By UDP, at `HOST:PORT` or two of them with a comma between.
+    At(&'a str),
+    /// By network interfaces, through packet sockets.
+    Raw(Descriptors),
+}
+
+impl<'a> Reach<'a> {
+    /// How the words say that it is reached: in one of both ways.
+    pub fn of(at: Option<&'a str>, raw: Option<&'a str>) -> Result<Reach<'a>, Failure> {
+        match (at, raw) {
+            (Some(at), None) => Ok(Reach::At(at)),
+            (None, Some(raw)) => match descriptors_of(raw) {
+                Some(descriptors) => Ok(Reach::Raw(descriptors)),
+                None => Err(Failure::Descriptors),
+            },
+            _ => Err(Failure::Reach),
+        }
+    }
+}
 
 impl From<OpenFault> for Failure {
     fn from(fault: OpenFault) -> Failure {
@@ -44,15 +71,26 @@ pub fn far_ports(
     at: &str,
     limit: Option<u32>,
 ) -> Result<FarPorts<UdpCarrier>, Failure> {
-    let micros = match limit {
-        Some(micros) => micros,
-        None => DEFAULT_LIMIT,
-    };
-    let limit = Duration::from_micros(u64::from(micros));
-    let carrier = UdpCarrier::open(net, ends_of(at), limit)?;
+    let carrier = UdpCarrier::open(net, ends_of(at), patience(limit, LIMIT))?;
     let mut ports = FarPorts::new(carrier);
     let _ = ports.trip(&greeting());
     Ok(ports)
+}
+
+/// The two ports of a master at packet sockets.
+pub fn raw_ports(
+    descriptors: Descriptors,
+    limit: Option<u32>,
+) -> Result<FarPorts<RawCarrier>, Failure> {
+    match RawCarrier::open(descriptors, patience(limit, RAW_LIMIT)) {
+        Ok(carrier) => Ok(FarPorts::new(carrier)),
+        Err(fault) => Err(Failure::Raw(fault)),
+    }
+}
+
+/// How long a copy is waited for: so many microseconds, or as many as are usual.
+fn patience(limit: Option<u32>, usual: u32) -> Duration {
+    Duration::from_micros(u64::from(limit.unwrap_or(usual)))
 }
 
 /// A frame that asks nothing: each slave passes it on as it is.

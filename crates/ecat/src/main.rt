@@ -12,7 +12,9 @@ mod far;
 mod frame_rows;
 mod judge;
 mod line;
+mod listing;
 mod over_sockets;
+mod raw;
 mod run;
 mod scene_rows;
 mod sdo;
@@ -29,10 +31,11 @@ mod where_broken;
 ghost use Rattle.std.specs.Prelude.{◌≡◌};
 ghost use Rattle.ecat.specs.Failures.{refusal_status};
 
-use act::{Failure, act, report};
+use act::{Failure, report};
 use ecat_args::{Args, ArgsFault};
 use ecat_source::{Bytes, Counted};
 use ecat_text::{BAD_ARGUMENTS, FAILED};
+use listing::{Wanted, act_list};
 use over_sockets::{Console, over_sockets};
 use std::io::IsTerminal;
 use std::net::Net;
@@ -110,10 +113,16 @@ where
     V: io::Write,
 {
     let path = match args {
-        Args::List { file, .. } if *file == "-" => {
-            return act(rt.alloc(), args, &mut Counted::new(console.input), out, err);
+        Args::List {
+            file,
+            csv,
+            faults,
+            stats,
+        } => {
+            let wanted = Wanted::of(*csv, *faults, *stats, console.is_watched);
+            return open_listing(rt, file, wanted, console.input, out, err);
         }
-        Args::Show { file } | Args::List { file, .. } => *file,
+        Args::Show { file } => *file,
         Args::Check { scene }
         | Args::Cover { scene }
         | Args::Where { scene, .. }
@@ -129,6 +138,29 @@ where
     };
     match fs::open(rt, path) {
         Ok(file) => over_sockets(rt, args, console, &mut Counted::new(file), out, err),
+        Err(_) => report(&Failure::Open, out, err),
+    }
+}
+
+/// Opens the capture of a listing, standard input where it is `-`, and lists it.
+fn open_listing<R, W, V>(
+    rt: &R,
+    file: &str,
+    wanted: Wanted,
+    input: Stdin,
+    out: &mut W,
+    err: &mut V,
+) -> u8
+where
+    R: Files + AllocGlobal,
+    W: io::Write,
+    V: io::Write,
+{
+    if file == "-" {
+        return act_list(rt.alloc(), wanted.live(), Counted::new(input), out, err);
+    }
+    match fs::open(rt, file) {
+        Ok(file) => act_list(rt.alloc(), wanted, Counted::new(file), out, err),
         Err(_) => report(&Failure::Open, out, err),
     }
 }

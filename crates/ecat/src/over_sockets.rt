@@ -2,14 +2,16 @@
 
 use crate::act::{Failure, act, report};
 use crate::control::act_control;
-use crate::far::{Course, act_master, act_scan, course_of, far_ports};
+use crate::far::{Course, Reach, act_master, act_scan, course_of, far_ports, raw_ports};
 use crate::sdo::{Asked, sdo_far};
 use crate::serve::{Service, act_serve, ring_to_serve, unbound};
 use crate::udp::{Wanted, act_udp, prepare_udp};
 use crate::where_broken::where_far;
+use ec_ring::Ring;
 use ecat_args::Args;
 use ecat_master::{Outputs, Plan};
 use ecat_pace::{Beat, Ending};
+use ecat_raw::{Descriptors, RawEnds, descriptors_of};
 use ecat_serve::UdpEnds;
 use ecat_source::Source;
 use ecat_udp::UdpLine;
@@ -30,7 +32,7 @@ pub struct Console {
 /// What the words of `master` say but for its scene.
 #[derive(Clone, Copy)]
 struct Running<'a> {
-    at: &'a str,
+    reach: Reach<'a>,
     cycles: Option<u32>,
     every: Option<u32>,
     limit: Option<u32>,
@@ -68,8 +70,12 @@ where
             forever,
             control,
             log,
+            raw,
             ..
         } => {
+            let Some(raw) = raw_of(*raw) else {
+                return report(&Failure::Descriptors, out, err);
+            };
             let service = Service {
                 address: *address,
                 port: *port,
@@ -77,11 +83,13 @@ where
                 forever: *forever,
                 control: *control,
                 log: *log,
+                raw,
             };
             serve_at(rt, service, console.input, source, out, err)
         }
         Args::Master {
             at,
+            raw,
             cycles,
             every,
             limit,
@@ -94,8 +102,12 @@ where
             let Some(outputs) = outputs_of(*outputs) else {
                 return report(&Failure::Outputs, out, err);
             };
+            let reach = match Reach::of(*at, *raw) {
+                Ok(reach) => reach,
+                Err(failure) => return report(&failure, out, err),
+            };
             let running = Running {
-                at: *at,
+                reach,
                 cycles: *cycles,
                 every: *every,
                 limit: *limit,
@@ -110,8 +122,8 @@ where
             };
             master_at(rt, running, console.input, source, out, err)
         }
-        Args::Scan { at, limit } => match far_ports(rt, at, *limit) {
-            Ok(ports) => act_scan(ports, out, err),
+        Args::Scan { at, raw, limit } => match Reach::of(*at, *raw) {
+            Ok(reach) => scan_at(rt, reach, *limit, out, err),
             Err(failure) => report(&failure, out, err),
         },
         Args::Where { at: Some(at), .. } => {
@@ -138,6 +150,33 @@ where
             status_of(done, out, err)
         }
         _ => act(rt.alloc(), args, source, out, err),
+    }
+}
+
+/// The packet sockets that a word names, if there is one; `None` where it names none.
+fn raw_of(word: Option<&str>) -> Option<Option<Descriptors>> {
+    match word {
+        None => Some(None),
+        Some(word) => Some(Some(descriptors_of(word)?)),
+    }
+}
+
+/// Asks the slaves of a line somewhere else what they are.
+fn scan_at<R, W, V>(rt: &R, reach: Reach<'_>, limit: Option<u32>, out: &mut W, err: &mut V) -> u8
+where
+    R: Net,
+    W: io::Write,
+    V: io::Write,
+{
+    match reach {
+        Reach::At(at) => match far_ports(rt, at, limit) {
+            Ok(ports) => act_scan(ports, out, err),
+            Err(failure) => report(&failure, out, err),
+        },
+        Reach::Raw(descriptors) => match raw_ports(descriptors, limit) {
+            Ok(ports) => act_scan(ports, out, err),
+            Err(failure) => report(&failure, out, err),
+        },
     }
 }
 
@@ -207,13 +246,18 @@ where
     V: io::Write,
     L: io::Write,
 {
-    let ports = match far_ports(rt, running.at, running.limit) {
-        Ok(ports) => ports,
-        Err(failure) => return report(&failure, out, err),
+    let Ok(mut beat) = beat_of(rt, running, input) else {
+        return report(&Failure::Clock, out, err);
     };
-    match beat_of(rt, running, input) {
-        Ok(mut beat) => act_master(course, ports, &running.plan, &mut beat, out, err, log),
-        Err(_) => report(&Failure::Clock, out, err),
+    match running.reach {
+        Reach::At(at) => match far_ports(rt, at, running.limit) {
+            Ok(ports) => act_master(course, ports, &running.plan, &mut beat, out, err, log),
+            Err(failure) => report(&failure, out, err),
+        },
+        Reach::Raw(descriptors) => match raw_ports(descriptors, running.limit) {
+            Ok(ports) => act_master(course, ports, &running.plan, &mut beat, out, err, log),
+            Err(failure) => report(&failure, out, err),
+        },
     }
 }
 
@@ -276,9 +320,39 @@ where
     } else {
         None
     };
+    if let Some(descriptors) = service.raw {
+        return serve_raw(rt, service, descriptors, awaited, ring, out, err);
+    }
     let mut ends = match UdpEnds::bind(rt, rt.alloc(), service.address, service.port, awaited) {
         Ok(ends) => ends,
         Err(fault) => return report(&unbound(fault), out, err),
+    };
+    if service.control {
+        ends.keep_lines();
+        act_control(rt.alloc(), ring, service, &mut ends, out, err)
+    } else {
+        act_serve(ring, service, &mut ends, out, err)
+    }
+}
+
+/// Serves a ring at packet sockets.
+fn serve_raw<R, W, V>(
+    rt: &R,
+    service: Service,
+    descriptors: Descriptors,
+    awaited: Option<Stdin>,
+    ring: Ring,
+    out: &mut W,
+    err: &mut V,
+) -> u8
+where
+    R: Net + AllocGlobal,
+    W: io::Write,
+    V: io::Write,
+{
+    let mut ends = match RawEnds::open(rt, rt.alloc(), descriptors, awaited) {
+        Ok(ends) => ends,
+        Err(fault) => return report(&Failure::Raw(fault), out, err),
     };
     if service.control {
         ends.keep_lines();
