@@ -18,7 +18,7 @@ loop-k-preserved c =
       arith,
       inside,
       ap length c.loop-k.invariant,
-      length-map f (take k items),
+      length-map (take k items) f,
       length-take-le k items (omega (arith, inside)),
       c.len-k-end.ensures.count,
       c.len-k-end.ensures.limit,
