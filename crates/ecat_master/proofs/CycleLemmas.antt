@@ -19,7 +19,8 @@ unfolding Run
 run_more trips outputs expected n start between now so_far more = (between, so_far, more)
 
 -- so many cycles were made, and their ends add up
-pub record RunSoFar {P : Type 0} (trips : Trips P) (outputs : Outputs) (expected : List ℕ) (start now : Cycles)
+pub record RunSoFar {P : Type 0} (trips : Trips P) (outputs : Outputs) (expected : List ℕ)
+    (start now : Cycles)
     : Type 0 where
   pub number : ℕ
   pub run : Run trips outputs expected number start now

@@ -4,7 +4,8 @@ use Rattle.ecat_master.proofs.run.run_cycles.Goals as goal
 
 pub loop-cycles-init : goal.loop-cycles-init
 loop-cycles-init g c =
-    run_starts (WatchedTrips g.P.HeardPorts.trips) c.args.plan.now.outputs c.args.expected.now c.args.cycles.now
+    run_starts (WatchedTrips g.P.HeardPorts.trips) c.args.plan.now.outputs c.args.expected.now
+    c.args.cycles.now
     c.requires.sum
 
 pub loop-cycles-preserved-then-is_look_due : goal.loop-cycles-preserved-then-is_look_due
