@@ -1,6 +1,6 @@
 -- A datagram that was put is a question that was asked.
 use Rattle.std.proofs.Common.{◌≡◌, ap, sym, refl, ◌∙◌, Bool, true, false, cond, ◌==◌, nat_lt, nat_eq, not, ℕ}
-use Rattle.std.proofs.Common.{List, [], ◌∷◌, length, Option, None, Result, Ok, Err, arith}
+use Rattle.std.proofs.Common.{List, [], ◌∷◌, length, None, Result, Ok, Err, arith}
 use Rattle.std.specs.Cmp.Lexicographic.{pointwise}
 use Rattle.ec_wire.specs.Datagram.{DatagramRecord, nth}
 use Rattle.ec_merge.specs.Frames.{IsOwn, joined_frame}
@@ -26,7 +26,8 @@ asked_by trips before later q joined says decides puts = record {
 }
 
 two-rows : (p q : Bool) (x y : MasterFault)
-    → cond p (Err x) (cond q (Err y) (Ok None)) ≡ done {A = Unit {0}} (cond p (Err x) (cond q (Err y) (Ok tt)))
+    → cond p (Err x) (cond q (Err y) (Ok None)) ≡ done {A = Unit {0}} (cond p (Err x) (cond q (Err y)
+    (Ok tt)))
 two-rows true q x y = refl
 two-rows false true x y = refl
 two-rows false false x y = refl

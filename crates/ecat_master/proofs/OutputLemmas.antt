@@ -1,5 +1,5 @@
 -- Items that are pushed.
-use Rattle.std.proofs.Common.{◌≡◌, ◌<◌, ℕ, List, [], ◌∷◌, ◌++◌, length, refl, arith, Result, Ok, Err}
+use Rattle.std.proofs.Common.{◌≡◌, ◌<◌, List, [], ◌∷◌, ◌++◌, length, refl, arith, Result, Ok, Err}
 use Rattle.std.specs.Prelude.{OnOk, IsErr, ◌↔◌}
 use Rattle.ec_map.specs.Item.{ItemRecord}
 

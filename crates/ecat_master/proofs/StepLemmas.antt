@@ -1,6 +1,7 @@
 -- Steps, one question after the other and one step after the other.
-use Rattle.std.proofs.Common.{◌≡◌, ℕ, zero, suc, ◌+◌, ◌-◌, ◌<◌, arith, sym, ap, refl, ◌∙◌, subst, add-one}
-use Rattle.std.proofs.Common.{List, [], ◌∷◌, length, drop, drop-cons, get_or, ◌≤◌, Option, None, Some, Result, Ok, Err, replicate}
+use Rattle.std.proofs.Common.{◌≡◌, ℕ, suc, ◌+◌, ◌<◌, arith, sym, ap, refl, ◌∙◌, subst}
+use Rattle.std.proofs.Common.{List, [], ◌∷◌, length, drop, drop-cons, get_or, ◌≤◌, Option, None, Some}
+use Rattle.std.proofs.Common.{Result, Ok, Err}
 use Rattle.std.proofs.Common.{true, false}
 use Rattle.std.specs.List.{slice_get}
 use Rattle.std.proofs.lemmas.List.{drop_all}
@@ -12,7 +13,8 @@ use Rattle.ec_master.specs.Ports.{Trips}
 use Rattle.ec_services.specs.Ask.{Question, IsAsked, Talks, done}
 use Rattle.ec_services.specs.declared.fault.MasterFault.{MasterFault}
 use Rattle.ecat_master.specs.Phase.{AreDone, Brings}
-use Rattle.ecat_master.specs.Step.{manager_talk, fmmu_talk, SetsManager, SetsFmmu, IsDone, IsTried, is_answered}
+use Rattle.ecat_master.specs.Step.{manager_talk, fmmu_talk, SetsManager, SetsFmmu, IsDone, IsTried}
+use Rattle.ecat_master.specs.Step.{is_answered}
 use Rattle.ecat_master.specs.declared.phase.StepFault.{StepFault}
 use Rattle.ecat_master.specs.declared.step.Step.{Step}
 use Rattle.ecat_master.specs.declared.step.TheConstants.{MORE_TRIES}
@@ -43,7 +45,8 @@ talks_last trips before later q (Ok tt) asked = (Ok None, later, asked, (refl, r
 
 -- ---- records
 
-pub sets_manager : {P : Type 0} (trips : Trips P) (before later : P) (station n k : ℕ) (managers : List SyncMan)
+pub sets_manager : {P : Type 0} (trips : Trips P) (before later : P) (station n k : ℕ)
+    (managers : List SyncMan)
     (s : SyncMan) (bytes : List ℕ) (r : Result (Unit {0}) MasterFault) → k ≡ n → slice_get managers k ≡ Some s
     → bytes ≡ sync_man_bytes s → Talks trips before (manager_talk station k bytes) (Ok tt) r later
     → SetsManager trips before station n (slice_get managers n) r later
@@ -66,7 +69,8 @@ sets_fmmu trips before later station n k fmmus f bytes r here there spelt talk =
 -- what the tries that are left come to, from the ports as they are now, is what all come to
 abbrev pub TriesOn : {P : Type 0} → Trips P → P → P → ℕ → Wanted → Step → ℕ → ℕ → Type 0
 TriesOn {P} trips start now place wanted step all left =
-    (result : Result (Unit {0}) MasterFault) (later : P) → IsTried trips now place wanted step left result later
+    (result : Result (Unit {0}) MasterFault) (later : P)
+    → IsTried trips now place wanted step left result later
     → IsTried trips start place wanted step all result later
 
 tried-again : {P : Type 0} (trips : Trips P) (now between : P) (place : ℕ) (wanted : Wanted) (step : Step)
@@ -93,7 +97,8 @@ tried-last : {P : Type 0} (trips : Trips P) (now between : P) (place : ℕ) (wan
 unfolding IsTried
 tried-last trips now between place wanted step first did = did
 
-pub tries_on : {P : Type 0} (trips : Trips P) (start now between : P) (place : ℕ) (wanted : Wanted) (step : Step)
+pub tries_on : {P : Type 0} (trips : Trips P) (start now between : P) (place : ℕ) (wanted : Wanted)
+    (step : Step)
     (all left less : ℕ) (first : Result (Unit {0}) MasterFault)
     → TriesOn trips start now place wanted step all left → left ≡ suc less
     → is_answered first ≡ false → IsDone trips now place wanted step first between
@@ -103,7 +108,8 @@ tries_on trips start now between place wanted step all left less first so_far is
     (subst (λ (n : ℕ). IsTried trips now place wanted step n result later) (sym is)
     (tried-again trips now between place wanted step less first lost did result later more))
 
-pub tries_end : {P : Type 0} (trips : Trips P) (start now between : P) (place : ℕ) (wanted : Wanted) (step : Step)
+pub tries_end : {P : Type 0} (trips : Trips P) (start now between : P) (place : ℕ) (wanted : Wanted)
+    (step : Step)
     (all left less : ℕ) (first : Result (Unit {0}) MasterFault)
     → TriesOn trips start now place wanted step all left → left ≡ suc less
     → is_answered first ≡ true → IsDone trips now place wanted step first between
@@ -113,7 +119,8 @@ tries_end trips start now between place wanted step all left less first so_far i
     (subst (λ (n : ℕ). IsTried trips now place wanted step n first between) (sym is)
     (tried-once trips now between place wanted step less first there did))
 
-pub tries_last : {P : Type 0} (trips : Trips P) (start now between : P) (place : ℕ) (wanted : Wanted) (step : Step)
+pub tries_last : {P : Type 0} (trips : Trips P) (start now between : P) (place : ℕ) (wanted : Wanted)
+    (step : Step)
     (all left : ℕ) (first : Result (Unit {0}) MasterFault)
     → TriesOn trips start now place wanted step all left → left ≡ 0
     → IsDone trips now place wanted step first between
@@ -165,7 +172,8 @@ unfolding AreDone
 done-none trips now place wanted = (refl, refl)
 
 pub does_on : {P : Type 0} (trips : Trips P) (start now between : P) (place : ℕ) (wanted : Wanted)
-    (all left rest : List Step) (step : Step) → DoesOn trips start now place wanted all left → left ≡ step ∷ rest
+    (all left rest : List Step) (step : Step) → DoesOn trips start now place wanted all left
+    → left ≡ step ∷ rest
     → IsTried trips now place wanted step MORE_TRIES (Ok tt) between
     → DoesOn trips start between place wanted all rest
 does_on trips start now between place wanted all left rest step so_far is did result later more =

@@ -1,15 +1,13 @@
 -- A slave is brought up step by step (IEC 61158-6-12, AL management; IEC 61158-4-12, sync manager and FMMU
 -- entities): it gets its station address, its records are written and read back, it is asked for a state.
 use Rattle.std.specs.Prelude.{◌≡◌, ℕ, zero, suc, ◌+◌, ◌-◌, ◌*◌, ◌%◌, ◌==◌, nat_lt, Bool, true, false, Option}
-use Rattle.std.specs.Prelude.{None, Some, List, [], ◌∷◌, ◌++◌, length, take, replicate, Result, Ok, Err, not}
+use Rattle.std.specs.Prelude.{None, Some, List, [], ◌∷◌, length, take, replicate, Result, Ok, Err, not}
 use Rattle.std.specs.Prelude.{nat_eq, slice_get, slice_index}
 use Rattle.std.specs.Cmp.Lexicographic.{pointwise}
-use Rattle.std.specs.Int.{w16, to_le_bytes}
 use Rattle.ec_wire.specs.Datagram.{DatagramRecord, address_of}
 use Rattle.ec_wire.specs.declared.command.Command.TheVariants.{Fprd, Fpwr}
 use Rattle.ec_regs.specs.Fmmu.{fmmu_bytes}
 use Rattle.ec_regs.specs.SyncMan.{sync_man_bytes}
-use Rattle.ec_regs.specs.declared.al.AlState.{AlState}
 use Rattle.ec_regs.specs.declared.fmmu.Fmmu.{Fmmu}
 use Rattle.ec_regs.specs.declared.registers.TheConstants.{FMMU_BASE, FMMU_SIZE, SYNC_MANAGER_ACTIVATE}
 use Rattle.ec_regs.specs.declared.registers.TheConstants.{SYNC_MANAGER_BASE, SYNC_MANAGER_SIZE}
@@ -95,7 +93,8 @@ abbrev pub number_in : ℕ → ℕ
 number_in number = number % 8
 
 -- the record of a sync manager or of an FMMU that is there is set
-abbrev pub SetsManager : {P : Type 0} → Trips P → P → ℕ → ℕ → Option SyncMan → Result (Unit {0}) MasterFault → P
+abbrev pub SetsManager : {P : Type 0} → Trips P → P → ℕ → ℕ → Option SyncMan
+    → Result (Unit {0}) MasterFault → P
     → Type 0
 SetsManager trips before station n None result later = ⊥
 SetsManager trips before station n (Some s) result later =
@@ -108,16 +107,19 @@ SetsFmmu trips before station n (Some f) result later =
     Talks trips before (fmmu_talk station n (fmmu_bytes f)) (Ok tt) result later
 
 -- a step with the slave at a place is done once
-abbrev pub IsDone : {P : Type 0} → Trips P → P → ℕ → Wanted → Step → Result (Unit {0}) MasterFault → P → Type 0
+abbrev pub IsDone : {P : Type 0} → Trips P → P → ℕ → Wanted → Step → Result (Unit {0}) MasterFault → P
+    → Type 0
 IsDone trips before place wanted Station result later =
     Talks trips before (write (address_write place wanted.station false) ∷ []) (Ok tt) result later
 IsDone trips before place wanted (StationBehind first) result later =
-    Talks trips before (behind_question ((place + (65536 - first)) % 65536) wanted.station ∷ []) (Ok tt) result
+    Talks trips before (behind_question ((place + (65536 - first)) % 65536) wanted.station ∷ [])
+    (Ok tt) result
     later
 IsDone trips before place wanted StationBefore result later =
     Talks trips before (write (address_write place wanted.station true) ∷ []) (Ok tt) result later
 IsDone trips before place wanted (SyncManager n) result later =
-    SetsManager trips before wanted.station (number_in n) (slice_get wanted.managers (number_in n)) result later
+    SetsManager trips before wanted.station (number_in n) (slice_get wanted.managers
+    (number_in n)) result later
 IsDone trips before place wanted (FmmuRecord n) result later =
     SetsFmmu trips before wanted.station (number_in n) (slice_get wanted.fmmus (number_in n)) result later
 IsDone trips before place wanted (State state) result later =
@@ -132,11 +134,13 @@ is_answered (Err fault) = elim fault [
 ]
 
 -- a step is done, and again where no slave answered, at most so many times
-unfoldable pub IsTried : {P : Type 0} → Trips P → P → ℕ → Wanted → Step → ℕ → Result (Unit {0}) MasterFault → P
+unfoldable pub IsTried : {P : Type 0} → Trips P → P → ℕ → Wanted → Step → ℕ
+    → Result (Unit {0}) MasterFault → P
     → Type 0
 IsTried trips before place wanted step zero result later = IsDone trips before place wanted step result later
 IsTried {P} trips before place wanted step (suc more) result later =
-    (first : Result (Unit {0}) MasterFault) × (between : P) × IsDone trips before place wanted step first between
+    (first : Result (Unit {0}) MasterFault) ×
+    (between : P) × IsDone trips before place wanted step first between
     × (elim (is_answered first) [
       | true ↦ (result ≡ first) × (later ≡ between)
       | false ↦ IsTried trips between place wanted step more result later

@@ -9,11 +9,11 @@ ghost use Rattle.ecat_master.specs.Step.{address_write, behind_question, is_answ
 use crate::ask::{held_by, one_counted, one_or_two, put, request};
 use crate::wanted::Wanted;
 use ec_master::Ports;
+use ec_regs::AlState;
 use ec_regs::registers::{
     FMMU_BASE, FMMU_SIZE, STATION_ADDRESS, SYNC_MANAGER_ACTIVATE, SYNC_MANAGER_BASE,
     SYNC_MANAGER_SIZE,
 };
-use ec_regs::AlState;
 use ec_services::{MasterFault, request_state};
 use ec_wire::{Command, address_of};
 
@@ -174,12 +174,7 @@ fn give_station_behind<P: Ports>(
 }
 
 /// Does a step with the slave at a place, once.
-fn take<P: Ports>(
-    ports: &mut P,
-    place: u16,
-    wanted: &Wanted,
-    step: Step,
-) -> Result<(), MasterFault>
+fn take<P: Ports>(ports: &mut P, place: u16, wanted: &Wanted, step: Step) -> Result<(), MasterFault>
     ensures done { IsDone P.trips ports.old place wanted.now step result ports.new }
     ensures counted { result ≡ Err Port → P.failed ports.old < P.failed ports.new }
     ensures never_lower { P.failed ports.old ≤ P.failed ports.new }

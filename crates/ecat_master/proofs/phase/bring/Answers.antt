@@ -1,4 +1,4 @@
-use Rattle.std.proofs.Common.{◌≡◌, ◌+◌, arith, drop, length}
+use Rattle.std.proofs.Common.{◌+◌, arith, drop}
 use Rattle.std.proofs.lemmas.Result.{err_from_is_err_and}
 use Rattle.ecat_master.proofs.StepLemmas.{left_is, left_none, brings_on, brings_fault, brings_all}
 use Rattle.ecat_master.proofs.phase.bring.Goals as goal

@@ -1,4 +1,4 @@
-use Rattle.std.proofs.Common.{◌≡◌, ◌+◌, arith, drop, length}
+use Rattle.std.proofs.Common.{◌+◌, arith, drop}
 use Rattle.ecat_master.specs.declared.step.Step.TheVariants.{Station}
 use Rattle.ecat_master.proofs.StepLemmas.{left_is, left_none, does_on, does_fault, does_all}
 use Rattle.ecat_master.proofs.phase.bring_slave.Goals as goal

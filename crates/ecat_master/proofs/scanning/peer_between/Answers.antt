@@ -8,7 +8,8 @@ use Rattle.ec_services.specs.declared.mailbox.Area.{Area}
 use Rattle.ecat_master.proofs.scanning.peer_between.Goals as goal
 
 -- an active mailbox has the length of one
-active_mailbox : (m : SyncMan) (a : Area) (d : Bool) → is_active m && is_mailbox m && d ≡ true → a.length ≡ m.length
+active_mailbox : (m : SyncMan) (a : Area) (d : Bool) → is_active m && is_mailbox m && d ≡ true
+    → a.length ≡ m.length
     → IsMailbox a
 unfolding is_active
 active_mailbox m a d all same =

@@ -1,10 +1,11 @@
-use Rattle.std.proofs.Common.{◌≡◌, ◌≤◌, ℕ, List, ap, sym, arith, ◌∙◌, subst, rules, length, take, replicate, Result}
+use Rattle.std.proofs.Common.{◌≤◌, ℕ, List, ap, sym, arith, ◌∙◌, subst, length, take, replicate}
+use Rattle.std.proofs.Common.{Result}
 use Rattle.std.proofs.lemmas.List.{take-replicate}
 use Rattle.ec_wire.specs.Datagram.{DatagramRecord, address_of}
 use Rattle.ec_wire.specs.declared.command.Command.TheVariants.{Fprd}
 use Rattle.ec_services.specs.Ask.{request, IsAsked, done}
 use Rattle.ec_services.specs.declared.fault.MasterFault.{MasterFault}
-use Rattle.ecat_master.specs.Ask.{IsPut, held_by}
+use Rattle.ecat_master.specs.Ask.{IsPut}
 use Rattle.ecat_master.specs.Step.{holds}
 use Rattle.ecat_master.proofs.AskLemmas.{read_back}
 use Rattle.ecat_master.proofs.step.check_at.Goals as goal

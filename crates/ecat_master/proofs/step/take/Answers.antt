@@ -1,7 +1,7 @@
-use Rattle.std.proofs.Common.{◌≡◌, ℕ, ◌+◌, ◌-◌, ◌%◌, true, false}
+use Rattle.std.proofs.Common.{◌+◌, ◌-◌, ◌%◌, true, false}
 use Rattle.ec_services.specs.Ask.{write}
 use Rattle.ecat_master.specs.Step.{number_in, address_write, behind_question}
-use Rattle.ecat_master.proofs.StepLemmas.{talks_last, sets_manager, sets_fmmu}
+use Rattle.ecat_master.proofs.StepLemmas.{talks_last, sets_manager}
 use Rattle.ecat_master.proofs.step.take.Goals as goal
 
 pub returns-in-Station-clause-done : goal.returns-in-Station-clause-done

@@ -1,4 +1,4 @@
-use Rattle.std.proofs.Common.{◌≡◌, ℕ, suc, ◌+◌, ◌-◌, arith, sym, ◌∙◌}
+use Rattle.std.proofs.Common.{◌≡◌, suc, ◌+◌, ◌-◌, arith, sym, ◌∙◌}
 use Rattle.ecat_master.specs.declared.step.TheConstants.{MORE_TRIES}
 use Rattle.ecat_master.proofs.StepLemmas.{tries_on, tries_end, tries_last}
 use Rattle.ecat_master.proofs.step.try_step.Goals as goal
@@ -6,7 +6,8 @@ use Rattle.ecat_master.proofs.step.try_step.Goals as goal
 pub returns-then-is_answered-clause-tried : goal.returns-then-is_answered-clause-tried
 returns-then-is_answered-clause-tried g c =
     tries_end g.P.Ports.trips c.args.ports.now c.loop-try.ports c.take-done.new.ports c.args.place
-    c.args.wanted.now c.args.step MORE_TRIES (MORE_TRIES - c.loop-try._try) (MORE_TRIES - (c.loop-try._try + 1))
+    c.args.wanted.now c.args.step MORE_TRIES (MORE_TRIES - c.loop-try._try) (MORE_TRIES -
+    (c.loop-try._try + 1))
     c.take-done.result c.loop-try.invariant.tries_on
     (let e : MORE_TRIES - c.loop-try._try ≡ suc (MORE_TRIES - (c.loop-try._try + 1)) =
     omega (arith, c.loop-try-test.true) in e)

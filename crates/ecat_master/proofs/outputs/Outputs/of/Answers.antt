@@ -1,4 +1,5 @@
-use Rattle.std.proofs.Common.{◌≡◌, ◌<◌, ◌∙◌, ℕ, ◌++◌, ◌∷◌, [], ap, sym, arith, List, length, map, take, get_or}
+use Rattle.std.proofs.Common.{◌≡◌, ◌<◌, ◌∙◌, ℕ, ◌++◌, ◌∷◌, [], ap, sym, arith, List, length, take}
+use Rattle.std.proofs.Common.{get_or}
 use Rattle.std.proofs.lemmas.List.{length-take-le, length-map, map_more}
 use Rattle.std.proofs.lemmas.Option.{get_or_from_slice_get}
 use Rattle.ec_map.specs.Item.{ItemRecord}
@@ -18,7 +19,7 @@ loop-k-preserved c =
       arith,
       inside,
       ap length c.loop-k.invariant,
-      length-map f (take k items),
+      length-map (take k items) f,
       length-take-le k items (omega (arith, inside)),
       c.len-k-end.ensures.count,
       c.len-k-end.ensures.limit,
