@@ -1,6 +1,6 @@
 -- How long the header of a packet is.
-use Rattle.std.proofs.Common.{arith, ◌≡◌, ◌≤◌, ◌<◌, ◌+◌, ◌-◌, ◌==◌, ℕ, Bool, true, false}
-use Rattle.std.proofs.Common.{List, length, take, drop, Option, Some, None, IsSome, if◌then◌else◌}
+use Rattle.std.proofs.Common.{arith, ◌≡◌, ◌≤◌, ◌+◌, ◌-◌, ◌==◌, ℕ, Bool, true, false}
+use Rattle.std.proofs.Common.{List, length, take, drop, Some, None, IsSome, if◌then◌else◌}
 use Rattle.std.proofs.Common.{◌∙◌, refl, sym, ap, subst}
 use Rattle.std.proofs.lemmas.Bool.Decides.{nat_tests}
 use Rattle.std.proofs.lemmas.List.{length-drop, length-take}
@@ -32,7 +32,7 @@ pub room : (packet behind payload : List ℕ) → behind ≡ typed packet → pa
     → length (take (length packet - length payload) packet) ≤ 22
 room packet behind payload is rest =
     let sizes = subst (λ xs. (length xs ≤ length packet - 12) × (length packet ≤ 20 + length xs)) (sym is)
-        (typed_length packet) in
+    (typed_length packet) in
     let size : length payload ≡ length behind - 2 = ap length rest ∙ length-drop 2 behind in
     let header = length-take (length packet - length payload) packet in
     grind arith
@@ -53,7 +53,7 @@ least packet behind payload is rest found =
     let framed = is_framed (type_of (typed packet) == 0x88a4) (cut (drop 2 (typed packet))) found in
     let fits : 2 ≤ length behind = subst (λ xs. 2 ≤ length xs) (sym is) (type_fits (typed packet) framed) in
     let sizes = subst (λ xs. (length xs ≤ length packet - 12) × (length packet ≤ 20 + length xs)) (sym is)
-        (typed_length packet) in
+    (typed_length packet) in
     let size : length payload ≡ length behind - 2 = ap length rest ∙ length-drop 2 behind in
     let header = length-take (length packet - length payload) packet in
     grind arith

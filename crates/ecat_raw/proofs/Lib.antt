@@ -1,2 +1,3 @@
+mod AroundLemmas
 mod CopyLemmas
 mod HeaderLemmas

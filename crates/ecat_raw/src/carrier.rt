@@ -19,8 +19,8 @@ const MOST_LATE: usize = 1024;
 /// A packet socket at each port of the master; with one alone port B sends and receives nothing.
 ///
 /// A frame goes out to every station from `ADDRESS_A` or `ADDRESS_B`. What comes in is taken for an answer
-/// where its type is 0x88A4, with at most two tags before it, and its source address says that it has passed a
-/// controller: so a port takes neither its own frame for an answer nor another master's. Any other packet
+/// where its type is 0x88A4, with at most two tags before it, and its source address says that it has passed
+/// a controller: so a port takes neither its own frame for an answer nor another master's. Any other packet
 /// is received as one of no bytes. A receive waits so long at most; that no packet came by then is no
 /// failure. Each other error of the system counts as a failure, as of an interface that is down.
 #[derive(Drop)]

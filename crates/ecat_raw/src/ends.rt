@@ -6,12 +6,15 @@ ghost use Rattle.ecat_serve.specs.Ends.{any_receive, any_send};
 ghost use Rattle.ecat_raw.specs.Taken.{IsTaken};
 
 use crate::carrier::copy_front;
-use crate::ethernet::{ADDRESS_A, Header, answering, frame_in, header_in, header_of, sender_of, under};
+use crate::ethernet::{
+    ADDRESS_A, Header, answering, frame_in, header_in, header_of, sender_of, under,
+};
 use crate::sockets::{Descriptors, PACKET, PacketSocket, RawFault, open_both};
 use ec_ring::{Port, PortFault};
 use ec_wire::{MAX_FRAME, PACKET_ROOM};
-use ecat_serve::{Arrived, Console, EndSockets, Ends, InputLine, LINE_ROOM, WaitFault, Waiting};
-use ecat_serve::may_try_again;
+use ecat_serve::{
+    Arrived, Console, EndSockets, Ends, InputLine, LINE_ROOM, WaitFault, Waiting, may_try_again,
+};
 use std::alloc::Global;
 use std::io::Read;
 use std::net::{Net, SocketAddr};
@@ -50,12 +53,7 @@ impl RawSockets {
 
     /// Takes the frame of a packet into the front of the room, if it has one, and keeps the header under
     /// which its answer goes.
-    fn take(
-        &mut self,
-        at: Port,
-        packet: &[u8],
-        into: &mut [u8; PACKET_ROOM],
-    ) -> Option<Arrived>
+    fn take(&mut self, at: Port, packet: &[u8], into: &mut [u8; PACKET_ROOM]) -> Option<Arrived>
         ensures { IsTaken at packet.now self.old.answers_under.items result into.new
             self.new.answers_under.items }
     {

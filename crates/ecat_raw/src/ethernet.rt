@@ -3,13 +3,14 @@
 ghost use Rattle.std.specs.Prelude.{◌≡◌, ◌+◌, ◌-◌, ◌≤◌, ◌<◌, IsSome, length, take, drop, slice_index};
 ghost use Rattle.std.specs.Option.{option_map};
 ghost use Rattle.ec_wire.specs.declared.frame.TheConstants.{MAX_FRAME};
+ghost use Rattle.ec_wire.specs.Spelling.{spelling};
 ghost use Rattle.ecat_raw.specs.Ethernet.{answer_in, answering, cut, frame_in, header_in, header_of};
 ghost use Rattle.ecat_raw.specs.Ethernet.{is_marked, is_tag, marked, packet_of, source_of, type_of};
 ghost use Rattle.ecat_raw.specs.Ethernet.{padded, typed, under, untagged};
 ghost use Rattle.ecat_raw.specs.Taken.{IsSender, flipped};
 
 use arrayvec::ArrayVec;
-use ec_wire::MAX_FRAME;
+use ec_wire::{FrameBuf, MAX_FRAME};
 use std::net::{IpAddr, Ipv6Addr, SocketAddr};
 
 /// The source address of what a master sends from its port A.
@@ -117,6 +118,14 @@ pub fn frame_in(packet: &[u8]) -> Option<&[u8]>
     Some(cut(behind(typed, ETHERCAT_BYTES.len())))
 }
 
+/// What is put around a frame is taken out again, whatever frame it is, from whatever source address.
+pub fn taken_out_again(source: [u8; 6], frame: &FrameBuf)
+    ensures { frame_in (packet_of source (spelling frame.now)) ≡ Some (spelling frame.now) }
+{
+    // For the prover: what is known of every frame.
+    let _count = frame.count();
+}
+
 /// The frame in a packet that is an answer: it has passed a controller, which sets bit 1 of the first byte of
 /// the source address.
 pub fn answer_in(packet: &[u8]) -> Option<&[u8]>
@@ -163,7 +172,11 @@ fn typed(packet: &[u8]) -> &[u8]
 fn untagged(rest: &[u8]) -> &[u8]
     ensures { result.now ≡ untagged rest.now }
 {
-    if is_tag(rest) { behind(rest, TAG) } else { rest }
+    if is_tag(rest) {
+        behind(rest, TAG)
+    } else {
+        rest
+    }
 }
 
 /// Does a tag stand there?

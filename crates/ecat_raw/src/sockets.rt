@@ -4,14 +4,15 @@ ghost use Rattle.std.specs.Prelude.{◌≡◌, ◌≤◌, IfOk};
 
 use crate::ethernet::ETHERCAT;
 use ec_ring::Port;
-use libc::net::{POLLIN, _SS_SIZE};
+use libc::net::{_SS_SIZE, POLLIN};
 use libc::types::pollfd;
 use os::FromRawFd;
 use std::io::{self, ErrorKind};
 use std::net::UdpSocket;
 use std::os::fd::{AsRawFd, RawFd};
 
-/// The most bytes of a packet that comes in: two addresses, two tags, the type and one byte more than a frame.
+/// The most bytes of a packet that comes in: two addresses, two tags, the type, and one byte more than a
+/// frame.
 pub(crate) const PACKET: usize = 1523;
 
 /// The family of packet sockets.
@@ -132,8 +133,8 @@ pub(crate) fn open_both(
     Ok((a, b))
 }
 
-/// Sees whether a descriptor names a packet socket, and what it is bound to, by its own address: the family, the
-/// type with its high byte first, and the number of the interface (Linux, `sockaddr_ll`).
+/// Sees whether a descriptor names a packet socket, and what it is bound to, by its own address: the family,
+/// the type with its high byte first, and the number of the interface (Linux, `sockaddr_ll`).
 fn look_at(descriptor: RawFd, at: Port) -> Result<(), RawFault> {
     let mut address = [0; _SS_SIZE];
     let mut length = 128;

@@ -40,7 +40,11 @@ fn an_answer_leaves_under_the_header_that_came(rt: HostRuntime) {
     assert_next(&rt, &mut ends, Port::A);
     assert_same(&rt, ends.send(Port::B, somebody, &ASKED), Ok(()));
     assert_on(&rt, &master_b, Some(&with(6, 0x12)));
-    assert_same(&rt, ends.send(Port::A, somebody, &[0; 1501]), Err(PortFault));
+    assert_same(
+        &rt,
+        ends.send(Port::A, somebody, &[0; 1501]),
+        Err(PortFault),
+    );
     put(&rt, &master_b, &SENT);
     assert_next(&rt, &mut ends, Port::B);
 }

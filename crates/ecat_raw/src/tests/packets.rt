@@ -35,7 +35,9 @@ fn a_frame_goes_out_to_everybody_and_padded(rt: HostRuntime) {
 #[test]
 fn tags_may_stand_before_the_type(rt: HostRuntime) {
     let plain = [0, 1, 2, 3, 4, 5, 6, 7, 8, 9, 10, 11, 0x88, 0xA4];
-    let tagged = [0, 1, 2, 3, 4, 5, 6, 7, 8, 9, 10, 11, 0x81, 0x00, 0x60, 0x05, 0x88, 0xA4];
+    let tagged = [
+        0, 1, 2, 3, 4, 5, 6, 7, 8, 9, 10, 11, 0x81, 0x00, 0x60, 0x05, 0x88, 0xA4,
+    ];
     let twice = [
         0, 1, 2, 3, 4, 5, 6, 7, 8, 9, 10, 11, 0x88, 0xA8, 0, 5, 0x81, 0, 0, 6, 0x88, 0xA4,
     ];
@@ -88,7 +90,9 @@ fn an_answer_goes_under_the_header_that_came(rt: HostRuntime) {
     let tagged = [
         1, 2, 3, 4, 5, 6, 0x07, 8, 9, 10, 11, 12, 0x81, 0x00, 0x60, 0x05, 0x88, 0xA4, 0x00, 0x10,
     ];
-    let wanted = [1, 2, 3, 4, 5, 6, 0x07, 8, 9, 10, 11, 12, 0x81, 0x00, 0x60, 0x05, 0x88, 0xA4];
+    let wanted = [
+        1, 2, 3, 4, 5, 6, 0x07, 8, 9, 10, 11, 12, 0x81, 0x00, 0x60, 0x05, 0x88, 0xA4,
+    ];
     assert_eq!(rt; answering(header_in(&tagged)).as_slice(), wanted.as_slice());
 }
 

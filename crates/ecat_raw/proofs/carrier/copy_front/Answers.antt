@@ -1,4 +1,3 @@
-use Rattle.std.proofs.Common.{◌≡◌}
 use Rattle.ec_wire.specs.declared.frame.TheConstants.{PACKET_ROOM}
 use Rattle.ecat_raw.proofs.CopyLemmas.{copied}
 use Rattle.ecat_raw.proofs.carrier.copy_front.Goals as goal

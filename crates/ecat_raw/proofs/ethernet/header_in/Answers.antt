@@ -1,4 +1,3 @@
-use Rattle.std.proofs.Common.{◌≡◌}
 use Rattle.ecat_raw.proofs.HeaderLemmas as headers
 use Rattle.ecat_raw.proofs.ethernet.header_in.Goals as goal
 
