@@ -1,5 +1,5 @@
--- The items of a master go out in frames: from an item on as many onto a frame as it holds, and so on with the
--- first that did not fit.
+-- The items of a master go out in frames: from an item on as many onto a frame as it holds, and so on with
+-- the first that did not fit.
 use Rattle.std.specs.Prelude.{◌≡◌, ◌<◌, ◌≤◌, ℕ, List, map, length}
 use Rattle.ec_wire.specs.Datagram.{DatagramRecord}
 use Rattle.ec_wire.specs.Spelling.{spelling}

@@ -27,8 +27,8 @@ pub record IsPut (bytes before : List ℕ) (count : ℕ) (later : List ℕ) : Ty
 
 -- ---- the end of a join of the copies x and y of a frame s, and the room for the answer before and after
 
-abbrev pub EndsIn : List DatagramRecord → List DatagramRecord → List DatagramRecord → List ℕ → JoinEnd → List ℕ
-    → Type 0
+abbrev pub EndsIn : List DatagramRecord → List DatagramRecord → List DatagramRecord → List ℕ → JoinEnd
+    → List ℕ → Type 0
 EndsIn s x y before (Joined count) later =
     IsOwn s x × IsOwn s y × IsPut (spelling (joined_frame s x y)) before count later
 EndsIn s x y before (Stranger fault) later = IsFault s x y fault × (later ≡ before)

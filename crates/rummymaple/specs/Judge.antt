@@ -57,7 +57,8 @@ IsStoredFrame items first frame image (stores.NotJoined fault) later = ⊥
 -- how the storing of these bytes ends
 abbrev pub IsStored : List Item → ℕ → List ℕ → List ℕ → StoreEnd → List ℕ → Type 0
 IsStored items first bytes image end later =
-    ((frame : List DatagramRecord) × IsSpelt Udp bytes frame × IsStoredFrame items first frame image end later)
+    ((frame : List DatagramRecord) × IsSpelt Udp bytes frame
+    × IsStoredFrame items first frame image end later)
     ⊎ ((f : WireFault) × IsFirstFault Udp bytes f × (end ≡ stores.NotJoined f) × (later ≡ image))
 
 -- it in numbers

@@ -5,3 +5,4 @@ pub mod Items
 pub mod Frame
 pub mod Answers
 pub mod Judge
+pub mod Cycle

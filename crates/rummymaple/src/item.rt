@@ -132,7 +132,8 @@ impl Item {
     /// Its data in the image.
     fn data<'a>(&self, image: &'a [u8]) -> &'a [u8]
         requires { self.now.offset + self.now.length ≤ length image.now }
-        ensures value { result.now ≡ slice_range image.now self.now.offset (self.now.offset + self.now.length) }
+        ensures value { result.now
+            ≡ slice_range image.now self.now.offset (self.now.offset + self.now.length) }
         ensures count { length result.now ≡ self.now.length }
     {
         let (begin, end) = self.place();

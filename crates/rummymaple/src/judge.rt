@@ -74,8 +74,8 @@ fn judge(items: &mut [Item], first: usize, joined: &[u8]) -> JudgeEnd
 }
 
 /// Judges a joined frame, whose datagrams answer the items from `first` on: the first item whose counter has
-/// not moved by what is expected, or good. Writes what came back into these items, and leaves all else; an end
-/// that is no verdict leaves the items as they are.
+/// not moved by what is expected, or good. Writes what came back into these items, and leaves all else; an
+/// end that is no verdict leaves the items as they are.
 #[unsafe(no_mangle)]
 pub extern "C" fn rmp_judge(items: &mut [Item], first: usize, joined: &[u8]) -> ItemAnswer
     ensures { (end : JudgeEnd) × (result ≡ judge_answer end)

@@ -1,7 +1,8 @@
 //! A cycle of an LRW of two bytes and a broadcast read, over a ring of two slaves.
 
 use crate::item::Item;
-use crate::{ItemAnswer, rmp_frame, rmp_join, rmp_judge, rmp_store};
+use crate::{FrameAnswer, ItemAnswer, JoinAnswer, rmp_frame, rmp_join, rmp_judge, rmp_store};
+use std::mem::size_of;
 
 /// The number of the UDP form.
 const UDP: u32 = 1;
@@ -55,10 +56,10 @@ const JOINED: [u8; 30] = [
 #[test]
 fn items_go_out_in_a_frame(rt: HostRuntime) {
     let image = [0xF0, 0xAA, 0x55, 0xF1, 0, 0];
-    let mut room = [0; 32];
+    let mut room = [0; 30];
     let made = rmp_frame(&asked(), &image, 0, &mut room);
     assert_eq!(rt; (made.code, made.items, made.bytes), (0, 2, 30));
-    assert_eq!(rt; room[..30], SENT[..]);
+    assert_eq!(rt; room, SENT);
 }
 
 #[test]
@@ -99,4 +100,12 @@ fn one_copy_alone_is_short(rt: HostRuntime) {
         ItemAnswer { at: 0, code: 1 }
     );
     assert_eq!(rt; items[0].came, 0x0803);
+}
+
+#[test]
+fn the_header_states_these_sizes(rt: HostRuntime) {
+    assert_eq!(rt; size_of::<Item>(), 20);
+    assert_eq!(rt; size_of::<FrameAnswer>(), 32);
+    assert_eq!(rt; size_of::<JoinAnswer>(), 32);
+    assert_eq!(rt; size_of::<ItemAnswer>(), 16);
 }
