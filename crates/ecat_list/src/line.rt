@@ -104,13 +104,19 @@ fn put_source(
     style: Style,
     source: Option<[u8; 6]>,
 ) -> Result<(), AllocError> {
-    let Some([a, b, c, d, e, f]) = source else {
-        return put_nothing(text, style);
-    };
-    put_hex(text, &[a])?;
-    for byte in [b, c, d, e, f] {
-        put_byte(text, b':')?;
-        put_hex(text, &[byte])?;
+    match source {
+        Some(address) => put_parted(text, address),
+        None => put_nothing(text, style),
+    }
+}
+
+/// Puts the bytes of an address, parted by colons.
+fn put_parted(text: &mut Vec<u8>, address: [u8; 6]) -> Result<(), AllocError> {
+    for (k, byte) in address.iter().enumerate() {
+        if k > 0 {
+            put_byte(text, b':')?;
+        }
+        put_hex(text, &[*byte])?;
     }
     Ok(())
 }
@@ -123,8 +129,21 @@ fn put_nothing(text: &mut Vec<u8>, style: Style) -> Result<(), AllocError> {
     }
 }
 
+/// Puts a line for each datagram of a frame.
+pub(crate) fn put_datagrams(
+    text: &mut Vec<u8>,
+    style: Style,
+    head: &Head,
+    frame: &FrameBuf,
+) -> Result<(), AllocError> {
+    for k in 0..frame.count() {
+        put_datagram(text, style, head, frame, k)?;
+    }
+    Ok(())
+}
+
 /// Puts the line of datagram `k` of a frame.
-pub(crate) fn put_datagram(
+fn put_datagram(
     text: &mut Vec<u8>,
     style: Style,
     head: &Head,
