@@ -24,12 +24,12 @@
 
 mod address;
 mod line;
-mod list;
+mod listing;
 mod output;
 mod stats;
 mod text;
 
-pub use list::{Asked, Form, Listed, list};
+pub use listing::{Asked, Form, Listed, list};
 
 
 #[cfg(test)]

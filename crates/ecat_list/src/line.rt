@@ -104,13 +104,19 @@ fn put_source(
     style: Style,
     source: Option<[u8; 6]>,
 ) -> Result<(), AllocError> {
-    let Some([a, b, c, d, e, f]) = source else {
-        return put_nothing(text, style);
-    };
-    put_hex(text, &[a])?;
-    for byte in [b, c, d, e, f] {
-        put_byte(text, b':')?;
-        put_hex(text, &[byte])?;
+    match source {
+        Some(address) => put_parted(text, address),
+        None => put_nothing(text, style),
+    }
+}
+
+/// Puts the bytes of an address, parted by colons.
+fn put_parted(text: &mut Vec<u8>, address: [u8; 6]) -> Result<(), AllocError> {
+    for (k, byte) in address.iter().enumerate() {
+        if k > 0 {
+            put_byte(text, b':')?;
+        }
+        put_hex(text, &[*byte])?;
     }
     Ok(())
 }

@@ -7,7 +7,7 @@ mod stats;
 
 use crate::{Asked, Form, Listed, list};
 use ecat_source::{Bytes, Pieces};
-use std::alloc::Global;
+use std::alloc::{AllocError, Global};
 use std::io::Cursor;
 use std::process::Abort;
 
@@ -36,6 +36,28 @@ static APRD: [u8; 28] = [
 fn written(cursor: &Cursor<[u8; ROOM]>) -> &[u8] {
     let count = cursor.position().min(ROOM as u64) as usize;
     &cursor.get_ref()[..count]
+}
+
+/// Replaces the bytes from a place on, as far as they are there.
+fn put(bytes: &mut Vec<u8>, at: usize, with: &[u8]) {
+    for (k, byte) in bytes.iter_mut().enumerate() {
+        if let Some(place) = k.checked_sub(at) {
+            if place < with.len() {
+                *byte = with[place];
+            }
+        }
+    }
+}
+
+/// Puts a record of these bytes at a time in units of the file, below a million of which a second has.
+fn record(file: &mut Vec<u8>, time: [u32; 2], packet: &[u8]) -> Result<(), AllocError> {
+    let length = ((packet.len() % 65536) as u32).to_le_bytes();
+    for part in time {
+        file.extend_from_slice(&part.to_le_bytes())?;
+    }
+    file.extend_from_slice(&length)?;
+    file.extend_from_slice(&length)?;
+    file.extend_from_slice(packet)
 }
 
 /// A listing in this form.

@@ -1,8 +1,10 @@
 //! Outputs and sources that fail.
-use super::{APRD, HEADER, ROOM, asked};
+use super::{APRD, HEADER, ROOM, asked, record};
 use crate::{Form, Listed, list};
 use ecat_source::{Bytes, FailsAt};
+use std::alloc::{AllocError, Global};
 use std::io::{self, Cursor, ErrorKind, Write};
+use std::test::Fail;
 
 /// An output that fails so.
 #[derive(Drop)]
@@ -21,18 +23,15 @@ impl Write for Fails {
 }
 
 /// A capture of one packet.
-fn one() -> [u8; 68] {
-    let mut file = [0; 68];
-    file[..24].copy_from_slice(&HEADER);
-    file[32] = 28;
-    file[36] = 28;
-    file[40..].copy_from_slice(&APRD);
-    file
+fn one(alloc: Global) -> Result<Vec<u8>, AllocError> {
+    let mut file = Vec::from_slice(alloc, &HEADER)?;
+    record(&mut file, [0, 0], &APRD)?;
+    Ok(file)
 }
 
 #[test]
-fn a_closed_pipe_is_told_from_a_failed_write(rt: HostRuntime) {
-    let file = one();
+fn a_closed_pipe_is_told_from_a_failed_write(rt: HostRuntime) -> Result<(), Fail> {
+    let file = one(rt.alloc())?;
     for (kind, wanted) in [
         (ErrorKind::BrokenPipe, Listed::Closed),
         (ErrorKind::StorageFull, Listed::OutputFailed),
@@ -42,14 +41,16 @@ fn a_closed_pipe_is_told_from_a_failed_write(rt: HostRuntime) {
         let listed = list(rt.alloc(), Bytes::new(&file), asked(Form::Lines), &mut out, &mut err);
         assert!(&rt; listed == wanted || listed == Listed::NoMemory);
     }
+    Ok(())
 }
 
 #[test]
-fn a_failing_source_is_told(rt: HostRuntime) {
-    let file = one();
+fn a_failing_source_is_told(rt: HostRuntime) -> Result<(), Fail> {
+    let file = one(rt.alloc())?;
     let mut out = Cursor::new([0u8; ROOM]);
     let mut err = Cursor::new([0u8; ROOM]);
     let source = FailsAt::new(&file, 30, 1);
     let listed = list(rt.alloc(), source, asked(Form::Lines), &mut out, &mut err);
     assert!(&rt; listed == Listed::SourceFailed || listed == Listed::NoMemory);
+    Ok(())
 }

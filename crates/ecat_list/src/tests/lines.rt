@@ -1,31 +1,21 @@
 //! Lines, CSV and faults, by hand.
-use super::{APRD, HEADER, LRW_FPRD, lists};
+use super::{APRD, HEADER, LRW_FPRD, lists, put, record};
 use crate::{Form, Listed};
 use ecat_capture::{CaptureFault, CaptureFaultKind};
 use std::alloc::{AllocError, Global};
 use std::test::Fail;
 
-/// Puts a record of these bytes at a time in microseconds.
-fn record(file: &mut Vec<u8>, time: u32, packet: &[u8]) -> Result<(), AllocError> {
-    let length = (packet.len() % 65536) as u32;
-    file.extend_from_slice(&(time / 1_000_000).to_le_bytes())?;
-    file.extend_from_slice(&(time % 1_000_000).to_le_bytes())?;
-    file.extend_from_slice(&length.to_le_bytes())?;
-    file.extend_from_slice(&length.to_le_bytes())?;
-    file.extend_from_slice(packet)
-}
-
 /// A capture of each kind of packet, its first at one second and 999,999 microseconds.
 fn mixed(alloc: Global) -> Result<Vec<u8>, AllocError> {
     let mut file = Vec::from_slice(alloc, &HEADER)?;
-    record(&mut file, 1_999_999, &LRW_FPRD)?;
-    record(&mut file, 2_001_000, &[2; 14])?;
-    record(&mut file, 2_001_999, &APRD)?;
-    record(&mut file, 1_999_998, &APRD[..20])?;
-    record(&mut file, 3_000_000, &APRD[..13])?;
+    record(&mut file, [1, 999_999], &LRW_FPRD)?;
+    record(&mut file, [2, 1000], &[2; 14])?;
+    record(&mut file, [2, 1999], &APRD)?;
+    record(&mut file, [1, 999_998], &APRD[..20])?;
+    record(&mut file, [3, 0], &APRD[..13])?;
     let mut other = Vec::from_slice(alloc, &APRD)?;
-    other[15] = 0x40;
-    record(&mut file, 4_000_000, &other)?;
+    put(&mut other, 15, &[0x40]);
+    record(&mut file, [4, 0], &other)?;
     Ok(file)
 }
 
@@ -68,10 +58,9 @@ fn faults_alone(rt: HostRuntime) -> Result<(), Fail> {
 #[test]
 fn nanoseconds_where_the_file_has_them(rt: HostRuntime) -> Result<(), Fail> {
     let mut file = Vec::from_slice(rt.alloc(), &HEADER)?;
-    file[0] = 0x4d;
-    file[1] = 0x3c;
-    record(&mut file, 5, &APRD)?;
-    record(&mut file, 1_000_007, &APRD)?;
+    put(&mut file, 0, &[0x4d, 0x3c]);
+    record(&mut file, [0, 5], &APRD)?;
+    record(&mut file, [1, 7], &APRD)?;
     let text = b"1 0.000000000 02:01:05:10:00:00 0 APRD -2:0x0130 0 wkc 0 -\n\
         2 1.000000002 02:01:05:10:00:00 0 APRD -2:0x0130 0 wkc 0 -\n";
     lists(&rt, rt.alloc(), Form::Lines, &file, text, Listed::Whole);
@@ -81,7 +70,7 @@ fn nanoseconds_where_the_file_has_them(rt: HostRuntime) -> Result<(), Fail> {
 #[test]
 fn damage_is_told_behind_what_came_before(rt: HostRuntime) -> Result<(), Fail> {
     let mut file = Vec::from_slice(rt.alloc(), &HEADER)?;
-    record(&mut file, 5, &APRD)?;
+    record(&mut file, [0, 5], &APRD)?;
     file.extend_from_slice(&[0; 15])?;
     let text = b"1 0.000000 02:01:05:10:00:00 0 APRD -2:0x0130 0 wkc 0 -\n";
     let fault = CaptureFault {
@@ -104,8 +93,8 @@ fn addresses_by_command(rt: HostRuntime) -> Result<(), Fail> {
         (14, b"FRMW 0xfffe:0x0130 ".as_slice()),
     ] {
         let mut file = Vec::from_slice(rt.alloc(), &HEADER)?;
-        record(&mut file, 0, &APRD)?;
-        file[56] = command;
+        record(&mut file, [0, 0], &APRD)?;
+        put(&mut file, 56, &[command]);
         let mut line = Vec::from_slice(rt.alloc(), b"1 0.000000 02:01:05:10:00:00 0 ")?;
         line.extend_from_slice(text)?;
         line.extend_from_slice(b"0 wkc 0 -\n")?;

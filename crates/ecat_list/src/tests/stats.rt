@@ -1,8 +1,7 @@
 //! How often each datagram went by.
-use super::{HEADER, LRW_FPRD, asked, lists};
+use super::{HEADER, LRW_FPRD, asked, lists, put, record};
 use crate::{Form, Listed, list};
 use ecat_source::Bytes;
-use std::alloc::AllocError;
 use std::io::{self, Cursor, Write};
 use std::test::Fail;
 
@@ -25,24 +24,13 @@ impl Write for Tail {
     }
 }
 
-/// Puts a record of these bytes at a time in microseconds below a million.
-fn record(file: &mut Vec<u8>, time: u32, packet: &[u8]) -> Result<(), AllocError> {
-    let length = (packet.len() % 65536) as u32;
-    file.extend_from_slice(&[0; 4])?;
-    file.extend_from_slice(&time.to_le_bytes())?;
-    file.extend_from_slice(&length.to_le_bytes())?;
-    file.extend_from_slice(&length.to_le_bytes())?;
-    file.extend_from_slice(packet)
-}
-
 #[test]
 fn the_one_wrong_counter_is_told(rt: HostRuntime) -> Result<(), Fail> {
     let mut file = Vec::from_slice(rt.alloc(), &HEADER)?;
-    for k in 0..9 {
-        record(&mut file, 1000 * k + k % 2, &LRW_FPRD)?;
+    for k in 0..9_u32 {
+        record(&mut file, [0, 1000 * k + k % 2], &LRW_FPRD)?;
     }
-    let wrong = 24 + 4 * 62 + 16 + 30;
-    file[wrong] = 1;
+    put(&mut file, 24 + 4 * 62 + 16 + 30, &[1]);
     let text = b"LRW 0x00010000 4 bytes: 8 of wkc 3, 1 of wkc 1 (first in packet 5), index 7, \
         0.000999 to 0.001001 s apart\n\
         FPRD 0x1001:0x0130 2 bytes: 9 of wkc 1, index 8, 0.000999 to 0.001001 s apart\n";
@@ -53,12 +41,12 @@ fn the_one_wrong_counter_is_told(rt: HostRuntime) -> Result<(), Fail> {
 #[test]
 fn a_ninth_counter_is_of_others(rt: HostRuntime) -> Result<(), Fail> {
     let mut file = Vec::from_slice(rt.alloc(), &HEADER)?;
-    for k in 0..11 {
-        record(&mut file, k, &LRW_FPRD)?;
+    for k in 0..11_u32 {
+        record(&mut file, [0, k], &LRW_FPRD)?;
     }
     for k in 0..11_usize {
-        file[24 + k * 62 + 16 + 30] = k.min(9) as u8;
-        file[24 + k * 62 + 16 + 30 + 14] = 4;
+        put(&mut file, 24 + k * 62 + 16 + 30, &[k.min(9) as u8]);
+        put(&mut file, 24 + k * 62 + 16 + 44, &[4]);
     }
     let text = b"LRW 0x00010000 4 bytes: 1 of wkc 0, 1 of wkc 1 (first in packet 2), \
         1 of wkc 2 (first in packet 3), 1 of wkc 3 (first in packet 4), 1 of wkc 4 (first in packet 5), \
@@ -73,9 +61,9 @@ fn a_ninth_counter_is_of_others(rt: HostRuntime) -> Result<(), Fail> {
 fn groups_past_the_last_are_left_out(rt: HostRuntime) -> Result<(), Fail> {
     let mut file = Vec::from_slice(rt.alloc(), &HEADER)?;
     for k in 0..4200_u32 {
-        record(&mut file, 0, &LRW_FPRD[..46])?;
-        let place = file.len() - 28;
-        file[place..place + 4].copy_from_slice(&k.to_le_bytes());
+        let mut packet = Vec::from_slice(rt.alloc(), &LRW_FPRD)?;
+        put(&mut packet, 18, &k.to_le_bytes());
+        record(&mut file, [0, 0], &packet)?;
     }
     let mut out = Tail { last: [0; 41] };
     let mut err = Cursor::new([0u8; 8]);
