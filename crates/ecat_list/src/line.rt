@@ -129,8 +129,21 @@ fn put_nothing(text: &mut Vec<u8>, style: Style) -> Result<(), AllocError> {
     }
 }
 
+/// Puts a line for each datagram of a frame.
+pub(crate) fn put_datagrams(
+    text: &mut Vec<u8>,
+    style: Style,
+    head: &Head,
+    frame: &FrameBuf,
+) -> Result<(), AllocError> {
+    for k in 0..frame.count() {
+        put_datagram(text, style, head, frame, k)?;
+    }
+    Ok(())
+}
+
 /// Puts the line of datagram `k` of a frame.
-pub(crate) fn put_datagram(
+fn put_datagram(
     text: &mut Vec<u8>,
     style: Style,
     head: &Head,

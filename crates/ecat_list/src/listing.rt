@@ -1,10 +1,9 @@
 //! `ecat list`: what is told of each packet of a capture.
 ghost use Rattle.std.specs.Prelude.{◌<◌, length};
 
-use crate::line::{CSV_HEAD, Head, Note, Since, Style, put_datagram, put_note};
+use crate::line::{CSV_HEAD, Head, Note, Since, Style, put_datagrams, put_note};
 use crate::output::{Output, Stop};
 use crate::stats::{Key, Passed, Stats};
-use crate::text::put_decimal;
 use arrayvec::ArrayVec;
 use ec_wire::{Command, Datagram, Form as Carrier, FrameBuf};
 use ecat_capture::{
@@ -244,9 +243,7 @@ impl<'a, W: Write> Listing<'a, W> {
 
     /// Puts a line for each datagram.
     fn datagram_lines(&mut self, style: Style, head: &Head) -> Result<(), Stop> {
-        for k in 0..self.frame.count() {
-            put_datagram(&mut self.output.text, style, head, &self.frame, k)?;
-        }
+        put_datagrams(&mut self.output.text, style, head, &self.frame)?;
         Ok(())
     }
 
