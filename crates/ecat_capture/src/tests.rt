@@ -8,9 +8,34 @@ mod sources;
 
 use crate::{Capture, CaptureFault, CaptureFaultKind, Packet, Time};
 use ecat_source::{Bytes, Source};
-use std::alloc::Global;
+use std::alloc::{AllocError, Global};
 use std::fmt::Debug;
 use std::process::Abort;
+
+/// These bytes, one behind the other.
+fn join(alloc: Global, parts: &[&[u8]]) -> Result<Vec<u8>, AllocError> {
+    let mut bytes = Vec::new(alloc);
+    for part in parts {
+        bytes.extend_from_slice(part)?;
+    }
+    Ok(bytes)
+}
+
+/// Replaces the bytes from a place on, as far as they are there.
+fn put(bytes: &mut Vec<u8>, at: usize, with: &[u8]) {
+    for (k, byte) in bytes.iter_mut().enumerate() {
+        if let Some(place) = k.checked_sub(at) {
+            if place < with.len() {
+                *byte = with[place];
+            }
+        }
+    }
+}
+
+/// The first bytes, as far as they are there.
+fn front(bytes: &[u8], count: usize) -> &[u8] {
+    &bytes[..count.min(bytes.len())]
+}
 
 /// Asserts that what was found is what was wanted.
 fn assert_same<T: PartialEq + Debug + Drop>(rt: &impl Abort, found: T, wanted: T) {

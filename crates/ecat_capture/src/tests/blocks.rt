@@ -1,8 +1,7 @@
 //! pcapng in both orders, block by block (the PCAP Next Generation file format).
-use super::{expect_end, expect_fault, expect_packet, expect_refusal};
+use super::{expect_end, expect_fault, expect_packet, expect_refusal, front, join, put};
 use crate::{Capture, CaptureFaultKind, Packet, Step, Time};
 use ecat_source::{Bytes, Pieces};
-use std::alloc::{AllocError, Global};
 use std::test::Fail;
 
 /// A section header, little endian, of unknown length.
@@ -63,18 +62,9 @@ static BIG: [u8; 88] = [
     1, 2, 3, 4, 5, 0, 0, 0, 0, 0, 0, 40,
 ];
 
-/// A file of these blocks.
-fn file_of(alloc: Global, blocks: &[&[u8]]) -> Result<Vec<u8>, AllocError> {
-    let mut file = Vec::new(alloc);
-    for block in blocks {
-        file.extend_from_slice(block)?;
-    }
-    Ok(file)
-}
-
 #[test]
 fn blocks_of_each_type(rt: HostRuntime) -> Result<(), Fail> {
-    let file = file_of(
+    let file = join(
         rt.alloc(),
         &[
             &SECTION,
@@ -110,7 +100,7 @@ fn blocks_of_each_type(rt: HostRuntime) -> Result<(), Fail> {
 
 #[test]
 fn each_block_is_a_step(rt: HostRuntime) -> Result<(), Fail> {
-    let file = file_of(rt.alloc(), &[&SECTION, &INTERFACE, &UNKNOWN, &SIMPLE])?;
+    let file = join(rt.alloc(), &[&SECTION, &INTERFACE, &UNKNOWN, &SIMPLE])?;
     let mut capture = Capture::new(rt.alloc(), Bytes::new(&file));
     for place in [28, 48, 64] {
         assert_eq!(rt; capture.step(), Ok(Step::Other));
@@ -129,9 +119,9 @@ fn each_block_is_a_step(rt: HostRuntime) -> Result<(), Fail> {
 
 #[test]
 fn every_cut_is_short_at_its_block(rt: HostRuntime) -> Result<(), Fail> {
-    let file = file_of(rt.alloc(), &[&SECTION, &INTERFACE, &PACKET])?;
+    let file = join(rt.alloc(), &[&SECTION, &INTERFACE, &PACKET])?;
     for length in 0..100 {
-        let mut capture = Capture::new(rt.alloc(), Pieces::new(&file[..length], 9));
+        let mut capture = Capture::new(rt.alloc(), Pieces::new(front(&file, length), 9));
         if length == 28 || length == 48 {
             expect_end(&rt, capture.next());
         } else {
@@ -165,8 +155,8 @@ fn faults_of_blocks(rt: HostRuntime) -> Result<(), Fail> {
         (71, 1, CaptureFaultKind::TooLong, 48),
         (96, 48, CaptureFaultKind::BlockLength, 48),
     ] {
-        let mut file = file_of(rt.alloc(), &[&SECTION, &INTERFACE, &PACKET])?;
-        file[place] = value;
+        let mut file = join(rt.alloc(), &[&SECTION, &INTERFACE, &PACKET])?;
+        put(&mut file, place, &[value]);
         expect_refusal(&rt, rt.alloc(), &file, kind, at);
     }
     Ok(())
@@ -174,10 +164,10 @@ fn faults_of_blocks(rt: HostRuntime) -> Result<(), Fail> {
 
 #[test]
 fn a_packet_fills_its_block_and_no_more(rt: HostRuntime) -> Result<(), Fail> {
-    let mut file = file_of(rt.alloc(), &[&SECTION, &INTERFACE, &PACKET])?;
-    file[68] = 21;
+    let mut file = join(rt.alloc(), &[&SECTION, &INTERFACE, &PACKET])?;
+    put(&mut file, 68, &[21]);
     expect_refusal(&rt, rt.alloc(), &file, CaptureFaultKind::Overrun, 48);
-    file[68] = 20;
+    put(&mut file, 68, &[20]);
     let mut capture = Capture::new(rt.alloc(), Bytes::new(&file));
     match capture.next() {
         Ok(Some(packet)) => assert_eq!(rt; packet.captured, 20),
@@ -189,8 +179,8 @@ fn a_packet_fills_its_block_and_no_more(rt: HostRuntime) -> Result<(), Fail> {
 
 #[test]
 fn a_simple_packet_is_snapped(rt: HostRuntime) -> Result<(), Fail> {
-    let mut file = file_of(rt.alloc(), &[&SECTION, &INTERFACE, &SIMPLE])?;
-    file[40] = 3;
+    let mut file = join(rt.alloc(), &[&SECTION, &INTERFACE, &SIMPLE])?;
+    put(&mut file, 40, &[3]);
     let mut capture = Capture::new(rt.alloc(), Bytes::new(&file));
     match capture.next() {
         Ok(Some(packet)) => {
@@ -214,8 +204,8 @@ fn resolutions_of_two_powers(rt: HostRuntime) -> Result<(), Fail> {
         (0x81, 2_148_483_648, 500_000_000, false),
         (0x92, 16_391, 629_398_345, false),
     ] {
-        let mut file = file_of(rt.alloc(), &[&SECTION, &FINE_INTERFACE, &PACKET])?;
-        file[56] = resolution;
+        let mut file = join(rt.alloc(), &[&SECTION, &FINE_INTERFACE, &PACKET])?;
+        put(&mut file, 56, &[resolution]);
         let mut capture = Capture::new(rt.alloc(), Bytes::new(&file));
         let time = Time {
             seconds,
@@ -225,8 +215,8 @@ fn resolutions_of_two_powers(rt: HostRuntime) -> Result<(), Fail> {
         expect_packet(&rt, &mut capture, 1, Some(time), &[1, 2, 3, 4, 5]);
     }
     for resolution in [10, 0x7f, 0xa3, 0xff] {
-        let mut file = file_of(rt.alloc(), &[&SECTION, &FINE_INTERFACE, &PACKET])?;
-        file[56] = resolution;
+        let mut file = join(rt.alloc(), &[&SECTION, &FINE_INTERFACE, &PACKET])?;
+        put(&mut file, 56, &[resolution]);
         expect_refusal(&rt, rt.alloc(), &file, CaptureFaultKind::TimeResolution, 68);
     }
     Ok(())
@@ -234,7 +224,7 @@ fn resolutions_of_two_powers(rt: HostRuntime) -> Result<(), Fail> {
 
 #[test]
 fn sixty_four_interfaces_and_no_more(rt: HostRuntime) -> Result<(), Fail> {
-    let mut file = file_of(rt.alloc(), &[&SECTION])?;
+    let mut file = join(rt.alloc(), &[&SECTION])?;
     for _ in 0..64 {
         file.extend_from_slice(&INTERFACE)?;
     }

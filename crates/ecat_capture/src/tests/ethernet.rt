@@ -1,7 +1,6 @@
 //! What of a packet is EtherCAT, by the layouts of Ethernet, IPv4, IPv6 and UDP.
-use super::assert_same;
+use super::{assert_same, front, join, put};
 use crate::{Payload, frame_type, payload_of};
-use std::alloc::{AllocError, Global};
 use std::test::Fail;
 
 /// Two addresses.
@@ -21,114 +20,128 @@ static IPV6: [u8; 40] = [
     0xfe, 0x80, 0, 0, 0, 0, 0, 0, 0, 0, 0, 0, 0, 0, 0, 2,
 ];
 
-/// A packet of two addresses and these parts.
-fn packet_of(alloc: Global, parts: &[&[u8]]) -> Result<Vec<u8>, AllocError> {
-    let mut packet = Vec::from_slice(alloc, &ADDRESSES)?;
-    for part in parts {
-        packet.extend_from_slice(part)?;
-    }
-    Ok(packet)
-}
-
 #[test]
 fn ethertype_behind_up_to_two_tags(rt: HostRuntime) -> Result<(), Fail> {
-    let plain = packet_of(rt.alloc(), &[&[0x88, 0xa4], &[1, 2, 3]])?;
+    let plain = join(rt.alloc(), &[&ADDRESSES, &[0x88, 0xa4], &[1, 2, 3]])?;
     assert_same(
         &rt,
         payload_of(&plain),
         Payload::Ethernet { from: 14, to: 17 },
     );
-    let tagged = packet_of(
+    let tagged = join(
         rt.alloc(),
-        &[&[0x81, 0, 0xe0, 5], &[0x88, 0xa4], &[1, 2, 3]],
+        &[&ADDRESSES, &[0x81, 0, 0xe0, 5], &[0x88, 0xa4], &[1, 2, 3]],
     )?;
     assert_same(
         &rt,
         payload_of(&tagged),
         Payload::Ethernet { from: 18, to: 21 },
     );
-    let twice = packet_of(
+    let twice = join(
         rt.alloc(),
-        &[&[0x88, 0xa8, 0, 5, 0x81, 0, 0, 6], &[0x88, 0xa4]],
+        &[
+            &ADDRESSES,
+            &[0x88, 0xa8, 0, 5, 0x81, 0, 0, 6],
+            &[0x88, 0xa4],
+        ],
     )?;
     assert_same(
         &rt,
         payload_of(&twice),
         Payload::Ethernet { from: 22, to: 22 },
     );
-    let thrice = packet_of(
+    let thrice = join(
         rt.alloc(),
         &[
+            &ADDRESSES,
             &[0x81, 0, 0, 5, 0x81, 0, 0, 6, 0x81, 0],
             &[0, 7, 0x88, 0xa4],
         ],
     )?;
     assert_same(&rt, payload_of(&thrice), Payload::Other);
     assert_same(&rt, payload_of(&ADDRESSES), Payload::Short);
-    assert_same(&rt, payload_of(&tagged[..17]), Payload::Short);
+    assert_same(&rt, payload_of(front(&tagged, 17)), Payload::Short);
     Ok(())
 }
 
 #[test]
 fn udp_over_ipv4(rt: HostRuntime) -> Result<(), Fail> {
-    let mut packet = packet_of(
+    let mut packet = join(
         rt.alloc(),
-        &[&[8, 0], &IPV4, &UDP, &[1, 2, 3, 4, 5, 6], &[0; 12]],
+        &[
+            &ADDRESSES,
+            &[8, 0],
+            &IPV4,
+            &UDP,
+            &[1, 2, 3, 4, 5, 6],
+            &[0; 12],
+        ],
     )?;
     assert_same(&rt, payload_of(&packet), Payload::Udp { from: 42, to: 48 });
     assert_same(
         &rt,
-        payload_of(&packet[..45]),
+        payload_of(front(&packet, 45)),
         Payload::Udp { from: 42, to: 45 },
     );
-    assert_same(&rt, payload_of(&packet[..41]), Payload::Short);
-    packet[34..38].copy_from_slice(&[0x88, 0xa4, 0, 53]);
+    assert_same(&rt, payload_of(front(&packet, 41)), Payload::Short);
+    put(&mut packet, 34, &[0x88, 0xa4, 0, 53]);
     assert_same(&rt, payload_of(&packet), Payload::Udp { from: 42, to: 48 });
-    packet[34..38].copy_from_slice(&[0x88, 0xa3, 0, 53]);
+    put(&mut packet, 34, &[0x88, 0xa3, 0, 53]);
     assert_same(&rt, payload_of(&packet), Payload::Other);
-    packet[34..38].copy_from_slice(&[0, 53, 0x88, 0xa4]);
-    packet[39] = 7;
+    put(&mut packet, 34, &[0, 53, 0x88, 0xa4]);
+    put(&mut packet, 39, &[7]);
     assert_same(&rt, payload_of(&packet), Payload::BadLength);
-    packet[23] = 6;
+    put(&mut packet, 23, &[6]);
     assert_same(&rt, payload_of(&packet), Payload::Other);
-    packet[14] = 0x44;
+    put(&mut packet, 14, &[0x44]);
     assert_same(&rt, payload_of(&packet), Payload::BadLength);
     Ok(())
 }
 
 #[test]
 fn options_of_ipv4_are_passed_over(rt: HostRuntime) -> Result<(), Fail> {
-    let mut packet = packet_of(
+    let mut packet = join(
         rt.alloc(),
-        &[&[8, 0], &IPV4, &[1, 1, 1, 0], &UDP, &[1, 2, 3, 4, 5, 6]],
+        &[
+            &ADDRESSES,
+            &[8, 0],
+            &IPV4,
+            &[1, 1, 1, 0],
+            &UDP,
+            &[1, 2, 3, 4, 5, 6],
+        ],
     )?;
-    packet[14] = 0x46;
+    put(&mut packet, 14, &[0x46]);
     assert_same(&rt, payload_of(&packet), Payload::Udp { from: 46, to: 52 });
     Ok(())
 }
 
 #[test]
 fn pieces_of_ipv4_are_told(rt: HostRuntime) -> Result<(), Fail> {
-    let mut packet = packet_of(rt.alloc(), &[&[8, 0], &IPV4, &UDP, &[1, 2, 3, 4, 5, 6]])?;
-    packet[20] = 0x20;
+    let mut packet = join(
+        rt.alloc(),
+        &[&ADDRESSES, &[8, 0], &IPV4, &UDP, &[1, 2, 3, 4, 5, 6]],
+    )?;
+    put(&mut packet, 20, &[0x20]);
     assert_same(&rt, payload_of(&packet), Payload::Fragment);
-    packet[36] = 0;
+    put(&mut packet, 36, &[0]);
     assert_same(&rt, payload_of(&packet), Payload::Other);
-    packet[20..22].copy_from_slice(&[0, 185]);
+    put(&mut packet, 20, &[0, 185]);
     assert_same(&rt, payload_of(&packet), Payload::Fragment);
     Ok(())
 }
 
 #[test]
 fn udp_over_ipv6(rt: HostRuntime) -> Result<(), Fail> {
-    let packet = packet_of(
+    let packet = join(
         rt.alloc(),
-        &[&[0x86, 0xdd], &IPV6, &UDP, &[1, 2, 3, 4, 5, 6]],
+        &[&ADDRESSES, &[0x86, 0xdd], &IPV6, &UDP, &[1, 2, 3, 4, 5, 6]],
     )?;
     assert_same(&rt, payload_of(&packet), Payload::Udp { from: 62, to: 68 });
-    let mut piece = packet_of(
+    let mut piece = join(
         rt.alloc(),
         &[
+            &ADDRESSES,
             &[0x86, 0xdd],
             &IPV6,
             &[17, 0, 0, 0, 0, 0, 0, 9],
@@ -136,13 +149,13 @@ fn udp_over_ipv6(rt: HostRuntime) -> Result<(), Fail> {
             &[1; 6],
         ],
     )?;
-    piece[20] = 44;
+    put(&mut piece, 20, &[44]);
     assert_same(&rt, payload_of(&piece), Payload::Udp { from: 70, to: 76 });
-    piece[57] = 1;
+    put(&mut piece, 57, &[1]);
     assert_same(&rt, payload_of(&piece), Payload::Fragment);
-    piece[57] = 8;
+    put(&mut piece, 57, &[8]);
     assert_same(&rt, payload_of(&piece), Payload::Fragment);
-    piece[54] = 6;
+    put(&mut piece, 54, &[6]);
     assert_same(&rt, payload_of(&piece), Payload::Other);
     Ok(())
 }
