@@ -20,6 +20,14 @@ fn framed_behind(rt: &impl Abort, header: &[u8]) -> bool {
     frame_in(&packet) == Some(ASKED.as_slice())
 }
 
+/// Whether the frame of an answer is the asked one, if the packet is an answer.
+fn asked_in(packet: &[u8]) -> Option<bool> {
+    match answer_in(packet) {
+        Some(frame) => Some(frame == ASKED.as_slice()),
+        None => None,
+    }
+}
+
 #[test]
 fn a_frame_goes_out_to_everybody_and_padded(rt: HostRuntime) {
     assert_eq!(rt; packet_of(ADDRESS_A, &ASKED).as_slice(), SENT.as_slice());
@@ -75,11 +83,11 @@ fn what_ends_before_its_header_says_is_whole(rt: HostRuntime) {
 
 #[test]
 fn an_answer_has_bit_1_of_its_source(rt: HostRuntime) {
-    assert_same(&rt, answer_in(&SENT), None);
-    assert_same(&rt, answer_in(&with(6, 0x12)), Some(ASKED.as_slice()));
-    assert_same(&rt, answer_in(&with(6, 0xFD)), None);
-    assert_same(&rt, answer_in(&with(6, 0x02)), Some(ASKED.as_slice()));
-    assert_same(&rt, answer_in(&[]), None);
+    assert_same(&rt, asked_in(&SENT), None);
+    assert_same(&rt, asked_in(&with(6, 0x12)), Some(true));
+    assert_same(&rt, asked_in(&with(6, 0xFD)), None);
+    assert_same(&rt, asked_in(&with(6, 0x02)), Some(true));
+    assert_same(&rt, asked_in(&[]), None);
 }
 
 #[test]
