@@ -1,8 +1,8 @@
 /*
  * rummymaple.h: the proved core of an EtherCAT master, for masters in C (C11) and C++ (C++17).
  *
- * Four calls, in the order of a cycle. Between them the master does what it likes: it sends each frame both
- * ways round the ring, works, and receives.
+ * Four calls, in the order of a cycle, and a reader. Between the calls the master does what it likes: it
+ * sends each frame both ways round the ring, works, and receives.
  *
  *     for (first = 0; first < n; first += made.items) {
  *         made = rmp_frame(items, n, image, sizeof image, first, sent, sizeof sent);
@@ -37,6 +37,9 @@ extern "C" {
 /* The most items of a master. */
 #define RMP_MAX_ITEMS 256
 
+/* The most datagrams of a frame. */
+#define RMP_MAX_DATAGRAMS 124
+
 /* The most data bytes of an item. */
 #define RMP_MAX_DATA 1486
 
@@ -57,7 +60,18 @@ enum rmp_code {
     RMP_BAD_KIND = 12,  /* item `at` has no kind of enum rmp_kind */
     RMP_BAD_LENGTH = 13, /* item `at` has no data, or more than RMP_MAX_DATA bytes */
     RMP_BAD_RANGE = 14, /* item `at` ends past 2^32, or past 0x0FFF (BRD), or past 0x2FFF (FPRD, FPWR) */
-    RMP_BAD_PLACE = 15  /* the data of item `at` do not lie in the image */
+    RMP_BAD_PLACE = 15, /* the data of item `at` do not lie in the image */
+    /* of rmp_read, byte `at` being the first at fault: */
+    RMP_FAULT_SHORT = 16,       /* the bytes end before the frame does */
+    RMP_FAULT_BAD_TYPE = 17,    /* the header's type is not 1 */
+    RMP_FAULT_RESERVED = 18,    /* a reserved bit is set */
+    RMP_FAULT_EMPTY = 19,       /* the header states no datagrams */
+    RMP_FAULT_TOO_LONG = 20,    /* the header states more than 1,498 bytes of datagrams */
+    RMP_FAULT_BAD_COMMAND = 21, /* a command above 14 */
+    RMP_FAULT_OVERRUN = 22,     /* a datagram's data reach past the end of the frame */
+    RMP_FAULT_MORE_AT_END = 23, /* the last datagram says that more follow */
+    RMP_FAULT_LEFT_OVER = 24,   /* bytes are left behind the last datagram, or too few for one more */
+    RMP_FAULT_TRAILING = 25     /* bytes follow the frame in a UDP packet */
 };
 
 /* What an item does: the codes of its commands on the wire (IEC 61158-4-12). */
@@ -120,6 +134,25 @@ struct rmp_answer {
     uint32_t code; /* of enum rmp_code */
 };
 
+/* A datagram of a frame that was read. */
+struct rmp_datagram {
+    size_t data;         /* where its data begin in the frame, in bytes */
+    size_t length;       /* how many data bytes it has */
+    uint32_t address;    /* logical, or ADP + 65,536 * ADO */
+    uint16_t counter;    /* the working counter */
+    uint16_t irq;        /* the slaves' event requests, or-ed */
+    uint8_t command;     /* by the standard's code, 0 to 14 */
+    uint8_t index;       /* the master's number for it */
+    uint8_t circulating; /* 1 where the frame turned round at a slave's closed port 0, else 0 */
+};
+
+/* What rmp_read answers. */
+struct rmp_reading {
+    size_t count;  /* how many datagrams the frame has */
+    size_t at;     /* the first byte at fault */
+    uint32_t code; /* RMP_GOOD, RMP_NO_ROOM, RMP_BAD_FORM or RMP_FAULT_.. */
+};
+
 /*
  * Puts the frame that begins with item `first` at the front of `room`: as many items from there on as one
  * frame holds (1,498 bytes of datagrams), each with its number as index and its data from the image.
@@ -137,8 +170,8 @@ struct rmp_framed rmp_frame(const struct rmp_item *items, size_t n, const uint8_
  *
  * Proved: each data bit, event request and circulating bit differs from the sent one exactly if it does in a
  * copy; each working counter, and the ADP where slaves count it up, has moved as far as in both copies
- * together; a frame that cannot have come of the sent one, by its commands, indexes, lengths and addresses, is
- * named with its first datagram that differs, a before b; any end but RMP_GOOD leaves `room` as it is.
+ * together; a frame that cannot have come of the sent one, by its commands, indexes, lengths and addresses,
+ * is named with its first datagram that differs, a before b; any end but RMP_GOOD leaves `room` as it is.
  */
 struct rmp_joined rmp_join(uint32_t form, const uint8_t *sent, size_t sent_size, const uint8_t *a,
                            size_t a_size, const uint8_t *b, size_t b_size, uint8_t *room, size_t room_size);
@@ -154,15 +187,25 @@ struct rmp_answer rmp_judge(struct rmp_item *items, size_t n, size_t first, cons
                             size_t joined_size);
 
 /*
- * Puts the data of a joined frame into the image: of each item that reads (FPRD, BRD, LRD, LRW), in their order.
- * Call it where the verdict on each frame of the cycle is RMP_GOOD. LRW data hold the outputs as they were
- * sent, so let the application write outputs of an LRW behind this call.
+ * Puts the data of a joined frame into the image: of each item that reads (FPRD, BRD, LRD, LRW), in their
+ * order. Call it where the verdict on each frame of the cycle is RMP_GOOD. LRW data hold the outputs as they
+ * were sent, so let the application write outputs of an LRW behind this call.
  *
  * Proved: the image is the one before with these data in their places; items that only write, and all bytes
  * outside, are as they were; any end but RMP_GOOD leaves the image as it is.
  */
 struct rmp_answer rmp_store(const struct rmp_item *items, size_t n, size_t first, const uint8_t *joined,
                             size_t joined_size, uint8_t *image, size_t image_size);
+
+/*
+ * Reads the bytes of a frame: puts its datagrams, and where their data lie, at the front of `room`, which
+ * RMP_MAX_DATAGRAMS always suffice for.
+ *
+ * Proved: RMP_GOOD exactly where the bytes spell a frame, and these are its datagrams; else the fault is the
+ * first one from the left; any end but RMP_GOOD leaves `room` as it is.
+ */
+struct rmp_reading rmp_read(uint32_t form, const uint8_t *bytes, size_t size, struct rmp_datagram *room,
+                            size_t room_count);
 
 #ifdef __cplusplus
 }
@@ -196,5 +239,18 @@ RMP_ASSERT(offsetof(struct rmp_joined, copy_b) == 24, "copy_b");
 RMP_ASSERT(sizeof(struct rmp_answer) == 16, "size of rmp_answer");
 RMP_ASSERT(offsetof(struct rmp_answer, at) == 0, "at");
 RMP_ASSERT(offsetof(struct rmp_answer, code) == 8, "code");
+RMP_ASSERT(sizeof(struct rmp_datagram) == 32, "size of rmp_datagram");
+RMP_ASSERT(offsetof(struct rmp_datagram, data) == 0, "data");
+RMP_ASSERT(offsetof(struct rmp_datagram, length) == 8, "length");
+RMP_ASSERT(offsetof(struct rmp_datagram, address) == 16, "address");
+RMP_ASSERT(offsetof(struct rmp_datagram, counter) == 20, "counter");
+RMP_ASSERT(offsetof(struct rmp_datagram, irq) == 22, "irq");
+RMP_ASSERT(offsetof(struct rmp_datagram, command) == 24, "command");
+RMP_ASSERT(offsetof(struct rmp_datagram, index) == 25, "index");
+RMP_ASSERT(offsetof(struct rmp_datagram, circulating) == 26, "circulating");
+RMP_ASSERT(sizeof(struct rmp_reading) == 24, "size of rmp_reading");
+RMP_ASSERT(offsetof(struct rmp_reading, count) == 0, "count");
+RMP_ASSERT(offsetof(struct rmp_reading, at) == 8, "at");
+RMP_ASSERT(offsetof(struct rmp_reading, code) == 16, "code");
 
 #endif

@@ -150,6 +150,40 @@ static void refusals(void) {
     CHECK(rmp_judge(items, 2, 0, JOINED, sizeof JOINED).at == 1);
 }
 
+/* The reader: where the datagrams lie, and the first fault with its place. */
+static void reading(void) {
+    static struct rmp_datagram found[RMP_MAX_DATAGRAMS];
+    uint8_t bytes[sizeof FROM_B + 1];
+    struct rmp_reading read = rmp_read(RMP_UDP, FROM_B, sizeof FROM_B, found, RMP_MAX_DATAGRAMS);
+    CHECK(read.code == RMP_GOOD && read.count == 2 && read.at == 0);
+    CHECK(found[0].data == 12 && found[0].length == 2 && found[0].address == 0x00010000);
+    CHECK(found[0].command == 12 && found[0].index == 0 && found[0].counter == 0x0803);
+    CHECK(found[1].data == 26 && found[1].length == 2 && found[1].address == 0x01300001);
+    CHECK(found[1].command == 7 && found[1].index == 1 && found[1].counter == 0x0801);
+    CHECK(found[1].circulating == 1 && found[1].irq == 0);
+    read = rmp_read(RMP_UDP, FROM_B, sizeof FROM_B, found, 1);
+    CHECK(read.code == RMP_NO_ROOM && read.count == 2);
+    CHECK(rmp_read(RMP_UDP, NULL, 0, NULL, 0).code == RMP_FAULT_SHORT);
+    CHECK(rmp_read(9, FROM_B, sizeof FROM_B, found, 1).code == RMP_BAD_FORM);
+    memcpy(bytes, FROM_B, sizeof FROM_B);
+    bytes[sizeof FROM_B] = 0;
+    read = rmp_read(RMP_UDP, bytes, sizeof bytes, found, RMP_MAX_DATAGRAMS);
+    CHECK(read.code == RMP_FAULT_TRAILING && read.at == sizeof FROM_B);
+    CHECK(rmp_read(RMP_ETHERNET, bytes, sizeof bytes, found, RMP_MAX_DATAGRAMS).code == RMP_GOOD);
+    bytes[16] = 15;
+    read = rmp_read(RMP_UDP, bytes, sizeof FROM_B, found, RMP_MAX_DATAGRAMS);
+    CHECK(read.code == RMP_FAULT_BAD_COMMAND && read.at == 16);
+    bytes[9] = 0x00;
+    read = rmp_read(RMP_UDP, bytes, sizeof FROM_B, found, RMP_MAX_DATAGRAMS);
+    CHECK(read.code == RMP_FAULT_LEFT_OVER && read.at == 16);
+    bytes[9] = 0x20;
+    read = rmp_read(RMP_UDP, bytes, sizeof FROM_B, found, RMP_MAX_DATAGRAMS);
+    CHECK(read.code == RMP_FAULT_RESERVED && read.at == 9);
+    bytes[1] = 0x40;
+    read = rmp_read(RMP_UDP, bytes, sizeof FROM_B, found, RMP_MAX_DATAGRAMS);
+    CHECK(read.code == RMP_FAULT_BAD_TYPE && read.at == 1);
+}
+
 /* A byte more than a frame holds goes onto the next one. */
 static void cut(void) {
     static struct rmp_item many[3];
@@ -174,6 +208,8 @@ static ucontext_t here, there;
 static struct rmp_framed made;
 static struct rmp_joined came;
 static struct rmp_answer told;
+static struct rmp_reading seen;
+static struct rmp_datagram places[2];
 
 static void call_nothing(void) {}
 static void call_frame(void) { made = rmp_frame(items, 2, image, sizeof image, 0, sent, sizeof sent); }
@@ -183,6 +219,8 @@ static void call_join(void) {
 }
 static void call_judge(void) { told = rmp_judge(items, 2, 0, JOINED, sizeof JOINED); }
 static void call_store(void) { told = rmp_store(items, 2, 0, JOINED, sizeof JOINED, image, sizeof image); }
+
+static void call_read(void) { seen = rmp_read(RMP_UDP, JOINED, sizeof JOINED, places, 2); }
 
 static size_t used_by(void (*call)(void)) {
     size_t clean = 0;
@@ -214,11 +252,13 @@ int main(void) {
     forms();
     refusals();
     cut();
+    reading();
     begin();
     measure("rmp_frame", call_frame);
     measure("rmp_join", call_join);
     measure("rmp_judge", call_judge);
     measure("rmp_store", call_store);
+    measure("rmp_read", call_read);
     puts(failed ? "calls: not as they should be" : "calls: as they should be");
     return failed;
 }

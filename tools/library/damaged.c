@@ -109,6 +109,26 @@ static struct rmp_joined expected(uint32_t form, const uint8_t *sent, size_t sen
     return answer;
 }
 
+/* Whether the library reads these bytes as they are read here. */
+static int is_read(uint32_t form, const uint8_t *bytes, size_t size) {
+    static struct rmp_datagram room[RMP_MAX_DATAGRAMS];
+    size_t at[MOST + 1];
+    int count = places(bytes, size, form, at);
+    struct rmp_reading read = rmp_read(form, bytes, size, room, RMP_MAX_DATAGRAMS);
+    if (count == 0)
+        return read.code >= RMP_FAULT_SHORT && read.at <= size;
+    for (int k = 0; k < count; k++) {
+        const uint8_t *d = bytes + at[k];
+        size_t length = word(d + 6) & 0x7FF;
+        if (room[k].data != at[k] + 10 || room[k].length != length || room[k].command != d[0] ||
+            room[k].index != d[1] || room[k].address != (word(d + 2) | word(d + 4) << 16) ||
+            room[k].circulating != (d[7] >> 6 & 1) || room[k].irq != word(d + 8) ||
+            room[k].counter != word(d + 10 + length))
+            return 0;
+    }
+    return read.code == RMP_GOOD && read.count == (size_t)count;
+}
+
 /* Room that ends where no memory is mapped. */
 static uint8_t *edge(void) {
     uint8_t *pages = mmap(NULL, 3 * PAGE, PROT_READ | PROT_WRITE, MAP_PRIVATE | MAP_ANONYMOUS, -1, 0);
@@ -203,6 +223,10 @@ int main(int count, char **words) {
             came.bytes != want.bytes || came.copy_a != want.copy_a || came.copy_b != want.copy_b ||
             (came.code == RMP_GOOD && memcmp(room, wanted, came.bytes) != 0)) {
             printf("damaged: pair %ld is not joined as it should be\n", i);
+            return 1;
+        }
+        if (!is_read(form, a, sizes[0]) || !is_read(form, b, sizes[1])) {
+            printf("damaged: pair %ld is not read as it should be\n", i);
             return 1;
         }
         good += came.code == RMP_GOOD;

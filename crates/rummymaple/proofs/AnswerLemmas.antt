@@ -1,7 +1,7 @@
 -- What a joined frame gives the items that it answers, one datagram after the other.
-use Rattle.std.proofs.Common.{◌≡◌, ℕ, zero, suc, ◌+◌, ◌-◌, ◌<◌, ◌≤◌, ◌∙◌, arith, ap, sym, refl, suc-add, zero-add}
+use Rattle.std.proofs.Common.{◌≡◌, ℕ, zero, suc, ◌+◌, ◌<◌, ◌≤◌, ◌∙◌, arith, ap, sym, refl, suc-add, zero-add}
 use Rattle.std.proofs.Common.{List, [], ◌∷◌, ◌++◌, length, map, take, drop, get_or, set, drop-cons, Bool, true}
-use Rattle.std.proofs.Common.{false, cond, eqb, ◌&&◌, Some, length-append, ne_of_lt, le_of_lt}
+use Rattle.std.proofs.Common.{false, cond, eqb, ◌&&◌, length-append, ne_of_lt, le_of_lt}
 use Rattle.std.proofs.lemmas.Bool.{and_parts, eqb-true, eq-eqb, ne_eqb, lt-ltb, le-ltb}
 use Rattle.std.proofs.lemmas.List.{get_or-map, length-map, length-take-le, length-drop}
 use Rattle.std.proofs.lemmas.Option.{slice_get-get_or}

@@ -1,19 +1,17 @@
 -- The calls of a cycle, one frame after the other, are the frames of the cut, and good verdicts on each are
 -- one on all.
-use Rattle.std.proofs.Common.{◌≡◌, ℕ, zero, suc, ◌+◌, ◌<◌, ◌≤◌, Bool, true, false, cond, if◌then◌else◌, sym, ap}
-use Rattle.std.proofs.Common.{refl, ◌∙◌, arith, eqb, List, [], ◌∷◌, ◌++◌, length, map, take, drop, get_or, Ok, subst}
-use Rattle.std.proofs.Common.{append_assoc, suc-add, add-suc, add-zero, length-append, ltb}
+use Rattle.std.proofs.Common.{◌≡◌, ℕ, suc, ◌+◌, ◌<◌, Bool, true, false, cond, if◌then◌else◌, sym, ap}
+use Rattle.std.proofs.Common.{refl, ◌∙◌, arith, eqb, List, [], ◌∷◌, ◌++◌, length, map, drop, get_or, Ok, subst}
+use Rattle.std.proofs.Common.{append_assoc, suc-add, add-suc, add-zero, ltb}
 use Rattle.std.proofs.lemmas.List.{length-map, drop_all, drop-drop}
-use Rattle.std.specs.List.{AllByRecursion}
 use Rattle.ec_wire.specs.Datagram.{DatagramRecord}
-use Rattle.ec_merge.specs.Frames.{IsOwn, joined_frame}
+use Rattle.ec_merge.specs.Frames.{joined_frame}
 use Rattle.ec_merge.specs.Rule.{distance}
 use Rattle.ec_line.specs.After.{Entry}
 use Rattle.ec_line.specs.Answered.{sent_of}
 use Rattle.ec_map.specs.Item.{ItemRecord}
 use Rattle.ec_ring.specs.declared.weather.Came.{Came}
 use Rattle.ec_master.specs.Cut.{concat, entry_of, entries_from, fits_frame, filled, cut_onto, cut, frame_at}
-use Rattle.ec_master.specs.Cut.{frames_of}
 use Rattle.ec_master.specs.Ports.{Sends, IsPortCycle, taken_on}
 use Rattle.ec_master.specs.Suffice.{in_turn}
 use Rattle.ec_master.specs.Verdict.{verdict, verdict_from}

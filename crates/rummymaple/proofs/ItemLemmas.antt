@@ -1,8 +1,8 @@
 -- What is known of an item that is taken.
-use Rattle.std.proofs.Common.{◌≡◌, ◌<◌, ◌≤◌, ◌+◌, ℕ, Bool, true, false, cond, not, Option, None, Some, arith}
+use Rattle.std.proofs.Common.{◌≡◌, ◌≤◌, ◌+◌, ℕ, Bool, true, false, cond, not, Option, None, Some, arith}
 use Rattle.std.proofs.Common.{nat_lt, nat_eq, sym, refl, ap, ◌∙◌}
 use Rattle.ec_wire.specs.declared.kind.Kind.{Kind}
-use Rattle.ec_map.specs.Item.{is_in_range, is_broadcast}
+use Rattle.ec_map.specs.Item.{is_in_range}
 use Rattle.std.proofs.lemmas.Bool.Decides.{nat_tests}
 use Rattle.rummymaple.specs.Items.{kind_of, kind_named, refusal_of, refusal}
 use Rattle.rummymaple.specs.declared.item.Item.{Item}

@@ -1,11 +1,10 @@
 -- A cycle by calls: frames are made one after the other, each from the first item that the one before did not
 -- carry, and what came back of each is joined and judged.
-use Rattle.std.specs.Prelude.{◌≡◌, ◌≤◌, ◌<◌, ℕ, ◌+◌, List, [], ◌∷◌, length, map, Result, Ok}
+use Rattle.std.specs.Prelude.{◌≡◌, ◌≤◌, ◌<◌, ℕ, ◌+◌, List, [], ◌∷◌, length, map, Ok}
 use Rattle.ec_wire.specs.Datagram.{DatagramRecord}
 use Rattle.ec_merge.specs.Frames.{IsOwn, joined_frame}
 use Rattle.ec_line.specs.Answered.{sent_of}
 use Rattle.ec_map.specs.Item.{ItemRecord}
-use Rattle.ec_ring.specs.declared.port.PortFault.{PortFault}
 use Rattle.ec_ring.specs.declared.weather.Came.{Came}
 use Rattle.ec_master.specs.Cut.{frame_at}
 use Rattle.ec_master.specs.Ports.{came_or}

@@ -1,7 +1,7 @@
 -- What a master asks in each cycle, as plain data beside its process image, and the items of `ec_map` that
 -- these are.
 use Rattle.std.specs.Prelude.{◌≡◌, ◌==◌, ◌<◌, ℕ, ◌+◌, not, nat_lt, if◌then◌else◌, Option, None, Some}
-use Rattle.std.specs.Prelude.{unwrap_or, List, length, slice_range, slice_get}
+use Rattle.std.specs.Prelude.{unwrap_or, List, slice_range, slice_get}
 use Rattle.ec_wire.specs.declared.datagram.TheConstants.{MAX_DATA}
 use Rattle.ec_wire.specs.declared.kind.Kind.{Kind}
 use Rattle.ec_wire.specs.declared.kind.Kind.TheVariants.{Lrd, Lwr, Lrw, Brd, Fprd, Fpwr}

@@ -6,13 +6,11 @@ use Rattle.ec_wire.specs.Spelling.{spelling}
 use Rattle.ec_wire.specs.declared.fault.Form.{Form}
 use Rattle.ec_wire.specs.declared.fault.WireFault.{WireFault}
 use Rattle.ec_merge.specs.Frames.{IsOwn, IsFault, joined_frame}
-use Rattle.ec_merge.specs.declared.frames.JoinFault.{JoinFault}
 use Rattle.ec_merge.specs.declared.frames.JoinFault.TheVariants as strangers
 use Rattle.rummymaple.specs.Copies.{IsCopy}
 use Rattle.rummymaple.specs.Numbers.{number_of, copy_number}
 use Rattle.rummymaple.specs.declared.numbers.Code.{Code}
 use Rattle.rummymaple.specs.declared.numbers.Code.TheVariants as codes
-use Rattle.rummymaple.specs.declared.numbers.Copy.{Copy}
 use Rattle.rummymaple.specs.declared.numbers.Copy.TheVariants.{Lost}
 use Rattle.rummymaple.specs.declared.join.JoinEnd.{JoinEnd}
 use Rattle.rummymaple.specs.declared.join.JoinEnd.TheVariants.{Joined, Stranger, NoRoom, NotSent, BadForm}

@@ -4,7 +4,6 @@ use Rattle.ec_wire.specs.Datagram.{DatagramRecord}
 use Rattle.ec_wire.specs.Fault.{IsSpelt, IsFirstFault}
 use Rattle.ec_wire.specs.declared.fault.Form.TheVariants.{Udp}
 use Rattle.ec_wire.specs.declared.fault.WireFault.{WireFault}
-use Rattle.ec_master.specs.declared.verdict.Verdict.{Verdict}
 use Rattle.ec_master.specs.declared.verdict.Verdict.TheVariants as verdicts
 use Rattle.rummymaple.specs.Answers.{AreAnswered, IsFirstOther, verdict_on, with_counts_at, stored}
 use Rattle.rummymaple.specs.Items.{AreTaken, IsFirstRefused}

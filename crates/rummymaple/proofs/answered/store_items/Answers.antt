@@ -1,8 +1,8 @@
 use Rattle.std.proofs.Common.{◌≡◌, ◌<◌, ◌≤◌, ◌+◌, ◌∙◌, ℕ, suc, arith, ap, sym, add-one, List, [], length, drop}
-use Rattle.std.proofs.Common.{get_or, None, subst}
+use Rattle.std.proofs.Common.{get_or}
 use Rattle.std.proofs.lemmas.List.{drop_all}
 use Rattle.ec_wire.specs.Datagram.{DatagramRecord, nth}
-use Rattle.rummymaple.specs.Answers.{stored, stored_item}
+use Rattle.rummymaple.specs.Answers.{stored}
 use Rattle.rummymaple.specs.declared.item.Item.{Item}
 use Rattle.rummymaple.proofs.CutLemmas.{no_item, taken_at}
 use Rattle.rummymaple.proofs.ItemLemmas.{taken}

@@ -1,10 +1,10 @@
-use Rattle.std.proofs.Common.{◌≡◌, ◌<◌, ◌+◌, ◌∙◌, ℕ, arith, ap, sym, add-one, List, length, take, get_or}
+use Rattle.std.proofs.Common.{◌≡◌, ◌<◌, ◌+◌, ◌∙◌, ℕ, arith, ap, sym, add-one, List, length, get_or}
 use Rattle.std.proofs.lemmas.List.{take_all}
 use Rattle.ec_wire.specs.Datagram.{nth}
 use Rattle.rummymaple.specs.Answers.{came_back, with_counts_at}
 use Rattle.rummymaple.specs.declared.item.Item.{Item}
 use Rattle.rummymaple.proofs.CutLemmas.{no_item}
-use Rattle.rummymaple.proofs.AnswerLemmas.{with_counts_at-none, length-with_counts_at, get-with_counts_at}
+use Rattle.rummymaple.proofs.AnswerLemmas.{with_counts_at-none, get-with_counts_at}
 use Rattle.rummymaple.proofs.AnswerLemmas.{set-with_counts_at}
 use Rattle.rummymaple.proofs.answered.take_counts.Goals as goal
 

@@ -1,4 +1,4 @@
-use Rattle.std.proofs.Common.{◌≡◌, ◌<◌, ◌∙◌, true, List, length, ap, sym, set, add-one, arith}
+use Rattle.std.proofs.Common.{◌≡◌, ◌<◌, ◌∙◌, List, length, ap, sym, set, add-one, arith}
 use Rattle.ec_wire.specs.Datagram.{DatagramRecord, nth}
 use Rattle.ec_merge.specs.Frames.{belongs, joined_record}
 use Rattle.rummymaple.proofs.JoinLemmas.{joined_part, length-joined_part, nth-joined_part}
