@@ -53,7 +53,7 @@ pub enum ReadEnd {
     BadForm,
 }
 
-/// The same in numbers: `struct rmp_reading` of the header.
+/// How a reading ended, in numbers: `struct rmp_reading` of the header.
 #[repr(C)]
 #[derive(Clone, Copy, PartialEq, Eq, Debug)]
 pub struct ReadAnswer {
@@ -66,7 +66,7 @@ pub struct ReadAnswer {
 }
 
 impl ReadEnd {
-    /// It in numbers.
+    /// The end in numbers.
     fn answer(self) -> ReadAnswer
         ensures { result ≡ read_answer self }
     {
