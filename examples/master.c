@@ -5,8 +5,7 @@
  *
  * It starts `ecat serve scenes/serve/bench.scene --control`, a line of five slaves, breaks two of its links
  * while it cycles and mends them, and prints each change: the verdict, and where the cable is broken. Run it
- * at the top of the repository. The status is 0 where the line was good at first and at last, and short in
- * between.
+ * at the top of the repository. The status is 0 where the line was short for a while, and good at last.
  */
 #define _POSIX_C_SOURCE 200809L
 #include "rummymaple.h"
@@ -16,7 +15,6 @@
 #include <stdlib.h>
 #include <string.h>
 #include <sys/socket.h>
-#include <unistd.h>
 
 enum { OUTPUTS, INPUTS, STATES, ITEMS };
 enum { SLAVES = 5, CYCLES = 1000, WAIT_MS = 200 };

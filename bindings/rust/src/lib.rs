@@ -4,7 +4,8 @@
 //! into slices, by hand. No call panics, takes memory or keeps anything.
 //!
 //! ```
-//! use rummymaple::{frame, join, judge, store, Copies, Form, Item, Kind, Verdict};
+//! use rummymaple::{frame, join, judge, read, store};
+//! use rummymaple::{Copies, Datagram, Fault, Form, Item, Kind, Verdict, Wrong};
 //!
 //! // One exchange of two bytes; a slave adds 3 to its counter.
 //! let mut items = [Item::new(Kind::Lrw, 0x0001_0000, 0, 2, 3)];
@@ -19,6 +20,12 @@
 //! assert_eq!(judge(&mut items, 0, &joined[..came.bytes])?, Verdict::Good);
 //! store(&items, 0, &joined[..came.bytes], &mut image)?;
 //! assert_eq!(image, [0x12, 0x34]);
+//!
+//! // Whatever else came can be read by itself.
+//! let mut found = [Datagram::default(); 124];
+//! assert_eq!(read(Form::Udp, &a[..made.bytes], &mut found)?, 1);
+//! assert_eq!((found[0].data, found[0].length, found[0].counter), (12, 2, 3));
+//! assert_eq!(read(Form::Udp, &a[..9], &mut found), Err(Fault::NoFrame(Wrong::Short, 9)));
 //! # Ok::<(), rummymaple::Fault>(())
 //! ```
 #![no_std]
@@ -133,6 +140,53 @@ pub struct Joined {
     pub copies: Copies,
 }
 
+/// A datagram of a frame that was read.
+#[derive(Clone, Copy, PartialEq, Eq, Debug, Default)]
+#[repr(C)]
+pub struct Datagram {
+    /// Where its data begin in the frame.
+    pub data: usize,
+    /// How many data bytes it has.
+    pub length: usize,
+    /// The logical address, or ADP plus 65,536 times ADO.
+    pub address: u32,
+    /// The working counter.
+    pub counter: u16,
+    /// The slaves' event requests, or-ed.
+    pub irq: u16,
+    /// The command by the standard's code, 0 to 14.
+    pub command: u8,
+    /// The master's number for it.
+    pub index: u8,
+    /// 1 where the frame turned round at a slave's closed port 0, else 0.
+    pub circulating: u8,
+}
+
+/// What is wrong with bytes that are no frame.
+#[derive(Clone, Copy, PartialEq, Eq, Debug)]
+pub enum Wrong {
+    /// The bytes end before the frame does.
+    Short,
+    /// The header's type is not 1.
+    BadType,
+    /// A reserved bit is set.
+    Reserved,
+    /// The header states no datagrams.
+    Empty,
+    /// The header states more than 1,498 bytes of datagrams.
+    TooLong,
+    /// A command above 14.
+    BadCommand,
+    /// A datagram's data reach past the end of the frame.
+    Overrun,
+    /// The last datagram says that more follow.
+    MoreAtEnd,
+    /// Bytes are left behind the last datagram, or too few for one more.
+    LeftOver,
+    /// Bytes follow the frame in a UDP packet.
+    Trailing,
+}
+
 /// Why a call did nothing.
 #[derive(Clone, Copy, PartialEq, Eq, Debug)]
 pub enum Fault {
@@ -148,6 +202,8 @@ pub enum Fault {
     NotJoined(usize),
     /// This datagram is not the answer of its item.
     OtherItem(usize),
+    /// The bytes are no frame: what is wrong first, and at which byte.
+    NoFrame(Wrong, usize),
     /// There are more than 256 items.
     TooMany,
     /// There is no item with the number at which the frame is to begin.
@@ -180,6 +236,13 @@ struct JoinAnswer {
 }
 
 #[repr(C)]
+struct Reading {
+    count: usize,
+    at: usize,
+    code: u32,
+}
+
+#[repr(C)]
 struct Answer {
     at: usize,
     code: u32,
@@ -206,6 +269,13 @@ extern "C" {
         room: *mut u8,
         room_size: usize,
     ) -> JoinAnswer;
+    fn rmp_read(
+        form: u32,
+        bytes: *const u8,
+        size: usize,
+        room: *mut Datagram,
+        room_count: usize,
+    ) -> Reading;
     fn rmp_judge(items: *mut Item, n: usize, first: usize, joined: *const u8, joined_size: usize)
         -> Answer;
     fn rmp_store(
@@ -233,6 +303,16 @@ fn fault(code: u32, at: usize) -> Fault {
         13 => Fault::BadLength(at),
         14 => Fault::BadRange(at),
         15 => Fault::BadPlace(at),
+        16 => Fault::NoFrame(Wrong::Short, at),
+        17 => Fault::NoFrame(Wrong::BadType, at),
+        18 => Fault::NoFrame(Wrong::Reserved, at),
+        19 => Fault::NoFrame(Wrong::Empty, at),
+        20 => Fault::NoFrame(Wrong::TooLong, at),
+        21 => Fault::NoFrame(Wrong::BadCommand, at),
+        22 => Fault::NoFrame(Wrong::Overrun, at),
+        23 => Fault::NoFrame(Wrong::MoreAtEnd, at),
+        24 => Fault::NoFrame(Wrong::LeftOver, at),
+        25 => Fault::NoFrame(Wrong::Trailing, at),
         _ => Fault::Unknown(code),
     }
 }
@@ -325,7 +405,23 @@ pub fn store(items: &[Item], first: usize, joined: &[u8], image: &mut [u8]) -> R
     }
 }
 
+/// Reads the bytes of a frame: puts its datagrams at the front of `room`, and answers how many they are. Room
+/// for 124 suffices for each frame.
+pub fn read(form: Form, bytes: &[u8], room: &mut [Datagram]) -> Result<usize, Fault> {
+    // SAFETY: each pointer is that of a slice of that length, and the one that is written is borrowed alone.
+    let told = unsafe {
+        let (size, count) = (bytes.len(), room.len());
+        rmp_read(form as u32, bytes.as_ptr(), size, room.as_mut_ptr(), count)
+    };
+    match told.code {
+        0 => Ok(told.count),
+        code => Err(fault(code, told.at)),
+    }
+}
+
 const _: () = assert!(core::mem::size_of::<Item>() == 20);
+const _: () = assert!(core::mem::size_of::<Datagram>() == 32);
+const _: () = assert!(core::mem::size_of::<Reading>() == 24);
 const _: () = assert!(core::mem::size_of::<Framed>() == 32);
 const _: () = assert!(core::mem::size_of::<JoinAnswer>() == 32);
 const _: () = assert!(core::mem::size_of::<Answer>() == 16);

@@ -1,3 +1,4 @@
+pub mod ReadLemmas
 pub mod CycleLemmas
 pub mod AnswerLemmas
 pub mod CutLemmas

@@ -6,3 +6,4 @@ pub mod Frame
 pub mod Answers
 pub mod Judge
 pub mod Cycle
+pub mod Read

@@ -35,7 +35,7 @@ pub enum FrameEnd {
     Refused(usize, Code),
 }
 
-/// The same in numbers: `struct rmp_framed` of the header.
+/// How the making of a frame ended, in numbers: `struct rmp_framed` of the header.
 #[repr(C)]
 #[derive(Clone, Copy, PartialEq, Eq, Debug)]
 pub struct FrameAnswer {
@@ -114,7 +114,7 @@ fn frame_end(items: &[Item], image: &[u8], first: usize, room: &mut [u8]) -> Fra
 }
 
 impl FrameEnd {
-    /// It in numbers.
+    /// The end in numbers.
     fn answer(self) -> FrameAnswer
         ensures { result ≡ frame_answer self }
     {

@@ -40,7 +40,7 @@ pub struct Join {
     pub b: Copy,
 }
 
-/// The same in numbers: `struct rmp_joined` of the header.
+/// What came of two packets, in numbers: `struct rmp_joined` of the header.
 #[repr(C)]
 #[derive(Clone, Copy, PartialEq, Eq, Debug)]
 pub struct JoinAnswer {
@@ -95,7 +95,7 @@ impl JoinEnd {
 }
 
 impl Join {
-    /// It in numbers.
+    /// The join in numbers.
     fn answer(self) -> JoinAnswer
         ensures { result ≡ join_answer self }
     {

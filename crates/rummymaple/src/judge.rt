@@ -21,7 +21,7 @@ pub enum JudgeEnd {
     NotJoined(WireFault),
 }
 
-/// An end in numbers: `struct rmp_answer` of the header.
+/// How the judging or the storing of a joined frame ended, in numbers: `struct rmp_answer` of the header.
 #[repr(C)]
 #[derive(Clone, Copy, PartialEq, Eq, Debug)]
 pub struct ItemAnswer {
@@ -32,7 +32,7 @@ pub struct ItemAnswer {
 }
 
 impl JudgeEnd {
-    /// It in numbers.
+    /// The end in numbers.
     fn answer(self) -> ItemAnswer
         ensures { result ≡ judge_answer self }
     {

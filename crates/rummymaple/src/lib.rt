@@ -23,13 +23,15 @@
 //! - [`rmp_judge`]: the verdict is that on the items' counters (`ec_master`, `verdict_from`), and only what
 //!   came back is written into the items;
 //! - [`rmp_store`]: the image gets the data of those items that read, and nothing else;
+//! - [`rmp_read`]: the datagrams of the frame that the bytes spell and where their data lie, or the first
+//!   fault with its place (`ec_wire`, `IsFirstFault`);
 //! - [`calls_are_a_cycle`]: where every verdict is good, the calls in their order are a good cycle of
 //!   `ec_master::run_cycle` over ports that give what came, with all that this certifies.
 //!
 //! Each export answers by a struct of numbers, and its contract says of which end they are the numbers
-//! (`Join`, `Frame` and `Judge` of specs/). What an item is stands in `Items`, what a joined frame gives it in
-//! `Answers`, and the calls in their order in `Cycle`. A call needs less than 8 KB of stack: nothing that has
-//! the size of a frame is moved or made twice where it can stay in its place.
+//! (`Join`, `Frame`, `Judge` and `Read` of specs/). What an item is stands in `Items`, what a joined frame
+//! gives it in `Answers`, and the calls in their order in `Cycle`. A call needs less than 8 KB of stack:
+//! nothing that has the size of a frame is moved or made twice where it can stay in its place.
 
 mod answered;
 mod frame;
@@ -40,6 +42,7 @@ mod judge;
 mod numbers;
 mod packet;
 mod promises;
+mod read;
 mod store;
 
 pub use frame::{FrameAnswer, FrameEnd, rmp_frame};
@@ -48,6 +51,7 @@ pub use join::{Join, JoinAnswer, JoinEnd, rmp_join};
 pub use judge::{ItemAnswer, JudgeEnd, rmp_judge};
 pub use numbers::{Code, Copy};
 pub use promises::calls_are_a_cycle;
+pub use read::{DatagramPlace, ReadAnswer, ReadEnd, rmp_read};
 pub use store::{StoreEnd, rmp_store};
 
 #[cfg(test)]

@@ -24,7 +24,7 @@ pub enum StoreEnd {
 }
 
 impl StoreEnd {
-    /// It in numbers.
+    /// The end in numbers.
     fn answer(self) -> ItemAnswer
         ensures { result ≡ store_answer self }
     {

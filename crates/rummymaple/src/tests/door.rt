@@ -1,7 +1,10 @@
 //! A cycle of an LRW of two bytes and a broadcast read, over a ring of two slaves.
 
 use crate::item::Item;
-use crate::{FrameAnswer, ItemAnswer, JoinAnswer, rmp_frame, rmp_join, rmp_judge, rmp_store};
+use crate::{
+    DatagramPlace, FrameAnswer, ItemAnswer, JoinAnswer, ReadAnswer, rmp_frame, rmp_join, rmp_judge,
+    rmp_store,
+};
 use std::mem::size_of;
 
 /// The number of the UDP form.
@@ -108,4 +111,6 @@ fn the_header_states_these_sizes(rt: HostRuntime) {
     assert_eq!(rt; size_of::<FrameAnswer>(), 32);
     assert_eq!(rt; size_of::<JoinAnswer>(), 32);
     assert_eq!(rt; size_of::<ItemAnswer>(), 16);
+    assert_eq!(rt; size_of::<DatagramPlace>(), 32);
+    assert_eq!(rt; size_of::<ReadAnswer>(), 24);
 }
