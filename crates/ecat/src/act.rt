@@ -75,7 +75,8 @@ impl From<io::Error> for Failure {
     }
 }
 
-/// Does a command but `list` and those that go over packets, whose file is open as `source`, and answers the exit status.
+/// Does a command but `list` and those that go over packets, whose file is open as `source`, and answers the
+/// exit status.
 pub fn act<S, W, V>(alloc: Global, args: &Args<'_>, source: &mut S, out: &mut W, err: &mut V) -> u8
 where
     S: Source,

@@ -64,8 +64,8 @@ impl From<ScanEnd> for Failure {
 }
 
 /// The two ports of a master whose line lies there, `HOST:PORT` or two of them with a comma between; a copy
-/// is waited for so many microseconds. A first frame that asks nothing has gone out from each, so that whoever
-/// serves the line knows where both are.
+/// is waited for so many microseconds. A first frame that asks nothing has gone out from each, so that
+/// whoever serves the line knows where both are.
 pub fn far_ports(
     net: &impl Net,
     at: &str,

@@ -47,8 +47,8 @@ impl Wanted {
     }
 }
 
-/// Lists the capture that the source holds, and answers the exit status: that of a refusal where the capture is
-/// damaged. Whoever reads the output may close it.
+/// Lists the capture that the source holds, and answers the exit status: that of a refusal where the capture
+/// is damaged. Whoever reads the output may close it.
 pub fn act_list<S, W, V>(alloc: Global, wanted: Wanted, source: S, out: &mut W, err: &mut V) -> u8
 where
     S: Source + Drop,

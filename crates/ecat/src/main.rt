@@ -84,8 +84,8 @@ where
     }
 }
 
-/// Tells `err` why the words of the command line are refused, and answers the exit status. A fault of `err` is
-/// passed over.
+/// Tells `err` why the words of the command line are refused, and answers the exit status. A fault of `err`
+/// is passed over.
 fn tell_refusal<V: io::Write>(fault: ArgsFault, err: &mut V) -> u8
     ensures { result ≡ refusal_status fault }
 {

@@ -122,8 +122,8 @@ pub enum Args<'a> {
         raw: Option<&'a str>,
     },
     /// `master SCENE [--at AT] [--raw RAW] [--cycles N] [--every MICROSECONDS] [--limit LIMIT]
-    /// [--outputs OUTPUTS] [--log LOG] [--stop] [--recover]`: brings a line somewhere else to Op, and cycles on
-    /// it.
+    /// [--outputs OUTPUTS] [--log LOG] [--stop] [--recover]`: brings a line somewhere else to Op, and cycles
+    /// on it.
     Master {
         /// The path of the scene, what the slaves are to be told.
         scene: &'a str,

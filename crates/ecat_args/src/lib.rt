@@ -17,10 +17,10 @@
 //! ecat vectors
 //! ```
 //!
-//! A number is decimal digits, or `0x` and hexadecimal digits of either case. `VALUE` is `0x` and
-//! exactly 2, 4 or 8 hexadecimal digits, which give its size. `ADDRESS` is an IPv4 address, as 127.0.0.1.
-//! `AT` is where a line lies, `HOST:PORT` of its end A or those of both ends with a comma between them; `RAW` are
-//! the descriptors of packet sockets, one or two. Both texts are handed on as they stand.
+//! A number is decimal digits, or `0x` and hexadecimal digits of either case. `VALUE` is `0x` and exactly 2,
+//! 4 or 8 hexadecimal digits, which give its size. `ADDRESS` is an IPv4 address, as 127.0.0.1. `AT` is where
+//! a line lies, `HOST:PORT` of its end A or those of both ends with a comma between them; `RAW` are the
+//! descriptors of packet sockets, one or two. Both texts are handed on as they stand.
 //!
 //! A use, which the test `words_are_read_as_the_page_shows` tries; `rt` is what `main` is given:
 //!

@@ -1,7 +1,9 @@
 -- A pcapng file is blocks, end to end: each has its type, its length, what it says, and its length again
 -- (the PCAP Next Generation file format: block types and options).
-use Rattle.std.specs.Prelude.{◌≡◌, ℕ, ◌+◌, ◌-◌, ◌*◌, ◌%◌, ◌<◌, ◌≤◌, ◌⊎◌, Bool, true, false, not, ◌==◌, ◌&&◌, ◌||◌, nat_lt}
-use Rattle.std.specs.Prelude.{Option, Some, None, Result, Ok, Err, List, [], ◌∷◌, zero, suc, length, drop, min}
+use Rattle.std.specs.Prelude.{◌≡◌, ℕ, ◌+◌, ◌-◌, ◌*◌, ◌%◌, ◌<◌, ◌≤◌, ◌⊎◌, Bool, true, false, not, ◌==◌, ◌&&◌}
+use Rattle.std.specs.Prelude.{◌||◌, nat_lt}
+use Rattle.std.specs.Prelude.{Option, Some, None, Result, Ok, Err, List, [], ◌∷◌, zero, suc, length, drop}
+use Rattle.std.specs.Prelude.{min}
 use Rattle.std.specs.Prelude.{slice_index, slice_get, if◌then◌else◌}
 use Rattle.ecat_capture.specs.Numbers.{half, word}
 use Rattle.ecat_capture.specs.Input.{run}
@@ -33,7 +35,8 @@ unfoldable pub magic_order : ℕ → Option Order
 magic_order magic =
     if magic == 0x1a2b3c4d then Some Little else if magic == 0x4d3c2b1a then Some Big else None
 
--- the order of a block's numbers, by its first twelve bytes: its section's, and a section header tells its own
+-- the order of a block's numbers, by its first twelve bytes: its section's, and a section header tells its
+-- own
 unfoldable pub block_order : Order → List ℕ → Option Order
 block_order section bytes =
     if word Little 0 bytes == section_header then magic_order (word Little 8 bytes) else Some section
@@ -102,8 +105,8 @@ interface_of order block = record {
 abbrev pub snapped : ℕ → ℕ → ℕ
 snapped original limit = if limit == 0 then original else min original limit
 
--- the fields of a packet in an enhanced packet block, in the obsolete packet block, and in a simple one, which
--- comes from the first interface
+-- the fields of a packet in an enhanced packet block, in the obsolete packet block, and in a simple one,
+-- which comes from the first interface
 abbrev pub enhanced_fields : Order → List ℕ → Fields
 enhanced_fields order block = record {
   interface = word order 8 block;

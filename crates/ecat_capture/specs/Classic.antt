@@ -1,6 +1,7 @@
 -- A classic capture is a header of 24 bytes and then records, each a head of 16 bytes and the bytes of one
 -- packet (the savefile format of libpcap).
-use Rattle.std.specs.Prelude.{◌≡◌, ℕ, ◌+◌, ◌*◌, ◌<◌, ◌≤◌, ◌⊎◌, Bool, true, false, not, ◌==◌, ◌||◌, Option, Some, None}
+use Rattle.std.specs.Prelude.{◌≡◌, ℕ, ◌+◌, ◌*◌, ◌<◌, ◌≤◌, ◌⊎◌, Bool, true, false, not, ◌==◌, ◌||◌, Option}
+use Rattle.std.specs.Prelude.{Some, None}
 use Rattle.std.specs.Prelude.{List, [], ◌∷◌, length, if◌then◌else◌}
 use Rattle.ecat_capture.specs.Numbers.{half, word}
 use Rattle.ecat_capture.specs.Times.{time_of}
@@ -11,8 +12,8 @@ use Rattle.ecat_capture.specs.declared.packet.Found.{Found}
 use Rattle.ecat_capture.specs.declared.fault.CaptureFaultKind.{CaptureFaultKind}
 use Rattle.ecat_capture.specs.declared.fault.CaptureFaultKind.TheVariants.{Version, LinkType}
 
--- the kind of classic capture by its first four bytes, lowest first: its numbers' order, and whether it counts
--- nanoseconds
+-- the kind of classic capture by its first four bytes, lowest first: its numbers' order, and whether it
+-- counts nanoseconds
 unfoldable pub format_of : ℕ → Option Format
 format_of magic =
     if magic == 0xa1b2c3d4 then Some (record { order = Little; nanoseconds = false })

@@ -1,11 +1,13 @@
--- What of a packet is EtherCAT (IEC 61158-4-12: the EtherCAT frame in an Ethernet frame and in UDP): the bytes
--- behind type 0x88A4, or in a UDP packet to or from port 34980.
-use Rattle.std.specs.Prelude.{ℕ, ◌+◌, ◌*◌, ◌/◌, ◌%◌, ◌≤◌, Bool, not, ◌==◌, ◌&&◌, ◌||◌, nat_lt, Option, Some, None}
+-- What of a packet is EtherCAT (IEC 61158-4-12: the EtherCAT frame in an Ethernet frame and in UDP): the
+-- bytes behind type 0x88A4, or in a UDP packet to or from port 34980.
+use Rattle.std.specs.Prelude.{ℕ, ◌+◌, ◌*◌, ◌/◌, ◌%◌, ◌≤◌, Bool, not, ◌==◌, ◌&&◌, ◌||◌, nat_lt, Option, Some}
+use Rattle.std.specs.Prelude.{None}
 use Rattle.std.specs.Prelude.{List, length, min, slice_index, if◌then◌else◌}
 use Rattle.ecat_capture.specs.Numbers.{half}
 use Rattle.ecat_capture.specs.declared.order.Order.TheVariants.{Big}
 use Rattle.ecat_capture.specs.declared.ethernet.Payload.{Payload}
-use Rattle.ecat_capture.specs.declared.ethernet.Payload.TheVariants.{Ethernet, Udp, Fragment, Short, BadLength}
+use Rattle.ecat_capture.specs.declared.ethernet.Payload.TheVariants.{Ethernet, Udp, Fragment, Short}
+use Rattle.ecat_capture.specs.declared.ethernet.Payload.TheVariants.{BadLength}
 use Rattle.ecat_capture.specs.declared.ethernet.Payload.TheVariants.{Other}
 
 -- a VLAN tag stands at a place (IEEE 802.1Q: the types of a customer's tag and of a service's)
@@ -52,7 +54,8 @@ unfoldable pub ipv6_fragment : ℕ → List ℕ → Payload
 ipv6_fragment at bytes =
     if nat_lt (length bytes) (at + 8) then Short
     else if not (slice_index bytes at == 17) then Other
-    else if (half Big (at + 2) bytes / 8 == 0) && (half Big (at + 2) bytes % 2 == 0) then udp_payload (at + 8) bytes
+    else if (half Big (at + 2) bytes / 8 == 0) && (half Big (at + 2) bytes % 2 == 0)
+    then udp_payload (at + 8) bytes
     else udp_fragment (half Big (at + 2) bytes / 8 == 0) (at + 8) bytes
 
 -- an IPv6 packet: UDP is next header 17, a fragment header 44; behind other extension headers nothing is

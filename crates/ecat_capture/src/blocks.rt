@@ -1,4 +1,5 @@
-//! The blocks of a pcapng file (the PCAP Next Generation file format, general block structure and block types).
+//! The blocks of a pcapng file (the PCAP Next Generation file format, general block structure and block
+//! types).
 ghost use Rattle.std.specs.Prelude.{◌≡◌, ◌+◌, ◌*◌, ◌<◌, ◌≤◌, ◌^◌, IfErr, IfOk, IfSome, None, OnOk, Some};
 ghost use Rattle.std.specs.Prelude.{length, slice_get};
 ghost use Rattle.ecat_capture.specs.Numbers.{word};

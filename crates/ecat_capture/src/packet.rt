@@ -34,8 +34,8 @@ impl Time {
     }
 }
 
-/// How many ticks a second has by the byte of the option `if_tsresol`, or 0 where they are finer than times of
-/// this crate.
+/// How many ticks a second has by the byte of the option `if_tsresol`, or 0 where they are finer than times
+/// of this crate.
 #[tactic(auto, unfolding(crate::specs::Times::per_second_of))]
 pub(crate) fn per_second_of(resolution: u8) -> u64
     ensures value { result ≡ per_second_of resolution }

@@ -31,6 +31,5 @@ mod text;
 
 pub use listing::{Asked, Form, Listed, list};
 
-
 #[cfg(test)]
 mod tests;

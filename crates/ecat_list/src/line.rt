@@ -99,11 +99,7 @@ fn put_since(text: &mut Vec<u8>, style: Style, since: Option<Since>) -> Result<(
 }
 
 /// Puts a source address, its bytes parted by colons.
-fn put_source(
-    text: &mut Vec<u8>,
-    style: Style,
-    source: Option<[u8; 6]>,
-) -> Result<(), AllocError> {
+fn put_source(text: &mut Vec<u8>, style: Style, source: Option<[u8; 6]>) -> Result<(), AllocError> {
     match source {
         Some(address) => put_parted(text, address),
         None => put_nothing(text, style),

@@ -31,8 +31,8 @@ pub enum Form {
 pub struct Asked {
     /// What is told.
     pub form: Form,
-    /// Are the lines of each packet written at once, as a terminal and a reader who follows want it, or in pieces
-    /// of 64 KiB?
+    /// Are the lines of each packet written at once, as a terminal and a reader who follows want it, or in
+    /// pieces of 64 KiB?
     pub live: bool,
     /// Is it told now and then, on the second writer, how many packets were read?
     pub progress: bool,
@@ -58,8 +58,8 @@ pub enum Listed {
 /// After how many packets it is told how many were read.
 const PROGRESS_STEP: u64 = 100_000;
 
-/// Lists the capture that the source has ahead: the texts go to `out`, and where progress is asked for to `err`
-/// how many packets were read. A write to `err` that fails is passed over.
+/// Lists the capture that the source has ahead: the texts go to `out`, and where progress is asked for to
+/// `err` how many packets were read. A write to `err` that fails is passed over.
 pub fn list<S: Source + Drop, W: Write, V: Write>(
     alloc: Global,
     source: S,

@@ -1,5 +1,5 @@
-//! What is listed of captures, over bytes in place, and outputs that fail. A test accepts want of memory as an
-//! answer, so that each allocation can be made to fail in turn.
+//! What is listed of captures, over bytes in place, and outputs that fail. A test accepts want of memory as
+//! an answer, so that each allocation can be made to fail in turn.
 
 mod ends;
 mod lines;
@@ -70,17 +70,16 @@ fn asked(form: Form) -> Asked {
 }
 
 /// A listing of these bytes prints this and ends so, at once and in pieces, or memory runs out.
-fn lists(
-    rt: &impl Abort,
-    alloc: Global,
-    form: Form,
-    file: &[u8],
-    text: &[u8],
-    listed: Listed,
-) {
+fn lists(rt: &impl Abort, alloc: Global, form: Form, file: &[u8], text: &[u8], listed: Listed) {
     let mut printed = Cursor::new([0u8; ROOM]);
     let mut told = Cursor::new([0u8; ROOM]);
-    let ended = list(alloc, Bytes::new(file), asked(form), &mut printed, &mut told);
+    let ended = list(
+        alloc,
+        Bytes::new(file),
+        asked(form),
+        &mut printed,
+        &mut told,
+    );
     if ended == Listed::NoMemory {
         return;
     }

@@ -2,12 +2,13 @@
 //! A master that runs, over any two ports: it brings a line to Op, cycles on it, and says where a cable
 //! breaks and when it is whole again (IEC 61158-6-12, AL management; IEC 61158-4-12, working counter).
 //!
-//! A master's calls leave to their caller in which order they are made, and what is done when one fails.
-//! Here is a program's part of it, with no socket and no clock of its own: the ports are any that tell where
-//! copies arrive ([`ec_ring::HeardPorts`]), the time is a [`Pace`], and what is told goes to writers. One use,
-//! which `tests/door.rt` tries; `wanted`, `ring` and `work` of `tests/line.rt` make three slaves as a scene
-//! has them, a ring of slaves that were told nothing, and an exchange of three bytes; `Stage` and `Count` of
-//! `tests/stage.rt` are ports to that ring, whose link 2 breaks before cycle 3, and so many cycles:
+//! A master's calls leave to their caller in which order they are made, and what is done when one fails. Here
+//! is a program's part of it, with no socket and no clock of its own: the ports are any that tell where
+//! copies arrive ([`ec_ring::HeardPorts`]), the time is a [`Pace`], and what is told goes to writers. One
+//! use, which `tests/door.rt` tries; `wanted`, `ring` and `work` of `tests/line.rt` make three slaves as a
+//! scene has them, a ring of slaves that were told nothing, and an exchange of three bytes; `Stage` and
+//! `Count` of `tests/stage.rt` are ports to that ring, whose link 2 breaks before cycle 3, and so many
+//! cycles:
 //!
 //! ```text
 //! let line = wanted(&rt, rt.alloc());

@@ -20,7 +20,8 @@ use Rattle.ecat_text.specs.declared.cable.CopyText.{CopyText}
 use Rattle.ecat_text.specs.declared.cable.End.{End}
 use Rattle.ecat_text.specs.declared.cable.End.TheVariants.{AtPort, AtSlave}
 use Rattle.ecat_text.specs.declared.cable.BreakText.{BreakText}
-use Rattle.ecat_text.specs.declared.cable.BreakText.TheVariants.{Whole, One, Two, First, Last, Unknown, Changed}
+use Rattle.ecat_text.specs.declared.cable.BreakText.TheVariants.{Whole, One, Two, First, Last, Unknown}
+use Rattle.ecat_text.specs.declared.cable.BreakText.TheVariants.{Changed}
 use Rattle.ecat_text.specs.declared.cable.Missing.{Missing}
 use Rattle.ecat_text.specs.declared.cable.Missing.TheVariants.{Nobody, CutOff as IsCutOff, NotTold}
 use Rattle.ecat_text.specs.declared.cable.Places.{Places}

@@ -1,8 +1,9 @@
 #![tactic(auto)]
-//! The texts of the program: lines of output, and what is printed of cycles, cables, areas, objects and refusals.
+//! The texts of the program: lines of output, and what is printed of cycles, cables, areas, objects and
+//! refusals.
 //!
-//! Each text is a `Display` whose clause says its words (`specs/`), so that a swapped word or base is refused;
-//! `Lines` writes what belongs to one line in one piece. One use:
+//! Each text is a `Display` whose clause says its words (`specs/`), so that a swapped word or base is
+//! refused; `Lines` writes what belongs to one line in one piece. One use:
 //!
 //! ```text
 //! let mut lines = Lines::new(out);

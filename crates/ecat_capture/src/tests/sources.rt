@@ -17,7 +17,8 @@ const TIME: Time = Time {
     fine: false,
 };
 
-// Run with an allocation that is refused, too: then the call that wanted it says so, and every later one fails.
+// Run with an allocation that is refused, too: then the call that wanted it says so, and every later one
+// fails.
 #[test]
 fn want_of_memory_is_told(rt: HostRuntime) {
     let mut capture = Capture::new(rt.alloc(), Bytes::new(&FILE));

@@ -38,7 +38,13 @@ fn a_closed_pipe_is_told_from_a_failed_write(rt: HostRuntime) -> Result<(), Fail
     ] {
         let mut out = Fails { kind };
         let mut err = Cursor::new([0u8; ROOM]);
-        let listed = list(rt.alloc(), Bytes::new(&file), asked(Form::Lines), &mut out, &mut err);
+        let listed = list(
+            rt.alloc(),
+            Bytes::new(&file),
+            asked(Form::Lines),
+            &mut out,
+            &mut err,
+        );
         assert!(&rt; listed == wanted || listed == Listed::NoMemory);
     }
     Ok(())

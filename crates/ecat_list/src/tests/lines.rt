@@ -77,7 +77,14 @@ fn damage_is_told_behind_what_came_before(rt: HostRuntime) -> Result<(), Fail> {
         kind: CaptureFaultKind::Short,
         at: 68,
     };
-    lists(&rt, rt.alloc(), Form::Lines, &file, text, Listed::Damaged(fault));
+    lists(
+        &rt,
+        rt.alloc(),
+        Form::Lines,
+        &file,
+        text,
+        Listed::Damaged(fault),
+    );
     Ok(())
 }
 

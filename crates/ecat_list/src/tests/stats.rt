@@ -67,7 +67,13 @@ fn groups_past_the_last_are_left_out(rt: HostRuntime) -> Result<(), Fail> {
     }
     let mut out = Tail { last: [0; 41] };
     let mut err = Cursor::new([0u8; 8]);
-    let listed = list(rt.alloc(), Bytes::new(&file), asked(Form::Stats), &mut out, &mut err);
+    let listed = list(
+        rt.alloc(),
+        Bytes::new(&file),
+        asked(Form::Stats),
+        &mut out,
+        &mut err,
+    );
     if listed != Listed::NoMemory {
         assert_eq!(rt; listed, Listed::Whole);
         let wanted = b"105 datagrams of further groups left out\n";
