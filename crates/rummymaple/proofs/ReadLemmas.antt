@@ -1,5 +1,5 @@
 -- Datagrams of a frame that are put into a room, one after the other.
-use Rattle.std.proofs.Common.{◌≡◌, ℕ, zero, suc, ◌+◌, ◌<◌, ◌≤◌, ◌∙◌, ap, sym, refl, arith, add-zero, List, [], ◌∷◌}
+use Rattle.std.proofs.Common.{◌≡◌, ℕ, zero, suc, ◌+◌, ◌<◌, ◌≤◌, ◌∙◌, ap, arith, add-zero, List, [], ◌∷◌}
 use Rattle.std.proofs.Common.{◌++◌, length, take, drop, set}
 use Rattle.std.proofs.lemmas.List.Sums.{sum_by-cons}
 use Rattle.ec_wire.specs.Datagram.{DatagramRecord, nth, datagram_length}

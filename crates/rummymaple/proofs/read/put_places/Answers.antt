@@ -1,7 +1,5 @@
-use Rattle.std.proofs.Common.{◌≡◌, ◌<◌, ◌+◌, ◌∙◌, ℕ, suc, arith, ap, add-one, List, length, take, drop, set}
-use Rattle.ec_wire.specs.Datagram.{DatagramRecord, nth, datagram_length}
-use Rattle.ec_wire.specs.Spelling.{body_length}
-use Rattle.rummymaple.specs.Read.{place_of, places_from}
+use Rattle.std.proofs.Common.{◌<◌, ℕ, arith, ap, add-one, List, length}
+use Rattle.ec_wire.specs.Datagram.{DatagramRecord}
 use Rattle.rummymaple.specs.declared.read.DatagramPlace.{DatagramPlace}
 use Rattle.rummymaple.proofs.ReadLemmas.{part-more, set-places}
 use Rattle.rummymaple.proofs.read.put_places.Goals as goal
