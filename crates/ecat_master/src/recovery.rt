@@ -38,7 +38,8 @@ pub enum Remedy {
     Leave,
     /// It is brought up from this phase on.
     From(Phase),
-    /// It is given its station address by its place, where the cable is whole, and brought up from Init on.
+    /// It is given its station address by its place, where every place is told by its distance from a port
+    /// alone, and brought up from Init on.
     Address,
 }
 
@@ -101,12 +102,22 @@ pub enum Outcome {
     Failed(StepFault),
 }
 
+/// Does the place of each of so many slaves tell how a frame reaches it alone: is the cable whole, or broken
+/// before the first slave or behind the last one?
+pub(crate) fn tells_places(cable: Located, slaves: usize) -> bool {
+    match cable {
+        Located::Whole => true,
+        Located::One(link) => link == 0 || link == slaves,
+        _ => false,
+    }
+}
+
 /// Looks at one slave of a line, and brings it to Op where it has left it (`Seen::remedy`).
 pub(crate) fn recover<P: Ports>(
     ports: &mut P,
     place: u16,
     wanted: &Wanted,
-    cable: Located,
+    tells_places: bool,
 ) -> Outcome
     ensures never_lower { P.failed ports.old ≤ P.failed ports.new }
 {
@@ -115,7 +126,7 @@ pub(crate) fn recover<P: Ports>(
     };
     let brought = match seen.remedy() {
         Remedy::Leave => return Outcome::Left,
-        Remedy::Address if cable != Located::Whole => return Outcome::Left,
+        Remedy::Address if !tells_places => return Outcome::Left,
         Remedy::Address => address_anew(ports, place, wanted),
         Remedy::From(first) => bring_from(ports, place, wanted, first),
     };

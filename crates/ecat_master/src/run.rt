@@ -10,7 +10,7 @@ use crate::outputs::Outputs;
 use crate::pace::Pace;
 use crate::phase::StepFault;
 use crate::print::Lines;
-use crate::recovery::{Outcome, Seen, recover};
+use crate::recovery::{Outcome, Seen, recover, tells_places};
 use crate::startup::{StartEnd, StartFault, put_start_fault, start};
 use crate::telling::{Told, log_cycle, put_counts, tell_image};
 use crate::wanted::Wanted;
@@ -170,7 +170,8 @@ impl<'a, W: Write, V: Write, L: Write> Teller<'a, W, V, L> {
             return Ok(());
         };
         self.next = place.wrapping_add(1);
-        let outcome = recover(ports, place, wanted, self.told.cable());
+        let tells_places = tells_places(self.told.cable(), line.len());
+        let outcome = recover(ports, place, wanted, tells_places);
         self.tell_recovery(counts, place, wanted, outcome)
     }
 

@@ -86,13 +86,25 @@ pub fn scan<P: HeardPorts, W: Write>(
         Some(located) => located,
         None => return Err(ScanEnd::Ask(MasterFault::Port)),
     };
-    put_cable(located, &[], lines)?;
+    put_links(located, lines)?;
     lines.end()?;
     let mut all = true;
     for place in 0..count {
         all = scan_slave(ports, place, located, lines)? && all;
     }
     Ok(all)
+}
+
+/// Puts where the cable is broken, with no name of a slave.
+fn put_links<W: Write>(located: Located, lines: &mut Lines<'_, W>) -> io::Result<()> {
+    match located {
+        Located::One(link) => {
+            lines.text("link ")?;
+            lines.number(link as u64)?;
+            lines.text(" down")
+        }
+        _ => put_cable(located, &[], lines),
+    }
 }
 
 /// Writes the line of one slave, and answers whether it could be read.

@@ -21,7 +21,9 @@ fn bare(rt: &impl Abort, alloc: Global, station: u16) -> Slave {
 
 /// The slave at a place as the scene has it: requests at 0x1800, answers at 0x1880, its outputs at 0x1000,
 /// its inputs at 0x1100; both lie at the logical byte 0x10000 and its place.
-fn set(rt: &impl Abort, alloc: Global, place: u16) -> Slave {
+fn set(rt: &impl Abort, alloc: Global, place: u16) -> Slave
+    requires { place ≤ 255 }
+{
     let mut slave = bare(rt, alloc, 0x1001 + place);
     let controller = slave.controller_mut();
     controller.set_syncman(0, &SyncMan::mailbox_from_master(0x1800, 32));

@@ -44,3 +44,23 @@ fn slaves_that_were_told_nothing_are_scanned(rt: HostRuntime) {
         "slaves 2\nring whole\nslave 0 station 0x0000 state Init\nslave 1 station 0x0000 state Init\n",
     );
 }
+
+/// Slave 1 is the first behind the broken link, and slave 0 the first from port A: by a place of 0 both
+/// answer. Slave 2 is the second behind it, and there is no second one before it.
+#[test]
+fn a_slave_with_a_twin_before_the_broken_link_is_not_read(rt: HostRuntime) {
+    let mut open = ring(&rt, rt.alloc(), 3);
+    if open.slaves().len() == 3 {
+        open.set_link(1, false);
+    }
+    let mut ports = Watched::new(Stage::new(open, &[]));
+    let mut out = Cursor::new([0u8; ROOM]);
+    let scanned = scan(&mut ports, &mut Lines::new(&mut out));
+    assert!(rt; matches!(scanned, Ok(false)));
+    assert_same(
+        &rt,
+        written(&out),
+        "slaves 3\nlink 1 down\nslave 0 station 0x0000 state Init\nslave 1 BadAnswer\n\
+        slave 2 station 0x0000 state Init\n",
+    );
+}

@@ -1,5 +1,6 @@
 //! What a cycle sends, byte by byte, by ports in memory that keep it.
 
+ghost use Rattle.std.specs.Prelude.{⊤};
 ghost use Rattle.ecat_master.specs.Cycles.{AddUp};
 
 use super::assert_same;

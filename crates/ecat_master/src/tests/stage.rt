@@ -1,5 +1,7 @@
 //! Ports in memory to a ring, at which things happen before the frame of a cycle.
 
+ghost use Rattle.std.specs.Prelude.{⊤};
+
 use super::assert_same;
 use super::line::{EXPECTED, wanted, work};
 use crate::ask::request;
@@ -88,7 +90,7 @@ impl<'a> Stage<'a> {
 impl<'a> Stage<'a> {
     /// Lets a slave lose its station address, where the cable is whole.
     fn forgets(&mut self, place: usize) {
-        let adp = (place as u16).wrapping_neg();
+        let adp = ((place % 256) as u16).wrapping_neg();
         let sent = request(Command::Apwr, address_of(adp, 0x0010), &[0, 0]);
         let weather = Weather::calm(self.ring.links());
         let _ = self.ring.arrivals(&FrameBuf::of(&sent), &weather);
@@ -98,8 +100,9 @@ impl<'a> Stage<'a> {
     fn begin_cycle(&mut self) -> (bool, bool) {
         let mut lost = false;
         let mut fails = false;
-        for k in 0..self.events.len() {
-            let (cycle, event) = self.events[k];
+        let events = self.events;
+        for k in 0..events.len() {
+            let (cycle, event) = events[k];
             if cycle == self.cycles {
                 let (loses, faults) = self.happens(event);
                 lost = lost || loses;
