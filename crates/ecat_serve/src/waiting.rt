@@ -76,11 +76,7 @@ pub struct Waiting<I: Read + AsRawFd + Drop> {
 
 impl<I: Read + AsRawFd + Drop> Waiting<I> {
     /// Has the system tell of what comes from the input, if there is one, and of no end yet.
-    pub fn new(
-        net: &impl Net,
-        alloc: Global,
-        input: Option<I>,
-    ) -> Result<Waiting<I>, WaitFault> {
+    pub fn new(net: &impl Net, alloc: Global, input: Option<I>) -> Result<Waiting<I>, WaitFault> {
         let events = room_for_events(alloc)?;
         let Ok(poll) = Poll::new(net) else {
             return Err(WaitFault::Refused);
