@@ -3,6 +3,7 @@
 Each is a function of a `Stage`. It gives what `cases/try` compares: a name, what is wanted, what is seen.
 """
 import os
+import re
 import select
 import shutil
 import socket
@@ -533,3 +534,143 @@ def wait_that_fails_ends_a_service(stage):
     yield "output", f"serving A 127.0.0.1:{stage.port} B 127.0.0.1:{stage.port + 1}\n", done.stdout
     yield "error", "cycle: Port\n", done.stderr
     yield "status", "3\n", f"{done.returncode}\n"
+
+
+# Three slaves with mailboxes, which take a byte of outputs and give a byte of inputs each, and what a master
+# asks of them in each cycle.
+MACHINE = "".join(
+    f"slave {0x1001 + k:#x}\nareas 1 1\n"
+    "sm 0 0x1800 32 mailbox-write\nsm 1 0x1880 32 mailbox-read\nsm 2 0x1000 1 write\nsm 3 0x1100 1 read\n"
+    f"fmmu 0 {0x10000 + k:#x} 1 0 7 0x1000 0 write\nfmmu 1 {0x10000 + k:#x} 1 0 7 0x1100 0 read\n"
+    f"mem 0x1100 {0x11 * (k + 1):02x}\nobject 0x1018 1 4 ro 2\nobject 0x1018 2 4 ro {0x100 + k}\n"
+    for k in range(3)
+) + "lrw 0x10000 a1a2a3\nbrd 0x0130 0000\n"
+
+# The lines of a start-up over a whole ring of three slaves.
+STARTED = "slaves 3\nring whole\nstations given\nall in Init\nall in Pre-Op\nall in Safe-Op\nall in Op\n"
+
+# The items of its last cycle: the inputs, and 8 for each slave, which is in Op.
+ITEMS = "item 0 LRW data 112233 wkc 9 of 9\nitem 1 BRD data 0800 wkc 3 of 3 adp 3\n"
+
+# How long a master waits for a copy here, in microseconds: a loaded machine is to lose none.
+PATIENCE = ("--limit", "1000000")
+
+
+def both_ends(stage):
+    """Where both ends of a served line lie, in the words of a master."""
+    return f"127.0.0.1:{stage.port},127.0.0.1:{stage.port + 1}"
+
+
+def last_lines(text, count):
+    """The last lines of a text, so many."""
+    return "".join(text.splitlines(True)[-count:])
+
+
+def told(line):
+    """A line of a master, with N for the number of its cycle and M for how many it lasted."""
+    line = re.sub(r"^cycle \d+:", "cycle N:", line)
+    return re.sub(r"after \d+ cycles", "after M cycles", line)
+
+
+@case
+def a_master_brings_a_line_to_op_and_cycles(stage):
+    with stage.serve(MACHINE, "--forever") as _line:
+        stage.file("m", MACHINE)
+        words = ("master", "m", "--at", both_ends(stage), "--cycles", "50", "--log", "log", *PATIENCE)
+        wanted = STARTED + "cycles 50 good 50 short 0 over 0 fault 0\n" + ITEMS + "0\n"
+        yield "master", wanted, stage.ends(*words)
+        with open(os.path.join(stage.folder, "log"), encoding="latin-1") as log:
+            wanted = "".join(f"cycle {k} good counts 9 3\n" for k in range(50))
+            yield "log", wanted, log.read()
+
+
+@case
+def a_master_with_one_port_cycles(stage):
+    with stage.serve(MACHINE, "--forever") as _line:
+        stage.file("m", MACHINE)
+        words = ("master", "m", "--at", f"127.0.0.1:{stage.port}", "--cycles", "5", *PATIENCE)
+        wanted = "cycles 5 good 5 short 0 over 0 fault 0\n" + ITEMS + "0\n"
+        yield "master", wanted, last_lines(stage.ends(*words), 4)
+
+
+@case
+def a_master_sees_cables_break_and_heal(stage):
+    """Each break is told once, with its place; two breaks cut slaves off, and the cycles are short."""
+    control = {"stdin": subprocess.PIPE}
+    with stage.serve(MACHINE, "--control", **control) as line:
+        stage.file("m", MACHINE)
+        words = ("master", "m", "--at", both_ends(stage), "--every", "2000", *PATIENCE)
+        with stage.start(*words, **control) as master:
+            for wanted in STARTED.splitlines(True):
+                yield "start", wanted, master.line()
+
+            def broken(*commands):
+                for command in commands:
+                    line.process.stdin.write(command.encode() + b"\n")
+                    line.line()
+                return told(master.line())
+
+            lost = "cycle N: redundancy lost: link 1 down: between slave 0 (0x1001) and slave 1 (0x1002)\n"
+            yield "one break", lost, broken("link 1 down")
+            yield "none", "cycle N: ring whole again\n", broken("link 1 up")
+            yield "one break", lost, broken("link 1 down")
+            short = "cycle N: item 0: came 6 of 9; links 1 and 2 down: slave 1 cut off (0x1002)\n"
+            yield "two breaks", short, broken("link 2 down")
+            yield "one break", "cycle N: good again after M cycles\n", broken("link 2 up")
+            yield "which one", lost, told(master.line())
+            master.process.stdin.close()
+            master.process.stdin = None
+            end = master.end()
+            cycles, good, short, over, fault = (int(n) for n in re.findall(r"\d+", last_lines(end, 4))[:5])
+            yield "sums", f"{cycles} 0 0", f"{good + short} {over} {fault}"
+            yield "items", ITEMS + "0\n", last_lines(end, 3)
+
+
+@case
+def a_master_names_what_is_in_its_way(stage):
+    one, two = MACHINE.split("slave 0x1002")[0], MACHINE.split("slave 0x1003")[0]
+    stage.file("m", two + "lrw 0x10000 a1a2\n")
+    words = ("master", "m", "--at", both_ends(stage), "--cycles", "5", *PATIENCE)
+    with stage.serve(one, "--forever") as _line:
+        wanted = "slaves 1, wanted 2\nfault: another number of slaves\n1\n"
+        yield "a missing slave", wanted, stage.ends(*words)
+    with stage.serve(two.replace("areas 1 1\n", ""), "--forever") as _line:
+        stage.file("n", "slave 0x1001\n")
+        why = "fault: slave 0 (0x1001): Safe-Op: refused 0x001d invalid output configuration"
+        yield "a refusal", why + "\n1\n", last_lines(stage.ends(*words), 2)
+    yield "no items", "no items: nothing to cycle on\n1\n", stage.ends("master", "n", "--at", "127.0.0.1:9")
+    wanted = "argument: --outputs wants count\n2\n"
+    yield "outputs", wanted, stage.ends("master", "m", "--at", "127.0.0.1:9", "--outputs", "counts")
+    told_name = stage.ends("master", "m", "--at", "127.0.0.1:9,no end")
+    yield "a name", "end B: \n3\n", told_name[:7] + told_name[-3:]
+    yield "a log", "log: Open\n3\n", stage.ends(*words, "--log", "no/log")
+
+
+@case
+def a_line_elsewhere_is_asked(stage):
+    with stage.serve(MACHINE, "--control", stdin=subprocess.PIPE) as line:
+        stage.file("m", MACHINE)
+        at = ("--at", both_ends(stage))
+        wanted = "at A after 0, at B after 3\nwhole\n0\n"
+        yield "where", wanted, stage.ends("where", "m", *at)
+        line.process.stdin.write(b"link 1 down\n")
+        line.line()
+        between = "link 1 down: between slave 0 (0x1001) and slave 1 (0x1002)\n1\n"
+        yield "a break", "at A after 1, at B after 2\n" + between, stage.ends("where", "m", *at)
+        line.process.stdin.write(b"link 1 up\n")
+        line.line()
+        managers = (
+            "sm 0 0x1800 32 mailbox-write sm 1 0x1880 32 mailbox-read sm 2 0x1000 1 write sm 3 0x1100 1 read"
+        )
+        fmmus = "fmmu 0 0x000{0:05x} 1 0 7 0x1000 0 write fmmu 1 0x000{0:05x} 1 0 7 0x1100 0 read"
+        slaves = "".join(
+            f"slave {k} station {0x1001 + k:#x} state Init {managers} {fmmus.format(0x10000 + k)}\n"
+            for k in range(3)
+        )
+        yield "scan", "slaves 3\nring whole\n" + slaves + "0\n", stage.ends("scan", *at, *PATIENCE)
+        line.process.stdin.write(b"state 1 2\n")
+        line.line()
+        words = ("sdo", "m", "0x1002", "0x1018", "2", *at)
+        yield "sdo", "value 0x00000101\n0\n", stage.ends(*words)
+        yield "surely", "value 0x00000101\n0\n", stage.ends(*words, "--surely")
+        yield "no slave", "fault NoSlave\n1\n", stage.ends("sdo", "m", "0x2002", "0x1018", "2", *at)

@@ -1,10 +1,13 @@
--- Which commands go over packets.
+-- Which commands have a way of their own: they take their source whole, or go over packets.
 use Rattle.std.specs.Prelude.{Bool, true, false}
 use Rattle.ecat_args.specs.declared.args.Args.{Args}
-use Rattle.ecat_args.specs.declared.args.Args.TheVariants.{Udp, Serve}
+use Rattle.ecat_args.specs.declared.args.Args.TheVariants.{List as Lists, Udp, Serve, Master, Scan}
 
--- is the command `udp` or `serve`
-abbrev pub goes_over_packets : Args → Bool
-goes_over_packets (Udp scene port judge) = true
-goes_over_packets (Serve scene port packets address forever control log) = true
-goes_over_packets _ = false
+-- is the command `list`, or does it speak with a line over packets whatever its words say
+abbrev pub has_a_way_of_its_own : Args → Bool
+has_a_way_of_its_own (Lists file csv faults stats) = true
+has_a_way_of_its_own (Udp scene port judge) = true
+has_a_way_of_its_own (Serve scene port packets address forever control log raw) = true
+has_a_way_of_its_own (Master scene at raw cycles every limit outputs log stop recover) = true
+has_a_way_of_its_own (Scan at raw limit) = true
+has_a_way_of_its_own _ = false

@@ -1,4 +1,8 @@
--- Why a command ends where its source could not be read to its end, or its sockets could not be opened.
+-- Why a command ends where its source could not be read to its end, or its sockets could not be opened, and
+-- its exit status where its words are refused.
+use Rattle.std.specs.Prelude.{ℕ}
+use Rattle.ecat_args.specs.declared.args.ArgsFault.{ArgsFault}
+use Rattle.ecat_args.specs.declared.args.ArgsFault.TheVariants.{Line, BadNumber, NoMemory as NoMemoryForWords}
 use Rattle.ecat.specs.declared.act.Failure.{Failure}
 use Rattle.ecat.specs.declared.act.Failure.TheVariants.{Read, NoMemory, Scene, Bind, NoMemoryForSockets}
 use Rattle.ecat_scene.specs.declared.fault.SceneFault.TheVariants.{TooLong as TextTooLong}
@@ -20,3 +24,9 @@ abbrev pub unbound : BindFault → Failure
 unbound NoSuchPort = Bind
 unbound NoSocket = Bind
 unbound NoMemoryToWait = NoMemoryForSockets
+
+-- words that are no command are told apart from want of memory
+abbrev pub refusal_status : ArgsFault → ℕ
+refusal_status (Line error) = 2
+refusal_status BadNumber = 2
+refusal_status NoMemoryForWords = 3

@@ -3,6 +3,7 @@ pub mod Controls
 pub mod Covers
 pub mod Failures
 pub mod Packets
+pub mod Raw
 pub mod Rows
 pub mod Services
 pub mod SteppingTrips

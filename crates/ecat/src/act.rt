@@ -1,20 +1,24 @@
 //! The commands over a source and two writers.
 
 ghost use Rattle.std.specs.Prelude.{◌≡◌, false};
-ghost use Rattle.ecat.specs.Commands.{goes_over_packets};
+ghost use Rattle.ecat.specs.Commands.{has_a_way_of_its_own};
 
 use crate::check::check;
 use crate::cover::cover;
+use crate::raw::RawFaultText;
 use crate::run::run;
-use crate::sdo::{Asked, sdo, value_of};
+use crate::sdo::{Asked, sdo};
 use crate::show::show;
 use crate::sweep::sweep;
 use crate::vectors::vectors;
 use crate::where_broken::where_broken;
+use ec_services::MasterFault;
 use ecat_args::Args;
+use ecat_far::OpenFault;
+use ecat_raw::RawFault;
 use ecat_scene::SceneFault;
 use ecat_source::{PcapFault, Source};
-use ecat_text::{FAILED, REFUSED};
+use ecat_text::{BAD_ARGUMENTS, FAILED, FaultText, PortText, REFUSED};
 use std::alloc::Global;
 use std::io::{self, Write};
 
@@ -47,6 +51,22 @@ pub enum Failure {
     Port,
     /// The scene has actions or weathers, for which there are no packets.
     Actions,
+    /// A line somewhere else could not be spoken to.
+    Far(OpenFault),
+    /// What was asked of a line somewhere else has no answer.
+    Asked(MasterFault),
+    /// The file of a log could not be made.
+    Log,
+    /// The outputs of a master are none that there are.
+    Outputs,
+    /// It is not said where a line lies that is somewhere else, or it is said twice.
+    Reach,
+    /// The descriptors of packet sockets are no numbers.
+    Descriptors,
+    /// The packet sockets are of no use.
+    Raw(RawFault),
+    /// The clock of a master, or the wait for its input, could not be had.
+    Clock,
 }
 
 impl From<io::Error> for Failure {
@@ -55,13 +75,14 @@ impl From<io::Error> for Failure {
     }
 }
 
-/// Does a command but `udp` and `serve`, whose file is open as `source`, and answers the exit status.
+/// Does a command but `list` and those that go over packets, whose file is open as `source`, and answers the
+/// exit status.
 pub fn act<S, W, V>(alloc: Global, args: &Args<'_>, source: &mut S, out: &mut W, err: &mut V) -> u8
 where
     S: Source,
     W: Write,
     V: Write,
-    requires { goes_over_packets args.now ≡ false }
+    requires { has_a_way_of_its_own args.now ≡ false }
 {
     let done = match args {
         Args::Check { .. } => check(alloc, source, out),
@@ -78,17 +99,15 @@ where
             surely,
             ..
         } => {
-            let asked = Asked {
-                station: *station,
-                index: *index,
-                sub: *sub,
-                value: value.map(value_of),
-                surely: *surely,
-            };
+            let asked = Asked::of(*station, *index, *sub, *value, *surely);
             sdo(alloc, &asked, source, out, err)
         }
         Args::Vectors => vectors(alloc, out),
-        Args::Udp { .. } | Args::Serve { .. } => unreachable!(),
+        Args::List { .. }
+        | Args::Udp { .. }
+        | Args::Serve { .. }
+        | Args::Master { .. }
+        | Args::Scan { .. } => unreachable!(),
     };
     match done {
         Ok(status) => status,
@@ -111,6 +130,30 @@ pub fn report<W: Write, V: Write>(failure: &Failure, out: &mut W, err: &mut V) -
         Failure::NoMemoryForSockets => failed(err, b"socket: NoMemory\n"),
         Failure::Output => failed(err, b"output: Write\n"),
         Failure::Port => failed(err, b"cycle: Port\n"),
+        Failure::Log => failed(err, b"log: Open\n"),
+        Failure::Clock => failed(err, b"clock: Open\n"),
+        Failure::Outputs => bad_argument(err, b"argument: --outputs wants count\n"),
+        Failure::Reach => bad_argument(err, b"argument: --at or --raw is wanted, one of them\n"),
+        Failure::Descriptors => bad_argument(
+            err,
+            b"argument: --raw wants numbers, as 10 or 10,11\n",
+        ),
+        Failure::Raw(fault) => {
+            let fault = RawFaultText(*fault);
+            let _ = writeln!(err, "raw: {fault}");
+            FAILED
+        }
+        Failure::Far(fault) => {
+            let end = PortText(fault.end);
+            let error = &fault.error;
+            let _ = writeln!(err, "end {end}: {error}");
+            FAILED
+        }
+        Failure::Asked(MasterFault::Port) => failed(err, b"cycle: Port\n"),
+        Failure::Asked(fault) => {
+            let fault = FaultText(*fault);
+            refused(writeln!(out, "{fault}"), err)
+        }
         Failure::Actions => refused(writeln!(out, "scene: actions"), err),
         Failure::Capture(PcapFault::Read) => failed(err, b"capture: Read\n"),
         Failure::Capture(PcapFault::NoMemory) => failed(err, b"capture: NoMemory\n"),
@@ -119,6 +162,12 @@ pub fn report<W: Write, V: Write>(failure: &Failure, out: &mut W, err: &mut V) -
         Failure::Stranger => refused(writeln!(out, "cycle: Stranger"), err),
         Failure::Capture(fault) => refused(writeln!(out, "capture: {fault}"), err),
     }
+}
+
+/// Writes a line to `err` that says what is wrong with the words of the command line.
+fn bad_argument<V: Write>(err: &mut V, line: &[u8]) -> u8 {
+    let _ = err.write_all(line);
+    BAD_ARGUMENTS
 }
 
 /// Writes a line to `err`; a fault of that is passed over.

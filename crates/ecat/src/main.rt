@@ -8,9 +8,13 @@ mod control;
 mod cover;
 mod cycle;
 mod cycle_rows;
+mod far;
 mod frame_rows;
 mod judge;
 mod line;
+mod listing;
+mod over_sockets;
+mod raw;
 mod run;
 mod scene_rows;
 mod sdo;
@@ -24,28 +28,33 @@ mod udp;
 mod vectors;
 mod where_broken;
 
-use act::{Failure, act, report};
-use control::act_control;
+ghost use Rattle.std.specs.Prelude.{◌≡◌};
+ghost use Rattle.ecat.specs.Failures.{refusal_status};
+
+use act::{Failure, report};
 use ecat_args::{Args, ArgsFault};
-use ecat_serve::UdpEnds;
-use ecat_source::{Bytes, Counted, Source};
-use ecat_text::BAD_ARGUMENTS;
-use ecat_udp::UdpLine;
-use serve::{Service, act_serve, ring_to_serve, unbound};
+use ecat_source::{Bytes, Counted};
+use ecat_text::{BAD_ARGUMENTS, FAILED};
+use listing::{Wanted, act_list};
+use over_sockets::{Console, over_sockets};
+use std::io::IsTerminal;
 use std::net::Net;
 use std::process::ExitCode;
-use std::rt::{Env, Files, Stdin};
+use std::rt::{Clock, Env, Files, Stdin};
 use std::{env, fs, io};
-use udp::{Wanted, act_udp, prepare_udp};
 
 fn main(rt: HostRuntime) -> ExitCode {
-    ExitCode::from(start(&rt, rt.stdin(), &mut rt.stdout(), &mut rt.stderr()))
+    let console = Console {
+        input: rt.stdin(),
+        is_watched: rt.stderr().is_terminal(),
+    };
+    ExitCode::from(start(&rt, console, &mut rt.stdout(), &mut rt.stderr()))
 }
 
 /// Reads the command line, opens the file that it names, and does the command.
-fn start<R, W, V>(rt: &R, input: Stdin, out: &mut W, err: &mut V) -> u8
+fn start<R, W, V>(rt: &R, console: Console, out: &mut W, err: &mut V) -> u8
 where
-    R: Env + Files + Net + AllocGlobal,
+    R: Clock + Env + Files + Net + AllocGlobal,
     W: io::Write,
     V: io::Write,
 {
@@ -61,7 +70,7 @@ where
         Err(error) if error.kind() == io::ErrorKind::OutOfMemory => {
             return report(&Failure::NoMemoryForWords, out, err);
         }
-        Err(_) => return bad_arguments(err),
+        Err(_) => return tell_refusal(ArgsFault::BadNumber, err),
     }
     let mut texts = Vec::new(rt.alloc());
     for word in &words {
@@ -70,10 +79,26 @@ where
         }
     }
     match Args::read(rt.alloc(), texts.as_slice()) {
-        Ok(args) => open(rt, &args, input, out, err),
-        Err(ArgsFault::NoMemory) => report(&Failure::NoMemoryForWords, out, err),
-        Err(ArgsFault::BadNumber) => bad_arguments(err),
-        Err(ArgsFault::Line(error)) => {
+        Ok(args) => open(rt, &args, console, out, err),
+        Err(fault) => tell_refusal(fault, err),
+    }
+}
+
+/// Tells `err` why the words of the command line are refused, and answers the exit status. A fault of `err`
+/// is passed over.
+fn tell_refusal<V: io::Write>(fault: ArgsFault, err: &mut V) -> u8
+    ensures { result ≡ refusal_status fault }
+{
+    match fault {
+        ArgsFault::NoMemory => {
+            let _ = err.write_all(b"arguments: NoMemory\n");
+            FAILED
+        }
+        ArgsFault::BadNumber => {
+            let _ = err.write_all(b"argument: BadNumber\n");
+            BAD_ARGUMENTS
+        }
+        ArgsFault::Line(error) => {
             let _ = write!(err, "{error}");
             BAD_ARGUMENTS
         }
@@ -81,117 +106,63 @@ where
 }
 
 /// Opens the file of a command, if it has one, and does the command.
-fn open<R, W, V>(rt: &R, args: &Args<'_>, input: Stdin, out: &mut W, err: &mut V) -> u8
+fn open<R, W, V>(rt: &R, args: &Args<'_>, console: Console, out: &mut W, err: &mut V) -> u8
 where
-    R: Files + Net + AllocGlobal,
+    R: Clock + Files + Net + AllocGlobal,
     W: io::Write,
     V: io::Write,
 {
     let path = match args {
+        Args::List {
+            file,
+            csv,
+            faults,
+            stats,
+        } => {
+            let wanted = Wanted::of(*csv, *faults, *stats, console.is_watched);
+            return open_listing(rt, file, wanted, console.input, out, err);
+        }
         Args::Show { file } => *file,
         Args::Check { scene }
         | Args::Cover { scene }
-        | Args::Where { scene }
+        | Args::Where { scene, .. }
         | Args::Run { scene, .. }
         | Args::Sweep { scene }
         | Args::Sdo { scene, .. }
         | Args::Udp { scene, .. }
+        | Args::Master { scene, .. }
         | Args::Serve { scene, .. } => *scene,
-        Args::Vectors => return act(rt.alloc(), args, &mut Bytes::new(b""), out, err),
-    };
-    let Ok(file) = fs::open(rt, path) else {
-        return report(&Failure::Open, out, err);
-    };
-    let mut source = Counted::new(file);
-    match args {
-        Args::Udp { port, judge, .. } => {
-            let wanted = Wanted {
-                port: *port,
-                judge: *judge,
-            };
-            udp_at(rt, wanted, &mut source, out, err)
+        Args::Vectors | Args::Scan { .. } => {
+            return over_sockets(rt, args, console, &mut Bytes::new(b""), out, err);
         }
-        Args::Serve {
-            port,
-            packets,
-            address,
-            forever,
-            control,
-            log,
-            ..
-        } => {
-            let service = Service {
-                address: *address,
-                port: *port,
-                packets: *packets,
-                forever: *forever,
-                control: *control,
-                log: *log,
-            };
-            serve_at(rt, service, input, &mut source, out, err)
-        }
-        _ => act(rt.alloc(), args, &mut source, out, err),
+    };
+    match fs::open(rt, path) {
+        Ok(file) => over_sockets(rt, args, console, &mut Counted::new(file), out, err),
+        Err(_) => report(&Failure::Open, out, err),
     }
 }
 
-/// Does the work of a scene over sockets, which are opened once it is known that there is work.
-fn udp_at<R, S, W, V>(rt: &R, wanted: Wanted, source: &mut S, out: &mut W, err: &mut V) -> u8
-where
-    R: Net + AllocGlobal,
-    S: Source,
-    W: io::Write,
-    V: io::Write,
-{
-    let prepared = match prepare_udp(rt.alloc(), source, out, err) {
-        Ok(prepared) => prepared,
-        Err(status) => return status,
-    };
-    match UdpLine::bind(rt, wanted.port) {
-        Ok(line) => act_udp(prepared, wanted.judge, line, out, err),
-        Err(_) => report(&Failure::Bind, out, err),
-    }
-}
-
-/// Serves the line of a scene. Its ends are opened once it is known that there is one. The service ends with
-/// the input where that has commands, or where it is not left alone.
-fn serve_at<R, S, W, V>(
+/// Opens the capture of a listing, standard input where it is `-`, and lists it.
+fn open_listing<R, W, V>(
     rt: &R,
-    service: Service,
+    file: &str,
+    wanted: Wanted,
     input: Stdin,
-    source: &mut S,
     out: &mut W,
     err: &mut V,
 ) -> u8
 where
-    R: Net + AllocGlobal,
-    S: Source,
+    R: Files + AllocGlobal,
     W: io::Write,
     V: io::Write,
 {
-    let ring = match ring_to_serve(rt.alloc(), source, out, err) {
-        Ok(ring) => ring,
-        Err(status) => return status,
-    };
-    let awaited = if service.awaits_input() {
-        Some(input)
-    } else {
-        None
-    };
-    let mut ends = match UdpEnds::bind(rt, rt.alloc(), service.address, service.port, awaited) {
-        Ok(ends) => ends,
-        Err(fault) => return report(&unbound(fault), out, err),
-    };
-    if service.control {
-        ends.keep_lines();
-        act_control(rt.alloc(), ring, service, &mut ends, out, err)
-    } else {
-        act_serve(ring, service, &mut ends, out, err)
+    if file == "-" {
+        return act_list(rt.alloc(), wanted.live(), Counted::new(input), out, err);
     }
-}
-
-fn bad_arguments<V: io::Write>(err: &mut V) -> u8 {
-    let _ = err.write_all(b"argument: BadNumber\n");
-    BAD_ARGUMENTS
+    match fs::open(rt, file) {
+        Ok(file) => act_list(rt.alloc(), wanted, Counted::new(file), out, err),
+        Err(_) => report(&Failure::Open, out, err),
+    }
 }
 
 #[cfg(test)]

@@ -41,6 +41,25 @@ pub struct Asked {
     pub surely: bool,
 }
 
+impl Asked {
+    /// What the words of the command line ask.
+    pub fn of(
+        station: u16,
+        index: u16,
+        sub: u8,
+        value: Option<ecat_args::Value>,
+        surely: bool,
+    ) -> Asked {
+        Asked {
+            station,
+            index,
+            sub,
+            value: value.map(value_of),
+            surely,
+        }
+    }
+}
+
 /// Reads or writes an object of a slave of the scene that the source holds, over its ring, and prints the
 /// value, `written`, or what is in the way. The actions and items of the scene are passed over, and so are
 /// its weathers, unless it is done surely: each trip is under the next of them then, and `err` is told how
@@ -113,7 +132,7 @@ fn sdo_surely<W: Write, V: Write>(
 }
 
 /// The value that the command line has.
-pub fn value_of(value: ecat_args::Value) -> Value
+fn value_of(value: ecat_args::Value) -> Value
     ensures { result ≡ value_of value }
 {
     match value {

@@ -7,9 +7,11 @@ ghost use Rattle.ecat.specs.Services.{where_words};
 
 use crate::act::{Failure, report};
 use crate::line::{ring_of, scene_for_packets};
+use crate::raw::RawWhereText;
 use ec_master::PortFault;
 use ec_ring::Ring;
 use ecat_log::Log;
+use ecat_raw::Descriptors;
 use ecat_serve::{BindFault, Counts, Ends, Served, Unwatched, Watch};
 use ecat_source::Source;
 use ecat_text::{GOOD, Lines, print_areas};
@@ -33,6 +35,8 @@ pub struct Service {
     pub control: bool,
     /// Whether each packet is told of.
     pub log: bool,
+    /// The packet sockets at which the ends lie, if they do not lie at the address.
+    pub raw: Option<Descriptors>,
 }
 
 impl Service {
@@ -213,7 +217,10 @@ fn tell_end<V: Write>(service: Service, done: &Result<u8, Failure>, err: &mut V)
 
 /// Prints where a line is served.
 pub fn print_where<W: Write>(service: Service, lines: &mut Lines<'_, W>) -> io::Result<()> {
-    lines.text(where_of(service.address, service.port))?;
+    match service.raw {
+        Some(descriptors) => lines.text(RawWhereText(descriptors))?,
+        None => lines.text(where_of(service.address, service.port))?,
+    }
     lines.end()
 }
 

@@ -2,7 +2,7 @@
 //! that each allocation can be made to fail in turn.
 
 ghost use Rattle.std.specs.Prelude.{◌≡◌, false};
-ghost use Rattle.ecat.specs.Commands.{goes_over_packets};
+ghost use Rattle.ecat.specs.Commands.{has_a_way_of_its_own};
 
 mod cables;
 mod checking;
@@ -45,7 +45,7 @@ fn answers<S: Source>(
     out: &[u8],
     err: &[u8],
 )
-    requires { goes_over_packets args.now ≡ false }
+    requires { has_a_way_of_its_own args.now ≡ false }
 {
     let mut printed = Cursor::new([0u8; ROOM]);
     let mut complained = Cursor::new([0u8; ROOM]);

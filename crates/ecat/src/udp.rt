@@ -10,8 +10,8 @@ use ec_map::Item;
 use ec_master::{CycleFault, Reporting, Work, all_expected, run_cycle};
 use ec_ring::Ring;
 use ecat_source::Source;
-use ecat_udp::{PacketLine, UdpPorts};
 use ecat_text::{GOOD, Lines, REFUSED, print_areas, print_items, print_verdict, refuse, status_of};
+use ecat_udp::{PacketLine, UdpPorts};
 use std::alloc::Global;
 use std::io::Write;
 

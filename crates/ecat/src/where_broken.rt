@@ -7,7 +7,7 @@ use ec_diag::{Located, probe};
 use ec_ring::{Arrivals, HeardPorts, Ring, Travel, Weather};
 use ec_wire::FrameBuf;
 use ecat_source::Source;
-use ecat_text::{Lines, print_break, print_copies};
+use ecat_text::{Lines, print_arrived, print_break, print_copies};
 use std::alloc::Global;
 use std::io::{self, Write};
 
@@ -37,6 +37,7 @@ fn print_probe<W: Write>(
 ) -> io::Result<u8> {
     let sent = probe();
     let came = ring.arrivals(&sent, weather);
+    print_copies(&sent, &came, lines)?;
     print_told(ring.slaves(), &sent, &came, lines)
 }
 
@@ -54,17 +55,18 @@ pub fn where_far<P: HeardPorts, S: Source, W: Write>(
     let Ok(came) = ports.trip_heard(&sent) else {
         return Err(Failure::Port);
     };
-    Ok(print_told(line.as_slice(), &sent, &came, &mut Lines::new(out))?)
+    let mut lines = Lines::new(out);
+    print_arrived(&sent, &came, &mut lines)?;
+    Ok(print_told(line.as_slice(), &sent, &came, &mut lines)?)
 }
 
-/// Prints the copies of a frame that came back, and what they tell of the cable of a line.
+/// Prints what the copies of a frame tell of the cable of a line.
 fn print_told<W: Write>(
     line: &[Slave],
     sent: &FrameBuf,
     came: &Arrivals,
     lines: &mut Lines<'_, W>,
 ) -> io::Result<u8> {
-    print_copies(sent, came, lines)?;
     let located = Located::Unknown.and_arrivals(line.len(), sent, came);
     print_break(located, line, lines)
 }

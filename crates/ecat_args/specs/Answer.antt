@@ -41,20 +41,23 @@ Says (Sdo scene station index sub value surely place) given =
 Says (Udp scene port judge) given =
     (given.0 ≡ codes "udp") × (word_in given (codes "SCENE") ≡ Some scene.now)
     × (port_in given ≡ Some port) × (judge_in given ≡ judge)
-Says (Serve scene port packets address forever control log) given =
+Says (Serve scene port packets address forever control log raw) given =
     (given.0 ≡ codes "serve") × (word_in given (codes "SCENE") ≡ Some scene.now)
     × (port_in given ≡ Some port) × (many_in given ≡ Some packets)
     × LiesAt (word_in given (codes "ADDRESS")) address
     × (forever_in given ≡ forever) × (control_in given ≡ control) × (log_in given ≡ log)
-Says (Master scene place cycles every limit outputs log stop recover) given =
+    × (word_in given (codes "RAW") ≡ option_map (λ w. w.now) raw)
+Says (Master scene place raw cycles every limit outputs log stop recover) given =
     (given.0 ≡ codes "master") × (word_in given (codes "SCENE") ≡ Some scene.now)
-    × (word_in given (codes "AT") ≡ Some place.now) × (many_in given ≡ Some cycles)
+    × (word_in given (codes "AT") ≡ option_map (λ w. w.now) place)
+    × (word_in given (codes "RAW") ≡ option_map (λ w. w.now) raw) × (many_in given ≡ Some cycles)
     × (every_in given ≡ Some every) × (limit_in given ≡ Some limit)
     × (word_in given (codes "OUTPUTS") ≡ option_map (λ w. w.now) outputs)
     × (word_in given (codes "LOG") ≡ option_map (λ w. w.now) log)
     × (stop_in given ≡ stop) × (recover_in given ≡ recover)
-Says (Scan place limit) given =
-    (given.0 ≡ codes "scan") × (word_in given (codes "AT") ≡ Some place.now) × (limit_in given ≡ Some limit)
+Says (Scan place raw limit) given =
+    (given.0 ≡ codes "scan") × (word_in given (codes "AT") ≡ option_map (λ w. w.now) place)
+    × (word_in given (codes "RAW") ≡ option_map (λ w. w.now) raw) × (limit_in given ≡ Some limit)
 Says Vectors given = given.0 ≡ codes "vectors"
 
 -- a word of the command that has to be a number, a value or an address is none in its range

@@ -134,8 +134,7 @@ needed_words command =
     then codes "SCENE" ∷ codes "STATION" ∷ codes "INDEX" ∷ codes "SUB" ∷ []
     else if bytes_eq command (codes "udp") then codes "SCENE" ∷ []
     else if bytes_eq command (codes "serve") then codes "SCENE" ∷ []
-    else if bytes_eq command (codes "master") then codes "SCENE" ∷ codes "AT" ∷ []
-    else if bytes_eq command (codes "scan") then codes "AT" ∷ []
+    else if bytes_eq command (codes "master") then codes "SCENE" ∷ []
     else []
 
 -- the command is one of the thirteen, and the words that it needs were given

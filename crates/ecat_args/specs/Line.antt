@@ -42,9 +42,9 @@ cover_line = with_rule (new_app (codes "cover")) (needed_rule (codes "SCENE"))
 abbrev pub at_rule : Rule
 at_rule = record (new_rule (codes "AT")) { long = Some (codes "at") }
 
--- `--at AT`, which has to be given
-abbrev pub needed_at_rule : Rule
-needed_at_rule = record at_rule { required = true }
+-- `--raw RAW`
+abbrev pub raw_rule : Rule
+raw_rule = record (new_rule (codes "RAW")) { long = Some (codes "raw") }
 
 -- `where SCENE [--at AT]`
 abbrev pub where_line : App
@@ -101,11 +101,11 @@ forever_rule = flag_rule (codes "forever")
 abbrev pub log_rule : Rule
 log_rule = flag_rule (codes "log")
 
--- `serve SCENE [--port P] [--packets N] [--bind ADDRESS] [--forever] [--control] [--log]`
+-- `serve SCENE [--port P] [--packets N] [--bind ADDRESS] [--forever] [--control] [--log] [--raw RAW]`
 abbrev pub serve_line : App
-serve_line = with_rule (with_rule (with_rule (with_rule (with_rule (with_rule (with_rule
+serve_line = with_rule (with_rule (with_rule (with_rule (with_rule (with_rule (with_rule (with_rule
     (new_app (codes "serve")) (needed_rule (codes "SCENE"))) port_rule) packets_rule) address_rule)
-    forever_rule) control_rule) log_rule
+    forever_rule) control_rule) log_rule) raw_rule
 
 -- `--cycles N`
 abbrev pub cycles_rule : Rule
@@ -134,16 +134,16 @@ stop_rule = flag_rule (codes "stop")
 abbrev pub recover_rule : Rule
 recover_rule = flag_rule (codes "recover")
 
--- `master SCENE --at AT [--cycles N] [--every MICROSECONDS] [--limit LIMIT] [--outputs OUTPUTS] [--log LOG]
--- [--stop] [--recover]`
+-- `master SCENE [--at AT] [--raw RAW] [--cycles N] [--every MICROSECONDS] [--limit LIMIT] [--outputs OUTPUTS]
+-- [--log LOG] [--stop] [--recover]`
 abbrev pub master_line : App
-master_line = with_rule (with_rule (with_rule (with_rule (with_rule (with_rule (with_rule (with_rule (with_rule
-    (new_app (codes "master")) (needed_rule (codes "SCENE"))) needed_at_rule) cycles_rule) every_rule)
-    limit_rule) outputs_rule) log_file_rule) stop_rule) recover_rule
+master_line = with_rule (with_rule (with_rule (with_rule (with_rule (with_rule (with_rule (with_rule
+    (with_rule (with_rule (new_app (codes "master")) (needed_rule (codes "SCENE"))) at_rule) raw_rule) cycles_rule)
+    every_rule) limit_rule) outputs_rule) log_file_rule) stop_rule) recover_rule
 
--- `scan --at AT [--limit LIMIT]`
+-- `scan [--at AT] [--raw RAW] [--limit LIMIT]`
 abbrev pub scan_line : App
-scan_line = with_rule (with_rule (new_app (codes "scan")) needed_at_rule) limit_rule
+scan_line = with_rule (with_rule (with_rule (new_app (codes "scan")) at_rule) raw_rule) limit_rule
 
 -- `vectors`
 abbrev pub vectors_line : App

@@ -101,8 +101,8 @@ pub enum Args<'a> {
         /// Whether what is short is named.
         judge: bool,
     },
-    /// `serve SCENE [--port P] [--packets N] [--bind ADDRESS] [--forever] [--control] [--log]`: puts the line
-    /// of a scene on the network.
+    /// `serve SCENE [--port P] [--packets N] [--bind ADDRESS] [--forever] [--control] [--log] [--raw RAW]`:
+    /// puts the line of a scene on the network.
     Serve {
         /// The path of the scene.
         scene: &'a str,
@@ -118,14 +118,19 @@ pub enum Args<'a> {
         control: bool,
         /// Whether each packet is told of.
         log: bool,
+        /// The descriptors of packet sockets, if its ends lie at network interfaces.
+        raw: Option<&'a str>,
     },
-    /// `master SCENE --at AT [--cycles N] [--every MICROSECONDS] [--limit LIMIT] [--outputs OUTPUTS]
-    /// [--log LOG] [--stop] [--recover]`: brings a line somewhere else to Op, and cycles on it.
+    /// `master SCENE [--at AT] [--raw RAW] [--cycles N] [--every MICROSECONDS] [--limit LIMIT]
+    /// [--outputs OUTPUTS] [--log LOG] [--stop] [--recover]`: brings a line somewhere else to Op, and cycles
+    /// on it.
     Master {
         /// The path of the scene, what the slaves are to be told.
         scene: &'a str,
-        /// Where the line lies: the address of an end, or of both.
-        at: &'a str,
+        /// Where the line lies, if it is reached by UDP: the address of an end, or of both.
+        at: Option<&'a str>,
+        /// The descriptors of packet sockets, if it is reached by network interfaces.
+        raw: Option<&'a str>,
         /// After how many cycles it ends, one at least; without it at the end of the input.
         cycles: Option<u32>,
         /// How many microseconds lie between the beginnings of cycles; without it they are back to back.
@@ -141,10 +146,12 @@ pub enum Args<'a> {
         /// Whether slaves are brought up again.
         recover: bool,
     },
-    /// `scan --at AT [--limit LIMIT]`: tells what slaves a line has that lies somewhere else.
+    /// `scan [--at AT] [--raw RAW] [--limit LIMIT]`: tells what slaves a line has that lies somewhere else.
     Scan {
-        /// Where the line lies: the address of an end, or of both.
-        at: &'a str,
+        /// Where the line lies, if it is reached by UDP: the address of an end, or of both.
+        at: Option<&'a str>,
+        /// The descriptors of packet sockets, if it is reached by network interfaces.
+        raw: Option<&'a str>,
         /// How many microseconds a copy is waited for.
         limit: Option<u32>,
     },
@@ -341,6 +348,7 @@ fn serve<'a>(given: &ArgMatches<'a>) -> Option<Args<'a>>
         forever: flag(given, "forever"),
         control: flag(given, "control"),
         log: flag(given, "log"),
+        raw: word(given, "RAW"),
     })
 }
 
@@ -355,7 +363,8 @@ fn master<'a>(given: &ArgMatches<'a>) -> Option<Args<'a>>
     let limit = count_given(given, "LIMIT")?;
     Some(Args::Master {
         scene: text(given, "SCENE"),
-        at: text(given, "AT"),
+        at: word(given, "AT"),
+        raw: word(given, "RAW"),
         cycles,
         every,
         limit,
@@ -374,7 +383,8 @@ fn scan<'a>(given: &ArgMatches<'a>) -> Option<Args<'a>>
 {
     let limit = count_given(given, "LIMIT")?;
     Some(Args::Scan {
-        at: text(given, "AT"),
+        at: word(given, "AT"),
+        raw: word(given, "RAW"),
         limit,
     })
 }

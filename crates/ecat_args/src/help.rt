@@ -25,7 +25,7 @@ Examples:
   ecat sdo scenes/sdo/objects.scene 0x1001 0x1018 1
   ecat udp scenes/run/example.scene --port 4000
   ecat serve scenes/serve/line.scene --packets 100
-  ecat master scenes/serve/line.scene --at 127.0.0.1:34980,127.0.0.1:34981
+  ecat master scenes/master/machine.scene --at 127.0.0.1:34980,127.0.0.1:34981
   ecat scan --at 127.0.0.1:34980
   ecat vectors
   ecat help sdo";
@@ -152,6 +152,8 @@ whoever reaches the ports may write outputs then.
 With --log standard error has a line for each packet: its number, end and size,
 and of a frame each datagram, with the counter as it came and as it left, and
 where it left; or why it was dropped, and ethernet or padded where it looks so.
+With --raw the ends lie at network interfaces, through packet sockets that
+tools/raw opens: end A has the first and end B the second one.
 With --control each line of standard input is a command, which is done between
 two packets and answered by ok, what it asks for and ok, or refused and why:
   link K up|down            mends or breaks a link, 0 before the first slave
@@ -169,8 +171,8 @@ Example:
 
 /// Of `master`.
 pub(crate) const MASTER: &str = "\
-A master of a line somewhere else, whose ends A and B lie at AT, as
-127.0.0.1:34980,127.0.0.1:34981; with one address it has one port. The scene is
+A master of a line somewhere else, whose ends A and B lie at AT; with one
+address it has one port. The scene is
 what the slaves are to be told, and its items are what each cycle asks. It
 counts the slaves, gives them their stations, writes their sync managers and
 FMMUs, and brings them to Op, a line for each step. Then it cycles, N times or
@@ -183,8 +185,12 @@ With --outputs count the outputs are a number that grows by one each cycle.
 With --stop it ends at the first cycle that is not good. With --recover slaves
 that show an error, or came back in Init, are brought up again.
 
+With --raw the line is reached by network interfaces, through packet sockets
+that tools/raw opens; port A has the first and port B the second one.
+
 Example:
-  ecat master scenes/serve/line.scene --at 127.0.0.1:34980,127.0.0.1:34981";
+  ecat master scenes/master/machine.scene --at 127.0.0.1:34980,127.0.0.1:34981
+  tools/raw eth0 eth1 -- ./ecat master machine.scene --raw 10,11";
 
 /// Of `scan`.
 pub(crate) const SCAN: &str = "\

@@ -10,17 +10,17 @@
 //! ecat sweep SCENE
 //! ecat sdo SCENE STATION INDEX SUB [VALUE] [--surely] [--at AT]
 //! ecat udp SCENE [--port P] [--judge]
-//! ecat serve SCENE [--port P] [--packets N] [--bind ADDRESS] [--forever] [--control] [--log]
-//! ecat master SCENE --at AT [--cycles N] [--every MICROSECONDS] [--limit LIMIT] [--outputs OUTPUTS]
-//!     [--log LOG] [--stop] [--recover]
-//! ecat scan --at AT [--limit LIMIT]
+//! ecat serve SCENE [--port P] [--packets N] [--bind ADDRESS] [--forever] [--control] [--log] [--raw RAW]
+//! ecat master SCENE [--at AT] [--raw RAW] [--cycles N] [--every MICROSECONDS] [--limit LIMIT]
+//!     [--outputs OUTPUTS] [--log LOG] [--stop] [--recover]
+//! ecat scan [--at AT] [--raw RAW] [--limit LIMIT]
 //! ecat vectors
 //! ```
 //!
-//! A number is decimal digits, or `0x` and hexadecimal digits of either case. `VALUE` is `0x` and
-//! exactly 2, 4 or 8 hexadecimal digits, which give its size. `ADDRESS` is an IPv4 address, as 127.0.0.1.
-//! `AT` is where a line lies, `HOST:PORT` of its end A or those of both ends with a comma between them; its
-//! text is handed on as it stands.
+//! A number is decimal digits, or `0x` and hexadecimal digits of either case. `VALUE` is `0x` and exactly 2,
+//! 4 or 8 hexadecimal digits, which give its size. `ADDRESS` is an IPv4 address, as 127.0.0.1. `AT` is where
+//! a line lies, `HOST:PORT` of its end A or those of both ends with a comma between them; `RAW` are the
+//! descriptors of packet sockets, one or two. Both texts are handed on as they stand.
 //!
 //! A use, which the test `words_are_read_as_the_page_shows` tries; `rt` is what `main` is given:
 //!

@@ -3,8 +3,8 @@ ghost use Rattle.std.specs.Prelude.{◌≡◌, IfOk, codes, false};
 ghost use Rattle.clap.specs.Words.{app_of, new_app, new_rule, rule_of};
 ghost use Rattle.clap.specs.declared.builder.command.Command.TheViews.{out-Command as fields_of};
 ghost use Rattle.ecat_args.specs.Line.{address_rule, at_rule, cycles_rule, every_rule, flag_rule};
-ghost use Rattle.ecat_args.specs.Line.{judge_rule, limit_rule, line, log_file_rule, needed_at_rule};
-ghost use Rattle.ecat_args.specs.Line.{needed_rule, outputs_rule, packets_rule, port_rule};
+ghost use Rattle.ecat_args.specs.Line.{judge_rule, limit_rule, line, log_file_rule, needed_rule};
+ghost use Rattle.ecat_args.specs.Line.{outputs_rule, packets_rule, port_rule, raw_rule};
 ghost use Rattle.ecat_args.specs.Line.{show_line, check_line, cover_line, where_line, run_line, sweep_line};
 ghost use Rattle.ecat_args.specs.Line.{sdo_line, udp_line, serve_line, vectors_line};
 ghost use Rattle.ecat_args.specs.Line.{list_line, master_line, scan_line};
@@ -93,12 +93,17 @@ fn at<'a>(alloc: Global) -> Arg<'a>
     at.long("at")
 }
 
-// Where the two ends of a line lie, which has to be given.
-fn needed_at<'a>(alloc: Global) -> Arg<'a>
-    ensures rule { rule_of result ≡ needed_at_rule }
+// The packet sockets of network interfaces, which the program was started with.
+fn raw<'a>(alloc: Global) -> Arg<'a>
+    ensures rule { rule_of result ≡ raw_rule }
     ensures local { result.global ≡ false }
 {
-    at(alloc).required(true)
+    let raw = optional(
+        alloc,
+        "RAW",
+        "The descriptors of packet sockets, of end A and behind a comma of end B; tools/raw opens them",
+    );
+    raw.long("raw")
 }
 
 // How many cycles are made.
@@ -229,11 +234,16 @@ fn list<'a>(alloc: Global) -> Result<Command<'a>, AllocError>
         "stats",
         "Counts each working counter of datagrams that are alike",
     );
-    command(alloc, "list", "Lists the datagrams of a capture", help::LIST)
-        .arg(file)?
-        .arg(csv)?
-        .arg(faults)?
-        .arg(stats)
+    command(
+        alloc,
+        "list",
+        "Lists the datagrams of a capture",
+        help::LIST,
+    )
+    .arg(file)?
+    .arg(csv)?
+    .arg(faults)?
+    .arg(stats)
 }
 
 // `check SCENE`
@@ -326,7 +336,7 @@ fn udp<'a>(alloc: Global) -> Result<Command<'a>, AllocError>
         .arg(judge(alloc))
 }
 
-// `serve SCENE [--port P] [--packets N] [--bind ADDRESS] [--forever] [--control] [--log]`
+// `serve SCENE [--port P] [--packets N] [--bind ADDRESS] [--forever] [--control] [--log] [--raw RAW]`
 fn serve<'a>(alloc: Global) -> Result<Command<'a>, AllocError>
     ensures line { IfOk result (λ c. app_of c ≡ serve_line) }
     ensures local { IfOk result (λ c. (fields_of c).has_globals ≡ false) }
@@ -354,20 +364,17 @@ fn serve<'a>(alloc: Global) -> Result<Command<'a>, AllocError>
         .arg(address(alloc))?
         .arg(forever)?
         .arg(control)?
-        .arg(log)
+        .arg(log)?
+        .arg(raw(alloc))
 }
 
-// `master SCENE --at AT [--cycles N] [--every MICROSECONDS] [--limit LIMIT] [--outputs OUTPUTS] [--log LOG]
-// [--stop] [--recover]`
+// `master SCENE [--at AT] [--raw RAW] [--cycles N] [--every MICROSECONDS] [--limit LIMIT] [--outputs OUTPUTS]
+// [--log LOG] [--stop] [--recover]`
 fn master<'a>(alloc: Global) -> Result<Command<'a>, AllocError>
     ensures line { IfOk result (λ c. app_of c ≡ master_line) }
     ensures local { IfOk result (λ c. (fields_of c).has_globals ≡ false) }
 {
-    let stop = flag(
-        alloc,
-        "stop",
-        "Ends at the first cycle that is not good",
-    );
+    let stop = flag(alloc, "stop", "Ends at the first cycle that is not good");
     let recover = flag(
         alloc,
         "recover",
@@ -376,7 +383,8 @@ fn master<'a>(alloc: Global) -> Result<Command<'a>, AllocError>
     let about = "Brings the line of a scene to Op, somewhere else, and cycles on it";
     command(alloc, "master", about, help::MASTER)
         .arg(scene(alloc))?
-        .arg(needed_at(alloc))?
+        .arg(at(alloc))?
+        .arg(raw(alloc))?
         .arg(cycles(alloc))?
         .arg(every(alloc))?
         .arg(limit(alloc))?
@@ -386,14 +394,15 @@ fn master<'a>(alloc: Global) -> Result<Command<'a>, AllocError>
         .arg(recover)
 }
 
-// `scan --at AT [--limit LIMIT]`
+// `scan [--at AT] [--raw RAW] [--limit LIMIT]`
 fn scan<'a>(alloc: Global) -> Result<Command<'a>, AllocError>
     ensures line { IfOk result (λ c. app_of c ≡ scan_line) }
     ensures local { IfOk result (λ c. (fields_of c).has_globals ≡ false) }
 {
     let about = "Tells what slaves a line somewhere else has";
     command(alloc, "scan", about, help::SCAN)
-        .arg(needed_at(alloc))?
+        .arg(at(alloc))?
+        .arg(raw(alloc))?
         .arg(limit(alloc))
 }
 

@@ -1,5 +1,5 @@
--- What a master takes of the packets that its ports give (IEC 61158-4-12, the datagram structure): a packet is
--- a copy of a sent frame exactly where it spells a frame that came of it.
+-- What a master takes of the packets that its ports give (IEC 61158-4-12, the datagram structure): a packet
+-- is a copy of a sent frame exactly where it spells a frame that came of it.
 use Rattle.std.specs.Prelude.{◌≡◌, ◌≤◌, ◌<◌, ℕ, List, length, Option, None, Some, IfSome}
 use Rattle.ec_wire.specs.Datagram.{DatagramRecord, nth}
 use Rattle.ec_wire.specs.Fault.{IsSpelt}

@@ -7,10 +7,10 @@
 //!   `ec_ring::HeardPorts`: a copy arrived at the port where it was received.
 //! - `UdpCarrier`: two UDP sockets, each of which speaks with one end of the line. It is a `Carrier`.
 //!
-//! A trip drops what still waits at the ports, sends a copy from port A and one from port B, and then receives
-//! at port A and at port B. A packet that is no copy of the frame is passed over: one that is no frame, or a
-//! frame of another question, or one whose counters are those of an earlier round. A copy that does not come
-//! in time is lost.
+//! A trip drops what still waits at the ports, sends a copy from port A and one from port B, and then
+//! receives at port A and at port B. A packet that is no copy of the frame is passed over: one that is no
+//! frame, or a frame of another question, or one whose counters are those of an earlier round. A copy that
+//! does not come in time is lost.
 //!
 //! What is promised:
 //!

@@ -1,2 +1,4 @@
 mod AskLemmas
 mod StepLemmas
+mod OutputLemmas
+mod CycleLemmas

@@ -10,6 +10,7 @@ use Rattle.ec_master.specs.declared.verdict.Verdict.{Verdict}
 use Rattle.ec_master.specs.declared.verdict.Verdict.TheVariants.{Good, Short, Over}
 use Rattle.ecat_master.specs.Outputs.{outputs_at}
 use Rattle.ecat_master.specs.declared.counts.Counts.{Counts}
+use Rattle.ecat_master.specs.declared.cycles.Cycles.{Cycles}
 use Rattle.ecat_master.specs.declared.outputs.Outputs.{Outputs}
 
 -- ---- the ends of cycles, counted
@@ -19,6 +20,10 @@ End = Result Verdict CycleFault
 
 abbrev pub no_cycles : Counts
 no_cycles = record { cycles = 0; good = 0; short = 0; over = 0; fault = 0 }
+
+-- each cycle ended in one of the four ways
+abbrev pub AddUp : Counts → Type 0
+AddUp c = c.good + c.short + c.over + c.fault ≡ c.cycles
 
 -- one cycle more, by its end
 abbrev pub counted : End → Counts → Counts
@@ -31,13 +36,8 @@ counted (Ok verdict) c = elim verdict [
 
 -- ---- one cycle
 
--- what is asked, the image of the last good cycle if there was one, and how many cycles there were
-pub record CyclesState : Type 0 where
-  pub asked : List ItemRecord
-  pub image : Option (List ItemRecord)
-  pub counts : Counts
-
-abbrev pub begun_with : List ItemRecord → CyclesState
+-- a work of which no cycle was made
+abbrev pub begun_with : List ItemRecord → Cycles
 begun_with items = record { asked = items; image = None; counts = no_cycles }
 
 -- the image behind a cycle: what it brought where it was good, and else what was there
@@ -49,13 +49,13 @@ image_after (Ok verdict) image brought = elim verdict [
 ]
 
 -- the items that the next cycle sends: with its outputs, and at the start of the round of its number
-abbrev pub items_sent : Outputs → CyclesState → List ItemRecord
+abbrev pub items_sent : Outputs → Cycles → List ItemRecord
 items_sent outputs s = map (begun s.counts.cycles) (outputs_at outputs s.counts.cycles s.asked)
 
 -- one cycle over ports, of which all is said that a cycle over ports says; its end is counted, and it gives
 -- the image on a good verdict alone
 pub record IsCycle {P : Type 0} (trips : Trips P) (before : P) (outputs : Outputs) (expected : List ℕ)
-    (s : CyclesState) (end : End) (after : CyclesState) (later : P) : Type 0 where
+    (s : Cycles) (end : End) (after : Cycles) (later : P) : Type 0 where
   pub brought : List ItemRecord
   pub cycle : IsPortCycle trips before (items_sent outputs s) expected end brought later
   pub suffices : FramesSuffice trips before (items_sent outputs s) expected end brought later
@@ -65,7 +65,7 @@ pub record IsCycle {P : Type 0} (trips : Trips P) (before : P) (outputs : Output
 -- ---- cycle after cycle
 
 -- one cycle more, from some ports on
-pub record OneMore {P : Type 0} (trips : Trips P) (outputs : Outputs) (expected : List ℕ) (s after : CyclesState)
+pub record OneMore {P : Type 0} (trips : Trips P) (outputs : Outputs) (expected : List ℕ) (s after : Cycles)
     : Type 0 where
   pub before : P
   pub end : End
@@ -73,8 +73,15 @@ pub record OneMore {P : Type 0} (trips : Trips P) (outputs : Outputs) (expected 
   pub cycle : IsCycle trips before outputs expected s end after later
 
 -- so many cycles one after the other; between two of them the ports may make other trips
-unfoldable pub Run : {P : Type 0} → Trips P → Outputs → List ℕ → ℕ → CyclesState → CyclesState → Type 0
+unfoldable pub Run : {P : Type 0} → Trips P → Outputs → List ℕ → ℕ → Cycles → Cycles → Type 0
 Run trips outputs expected zero start now = now ≡ start
 Run trips outputs expected (suc n) start now =
-    (between : CyclesState) × Run trips outputs expected n start between
+    (between : Cycles) × Run trips outputs expected n start between
     × OneMore trips outputs expected between now
+
+-- some number of cycles one after the other
+pub record IsRun {P : Type 0} (trips : Trips P) (outputs : Outputs) (expected : List ℕ) (start now : Cycles)
+    : Type 0 where
+  pub number : ℕ
+  pub run : Run trips outputs expected number start now
+  pub counts : now.counts.cycles ≡ start.counts.cycles + number

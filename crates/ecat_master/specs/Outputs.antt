@@ -14,7 +14,10 @@ in_front bytes payload = take (length payload) bytes ++ drop (length bytes) payl
 -- an item that writes has a number in its first bytes, the lowest byte first
 abbrev pub numbered : ℕ → ItemRecord → ItemRecord
 numbered number r =
-    if writes (command_of r.kind) then record r { payload = in_front (to_le_bytes w64 number) r.payload } else r
+    if writes (command_of r.kind) then record r {
+      payload = in_front
+          (to_le_bytes w64 number) r.payload;
+    } else r
 
 -- an item of the cycle with a number
 abbrev pub output_at : Outputs → ℕ → ItemRecord → ItemRecord

@@ -1,5 +1,5 @@
 -- What a master does with a slave that has left Op (IEC 61158-6-12, AL state machine).
-use Rattle.std.specs.Prelude.{◌≡◌, ℕ, ◌==◌, if◌then◌else◌, List, Result, Ok, Err, slice_index, replicate}
+use Rattle.std.specs.Prelude.{◌≡◌, ℕ, ◌==◌, List, Result, Ok, Err, slice_index}
 use Rattle.ec_app.specs.Table.{first_fitting}
 use Rattle.std.specs.Prelude.{[], ◌∷◌, nat_lt}
 use Rattle.ec_wire.specs.Datagram.{DatagramRecord, nth}
@@ -44,7 +44,8 @@ seen_by (Err fault) = Err fault
 seen_by (Ok joined) = Ok (seen_in joined)
 
 -- AL status of the slave with a station address is read, and shows this
-pub record IsLookedAt {P : Type 0} (trips : Trips P) (before : P) (station : ℕ) (seen : Result Seen MasterFault)
+pub record IsLookedAt {P : Type 0} (trips : Trips P) (before : P) (station : ℕ)
+    (seen : Result Seen MasterFault)
     (later : P) : Type 0 where
   pub joined : Result (List DatagramRecord) MasterFault
   pub puts : IsPut trips before (status_read station) joined later

@@ -1,14 +1,13 @@
 -- A slave is brought up step by step (IEC 61158-6-12, AL management; IEC 61158-4-12, sync manager and FMMU
 -- entities): it gets its station address, its records are written and read back, it is asked for a state.
 use Rattle.std.specs.Prelude.{◌≡◌, ℕ, zero, suc, ◌+◌, ◌-◌, ◌*◌, ◌%◌, ◌==◌, nat_lt, Bool, true, false, Option}
-use Rattle.std.specs.Prelude.{None, Some, List, [], ◌∷◌, ◌++◌, length, take, replicate, Result, Ok, Err, not}
-use Rattle.std.specs.Prelude.{nat_eq, pointwise, slice_get}
-use Rattle.std.specs.Int.{w16, to_le_bytes}
+use Rattle.std.specs.Prelude.{None, Some, List, [], ◌∷◌, length, take, replicate, Result, Ok, Err, not}
+use Rattle.std.specs.Prelude.{nat_eq, slice_get, slice_index}
+use Rattle.std.specs.Cmp.Lexicographic.{pointwise}
 use Rattle.ec_wire.specs.Datagram.{DatagramRecord, address_of}
 use Rattle.ec_wire.specs.declared.command.Command.TheVariants.{Fprd, Fpwr}
 use Rattle.ec_regs.specs.Fmmu.{fmmu_bytes}
 use Rattle.ec_regs.specs.SyncMan.{sync_man_bytes}
-use Rattle.ec_regs.specs.declared.al.AlState.{AlState}
 use Rattle.ec_regs.specs.declared.fmmu.Fmmu.{Fmmu}
 use Rattle.ec_regs.specs.declared.registers.TheConstants.{FMMU_BASE, FMMU_SIZE, SYNC_MANAGER_ACTIVATE}
 use Rattle.ec_regs.specs.declared.registers.TheConstants.{SYNC_MANAGER_BASE, SYNC_MANAGER_SIZE}
@@ -23,7 +22,7 @@ use Rattle.ec_services.specs.declared.fault.MasterFault.TheVariants.{NoSlave, Ba
 use Rattle.ecat_master.specs.declared.step.Step.{Step}
 use Rattle.ecat_master.specs.declared.step.Step.TheVariants.{Station, StationBehind, StationBefore}
 use Rattle.ecat_master.specs.declared.step.Step.TheVariants.{SyncManager, Fmmu as FmmuRecord, State}
-use Rattle.ecat_master.specs.declared.step.TheConstants.{MOST_READS, AREA_BYTES}
+use Rattle.ecat_master.specs.declared.step.TheConstants.{MOST_READS, AREA_BYTES, SWITCH_AT}
 use Rattle.ecat_master.specs.declared.wanted.Wanted.{Wanted}
 
 -- ---- records of registers
@@ -49,20 +48,20 @@ holds station ado bytes = record {
 }
 
 -- a sync manager is switched off, its record is written, and its area and its switch are read back
-abbrev pub manager_talk : ℕ → ℕ → SyncMan → List (Question (Unit {0}))
-manager_talk station n s =
+abbrev pub manager_talk : ℕ → ℕ → List ℕ → List (Question (Unit {0}))
+manager_talk station n bytes =
     let at = SYNC_MANAGER_BASE + SYNC_MANAGER_SIZE * n in
     write (register_write station (at + SYNC_MANAGER_ACTIVATE) (0 ∷ []))
-    ∷ write (register_write station at (sync_man_bytes s))
-    ∷ holds station at (take AREA_BYTES (sync_man_bytes s))
-    ∷ holds station (at + SYNC_MANAGER_ACTIVATE) (s.activate ∷ [])
+    ∷ write (register_write station at bytes)
+    ∷ holds station at (take AREA_BYTES bytes)
+    ∷ holds station (at + SYNC_MANAGER_ACTIVATE) (slice_index bytes SWITCH_AT ∷ [])
     ∷ []
 
 -- the record of an FMMU is written and read back
-abbrev pub fmmu_talk : ℕ → ℕ → Fmmu → List (Question (Unit {0}))
-fmmu_talk station n f =
+abbrev pub fmmu_talk : ℕ → ℕ → List ℕ → List (Question (Unit {0}))
+fmmu_talk station n bytes =
     let at = FMMU_BASE + FMMU_SIZE * n in
-    write (register_write station at (fmmu_bytes f)) ∷ holds station at (fmmu_bytes f) ∷ []
+    write (register_write station at bytes) ∷ holds station at bytes ∷ []
 
 -- ---- station addresses
 
@@ -94,49 +93,55 @@ abbrev pub number_in : ℕ → ℕ
 number_in number = number % 8
 
 -- the record of a sync manager or of an FMMU that is there is set
-abbrev pub SetsManager : {P : Type 0} → Trips P → P → ℕ → ℕ → Option SyncMan → Result (Unit {0}) MasterFault → P
+abbrev pub SetsManager : {P : Type 0} → Trips P → P → ℕ → ℕ → Option SyncMan
+    → Result (Unit {0}) MasterFault → P
     → Type 0
 SetsManager trips before station n None result later = ⊥
 SetsManager trips before station n (Some s) result later =
-    Talks trips before (manager_talk station n s) (Ok tt) result later
+    Talks trips before (manager_talk station n (sync_man_bytes s)) (Ok tt) result later
 
 abbrev pub SetsFmmu : {P : Type 0} → Trips P → P → ℕ → ℕ → Option Fmmu → Result (Unit {0}) MasterFault → P
     → Type 0
 SetsFmmu trips before station n None result later = ⊥
 SetsFmmu trips before station n (Some f) result later =
-    Talks trips before (fmmu_talk station n f) (Ok tt) result later
+    Talks trips before (fmmu_talk station n (fmmu_bytes f)) (Ok tt) result later
 
 -- a step with the slave at a place is done once
-abbrev pub IsDone : {P : Type 0} → Trips P → P → ℕ → Wanted → Step → Result (Unit {0}) MasterFault → P → Type 0
+abbrev pub IsDone : {P : Type 0} → Trips P → P → ℕ → Wanted → Step → Result (Unit {0}) MasterFault → P
+    → Type 0
 IsDone trips before place wanted Station result later =
     Talks trips before (write (address_write place wanted.station false) ∷ []) (Ok tt) result later
 IsDone trips before place wanted (StationBehind first) result later =
-    Talks trips before (behind_question ((place + (65536 - first)) % 65536) wanted.station ∷ []) (Ok tt) result
+    Talks trips before (behind_question ((place + (65536 - first)) % 65536) wanted.station ∷ [])
+    (Ok tt) result
     later
 IsDone trips before place wanted StationBefore result later =
     Talks trips before (write (address_write place wanted.station true) ∷ []) (Ok tt) result later
 IsDone trips before place wanted (SyncManager n) result later =
-    SetsManager trips before wanted.station (number_in n) (slice_get wanted.managers (number_in n)) result later
+    SetsManager trips before wanted.station (number_in n) (slice_get wanted.managers
+    (number_in n)) result later
 IsDone trips before place wanted (FmmuRecord n) result later =
     SetsFmmu trips before wanted.station (number_in n) (slice_get wanted.fmmus (number_in n)) result later
 IsDone trips before place wanted (State state) result later =
     IsRequested trips before wanted.station state MOST_READS result later
 
--- did no slave answer: a frame may have been lost
-abbrev pub is_unanswered : Result (Unit {0}) MasterFault → Bool
-is_unanswered (Ok _) = false
-is_unanswered (Err fault) = elim fault [
-  | NoSlave ↦ true
-  | _ ↦ false
+-- did some slave answer; where none did, a frame may have been lost
+abbrev pub is_answered : Result (Unit {0}) MasterFault → Bool
+is_answered (Ok _) = true
+is_answered (Err fault) = elim fault [
+  | NoSlave ↦ false
+  | _ ↦ true
 ]
 
 -- a step is done, and again where no slave answered, at most so many times
-unfoldable pub IsTried : {P : Type 0} → Trips P → P → ℕ → Wanted → Step → ℕ → Result (Unit {0}) MasterFault → P
+unfoldable pub IsTried : {P : Type 0} → Trips P → P → ℕ → Wanted → Step → ℕ
+    → Result (Unit {0}) MasterFault → P
     → Type 0
 IsTried trips before place wanted step zero result later = IsDone trips before place wanted step result later
 IsTried {P} trips before place wanted step (suc more) result later =
-    (first : Result (Unit {0}) MasterFault) × (between : P) × IsDone trips before place wanted step first between
-    × (elim (is_unanswered first) [
-      | true ↦ IsTried trips between place wanted step more result later
-      | false ↦ (result ≡ first) × (later ≡ between)
+    (first : Result (Unit {0}) MasterFault) ×
+    (between : P) × IsDone trips before place wanted step first between
+    × (elim (is_answered first) [
+      | true ↦ (result ≡ first) × (later ≡ between)
+      | false ↦ IsTried trips between place wanted step more result later
     ])

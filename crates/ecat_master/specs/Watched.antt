@@ -12,7 +12,8 @@ came_of (Err failed) = Err failed
 came_of (Ok arrivals) = Ok (copies_of arrivals)
 
 -- a trip is one of the ports, of which the copies count, wherever they arrived
-pub record WatchedTrips {P : Type 0} (trips : P → List DatagramRecord → Result Arrivals PortFault → P → Type 0)
+pub record WatchedTrips {P : Type 0} (trips : P → List DatagramRecord → Result Arrivals PortFault → P
+    → Type 0)
     (before : P) (sent : List DatagramRecord) (came : Result Came PortFault) (later : P) : Type 0 where
   pub arrivals : Result Arrivals PortFault
   pub made : trips before sent arrivals later

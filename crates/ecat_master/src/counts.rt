@@ -1,7 +1,7 @@
 //! How many cycles there were, by their ends.
 
-ghost use Rattle.std.specs.Prelude.{◌≡◌, ◌+◌, ◌<◌, ◌^◌, ◌-◌};
-ghost use Rattle.ecat_master.specs.Cycles.{counted, no_cycles};
+ghost use Rattle.std.specs.Prelude.{◌≡◌, ◌<◌, ◌^◌, ◌-◌};
+ghost use Rattle.ecat_master.specs.Cycles.{AddUp, counted, no_cycles};
 
 use ec_master::{CycleFault, Verdict};
 
@@ -18,13 +18,13 @@ pub struct Counts {
     pub over: u64,
     /// Those without a verdict.
     pub fault: u64,
-    ghost adds_up: { good + short + over + fault ≡ cycles },
 }
 
 impl Counts {
     /// No cycle.
     pub fn none() -> Counts
-        ensures { result ≡ no_cycles }
+        ensures value { result ≡ no_cycles }
+        ensures adds_up { AddUp result }
     {
         Counts {
             cycles: 0,
@@ -37,8 +37,10 @@ impl Counts {
 
     /// One cycle more, which ended so.
     pub fn with(self, ended: Result<Verdict, CycleFault>) -> Counts
-        requires { self.cycles < 2 ^ 64 - 1 }
-        ensures { result ≡ counted ended self }
+        requires room { self.cycles < 2 ^ 64 - 1 }
+        requires sum { AddUp self }
+        ensures value { result ≡ counted ended self }
+        ensures adds_up { AddUp result }
     {
         let cycles = self.cycles + 1;
         match ended {

@@ -2,65 +2,37 @@
 
 ghost use Rattle.std.specs.Prelude.{◌≡◌, ◌≤◌, ◌<◌, ◌^◌, ◌-◌, length, Err};
 ghost use Rattle.ec_master.specs.declared.cycle.CycleFault.TheVariants.{Port};
-ghost use Rattle.std.specs.Option.{option_copied};
-ghost use Rattle.ecat_master.specs.Cycles.{IsCycle, begun_with, image_after};
+ghost use Rattle.ecat_master.specs.Cycles.{AddUp, IsCycle, begun_with, image_after};
 
 use crate::counts::Counts;
 use crate::outputs::Outputs;
 use ec_master::{CycleFault, Ports, Verdict, Work, run_cycle};
-use std::marker::Model;
 
 /// The most cycles: a count of 64 bits has no room for another one.
 pub const MOST_CYCLES: u64 = u64::MAX;
 
-/// A work that is done again and again: what is asked, the image of the last good cycle if there was one, and
-/// how many cycles there were.
+/// A work that is done again and again.
 #[derive(Drop)]
 pub struct Cycles {
-    asked: Work,
-    image: Option<Work>,
-    counts: Counts,
-}
-
-impl Model for Cycles {
-    ghost use Rattle.ecat_master.specs.Cycles.{CyclesState};
-
-    ghost Value = { CyclesState };
-
-    ghost view = { λ c. record { asked = c.asked; image = c.image; counts = c.counts } };
+    /// What is asked, with the outputs that the items were made with.
+    pub asked: Work,
+    /// What the items brought back in the last good cycle, if there was one.
+    pub image: Option<Work>,
+    /// How many cycles there were, by their ends.
+    pub counts: Counts,
 }
 
 impl Cycles {
     /// A work of which no cycle was made.
     pub fn new(work: Work) -> Cycles
-        ensures { result ≡ begun_with work }
+        ensures begun { result ≡ begun_with work }
+        ensures adds_up { AddUp result.counts }
     {
         Cycles {
             asked: work,
             image: None,
             counts: Counts::none(),
         }
-    }
-
-    /// What the items brought back in the last good cycle, if there was one.
-    pub fn image(&self) -> Option<&Work>
-        ensures { option_copied result ≡ self.now.image }
-    {
-        self.image.as_ref()
-    }
-
-    /// How many cycles there were, by their ends.
-    pub fn counts(&self) -> Counts
-        ensures { result ≡ self.now.counts }
-    {
-        self.counts
-    }
-
-    /// How many items are asked.
-    pub fn items(&self) -> usize
-        ensures { result ≡ length self.now.asked }
-    {
-        self.asked.len()
     }
 
     /// Makes one cycle: its outputs are put into the items, which begin the round of its number, and go out
@@ -73,7 +45,9 @@ impl Cycles {
     ) -> Result<Verdict, CycleFault>
         requires items { length expected.now ≡ length self.old.asked }
         requires room { self.old.counts.cycles < 2 ^ 64 - 1 }
+        requires sum { AddUp self.old.counts }
         ensures cycle { IsCycle P.trips ports.old outputs expected.now self.old result self.new ports.new }
+        ensures adds_up { AddUp self.new.counts }
         ensures counted { result ≡ Err Port → P.failed ports.old < P.failed ports.new }
         ensures never_lower { P.failed ports.old ≤ P.failed ports.new }
     {

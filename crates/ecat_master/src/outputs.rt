@@ -24,13 +24,13 @@ impl Outputs {
     {
         let mut work = Work::new();
         for k in 0..asked.len() {
-            let _ = work.push(self.item(cycle, asked.item(k)));
+            let _ = work.push(self.output(cycle, asked.item(k)));
         }
         work
     }
 
     /// An item with its outputs of the cycle with this number.
-    fn item(self, cycle: u64, asked: &Item) -> Item
+    fn output(self, cycle: u64, asked: &Item) -> Item
         ensures { result ≡ output_at self cycle asked.now }
     {
         match self {

@@ -7,6 +7,7 @@ use crate::step::{Step, try_step};
 use crate::wanted::Wanted;
 use ec_master::Ports;
 use ec_regs::AlState;
+use ec_ring::MAX_SLAVES;
 use ec_services::MasterFault;
 
 /// A phase in which the slaves of a line are brought up, all of them before the next one begins.
@@ -135,4 +136,15 @@ pub(crate) fn bring<P: Ports>(
         place += 1;
     }
     Ok(())
+}
+
+/// Brings the slaves of a line through a phase, at most 256 of them: each of its steps (`Phase::steps`) with
+/// each slave, slave after slave until a step fails. A step that no slave answers is done again, twice at
+/// most.
+pub fn bring_line<P: Ports>(ports: &mut P, line: &[Wanted], phase: Phase) -> Result<(), StepFault>
+    requires { length line.now ≤ MAX_SLAVES }
+    ensures brings { Brings P.trips ports.old 0 line.now (steps_of phase) result ports.new }
+    ensures never_lower { P.failed ports.old ≤ P.failed ports.new }
+{
+    bring(ports, 0, line, phase.steps())
 }

@@ -1,7 +1,8 @@
 //! A master that runs: the start-up of a line, and then cycle after cycle.
 
-ghost use Rattle.std.specs.Prelude.{◌≡◌, ◌≤◌, ◌-◌, length};
-ghost use Rattle.ecat_master.specs.Cycles.{Run};
+ghost use Rattle.std.specs.Prelude.{◌≡◌, length};
+ghost use Rattle.ecat_master.specs.Cycles.{AddUp, IsRun};
+ghost use Rattle.ecat_master.specs.Watched.{WatchedTrips};
 
 use crate::counts::Counts;
 use crate::cycles::{Cycles, MOST_CYCLES};
@@ -100,13 +101,14 @@ pub struct Teller<'a, W, V, L> {
     told: Told,
     times: Times,
     due: u64,
-    next: usize,
+    next: u16,
     failed: Option<StepFault>,
 }
 
 impl<'a, W: Write, V: Write, L: Write> Teller<'a, W, V, L> {
-    /// One who tells these writers, on a cable that is broken there.
-    fn new(
+    /// One who tells these writers of cycles over a cable that is broken there: `err` of the progress, `log`
+    /// of every cycle.
+    pub fn new(
         out: Lines<'a, W>,
         err: Lines<'a, V>,
         log: Lines<'a, L>,
@@ -160,15 +162,15 @@ impl<'a, W: Write, V: Write, L: Write> Teller<'a, W, V, L> {
         ports: &mut Watched<P>,
         line: &[Wanted],
     ) -> io::Result<()> {
-        if self.next >= line.len() {
+        if usize::from(self.next) >= line.len() {
             self.next = 0;
         }
-        let Some(wanted) = line.get(self.next) else {
+        let place = self.next;
+        let Some(wanted) = line.get(usize::from(place)) else {
             return Ok(());
         };
-        let place = self.next;
-        self.next += 1;
-        let outcome = recover(ports, place as u16, wanted, self.told.cable());
+        self.next = place.wrapping_add(1);
+        let outcome = recover(ports, place, wanted, self.told.cable());
         self.tell_recovery(counts, place, wanted, outcome)
     }
 
@@ -176,7 +178,7 @@ impl<'a, W: Write, V: Write, L: Write> Teller<'a, W, V, L> {
     fn tell_recovery(
         &mut self,
         counts: Counts,
-        place: usize,
+        place: u16,
         wanted: &Wanted,
         outcome: Outcome,
     ) -> io::Result<()> {
@@ -216,7 +218,7 @@ fn put_progress<W: Write>(
 /// Writes that a slave was brought to Op again.
 fn put_recovered<W: Write>(
     cycle: u64,
-    place: usize,
+    place: u16,
     station: u16,
     seen: Seen,
     lines: &mut Lines<'_, W>,
@@ -224,7 +226,7 @@ fn put_recovered<W: Write>(
     lines.text("cycle ")?;
     lines.number(cycle)?;
     lines.text(": ")?;
-    put_slave(place as u64, station, lines)?;
+    put_slave(u64::from(place), station, lines)?;
     match seen {
         Seen::Nobody => lines.text(" had lost its station")?,
         Seen::In(state) => {
@@ -254,9 +256,10 @@ fn put_unrecovered<W: Write>(
     lines.end()
 }
 
-/// Makes cycle after cycle, as long as the pace has another one, and tells of them. It answers how the last
-/// one ended; nothing is answered where there was none.
-fn run_cycles<P, T, W, V, L>(
+/// Makes cycle after cycle, as long as the pace has another one, and tells of them; between two cycles the
+/// cable or a slave may be looked at. It answers how the last one ended; nothing where there was none. An
+/// error is one of `out` or of the log.
+pub fn run_cycles<P, T, W, V, L>(
     cycles: &mut Cycles,
     ports: &mut Watched<P>,
     line: &[Wanted],
@@ -271,15 +274,19 @@ where
     W: Write,
     V: Write,
     L: Write,
-    requires { length expected.now ≡ length cycles.old.asked }
+    requires items { length expected.now ≡ length cycles.old.asked }
+    requires sum { AddUp cycles.old.counts }
+    ensures adds_up { AddUp cycles.new.counts }
+    ensures asked { cycles.new.asked ≡ cycles.old.asked }
+    ensures cycles { IsRun (WatchedTrips P.trips) plan.now.outputs expected.now cycles.old cycles.new }
 {
     let mut last = None;
-    while cycles.counts().cycles < MOST_CYCLES && pace.next() {
+    while cycles.counts.cycles < MOST_CYCLES && pace.next() {
         let began = pace.now();
         ports.clear();
         let ended = cycles.cycle(ports, plan.outputs, expected);
         last = Some(ended);
-        let counts = cycles.counts();
+        let counts = cycles.counts;
         teller.take_time(counts, began, pace.now(), plan.progress);
         teller.tell(counts, ended, ports, expected, line, plan.log)?;
         if plan.stop && ended != Ok(Verdict::Good) {
@@ -310,10 +317,12 @@ fn status_of(last: Option<Result<Verdict, CycleFault>>) -> u8 {
 fn status_of_start(fault: &StartFault) -> u8 {
     match fault {
         StartFault::Ask(MasterFault::Port) => FAILED,
-        StartFault::Step(StepFault {
-            fault: MasterFault::Port,
-            ..
-        }) => FAILED,
+        StartFault::Step(
+            StepFault {
+                fault: MasterFault::Port,
+                ..
+            },
+        ) => FAILED,
         _ => REFUSED,
     }
 }
@@ -349,7 +358,15 @@ where
     };
     let mut cycles = Cycles::new(work);
     let mut teller = Teller::new(Lines::new(out), Lines::new(err), Lines::new(log), cable);
-    let last = match run_cycles(&mut cycles, &mut ports, line, expected, plan, pace, &mut teller) {
+    let last = match run_cycles(
+        &mut cycles,
+        &mut ports,
+        line,
+        expected,
+        plan,
+        pace,
+        &mut teller,
+    ) {
         Ok(last) => last,
         Err(_) => return FAILED,
     };
@@ -381,9 +398,9 @@ fn put_sum<W: Write>(
     expected: &[u16],
     lines: &mut Lines<'_, W>,
 ) -> io::Result<()> {
-    put_counts(cycles.counts(), lines)?;
+    put_counts(cycles.counts, lines)?;
     lines.end()?;
-    match cycles.image() {
+    match &cycles.image {
         Some(image) => tell_image(image, expected, lines),
         None => Ok(()),
     }

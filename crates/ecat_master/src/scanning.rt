@@ -295,25 +295,32 @@ fn area_of(manager: &SyncMan) -> Area
     }
 }
 
-/// A slave as one with which mails are exchanged, if it has both mailboxes and answers mails in its state.
+/// A slave with these records as one with which mails are exchanged, if both are mailboxes.
 #[tactic(auto, unfolding(ec_regs::specs::SyncMan::is_active))]
-fn peer_of(shown: &Shown) -> Option<Peer>
+fn peer_between(station: u16, requests: &SyncMan, answers: &SyncMan) -> Option<Peer>
     ensures { IfSome result IsPeer }
 {
-    let requests = shown.managers[REQUEST_MAILBOX];
-    let answers = shown.managers[ANSWER_MAILBOX];
-    if !is_request_mailbox(&requests) || !is_answer_mailbox(&answers) {
-        return None;
-    }
-    if shown.status.state == AlState::Init {
+    if !is_request_mailbox(requests) || !is_answer_mailbox(answers) {
         return None;
     }
     Some(Peer {
-        station: shown.station,
-        to: area_of(&requests),
-        from: area_of(&answers),
+        station,
+        to: area_of(requests),
+        from: area_of(answers),
         counter: 1,
     })
+}
+
+/// A slave as one with which mails are exchanged, if it has both mailboxes and answers mails in its state.
+fn peer_of(shown: &Shown) -> Option<Peer>
+    ensures { IfSome result IsPeer }
+{
+    if shown.status.state == AlState::Init {
+        return None;
+    }
+    let requests = &shown.managers[REQUEST_MAILBOX];
+    let answers = &shown.managers[ANSWER_MAILBOX];
+    peer_between(shown.station, requests, answers)
 }
 
 /// Puts who a slave is, if it answers mails: its vendor and its product.
@@ -325,16 +332,27 @@ fn put_identity<P: Ports, W: Write>(
     let Some(mut peer) = peer_of(shown) else {
         return Ok(());
     };
-    for sub in [1, 2] {
-        lines.text(" 0x1018:")?;
-        lines.number(u64::from(sub))?;
-        lines.text(" ")?;
-        match upload_surely(ports, &mut peer, IDENTITY, sub, TRIPS) {
-            Ok(Value::One(value)) => lines.number(u64::from(value))?,
-            Ok(Value::Two(value)) => lines.word(value)?,
-            Ok(Value::Four(value)) => lines.long(value)?,
-            Err(fault) => put_fault(fault, lines)?,
-        }
+    put_object(ports, &mut peer, 1, lines)?;
+    put_object(ports, &mut peer, 2, lines)
+}
+
+/// Puts one entry of the object that says who a slave is.
+fn put_object<P: Ports, W: Write>(
+    ports: &mut P,
+    peer: &mut Peer,
+    sub: u8,
+    lines: &mut Lines<'_, W>,
+) -> io::Result<()>
+    requires { IsPeer peer.old }
+    ensures { IsPeer peer.new }
+{
+    lines.text(" 0x1018:")?;
+    lines.number(u64::from(sub))?;
+    lines.text(" ")?;
+    match upload_surely(ports, peer, IDENTITY, sub, TRIPS) {
+        Ok(Value::One(value)) => lines.number(u64::from(value)),
+        Ok(Value::Two(value)) => lines.word(value),
+        Ok(Value::Four(value)) => lines.long(value),
+        Err(fault) => put_fault(fault, lines),
     }
-    Ok(())
 }

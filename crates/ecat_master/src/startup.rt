@@ -3,7 +3,7 @@
 ghost use Rattle.std.specs.Prelude.{◌≤◌, length};
 
 use crate::counting::count_slaves;
-use crate::phase::{PHASES, Phase, StepFault, bring};
+use crate::phase::{PHASES, StepFault, bring, bring_line};
 use crate::print::Lines;
 use crate::step::Step;
 use crate::wanted::Wanted;
@@ -72,7 +72,7 @@ pub fn start<P: HeardPorts, W: Write>(
     lines.text("stations given")?;
     lines.end()?;
     for phase in PHASES {
-        bring(ports, 0, line, phase.steps())?;
+        bring_line(ports, line, phase)?;
         lines.text("all in ")?;
         lines.text(state_name(phase.state()))?;
         lines.end()?;
@@ -141,10 +141,7 @@ fn look<P: HeardPorts, W: Write>(
 
 /// Where the cable of a line of so many slaves is broken, by a few frames if copies were lost; nothing where
 /// the ports failed.
-pub(crate) fn look_surely<P: HeardPorts>(
-    ports: &mut Watched<P>,
-    slaves: usize,
-) -> Option<Located> {
+pub(crate) fn look_surely<P: HeardPorts>(ports: &mut Watched<P>, slaves: usize) -> Option<Located> {
     let mut located = Located::Unknown;
     for _try in 0..TRIES {
         located = ports.locate(slaves).ok()?;

@@ -4,16 +4,16 @@ ghost use Rattle.std.specs.Prelude.{◌≡◌, ◌≤◌, ◌<◌, Ok, Err, leng
 ghost use Rattle.ec_services.specs.Ask.{IsAsked, Talks, done, write};
 ghost use Rattle.ec_services.specs.declared.fault.MasterFault.TheVariants.{Port};
 ghost use Rattle.ecat_master.specs.Step.{number_in, register_write, holds, manager_talk, fmmu_talk};
-ghost use Rattle.ecat_master.specs.Step.{address_write, behind_question, IsDone, IsTried};
+ghost use Rattle.ecat_master.specs.Step.{address_write, behind_question, is_answered, IsDone, IsTried};
 
 use crate::ask::{held_by, one_counted, one_or_two, put, request};
 use crate::wanted::Wanted;
 use ec_master::Ports;
+use ec_regs::AlState;
 use ec_regs::registers::{
     FMMU_BASE, FMMU_SIZE, STATION_ADDRESS, SYNC_MANAGER_ACTIVATE, SYNC_MANAGER_BASE,
     SYNC_MANAGER_SIZE,
 };
-use ec_regs::{AlState, Fmmu, SyncMan};
 use ec_services::{MasterFault, request_state};
 use ec_wire::{Command, address_of};
 
@@ -22,6 +22,9 @@ const RECORDS: u8 = 8;
 
 /// How many bytes of a sync manager's record tell its area: start, length and control.
 const AREA_BYTES: usize = 5;
+
+/// Where the byte stands in a sync manager's record that switches it on.
+const SWITCH_AT: usize = 6;
 
 /// The most bytes of a record.
 const MOST_BYTES: usize = 16;
@@ -105,21 +108,19 @@ fn set_manager<P: Ports>(
     ports: &mut P,
     station: u16,
     number: usize,
-    manager: &SyncMan,
+    bytes: &[u8; 8],
 ) -> Result<(), MasterFault>
     requires { number < 8 }
-    ensures talk { Talks P.trips ports.old (manager_talk station number manager.now) (Ok tt) result
-        ports.new }
+    ensures talk { Talks P.trips ports.old (manager_talk station number bytes.now) (Ok tt) result ports.new }
     ensures counted { result ≡ Err Port → P.failed ports.old < P.failed ports.new }
     ensures never_lower { P.failed ports.old ≤ P.failed ports.new }
 {
     let record = SYNC_MANAGER_BASE + SYNC_MANAGER_SIZE * number as u16;
     let switch = record + SYNC_MANAGER_ACTIVATE;
-    let bytes = manager.write();
     write_at(ports, station, switch, &[0])?;
-    write_at(ports, station, record, &bytes)?;
+    write_at(ports, station, record, bytes)?;
     check_at(ports, station, record, &bytes[..AREA_BYTES])?;
-    check_at(ports, station, switch, &[manager.activate])
+    check_at(ports, station, switch, &[bytes[SWITCH_AT]])
 }
 
 /// Writes the record of an FMMU and reads it back.
@@ -127,17 +128,16 @@ fn set_fmmu<P: Ports>(
     ports: &mut P,
     station: u16,
     number: usize,
-    fmmu: &Fmmu,
+    bytes: &[u8; 16],
 ) -> Result<(), MasterFault>
     requires { number < 8 }
-    ensures talk { Talks P.trips ports.old (fmmu_talk station number fmmu.now) (Ok tt) result ports.new }
+    ensures talk { Talks P.trips ports.old (fmmu_talk station number bytes.now) (Ok tt) result ports.new }
     ensures counted { result ≡ Err Port → P.failed ports.old < P.failed ports.new }
     ensures never_lower { P.failed ports.old ≤ P.failed ports.new }
 {
     let record = FMMU_BASE + FMMU_SIZE * number as u16;
-    let bytes = fmmu.write();
-    write_at(ports, station, record, &bytes)?;
-    check_at(ports, station, record, &bytes)
+    write_at(ports, station, record, bytes)?;
+    check_at(ports, station, record, bytes)
 }
 
 /// Gives a station address by place, by a frame that circulates or does not.
@@ -174,12 +174,7 @@ fn give_station_behind<P: Ports>(
 }
 
 /// Does a step with the slave at a place, once.
-fn take<P: Ports>(
-    ports: &mut P,
-    place: u16,
-    wanted: &Wanted,
-    step: Step,
-) -> Result<(), MasterFault>
+fn take<P: Ports>(ports: &mut P, place: u16, wanted: &Wanted, step: Step) -> Result<(), MasterFault>
     ensures done { IsDone P.trips ports.old place wanted.now step result ports.new }
     ensures counted { result ≡ Err Port → P.failed ports.old < P.failed ports.new }
     ensures never_lower { P.failed ports.old ≤ P.failed ports.new }
@@ -193,13 +188,25 @@ fn take<P: Ports>(
         Step::StationBefore => give_station(ports, place, station, true),
         Step::SyncManager(number) => {
             let number = number_in(number);
-            set_manager(ports, station, number, &wanted.managers[number])
+            let record = wanted.manager(number).write();
+            set_manager(ports, station, number, &record)
         }
         Step::Fmmu(number) => {
             let number = number_in(number);
-            set_fmmu(ports, station, number, &wanted.fmmus[number])
+            let record = wanted.fmmu(number).write();
+            set_fmmu(ports, station, number, &record)
         }
         Step::State(state) => request_state(ports, station, state, MOST_READS),
+    }
+}
+
+/// Did some slave answer? Where none did, a frame may have been lost.
+fn is_answered(done: Result<(), MasterFault>) -> bool
+    ensures { result ≡ is_answered done }
+{
+    match done {
+        Err(MasterFault::NoSlave) => false,
+        _ => true,
     }
 }
 
@@ -216,9 +223,9 @@ pub(crate) fn try_step<P: Ports>(
     ensures never_lower { P.failed ports.old ≤ P.failed ports.new }
 {
     for _try in 0..MORE_TRIES {
-        match take(ports, place, wanted, step) {
-            Err(MasterFault::NoSlave) => {}
-            done => return done,
+        let done = take(ports, place, wanted, step);
+        if is_answered(done) {
+            return done;
         }
     }
     take(ports, place, wanted, step)

@@ -2,11 +2,13 @@
 
 mod brought;
 mod cabled;
+mod door;
 mod failing;
 mod line;
 mod missing;
 mod recovered;
 mod scanned;
+mod sent;
 mod stage;
 
 use std::fmt::Debug;

@@ -1,6 +1,6 @@
 //! What a slave is to be told at start-up.
 
-ghost use Rattle.std.specs.Prelude.{◌≡◌, ◌<◌};
+ghost use Rattle.std.specs.Prelude.{◌≡◌, ◌<◌, Some, slice_get};
 
 use ec_app::Slave;
 use ec_regs::registers::{FMMU_COUNT, SYNC_MANAGER_COUNT};
@@ -36,6 +36,24 @@ impl Wanted {
             managers,
             fmmus,
         }
+    }
+}
+
+impl Wanted {
+    /// The record of the sync manager with a number.
+    pub(crate) fn manager(&self, number: usize) -> &SyncMan
+        requires { number < SYNC_MANAGER_COUNT }
+        ensures { slice_get self.now.managers number ≡ Some result.now }
+    {
+        &self.managers[number]
+    }
+
+    /// The record of the FMMU with a number.
+    pub(crate) fn fmmu(&self, number: usize) -> &Fmmu
+        requires { number < FMMU_COUNT }
+        ensures { slice_get self.now.fmmus number ≡ Some result.now }
+    {
+        &self.fmmus[number]
     }
 }
 

@@ -123,11 +123,7 @@ fn put_link<W: Write>(link: usize, lines: &mut Lines<'_, W>) -> io::Result<()> {
 }
 
 /// Puts a link that is down, and what it lies between.
-fn put_break<W: Write>(
-    link: usize,
-    line: &[Wanted],
-    lines: &mut Lines<'_, W>,
-) -> io::Result<()> {
+fn put_break<W: Write>(link: usize, line: &[Wanted], lines: &mut Lines<'_, W>) -> io::Result<()> {
     put_link(link, lines)?;
     lines.text(" down: between ")?;
     if link == 0 {

@@ -48,7 +48,11 @@ impl<I: Read + AsRawFd + Drop> Ending<I> {
         if self.ended {
             return true;
         }
-        if self.poll.poll(&mut self.events, Some(Duration::from_secs(0))).is_err() {
+        if self
+            .poll
+            .poll(&mut self.events, Some(Duration::from_secs(0)))
+            .is_err()
+        {
             return false;
         }
         if !self.events.is_empty() {
@@ -71,7 +75,11 @@ impl<I: Read + AsRawFd + Drop> Ending<I> {
         self.ended = self
             .poll
             .registry()
-            .reregister(&mut SourceFd(&self.input.as_raw_fd()), INPUT, Interest::READABLE)
+            .reregister(
+                &mut SourceFd(&self.input.as_raw_fd()),
+                INPUT,
+                Interest::READABLE,
+            )
             .is_err();
     }
 }

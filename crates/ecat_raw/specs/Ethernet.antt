@@ -1,6 +1,6 @@
--- A frame on Ethernet (IEEE 802.3, the MAC frame; IEC 61158-4-12, the EtherCAT frame inside an Ethernet frame): a
--- header of destination, source and type, the frame, and zeros up to 60 bytes. Tags may stand before the type
--- (IEEE 802.1Q).
+-- A frame on Ethernet (IEEE 802.3, the MAC frame; IEC 61158-4-12, the EtherCAT frame inside an Ethernet
+-- frame): a header of destination, source and type, the frame, and zeros up to 60 bytes. Tags may stand
+-- before the type (IEEE 802.1Q).
 use Rattle.std.specs.Prelude.{ℕ, ◌+◌, ◌-◌, ◌/◌, ◌%◌, ◌==◌, ◌||◌, Bool, nat_lt, if◌then◌else◌}
 use Rattle.std.specs.Prelude.{List, [], ◌∷◌, ◌++◌, length, take, drop, replicate, slice_index}
 use Rattle.std.specs.Prelude.{Option, None, Some}

@@ -15,11 +15,13 @@ use Rattle.ec_regs.specs.declared.registers.TheConstants.{STATION_ADDRESS}
 use Rattle.ec_ring.specs.declared.port.Port.{Port}
 use Rattle.ec_ring.specs.declared.port.Port.TheVariants.{A, B}
 use Rattle.ecat_text.specs.Words.{hexadecimal}
+use Rattle.ecat_text.specs.declared.cable.ArrivedText.{ArrivedText}
 use Rattle.ecat_text.specs.declared.cable.CopyText.{CopyText}
 use Rattle.ecat_text.specs.declared.cable.End.{End}
 use Rattle.ecat_text.specs.declared.cable.End.TheVariants.{AtPort, AtSlave}
 use Rattle.ecat_text.specs.declared.cable.BreakText.{BreakText}
-use Rattle.ecat_text.specs.declared.cable.BreakText.TheVariants.{Whole, One, Two, First, Last, Unknown, Changed}
+use Rattle.ecat_text.specs.declared.cable.BreakText.TheVariants.{Whole, One, Two, First, Last, Unknown}
+use Rattle.ecat_text.specs.declared.cable.BreakText.TheVariants.{Changed}
 use Rattle.ecat_text.specs.declared.cable.Missing.{Missing}
 use Rattle.ecat_text.specs.declared.cable.Missing.TheVariants.{Nobody, CutOff as IsCutOff, NotTold}
 use Rattle.ecat_text.specs.declared.cable.Places.{Places}
@@ -33,6 +35,14 @@ port_words B = codes "B"
 abbrev pub heard_words : Option Heard → List ℕ
 heard_words None = codes " lost"
 heard_words (Some heard) = codes " back at " ++ port_words heard.at ++ codes " after " ++ decimal heard.count
+
+-- what is heard at a port: how many slaves counted on it
+abbrev pub at_words : Port → Option Heard → List ℕ
+at_words at None = codes "nothing at " ++ port_words at
+at_words at (Some heard) = codes "at " ++ port_words at ++ codes " after " ++ decimal heard.count
+
+abbrev pub arrived_words : ArrivedText → List ℕ
+arrived_words arrived = at_words arrived.at arrived.heard
 
 -- a copy by the port where it started
 abbrev pub copy_words : CopyText → List ℕ

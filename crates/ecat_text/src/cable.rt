@@ -1,7 +1,8 @@
 //! What is printed of a cable: the copies of a frame that came back, which links are down, who is missing.
 
 ghost use Rattle.std.specs.Prelude.{◌≡◌, Some};
-ghost use Rattle.ecat_text.specs.Cables.{break_of, break_status, break_words, copy_words, end_at, end_before};
+ghost use Rattle.ecat_text.specs.Cables.{arrived_words, break_of, break_status, break_words, copy_words};
+ghost use Rattle.ecat_text.specs.Cables.{end_at, end_before};
 ghost use Rattle.ecat_text.specs.Cables.{end_words, missing_of, missing_words, places_words, port_words};
 ghost use Rattle.ecat_text.specs.Cables.{station_words};
 
@@ -50,6 +51,28 @@ impl fmt::Display for CopyText {
                 let at = PortText(heard.at);
                 let count = heard.count;
                 write!(f, "{from} back at {at} after {count}")
+            }
+        }
+    }
+}
+
+/// What is heard at a port, whichever copy it is of, as it is printed.
+#[derive(Drop)]
+struct ArrivedText {
+    at: Port,
+    heard: Option<Heard>,
+}
+
+impl fmt::Display for ArrivedText {
+    ghost output = { λ arrived. Some (arrived_words arrived) };
+
+    fn fmt<W: fmt::Write>(&self, f: &mut fmt::Formatter<W>) -> fmt::Result {
+        let at = PortText(self.at);
+        match self.heard {
+            None => write!(f, "nothing at {at}"),
+            Some(heard) => {
+                let count = heard.count;
+                write!(f, "at {at} after {count}")
             }
         }
     }
@@ -215,6 +238,25 @@ pub fn print_copies<W: Write>(
     lines.text(", ")?;
     lines.text(CopyText {
         from: Port::B,
+        heard: heard(sent, &came.b),
+    })?;
+    lines.end()
+}
+
+/// Prints what arrived at the master's ports of a frame, where it is not known which copy it is: a line with
+/// both ports.
+pub fn print_arrived<W: Write>(
+    sent: &FrameBuf,
+    came: &Arrivals,
+    lines: &mut Lines<'_, W>,
+) -> io::Result<()> {
+    lines.text(ArrivedText {
+        at: Port::A,
+        heard: heard(sent, &came.a),
+    })?;
+    lines.text(", ")?;
+    lines.text(ArrivedText {
+        at: Port::B,
         heard: heard(sent, &came.b),
     })?;
     lines.end()

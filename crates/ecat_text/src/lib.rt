@@ -1,8 +1,9 @@
 #![tactic(auto)]
-//! The texts of the program: lines of output, and what is printed of cycles, cables, areas, objects and refusals.
+//! The texts of the program: lines of output, and what is printed of cycles, cables, areas, objects and
+//! refusals.
 //!
-//! Each text is a `Display` whose clause says its words (`specs/`), so that a swapped word or base is refused;
-//! `Lines` writes what belongs to one line in one piece. One use:
+//! Each text is a `Display` whose clause says its words (`specs/`), so that a swapped word or base is
+//! refused; `Lines` writes what belongs to one line in one piece. One use:
 //!
 //! ```text
 //! let mut lines = Lines::new(out);
@@ -21,7 +22,7 @@ mod refusal;
 mod status;
 
 pub use areas::print_areas;
-pub use cable::{Missing, Places, PortText, missing_of, print_break, print_copies};
+pub use cable::{Missing, Places, PortText, missing_of, print_arrived, print_break, print_copies};
 pub use cycle::{VerdictText, print_items, print_verdict, status_of};
 pub use judgement::{print_counts, print_losses};
 pub use lines::Lines;

@@ -5,7 +5,10 @@ use ecat_args::Args;
 use ecat_source::{Bytes, FailsAt};
 use std::process::Abort;
 
-const WHERE: Args<'static> = Args::Where { scene: "s" };
+const WHERE: Args<'static> = Args::Where {
+    scene: "s",
+    at: None,
+};
 
 /// `where` over a text.
 fn finds(rt: &(impl AllocGlobal + Abort), scene: &[u8], status: u8, out: &[u8]) {

@@ -62,6 +62,7 @@ fn answers(rt: &(impl AllocGlobal + Abort), commands: &[&[u8]], told: &[u8]) {
         forever: false,
         control: true,
         log: false,
+        raw: None,
     };
     let mut ends = Typed {
         coming: commands,

@@ -1,7 +1,7 @@
 //! Reads and writes that fail, each in turn.
 
 ghost use Rattle.std.specs.Prelude.{◌≡◌, None, false};
-ghost use Rattle.ecat.specs.Commands.{goes_over_packets};
+ghost use Rattle.ecat.specs.Commands.{has_a_way_of_its_own};
 
 use super::{ROOM, written};
 use crate::act::{Failure, act, report};
@@ -33,6 +33,7 @@ const SDO: Args<'static> = Args::Sdo {
     sub: 1,
     value: None,
     surely: false,
+    at: None,
 };
 
 /// How many bytes a read gives.
@@ -86,7 +87,7 @@ impl PacketLine for Silent {
 
 /// The status of a command whose write after so many fails.
 fn status_after_writes(alloc: Global, args: &Args<'_>, writes: usize) -> u8
-    requires { goes_over_packets args.now ≡ false }
+    requires { has_a_way_of_its_own args.now ≡ false }
 {
     let mut err = Cursor::new([0u8; ROOM]);
     let mut out = Stops { left: writes };
@@ -95,7 +96,7 @@ fn status_after_writes(alloc: Global, args: &Args<'_>, writes: usize) -> u8
 
 /// The status of a command whose read after so many fails.
 fn status_after_reads(alloc: Global, args: &Args<'_>, reads: u64) -> u8
-    requires { goes_over_packets args.now ≡ false }
+    requires { has_a_way_of_its_own args.now ≡ false }
 {
     let mut out = Cursor::new([0u8; ROOM]);
     let mut err = Cursor::new([0u8; ROOM]);

@@ -1,7 +1,7 @@
 //! Objects of a slave that are read and written by mail.
 
 ghost use Rattle.std.specs.Prelude.{◌≡◌, false};
-ghost use Rattle.ecat.specs.Commands.{goes_over_packets};
+ghost use Rattle.ecat.specs.Commands.{has_a_way_of_its_own};
 
 use super::answers;
 use ecat_args::{Args, Value};
@@ -27,7 +27,7 @@ const LOST_REQUEST: &[u8] =
 
 /// The command `sdo` for the object of a station, an index and a subindex.
 fn command(object: (u16, u16, u8), value: Option<Value>, surely: bool) -> Args<'static>
-    ensures { goes_over_packets result ≡ false }
+    ensures { has_a_way_of_its_own result ≡ false }
 {
     let (station, index, sub) = object;
     Args::Sdo {
@@ -37,6 +37,7 @@ fn command(object: (u16, u16, u8), value: Option<Value>, surely: bool) -> Args<'
         sub,
         value,
         surely,
+        at: None,
     }
 }
 

@@ -88,6 +88,7 @@ fn service(packets: Option<u32>) -> Service {
         forever: false,
         control: false,
         log: false,
+        raw: None,
     }
 }
 
@@ -140,6 +141,7 @@ fn each_packet_is_logged_where_it_is_asked(rt: HostRuntime) {
         forever: true,
         control: false,
         log: true,
+        raw: None,
     };
     serves(&rt, LINE, asked, 0, (0, told, logged));
 }

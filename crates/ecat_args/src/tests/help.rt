@@ -12,6 +12,7 @@ digits, or 0x and hexadecimal digits. The help of a command has more.
 
 Examples:
   ecat show scenes/startup.pcap
+  ecat list scenes/startup.pcap
   ecat check scenes/check/accepted.scene
   ecat cover scenes/check/accepted.scene
   ecat where scenes/run/two_slaves_link_1_down.scene
@@ -20,6 +21,8 @@ Examples:
   ecat sdo scenes/sdo/objects.scene 0x1001 0x1018 1
   ecat udp scenes/run/example.scene --port 4000
   ecat serve scenes/serve/line.scene --packets 100
+  ecat master scenes/master/machine.scene --at 127.0.0.1:34980,127.0.0.1:34981
+  ecat scan --at 127.0.0.1:34980
   ecat vectors
   ecat help sdo
 
@@ -27,6 +30,7 @@ Usage: ecat <COMMAND>
 
 Commands:
   show     Prints the frames of a capture
+  list     Lists the datagrams of a capture
   check    Says whether the slaves of a scene fit together on one line
   cover    Says whether the items of a scene carry all that its slaves are mapped for
   where    Says where the cable of a scene is broken, and who is missing
@@ -35,6 +39,8 @@ Commands:
   sdo      Reads an object of a slave, or writes VALUE to it
   udp      Does the work of a scene through UDP sockets
   serve    Puts the line of a scene on the network, behind UDP sockets
+  master   Brings the line of a scene to Op, somewhere else, and cycles on it
+  scan     Tells what slaves a line somewhere else has
   vectors  Runs the worked rows
   help     Print this message or the help of the given subcommand(s)
 
@@ -64,6 +70,8 @@ whoever reaches the ports may write outputs then.
 With --log standard error has a line for each packet: its number, end and size,
 and of a frame each datagram, with the counter as it came and as it left, and
 where it left; or why it was dropped, and ethernet or padded where it looks so.
+With --raw the ends lie at network interfaces, through packet sockets that
+tools/raw opens: end A has the first and end B the second one.
 With --control each line of standard input is a command, which is done between
 two packets and answered by ok, what it asks for and ok, or refused and why:
   link K up|down            mends or breaks a link, 0 before the first slave
@@ -103,6 +111,9 @@ Options:
 
       --log
           Tells of each packet on standard error, a line each
+
+      --raw <RAW>
+          The descriptors of packet sockets, of end A and behind a comma of end B; tools/raw opens them
 
   -h, --help
           Print help (see a summary with '-h')

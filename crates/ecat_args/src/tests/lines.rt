@@ -1,4 +1,4 @@
-//! The ten commands, and lines that are none of them.
+//! The commands, and lines that are none of them.
 use super::{Refusal, read};
 use crate::{Args, Value};
 use clap::error::ErrorKind;
@@ -28,7 +28,10 @@ fn each_command_reads_its_words(rt: HostRuntime) {
     );
     assert_eq!(rt;
         read(alloc, &["ecat", "where", "a.scene"]),
-        Ok(Args::Where { scene: "a.scene" })
+        Ok(Args::Where {
+            scene: "a.scene",
+            at: None
+        })
     );
     assert_eq!(rt;
         read(alloc, &["ecat", "sweep", "a.scene"]),
@@ -47,6 +50,7 @@ fn sdo_takes_a_value_or_none(rt: HostRuntime) {
         sub: 1,
         value: None,
         surely: false,
+        at: None,
     };
     assert_eq!(rt;
         read(alloc, &["ecat", "sdo", "a.scene", "0x1001", "0x1018", "1"]),
@@ -59,6 +63,7 @@ fn sdo_takes_a_value_or_none(rt: HostRuntime) {
         sub: 3,
         value: Some(Value::Two(0x0405)),
         surely: false,
+        at: None,
     };
     assert_eq!(rt;
         read(alloc, &["ecat", "sdo", "a.scene", "1", "2", "3", "0x0405"]),
@@ -129,6 +134,7 @@ fn an_object_is_read_or_written_surely_where_it_is_asked(rt: HostRuntime) {
         sub: 3,
         value: None,
         surely: true,
+        at: None,
     });
     assert_eq!(rt;
         read(
@@ -151,6 +157,7 @@ fn an_object_is_read_or_written_surely_where_it_is_asked(rt: HostRuntime) {
         sub: 3,
         value: Some(Value::One(4)),
         surely: true,
+        at: None,
     };
     assert_eq!(rt;
         read(
@@ -172,6 +179,7 @@ fn serve_reads_commands_where_it_is_asked(rt: HostRuntime) {
         forever: false,
         control: true,
         log: false,
+        raw: None,
     };
     assert_eq!(rt;
         read(alloc, &["ecat", "serve", "a.scene", "--control"]),
@@ -185,6 +193,7 @@ fn serve_reads_commands_where_it_is_asked(rt: HostRuntime) {
         forever: false,
         control: true,
         log: false,
+        raw: None,
     };
     assert_eq!(rt;
         read(
@@ -249,6 +258,7 @@ fn serve_takes_a_port_or_uses_34980(rt: HostRuntime) {
         forever: false,
         control: false,
         log: false,
+        raw: None,
     };
     assert_eq!(rt; read(alloc, &["ecat", "serve", "a.scene"]), Ok(own));
     let other = Args::Serve {
@@ -259,6 +269,7 @@ fn serve_takes_a_port_or_uses_34980(rt: HostRuntime) {
         forever: false,
         control: false,
         log: false,
+        raw: None,
     };
     assert_eq!(rt;
         read(alloc, &["ecat", "serve", "a.scene", "--port", "4000"]),
@@ -281,6 +292,7 @@ fn serve_takes_a_number_of_packets_or_none(rt: HostRuntime) {
         forever: false,
         control: false,
         log: false,
+        raw: None,
     };
     assert_eq!(rt;
         read(alloc, &["ecat", "serve", "a.scene", "--packets", "100"]),
@@ -294,6 +306,7 @@ fn serve_takes_a_number_of_packets_or_none(rt: HostRuntime) {
         forever: false,
         control: false,
         log: false,
+        raw: None,
     };
     assert_eq!(rt;
         read(
@@ -337,6 +350,7 @@ fn serve_lies_at_an_address_and_leaves_its_input_alone_where_it_is_asked(rt: Hos
         forever: true,
         control: false,
         log: true,
+        raw: None,
     };
     assert_eq!(rt;
         read(
@@ -385,7 +399,7 @@ fn a_line_with_no_command_is_refused(rt: HostRuntime) {
     assert_eq!(rt; read(alloc, &[]), missing);
     assert_eq!(rt; read(alloc, &["ecat"]), missing);
     let unknown = Err(Refusal::Line(ErrorKind::InvalidSubcommand));
-    assert_eq!(rt; read(alloc, &["ecat", "scan"]), unknown);
+    assert_eq!(rt; read(alloc, &["ecat", "probe"]), unknown);
     assert_eq!(rt; read(alloc, &["ecat", "Show", "a.pcap"]), unknown);
 }
 
@@ -446,4 +460,109 @@ fn a_word_too_many_is_refused(rt: HostRuntime) {
         ),
         twice
     );
+}
+
+#[test]
+fn a_capture_is_listed_as_it_is_asked(rt: HostRuntime) {
+    let alloc = rt.alloc();
+    assert_eq!(rt;
+        read(alloc, &["ecat", "list", "-", "--faults"]),
+        Ok(Args::List {
+            file: "-",
+            csv: false,
+            faults: true,
+            stats: false,
+        })
+    );
+    assert_eq!(rt;
+        read(alloc, &["ecat", "list", "--csv", "a.pcap", "--stats"]),
+        Ok(Args::List {
+            file: "a.pcap",
+            csv: true,
+            faults: false,
+            stats: true,
+        })
+    );
+}
+
+#[test]
+fn a_line_somewhere_else_is_named(rt: HostRuntime) {
+    let alloc = rt.alloc();
+    let at = Some("a:1,b:2");
+    assert_eq!(rt;
+        read(alloc, &["ecat", "where", "a.scene", "--at", "a:1,b:2"]),
+        Ok(Args::Where {
+            scene: "a.scene",
+            at,
+        })
+    );
+    assert_eq!(rt;
+        read(alloc, &["ecat", "scan", "--at=a:1,b:2", "--limit", "50"]),
+        Ok(Args::Scan {
+            at,
+            raw: None,
+            limit: Some(50),
+        })
+    );
+    assert_eq!(rt;
+        read(alloc, &["ecat", "scan", "--raw", "10,11"]),
+        Ok(Args::Scan {
+            at: None,
+            raw: Some("10,11"),
+            limit: None,
+        })
+    );
+}
+
+#[test]
+fn a_master_runs_as_it_is_asked(rt: HostRuntime) {
+    let alloc = rt.alloc();
+    let plain = Args::Master {
+        scene: "a.scene",
+        at: Some("a:1"),
+        raw: None,
+        cycles: None,
+        every: None,
+        limit: None,
+        outputs: None,
+        log: None,
+        stop: false,
+        recover: false,
+    };
+    assert_eq!(rt;
+        read(alloc, &["ecat", "master", "a.scene", "--at", "a:1"]),
+        Ok(plain)
+    );
+    let words = [
+        "ecat",
+        "master",
+        "a.scene",
+        "--raw",
+        "10",
+        "--cycles",
+        "7",
+        "--every",
+        "1000",
+        "--limit",
+        "2000",
+        "--outputs",
+        "count",
+        "--log",
+        "f",
+        "--stop",
+        "--recover",
+    ];
+    let all = Args::Master {
+        scene: "a.scene",
+        at: None,
+        raw: Some("10"),
+        cycles: Some(7),
+        every: Some(1000),
+        limit: Some(2000),
+        outputs: Some("count"),
+        log: Some("f"),
+        stop: true,
+        recover: true,
+    };
+    assert_eq!(rt; read(alloc, &words), Ok(all));
 }

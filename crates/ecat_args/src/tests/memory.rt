@@ -35,7 +35,7 @@ fn a_bad_number_is_found_or_memory_ran_out(rt: HostRuntime) {
 
 #[test]
 fn an_unknown_command_is_refused_or_memory_ran_out(rt: HostRuntime) {
-    let answer = read(rt.alloc(), &["ecat", "scan"]);
+    let answer = read(rt.alloc(), &["ecat", "probe"]);
     let wanted = Err(Refusal::Line(ErrorKind::InvalidSubcommand));
     assert!(rt; is_or_no_memory(answer, wanted), "{answer:?}");
 }

@@ -1,8 +1,8 @@
 //! An output that fails, each of its writes in turn.
 
+use super::assert_same;
 use super::line::{EXPECTED, ring, wanted, work};
 use super::stage::{Count, PLAN, ROOM, Stage};
-use super::assert_same;
 use crate::master;
 use std::io::{self, Cursor, Write};
 

@@ -51,9 +51,7 @@ pub fn ring(rt: &impl Abort, alloc: Global, count: u16) -> Ring
     let mut line = Vec::new(alloc);
     for place in 0..count {
         let mut slave = bare(rt, alloc, 0);
-        slave
-            .controller_mut()
-            .load(0x1100, &[0xA0 + place as u8]);
+        slave.controller_mut().load(0x1100, &[0xA0 + place as u8]);
         let pushed = line.push(slave);
         assert!(rt; pushed.is_ok());
     }

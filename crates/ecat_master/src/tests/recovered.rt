@@ -77,10 +77,7 @@ fn a_port_that_fails_is_a_fault_and_the_cycles_go_on(rt: HostRuntime) {
 fn the_first_cycle_that_is_not_good_may_be_the_last(rt: HostRuntime) {
     let events = [(2, Event::LoseA)];
     let ports = Stage::new(ring(&rt, rt.alloc(), 3), &events);
-    let plan = Plan {
-        stop: true,
-        ..PLAN
-    };
+    let plan = Plan { stop: true, ..PLAN };
     runs(
         &rt,
         ports,

@@ -219,15 +219,7 @@ pub fn runs_on<P: HeardPorts + Drop>(
         return;
     }
     let ended = master(
-        ports,
-        line,
-        work,
-        expected,
-        plan,
-        &mut pace,
-        &mut out,
-        &mut err,
-        &mut log,
+        ports, line, work, expected, plan, &mut pace, &mut out, &mut err, &mut log,
     );
     assert_same(rt, written(&out), text);
     assert_same(rt, ended, status);

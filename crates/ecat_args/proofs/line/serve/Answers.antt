@@ -13,9 +13,9 @@ returns-clause-line c =
     c.flag-forever.ensures.local in
     let control = app_of-arg c.in_ok-arg-6.ensures forever c.flag-control.ensures.rule
     c.flag-control.ensures.local in
-    let log = c.flag-log.ensures in
-    IfOk-weaker c.arg-7.result _ _ (λ r added. app_of-arg added control log.rule log.local)
-    c.arg-7.ensures
+    let log = app_of-arg c.in_ok-arg-7.ensures control c.flag-log.ensures.rule c.flag-log.ensures.local in
+    IfOk-weaker c.arg-8.result _ _ (λ r added. app_of-arg added log c.raw.ensures.rule c.raw.ensures.local)
+    c.arg-8.ensures
 
 pub returns-clause-local : goal.returns-clause-local
 returns-clause-local c =
@@ -25,5 +25,5 @@ returns-clause-local c =
     let address = has_globals-arg c.in_ok-arg-4.ensures packets c.address.ensures.local in
     let forever = has_globals-arg c.in_ok-arg-5.ensures address c.flag-forever.ensures.local in
     let control = has_globals-arg c.in_ok-arg-6.ensures forever c.flag-control.ensures.local in
-    let log = c.flag-log.ensures in
-    IfOk-weaker c.arg-7.result _ _ (λ r added. has_globals-arg added control log.local) c.arg-7.ensures
+    let log = has_globals-arg c.in_ok-arg-7.ensures control c.flag-log.ensures.local in
+    IfOk-weaker c.arg-8.result _ _ (λ r added. has_globals-arg added log c.raw.ensures.local) c.arg-8.ensures

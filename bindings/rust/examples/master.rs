@@ -1,0 +1,116 @@
+//! A master over UDP with a redundant ring: 1,000 cycles over a cable that breaks in between.
+//!
+//!     ECAT=./ecat cargo run --offline --manifest-path bindings/rust/Cargo.toml --example master [PORT]
+//!
+//! It starts `ecat serve scenes/serve/bench.scene --control`, a line of five slaves, breaks two of its links
+//! while it cycles and mends them, and prints each change of the verdict. Run it at the top of the repository.
+//! The status is 0 where the line was short for a while, and good at last.
+
+use rummymaple::{frame, join, judge, store, Fault, Form, Item, Kind, Verdict};
+use std::io::{Result, Write};
+use std::net::UdpSocket;
+use std::process::{Child, Command, Stdio};
+use std::thread::sleep;
+use std::time::Duration;
+
+const SLAVES: usize = 5;
+const ROOM: usize = 1501;
+
+/// Sockets that are connected to both ends of the line.
+struct Ports([UdpSocket; 2]);
+
+impl Ports {
+    fn connect(port: u16) -> Result<Ports> {
+        let to = |port| {
+            let socket = UdpSocket::bind("127.0.0.1:0")?;
+            socket.connect(("127.0.0.1", port))?;
+            Ok::<_, std::io::Error>(socket)
+        };
+        Ok(Ports([to(port)?, to(port + 1)?]))
+    }
+
+    /// A frame goes out at both ports, and this comes back; what is late of frames before is dropped.
+    fn travel(&self, frame: &[u8], came: &mut [[u8; ROOM]; 2]) -> Result<[usize; 2]> {
+        let mut sizes = [0; 2];
+        for socket in &self.0 {
+            socket.set_nonblocking(true)?;
+            while socket.recv(&mut came[0]).is_ok() {}
+            socket.set_nonblocking(false)?;
+            socket.set_read_timeout(Some(Duration::from_millis(200)))?;
+        }
+        for socket in &self.0 {
+            socket.send(frame)?;
+        }
+        for (port, socket) in self.0.iter().enumerate() {
+            sizes[port] = socket.recv(&mut came[port]).unwrap_or(0);
+        }
+        Ok(sizes)
+    }
+}
+
+/// One cycle: the verdict, or why nothing was joined.
+fn cycle(
+    ports: &Ports,
+    items: &mut [Item],
+    image: &mut [u8],
+) -> Result<std::result::Result<Verdict, Fault>> {
+    let (mut sent, mut joined, mut came) = ([0; ROOM], [0; ROOM], [[0; ROOM]; 2]);
+    let made = match frame(items, image, 0, &mut sent) {
+        Ok(made) => made,
+        Err(fault) => return Ok(Err(fault)),
+    };
+    let sizes = ports.travel(&sent[..made.bytes], &mut came)?;
+    let (a, b) = (&came[0][..sizes[0]], &came[1][..sizes[1]]);
+    Ok(join(Form::Udp, &sent[..made.bytes], a, b, &mut joined).and_then(|answer| {
+        let verdict = judge(items, 0, &joined[..answer.bytes])?;
+        if verdict == Verdict::Good {
+            store(items, 0, &joined[..answer.bytes], image)?;
+        }
+        Ok(verdict)
+    }))
+}
+
+/// The line: its standard input takes commands.
+fn serve(port: u16) -> Result<Child> {
+    let program = std::env::var("ECAT").unwrap_or("./ecat".into());
+    let words = ["serve", "scenes/serve/bench.scene", "--control", "--port", &port.to_string()];
+    Command::new(program).args(words).stdin(Stdio::piped()).stdout(Stdio::null()).spawn()
+}
+
+fn main() -> Result<()> {
+    let port = std::env::args().nth(1).and_then(|word| word.parse().ok()).unwrap_or(34980);
+    let mut line = serve(port)?;
+    let mut commands = line.stdin.take().expect("a pipe");
+    sleep(Duration::from_millis(500));
+    let ports = Ports::connect(port)?;
+    let (count, inputs) = (SLAVES as u16, SLAVES as u32);
+    let mut items = [
+        Item::new(Kind::Lwr, 0x10000, 0, count, count),
+        Item::new(Kind::Lrd, 0x20000, inputs, count, count),
+        Item::new(Kind::Brd, 0x0130, 2 * inputs, 2, count),
+    ];
+    let mut image = [0; 2 * SLAVES + 2];
+    let (mut before, mut short) = (None, false);
+    let _ = cycle(&ports, &mut items, &mut image)?; // the line learns who speaks at its ends
+    for k in 0..1000usize {
+        if k % 200 == 0 && k > 0 {
+            let command = ["link 2 down", "link 4 down", "link 4 up", "link 2 up"][k / 200 - 1];
+            writeln!(commands, "{command}")?;
+            commands.flush()?;
+            sleep(Duration::from_millis(100));
+        }
+        for item in &mut items {
+            item.sent = (2048 * k % 65536) as u16; // a late frame of another cycle shows in its counters
+        }
+        image[..SLAVES].fill(k as u8);
+        let told = cycle(&ports, &mut items, &mut image)?;
+        if before != Some(told) {
+            println!("cycle {k}: {told:?}, {} slaves seen", items[2].passed);
+        }
+        short |= matches!(told, Ok(Verdict::Short(_)));
+        before = Some(told);
+    }
+    drop(commands);
+    line.wait()?;
+    std::process::exit(if short && before == Some(Ok(Verdict::Good)) { 0 } else { 1 })
+}

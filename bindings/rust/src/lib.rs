@@ -1,0 +1,427 @@
+//! The proved core of an EtherCAT master, over plain data: `rummymaple.h` with Rust's types.
+//!
+//! What is proved is the library behind these calls; this crate turns its numbers into enums and its lengths
+//! into slices, by hand. No call panics, takes memory or keeps anything.
+//!
+//! ```
+//! use rummymaple::{frame, join, judge, read, store};
+//! use rummymaple::{Copies, Datagram, Fault, Form, Item, Kind, Verdict, Wrong};
+//!
+//! // One exchange of two bytes; a slave adds 3 to its counter.
+//! let mut items = [Item::new(Kind::Lrw, 0x0001_0000, 0, 2, 3)];
+//! let mut image = [0xAA, 0x55];
+//! let (mut sent, mut joined) = ([0; 1500], [0; 1500]);
+//! let made = frame(&items, &image, 0, &mut sent)?;
+//! // Copy a comes back as the slave left it, copy b is lost.
+//! let mut a = sent;
+//! (a[12], a[13], a[14]) = (0x12, 0x34, 3);
+//! let came = join(Form::Udp, &sent[..made.bytes], &a[..made.bytes], &[], &mut joined)?;
+//! assert_eq!(came.copies, Copies::only_a());
+//! assert_eq!(judge(&mut items, 0, &joined[..came.bytes])?, Verdict::Good);
+//! store(&items, 0, &joined[..came.bytes], &mut image)?;
+//! assert_eq!(image, [0x12, 0x34]);
+//!
+//! // Whatever else came can be read by itself.
+//! let mut found = [Datagram::default(); 124];
+//! assert_eq!(read(Form::Udp, &a[..made.bytes], &mut found)?, 1);
+//! assert_eq!((found[0].data, found[0].length, found[0].counter), (12, 2, 3));
+//! assert_eq!(read(Form::Udp, &a[..9], &mut found), Err(Fault::NoFrame(Wrong::Short, 9)));
+//! # Ok::<(), rummymaple::Fault>(())
+//! ```
+#![no_std]
+
+/// What an item does, by the standard's codes (IEC 61158-4-12).
+#[derive(Clone, Copy, PartialEq, Eq, Debug)]
+#[repr(u16)]
+pub enum Kind {
+    /// Reads the slave with a station address.
+    Fprd = 4,
+    /// Writes it.
+    Fpwr = 5,
+    /// Reads a register of all slaves.
+    Brd = 7,
+    /// Reads what FMMUs map to logical addresses.
+    Lrd = 10,
+    /// Writes it.
+    Lwr = 11,
+    /// Does both.
+    Lrw = 12,
+}
+
+/// How packets are framed.
+#[derive(Clone, Copy, PartialEq, Eq, Debug)]
+#[repr(u32)]
+pub enum Form {
+    /// An Ethernet payload: bytes behind the frame are padding.
+    Ethernet = 0,
+    /// A UDP payload: it ends with the frame.
+    Udp = 1,
+}
+
+/// One thing that is asked in each cycle.
+#[derive(Clone, Copy, PartialEq, Eq, Debug)]
+#[repr(C)]
+pub struct Item {
+    address: u32,
+    offset: u32,
+    length: u16,
+    kind: u16,
+    /// By how much its working counter has to move.
+    pub expected: u16,
+    /// The working counter with which it goes out.
+    pub sent: u16,
+    /// The working counter with which it came back.
+    pub came: u16,
+    /// How many slaves a broadcast read passed; of other kinds 0.
+    pub passed: u16,
+}
+
+impl Item {
+    /// An item of this kind and address, with its data at `offset` in the process image.
+    pub const fn new(kind: Kind, address: u32, offset: u32, length: u16, expected: u16) -> Item {
+        let kind = kind as u16;
+        Item { address, offset, length, kind, expected, sent: 0, came: 0, passed: 0 }
+    }
+}
+
+/// What the working counters say.
+#[derive(Clone, Copy, PartialEq, Eq, Debug)]
+pub enum Verdict {
+    /// Each has moved by what is expected.
+    Good,
+    /// The counter of this item has moved by less.
+    Short(usize),
+    /// It has moved by more.
+    Over(usize),
+}
+
+/// What came back of one copy of a frame.
+#[derive(Clone, Copy, PartialEq, Eq, Debug)]
+pub enum Came {
+    /// Nothing.
+    Lost,
+    /// A frame.
+    Frame,
+    /// Bytes that are no frame; the copy counts as lost.
+    NoFrame,
+}
+
+/// What came back of both copies.
+#[derive(Clone, Copy, PartialEq, Eq, Debug)]
+pub struct Copies {
+    /// Of copy a.
+    pub a: Came,
+    /// Of copy b.
+    pub b: Came,
+}
+
+impl Copies {
+    /// Copy a came back, and nothing of copy b.
+    pub const fn only_a() -> Copies {
+        Copies { a: Came::Frame, b: Came::Lost }
+    }
+}
+
+/// A frame that was made.
+#[derive(Clone, Copy, PartialEq, Eq, Debug)]
+pub struct Made {
+    /// How many bytes it has.
+    pub bytes: usize,
+    /// How many items it carries.
+    pub items: usize,
+}
+
+/// A frame that was joined.
+#[derive(Clone, Copy, PartialEq, Eq, Debug)]
+pub struct Joined {
+    /// How many bytes it has.
+    pub bytes: usize,
+    /// What came back of its copies.
+    pub copies: Copies,
+}
+
+/// A datagram of a frame that was read.
+#[derive(Clone, Copy, PartialEq, Eq, Debug, Default)]
+#[repr(C)]
+pub struct Datagram {
+    /// Where its data begin in the frame.
+    pub data: usize,
+    /// How many data bytes it has.
+    pub length: usize,
+    /// The logical address, or ADP plus 65,536 times ADO.
+    pub address: u32,
+    /// The working counter.
+    pub counter: u16,
+    /// The slaves' event requests, or-ed.
+    pub irq: u16,
+    /// The command by the standard's code, 0 to 14.
+    pub command: u8,
+    /// The master's number for it.
+    pub index: u8,
+    /// 1 where the frame turned round at a slave's closed port 0, else 0.
+    pub circulating: u8,
+}
+
+/// What is wrong with bytes that are no frame.
+#[derive(Clone, Copy, PartialEq, Eq, Debug)]
+pub enum Wrong {
+    /// The bytes end before the frame does.
+    Short,
+    /// The header's type is not 1.
+    BadType,
+    /// A reserved bit is set.
+    Reserved,
+    /// The header states no datagrams.
+    Empty,
+    /// The header states more than 1,498 bytes of datagrams.
+    TooLong,
+    /// A command above 14.
+    BadCommand,
+    /// A datagram's data reach past the end of the frame.
+    Overrun,
+    /// The last datagram says that more follow.
+    MoreAtEnd,
+    /// Bytes are left behind the last datagram, or too few for one more.
+    LeftOver,
+    /// Bytes follow the frame in a UDP packet.
+    Trailing,
+}
+
+/// Why a call did nothing.
+#[derive(Clone, Copy, PartialEq, Eq, Debug)]
+pub enum Fault {
+    /// Packet a is not of the sent frame: this datagram differs first.
+    StrangerA(usize),
+    /// Packet b is not of the sent frame.
+    StrangerB(usize),
+    /// The frame does not fit the room for it.
+    NoRoom,
+    /// What is said to be sent is no frame: this byte is the first at fault.
+    NotSent(usize),
+    /// What is said to be joined is no frame.
+    NotJoined(usize),
+    /// This datagram is not the answer of its item.
+    OtherItem(usize),
+    /// The bytes are no frame: what is wrong first, and at which byte.
+    NoFrame(Wrong, usize),
+    /// There are more than 256 items.
+    TooMany,
+    /// There is no item with the number at which the frame is to begin.
+    NoItem,
+    /// This item has no data, or more than 1,486 bytes.
+    BadLength(usize),
+    /// This item reaches past the addresses of its kind.
+    BadRange(usize),
+    /// The data of this item do not lie in the image.
+    BadPlace(usize),
+    /// A number that the library of this crate does not have: another library was linked.
+    Unknown(u32),
+}
+
+#[repr(C)]
+struct Framed {
+    bytes: usize,
+    items: usize,
+    at: usize,
+    code: u32,
+}
+
+#[repr(C)]
+struct JoinAnswer {
+    bytes: usize,
+    at: usize,
+    code: u32,
+    copy_a: u32,
+    copy_b: u32,
+}
+
+#[repr(C)]
+struct Reading {
+    count: usize,
+    at: usize,
+    code: u32,
+}
+
+#[repr(C)]
+struct Answer {
+    at: usize,
+    code: u32,
+}
+
+extern "C" {
+    fn rmp_frame(
+        items: *const Item,
+        n: usize,
+        image: *const u8,
+        image_size: usize,
+        first: usize,
+        room: *mut u8,
+        room_size: usize,
+    ) -> Framed;
+    fn rmp_join(
+        form: u32,
+        sent: *const u8,
+        sent_size: usize,
+        a: *const u8,
+        a_size: usize,
+        b: *const u8,
+        b_size: usize,
+        room: *mut u8,
+        room_size: usize,
+    ) -> JoinAnswer;
+    fn rmp_read(
+        form: u32,
+        bytes: *const u8,
+        size: usize,
+        room: *mut Datagram,
+        room_count: usize,
+    ) -> Reading;
+    fn rmp_judge(items: *mut Item, n: usize, first: usize, joined: *const u8, joined_size: usize)
+        -> Answer;
+    fn rmp_store(
+        items: *const Item,
+        n: usize,
+        first: usize,
+        joined: *const u8,
+        joined_size: usize,
+        image: *mut u8,
+        image_size: usize,
+    ) -> Answer;
+}
+
+/// What a code of a fault means.
+fn fault(code: u32, at: usize) -> Fault {
+    match code {
+        3 => Fault::StrangerA(at),
+        4 => Fault::StrangerB(at),
+        5 => Fault::NoRoom,
+        7 => Fault::NotSent(at),
+        8 => Fault::NotJoined(at),
+        9 => Fault::OtherItem(at),
+        10 => Fault::TooMany,
+        11 => Fault::NoItem,
+        13 => Fault::BadLength(at),
+        14 => Fault::BadRange(at),
+        15 => Fault::BadPlace(at),
+        16 => Fault::NoFrame(Wrong::Short, at),
+        17 => Fault::NoFrame(Wrong::BadType, at),
+        18 => Fault::NoFrame(Wrong::Reserved, at),
+        19 => Fault::NoFrame(Wrong::Empty, at),
+        20 => Fault::NoFrame(Wrong::TooLong, at),
+        21 => Fault::NoFrame(Wrong::BadCommand, at),
+        22 => Fault::NoFrame(Wrong::Overrun, at),
+        23 => Fault::NoFrame(Wrong::MoreAtEnd, at),
+        24 => Fault::NoFrame(Wrong::LeftOver, at),
+        25 => Fault::NoFrame(Wrong::Trailing, at),
+        _ => Fault::Unknown(code),
+    }
+}
+
+fn came(number: u32) -> Came {
+    match number {
+        0 => Came::Lost,
+        1 => Came::Frame,
+        _ => Came::NoFrame,
+    }
+}
+
+/// Puts the frame that begins with item `first` at the front of `room`.
+pub fn frame(items: &[Item], image: &[u8], first: usize, room: &mut [u8]) -> Result<Made, Fault> {
+    // SAFETY: each pointer is that of a slice of that length, and the one that is written is borrowed alone.
+    let made = unsafe {
+        let (image_size, room_size) = (image.len(), room.len());
+        rmp_frame(
+            items.as_ptr(),
+            items.len(),
+            image.as_ptr(),
+            image_size,
+            first,
+            room.as_mut_ptr(),
+            room_size,
+        )
+    };
+    match made.code {
+        0 => Ok(Made { bytes: made.bytes, items: made.items }),
+        code => Err(fault(code, made.at)),
+    }
+}
+
+/// Joins the packets that came back of the frame `sent`; a packet of length 0 is a lost copy.
+pub fn join(form: Form, sent: &[u8], a: &[u8], b: &[u8], room: &mut [u8]) -> Result<Joined, Fault> {
+    // SAFETY: each pointer is that of a slice of that length, and the one that is written is borrowed alone.
+    let joined = unsafe {
+        rmp_join(
+            form as u32,
+            sent.as_ptr(),
+            sent.len(),
+            a.as_ptr(),
+            a.len(),
+            b.as_ptr(),
+            b.len(),
+            room.as_mut_ptr(),
+            room.len(),
+        )
+    };
+    match joined.code {
+        0 => {
+            let copies = Copies { a: came(joined.copy_a), b: came(joined.copy_b) };
+            Ok(Joined { bytes: joined.bytes, copies })
+        }
+        code => Err(fault(code, joined.at)),
+    }
+}
+
+/// Judges a joined frame, whose datagrams answer the items from `first` on, and writes what came back into
+/// them.
+pub fn judge(items: &mut [Item], first: usize, joined: &[u8]) -> Result<Verdict, Fault> {
+    // SAFETY: each pointer is that of a slice of that length, and the one that is written is borrowed alone.
+    let told = unsafe { rmp_judge(items.as_mut_ptr(), items.len(), first, joined.as_ptr(), joined.len()) };
+    match told.code {
+        0 => Ok(Verdict::Good),
+        1 => Ok(Verdict::Short(told.at)),
+        2 => Ok(Verdict::Over(told.at)),
+        code => Err(fault(code, told.at)),
+    }
+}
+
+/// Puts the data of a joined frame into the image, of each item that reads.
+pub fn store(items: &[Item], first: usize, joined: &[u8], image: &mut [u8]) -> Result<(), Fault> {
+    // SAFETY: each pointer is that of a slice of that length, and the one that is written is borrowed alone.
+    let told = unsafe {
+        let (joined_size, image_size) = (joined.len(), image.len());
+        rmp_store(
+            items.as_ptr(),
+            items.len(),
+            first,
+            joined.as_ptr(),
+            joined_size,
+            image.as_mut_ptr(),
+            image_size,
+        )
+    };
+    match told.code {
+        0 => Ok(()),
+        code => Err(fault(code, told.at)),
+    }
+}
+
+/// Reads the bytes of a frame: puts its datagrams at the front of `room`, and answers how many they are. Room
+/// for 124 suffices for each frame.
+pub fn read(form: Form, bytes: &[u8], room: &mut [Datagram]) -> Result<usize, Fault> {
+    // SAFETY: each pointer is that of a slice of that length, and the one that is written is borrowed alone.
+    let told = unsafe {
+        let (size, count) = (bytes.len(), room.len());
+        rmp_read(form as u32, bytes.as_ptr(), size, room.as_mut_ptr(), count)
+    };
+    match told.code {
+        0 => Ok(told.count),
+        code => Err(fault(code, told.at)),
+    }
+}
+
+const _: () = assert!(core::mem::size_of::<Item>() == 20);
+const _: () = assert!(core::mem::size_of::<Datagram>() == 32);
+const _: () = assert!(core::mem::size_of::<Reading>() == 24);
+const _: () = assert!(core::mem::size_of::<Framed>() == 32);
+const _: () = assert!(core::mem::size_of::<JoinAnswer>() == 32);
+const _: () = assert!(core::mem::size_of::<Answer>() == 16);

@@ -1,0 +1,227 @@
+//! A line that lies somewhere else: the master that runs on it, and what it is asked.
+
+ghost use Rattle.std.specs.Prelude.{◌≡◌, length};
+
+use crate::act::{Failure, report};
+use crate::cycle::work_of;
+use crate::line::{ring_of, scene_for_packets};
+use arrayvec::ArrayVec;
+use ec_master::{MAX_ITEMS, Ports, Work, all_expected};
+use ec_ring::HeardPorts;
+use ec_wire::{Command, Datagram, FrameBuf};
+use ecat_far::{FarPorts, OpenFault, UdpCarrier, ends_of};
+use ecat_master::{Pace, Plan, ScanEnd, Wanted, Watched, master, scan, wanted_of};
+use ecat_raw::{Descriptors, RawCarrier, descriptors_of};
+use ecat_source::Source;
+use ecat_text::{GOOD, Lines, REFUSED, refuse};
+use std::alloc::Global;
+use std::io::Write;
+use std::net::Net;
+use std::time::Duration;
+
+/// How long a copy is waited for by UDP where the words don't say, in microseconds.
+const LIMIT: u32 = 20_000;
+
+/// How long it is waited for at a network interface.
+const RAW_LIMIT: u32 = 2_000;
+
+/// How a line is reached that lies somewhere else.
+#[derive(Clone, Copy)]
+pub enum Reach<'a> {
+    /// By UDP, at `HOST:PORT` or two of them with a comma between.
+    At(&'a str),
+    /// By network interfaces, through packet sockets.
+    Raw(Descriptors),
+}
+
+impl<'a> Reach<'a> {
+    /// How the words say that it is reached: in one of both ways.
+    pub fn of(at: Option<&'a str>, raw: Option<&'a str>) -> Result<Reach<'a>, Failure> {
+        match (at, raw) {
+            (Some(at), None) => Ok(Reach::At(at)),
+            (None, Some(raw)) => match descriptors_of(raw) {
+                Some(descriptors) => Ok(Reach::Raw(descriptors)),
+                None => Err(Failure::Descriptors),
+            },
+            _ => Err(Failure::Reach),
+        }
+    }
+}
+
+impl From<OpenFault> for Failure {
+    fn from(fault: OpenFault) -> Failure {
+        Failure::Far(fault)
+    }
+}
+
+impl From<ScanEnd> for Failure {
+    fn from(end: ScanEnd) -> Failure {
+        match end {
+            ScanEnd::Output => Failure::Output,
+            ScanEnd::Ask(fault) => Failure::Asked(fault),
+        }
+    }
+}
+
+/// The two ports of a master whose line lies there, `HOST:PORT` or two of them with a comma between; a copy
+/// is waited for so many microseconds. A first frame that asks nothing has gone out from each, so that
+/// whoever serves the line knows where both are.
+pub fn far_ports(
+    net: &impl Net,
+    at: &str,
+    limit: Option<u32>,
+) -> Result<FarPorts<UdpCarrier>, Failure> {
+    let carrier = UdpCarrier::open(net, ends_of(at), patience(limit, LIMIT))?;
+    let mut ports = FarPorts::new(carrier);
+    let _ = ports.trip(&greeting());
+    Ok(ports)
+}
+
+/// The two ports of a master at packet sockets.
+pub fn raw_ports(
+    descriptors: Descriptors,
+    limit: Option<u32>,
+) -> Result<FarPorts<RawCarrier>, Failure> {
+    match RawCarrier::open(descriptors, patience(limit, RAW_LIMIT)) {
+        Ok(carrier) => Ok(FarPorts::new(carrier)),
+        Err(fault) => Err(Failure::Raw(fault)),
+    }
+}
+
+/// How long a copy is waited for: so many microseconds, or as many as are usual.
+fn patience(limit: Option<u32>, usual: u32) -> Duration {
+    Duration::from_micros(u64::from(limit.unwrap_or(usual)))
+}
+
+/// A frame that asks nothing: each slave passes it on as it is.
+fn greeting() -> FrameBuf {
+    let mut payload = ArrayVec::new();
+    let _ = payload.try_extend_from_slice(&[0; 2]);
+    FrameBuf::of(&Datagram {
+        command: Command::Nop,
+        index: 0,
+        address: 0,
+        circulating: false,
+        irq: 0,
+        payload,
+        counter: 0,
+    })
+}
+
+/// What a master does on a line: what the slaves are to be told, what each cycle asks, and how far the
+/// counters of its items are to move.
+#[derive(Drop)]
+pub struct Course {
+    line: Vec<Wanted>,
+    work: Work,
+    expected: [u16; MAX_ITEMS],
+}
+
+/// Reads and checks the scene that the source holds, before any socket is opened. Where there is nothing to
+/// cycle on, reports why and answers the exit status.
+pub fn course_of<S, W, V>(
+    alloc: Global,
+    source: &mut S,
+    out: &mut W,
+    err: &mut V,
+) -> Result<Course, u8>
+where
+    S: Source,
+    W: Write,
+    V: Write,
+{
+    match checked_course(alloc, source, out) {
+        Ok(Some(course)) => Ok(course),
+        Ok(None) => Err(REFUSED),
+        Err(failure) => Err(report(&failure, out, err)),
+    }
+}
+
+/// The course of the scene that the source holds, if it has items and its line and they are accepted; else it
+/// is printed why not.
+fn checked_course<S: Source, W: Write>(
+    alloc: Global,
+    source: &mut S,
+    out: &mut W,
+) -> Result<Option<Course>, Failure> {
+    let scene = scene_for_packets(alloc, source)?;
+    let ring = ring_of(alloc, scene.slaves, &[])?;
+    let mut lines = Lines::new(out);
+    if scene.items.is_empty() {
+        lines.text("no items: nothing to cycle on")?;
+        lines.end()?;
+        return Ok(None);
+    }
+    if refuse(ring.slaves(), scene.items.as_slice(), &mut lines)? {
+        return Ok(None);
+    }
+    let work = work_of(scene.items)?;
+    let expected = all_expected(ring.slaves(), &work);
+    match wanted_of(alloc, ring.slaves()) {
+        Ok(line) => Ok(Some(Course {
+            line,
+            work,
+            expected,
+        })),
+        Err(_) => Err(Failure::NoMemory),
+    }
+}
+
+/// Brings up a line over two ports and cycles on it, and answers the exit status. It takes no memory.
+pub fn act_master<P, T, W, V, L>(
+    course: Course,
+    ports: P,
+    plan: &Plan,
+    pace: &mut T,
+    out: &mut W,
+    err: &mut V,
+    log: &mut L,
+) -> u8
+where
+    P: HeardPorts + Drop,
+    T: Pace,
+    W: Write,
+    V: Write,
+    L: Write,
+{
+    let Course {
+        line,
+        work,
+        expected,
+    } = course;
+    let count = work.len();
+    master(
+        ports,
+        line.as_slice(),
+        work,
+        &expected[..count],
+        plan,
+        pace,
+        out,
+        err,
+        log,
+    )
+}
+
+/// Prints what slaves stand on a line, and answers the exit status.
+pub fn act_scan<P, W, V>(ports: P, out: &mut W, err: &mut V) -> u8
+where
+    P: HeardPorts + Drop,
+    W: Write,
+    V: Write,
+{
+    match scanned(ports, out) {
+        Ok(status) => status,
+        Err(failure) => report(&failure, out, err),
+    }
+}
+
+/// Prints what slaves stand on a line; the status says whether all could be read.
+fn scanned<P: HeardPorts + Drop, W: Write>(ports: P, out: &mut W) -> Result<u8, Failure> {
+    let mut lines = ecat_master::Lines::new(out);
+    if scan(&mut Watched::new(ports), &mut lines)? {
+        Ok(GOOD)
+    } else {
+        Ok(REFUSED)
+    }
+}

@@ -1,0 +1,71 @@
+//! `ecat list`: the datagrams of a capture, a line each.
+
+use crate::act::{Failure, report};
+use ecat_list::{Asked, Form, Listed, list};
+use ecat_source::Source;
+use ecat_text::{FAILED, GOOD, REFUSED};
+use std::alloc::Global;
+use std::io::Write;
+
+/// What the words of `list` say but for its file.
+#[derive(Clone, Copy)]
+pub struct Wanted {
+    asked: Asked,
+}
+
+impl Wanted {
+    /// What is listed; of several forms the sums go before the faults, and those before values with commas.
+    /// Where somebody watches, he is told how far it is.
+    pub fn of(csv: bool, faults: bool, stats: bool, is_watched: bool) -> Wanted {
+        let form = if stats {
+            Form::Stats
+        } else if faults {
+            Form::Faults
+        } else if csv {
+            Form::Csv
+        } else {
+            Form::Lines
+        };
+        Wanted {
+            asked: Asked {
+                form,
+                live: false,
+                progress: is_watched,
+            },
+        }
+    }
+
+    /// What is listed while the capture is still written: each packet at once.
+    pub fn live(self) -> Wanted {
+        Wanted {
+            asked: Asked {
+                live: true,
+                progress: false,
+                ..self.asked
+            },
+        }
+    }
+}
+
+/// Lists the capture that the source holds, and answers the exit status: that of a refusal where the capture
+/// is damaged. Whoever reads the output may close it.
+pub fn act_list<S, W, V>(alloc: Global, wanted: Wanted, source: S, out: &mut W, err: &mut V) -> u8
+where
+    S: Source + Drop,
+    W: Write,
+    V: Write,
+{
+    match list(alloc, source, wanted.asked, out, err) {
+        Listed::Whole | Listed::Closed => GOOD,
+        Listed::Damaged(fault) => {
+            let _ = writeln!(err, "capture: {fault}");
+            REFUSED
+        }
+        Listed::SourceFailed => report(&Failure::Read, out, err),
+        Listed::OutputFailed => report(&Failure::Output, out, err),
+        Listed::NoMemory => {
+            let _ = err.write_all(b"capture: NoMemory\n");
+            FAILED
+        }
+    }
+}

@@ -1,0 +1,363 @@
+//! The commands that open sockets, a clock or a file of their own.
+
+use crate::act::{Failure, act, report};
+use crate::control::act_control;
+use crate::far::{Course, Reach, act_master, act_scan, course_of, far_ports, raw_ports};
+use crate::sdo::{Asked, sdo_far};
+use crate::serve::{Service, act_serve, ring_to_serve, unbound};
+use crate::udp::{Wanted, act_udp, prepare_udp};
+use crate::where_broken::where_far;
+use ec_ring::Ring;
+use ecat_args::Args;
+use ecat_master::{Outputs, Plan};
+use ecat_pace::{Beat, Ending};
+use ecat_raw::{Descriptors, RawEnds, descriptors_of};
+use ecat_serve::UdpEnds;
+use ecat_source::Source;
+use ecat_udp::UdpLine;
+use std::net::Net;
+use std::rt::{Clock, Files, Stdin};
+use std::time::Duration;
+use std::{fs, io};
+
+/// What somebody at a terminal has.
+#[derive(Drop)]
+pub struct Console {
+    /// Standard input.
+    pub input: Stdin,
+    /// Whether standard error is a terminal.
+    pub is_watched: bool,
+}
+
+/// What the words of `master` say but for its scene.
+#[derive(Clone, Copy)]
+struct Running<'a> {
+    reach: Reach<'a>,
+    cycles: Option<u32>,
+    every: Option<u32>,
+    limit: Option<u32>,
+    log: Option<&'a str>,
+    plan: Plan,
+}
+
+/// Does a command, whose file is open as `source`, and answers the exit status.
+pub fn over_sockets<R, S, W, V>(
+    rt: &R,
+    args: &Args<'_>,
+    console: Console,
+    source: &mut S,
+    out: &mut W,
+    err: &mut V,
+) -> u8
+where
+    R: Clock + Files + Net + AllocGlobal,
+    S: Source,
+    W: io::Write,
+    V: io::Write,
+{
+    match args {
+        Args::Udp { port, judge, .. } => {
+            let wanted = Wanted {
+                port: *port,
+                judge: *judge,
+            };
+            udp_at(rt, wanted, source, out, err)
+        }
+        Args::Serve {
+            port,
+            packets,
+            address,
+            forever,
+            control,
+            log,
+            raw,
+            ..
+        } => {
+            let Some(raw) = raw_of(*raw) else {
+                return report(&Failure::Descriptors, out, err);
+            };
+            let service = Service {
+                address: *address,
+                port: *port,
+                packets: *packets,
+                forever: *forever,
+                control: *control,
+                log: *log,
+                raw,
+            };
+            serve_at(rt, service, console.input, source, out, err)
+        }
+        Args::Master {
+            at,
+            raw,
+            cycles,
+            every,
+            limit,
+            outputs,
+            log,
+            stop,
+            recover,
+            ..
+        } => {
+            let Some(outputs) = outputs_of(*outputs) else {
+                return report(&Failure::Outputs, out, err);
+            };
+            let reach = match Reach::of(*at, *raw) {
+                Ok(reach) => reach,
+                Err(failure) => return report(&failure, out, err),
+            };
+            let running = Running {
+                reach,
+                cycles: *cycles,
+                every: *every,
+                limit: *limit,
+                log: *log,
+                plan: Plan {
+                    outputs,
+                    stop: *stop,
+                    recover: *recover,
+                    progress: console.is_watched,
+                    log: log.is_some(),
+                },
+            };
+            master_at(rt, running, console.input, source, out, err)
+        }
+        Args::Scan { at, raw, limit } => match Reach::of(*at, *raw) {
+            Ok(reach) => scan_at(rt, reach, *limit, out, err),
+            Err(failure) => report(&failure, out, err),
+        },
+        Args::Where { at: Some(at), .. } => {
+            let done = match far_ports(rt, at, None) {
+                Ok(mut ports) => where_far(rt.alloc(), &mut ports, source, out),
+                Err(failure) => Err(failure),
+            };
+            status_of(done, out, err)
+        }
+        Args::Sdo {
+            station,
+            index,
+            sub,
+            value,
+            surely,
+            at: Some(at),
+            ..
+        } => {
+            let asked = Asked::of(*station, *index, *sub, *value, *surely);
+            let done = match far_ports(rt, at, None) {
+                Ok(mut ports) => sdo_far(rt.alloc(), &asked, &mut ports, source, out),
+                Err(failure) => Err(failure),
+            };
+            status_of(done, out, err)
+        }
+        _ => act(rt.alloc(), args, source, out, err),
+    }
+}
+
+/// The packet sockets that a word names, if there is one; `None` where it names none.
+fn raw_of(word: Option<&str>) -> Option<Option<Descriptors>> {
+    match word {
+        None => Some(None),
+        Some(word) => Some(Some(descriptors_of(word)?)),
+    }
+}
+
+/// Asks the slaves of a line somewhere else what they are.
+fn scan_at<R, W, V>(rt: &R, reach: Reach<'_>, limit: Option<u32>, out: &mut W, err: &mut V) -> u8
+where
+    R: Net,
+    W: io::Write,
+    V: io::Write,
+{
+    match reach {
+        Reach::At(at) => match far_ports(rt, at, limit) {
+            Ok(ports) => act_scan(ports, out, err),
+            Err(failure) => report(&failure, out, err),
+        },
+        Reach::Raw(descriptors) => match raw_ports(descriptors, limit) {
+            Ok(ports) => act_scan(ports, out, err),
+            Err(failure) => report(&failure, out, err),
+        },
+    }
+}
+
+/// What the outputs of a master are to be: those of its scene, or a number that grows.
+fn outputs_of(word: Option<&str>) -> Option<Outputs> {
+    match word {
+        None => Some(Outputs::Kept),
+        Some(word) if word == "count" => Some(Outputs::Count),
+        Some(_) => None,
+    }
+}
+
+/// The exit status of what was done; reports why where it was not.
+fn status_of<W, V>(done: Result<u8, Failure>, out: &mut W, err: &mut V) -> u8
+where
+    W: io::Write,
+    V: io::Write,
+{
+    match done {
+        Ok(status) => status,
+        Err(failure) => report(&failure, out, err),
+    }
+}
+
+/// Brings the line of a scene to Op, where it lies, and cycles on it. The sockets and the log are opened once
+/// it is known that there is something to cycle on.
+fn master_at<R, S, W, V>(
+    rt: &R,
+    running: Running<'_>,
+    input: Stdin,
+    source: &mut S,
+    out: &mut W,
+    err: &mut V,
+) -> u8
+where
+    R: Clock + Files + Net + AllocGlobal,
+    S: Source,
+    W: io::Write,
+    V: io::Write,
+{
+    let course = match course_of(rt.alloc(), source, out, err) {
+        Ok(course) => course,
+        Err(status) => return status,
+    };
+    match running.log {
+        None => run_master(rt, course, running, input, out, err, &mut io::sink()),
+        Some(path) => match fs::create(rt, path) {
+            Ok(mut log) => run_master(rt, course, running, input, out, err, &mut log),
+            Err(_) => report(&Failure::Log, out, err),
+        },
+    }
+}
+
+/// Opens the sockets and the clock of a master, and has it run.
+fn run_master<R, W, V, L>(
+    rt: &R,
+    course: Course,
+    running: Running<'_>,
+    input: Stdin,
+    out: &mut W,
+    err: &mut V,
+    log: &mut L,
+) -> u8
+where
+    R: Clock + Net + AllocGlobal,
+    W: io::Write,
+    V: io::Write,
+    L: io::Write,
+{
+    let Ok(mut beat) = beat_of(rt, running, input) else {
+        return report(&Failure::Clock, out, err);
+    };
+    match running.reach {
+        Reach::At(at) => match far_ports(rt, at, running.limit) {
+            Ok(ports) => act_master(course, ports, &running.plan, &mut beat, out, err, log),
+            Err(failure) => report(&failure, out, err),
+        },
+        Reach::Raw(descriptors) => match raw_ports(descriptors, running.limit) {
+            Ok(ports) => act_master(course, ports, &running.plan, &mut beat, out, err, log),
+            Err(failure) => report(&failure, out, err),
+        },
+    }
+}
+
+/// The beat of a master's cycles, which end after as many as the words say, or with the input.
+fn beat_of<'a, R>(rt: &'a R, running: Running<'_>, input: Stdin) -> io::Result<Beat<'a, R, Stdin>>
+where
+    R: Clock + Net + AllocGlobal,
+{
+    let ending = match running.cycles {
+        Some(_) => None,
+        None => Some(Ending::of(rt, rt.alloc(), input)?),
+    };
+    let every = match running.every {
+        Some(micros) => Some(Duration::from_micros(u64::from(micros))),
+        None => None,
+    };
+    Beat::new(rt, every, running.cycles, ending)
+}
+
+/// Does the work of a scene over sockets, which are opened once it is known that there is work.
+fn udp_at<R, S, W, V>(rt: &R, wanted: Wanted, source: &mut S, out: &mut W, err: &mut V) -> u8
+where
+    R: Net + AllocGlobal,
+    S: Source,
+    W: io::Write,
+    V: io::Write,
+{
+    let prepared = match prepare_udp(rt.alloc(), source, out, err) {
+        Ok(prepared) => prepared,
+        Err(status) => return status,
+    };
+    match UdpLine::bind(rt, wanted.port) {
+        Ok(line) => act_udp(prepared, wanted.judge, line, out, err),
+        Err(_) => report(&Failure::Bind, out, err),
+    }
+}
+
+/// Serves the line of a scene. Its ends are opened once it is known that there is one. The service ends with
+/// the input where that has commands, or where it is not left alone.
+fn serve_at<R, S, W, V>(
+    rt: &R,
+    service: Service,
+    input: Stdin,
+    source: &mut S,
+    out: &mut W,
+    err: &mut V,
+) -> u8
+where
+    R: Net + AllocGlobal,
+    S: Source,
+    W: io::Write,
+    V: io::Write,
+{
+    let ring = match ring_to_serve(rt.alloc(), source, out, err) {
+        Ok(ring) => ring,
+        Err(status) => return status,
+    };
+    let awaited = if service.awaits_input() {
+        Some(input)
+    } else {
+        None
+    };
+    if let Some(descriptors) = service.raw {
+        return serve_raw(rt, service, descriptors, awaited, ring, out, err);
+    }
+    let mut ends = match UdpEnds::bind(rt, rt.alloc(), service.address, service.port, awaited) {
+        Ok(ends) => ends,
+        Err(fault) => return report(&unbound(fault), out, err),
+    };
+    if service.control {
+        ends.keep_lines();
+        act_control(rt.alloc(), ring, service, &mut ends, out, err)
+    } else {
+        act_serve(ring, service, &mut ends, out, err)
+    }
+}
+
+/// Serves a ring at packet sockets.
+fn serve_raw<R, W, V>(
+    rt: &R,
+    service: Service,
+    descriptors: Descriptors,
+    awaited: Option<Stdin>,
+    ring: Ring,
+    out: &mut W,
+    err: &mut V,
+) -> u8
+where
+    R: Net + AllocGlobal,
+    W: io::Write,
+    V: io::Write,
+{
+    let mut ends = match RawEnds::open(rt, rt.alloc(), descriptors, awaited) {
+        Ok(ends) => ends,
+        Err(fault) => return report(&Failure::Raw(fault), out, err),
+    };
+    if service.control {
+        ends.keep_lines();
+        act_control(rt.alloc(), ring, service, &mut ends, out, err)
+    } else {
+        act_serve(ring, service, &mut ends, out, err)
+    }
+}

@@ -1,0 +1,52 @@
+//! Lines at network interfaces, by packet sockets that the program was started with.
+
+ghost use Rattle.std.specs.Prelude.{Some};
+ghost use Rattle.ecat.specs.Raw.{raw_fault_words, raw_where_words};
+
+use ecat_raw::{Descriptors, RawFault};
+use ecat_text::PortText;
+use std::fmt;
+
+/// Why packet sockets are of no use, as it is printed.
+#[derive(Drop)]
+pub struct RawFaultText(pub RawFault);
+
+impl fmt::Display for RawFaultText {
+    ghost output = { λ text. Some (raw_fault_words text.0) };
+
+    fn fmt<W: fmt::Write>(&self, f: &mut fmt::Formatter<W>) -> fmt::Result {
+        match self.0 {
+            RawFault::NotOpen(at) => {
+                let at = PortText(at);
+                write!(f, "nothing is open for end {at}")
+            }
+            RawFault::NoPacketSocket(at) => {
+                let at = PortText(at);
+                write!(f, "no packet socket for end {at}")
+            }
+            RawFault::NotBound(at) => {
+                let at = PortText(at);
+                write!(f, "no packet socket of type 0x88A4 for end {at}")
+            }
+            RawFault::Twice => write!(f, "both ends have one descriptor"),
+            RawFault::NotWatched => write!(f, "no wait for packets"),
+            RawFault::NoMemory => write!(f, "NoMemory"),
+        }
+    }
+}
+
+/// At which descriptors a line is served, as it is printed.
+#[derive(Drop)]
+pub struct RawWhereText(pub Descriptors);
+
+impl fmt::Display for RawWhereText {
+    ghost output = { λ text. Some (raw_where_words text.0) };
+
+    fn fmt<W: fmt::Write>(&self, f: &mut fmt::Formatter<W>) -> fmt::Result {
+        let a = self.0.a;
+        match self.0.b {
+            Some(b) => write!(f, "serving A descriptor {a} B descriptor {b}"),
+            None => write!(f, "serving A descriptor {a}"),
+        }
+    }
+}

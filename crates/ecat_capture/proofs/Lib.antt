@@ -1,0 +1,4 @@
+pub mod Consuming
+pub mod Fronts
+pub mod Options
+pub mod Reasons

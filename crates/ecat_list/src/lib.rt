@@ -1,0 +1,35 @@
+#![tactic(auto)]
+//! The texts of `ecat list`: the datagrams of a capture, a line each, or what is wrong in it, or how often
+//! each datagram went by.
+//!
+//! Whoever looks for the one wrong working counter among a million has grep, awk and a spreadsheet; they want
+//! columns. One use, which `tests/lines.rt` tries:
+//!
+//! ```text
+//! let asked = Asked {
+//!     form: Form::Lines,
+//!     live: false,
+//!     progress: false,
+//! };
+//! let listed = list(rt.alloc(), Bytes::new(&FILE), asked, &mut out, &mut err);
+//! ```
+//!
+//! ```text
+//! 1 0.000000 02:01:05:10:00:00 0 LRW 0x00010000 4 wkc 3 00112233
+//! 2 0.001000 02:01:05:10:00:00 - fault Short at 12
+//! ```
+//!
+//! What is promised: a number's text (`text.rt`), the words of an address, and that the counts of `Stats` add
+//! up to the datagrams that it took (`Stats::take`).
+
+mod address;
+mod line;
+mod listing;
+mod output;
+mod stats;
+mod text;
+
+pub use listing::{Asked, Form, Listed, list};
+
+#[cfg(test)]
+mod tests;

@@ -1,0 +1,6 @@
+pub mod ReadLemmas
+pub mod CycleLemmas
+pub mod AnswerLemmas
+pub mod CutLemmas
+pub mod ItemLemmas
+pub mod JoinLemmas

@@ -1,0 +1,58 @@
+#![tactic(auto)]
+//! The core of an EtherCAT master for masters that are written in another language: a static library over
+//! plain data of the caller's, with `include/rummymaple.h` for C and `bindings/rust` for Rust. It takes no
+//! memory, keeps nothing between calls, and every call ends and answers, whatever bytes and numbers it is
+//! given.
+//!
+//! A master's cycle, split where a master splits it (`tests/door.rt` tries it):
+//!
+//! ```text
+//! let made = rmp_frame(&items, &image, 0, &mut sent);
+//! // .. the frame goes out both ways round the ring, and packets come back ..
+//! let came = rmp_join(UDP, &sent[..made.bytes], &a, &b, &mut joined);
+//! let verdict = rmp_judge(&mut items, 0, &joined[..came.bytes]);
+//! let stored = rmp_store(&items, 0, &joined[..came.bytes], &mut image);
+//! ```
+//!
+//! What is promised, each in the words of the crates that say what a cycle is:
+//!
+//! - [`rmp_frame`]: the bytes spell the frame of the cut of the items (`ec_master`, `frame_at`), each item
+//!   with its data from the image;
+//! - [`rmp_join`]: a packet is a copy exactly where it spells a frame (`ec_wire`, `IsSpelt`); the bytes spell
+//!   the joined frame (`ec_merge`, `joined_frame`), or the stranger is named (`IsFault`);
+//! - [`rmp_judge`]: the verdict is that on the items' counters (`ec_master`, `verdict_from`), and only what
+//!   came back is written into the items;
+//! - [`rmp_store`]: the image gets the data of those items that read, and nothing else;
+//! - [`rmp_read`]: the datagrams of the frame that the bytes spell and where their data lie, or the first
+//!   fault with its place (`ec_wire`, `IsFirstFault`);
+//! - [`calls_are_a_cycle`]: where every verdict is good, the calls in their order are a good cycle of
+//!   `ec_master::run_cycle` over ports that give what came, with all that this certifies.
+//!
+//! Each export answers by a struct of numbers, and its contract says of which end they are the numbers
+//! (`Join`, `Frame`, `Judge` and `Read` of specs/). What an item is stands in `Items`, what a joined frame
+//! gives it in `Answers`, and the calls in their order in `Cycle`. A call needs less than 8 KB of stack:
+//! nothing that has the size of a frame is moved or made twice where it can stay in its place.
+
+mod answered;
+mod frame;
+mod item;
+mod join;
+mod joining;
+mod judge;
+mod numbers;
+mod packet;
+mod promises;
+mod read;
+mod store;
+
+pub use frame::{FrameAnswer, FrameEnd, rmp_frame};
+pub use item::{Item, MAX_ITEMS};
+pub use join::{Join, JoinAnswer, JoinEnd, rmp_join};
+pub use judge::{ItemAnswer, JudgeEnd, rmp_judge};
+pub use numbers::{Code, Copy};
+pub use promises::calls_are_a_cycle;
+pub use read::{DatagramPlace, ReadAnswer, ReadEnd, rmp_read};
+pub use store::{StoreEnd, rmp_store};
+
+#[cfg(test)]
+mod tests;

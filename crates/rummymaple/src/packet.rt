@@ -1,0 +1,23 @@
+//! A frame's bytes put into the caller's room.
+
+ghost use Rattle.std.specs.Prelude.{◌≡◌, ◌<◌, IfSome, IfNone, length};
+ghost use Rattle.ec_wire.specs.Spelling.{spelling};
+ghost use Rattle.rummymaple.specs.Join.{IsPut};
+
+use ec_wire::FrameBuf;
+
+/// Puts the frame's bytes at the front of the room and says how many they are, or leaves a room that is too
+/// small as it is.
+pub(crate) fn put_frame(frame: &FrameBuf, room: &mut [u8]) -> Option<usize>
+    ensures put { IfSome result (λ count. IsPut (spelling frame.now) room.old count room.new) }
+    ensures no_room { IfNone result (length room.old < length (spelling frame.now)) }
+    ensures kept { IfNone result (room.new ≡ room.old) }
+{
+    let bytes = frame.bytes();
+    let count = bytes.len();
+    if room.len() < count {
+        return None;
+    }
+    room[..count].copy_from_slice(bytes);
+    Some(count)
+}

@@ -1,0 +1,256 @@
+/*
+ * rummymaple.h: the proved core of an EtherCAT master, for masters in C (C11) and C++ (C++17).
+ *
+ * Four calls, in the order of a cycle, and a reader. Between the calls the master does what it likes: it
+ * sends each frame both ways round the ring, works, and receives.
+ *
+ *     for (first = 0; first < n; first += made.items) {
+ *         made = rmp_frame(items, n, image, sizeof image, first, sent, sizeof sent);
+ *         ... send sent[0 .. made.bytes] from both ports, and receive the packets a and b ...
+ *         came = rmp_join(RMP_UDP, sent, made.bytes, a, a_size, b, b_size, joined, sizeof joined);
+ *         verdict = rmp_judge(items, n, first, joined, came.bytes);
+ *     }
+ *     ... and where each frame's verdict is RMP_GOOD, of each frame:
+ *     rmp_store(items, n, first, joined, came.bytes, image, sizeof image);
+ *
+ * The library has no state, takes no memory and calls nothing but memcpy, memmove and memset. Each call ends,
+ * whatever the bytes and numbers are, and answers by a code. All numbers are the host's own; bytes of frames
+ * are as on the wire. NULL with length 0 is an array of no elements. Two calls may run at once, unless one
+ * writes what the other uses; the arrays of one call must not overlap where one of them is written.
+ *
+ * "Proved" says: the library's source has been checked against this contract by a prover, for all inputs.
+ * This header, the compiler and the caller's pointers are trusted. docs/LIBRARY.md has the whole of it.
+ */
+#ifndef RUMMYMAPLE_H
+#define RUMMYMAPLE_H
+
+#include <stddef.h>
+#include <stdint.h>
+
+#ifdef __cplusplus
+extern "C" {
+#endif
+
+/* The most bytes of a frame, without the Ethernet or UDP header before it. */
+#define RMP_FRAME_SIZE 1500
+
+/* The most items of a master. */
+#define RMP_MAX_ITEMS 256
+
+/* The most datagrams of a frame. */
+#define RMP_MAX_DATAGRAMS 124
+
+/* The most data bytes of an item. */
+#define RMP_MAX_DATA 1486
+
+/* How a call ended: the member `code` of each answer. */
+enum rmp_code {
+    RMP_GOOD = 0,       /* done; of rmp_judge: each counter moved by what is expected */
+    RMP_SHORT = 1,      /* the counter of item `at` moved by less: some slave did not take part */
+    RMP_OVER = 2,       /* the counter of item `at` moved by more */
+    RMP_STRANGER_A = 3, /* packet a is a frame, but not of the sent one: datagram `at` differs first */
+    RMP_STRANGER_B = 4, /* packet b is, and packet a is not a stranger */
+    RMP_NO_ROOM = 5,    /* the frame does not fit the room for it */
+    RMP_BAD_FORM = 6,   /* there is no such form */
+    RMP_NOT_SENT = 7,   /* what is said to be sent is no frame: byte `at` is the first at fault */
+    RMP_NOT_JOINED = 8, /* what is said to be joined is no frame: byte `at` is the first at fault */
+    RMP_OTHER_ITEM = 9, /* datagram `at` is not the answer of its item, by command, index or length */
+    RMP_TOO_MANY = 10,  /* more than RMP_MAX_ITEMS items */
+    RMP_NO_ITEM = 11,   /* there is no item `first` */
+    RMP_BAD_KIND = 12,  /* item `at` has no kind of enum rmp_kind */
+    RMP_BAD_LENGTH = 13, /* item `at` has no data, or more than RMP_MAX_DATA bytes */
+    RMP_BAD_RANGE = 14, /* item `at` ends past 2^32, or past 0x0FFF (BRD), or past 0x2FFF (FPRD, FPWR) */
+    RMP_BAD_PLACE = 15, /* the data of item `at` do not lie in the image */
+    /* of rmp_read, byte `at` being the first at fault: */
+    RMP_FAULT_SHORT = 16,       /* the bytes end before the frame does */
+    RMP_FAULT_BAD_TYPE = 17,    /* the header's type is not 1 */
+    RMP_FAULT_RESERVED = 18,    /* a reserved bit is set */
+    RMP_FAULT_EMPTY = 19,       /* the header states no datagrams */
+    RMP_FAULT_TOO_LONG = 20,    /* the header states more than 1,498 bytes of datagrams */
+    RMP_FAULT_BAD_COMMAND = 21, /* a command above 14 */
+    RMP_FAULT_OVERRUN = 22,     /* a datagram's data reach past the end of the frame */
+    RMP_FAULT_MORE_AT_END = 23, /* the last datagram says that more follow */
+    RMP_FAULT_LEFT_OVER = 24,   /* bytes are left behind the last datagram, or too few for one more */
+    RMP_FAULT_TRAILING = 25     /* bytes follow the frame in a UDP packet */
+};
+
+/* What an item does: the codes of its commands on the wire (IEC 61158-4-12). */
+enum rmp_kind {
+    RMP_FPRD = 4, /* reads the slave with a station address */
+    RMP_FPWR = 5, /* writes it */
+    RMP_BRD = 7,  /* reads a register of all slaves; its data come back or-ed */
+    RMP_LRD = 10, /* reads what FMMUs map to logical addresses */
+    RMP_LWR = 11, /* writes it */
+    RMP_LRW = 12  /* does both */
+};
+
+/* How packets are framed. */
+enum rmp_form {
+    RMP_ETHERNET = 0, /* an Ethernet payload: bytes behind the frame are padding */
+    RMP_UDP = 1       /* a UDP payload: it ends with the frame */
+};
+
+/* What came back of one copy of a frame. */
+enum rmp_copy {
+    RMP_LOST = 0,    /* nothing came: the packet has length 0 */
+    RMP_CAME = 1,    /* a frame came */
+    RMP_NO_FRAME = 2 /* what came is no frame, and counts as lost */
+};
+
+/* One thing that is asked in each cycle. The master fills in all but `came` and `passed`. */
+struct rmp_item {
+    uint32_t address;  /* logical; of BRD the register; of FPRD and FPWR the station + 65,536 * register */
+    uint32_t offset;   /* where its data begin in the process image, in bytes */
+    uint16_t length;   /* how many data bytes it has, 1 to RMP_MAX_DATA */
+    uint16_t kind;     /* of enum rmp_kind */
+    uint16_t expected; /* by how much its working counter has to move; of LRW a slave adds 1 for reading and 2
+                          for writing, else 1 */
+    uint16_t sent;     /* the working counter with which it goes out; another one in each cycle tells late
+                          frames from those of this cycle */
+    uint16_t came;     /* written by rmp_judge: the working counter with which it came back */
+    uint16_t passed;   /* written by rmp_judge: of BRD how many slaves it passed, else 0 */
+};
+
+/* What rmp_frame answers. */
+struct rmp_framed {
+    size_t bytes;  /* how many bytes of the frame were written */
+    size_t items;  /* how many items it carries, from `first` on */
+    size_t at;     /* the item that is at fault */
+    uint32_t code; /* RMP_GOOD, RMP_NO_ROOM, RMP_TOO_MANY, RMP_NO_ITEM or RMP_BAD_.. of an item */
+};
+
+/* What rmp_join answers. */
+struct rmp_joined {
+    size_t bytes;    /* how many bytes of the joined frame were written */
+    size_t at;       /* the first datagram that differs, or the byte at fault */
+    uint32_t code;   /* RMP_GOOD, RMP_STRANGER_A, RMP_STRANGER_B, RMP_NO_ROOM, RMP_BAD_FORM or RMP_NOT_SENT */
+    uint32_t copy_a; /* of enum rmp_copy: what came of copy a */
+    uint32_t copy_b; /* and of copy b */
+};
+
+/* What rmp_judge and rmp_store answer. */
+struct rmp_answer {
+    size_t at;     /* the item, the datagram or the byte that `code` is about */
+    uint32_t code; /* of enum rmp_code */
+};
+
+/* A datagram of a frame that was read. */
+struct rmp_datagram {
+    size_t data;         /* where its data begin in the frame, in bytes */
+    size_t length;       /* how many data bytes it has */
+    uint32_t address;    /* logical, or ADP + 65,536 * ADO */
+    uint16_t counter;    /* the working counter */
+    uint16_t irq;        /* the slaves' event requests, or-ed */
+    uint8_t command;     /* by the standard's code, 0 to 14 */
+    uint8_t index;       /* the master's number for it */
+    uint8_t circulating; /* 1 where the frame turned round at a slave's closed port 0, else 0 */
+};
+
+/* What rmp_read answers. */
+struct rmp_reading {
+    size_t count;  /* how many datagrams the frame has */
+    size_t at;     /* the first byte at fault */
+    uint32_t code; /* RMP_GOOD, RMP_NO_ROOM, RMP_BAD_FORM or RMP_FAULT_.. */
+};
+
+/*
+ * Puts the frame that begins with item `first` at the front of `room`: as many items from there on as one
+ * frame holds (1,498 bytes of datagrams), each with its number as index and its data from the image.
+ *
+ * Proved: the bytes spell exactly that frame; all items of all frames, made so one after the other, are the
+ * one division of the items into frames of which none could take the next one's first item; the first item at
+ * fault is named; any end but RMP_GOOD leaves `room` as it is.
+ */
+struct rmp_framed rmp_frame(const struct rmp_item *items, size_t n, const uint8_t *image, size_t image_size,
+                            size_t first, uint8_t *room, size_t room_size);
+
+/*
+ * Joins the packets `a` and `b` that came back of the frame `sent`, and puts the joined frame at the front of
+ * `room`. A packet of length 0 is a lost copy; one that is no frame counts as lost, and is told so.
+ *
+ * Proved: each data bit, event request and circulating bit differs from the sent one exactly if it does in a
+ * copy; each working counter, and the ADP where slaves count it up, has moved as far as in both copies
+ * together; a frame that cannot have come of the sent one, by its commands, indexes, lengths and addresses,
+ * is named with its first datagram that differs, a before b; any end but RMP_GOOD leaves `room` as it is.
+ */
+struct rmp_joined rmp_join(uint32_t form, const uint8_t *sent, size_t sent_size, const uint8_t *a,
+                           size_t a_size, const uint8_t *b, size_t b_size, uint8_t *room, size_t room_size);
+
+/*
+ * Judges a joined frame, whose datagrams answer the items from `first` on.
+ *
+ * Proved: the verdict is RMP_GOOD where each item's counter has moved by what is expected, modulo 65,536, and
+ * else names the first item of which it has not; with a verdict, and only then, `came` and `passed` of these
+ * items are written, and nothing else of any item.
+ */
+struct rmp_answer rmp_judge(struct rmp_item *items, size_t n, size_t first, const uint8_t *joined,
+                            size_t joined_size);
+
+/*
+ * Puts the data of a joined frame into the image: of each item that reads (FPRD, BRD, LRD, LRW), in their
+ * order. Call it where the verdict on each frame of the cycle is RMP_GOOD. LRW data hold the outputs as they
+ * were sent, so let the application write outputs of an LRW behind this call.
+ *
+ * Proved: the image is the one before with these data in their places; items that only write, and all bytes
+ * outside, are as they were; any end but RMP_GOOD leaves the image as it is.
+ */
+struct rmp_answer rmp_store(const struct rmp_item *items, size_t n, size_t first, const uint8_t *joined,
+                            size_t joined_size, uint8_t *image, size_t image_size);
+
+/*
+ * Reads the bytes of a frame: puts its datagrams, and where their data lie, at the front of `room`, which
+ * RMP_MAX_DATAGRAMS always suffice for.
+ *
+ * Proved: RMP_GOOD exactly where the bytes spell a frame, and these are its datagrams; else the fault is the
+ * first one from the left; any end but RMP_GOOD leaves `room` as it is.
+ */
+struct rmp_reading rmp_read(uint32_t form, const uint8_t *bytes, size_t size, struct rmp_datagram *room,
+                            size_t room_count);
+
+#ifdef __cplusplus
+}
+#define RMP_ASSERT static_assert
+#else
+#define RMP_ASSERT _Static_assert
+#endif
+
+/* The library was compiled with these layouts. */
+RMP_ASSERT(sizeof(size_t) == 8, "the library is of 64 bits");
+RMP_ASSERT(sizeof(struct rmp_item) == 20, "size of rmp_item");
+RMP_ASSERT(offsetof(struct rmp_item, address) == 0, "address");
+RMP_ASSERT(offsetof(struct rmp_item, offset) == 4, "offset");
+RMP_ASSERT(offsetof(struct rmp_item, length) == 8, "length");
+RMP_ASSERT(offsetof(struct rmp_item, kind) == 10, "kind");
+RMP_ASSERT(offsetof(struct rmp_item, expected) == 12, "expected");
+RMP_ASSERT(offsetof(struct rmp_item, sent) == 14, "sent");
+RMP_ASSERT(offsetof(struct rmp_item, came) == 16, "came");
+RMP_ASSERT(offsetof(struct rmp_item, passed) == 18, "passed");
+RMP_ASSERT(sizeof(struct rmp_framed) == 32, "size of rmp_framed");
+RMP_ASSERT(offsetof(struct rmp_framed, bytes) == 0, "bytes");
+RMP_ASSERT(offsetof(struct rmp_framed, items) == 8, "items");
+RMP_ASSERT(offsetof(struct rmp_framed, at) == 16, "at");
+RMP_ASSERT(offsetof(struct rmp_framed, code) == 24, "code");
+RMP_ASSERT(sizeof(struct rmp_joined) == 32, "size of rmp_joined");
+RMP_ASSERT(offsetof(struct rmp_joined, bytes) == 0, "bytes");
+RMP_ASSERT(offsetof(struct rmp_joined, at) == 8, "at");
+RMP_ASSERT(offsetof(struct rmp_joined, code) == 16, "code");
+RMP_ASSERT(offsetof(struct rmp_joined, copy_a) == 20, "copy_a");
+RMP_ASSERT(offsetof(struct rmp_joined, copy_b) == 24, "copy_b");
+RMP_ASSERT(sizeof(struct rmp_answer) == 16, "size of rmp_answer");
+RMP_ASSERT(offsetof(struct rmp_answer, at) == 0, "at");
+RMP_ASSERT(offsetof(struct rmp_answer, code) == 8, "code");
+RMP_ASSERT(sizeof(struct rmp_datagram) == 32, "size of rmp_datagram");
+RMP_ASSERT(offsetof(struct rmp_datagram, data) == 0, "data");
+RMP_ASSERT(offsetof(struct rmp_datagram, length) == 8, "length");
+RMP_ASSERT(offsetof(struct rmp_datagram, address) == 16, "address");
+RMP_ASSERT(offsetof(struct rmp_datagram, counter) == 20, "counter");
+RMP_ASSERT(offsetof(struct rmp_datagram, irq) == 22, "irq");
+RMP_ASSERT(offsetof(struct rmp_datagram, command) == 24, "command");
+RMP_ASSERT(offsetof(struct rmp_datagram, index) == 25, "index");
+RMP_ASSERT(offsetof(struct rmp_datagram, circulating) == 26, "circulating");
+RMP_ASSERT(sizeof(struct rmp_reading) == 24, "size of rmp_reading");
+RMP_ASSERT(offsetof(struct rmp_reading, count) == 0, "count");
+RMP_ASSERT(offsetof(struct rmp_reading, at) == 8, "at");
+RMP_ASSERT(offsetof(struct rmp_reading, code) == 16, "code");
+
+#endif

@@ -1,0 +1,264 @@
+/* The four calls, with bytes written out by hand from IEC 61158-4-12; what each needs of the stack; and that
+ * each field of each struct is the one that the library means. Prints what it finds, and ends with 1 at the
+ * first that is not as it should be. */
+#include "rummymaple.h"
+#include <stdio.h>
+#include <stdlib.h>
+#include <string.h>
+#include <ucontext.h>
+
+#define STACK_LIMIT 8192
+
+static int failed;
+
+#define CHECK(test)                                                                                          \
+    do {                                                                                                     \
+        if (!(test)) {                                                                                       \
+            printf("FAILED at line %d: %s\n", __LINE__, #test);                                              \
+            failed = 1;                                                                                      \
+        }                                                                                                    \
+    } while (0)
+
+/* An LRW of two bytes at 0x00010000 with index 0, and a BRD of two bytes at register 0x0130 with index 1. */
+static const uint8_t FRAME[] = {
+    28, 0x10, /* 28 bytes of datagrams, type 1 */
+    0x0C, 0, 0x00, 0x00, 0x01, 0x00, 2, 0x80, 0, 0, 0xAA, 0x55, 0x00, 0x08, /* LRW, and more follow */
+    0x07, 1, 0x00, 0x00, 0x30, 0x01, 2, 0x00, 0, 0, 0x00, 0x00, 0x00, 0x08, /* BRD with ADP 0 */
+};
+
+/* What two slaves make of it: 0x12 and 0x34 are read, the BRD's data are or-ed, counters rise. */
+static const uint8_t FROM_A[] = {
+    28, 0x10, /* one slave on the way */
+    0x0C, 0, 0x00, 0x00, 0x01, 0x00, 2, 0x80, 0, 0, 0x12, 0x55, 0x03, 0x08,
+    0x07, 1, 0x01, 0x00, 0x30, 0x01, 2, 0x00, 0, 0, 0x08, 0x00, 0x01, 0x08,
+};
+static const uint8_t FROM_B[] = {
+    28, 0x10, /* the other slave on the way, where it turned round: the circulating bits are set */
+    0x0C, 0, 0x00, 0x00, 0x01, 0x00, 2, 0xC0, 0, 0, 0xAA, 0x34, 0x03, 0x08,
+    0x07, 1, 0x01, 0x00, 0x30, 0x01, 2, 0x40, 0, 0, 0x08, 0x00, 0x01, 0x08,
+};
+static const uint8_t JOINED[] = {
+    28, 0x10,
+    0x0C, 0, 0x00, 0x00, 0x01, 0x00, 2, 0xC0, 0, 0, 0x12, 0x34, 0x06, 0x08,
+    0x07, 1, 0x02, 0x00, 0x30, 0x01, 2, 0x40, 0, 0, 0x08, 0x00, 0x02, 0x08,
+};
+
+static struct rmp_item items[2];
+static uint8_t image[6];
+static uint8_t sent[RMP_FRAME_SIZE], joined[RMP_FRAME_SIZE];
+
+static void begin(void) {
+    struct rmp_item exchange = {0x00010000, 1, 2, RMP_LRW, 6, 0x0800, 0, 0};
+    struct rmp_item states = {0x0130, 4, 2, RMP_BRD, 2, 0x0800, 0, 0};
+    const uint8_t first[6] = {0xF0, 0xAA, 0x55, 0xF1, 0, 0};
+    items[0] = exchange;
+    items[1] = states;
+    memcpy(image, first, sizeof image);
+}
+
+static void cycle(void) {
+    const uint8_t after[6] = {0xF0, 0x12, 0x34, 0xF1, 8, 0};
+    struct rmp_framed made = rmp_frame(items, 2, image, sizeof image, 0, sent, sizeof sent);
+    CHECK(made.code == RMP_GOOD && made.items == 2 && made.bytes == sizeof FRAME && made.at == 0);
+    CHECK(memcmp(sent, FRAME, sizeof FRAME) == 0);
+    struct rmp_joined came = rmp_join(RMP_UDP, sent, made.bytes, FROM_A, sizeof FROM_A, FROM_B, sizeof FROM_B,
+                                      joined, sizeof joined);
+    CHECK(came.code == RMP_GOOD && came.bytes == sizeof JOINED && came.at == 0);
+    CHECK(came.copy_a == RMP_CAME && came.copy_b == RMP_CAME);
+    CHECK(memcmp(joined, JOINED, sizeof JOINED) == 0);
+    struct rmp_answer verdict = rmp_judge(items, 2, 0, joined, came.bytes);
+    CHECK(verdict.code == RMP_GOOD && verdict.at == 0);
+    CHECK(items[0].came == 0x0806 && items[0].passed == 0);
+    CHECK(items[1].came == 0x0802 && items[1].passed == 2);
+    CHECK(items[0].address == 0x00010000 && items[0].offset == 1 && items[0].length == 2);
+    CHECK(items[1].kind == RMP_BRD && items[1].expected == 2 && items[1].sent == 0x0800);
+    struct rmp_answer stored = rmp_store(items, 2, 0, joined, came.bytes, image, sizeof image);
+    CHECK(stored.code == RMP_GOOD && stored.at == 0);
+    CHECK(memcmp(image, after, sizeof after) == 0);
+}
+
+/* Copies that are lost, damaged or of another frame. */
+static void copies(void) {
+    uint8_t other[sizeof FROM_B];
+    memcpy(other, FROM_B, sizeof other);
+    struct rmp_joined came =
+        rmp_join(RMP_UDP, FRAME, sizeof FRAME, FROM_A, sizeof FROM_A, NULL, 0, joined, sizeof joined);
+    CHECK(came.code == RMP_GOOD && came.copy_a == RMP_CAME && came.copy_b == RMP_LOST);
+    CHECK(memcmp(joined, FROM_A, sizeof FROM_A) == 0);
+    CHECK(rmp_judge(items, 2, 0, joined, came.bytes).code == RMP_SHORT);
+    other[0] = 27; /* a byte too few is stated */
+    came = rmp_join(RMP_UDP, FRAME, sizeof FRAME, other, sizeof other, FROM_B, sizeof FROM_B, joined,
+                    sizeof joined);
+    CHECK(came.code == RMP_GOOD && came.copy_a == RMP_NO_FRAME && came.copy_b == RMP_CAME);
+    CHECK(memcmp(joined, FROM_B, sizeof FROM_B) == 0);
+    other[0] = 28;
+    other[17] = 7; /* the second datagram has another index */
+    joined[0] = 0x5A;
+    came = rmp_join(RMP_UDP, FRAME, sizeof FRAME, FROM_A, sizeof FROM_A, other, sizeof other, joined,
+                    sizeof joined);
+    CHECK(came.code == RMP_STRANGER_B && came.at == 1 && came.bytes == 0 && joined[0] == 0x5A);
+    came = rmp_join(RMP_UDP, FRAME, sizeof FRAME, other, sizeof other, other, sizeof other, joined,
+                    sizeof joined);
+    CHECK(came.code == RMP_STRANGER_A && came.at == 1);
+    came = rmp_join(RMP_UDP, FRAME, 10, NULL, 0, NULL, 0, joined, sizeof joined);
+    CHECK(came.code == RMP_NOT_SENT && came.at == 10);
+    CHECK(rmp_join(2, FRAME, sizeof FRAME, NULL, 0, NULL, 0, joined, sizeof joined).code == RMP_BAD_FORM);
+    CHECK(rmp_join(RMP_UDP, FRAME, sizeof FRAME, NULL, 0, NULL, 0, joined, 29).code == RMP_NO_ROOM);
+    CHECK(rmp_join(RMP_UDP, NULL, 0, NULL, 0, NULL, 0, NULL, 0).code == RMP_NOT_SENT);
+}
+
+/* Padding belongs to a frame in an Ethernet packet alone. */
+static void forms(void) {
+    uint8_t padded[46] = {0};
+    memcpy(padded, FROM_A, sizeof FROM_A);
+    struct rmp_joined came = rmp_join(RMP_ETHERNET, FRAME, sizeof FRAME, padded, sizeof padded, FROM_B,
+                                      sizeof FROM_B, joined, sizeof joined);
+    CHECK(came.code == RMP_GOOD && came.copy_a == RMP_CAME && came.bytes == sizeof JOINED);
+    came = rmp_join(RMP_UDP, FRAME, sizeof FRAME, padded, sizeof padded, FROM_B, sizeof FROM_B, joined,
+                    sizeof joined);
+    CHECK(came.code == RMP_GOOD && came.copy_a == RMP_NO_FRAME);
+}
+
+/* Items that are not taken, and frames that are not theirs. */
+static void refusals(void) {
+    struct rmp_framed made;
+    begin();
+    CHECK(rmp_frame(items, 2, image, 5, 0, sent, sizeof sent).code == RMP_BAD_PLACE);
+    CHECK(rmp_frame(items, 2, image, 5, 0, sent, sizeof sent).at == 1);
+    CHECK(rmp_frame(items, 2, image, sizeof image, 2, sent, sizeof sent).code == RMP_NO_ITEM);
+    CHECK(rmp_frame(items, 2, image, sizeof image, 0, sent, 29).code == RMP_NO_ROOM);
+    CHECK(rmp_frame(NULL, 0, NULL, 0, 0, NULL, 0).code == RMP_NO_ITEM);
+    items[1].kind = 8;
+    CHECK(rmp_frame(items, 2, image, sizeof image, 0, sent, sizeof sent).code == RMP_BAD_KIND);
+    begin();
+    items[0].length = 0;
+    CHECK(rmp_frame(items, 2, image, sizeof image, 0, sent, sizeof sent).code == RMP_BAD_LENGTH);
+    begin();
+    items[0].address = 0xFFFFFFFF;
+    CHECK(rmp_frame(items, 2, image, sizeof image, 0, sent, sizeof sent).code == RMP_BAD_RANGE);
+    begin();
+    CHECK(rmp_judge(items, 2, 1, JOINED, sizeof JOINED).code == RMP_OTHER_ITEM);
+    CHECK(rmp_judge(items, 1, 0, JOINED, sizeof JOINED).code == RMP_OTHER_ITEM);
+    CHECK(rmp_judge(items, 1, 0, JOINED, sizeof JOINED).at == 1 && items[0].came == 0);
+    CHECK(rmp_judge(items, 2, 0, JOINED, 20).code == RMP_NOT_JOINED);
+    CHECK(rmp_store(items, 2, SIZE_MAX, JOINED, sizeof JOINED, image, sizeof image).code == RMP_OTHER_ITEM);
+    CHECK(rmp_store(items, 2, 0, JOINED, sizeof JOINED, image, 5).code == RMP_BAD_PLACE);
+    items[1].expected = 1;
+    made = rmp_frame(items, 2, image, sizeof image, 1, sent, sizeof sent);
+    CHECK(made.code == RMP_GOOD && made.items == 1 && made.bytes == 16 && sent[3] == 1);
+    CHECK(rmp_judge(items, 2, 0, JOINED, sizeof JOINED).code == RMP_OVER);
+    CHECK(rmp_judge(items, 2, 0, JOINED, sizeof JOINED).at == 1);
+}
+
+/* The reader: where the datagrams lie, and the first fault with its place. */
+static void reading(void) {
+    static struct rmp_datagram found[RMP_MAX_DATAGRAMS];
+    uint8_t bytes[sizeof FROM_B + 1];
+    struct rmp_reading read = rmp_read(RMP_UDP, FROM_B, sizeof FROM_B, found, RMP_MAX_DATAGRAMS);
+    CHECK(read.code == RMP_GOOD && read.count == 2 && read.at == 0);
+    CHECK(found[0].data == 12 && found[0].length == 2 && found[0].address == 0x00010000);
+    CHECK(found[0].command == 12 && found[0].index == 0 && found[0].counter == 0x0803);
+    CHECK(found[1].data == 26 && found[1].length == 2 && found[1].address == 0x01300001);
+    CHECK(found[1].command == 7 && found[1].index == 1 && found[1].counter == 0x0801);
+    CHECK(found[1].circulating == 1 && found[1].irq == 0);
+    read = rmp_read(RMP_UDP, FROM_B, sizeof FROM_B, found, 1);
+    CHECK(read.code == RMP_NO_ROOM && read.count == 2);
+    CHECK(rmp_read(RMP_UDP, NULL, 0, NULL, 0).code == RMP_FAULT_SHORT);
+    CHECK(rmp_read(9, FROM_B, sizeof FROM_B, found, 1).code == RMP_BAD_FORM);
+    memcpy(bytes, FROM_B, sizeof FROM_B);
+    bytes[sizeof FROM_B] = 0;
+    read = rmp_read(RMP_UDP, bytes, sizeof bytes, found, RMP_MAX_DATAGRAMS);
+    CHECK(read.code == RMP_FAULT_TRAILING && read.at == sizeof FROM_B);
+    CHECK(rmp_read(RMP_ETHERNET, bytes, sizeof bytes, found, RMP_MAX_DATAGRAMS).code == RMP_GOOD);
+    bytes[16] = 15;
+    read = rmp_read(RMP_UDP, bytes, sizeof FROM_B, found, RMP_MAX_DATAGRAMS);
+    CHECK(read.code == RMP_FAULT_BAD_COMMAND && read.at == 16);
+    bytes[9] = 0x00;
+    read = rmp_read(RMP_UDP, bytes, sizeof FROM_B, found, RMP_MAX_DATAGRAMS);
+    CHECK(read.code == RMP_FAULT_LEFT_OVER && read.at == 16);
+    bytes[9] = 0x20;
+    read = rmp_read(RMP_UDP, bytes, sizeof FROM_B, found, RMP_MAX_DATAGRAMS);
+    CHECK(read.code == RMP_FAULT_RESERVED && read.at == 9);
+    bytes[1] = 0x40;
+    read = rmp_read(RMP_UDP, bytes, sizeof FROM_B, found, RMP_MAX_DATAGRAMS);
+    CHECK(read.code == RMP_FAULT_BAD_TYPE && read.at == 1);
+}
+
+/* A byte more than a frame holds goes onto the next one. */
+static void cut(void) {
+    static struct rmp_item many[3];
+    static uint8_t large[3 * RMP_MAX_DATA];
+    struct rmp_item whole = {0, 0, 700, RMP_LRD, 0, 0, 0, 0};
+    struct rmp_framed made;
+    many[0] = many[1] = many[2] = whole;
+    many[2].length = 62; /* 712 + 712 + 74 bytes of datagrams: 1,498 */
+    made = rmp_frame(many, 3, large, sizeof large, 0, sent, sizeof sent);
+    CHECK(made.code == RMP_GOOD && made.items == 3 && made.bytes == RMP_FRAME_SIZE);
+    many[2].length = 63;
+    made = rmp_frame(many, 3, large, sizeof large, 0, sent, sizeof sent);
+    CHECK(made.code == RMP_GOOD && made.items == 2);
+    made = rmp_frame(many, 3, large, sizeof large, 2, sent, sizeof sent);
+    CHECK(made.code == RMP_GOOD && made.items == 1 && sent[3] == 2);
+}
+
+/* ---- the stack: each call runs on one that was painted */
+
+static uint8_t stack[65536];
+static ucontext_t here, there;
+static struct rmp_framed made;
+static struct rmp_joined came;
+static struct rmp_answer told;
+static struct rmp_reading seen;
+static struct rmp_datagram places[2];
+
+static void call_nothing(void) {}
+static void call_frame(void) { made = rmp_frame(items, 2, image, sizeof image, 0, sent, sizeof sent); }
+static void call_join(void) {
+    came = rmp_join(RMP_UDP, FRAME, sizeof FRAME, FROM_A, sizeof FROM_A, FROM_B, sizeof FROM_B, joined,
+                    sizeof joined);
+}
+static void call_judge(void) { told = rmp_judge(items, 2, 0, JOINED, sizeof JOINED); }
+static void call_store(void) { told = rmp_store(items, 2, 0, JOINED, sizeof JOINED, image, sizeof image); }
+
+static void call_read(void) { seen = rmp_read(RMP_UDP, JOINED, sizeof JOINED, places, 2); }
+
+static size_t used_by(void (*call)(void)) {
+    size_t clean = 0;
+    memset(stack, 0xA5, sizeof stack);
+    getcontext(&there);
+    there.uc_stack.ss_sp = stack;
+    there.uc_stack.ss_size = sizeof stack;
+    there.uc_link = &here;
+    makecontext(&there, call, 0);
+    swapcontext(&here, &there);
+    while (clean < sizeof stack && stack[clean] == 0xA5)
+        clean++;
+    return sizeof stack - clean;
+}
+
+static void measure(const char *name, void (*call)(void)) {
+    size_t used = used_by(call) - used_by(call_nothing);
+    printf("stack of %s: %zu bytes\n", name, used);
+    if (used >= STACK_LIMIT) {
+        printf("FAILED: %s needs %d bytes of stack or more\n", name, STACK_LIMIT);
+        failed = 1;
+    }
+}
+
+int main(void) {
+    begin();
+    cycle();
+    copies();
+    forms();
+    refusals();
+    cut();
+    reading();
+    begin();
+    measure("rmp_frame", call_frame);
+    measure("rmp_join", call_join);
+    measure("rmp_judge", call_judge);
+    measure("rmp_store", call_store);
+    measure("rmp_read", call_read);
+    puts(failed ? "calls: not as they should be" : "calls: as they should be");
+    return failed;
+}

@@ -1,0 +1,250 @@
+/* Damaged packets, many of them: each array that the library sees ends where no memory is mapped, and what
+ * rmp_join answers is compared with a reader and a join that are written here anew, byte by byte.
+ *
+ *     damaged [PAIRS [SEED]]
+ */
+#define _GNU_SOURCE
+#include "rummymaple.h"
+#include <stdio.h>
+#include <stdlib.h>
+#include <string.h>
+#include <sys/mman.h>
+
+#define PAGE 4096
+#define MOST 124
+
+static uint64_t state;
+
+static uint32_t chance(uint32_t below) {
+    state ^= state << 13;
+    state ^= state >> 7;
+    state ^= state << 17;
+    return (uint32_t)(state >> 32) % below;
+}
+
+static unsigned word(const uint8_t *at) { return at[0] | (unsigned)at[1] << 8; }
+
+/* Where the datagrams of a frame begin, and where it ends; or 0 where the bytes are none. */
+static int places(const uint8_t *bytes, size_t size, uint32_t form, size_t *at) {
+    int count = 0;
+    size_t end, place = 2;
+    if (size < 2 || word(bytes) >> 12 != 1 || (word(bytes) & 0x800))
+        return 0;
+    end = 2 + (word(bytes) & 0x7FF);
+    if (end == 2 || end > RMP_FRAME_SIZE || size < end || (form == RMP_UDP && size > end))
+        return 0;
+    for (;;) {
+        unsigned field;
+        if (end - place < 12 || bytes[place] > 14)
+            return 0;
+        field = word(bytes + place + 6);
+        if ((field & 0x3800) || end - place < 12 + (size_t)(field & 0x7FF))
+            return 0;
+        at[count++] = place;
+        place += 12 + (field & 0x7FF);
+        if (!(field & 0x8000)) {
+            at[count] = place;
+            return place == end ? count : 0;
+        }
+        if (place == end)
+            return 0;
+    }
+}
+
+static int counts_adp(unsigned command) {
+    return command >= 1 && command <= 3 ? 1 : command == 7 || command == 8;
+}
+
+static int belongs(const uint8_t *sent, const uint8_t *copy) {
+    return sent[0] == copy[0] && sent[1] == copy[1] && word(sent + 4) == word(copy + 4) &&
+           (counts_adp(sent[0]) || word(sent + 2) == word(copy + 2)) &&
+           (word(sent + 6) & 0x7FF) == (word(copy + 6) & 0x7FF);
+}
+
+static void put_word(uint8_t *at, unsigned value) {
+    at[0] = value & 0xFF;
+    at[1] = value >> 8 & 0xFF;
+}
+
+/* The answer of a join, and its bytes. */
+static struct rmp_joined expected(uint32_t form, const uint8_t *sent, size_t sent_size,
+                                  const uint8_t *packets[2], const size_t sizes[2], uint8_t *room) {
+    struct rmp_joined answer = {0, 0, RMP_GOOD, RMP_LOST, RMP_LOST};
+    size_t at[MOST + 1], other[MOST + 1];
+    const uint8_t *copies[2];
+    uint32_t came[2];
+    int count = places(sent, sent_size, form, at);
+    for (int c = 0; c < 2; c++) {
+        int found = places(packets[c], sizes[c], form, other);
+        came[c] = sizes[c] == 0 ? RMP_LOST : found ? RMP_CAME : RMP_NO_FRAME;
+        copies[c] = found ? packets[c] : sent;
+    }
+    answer.copy_a = came[0];
+    answer.copy_b = came[1];
+    for (int c = 0; c < 2; c++) {
+        int shared, found = came[c] == RMP_CAME ? places(packets[c], sizes[c], form, other) : count;
+        if (came[c] != RMP_CAME)
+            memcpy(other, at, sizeof at);
+        for (shared = 0; shared < count && shared < found; shared++)
+            if (!belongs(sent + at[shared], copies[c] + other[shared]))
+                break;
+        if (shared < count || shared < found) {
+            answer.code = c ? RMP_STRANGER_B : RMP_STRANGER_A;
+            answer.at = shared;
+            return answer;
+        }
+    }
+    answer.bytes = at[count];
+    memcpy(room, copies[0], answer.bytes);
+    for (int k = 0; k < count; k++) {
+        const uint8_t *s = sent + at[k], *a = copies[0] + at[k], *b = copies[1] + at[k];
+        uint8_t *to = room + at[k];
+        size_t length = word(s + 6) & 0x7FF;
+        if (counts_adp(s[0]))
+            put_word(to + 2, word(a + 2) + word(b + 2) - word(s + 2));
+        for (size_t i = 7; i < 10 + length; i++) /* the circulating bit, event requests, and data */
+            to[i] = s[i] ^ ((a[i] ^ s[i]) | (b[i] ^ s[i]));
+        put_word(to + 10 + length, word(a + 10 + length) + word(b + 10 + length) - word(s + 10 + length));
+    }
+    return answer;
+}
+
+/* Whether the library reads these bytes as they are read here. */
+static int is_read(uint32_t form, const uint8_t *bytes, size_t size) {
+    static struct rmp_datagram room[RMP_MAX_DATAGRAMS];
+    size_t at[MOST + 1];
+    int count = places(bytes, size, form, at);
+    struct rmp_reading read = rmp_read(form, bytes, size, room, RMP_MAX_DATAGRAMS);
+    if (count == 0)
+        return read.code >= RMP_FAULT_SHORT && read.at <= size;
+    for (int k = 0; k < count; k++) {
+        const uint8_t *d = bytes + at[k];
+        size_t length = word(d + 6) & 0x7FF;
+        if (room[k].data != at[k] + 10 || room[k].length != length || room[k].command != d[0] ||
+            room[k].index != d[1] || room[k].address != (word(d + 2) | word(d + 4) << 16) ||
+            room[k].circulating != (d[7] >> 6 & 1) || room[k].irq != word(d + 8) ||
+            room[k].counter != word(d + 10 + length))
+            return 0;
+    }
+    return read.code == RMP_GOOD && read.count == (size_t)count;
+}
+
+/* Room that ends where no memory is mapped. */
+static uint8_t *edge(void) {
+    uint8_t *pages = mmap(NULL, 3 * PAGE, PROT_READ | PROT_WRITE, MAP_PRIVATE | MAP_ANONYMOUS, -1, 0);
+    if (pages == MAP_FAILED || mprotect(pages + 2 * PAGE, PAGE, PROT_NONE) != 0) {
+        perror("damaged");
+        exit(3);
+    }
+    return pages + 2 * PAGE;
+}
+
+/* Items by chance over an image of 4,096 bytes. */
+static size_t choose_items(struct rmp_item *items) {
+    static const uint16_t kinds[6] = {RMP_FPRD, RMP_FPWR, RMP_BRD, RMP_LRD, RMP_LWR, RMP_LRW};
+    size_t n = 1 + chance(4);
+    for (size_t k = 0; k < n; k++) {
+        struct rmp_item item = {chance(0x1000),
+                                0,
+                                1 + chance(chance(8) ? 40 : 700),
+                                kinds[chance(6)],
+                                chance(4),
+                                chance(65536),
+                                0,
+                                0};
+        item.offset = chance(4096 - item.length);
+        if (item.kind == RMP_BRD && item.address + item.length > 0x1000)
+            item.address = 0;
+        items[k] = item;
+    }
+    return n;
+}
+
+/* What may come back of a frame: as slaves leave it, damaged, of another length, other bytes, or nothing. */
+static size_t choose_copy(uint8_t *copy, const uint8_t *sent, size_t size) {
+    size_t at[MOST + 1];
+    int count = places(sent, size, RMP_UDP, at);
+    uint32_t kind = chance(8);
+    memcpy(copy, sent, size);
+    for (int k = 0; k < count; k++) {
+        uint8_t *d = copy + at[k];
+        size_t length = word(d + 6) & 0x7FF;
+        for (size_t i = 0; i < length && chance(4); i++)
+            d[10 + i] = chance(256);
+        put_word(d + 10 + length, word(d + 10 + length) + chance(5));
+        if (counts_adp(d[0]))
+            put_word(d + 2, word(d + 2) + chance(5));
+        d[7] ^= chance(2) ? 0x40 : 0;
+        d[8] = chance(256);
+    }
+    if (kind == 0)
+        return 0;
+    if (kind == 1)
+        copy[chance(size)] ^= 1u << chance(8);
+    if (kind == 2)
+        copy[at[chance(count)] + chance(10)] = chance(256);
+    if (kind == 3)
+        return chance(size + 1);
+    if (kind == 4) {
+        size = chance(1600);
+        for (size_t i = 0; i < size; i++)
+            copy[i] = chance(256);
+    }
+    if (kind == 5 && size < 1560) {
+        memset(copy + size, 0, 40);
+        size += chance(40);
+    }
+    return size;
+}
+
+int main(int count, char **words) {
+    long pairs = count > 1 ? atol(words[1]) : 1000000, good = 0, stranger = 0, none = 0;
+    uint8_t *sent_end = edge(), *a_end = edge(), *b_end = edge(), *room_end = edge(), *image_end = edge();
+    uint8_t *image = image_end - 4096, frame[RMP_FRAME_SIZE], packet[2][1700], wanted[RMP_FRAME_SIZE];
+    struct rmp_item items[4];
+    state = count > 2 ? strtoull(words[2], NULL, 0) : 88172645463325252u;
+    for (long i = 0; i < pairs; i++) {
+        size_t n = choose_items(items);
+        struct rmp_framed made = rmp_frame(items, n, image, 4096, 0, frame, sizeof frame);
+        uint32_t form = chance(2);
+        size_t sizes[2] = {choose_copy(packet[0], frame, made.bytes),
+                           choose_copy(packet[1], frame, made.bytes)};
+        uint8_t *sent = sent_end - made.bytes, *a = a_end - sizes[0], *b = b_end - sizes[1];
+        uint8_t *room = room_end - made.bytes;
+        const uint8_t *packets[2] = {packet[0], packet[1]};
+        struct rmp_joined came, want;
+        struct rmp_answer verdict;
+        memcpy(sent, frame, made.bytes);
+        memcpy(a, packet[0], sizes[0]);
+        memcpy(b, packet[1], sizes[1]);
+        came = rmp_join(form, sent, made.bytes, a, sizes[0], b, sizes[1], room, made.bytes);
+        want = expected(form, frame, made.bytes, packets, sizes, wanted);
+        if (made.code != RMP_GOOD || came.code != want.code || came.at != want.at ||
+            came.bytes != want.bytes || came.copy_a != want.copy_a || came.copy_b != want.copy_b ||
+            (came.code == RMP_GOOD && memcmp(room, wanted, came.bytes) != 0)) {
+            printf("damaged: pair %ld is not joined as it should be\n", i);
+            return 1;
+        }
+        if (!is_read(form, a, sizes[0]) || !is_read(form, b, sizes[1])) {
+            printf("damaged: pair %ld is not read as it should be\n", i);
+            return 1;
+        }
+        good += came.code == RMP_GOOD;
+        stranger += came.code == RMP_STRANGER_A || came.code == RMP_STRANGER_B;
+        none += came.copy_a == RMP_NO_FRAME || came.copy_b == RMP_NO_FRAME;
+        verdict = rmp_judge(items, n, 0, a, sizes[0]);
+        if (came.code == RMP_GOOD) {
+            verdict = rmp_judge(items, n, 0, room, came.bytes);
+            if (verdict.code > RMP_OVER ||
+                rmp_store(items, n, 0, room, came.bytes, image, 4096).code != RMP_GOOD) {
+                printf("damaged: pair %ld is joined, and not taken\n", i);
+                return 1;
+            }
+        } else {
+            rmp_store(items, n, 0, a, sizes[0], image, 4096);
+        }
+    }
+    printf("damaged: %ld pairs, %ld joined, %ld strangers, %ld with a packet that is no frame\n", pairs, good,
+           stranger, none);
+    return 0;
+}
