@@ -138,8 +138,8 @@ recover_rule = flag_rule (codes "recover")
 -- [--log LOG] [--stop] [--recover]`
 abbrev pub master_line : App
 master_line = with_rule (with_rule (with_rule (with_rule (with_rule (with_rule (with_rule (with_rule
-    (with_rule (with_rule (new_app (codes "master")) (needed_rule (codes "SCENE"))) at_rule) raw_rule) cycles_rule)
-    every_rule) limit_rule) outputs_rule) log_file_rule) stop_rule) recover_rule
+    (with_rule (with_rule (new_app (codes "master")) (needed_rule (codes "SCENE"))) at_rule) raw_rule)
+    cycles_rule) every_rule) limit_rule) outputs_rule) log_file_rule) stop_rule) recover_rule
 
 -- `scan [--at AT] [--raw RAW] [--limit LIMIT]`
 abbrev pub scan_line : App

@@ -19,8 +19,9 @@
 //! 2 0.001000 02:01:05:10:00:00 - fault Short at 12
 //! ```
 //!
-//! What is promised: a number's text (`text.rt`), the words of an address, and that the counts of `Stats` add
-//! up to the datagrams that it took (`Stats::take`).
+//! What is promised: what a byte and a decimal number put at the end of a text (`put_byte`,
+//! `put_decimal`), and that no bytes, times or counters make any of this crate fail but for memory and the
+//! output. The order of the columns, the groups of `Stats` and how a listing ends are tried by tests alone.
 
 mod address;
 mod line;

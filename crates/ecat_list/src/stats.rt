@@ -247,8 +247,8 @@ impl Stats {
         Ok(())
     }
 
-    /// The place of the group with this key, which is made where there is none; past all where there is no
-    /// room.
+    /// The place of the group with this key, which is made where there is none; past all others where there
+    /// is no room.
     fn find(&mut self, key: &Key) -> Result<usize, AllocError> {
         let start = slot_of(key);
         for probe in 0..SLOTS {
