@@ -19,7 +19,8 @@ raw_fault_words NoMemory = codes "NoMemory"
 -- the descriptors of a served line
 abbrev pub served_words : ℕ → Option ℕ → List ℕ
 served_words a None = codes "serving A descriptor " ++ decimal a
-served_words a (Some b) = codes "serving A descriptor " ++ decimal a ++ codes " B descriptor " ++ decimal b
+served_words a (Some b) =
+    codes "serving A descriptor " ++ (decimal a ++ (codes " B descriptor " ++ decimal b))
 
 abbrev pub raw_where_words : Descriptors → List ℕ
 raw_where_words at = served_words at.a at.b

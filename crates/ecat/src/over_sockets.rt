@@ -149,6 +149,8 @@ where
             };
             status_of(done, out, err)
         }
+        // A listing takes its source whole (`open_listing`), and has none here.
+        Args::List { .. } => report(&Failure::Open, out, err),
         _ => act(rt.alloc(), args, source, out, err),
     }
 }
