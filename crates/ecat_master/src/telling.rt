@@ -32,6 +32,9 @@ pub struct Told {
     last: Showing,
     /// Where the cable was broken when that was last told.
     cable: Located,
+    /// Whether the last look at the cable found what the look before had found. One that found something new
+    /// may have come behind a change that its cycle had not seen.
+    settled: bool,
     /// The number of the cycle that began what goes on.
     since: u64,
 }
@@ -49,6 +52,7 @@ impl Told {
                 },
             },
             cable,
+            settled: true,
             since: 0,
         }
     }
@@ -60,7 +64,7 @@ impl Told {
 
     /// Tells what a cycle showed that the last one did not: that it was not good, that it is good again, that
     /// a link is down though it was good, or that none is any more. Only then another frame goes out, which
-    /// looks where the cable is broken.
+    /// looks where the cable is broken; and one more behind the next cycle, where that found something new.
     pub fn tell<P: HeardPorts, W: Write>(
         &mut self,
         cycle: u64,
@@ -75,13 +79,14 @@ impl Told {
             came: came_of(ended, ports.counts()),
             signs: ports.signs(),
         };
-        if now == self.last {
+        if now == self.last && self.settled {
             return Ok(());
         }
         let before = *self;
         self.last = now;
         let cable = self.look(ended, ports, line.len());
         self.cable = cable;
+        self.settled = cable == before.cable;
         if before.is_as(&now, cable) {
             return Ok(());
         }
