@@ -51,6 +51,10 @@ has_outputs s = fits_outputs (sync_manager_at s.controller.memory OUTPUTS) s.app
 abbrev pub has_inputs : SlaveState → Bool
 has_inputs s = fits_inputs (sync_manager_at s.controller.memory INPUTS) s.application.in_length
 
+-- does the slave lack the mailboxes that it needs on the way to Pre-Op; a simple slave needs none
+abbrev pub lacks_mailboxes : SlaveState → Bool
+lacks_mailboxes s = not s.application.simple && not (has_mailboxes s.controller.memory)
+
 -- the rows, in their order; below the fifth a request is for the next state up
 abbrev pub al_rows : SlaveState → ℕ → List (Bool × AlAnswer)
 al_rows s control =
@@ -59,10 +63,7 @@ al_rows s control =
     ∷ (is_none (state_of (asked control)), Refused UnknownState)
     ∷ (nat_le (asked control) (current s), Entered (asked_state control))
     ∷ (nat_lt (2 * current s) (asked control), Refused InvalidStateChange)
-    ∷ (
-      asked control == code_of PreOp && not (has_mailboxes s.controller.memory),
-      Refused InvalidMailboxConfiguration,
-    )
+    ∷ (asked control == code_of PreOp && lacks_mailboxes s, Refused InvalidMailboxConfiguration)
     ∷ (asked control == code_of SafeOp && not (has_outputs s), Refused InvalidOutputConfiguration)
     ∷ (asked control == code_of SafeOp && not (has_inputs s), Refused InvalidInputConfiguration)
     ∷ []

@@ -29,7 +29,7 @@ enum AlAnswer {
 }
 
 impl Slave {
-    ghost use Rattle.ec_app.specs.AlStep.{has_outputs, has_inputs};
+    ghost use Rattle.ec_app.specs.AlStep.{lacks_mailboxes, has_outputs, has_inputs};
     ghost use Rattle.ec_app.specs.Roles.{has_mailboxes};
 
     /// Are both mailboxes there, and do they share no byte?
@@ -41,6 +41,13 @@ impl Slave {
         is_request_mailbox(&requests)
             && is_answer_mailbox(&answers)
             && !areas_meet(&requests, &answers)
+    }
+
+    /// Does the slave lack the mailboxes that it needs on the way to Pre-Op? A simple slave needs none.
+    fn lacks_mailboxes(&self) -> bool
+        ensures { result ≡ lacks_mailboxes self.now }
+    {
+        !self.simple && !self.has_mailboxes()
     }
 
     /// Does the sync manager of the outputs fit what the application works with?
@@ -80,7 +87,7 @@ impl Slave {
         if asked > 2 * current {
             return AlAnswer::Refused(AlStatusCode::InvalidStateChange);
         }
-        if state == AlState::PreOp && !self.has_mailboxes() {
+        if state == AlState::PreOp && self.lacks_mailboxes() {
             return AlAnswer::Refused(AlStatusCode::InvalidMailboxConfiguration);
         }
         if state == AlState::SafeOp && !self.has_outputs() {

@@ -1,6 +1,6 @@
 //! One slave: its controller and its application.
 
-ghost use Rattle.std.specs.Prelude.{◌≡◌, false, IfOk, None};
+ghost use Rattle.std.specs.Prelude.{◌≡◌, true, false, IfOk, None};
 ghost use Rattle.std.specs.Borrow.{sem};
 ghost use Rattle.ec_app.specs.AlStep.{with_state};
 ghost use Rattle.ec_app.specs.Lending.{LendsController};
@@ -16,8 +16,8 @@ use std::marker::Model;
 
 /// One slave (IEC 61158-6-12, application layer of a slave): a controller, by which the master reaches it,
 /// and an application, which has the objects, keeps the counter of the last good mail that it took, and works
-/// with outputs and inputs of a fixed length. Contracts see the state of the controller and that of the
-/// application.
+/// with outputs and inputs of a fixed length. The application of a simple slave (one of digital inputs or
+/// outputs, say) needs no mailbox. Contracts see the state of the controller and that of the application.
 #[derive(Drop)]
 pub struct Slave {
     pub(crate) controller: Controller,
@@ -25,6 +25,7 @@ pub struct Slave {
     pub(crate) kept: Option<u8>,
     pub(crate) out_length: u16,
     pub(crate) in_length: u16,
+    pub(crate) simple: bool,
 }
 
 impl Model for Slave {
@@ -39,6 +40,7 @@ impl Model for Slave {
         kept = s.kept;
         out_length = s.out_length;
         in_length = s.in_length;
+        simple = s.simple;
       };
     } };
 }
@@ -55,8 +57,13 @@ impl Slave {
         in_len: u16,
     ) -> Result<Slave, NoMemory>
         ensures controller { IfOk result (λ slave. IsFresh station slave.controller) }
-        ensures application { IfOk result (λ slave. slave.application
-            ≡ record { objects = objects; kept = None; out_length = out_len; in_length = in_len }) }
+        ensures application { IfOk result (λ slave. slave.application ≡ record {
+          objects = objects;
+          kept = None;
+          out_length = out_len;
+          in_length = in_len;
+          simple = false;
+        }) }
     {
         Ok(Slave {
             controller: Controller::new(alloc, station)?,
@@ -64,7 +71,43 @@ impl Slave {
             kept: None,
             out_length: out_len,
             in_length: in_len,
+            simple: false,
         })
+    }
+
+    /// A simple slave: as by [`Slave::new`], but on the way to Pre-Op it needs no mailbox (IEC 61158-6-12, AL
+    /// management). Where the master configures mailboxes all the same, it answers mails as any slave.
+    pub fn simple(
+        alloc: Global,
+        station: u16,
+        objects: Objects,
+        out_len: u16,
+        in_len: u16,
+    ) -> Result<Slave, NoMemory>
+        ensures controller { IfOk result (λ slave. IsFresh station slave.controller) }
+        ensures application { IfOk result (λ slave. slave.application ≡ record {
+          objects = objects;
+          kept = None;
+          out_length = out_len;
+          in_length = in_len;
+          simple = true;
+        }) }
+    {
+        Ok(Slave {
+            controller: Controller::new(alloc, station)?,
+            objects,
+            kept: None,
+            out_length: out_len,
+            in_length: in_len,
+            simple: true,
+        })
+    }
+
+    /// Is the slave a simple one, which needs no mailbox on the way to Pre-Op?
+    pub fn is_simple(&self) -> bool
+        ensures { result ≡ self.now.application.simple }
+    {
+        self.simple
     }
 
     /// The controller, by which the master reaches the slave.

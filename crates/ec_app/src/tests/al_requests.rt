@@ -198,3 +198,46 @@ fn master_does_not_write_al_status(rt: HostRuntime) {
     assert_same(&rt, written(&rt, &mut slave, 0x0130, &[0x08, 0x00]), 0);
     assert_same(&rt, slave.state(), AlState::Init);
 }
+
+/// A simple slave in Init with no objects and with outputs and inputs of these lengths.
+fn simple_slave(rt: &impl Abort, alloc: Global, lengths: (u16, u16)) -> Slave {
+    Slave::simple(alloc, 0x1001, Objects::new(), lengths.0, lengths.1).expect(rt, "memory")
+}
+
+#[test]
+fn simple_slave_enters_pre_op_without_mailboxes(rt: HostRuntime) {
+    let mut slave = simple_slave(&rt, rt.alloc(), (0, 0));
+    assert_same(&rt, slave.is_simple(), true);
+    assert_asked(&rt, &mut slave, 0x0002, (0x02, 0x0000));
+    assert_asked(&rt, &mut slave, 0x0004, (0x04, 0x0000));
+    assert_asked(&rt, &mut slave, 0x0008, (0x08, 0x0000));
+}
+
+#[test]
+fn simple_slave_enters_pre_op_whatever_its_mailboxes(rt: HostRuntime) {
+    let mut slave = simple_slave(&rt, rt.alloc(), (1, 1));
+    set_area(&mut slave, 0, (0x1000, 1, 0x04));
+    set_area(&mut slave, 1, (0x1100, 1, 0x00));
+    assert_asked(&rt, &mut slave, 0x0002, (0x02, 0x0000));
+}
+
+#[test]
+fn simple_slave_is_refused_all_else_as_any_slave(rt: HostRuntime) {
+    let mut slave = simple_slave(&rt, rt.alloc(), (2, 1));
+    assert_asked(&rt, &mut slave, 0x0004, (0x11, 0x0011));
+    assert_asked(&rt, &mut slave, 0x0002, (0x11, 0x0011));
+    assert_asked(&rt, &mut slave, 0x0012, (0x02, 0x0000));
+    assert_asked(&rt, &mut slave, 0x0003, (0x12, 0x0013));
+    assert_asked(&rt, &mut slave, 0x0014, (0x12, 0x001D));
+    set_area(&mut slave, 2, (0x1000, 2, 0x04));
+    assert_asked(&rt, &mut slave, 0x0014, (0x12, 0x001E));
+    set_area(&mut slave, 3, (0x1100, 1, 0x00));
+    assert_asked(&rt, &mut slave, 0x0014, (0x04, 0x0000));
+}
+
+#[test]
+fn slave_that_is_not_simple_needs_its_mailboxes(rt: HostRuntime) {
+    let mut slave = bare_slave(&rt, rt.alloc(), AlState::Init);
+    assert_same(&rt, slave.is_simple(), false);
+    assert_asked(&rt, &mut slave, 0x0002, (0x11, 0x0016));
+}

@@ -23,6 +23,7 @@ returns-in-Ok c =
         kept = fields.kept;
         out_length = fields.out_length;
         in_length = fields.in_length;
+        simple = fields.simple;
       };
     } in
     let room : can_answer s.controller ≡ true =
