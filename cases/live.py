@@ -419,7 +419,11 @@ def port_is_34980_if_none_is_given(stage):
 
 @case
 def scene_is_checked_before_a_socket_is_opened(stage):
-    texts = {"slave 1\nlrd 0 0\n": "scene: line 2: BadNumber\n1\n", "slave 1\nstep\n": "scene: actions\n1\n"}
+    digits = "lrd wants two hexadecimal digits for each byte, without 0x"
+    texts = {
+        "slave 1\nlrd 0 0\n": f'scene: line 2: BadNumber\ns:2:7: "0" is no row of bytes; {digits}\n1\n',
+        "slave 1\nstep\n": "scene: actions\ns has a line frame, step or weather, which ecat run does alone\n1\n",
+    }
     with stage.master(stage.port):
         for scene, told in texts.items():
             stage.file("s", scene)

@@ -24,7 +24,7 @@ pub fn scene_of<S: Source>(alloc: Global, source: &mut S) -> Result<Scene, Failu
 }
 
 /// Why a source could not be read to its end.
-fn unread(fault: ReadAllFault) -> Failure
+pub fn unread(fault: ReadAllFault) -> Failure
     ensures { result ≡ unread fault }
 {
     match fault {

@@ -191,7 +191,7 @@ pub(crate) fn load_of(alloc: Global, address: &[u8], row: &[u8]) -> Result<Load,
 }
 
 /// The record of an enabled sync manager of these numbers.
-fn sync_man_of(start: u64, length: u64, control: u8) -> Result<SyncMan, LineFault>
+pub(crate) fn sync_man_of(start: u64, length: u64, control: u8) -> Result<SyncMan, LineFault>
     ensures numbers { IfOk result (λ made. made ≡ enabled_sync_man start length control) }
     ensures fits { start < 2 ^ 16 → length < 2 ^ 16 → IsOk result }
 {
@@ -234,7 +234,7 @@ fn fmmu_of(
 }
 
 /// What a sync manager of a kind may do.
-fn control_of(kind: &[u8]) -> Result<SyncManControl, LineFault> {
+pub(crate) fn control_of(kind: &[u8]) -> Result<SyncManControl, LineFault> {
     match kind {
         b"mailbox-write" => Ok(SyncManControl::MAILBOX.union(SyncManControl::WRITE)),
         b"mailbox-read" => Ok(SyncManControl::MAILBOX),

@@ -8,7 +8,9 @@ use std::process::Abort;
 
 mod bench;
 mod door;
+mod explains;
 mod faults;
+mod lints;
 mod slaves;
 mod works;
 
