@@ -38,6 +38,11 @@ put_number c i number = put c i (low_bytes (sync_manager_at c.memory i).length n
 
 -- ---- what an application does
 
+-- the sync manager of the inputs that it puts
+abbrev pub inputs_of : Behaviour → ℕ
+inputs_of (Mirror inputs outputs) = inputs
+inputs_of (Count inputs) = inputs
+
 -- is this the number of a sync manager? With any other nothing is done
 abbrev pub is_manager : ℕ → Bool
 is_manager i = nat_lt i SYNC_MANAGER_COUNT

@@ -1,7 +1,7 @@
 //! The applications of a line.
 
 ghost use Rattle.std.specs.Prelude.{◌≡◌, []};
-ghost use Rattle.ec_process.specs.Acting.{acted};
+ghost use Rattle.ec_process.specs.Acting.{acted, inputs_of};
 ghost use Rattle.ec_process.specs.State.{once_more};
 
 use crate::act::act_each;
@@ -25,6 +25,17 @@ pub enum Behaviour {
         /// The sync manager of the inputs.
         inputs: usize,
     },
+}
+
+impl Behaviour {
+    /// The sync manager of the inputs that it puts.
+    pub fn inputs(&self) -> usize
+        ensures { result ≡ inputs_of self.now }
+    {
+        match self {
+            Behaviour::Mirror { inputs, .. } | Behaviour::Count { inputs } => *inputs,
+        }
+    }
 }
 
 /// An application on a line.
