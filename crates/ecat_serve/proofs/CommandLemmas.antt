@@ -64,9 +64,13 @@ leads_end receives sends most all start ends_start k counts told now between com
     leads (Ok told) commanded ends_commanded
     (subst (λ (n : ℕ). ServesCommanded receives sends most n counts now ends_now (Ok told) commanded
     ends_commanded)
-    (sym (fewer all k inside))
-    (Ok told, between, ends_between, serves,
-    inr (few, commanded, ends_commanded, does, inl (refl, refl, refl))))
+    (sym (fewer all k inside)) (
+      Ok told,
+      between,
+      ends_between,
+      serves,
+      inr (few, commanded, ends_commanded, does, inl (refl, refl, refl)),
+    ))
 
 -- so many packets have come
 pub leads_all : {E : Type 0} (receives : Receives E) (sends : Sends E) (most all : ℕ) (start : ServedState)

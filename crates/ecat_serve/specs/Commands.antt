@@ -39,10 +39,10 @@ pub record IsPut (before : ServedState) (number : ℕ) (up : Bool) (later : Serv
 
 -- bytes of process memory are loaded
 pub record IsLoaded (before : ServedState) (place address : ℕ) (bytes : List ℕ) (later : ServedState) : Type 0
-    where
-  pub from : PROCESS_MEMORY ≤ address
-  pub to : address + length bytes ≤ MEMORY_SIZE
-  pub changes : Changes before place (loaded address bytes) later
+  where
+    pub from : PROCESS_MEMORY ≤ address
+    pub to : address + length bytes ≤ MEMORY_SIZE
+    pub changes : Changes before place (loaded address bytes) later
 
 -- what a command leaves of a line
 abbrev pub Leaves : Command → ServedState → ServedState → Type 0

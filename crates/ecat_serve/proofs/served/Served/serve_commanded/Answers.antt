@@ -12,7 +12,7 @@ returns-in_err-counts-clause-serves g c =
     let p = err_from_is_err_and c.from_residual.result c.from_residual.ensures.1 in
     let counts = c.loop-command.counts in
     let left = left_is c.args.most (packets counts) c.packets.result c.saturating_sub-left.result
-        c.loop-command.invariant.counted c.ranges.most.fits c.packets.ensures c.saturating_sub-left.ensures in
+    c.loop-command.invariant.counted c.ranges.most.fits c.packets.ensures c.saturating_sub-left.ensures in
     rw (p.1, p.2)
     (leads_fault g.E.Ends.receives g.E.Ends.sends c.args.most (2 ^ 64 - 1) c.args.self.now c.args.ends.now
     c.loop-command._command counts c.loop-command.self c.serve_on.new.self
@@ -24,10 +24,10 @@ returns-then-most-packets-clause-serves g c =
     let counts = c.loop-command.counts in
     let told = c.in_ok-counts.counts in
     let left = left_is c.args.most (packets counts) c.packets.result c.saturating_sub-left.result
-        c.loop-command.invariant.counted c.ranges.most.fits c.packets.ensures c.saturating_sub-left.ensures in
+    c.loop-command.invariant.counted c.ranges.most.fits c.packets.ensures c.saturating_sub-left.ensures in
     let as_told = told_is c.args.most (packets counts) c.saturating_sub-left.result (packets told)
-        c.packets-in-loop-command.result c.loop-command.invariant.counted c.ranges.most.fits left
-        c.in_ok-counts.ensures.counted c.packets-in-loop-command.ensures in
+    c.packets-in-loop-command.result c.loop-command.invariant.counted c.ranges.most.fits left
+    c.in_ok-counts.ensures.counted c.packets-in-loop-command.ensures in
     leads_all g.E.Ends.receives g.E.Ends.sends c.args.most (2 ^ 64 - 1) c.args.self.now c.args.ends.now
     c.loop-command._command counts told c.loop-command.self c.serve_on.new.self
     c.loop-command.ends c.serve_on.new.ends c.loop-command-test.true
@@ -39,10 +39,10 @@ returns-then-not-take_line-clause-serves g c =
     let counts = c.loop-command.counts in
     let told = c.in_ok-counts.counts in
     let left = left_is c.args.most (packets counts) c.packets.result c.saturating_sub-left.result
-        c.loop-command.invariant.counted c.ranges.most.fits c.packets.ensures c.saturating_sub-left.ensures in
+    c.loop-command.invariant.counted c.ranges.most.fits c.packets.ensures c.saturating_sub-left.ensures in
     let as_told = told_is c.args.most (packets counts) c.saturating_sub-left.result (packets told)
-        c.packets-in-loop-command.result c.loop-command.invariant.counted c.ranges.most.fits left
-        c.in_ok-counts.ensures.counted c.packets-in-loop-command.ensures in
+    c.packets-in-loop-command.result c.loop-command.invariant.counted c.ranges.most.fits left
+    c.in_ok-counts.ensures.counted c.packets-in-loop-command.ensures in
     leads_end g.E.Ends.receives g.E.Ends.sends c.args.most (2 ^ 64 - 1) c.args.self.now c.args.ends.now
     c.loop-command._command counts told c.loop-command.self c.serve_on.new.self c.take_line.new.served
     c.loop-command.ends c.serve_on.new.ends c.take_line.new.ends c.loop-command-test.true
@@ -54,10 +54,10 @@ loop-command-preserved g c =
     let counts = c.loop-command.counts in
     let told = c.in_ok-counts.counts in
     let left = left_is c.args.most (packets counts) c.packets.result c.saturating_sub-left.result
-        c.loop-command.invariant.counted c.ranges.most.fits c.packets.ensures c.saturating_sub-left.ensures in
+    c.loop-command.invariant.counted c.ranges.most.fits c.packets.ensures c.saturating_sub-left.ensures in
     let as_told = told_is c.args.most (packets counts) c.saturating_sub-left.result (packets told)
-        c.packets-in-loop-command.result c.loop-command.invariant.counted c.ranges.most.fits left
-        c.in_ok-counts.ensures.counted c.packets-in-loop-command.ensures in
+    c.packets-in-loop-command.result c.loop-command.invariant.counted c.ranges.most.fits left
+    c.in_ok-counts.ensures.counted c.packets-in-loop-command.ensures in
     let few : packets told < c.args.most = rw as_told at c.if-most-packets.false in
     record {
       counted = omega (arith, few);
