@@ -4,15 +4,14 @@ use crate::act::{Failure, act, report};
 use crate::control::act_control;
 use crate::far::{Course, Reach, act_master, act_scan, course_of, far_ports, raw_ports};
 use crate::sdo::{Asked, sdo_far};
-use crate::serve::{Service, act_serve, ring_to_serve, unbound};
+use crate::serve::{Service, act_serve, line_to_serve, unbound};
 use crate::udp::{Wanted, act_udp, prepare_udp};
 use crate::where_broken::where_far;
-use ec_ring::Ring;
 use ecat_args::Args;
 use ecat_master::{Outputs, Plan};
 use ecat_pace::{Beat, Ending};
 use ecat_raw::{Descriptors, RawEnds, descriptors_of};
-use ecat_serve::UdpEnds;
+use ecat_serve::{Served, UdpEnds};
 use ecat_source::Source;
 use ecat_udp::UdpLine;
 use std::net::Net;
@@ -313,8 +312,8 @@ where
     W: io::Write,
     V: io::Write,
 {
-    let ring = match ring_to_serve(rt.alloc(), source, out, err) {
-        Ok(ring) => ring,
+    let served = match line_to_serve(rt.alloc(), source, out, err) {
+        Ok(served) => served,
         Err(status) => return status,
     };
     let awaited = if service.awaits_input() {
@@ -323,7 +322,7 @@ where
         None
     };
     if let Some(descriptors) = service.raw {
-        return serve_raw(rt, service, descriptors, awaited, ring, out, err);
+        return serve_raw(rt, service, descriptors, awaited, served, out, err);
     }
     let mut ends = match UdpEnds::bind(rt, rt.alloc(), service.address, service.port, awaited) {
         Ok(ends) => ends,
@@ -331,19 +330,19 @@ where
     };
     if service.control {
         ends.keep_lines();
-        act_control(rt.alloc(), ring, service, &mut ends, out, err)
+        act_control(rt.alloc(), served, service, &mut ends, out, err)
     } else {
-        act_serve(ring, service, &mut ends, out, err)
+        act_serve(served, service, &mut ends, out, err)
     }
 }
 
-/// Serves a ring at packet sockets.
+/// Serves a line at packet sockets.
 fn serve_raw<R, W, V>(
     rt: &R,
     service: Service,
     descriptors: Descriptors,
     awaited: Option<Stdin>,
-    ring: Ring,
+    served: Served,
     out: &mut W,
     err: &mut V,
 ) -> u8
@@ -358,8 +357,8 @@ where
     };
     if service.control {
         ends.keep_lines();
-        act_control(rt.alloc(), ring, service, &mut ends, out, err)
+        act_control(rt.alloc(), served, service, &mut ends, out, err)
     } else {
-        act_serve(ring, service, &mut ends, out, err)
+        act_serve(served, service, &mut ends, out, err)
     }
 }

@@ -4,8 +4,9 @@ use crate::act::Failure;
 use crate::carry::carry;
 use crate::cycle::{cycle, work_of};
 use crate::judge::{judged_cycle, print_cable};
-use crate::line::{ring_of, scene_of, weathers_of};
+use crate::line::{applications_of, ring_of, scene_of, weathers_of};
 use ec_master::{Reporting, WeatherPorts, Work, all_expected};
+use ec_process::Applications;
 use ec_ring::{Ring, Weather};
 use ecat_scene::Action;
 use ecat_source::Source;
@@ -15,7 +16,7 @@ use std::io::Write;
 
 /// Runs the scene that the source holds: its frames and steps in their order; if it has items, one cycle of
 /// them, where the line as it then is and the items are accepted; then a line for each active buffered area
-/// that the master writes. With `judge` the cycle is judged whatever the scene has, and what is in the way of
+/// that the master writes. Applications act behind each step and behind the cycle. With `judge` the cycle is judged whatever the scene has, and what is in the way of
 /// a good verdict is printed. All memory is taken before anything is printed.
 pub fn run<S: Source, W: Write>(
     alloc: Global,
@@ -25,10 +26,11 @@ pub fn run<S: Source, W: Write>(
 ) -> Result<u8, Failure> {
     let scene = scene_of(alloc, source)?;
     let weathers = weathers_of(alloc, scene.weathers.as_slice())?;
+    let mut applications = applications_of(alloc, scene.slaves.as_slice())?;
     let mut ring = ring_of(alloc, scene.slaves, scene.links_down.as_slice())?;
     let mut lines = Lines::new(out);
     for action in &scene.actions {
-        act_on(&mut ring, action, &mut lines)?;
+        act_on(&mut ring, &mut applications, action, &mut lines)?;
     }
     if scene.items.is_empty() {
         print_areas(ring.slaves(), &mut lines)?;
@@ -39,9 +41,10 @@ pub fn run<S: Source, W: Write>(
     }
     let mut work = work_of(scene.items)?;
     if judge {
-        return judged(ring, &mut work, weathers.as_slice(), &mut lines);
+        return judged(ring, applications, &mut work, weathers.as_slice(), &mut lines);
     }
     let status = cycle(&mut ring, &mut work, weathers.as_slice(), &mut lines)?;
+    applications.act(&mut ring);
     print_areas(ring.slaves(), &mut lines)?;
     Ok(status)
 }
@@ -50,6 +53,7 @@ pub fn run<S: Source, W: Write>(
 /// items and the areas.
 fn judged<W: Write>(
     ring: Ring,
+    mut applications: Applications,
     work: &mut Work,
     weathers: &[Weather],
     lines: &mut Lines<'_, W>,
@@ -60,6 +64,7 @@ fn judged<W: Write>(
     let verdict = judged_cycle(&mut ports, work, &expected[..count], lines)?;
     let (ports, report) = ports.into_parts();
     let mut ring = ports.into_ring();
+    applications.act(&mut ring);
     print_cable(verdict, &report, &mut ring, weathers, lines)?;
     print_items(work, &expected, lines)?;
     print_areas(ring.slaves(), lines)?;
@@ -69,11 +74,15 @@ fn judged<W: Write>(
 /// Does one action, and prints the frame that it carries.
 fn act_on<W: Write>(
     ring: &mut Ring,
+    applications: &mut Applications,
     action: &Action,
     lines: &mut Lines<'_, W>,
 ) -> Result<(), Failure> {
     match action {
-        Action::Step => ring.step_all(),
+        Action::Step => {
+            ring.step_all();
+            applications.act(ring);
+        }
         Action::Frame(sent) => {
             let Ok(joined) = carry(ring, sent) else {
                 return Err(Failure::Stranger);

@@ -6,6 +6,7 @@ use ec_regs::{Fmmu, SyncMan};
 use std::fmt::Debug;
 use std::process::Abort;
 
+mod applications;
 mod bench;
 mod door;
 mod explains;
