@@ -2,3 +2,5 @@ pub mod Consuming
 pub mod Fronts
 pub mod Options
 pub mod Reasons
+pub mod Files
+pub mod Readings
