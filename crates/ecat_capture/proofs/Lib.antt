@@ -1,3 +1,4 @@
+pub mod Laws
 pub mod Consuming
 pub mod Fronts
 pub mod Options

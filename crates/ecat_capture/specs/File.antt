@@ -5,11 +5,12 @@ use Rattle.ecat_capture.specs.Progress.{Progress, IsPiece, Finds, stage_behind}
 use Rattle.ecat_capture.specs.Progress.{interfaces_behind, stored_bytes}
 use Rattle.ecat_capture.specs.declared.blocks.Interface.{Interface}
 use Rattle.ecat_capture.specs.declared.blocks.Body.TheVariants as body
+use Rattle.ecat_capture.specs.declared.classic.Format.{Format}
 use Rattle.ecat_capture.specs.declared.packet.Found.{Found}
 use Rattle.ecat_capture.specs.declared.packet.Time.{Time}
 use Rattle.ecat_capture.specs.declared.packet.Packet.{Packet}
 use Rattle.ecat_capture.specs.declared.capture.Stage.{Stage}
-use Rattle.ecat_capture.specs.declared.capture.Stage.TheVariants.{Start, Fault}
+use Rattle.ecat_capture.specs.declared.capture.Stage.TheVariants.{Start, Records, Fault}
 use Rattle.ecat_capture.specs.declared.capture.Piece.{Piece}
 use Rattle.ecat_capture.specs.declared.capture.Piece.TheVariants as piece
 
@@ -55,6 +56,10 @@ pub data Holds : Stage → List Interface → List ℕ → List Stored → Type 
 -- The bytes are a capture with these packets.
 abbrev pub IsCapture : List ℕ → List Stored → Type 0
 IsCapture bytes packets = Holds Start [] bytes packets
+
+-- The bytes are records of a classic capture, end to end, with these packets.
+abbrev pub AreRecords : Format → List ℕ → List Stored → Type 0
+AreRecords format bytes packets = Holds (Records format) [] bytes packets
 
 -- a packet as a call tells it and lends its bytes
 abbrev pub given : Packet → List ℕ → Stored
