@@ -1,5 +1,6 @@
 -- A header and records that were written are a capture with these packets.
-use Rattle.std.proofs.Common.{◌≡◌, ℕ, ◌+◌, ◌-◌, ◌*◌, ◌/◌, ◌%◌, ◌<◌, ◌≤◌, ◌^◌, List, [], ◌∷◌, length, take, drop, min}
+use Rattle.std.proofs.Common.{◌≡◌, ℕ, ◌+◌, ◌-◌, ◌*◌, ◌/◌, ◌%◌, ◌<◌, ◌≤◌, ◌^◌, List, [], ◌∷◌, length}
+use Rattle.std.proofs.Common.{take, drop, min}
 use Rattle.std.proofs.Common.{Option, Some, refl, arith, sym, ap, ◌∙◌, subst}
 use Rattle.std.proofs.lemmas.List.{length-append, take_min}
 use Rattle.byteorder.specs.Numbers.{little_number-reads_back}
@@ -13,7 +14,8 @@ use Rattle.ecat_capture.specs.File.{Stored, stored, AreRecords, IsCapture}
 use Rattle.ecat_capture.proofs.Laws.{records-none, records-more, capture-of_records}
 use Rattle.ecat_capture.specs.declared.order.Order.TheVariants.{Little}
 use Rattle.ecat_tape.specs.Written as written
-use Rattle.ecat_tape.specs.Written.{header_of, head_of, record_of, records_of, capture_of, format_of, per_second}
+use Rattle.ecat_tape.specs.Written.{header_of, head_of, record_of, records_of, capture_of, format_of}
+use Rattle.ecat_tape.specs.Written.{per_second}
 use Rattle.ecat_tape.specs.Written.{Copy, AllFit, told_time}
 use Rattle.ecat_tape.specs.declared.format.Unit.{Unit}
 use Rattle.ecat_tape.specs.declared.format.Unit.TheVariants.{Microseconds, Nanoseconds}

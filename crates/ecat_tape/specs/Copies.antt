@@ -36,5 +36,6 @@ abbrev pub IsRecorded : Port → Way → List ℕ → Option TapeState → Optio
 IsRecorded port way frame None new = new ≡ None
 IsRecorded port way frame (Some old) None = ⊥
 IsRecorded port way frame (Some old) (Some new) =
-    (new.has_failed ≡ false → (ticks : ℕ) × Appends old.held new.held (copy_record old.unit ticks port way frame))
+    (new.has_failed ≡ false → (ticks : ℕ)
+    × Appends old.held new.held (copy_record old.unit ticks port way frame))
     × (old.has_failed ≡ true → new ≡ old) × (new.unit ≡ old.unit)

@@ -55,8 +55,8 @@ fn front_of(frame: &[u8]) -> &[u8]
 
 impl<W: Write> Tape<W> {
     /// Writes the record of a copy that left or arrived at a port, so many units of time after the epoch: an
-    /// Ethernet frame to every station, of type 0x88A4, padded with zeros to 60 bytes. Of a frame of more than
-    /// 1,500 bytes the first are written.
+    /// Ethernet frame to every station, of type 0x88A4, padded with zeros to 60 bytes. Of a longer frame the
+    /// first 1,500 bytes are written.
     pub fn copy(&mut self, ticks: u64, port: Port, way: Way, frame: &[u8])
         ensures grown { self.new.has_failed ≡ false → Appends self.old.held self.new.held
             (copy_record self.old.unit ticks port way frame.now) }

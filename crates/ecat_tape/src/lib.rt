@@ -17,7 +17,7 @@
 //!   address tells the port of the master and the way ([`address_of`]): `10:52:4d:50:00:0a` leaves port A and
 //!   `12:52:4d:50:00:0b` arrives at port B, as `ecat_raw` sends and controllers pass on.
 //! - [`Moments`] are the times: a count, or the clock of the system.
-//! - [`TapedRing`], [`TapedPorts`], [`TapedLine`] and [`TapedWatch`] record what travels over a ring, over
+//! - [`TapedRing`], [`TapedPorts`], [`TapedLine`] and [`TapedEnds`] record what travels over a ring, over
 //!   packets, and to a line that is served.
 //!
 //! What is promised, over a writer that tells its bytes:
@@ -31,22 +31,22 @@
 //!   what is proved of a cycle over them holds of one that is recorded.
 
 mod copies;
+mod ends;
 mod format;
 mod lines;
 mod moments;
 mod promises;
 mod rings;
 mod tape;
-mod watching;
 
 pub use copies::{Recorder, Way, address_of, unrecorded};
+pub use ends::TapedEnds;
 pub use format::Unit;
 pub use lines::TapedLine;
 pub use moments::{Counter, Moments, WallClock};
 pub use promises::reads_back;
 pub use rings::{TapedPorts, TapedRing};
 pub use tape::{MOST_PACKET, Tape, TapeFault};
-pub use watching::TapedWatch;
 
 #[cfg(test)]
 mod tests;
