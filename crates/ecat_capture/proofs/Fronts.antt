@@ -1,5 +1,5 @@
 -- What is known of a longer run of the bytes ahead by the shorter one that was looked at first.
-use Rattle.std.proofs.Common.{◌≡◌, ℕ, ◌+◌, ◌-◌, ◌≤◌, List, ◌++◌, take, drop, length, refl, arith, sym, ap, ◌∙◌}
+use Rattle.std.proofs.Common.{◌≡◌, ℕ, ◌+◌, ◌≤◌, List, ◌++◌, take, drop, length, arith, sym, ap, ◌∙◌}
 use Rattle.std.proofs.Common.{take-append-drop}
 use Rattle.std.proofs.lemmas.List.{take-take, drop-append-le, length-take, length-drop}
 use Rattle.byteorder.specs.Numbers.{big_from-append, little_from-append}

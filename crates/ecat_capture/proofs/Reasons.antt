@@ -1,16 +1,16 @@
 -- Pieces, and what is no piece, by the bytes that were loaded in two goes: the first say how many are wanted.
-use Rattle.std.proofs.Common.{◌≡◌, ℕ, ◌+◌, ◌<◌, ◌≤◌, List, [], Option, Some, None, IfSome, IfErr, Result, Ok, Err, take, drop}
-use Rattle.std.proofs.Common.{length, min, refl, arith, sym, ap, ◌∙◌, inl, inr, ◌^◌, ◌-◌}
+use Rattle.std.proofs.Common.{◌≡◌, ℕ, ◌+◌, ◌<◌, ◌≤◌, List, Option, Some, None, IfSome, IfErr, Result, Ok, Err, take}
+use Rattle.std.proofs.Common.{length, min, refl, arith, sym, ap, ◌∙◌, inl, inr}
 use Rattle.std.proofs.lemmas.List.{take_all, length-take}
 use Rattle.std.specs.Io.KnownBytes.{Consumes, Keeps}
 use Rattle.ecat_source.specs.Source.{CanFail}
 use Rattle.ecat_capture.specs.Numbers.{word}
 use Rattle.ecat_capture.specs.Input.{Input, ahead, run, place_behind, BeginsWith, IsExhausted}
 use Rattle.ecat_capture.specs.Pieces.{greatest_packet, kept_packet}
-use Rattle.ecat_capture.specs.Classic.{IsHeader, IsRecord, IsCutRecord, format_of, header_fault, record_of}
-use Rattle.ecat_capture.specs.Blocks.{IsBlock, IsCutBlock, block_order, length_fault, section_header}
-use Rattle.ecat_capture.specs.Progress.{Takes, PacketIs, IsPiece, IsSameStart, IsCutStart, StartIsRefused}
-use Rattle.ecat_capture.specs.Progress.{IsRefusal, Explains, BlockIsRefused, BlamesAt, TakesPiece, stored_range}
+use Rattle.ecat_capture.specs.Classic.{IsCutRecord, format_of, record_of}
+use Rattle.ecat_capture.specs.Blocks.{IsBlock, IsCutBlock, block_order, length_fault}
+use Rattle.ecat_capture.specs.Progress.{Takes, PacketIs, IsSameStart, IsCutStart}
+use Rattle.ecat_capture.specs.Progress.{IsRefusal, Explains, BlamesAt, TakesPiece, stored_range}
 use Rattle.ecat_capture.specs.declared.order.Order.{Order}
 use Rattle.ecat_capture.specs.declared.order.Order.TheVariants.{Little}
 use Rattle.ecat_capture.specs.declared.classic.Format.{Format}

@@ -1,7 +1,7 @@
 -- A pcapng file is blocks, end to end: each has its type, its length, what it says, and its length again
 -- (the PCAP Next Generation file format: block types and options).
-use Rattle.std.specs.Prelude.{◌≡◌, ℕ, ◌+◌, ◌-◌, ◌*◌, ◌%◌, ◌<◌, ◌≤◌, ◌⊎◌, Bool, true, false, not, ◌==◌, ◌&&◌}
-use Rattle.std.specs.Prelude.{◌||◌, nat_lt}
+use Rattle.std.specs.Prelude.{◌≡◌, ℕ, ◌+◌, ◌-◌, ◌*◌, ◌%◌, ◌<◌, ◌≤◌, ◌⊎◌, not, ◌==◌, ◌&&◌}
+use Rattle.std.specs.Prelude.{nat_lt}
 use Rattle.std.specs.Prelude.{Option, Some, None, Result, Ok, Err, List, [], ◌∷◌, zero, suc, length, drop}
 use Rattle.std.specs.Prelude.{min}
 use Rattle.std.specs.Prelude.{slice_index, slice_get, if◌then◌else◌}

@@ -1,5 +1,5 @@
 -- What is ahead of a reader that looks at the front of it before it takes it.
-use Rattle.std.specs.Prelude.{◌≡◌, ℕ, ◌+◌, ◌^◌, ◌-◌, List, [], Option, take, drop, min}
+use Rattle.std.specs.Prelude.{ℕ, ◌+◌, ◌^◌, ◌-◌, List, Option, take, drop, min}
 use Rattle.std.specs.Io.KnownBytes.{Consumes, IsAtEnd, prepend_known}
 use Rattle.ecat_source.specs.Source.{CanFail}
 

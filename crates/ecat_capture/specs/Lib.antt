@@ -5,4 +5,5 @@ pub mod Pieces
 pub mod Classic
 pub mod Blocks
 pub mod Progress
+pub mod File
 pub mod Ethernet

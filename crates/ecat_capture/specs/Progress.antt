@@ -1,7 +1,7 @@
 -- How far a capture was read, what piece of it is taken next, and why none is.
-use Rattle.std.specs.Prelude.{◌≡◌, ◌⊎◌, ℕ, ◌+◌, ◌<◌, ◌≤◌, ◌^◌, ◌-◌, Option, None, Some, Result, Ok, Err, ⊤}
+use Rattle.std.specs.Prelude.{◌≡◌, ◌⊎◌, ℕ, ◌+◌, ◌<◌, ◌^◌, ◌-◌, Option, None, Some, Ok, Err, ⊤}
 use Rattle.std.specs.Prelude.{List, [], ◌∷◌, ◌++◌, length, take, min, IfSome}
-use Rattle.std.specs.Io.KnownBytes.{Consumes, IsAtEnd, Keeps}
+use Rattle.std.specs.Io.KnownBytes.{Consumes, IsAtEnd}
 use Rattle.ecat_source.specs.Source.{CanFail}
 use Rattle.ecat_capture.specs.Numbers.{word}
 use Rattle.ecat_capture.specs.Input.{Input, ahead, run, place_behind, BeginsWith}
@@ -9,7 +9,7 @@ use Rattle.ecat_capture.specs.Pieces.{greatest_packet, kept_packet}
 use Rattle.ecat_capture.specs.Classic.{IsHeader, IsRecord, IsCutRecord, format_of, header_fault}
 use Rattle.ecat_capture.specs.Blocks.{IsBlock, IsCutBlock, block_order, length_fault, body_of, section_header}
 use Rattle.ecat_capture.specs.declared.order.Order.{Order}
-use Rattle.ecat_capture.specs.declared.order.Order.TheVariants.{Little, Big}
+use Rattle.ecat_capture.specs.declared.order.Order.TheVariants.{Little}
 use Rattle.ecat_capture.specs.declared.classic.Format.{Format}
 use Rattle.ecat_capture.specs.declared.blocks.Interface.{Interface}
 use Rattle.ecat_capture.specs.declared.blocks.Body.{Body}

@@ -1,5 +1,5 @@
 -- When a packet was captured, by the unit of time that its file or interface counts in.
-use Rattle.std.specs.Prelude.{ℕ, ◌/◌, ◌%◌, ◌*◌, ◌-◌, ◌^◌, Bool, ◌&&◌, nat_lt, if◌then◌else◌}
+use Rattle.std.specs.Prelude.{ℕ, ◌/◌, ◌%◌, ◌*◌, ◌-◌, ◌^◌, ◌&&◌, nat_lt, if◌then◌else◌}
 use Rattle.ecat_capture.specs.declared.packet.Time.{Time}
 
 -- the time of so many ticks since the epoch, of which a second has so many

@@ -23,6 +23,8 @@
 //!   `Read` comes only where the source's count of failures grew; after the end it is always the end
 //!   (`ended`), and after a fault always `Failed` (`failed`);
 //! - [`Capture::next`] passes over pieces that are no packets, and answers with the packet of such a step;
+//! - what its calls give up to the end are all packets of the file in their order (`whole_file`), by the
+//!   definition of a whole capture (`IsCapture`); and no bytes are a capture in two ways (`one_reading`);
 //! - [`payload_of`] finds a packet's EtherCAT frame by the table `payload_of`: behind up to two VLAN tags, or
 //!   in a whole UDP packet over IPv4 or IPv6 to or from port 34980.
 //!
@@ -37,12 +39,14 @@ mod fault;
 mod order;
 mod packet;
 mod pieces;
+mod promises;
 mod window;
 
 pub use capture::{Capture, Step};
 pub use ethernet::{Payload, frame_type, payload_of};
 pub use fault::{CaptureFault, CaptureFaultKind};
 pub use packet::{Packet, Time};
+pub use promises::{one_reading, whole_file};
 
 #[cfg(test)]
 mod tests;

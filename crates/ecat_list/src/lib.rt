@@ -27,10 +27,12 @@ mod address;
 mod line;
 mod listing;
 mod output;
+mod shown;
 mod stats;
 mod text;
 
 pub use listing::{Asked, Form, Listed, list};
+pub use shown::{Shown, show};
 
 #[cfg(test)]
 mod tests;

@@ -1,9 +1,11 @@
 //! The line of a datagram, and of a packet that has none.
-ghost use Rattle.std.specs.Prelude.{◌<◌, length};
+ghost use Rattle.std.specs.Prelude.{◌≡◌, ◌<◌, length};
+ghost use Rattle.ecat_list.specs.Shown.{kind_words};
 
 use crate::address::put_address;
 use crate::text::{put_byte, put_decimal, put_hex, put_seconds};
-use ec_wire::{FaultKind, FrameBuf, WireFault};
+use arrayvec::ArrayVec;
+use ec_wire::{Command, Datagram, FaultKind, FrameBuf, WireFault};
 use std::alloc::AllocError;
 
 /// What all lines of a packet begin with.
@@ -26,6 +28,19 @@ pub(crate) struct Since {
     pub nanoseconds: u64,
     /// Does the file count nanoseconds?
     pub fine: bool,
+}
+
+/// A frame that others are read into.
+pub(crate) fn any_frame() -> FrameBuf {
+    FrameBuf::of(&Datagram {
+        command: Command::Nop,
+        index: 0,
+        address: 0,
+        circulating: false,
+        irq: 0,
+        payload: ArrayVec::new(),
+        counter: 0,
+    })
 }
 
 /// What a packet is that has no datagrams to show.
@@ -219,7 +234,9 @@ fn put_words(text: &mut Vec<u8>, note: Note) -> Result<(), AllocError> {
 }
 
 /// The name of a kind of fault.
-fn name_of(kind: FaultKind) -> &'static [u8] {
+pub(crate) fn name_of(kind: FaultKind) -> &'static [u8]
+    ensures { result.now ≡ kind_words kind }
+{
     match kind {
         FaultKind::Short => b"Short",
         FaultKind::BadType => b"BadType",

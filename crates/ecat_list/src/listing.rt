@@ -1,11 +1,10 @@
 //! `ecat list`: what is told of each packet of a capture.
 ghost use Rattle.std.specs.Prelude.{◌<◌, length};
 
-use crate::line::{CSV_HEAD, Head, Note, Since, Style, put_datagrams, put_note};
+use crate::line::{CSV_HEAD, Head, Note, Since, Style, any_frame, put_datagrams, put_note};
 use crate::output::{Output, Stop};
 use crate::stats::{Key, Passed, Stats};
-use arrayvec::ArrayVec;
-use ec_wire::{Command, Datagram, Form as Carrier, FrameBuf};
+use ec_wire::{Form as Carrier, FrameBuf};
 use ecat_capture::{
     Capture, CaptureFault, CaptureFaultKind, Packet, Payload, Time, frame_type, payload_of,
 };
@@ -284,19 +283,6 @@ impl<'a, W: Write> Listing<'a, W> {
         }
         self.output.flush()
     }
-}
-
-/// A frame that others are read into.
-fn any_frame() -> FrameBuf {
-    FrameBuf::of(&Datagram {
-        command: Command::Nop,
-        index: 0,
-        address: 0,
-        circulating: false,
-        irq: 0,
-        payload: ArrayVec::new(),
-        counter: 0,
-    })
 }
 
 /// The type of a frame that is told by it alone: 4 has network variables, 5 is of the mailbox gateway.

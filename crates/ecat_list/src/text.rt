@@ -1,5 +1,6 @@
 //! Numbers as text, put at the end of a text.
-ghost use Rattle.std.specs.Prelude.{◌≡◌, ◌≤◌, ◌++◌, ◌∷◌, [], OnOk, decimal};
+ghost use Rattle.std.specs.Prelude.{◌≡◌, ◌<◌, ◌≤◌, ◌++◌, ◌∷◌, [], OnOk, decimal};
+ghost use Rattle.ecat_list.specs.Digits.{digit, eight_digits, four_digits};
 
 use itoa::Buffer;
 use std::alloc::AllocError;
@@ -36,6 +37,41 @@ pub(crate) fn put_digits(text: &mut Vec<u8>, number: u64, width: usize) -> Resul
         rest /= 10;
     }
     text.extend_from_slice(&digits[..width])
+}
+
+/// Puts four hexadecimal digits of a number.
+pub(crate) fn put_four_digits(text: &mut Vec<u8>, number: u16) -> Result<(), AllocError>
+    ensures { OnOk result (text.new.items ≡ text.old.items ++ four_digits number) }
+{
+    text.extend_from_slice(&four_digits(number))
+}
+
+/// Puts eight hexadecimal digits of a number.
+pub(crate) fn put_eight_digits(text: &mut Vec<u8>, number: u32) -> Result<(), AllocError>
+    ensures { OnOk result (text.new.items ≡ text.old.items ++ eight_digits number) }
+{
+    put_four_digits(text, (number / 65536) as u16)?;
+    put_four_digits(text, (number % 65536) as u16)
+}
+
+/// The four hexadecimal digits of a number.
+fn four_digits(number: u16) -> [u8; 4]
+    ensures { result ≡ four_digits number }
+{
+    [
+        digit(number / 4096 % 16),
+        digit(number / 256 % 16),
+        digit(number / 16 % 16),
+        digit(number % 16),
+    ]
+}
+
+/// The hexadecimal digit of a number below 16.
+fn digit(number: u16) -> u8
+    requires { number < 16 }
+    ensures { result ≡ digit number }
+{
+    DIGITS[number as usize]
 }
 
 /// Puts the hexadecimal digits of bytes.

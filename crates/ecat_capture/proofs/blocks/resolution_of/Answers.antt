@@ -1,5 +1,5 @@
 -- An option at a time is looked at, as the definition does it.
-use Rattle.std.proofs.Common.{arith, ◌≡◌, ◌≤◌, ◌-◌, ◌+◌, take, drop, length, sym, ◌∙◌, refl, ap}
+use Rattle.std.proofs.Common.{arith, ◌≡◌, ◌-◌, ◌+◌, take, drop, length, sym, ◌∙◌, refl, ap}
 use Rattle.std.proofs.Math.Nat.{sub-zero}
 use Rattle.std.proofs.lemmas.List.{take_all, length-drop}
 use Rattle.ecat_capture.specs.Blocks.{resolution_of, resolution_within}

@@ -1,5 +1,5 @@
 -- A power of two below the 35th.
-use Rattle.std.proofs.Common.{arith, ◌≡◌, ◌≤◌, ◌<◌, ◌-◌, ◌^◌}
+use Rattle.std.proofs.Common.{arith, ◌≤◌, ◌<◌, ◌-◌, ◌^◌}
 use Rattle.std.proofs.Math.Nat.{pow-le-pow_right}
 use Rattle.ecat_capture.proofs.packet.per_second_of.Goals as goal
 

@@ -1,5 +1,5 @@
 -- A header, and why 24 bytes are none.
-use Rattle.std.proofs.Common.{arith, ◌≡◌, Ok, true, false, inr, inl, refl, ap, ◌∙◌, ◌≤◌, take, length, []}
+use Rattle.std.proofs.Common.{arith, ◌≡◌, Ok, true, false, inr, inl, ap, ◌∙◌, ◌≤◌, length, []}
 use Rattle.std.proofs.lemmas.List.{length-take}
 use Rattle.ecat_capture.specs.Numbers.{word}
 use Rattle.ecat_capture.specs.Classic.{format_of}

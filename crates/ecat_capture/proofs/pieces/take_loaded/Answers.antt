@@ -1,5 +1,5 @@
 -- Why the first twelve bytes begin no block.
-use Rattle.std.proofs.Common.{arith, ◌≡◌, Some, None, inr, inl, refl, sym, ap, ◌∙◌, List, ℕ, take, length}
+use Rattle.std.proofs.Common.{arith, inr, inl, refl, sym, ◌∙◌, List, ℕ, take}
 use Rattle.std.proofs.lemmas.Result.{err_from_is_err_and}
 use Rattle.ecat_capture.specs.Blocks.{IsCutBlock}
 use Rattle.ecat_capture.specs.Progress.{BlockIsRefused, IsSameStart}

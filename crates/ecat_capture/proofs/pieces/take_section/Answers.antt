@@ -1,5 +1,5 @@
 -- Why a section header that begins a capture is none.
-use Rattle.std.proofs.Common.{arith, ◌≡◌, Ok, false, inr, inl, ap, ◌∙◌, List, [], ℕ}
+use Rattle.std.proofs.Common.{arith, ◌≡◌, Ok, false, inr, inl, ◌∙◌, List, [], ℕ}
 use Rattle.std.proofs.lemmas.Result.{err_from_is_err_and}
 use Rattle.ecat_capture.specs.Blocks.{IsCutBlock}
 use Rattle.ecat_capture.specs.Progress.{BlockIsRefused, IsSameStart, IsCutStart, StartIsRefused}

@@ -1,5 +1,5 @@
 -- A whole block, and why the bytes are none.
-use Rattle.std.proofs.Common.{arith, ◌≡◌, ◌≤◌, Ok, Err, true, false, inr, inl, refl, sym, ap, ◌∙◌, take, length, List, ℕ}
+use Rattle.std.proofs.Common.{arith, ◌≡◌, ◌≤◌, Ok, true, false, inr, sym, ap, length, List, ℕ}
 use Rattle.std.proofs.lemmas.List.{length-take}
 use Rattle.std.proofs.lemmas.Result.{err_from_is_err_and}
 use Rattle.ecat_capture.specs.Blocks.{IsCutBlock}

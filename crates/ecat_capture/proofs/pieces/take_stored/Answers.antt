@@ -1,7 +1,6 @@
 -- A record, and why one ends too early.
-use Rattle.std.proofs.Common.{arith, ◌≡◌, ◌≤◌, ◌+◌, Ok, true, false, refl, sym, ap, ◌∙◌, take, length, []}
+use Rattle.std.proofs.Common.{arith, ◌≡◌, ◌≤◌, ◌+◌, Ok, true, false, sym, ap, ◌∙◌, take, length, []}
 use Rattle.std.proofs.lemmas.List.{length-take}
-use Rattle.ecat_capture.specs.Numbers.{word}
 use Rattle.ecat_capture.specs.Progress.{IsPiece}
 use Rattle.ecat_capture.specs.declared.capture.Stage.TheVariants.{Records}
 use Rattle.ecat_capture.specs.declared.capture.Piece.TheVariants as piece

@@ -1,0 +1,4 @@
+pub mod Written
+pub mod State
+pub mod Copies
+pub mod Recorded
