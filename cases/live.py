@@ -395,13 +395,19 @@ def outputs_of_a_service_are_told(stage):
         yield "end", "packets 1 frames 1 dropped 0\nslave 0 sm 2 open c3 shown c3\n0\n", line.end()
 
 
+def unbound(port):
+    """What is told where a line does not get one of its ports, and the status."""
+    ports = f"of the UDP ports {port} and {port + 1} one cannot be had; --port names others"
+    return f"socket: Bind\n127.0.0.1: {ports}\n3\n"
+
+
 @case
 def ports_that_are_taken_are_told(stage):
     stage.file("s", "slave 1\nbrd 0x0130 0000\n")
     for taken in (stage.port, stage.port + 1):
         with stage.master(taken):
             for command in ("udp", "serve"):
-                yield command, "socket: Bind\n3\n", stage.ends(command, "s", "--port", str(stage.port))
+                yield command, unbound(stage.port), stage.ends(command, "s", "--port", str(stage.port))
 
 
 @case
@@ -414,7 +420,7 @@ def port_is_34980_if_none_is_given(stage):
         held = stage.master()
     with held:
         for command in ("udp", "serve"):
-            yield command, "socket: Bind\n3\n", stage.ends(command, "s")
+            yield command, unbound(34980), stage.ends(command, "s")
 
 
 @case

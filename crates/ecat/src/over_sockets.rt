@@ -14,7 +14,7 @@ use ecat_raw::{Descriptors, RawEnds, descriptors_of};
 use ecat_serve::{Served, UdpEnds};
 use ecat_source::Source;
 use ecat_udp::UdpLine;
-use std::net::Net;
+use std::net::{Ipv4Addr, Net};
 use std::rt::{Clock, Files, Stdin};
 use std::time::Duration;
 use std::{fs, io};
@@ -292,8 +292,27 @@ where
     };
     match UdpLine::bind(rt, wanted.port) {
         Ok(line) => act_udp(prepared, wanted.judge, line, out, err),
-        Err(_) => report(&Failure::Bind, out, err),
+        Err(_) => report_unbound(&Failure::Bind, Ipv4Addr::LOCALHOST, wanted.port, out, err),
     }
+}
+
+/// Reports that the sockets of a line could not be had, and which ones they are.
+fn report_unbound<W: io::Write, V: io::Write>(
+    failure: &Failure,
+    address: Ipv4Addr,
+    port: u16,
+    out: &mut W,
+    err: &mut V,
+) -> u8 {
+    let status = report(failure, out, err);
+    if matches!(failure, Failure::Bind) {
+        let next = u32::from(port) + 1;
+        let _ = writeln!(
+            err,
+            "{address}: of the UDP ports {port} and {next} one cannot be had; --port names others"
+        );
+    }
+    status
 }
 
 /// Serves the line of a scene. Its ends are opened once it is known that there is one. The service ends with
@@ -326,7 +345,9 @@ where
     }
     let mut ends = match UdpEnds::bind(rt, rt.alloc(), service.address, service.port, awaited) {
         Ok(ends) => ends,
-        Err(fault) => return report(&unbound(fault), out, err),
+        Err(fault) => {
+            return report_unbound(&unbound(fault), service.address, service.port, out, err);
+        }
     };
     if service.control {
         ends.keep_lines();

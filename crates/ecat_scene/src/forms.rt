@@ -84,16 +84,8 @@ pub(crate) fn forms_of(first: &[u8]) -> Option<(&'static str, &'static [Form])> 
                 Form::Number(DOUBLE_WORD),
             ],
         )),
-        b"startup" => Some((
-            "startup INDEX SUB VALUE",
-            &[
-                Form::Number(WORD),
-                Form::Number(BYTE),
-                Form::Number(DOUBLE_WORD),
-            ],
-        )),
         b"mirror" => Some((
-            "mirror OUT IN",
+            "mirror IN OUT",
             &[Form::Number(LAST_RECORD), Form::Number(LAST_RECORD)],
         )),
         b"count" => Some(("count IN", &[Form::Number(LAST_RECORD)])),
