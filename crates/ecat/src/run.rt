@@ -41,7 +41,13 @@ pub fn run<S: Source, W: Write>(
     }
     let mut work = work_of(scene.items)?;
     if judge {
-        return judged(ring, applications, &mut work, weathers.as_slice(), &mut lines);
+        return judged(
+            ring,
+            applications,
+            &mut work,
+            weathers.as_slice(),
+            &mut lines,
+        );
     }
     let status = cycle(&mut ring, &mut work, weathers.as_slice(), &mut lines)?;
     applications.act(&mut ring);

@@ -196,7 +196,13 @@ fn fails<S: Source>(rt: &(impl AllocGlobal + Abort), source: &mut S, line: &[u8]
     let mut complained = Cursor::new([0u8; ROOM]);
     let mut ends = Two::new(0);
     let status = match line_to_serve(rt.alloc(), source, &mut NoRoom, &mut complained) {
-        Ok(served) => act_serve(served, service(None), &mut ends, &mut NoRoom, &mut complained),
+        Ok(served) => act_serve(
+            served,
+            service(None),
+            &mut ends,
+            &mut NoRoom,
+            &mut complained,
+        ),
         Err(status) => status,
     };
     assert_eq!(rt; status, 3);
