@@ -17,7 +17,11 @@ fn a_slave_is_simple_where_its_line_says_so(rt: HostRuntime) {
     let [first, second, third] = scene.slaves.as_slice() else {
         panic!(rt; "three slaves");
     };
-    assert_same(&rt, (first.simple, second.simple, third.simple), (true, false, true));
+    assert_same(
+        &rt,
+        (first.simple, second.simple, third.simple),
+        (true, false, true),
+    );
     refused(&rt, b"simple", 1, LineFault::NoSlave);
     refused(&rt, b"slave 1\nsimple 1", 2, LineFault::WrongCount);
 }
@@ -61,5 +65,10 @@ fn inputs_are_put_by_one_line(rt: HostRuntime) {
     refused(&rt, b"slave 1\nmirror 3 2\nmirror 3 4", 3, LineFault::Twin);
     refused(&rt, b"slave 1\nmirror 3 2\ncount 3", 3, LineFault::Twin);
     refused(&rt, b"slave 1\ncount 3\ncount 3", 3, LineFault::Twin);
-    refused(&rt, b"slave 1\ncount 3\nmirror 3 9", 3, LineFault::OutOfRange);
+    refused(
+        &rt,
+        b"slave 1\ncount 3\nmirror 3 9",
+        3,
+        LineFault::OutOfRange,
+    );
 }

@@ -4,9 +4,11 @@ use Rattle.ecat_serve.specs.Commands.{Load}
 use Rattle.ecat_serve.proofs.served.Served.load.Goals as goal
 
 pub returns-clause-commanded : goal.returns-clause-commanded
-returns-clause-commanded c =
-    (Load c.args.place c.args.address c.args.bytes.now, record {
-      from = search rules;
-      to = search rules;
-      changes = search rules;
-    })
+returns-clause-commanded c = (
+  Load c.args.place c.args.address c.args.bytes.now,
+  record {
+    from = search rules;
+    to = search rules;
+    changes = search rules;
+  },
+)
