@@ -24,6 +24,7 @@ mod slave_lines;
 mod slave_rows;
 mod stepping_ports;
 mod sweep;
+mod tape;
 mod udp;
 mod vectors;
 mod where_broken;

@@ -4,8 +4,10 @@ use crate::act::{Failure, act, report};
 use crate::control::act_control;
 use crate::far::{Course, Reach, act_master, act_scan, course_of, far_ports, raw_ports};
 use crate::sdo::{Asked, sdo_far};
+use crate::run::run;
 use crate::serve::{Service, act_serve, ring_to_serve, unbound};
-use crate::udp::{Wanted, act_udp, prepare_udp};
+use crate::tape::{Pcap, end, make};
+use crate::udp::{Prepared, Wanted, act_udp, prepare_udp};
 use crate::where_broken::where_far;
 use ec_ring::Ring;
 use ecat_args::Args;
@@ -14,6 +16,7 @@ use ecat_pace::{Beat, Ending};
 use ecat_raw::{Descriptors, RawEnds, descriptors_of};
 use ecat_serve::UdpEnds;
 use ecat_source::Source;
+use ecat_tape::{Counter, Moments, Recorder, TapedEnds, TapedLine, WallClock, unrecorded};
 use ecat_udp::UdpLine;
 use std::net::Net;
 use std::rt::{Clock, Files, Stdin};
@@ -56,12 +59,30 @@ where
     V: io::Write,
 {
     match args {
-        Args::Udp { port, judge, .. } => {
+        Args::Run {
+            judge,
+            pcap: Some(path),
+            force,
+            ..
+        } => {
+            let pcap = Pcap {
+                path,
+                force: *force,
+            };
+            run_taped(rt, *judge, pcap, source, out, err)
+        }
+        Args::Udp {
+            port,
+            judge,
+            pcap,
+            force,
+            ..
+        } => {
             let wanted = Wanted {
                 port: *port,
                 judge: *judge,
             };
-            udp_at(rt, wanted, source, out, err)
+            udp_at(rt, wanted, Pcap::of(*pcap, *force), source, out, err)
         }
         Args::Serve {
             port,
@@ -71,6 +92,8 @@ where
             control,
             log,
             raw,
+            pcap,
+            force,
             ..
         } => {
             let Some(raw) = raw_of(*raw) else {
@@ -85,7 +108,8 @@ where
                 log: *log,
                 raw,
             };
-            serve_at(rt, service, console.input, source, out, err)
+            let pcap = Pcap::of(*pcap, *force);
+            serve_at(rt, service, pcap, console.input, source, out, err)
         }
         Args::Master {
             at,
@@ -280,9 +304,16 @@ where
 }
 
 /// Does the work of a scene over sockets, which are opened once it is known that there is work.
-fn udp_at<R, S, W, V>(rt: &R, wanted: Wanted, source: &mut S, out: &mut W, err: &mut V) -> u8
+fn udp_at<R, S, W, V>(
+    rt: &R,
+    wanted: Wanted,
+    pcap: Option<Pcap<'_>>,
+    source: &mut S,
+    out: &mut W,
+    err: &mut V,
+) -> u8
 where
-    R: Net + AllocGlobal,
+    R: Files + Net + AllocGlobal,
     S: Source,
     W: io::Write,
     V: io::Write,
@@ -291,9 +322,68 @@ where
         Ok(prepared) => prepared,
         Err(status) => return status,
     };
+    let Some(pcap) = pcap else {
+        return udp_taped(rt, prepared, wanted, &mut unrecorded(), out, err);
+    };
+    match make(rt, pcap) {
+        Ok(file) => {
+            let mut recorder = Recorder::new(file, Counter::new());
+            let status = udp_taped(rt, prepared, wanted, &mut recorder, out, err);
+            end(&mut recorder, status, err)
+        }
+        Err(failure) => report(&failure, out, err),
+    }
+}
+
+/// Opens the sockets of a line, over which the work of a scene is done, and records each copy at the master's
+/// ports, if anybody wants it.
+fn udp_taped<R, T, M, W, V>(
+    rt: &R,
+    prepared: Prepared,
+    wanted: Wanted,
+    recorder: &mut Recorder<T, M>,
+    out: &mut W,
+    err: &mut V,
+) -> u8
+where
+    R: Net,
+    T: io::Write,
+    M: Moments,
+    W: io::Write,
+    V: io::Write,
+{
     match UdpLine::bind(rt, wanted.port) {
-        Ok(line) => act_udp(prepared, wanted.judge, line, out, err),
+        Ok(line) => {
+            let line = TapedLine::new(line, recorder);
+            act_udp(prepared, wanted.judge, line, out, err)
+        }
         Err(_) => report(&Failure::Bind, out, err),
+    }
+}
+
+/// Runs a scene, and records each copy of its frames.
+fn run_taped<R, S, W, V>(
+    rt: &R,
+    judge: bool,
+    pcap: Pcap<'_>,
+    source: &mut S,
+    out: &mut W,
+    err: &mut V,
+) -> u8
+where
+    R: Files + AllocGlobal,
+    S: Source,
+    W: io::Write,
+    V: io::Write,
+{
+    match make(rt, pcap) {
+        Ok(file) => {
+            let mut recorder = Recorder::new(file, Counter::new());
+            let done = run(rt.alloc(), judge, &mut recorder, source, out);
+            let status = status_of(done, out, err);
+            end(&mut recorder, status, err)
+        }
+        Err(failure) => report(&failure, out, err),
     }
 }
 
@@ -302,13 +392,14 @@ where
 fn serve_at<R, S, W, V>(
     rt: &R,
     service: Service,
+    pcap: Option<Pcap<'_>>,
     input: Stdin,
     source: &mut S,
     out: &mut W,
     err: &mut V,
 ) -> u8
 where
-    R: Net + AllocGlobal,
+    R: Clock + Files + Net + AllocGlobal,
     S: Source,
     W: io::Write,
     V: io::Write,
@@ -317,13 +408,52 @@ where
         Ok(ring) => ring,
         Err(status) => return status,
     };
+    let Some(pcap) = pcap else {
+        return serve_taped(rt, service, input, ring, &mut unrecorded(), out, err);
+    };
+    match make(rt, pcap) {
+        Ok(file) => {
+            let mut recorder = Recorder::new(file, WallClock::new(rt));
+            let status = serve_taped(rt, service, input, ring, &mut recorder, out, err);
+            end(&mut recorder, status, err)
+        }
+        Err(failure) => report(&failure, out, err),
+    }
+}
+
+/// Serves a ring, and records each copy at its ends, if anybody wants it.
+fn serve_taped<R, T, M, W, V>(
+    rt: &R,
+    service: Service,
+    input: Stdin,
+    ring: Ring,
+    recorder: &mut Recorder<T, M>,
+    out: &mut W,
+    err: &mut V,
+) -> u8
+where
+    R: Net + AllocGlobal,
+    T: io::Write,
+    M: Moments,
+    W: io::Write,
+    V: io::Write,
+{
     let awaited = if service.awaits_input() {
         Some(input)
     } else {
         None
     };
     if let Some(descriptors) = service.raw {
-        return serve_raw(rt, service, descriptors, awaited, ring, out, err);
+        return serve_raw(
+            rt,
+            service,
+            descriptors,
+            awaited,
+            ring,
+            recorder,
+            out,
+            err,
+        );
     }
     let mut ends = match UdpEnds::bind(rt, rt.alloc(), service.address, service.port, awaited) {
         Ok(ends) => ends,
@@ -331,24 +461,29 @@ where
     };
     if service.control {
         ends.keep_lines();
+        let mut ends = TapedEnds::new(&mut ends, recorder);
         act_control(rt.alloc(), ring, service, &mut ends, out, err)
     } else {
+        let mut ends = TapedEnds::new(&mut ends, recorder);
         act_serve(ring, service, &mut ends, out, err)
     }
 }
 
 /// Serves a ring at packet sockets.
-fn serve_raw<R, W, V>(
+fn serve_raw<R, T, M, W, V>(
     rt: &R,
     service: Service,
     descriptors: Descriptors,
     awaited: Option<Stdin>,
     ring: Ring,
+    recorder: &mut Recorder<T, M>,
     out: &mut W,
     err: &mut V,
 ) -> u8
 where
     R: Net + AllocGlobal,
+    T: io::Write,
+    M: Moments,
     W: io::Write,
     V: io::Write,
 {
@@ -358,8 +493,10 @@ where
     };
     if service.control {
         ends.keep_lines();
+        let mut ends = TapedEnds::new(&mut ends, recorder);
         act_control(rt.alloc(), ring, service, &mut ends, out, err)
     } else {
+        let mut ends = TapedEnds::new(&mut ends, recorder);
         act_serve(ring, service, &mut ends, out, err)
     }
 }
