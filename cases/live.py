@@ -270,6 +270,46 @@ def packets_that_come_late_are_answered(stage):
             yield "end", "packets 4 frames 4 dropped 0\n0\n", line.end()
 
 
+# A slave whose outputs come back as inputs, and one that counts.
+MOVING = (
+    "slave 1\nsm 2 0x1000 1 write\nsm 3 0x1100 1 read\nfmmu 0 0x10000 1 0 7 0x1000 0 write\n"
+    "fmmu 1 0x10000 1 0 7 0x1100 0 read\nmirror 3 2\n"
+    "slave 2\nsm 3 0x1100 1 read\nfmmu 0 0x10001 1 0 7 0x1100 0 read\ncount 3\n"
+)
+
+
+def exchange(outputs):
+    """An LRW of the byte that the first of them takes, and of what both give."""
+    return bytes.fromhex(f"0e10 0c00 0000 0100 0200 0000 {outputs:02x}00 0000")
+
+
+def moved(stage, master, outputs):
+    """What both give on such an exchange, and its working counter."""
+    return asked(master, stage.port, exchange(outputs)).removeprefix("0e100c000000010002000000")
+
+
+@case
+def applications_act_behind_each_packet(stage):
+    with stage.serve(MOVING, "--packets", "5") as line, stage.master() as master:
+        yield "first", "00000400", moved(stage, master, 0x5A)
+        yield "mirrored", "5a010400", moved(stage, master, 0xC3)
+        yield "and again", "c3020400", moved(stage, master, 0)
+        master.sendto(b"no frame", ("127.0.0.1", stage.port))
+        yield "dropped", "00040400", moved(stage, master, 0)
+        yield "end", "packets 5 frames 4 dropped 1\nslave 0 sm 2 open 00 shown 00\n0\n", line.end()
+
+
+@case
+def applications_act_between_commands(stage):
+    """A byte that is put by hand into inputs is read once: then the application puts its own."""
+    with controlled(stage, MOVING) as line, stage.master() as master:
+        yield "input", "ok\n", command(line, "mem 1 0x1100 77")
+        yield "by hand", "00770400", moved(stage, master, 0x5A)
+        yield "output", "ok\n", command(line, "mem 0 0x1000 11")
+        yield "mirrored before", "5a010400", moved(stage, master, 0)
+        yield "quit", "ok\n", command(line, "quit")
+
+
 def controlled(stage, scene, *words):
     """Serves a scene under commands."""
     return stage.serve(scene, "--control", *words, stdin=subprocess.PIPE)
@@ -395,13 +435,19 @@ def outputs_of_a_service_are_told(stage):
         yield "end", "packets 1 frames 1 dropped 0\nslave 0 sm 2 open c3 shown c3\n0\n", line.end()
 
 
+def unbound(port):
+    """What is told where a line does not get one of its ports, and the status."""
+    ports = f"of the UDP ports {port} and {port + 1} one cannot be had; --port names others"
+    return f"socket: Bind\n127.0.0.1: {ports}\n3\n"
+
+
 @case
 def ports_that_are_taken_are_told(stage):
     stage.file("s", "slave 1\nbrd 0x0130 0000\n")
     for taken in (stage.port, stage.port + 1):
         with stage.master(taken):
             for command in ("udp", "serve"):
-                yield command, "socket: Bind\n3\n", stage.ends(command, "s", "--port", str(stage.port))
+                yield command, unbound(stage.port), stage.ends(command, "s", "--port", str(stage.port))
 
 
 @case
@@ -414,12 +460,16 @@ def port_is_34980_if_none_is_given(stage):
         held = stage.master()
     with held:
         for command in ("udp", "serve"):
-            yield command, "socket: Bind\n3\n", stage.ends(command, "s")
+            yield command, unbound(34980), stage.ends(command, "s")
 
 
 @case
 def scene_is_checked_before_a_socket_is_opened(stage):
-    texts = {"slave 1\nlrd 0 0\n": "scene: line 2: BadNumber\n1\n", "slave 1\nstep\n": "scene: actions\n1\n"}
+    digits = "lrd wants two hexadecimal digits for each byte, without 0x"
+    texts = {
+        "slave 1\nlrd 0 0\n": f'scene: line 2: BadNumber\ns:2:7: "0" is no row of bytes; {digits}\n1\n',
+        "slave 1\nstep\n": "scene: actions\ns has a line frame, step or weather, which ecat run does alone\n1\n",
+    }
     with stage.master(stage.port):
         for scene, told in texts.items():
             stage.file("s", scene)
@@ -536,6 +586,24 @@ def wait_that_fails_ends_a_service(stage):
     yield "status", "3\n", f"{done.returncode}\n"
 
 
+@case
+def receive_and_send_that_fail_end_a_service(stage):
+    """Of the calls of a packet each fails in turn. Where strace is not to be had there is nothing to see."""
+    quiet = {"stderr": subprocess.DEVNULL}
+    if not shutil.which("strace") or subprocess.run([*NO_WAITS, "true"], **quiet).returncode:
+        return
+    stage.file("s", SLAVE)
+    for call in ("recvfrom,recvmsg", "sendto,sendmsg"):
+        fails = ["strace", "-qq", "-o", "/dev/null", "-e", f"inject={call}:error=EBADF:when=1"]
+        words = [*fails, stage.ecat, "serve", "s", "--port", str(stage.port), "--packets", "2"]
+        streams = {"stdin": subprocess.DEVNULL, "stdout": subprocess.PIPE, "stderr": subprocess.PIPE}
+        with subprocess.Popen(words, cwd=stage.folder, **streams) as running, stage.master() as master:
+            yield "where", "serving A", running.stdout.readline()[:9].decode()
+            master.sendto(ASKED, ("127.0.0.1", stage.port))
+            yield "error", "cycle: Port\n", running.communicate(timeout=stage.limit)[1].decode()
+            yield "status", "3", str(running.returncode)
+
+
 # Three slaves with mailboxes, which take a byte of outputs and give a byte of inputs each, and what a master
 # asks of them in each cycle.
 MACHINE = "".join(
@@ -582,6 +650,33 @@ def a_master_brings_a_line_to_op_and_cycles(stage):
         with open(os.path.join(stage.folder, "log"), encoding="latin-1") as log:
             wanted = "".join(f"cycle {k} good counts 9 3\n" for k in range(50))
             yield "log", wanted, log.read()
+
+
+# Slaves without a mailbox: one of outputs alone, one that counts, one whose outputs come back.
+TERMINALS = (
+    "slave 0x1001\nsimple\nareas 1 0\nsm 2 0x1000 1 write\nfmmu 0 0x10000 1 0 7 0x1000 0 write\n"
+    "slave 0x1002\nsimple\nareas 0 1\nsm 3 0x1100 1 read\nfmmu 0 0x20000 1 0 7 0x1100 0 read\ncount 3\n"
+    "slave 0x1003\nsimple\nareas 1 1\nsm 2 0x1000 1 write\nsm 3 0x1100 1 read\n"
+    "fmmu 0 0x10001 1 0 7 0x1000 0 write\nfmmu 1 0x10001 1 0 7 0x1100 0 read\nmirror 3 2\n"
+    "lwr 0x10000 a1\nlrd 0x20000 00\nlrw 0x10001 b2\nbrd 0x0130 0000\n"
+)
+
+
+@case
+def a_master_brings_slaves_without_a_mailbox_to_op(stage):
+    """Each cycle is a packet at both ends: what counts is two further in the next cycle."""
+    with stage.serve(TERMINALS, "--forever") as _line:
+        stage.file("m", TERMINALS)
+        seen = []
+        for cycles in ("2", "3"):
+            words = ("master", "m", "--at", both_ends(stage), "--cycles", cycles, *PATIENCE)
+            text = stage.ends(*words)
+            seen.append(re.search("item 1 LRD data (..)", text))
+            wanted = STARTED + f"cycles {cycles} good {cycles} short 0 over 0 fault 0\n"
+            wanted += "item 0 LWR data a1 wkc 1 of 1\nitem 1 LRD data NN wkc 1 of 1\n"
+            wanted += "item 2 LRW data b2 wkc 3 of 3\nitem 3 BRD data 0800 wkc 3 of 3 adp 3\n0\n"
+            yield "master", wanted, re.sub("LRD data ..", "LRD data NN", text)
+        yield "counts", "True", str(bool(seen[0] and seen[1] and seen[0][1] != seen[1][1]))
 
 
 @case

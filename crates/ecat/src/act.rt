@@ -5,6 +5,7 @@ ghost use Rattle.ecat.specs.Commands.{has_a_way_of_its_own};
 
 use crate::check::check;
 use crate::cover::cover;
+use crate::lint::lint;
 use crate::raw::RawFaultText;
 use crate::run::run;
 use crate::sdo::{Asked, sdo};
@@ -92,6 +93,7 @@ where
     let done = match args {
         Args::Check { .. } => check(alloc, source, out),
         Args::Cover { .. } => cover(alloc, source, out),
+        Args::Lint { .. } => lint(alloc, source, out),
         Args::Where { .. } => where_broken(alloc, source, out),
         Args::Run { judge, .. } => run(alloc, *judge, &mut unrecorded(), source, out),
         Args::Sweep { .. } => sweep(alloc, source, out),

@@ -2,20 +2,18 @@
 //! input.
 
 ghost use Rattle.std.specs.Prelude.{◌≡◌, OnErr};
+ghost use Rattle.ecat_serve.specs.Commands.{IsCommanded};
 
 use crate::act::{Failure, report};
 use crate::serve::{Service, most_packets, print_counts, print_end, print_where};
 use crate::slave_lines::print_line;
-use ec_ring::Ring;
 use ecat_log::Log;
 use ecat_scene::{BenchCommand, CommandFault, LineFault, SlaveName};
-use ecat_serve::{
-    BenchFault, Console, Counts, Ends, InputLine, LINE_ROOM, Served, Unwatched, Watch,
-};
+use ecat_serve::{BenchFault, Console, Counts, Desk, Ends, Served, Unwatched, Watch};
 use ecat_text::{GOOD, Lines, print_areas};
 use std::alloc::Global;
 use std::fmt;
-use std::io::{self, Write};
+use std::io::Write;
 
 /// Why a command was not done, as it is printed.
 #[derive(Drop)]
@@ -41,100 +39,80 @@ impl fmt::Display for Refusal {
     }
 }
 
-/// A line that is worked on, and how many packets came to it.
+/// Who does what the lines of an input ask of a line that is served, and prints what they are answered by.
+/// The first print that fails ends the service.
 #[derive(Drop)]
-struct Bench {
-    served: Served,
-    counts: Counts,
+struct Commands<'a, W> {
+    alloc: Global,
+    lines: Lines<'a, W>,
+    failed: Option<Failure>,
 }
 
-impl Bench {
-    /// Serves packets until a command comes, so many at most, tells of each, and answers the command. Does
-    /// the service go on?
-    fn turn<E, V, W>(
-        &mut self,
-        alloc: Global,
-        ends: &mut E,
-        most: u64,
-        watch: &mut V,
-        lines: &mut Lines<'_, W>,
-    ) -> Result<bool, Failure>
-    where
-        E: Ends + Console,
-        V: Watch,
-        W: Write,
-    {
-        let left = most.saturating_sub(self.counts.packets());
-        let came = self.served.serve_watched(ends, left, watch)?;
-        self.count(came);
-        if most <= self.counts.packets() {
-            return Ok(false);
-        }
-        let mut room = [0; LINE_ROOM];
-        match ends.take_line(&mut room) {
-            None => Ok(false),
-            Some(InputLine::Long) => {
-                print_refusal(Refusal::TooLong, lines)?;
-                Ok(true)
-            }
-            Some(InputLine::Whole(count)) => self.answer(alloc, &room[..count], lines),
-        }
-    }
-
-    /// Counts packets that came.
-    fn count(&mut self, came: Counts) {
-        self.counts = Counts {
-            frames: self.counts.frames.saturating_add(came.frames),
-            dropped: self.counts.dropped.saturating_add(came.dropped),
+impl<W: Write> Desk for Commands<'_, W> {
+    fn take(&mut self, served: &mut Served, came: Counts, line: Option<&[u8]>) -> bool {
+        let answered = match line {
+            None => print_refusal(Refusal::TooLong, &mut self.lines),
+            Some(line) => answer(self.alloc, served, came, line, &mut self.lines),
         };
-    }
-
-    /// Does the command of a line, and prints what it is answered by: what was asked for and `ok`, or why
-    /// it is refused. Does the service go on?
-    fn answer<W: Write>(
-        &mut self,
-        alloc: Global,
-        line: &[u8],
-        lines: &mut Lines<'_, W>,
-    ) -> Result<bool, Failure> {
-        let command = match BenchCommand::read(alloc, line) {
-            Ok(command) => command,
-            Err(fault) => {
-                print_refusal(unread(fault), lines)?;
-                return Ok(true);
+        match answered {
+            Ok(goes_on) => goes_on,
+            Err(failure) => {
+                self.failed = Some(failure);
+                false
             }
-        };
-        match change(&mut self.served, &command) {
-            Ok(()) => {
-                self.tell(&command, lines)?;
-                lines.text("ok")?;
-                lines.end()?;
-            }
-            Err(fault) => print_refusal(refusal_of(fault), lines)?,
-        }
-        Ok(!matches!(command, BenchCommand::Quit))
-    }
-
-    /// Prints what a command asks for.
-    fn tell<W: Write>(&self, command: &BenchCommand, lines: &mut Lines<'_, W>) -> io::Result<()> {
-        match command {
-            BenchCommand::Areas => print_areas(self.served.ring().slaves(), lines),
-            BenchCommand::Line => print_line(self.served.ring(), lines),
-            BenchCommand::Counts => print_counts(self.counts, lines),
-            BenchCommand::Nothing
-            | BenchCommand::Link { .. }
-            | BenchCommand::Load { .. }
-            | BenchCommand::State { .. }
-            | BenchCommand::Lose { .. }
-            | BenchCommand::Unplug { .. }
-            | BenchCommand::Quit => Ok(()),
         }
     }
+}
+
+/// Does the command of a line, and prints what it is answered by: what was asked for and `ok`, or why it is
+/// refused. Does the service go on?
+fn answer<W: Write>(
+    alloc: Global,
+    served: &mut Served,
+    came: Counts,
+    line: &[u8],
+    lines: &mut Lines<'_, W>,
+) -> Result<bool, Failure>
+    ensures { IsCommanded served.old served.new }
+{
+    let command = match BenchCommand::read(alloc, line) {
+        Ok(command) => command,
+        Err(fault) => return print_refusal(unread(fault), lines),
+    };
+    match change(served, &command) {
+        Ok(()) => print_done(served, came, &command, lines),
+        Err(fault) => print_refusal(refusal_of(fault), lines),
+    }
+}
+
+/// Prints what a command that was done asks for, and `ok`. Does the service go on?
+fn print_done<W: Write>(
+    served: &Served,
+    came: Counts,
+    command: &BenchCommand,
+    lines: &mut Lines<'_, W>,
+) -> Result<bool, Failure> {
+    match command {
+        BenchCommand::Areas => print_areas(served.ring().slaves(), lines)?,
+        BenchCommand::Line => print_line(served.ring(), lines)?,
+        BenchCommand::Counts => print_counts(came, lines)?,
+        BenchCommand::Nothing
+        | BenchCommand::Link { .. }
+        | BenchCommand::Load { .. }
+        | BenchCommand::State { .. }
+        | BenchCommand::Lose { .. }
+        | BenchCommand::Unplug { .. }
+        | BenchCommand::Quit => {}
+    }
+    lines.text("ok")?;
+    lines.end()?;
+    Ok(!matches!(command, BenchCommand::Quit))
 }
 
 /// Changes the line as a command asks. What is refused changes nothing.
 fn change(served: &mut Served, command: &BenchCommand) -> Result<(), BenchFault>
-    ensures { OnErr result (served.new ≡ served.old) }
+    ensures refused { OnErr result (served.new ≡ served.old) }
+    ensures done { IsCommanded served.old served.new }
 {
     match command {
         BenchCommand::Link { number, up } => served.set_link(*number as usize, *up),
@@ -199,17 +177,18 @@ fn refusal_of(fault: BenchFault) -> Refusal {
     }
 }
 
-/// Prints why a command was not done.
-fn print_refusal<W: Write>(refusal: Refusal, lines: &mut Lines<'_, W>) -> io::Result<()> {
+/// Prints why a command was not done. The service goes on.
+fn print_refusal<W: Write>(refusal: Refusal, lines: &mut Lines<'_, W>) -> Result<bool, Failure> {
     lines.text(refusal)?;
-    lines.end()
+    lines.end()?;
+    Ok(true)
 }
 
-/// Serves a ring, whose line has these ends, under the commands that they bring, and answers the exit status.
-/// It takes memory for the words of a command alone.
+/// Serves a line that has these ends under the commands that they bring, and answers the exit status. It
+/// takes memory for the words of a command alone.
 pub fn act_control<E, W, V>(
     alloc: Global,
-    ring: Ring,
+    served: Served,
     service: Service,
     ends: &mut E,
     out: &mut W,
@@ -221,9 +200,9 @@ where
     V: Write,
 {
     let done = if service.log {
-        control(alloc, ring, service, ends, &mut Log::new(err), out)
+        control(alloc, served, service, ends, &mut Log::new(err), out)
     } else {
-        control(alloc, ring, service, ends, &mut Unwatched, out)
+        control(alloc, served, service, ends, &mut Unwatched, out)
     };
     match done {
         Ok(status) => status,
@@ -235,7 +214,7 @@ where
 /// Somebody is told of each packet.
 fn control<E, V, W>(
     alloc: Global,
-    ring: Ring,
+    mut served: Served,
     service: Service,
     ends: &mut E,
     watch: &mut V,
@@ -246,21 +225,22 @@ where
     V: Watch,
     W: Write,
 {
-    let mut bench = Bench {
-        served: Served::new(ring),
-        counts: Counts {
-            frames: 0,
-            dropped: 0,
-        },
+    let mut commands = Commands {
+        alloc,
+        lines: Lines::new(out),
+        failed: None,
     };
-    let mut lines = Lines::new(out);
-    print_where(service, &mut lines)?;
+    print_where(service, &mut commands.lines)?;
     let most = most_packets(service.packets);
-    for _turn in 0..u64::MAX {
-        if !bench.turn(alloc, ends, most, watch, &mut lines)? {
-            break;
-        }
+    let counts = served.serve_commanded(ends, most, watch, &mut commands)?;
+    let Commands {
+        alloc: _,
+        mut lines,
+        failed,
+    } = commands;
+    if let Some(failure) = failed {
+        return Err(failure);
     }
-    print_end(bench.counts, bench.served.ring(), &mut lines)?;
+    print_end(counts, served.ring(), &mut lines)?;
     Ok(GOOD)
 }

@@ -6,6 +6,7 @@ ghost use Rattle.ecat.specs.Failures.{unread};
 use crate::act::Failure;
 use ec_app::Slave;
 use ec_esc::Controller;
+use ec_process::{Application, Applications};
 use ec_ring::{Links, MAX_LINKS, Ring, Weather};
 use ecat_scene::{MAX_TEXT, Scene, SceneFault, SceneSlave, SceneWeather, Setting};
 use ecat_source::{ReadAllFault, Source, read_all};
@@ -24,7 +25,7 @@ pub fn scene_of<S: Source>(alloc: Global, source: &mut S) -> Result<Scene, Failu
 }
 
 /// Why a source could not be read to its end.
-fn unread(fault: ReadAllFault) -> Failure
+pub fn unread(fault: ReadAllFault) -> Failure
     ensures { result ≡ unread fault }
 {
     match fault {
@@ -59,17 +60,41 @@ fn slave_of(alloc: Global, described: SceneSlave) -> Result<Slave, Failure> {
     let SceneSlave {
         station,
         state,
+        simple,
         output_length,
         input_length,
         settings,
         objects,
+        behaviours: _,
     } = described;
-    let Ok(mut slave) = Slave::new(alloc, station, objects, output_length, input_length) else {
+    let made = if simple {
+        Slave::simple(alloc, station, objects, output_length, input_length)
+    } else {
+        Slave::new(alloc, station, objects, output_length, input_length)
+    };
+    let Ok(mut slave) = made else {
         return Err(Failure::NoMemory);
     };
     set_up(slave.controller_mut(), settings.as_slice());
     slave.set_state(state);
     Ok(slave)
+}
+
+/// The applications of the slaves that a scene describes, in the order in which they act: slave by slave.
+pub fn applications_of(alloc: Global, described: &[SceneSlave]) -> Result<Applications, Failure> {
+    let mut all = Vec::new(alloc);
+    for (place, slave) in described.iter().enumerate() {
+        for behaviour in slave.behaviours.iter() {
+            let one = Application {
+                place,
+                behaviour: *behaviour,
+            };
+            if all.push(one).is_err() {
+                return Err(Failure::NoMemory);
+            }
+        }
+    }
+    Ok(Applications::new(all))
 }
 
 /// The slaves that a scene describes, from master port A to port B.

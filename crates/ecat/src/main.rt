@@ -10,8 +10,10 @@ mod cycle;
 mod cycle_rows;
 mod far;
 mod frame_rows;
+mod hints;
 mod judge;
 mod line;
+mod lint;
 mod listing;
 mod over_sockets;
 mod raw;
@@ -33,21 +35,31 @@ ghost use Rattle.std.specs.Prelude.{◌≡◌};
 ghost use Rattle.ecat.specs.Failures.{refusal_status};
 
 use act::{Failure, report};
-use ecat_args::{Args, ArgsFault};
-use ecat_source::{Bytes, Counted};
-use ecat_text::{BAD_ARGUMENTS, FAILED};
+use ecat_args::{Args, ArgsFault, bad_word};
+use ecat_scene::MAX_TEXT;
+use ecat_source::{Bytes, Counted, Source, read_all};
+use ecat_text::{BAD_ARGUMENTS, FAILED, GOOD};
+use hints::{Fronted, hint_capture, hint_odd_lines, hint_scene};
+use line::unread;
 use listing::{Wanted, act_list};
 use over_sockets::{Console, over_sockets};
+use show::act_show;
+use std::fmt::Display;
+use std::fs::OpenFile;
 use std::io::IsTerminal;
 use std::net::Net;
 use std::process::ExitCode;
 use std::rt::{Clock, Env, Files, Stdin};
 use std::{env, fs, io};
 
+/// The name of the program and of this version, as `--version` prints it.
+const VERSION: &str = "ecat 1.0";
+
 fn main(rt: HostRuntime) -> ExitCode {
     let console = Console {
         input: rt.stdin(),
         is_watched: rt.stderr().is_terminal(),
+        is_read: rt.stdout().is_terminal(),
     };
     ExitCode::from(start(&rt, console, &mut rt.stdout(), &mut rt.stderr()))
 }
@@ -79,9 +91,47 @@ where
             return report(&Failure::NoMemoryForWords, out, err);
         }
     }
+    if let [_, "--version"] = texts.as_slice() {
+        return print_or_fail(format_args!("{VERSION}\n"), out, err);
+    }
     match Args::read(rt.alloc(), texts.as_slice()) {
         Ok(args) => open(rt, &args, console, out, err),
-        Err(fault) => tell_refusal(fault, err),
+        Err(fault) => refuse_words(texts.as_slice(), fault, out, err),
+    }
+}
+
+/// Tells why words are refused, and which of them is bad; the help that `ecat help` asks for goes to the
+/// output, and that is good.
+fn refuse_words<W: io::Write, V: io::Write>(
+    words: &[&str],
+    fault: ArgsFault,
+    out: &mut W,
+    err: &mut V,
+) -> u8 {
+    if fault.is_help() && words.get(1).is_some_and(|word| *word == "help") {
+        return match fault {
+            ArgsFault::Line(help) => print_or_fail(help, out, err),
+            other => tell_refusal(other, err),
+        };
+    }
+    let is_bad_number = matches!(fault, ArgsFault::BadNumber);
+    let status = tell_refusal(fault, err);
+    if is_bad_number && let Some(bad) = bad_word(words) {
+        let _ = writeln!(err, "{bad}");
+    }
+    status
+}
+
+/// Prints a text, and answers the exit status.
+fn print_or_fail<T, W, V>(text: T, out: &mut W, err: &mut V) -> u8
+where
+    T: Display + Drop,
+    W: io::Write,
+    V: io::Write,
+{
+    match write!(out, "{text}") {
+        Ok(()) => GOOD,
+        Err(_) => report(&Failure::Output, out, err),
     }
 }
 
@@ -123,9 +173,10 @@ where
             let wanted = Wanted::of(*csv, *faults, *stats, console.is_watched);
             return open_listing(rt, file, wanted, console.input, out, err);
         }
-        Args::Show { file } => *file,
+        Args::Show { file } => return open_capture(rt, file, console.is_read, out, err),
         Args::Check { scene }
         | Args::Cover { scene }
+        | Args::Lint { scene }
         | Args::Where { scene, .. }
         | Args::Run { scene, .. }
         | Args::Sweep { scene }
@@ -138,9 +189,79 @@ where
         }
     };
     match fs::open(rt, path) {
-        Ok(file) => over_sockets(rt, args, console, &mut Counted::new(file), out, err),
-        Err(_) => report(&Failure::Open, out, err),
+        Ok(file) => over_scene(rt, args, path, console, &mut Counted::new(file), out, err),
+        Err(error) => report_unopened(path, &error, out, err),
     }
+}
+
+/// Reads the scene of a command, does the command, and tells what helps where it was refused.
+fn over_scene<R, S, W, V>(
+    rt: &R,
+    args: &Args<'_>,
+    path: &str,
+    console: Console,
+    file: &mut S,
+    out: &mut W,
+    err: &mut V,
+) -> u8
+where
+    R: Clock + Files + Net + AllocGlobal,
+    S: Source,
+    W: io::Write,
+    V: io::Write,
+{
+    let text = match read_all(rt.alloc(), file, MAX_TEXT) {
+        Ok(text) => text,
+        Err(fault) => return report(&unread(fault), out, err),
+    };
+    if matches!(args, Args::Run { .. } | Args::Serve { .. }) {
+        hint_odd_lines(rt.alloc(), path, text.as_slice(), err);
+    }
+    let mut source = Bytes::new(text.as_slice());
+    let status = over_sockets(rt, args, console, &mut source, out, err);
+    hint_scene(rt.alloc(), args, path, text.as_slice(), status, err);
+    status
+}
+
+/// Opens the capture that is to be shown, shows it, and tells what it is where it is none. Each packet's lines
+/// come at once where somebody reads them at a terminal, or the capture may still grow since it is no plain
+/// file.
+fn open_capture<R, W, V>(rt: &R, path: &str, is_read: bool, out: &mut W, err: &mut V) -> u8
+where
+    R: Files + AllocGlobal,
+    W: io::Write,
+    V: io::Write,
+{
+    match fs::open(rt, path) {
+        Ok(file) => {
+            let is_followed = is_read || !is_plain(&file);
+            let mut source = Fronted::new(Counted::new(file));
+            let status = act_show(rt.alloc(), is_followed, &mut source, out, err);
+            hint_capture(path, &source, status, err);
+            status
+        }
+        Err(error) => report_unopened(path, &error, out, err),
+    }
+}
+
+/// Is an open file a plain one, whose end stands? One of which the system does not say so is none.
+fn is_plain<F: OpenFile>(file: &F) -> bool {
+    match file.metadata() {
+        Ok(known) => known.is_file(),
+        Err(_) => false,
+    }
+}
+
+/// Reports that a file could not be opened, and what the system says of it.
+fn report_unopened<W: io::Write, V: io::Write>(
+    path: &str,
+    error: &io::Error,
+    out: &mut W,
+    err: &mut V,
+) -> u8 {
+    let status = report(&Failure::Open, out, err);
+    let _ = writeln!(err, "{path}: {error}");
+    status
 }
 
 /// Opens the capture of a listing, standard input where it is `-`, and lists it.
@@ -162,7 +283,7 @@ where
     }
     match fs::open(rt, file) {
         Ok(file) => act_list(rt.alloc(), wanted, Counted::new(file), out, err),
-        Err(_) => report(&Failure::Open, out, err),
+        Err(error) => report_unopened(file, &error, out, err),
     }
 }
 

@@ -3,22 +3,21 @@
 use crate::act::{Failure, act, report};
 use crate::control::act_control;
 use crate::far::{Course, Reach, act_master, act_scan, course_of, far_ports, raw_ports};
-use crate::sdo::{Asked, sdo_far};
 use crate::run::run;
-use crate::serve::{Service, act_serve, ring_to_serve, unbound};
+use crate::sdo::{Asked, sdo_far};
+use crate::serve::{Service, act_serve, line_to_serve, unbound};
 use crate::tape::{Pcap, end, make};
 use crate::udp::{Prepared, Wanted, act_udp, prepare_udp};
 use crate::where_broken::where_far;
-use ec_ring::Ring;
 use ecat_args::Args;
 use ecat_master::{Outputs, Plan};
 use ecat_pace::{Beat, Ending};
 use ecat_raw::{Descriptors, RawEnds, descriptors_of};
-use ecat_serve::UdpEnds;
+use ecat_serve::{Served, UdpEnds};
 use ecat_source::Source;
 use ecat_tape::{Counter, Moments, Recorder, TapedEnds, TapedLine, WallClock, unrecorded};
 use ecat_udp::UdpLine;
-use std::net::Net;
+use std::net::{Ipv4Addr, Net};
 use std::rt::{Clock, Files, Stdin};
 use std::time::Duration;
 use std::{fs, io};
@@ -30,6 +29,8 @@ pub struct Console {
     pub input: Stdin,
     /// Whether standard error is a terminal.
     pub is_watched: bool,
+    /// Whether standard output is a terminal.
+    pub is_read: bool,
 }
 
 /// What the words of `master` say but for its scene.
@@ -357,8 +358,27 @@ where
             let line = TapedLine::new(line, recorder);
             act_udp(prepared, wanted.judge, line, out, err)
         }
-        Err(_) => report(&Failure::Bind, out, err),
+        Err(_) => report_unbound(&Failure::Bind, Ipv4Addr::LOCALHOST, wanted.port, out, err),
     }
+}
+
+/// Reports that the sockets of a line could not be had, and which ones they are.
+fn report_unbound<W: io::Write, V: io::Write>(
+    failure: &Failure,
+    address: Ipv4Addr,
+    port: u16,
+    out: &mut W,
+    err: &mut V,
+) -> u8 {
+    let status = report(failure, out, err);
+    if matches!(failure, Failure::Bind) {
+        let next = u32::from(port) + 1;
+        let _ = writeln!(
+            err,
+            "{address}: of the UDP ports {port} and {next} one cannot be had; --port names others"
+        );
+    }
+    status
 }
 
 /// Runs a scene, and records each copy of its frames.
@@ -404,29 +424,29 @@ where
     W: io::Write,
     V: io::Write,
 {
-    let ring = match ring_to_serve(rt.alloc(), source, out, err) {
-        Ok(ring) => ring,
+    let served = match line_to_serve(rt.alloc(), source, out, err) {
+        Ok(served) => served,
         Err(status) => return status,
     };
     let Some(pcap) = pcap else {
-        return serve_taped(rt, service, input, ring, &mut unrecorded(), out, err);
+        return serve_taped(rt, service, input, served, &mut unrecorded(), out, err);
     };
     match make(rt, pcap) {
         Ok(file) => {
             let mut recorder = Recorder::new(file, WallClock::new(rt));
-            let status = serve_taped(rt, service, input, ring, &mut recorder, out, err);
+            let status = serve_taped(rt, service, input, served, &mut recorder, out, err);
             end(&mut recorder, status, err)
         }
         Err(failure) => report(&failure, out, err),
     }
 }
 
-/// Serves a ring, and records each copy at its ends, if anybody wants it.
+/// Serves a line, and records each copy at its ends, if anybody wants it.
 fn serve_taped<R, T, M, W, V>(
     rt: &R,
     service: Service,
     input: Stdin,
-    ring: Ring,
+    served: Served,
     recorder: &mut Recorder<T, M>,
     out: &mut W,
     err: &mut V,
@@ -449,7 +469,7 @@ where
             service,
             descriptors,
             awaited,
-            ring,
+            served,
             recorder,
             out,
             err,
@@ -457,25 +477,27 @@ where
     }
     let mut ends = match UdpEnds::bind(rt, rt.alloc(), service.address, service.port, awaited) {
         Ok(ends) => ends,
-        Err(fault) => return report(&unbound(fault), out, err),
+        Err(fault) => {
+            return report_unbound(&unbound(fault), service.address, service.port, out, err);
+        }
     };
     if service.control {
         ends.keep_lines();
         let mut ends = TapedEnds::new(&mut ends, recorder);
-        act_control(rt.alloc(), ring, service, &mut ends, out, err)
+        act_control(rt.alloc(), served, service, &mut ends, out, err)
     } else {
         let mut ends = TapedEnds::new(&mut ends, recorder);
-        act_serve(ring, service, &mut ends, out, err)
+        act_serve(served, service, &mut ends, out, err)
     }
 }
 
-/// Serves a ring at packet sockets.
+/// Serves a line at packet sockets.
 fn serve_raw<R, T, M, W, V>(
     rt: &R,
     service: Service,
     descriptors: Descriptors,
     awaited: Option<Stdin>,
-    ring: Ring,
+    served: Served,
     recorder: &mut Recorder<T, M>,
     out: &mut W,
     err: &mut V,
@@ -494,9 +516,9 @@ where
     if service.control {
         ends.keep_lines();
         let mut ends = TapedEnds::new(&mut ends, recorder);
-        act_control(rt.alloc(), ring, service, &mut ends, out, err)
+        act_control(rt.alloc(), served, service, &mut ends, out, err)
     } else {
         let mut ends = TapedEnds::new(&mut ends, recorder);
-        act_serve(ring, service, &mut ends, out, err)
+        act_serve(served, service, &mut ends, out, err)
     }
 }

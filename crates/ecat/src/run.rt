@@ -4,8 +4,9 @@ use crate::act::Failure;
 use crate::carry::carry;
 use crate::cycle::{cycle, work_of};
 use crate::judge::{judged_cycle, print_cable};
-use crate::line::{ring_of, scene_of, weathers_of};
+use crate::line::{applications_of, ring_of, scene_of, weathers_of};
 use ec_master::{Reporting, Work, all_expected};
+use ec_process::Applications;
 use ec_ring::Weather;
 use ecat_scene::Action;
 use ecat_source::Source;
@@ -16,9 +17,9 @@ use std::io::Write;
 
 /// Runs the scene that the source holds: its frames and steps in their order; if it has items, one cycle of
 /// them, where the line as it then is and the items are accepted; then a line for each active buffered area
-/// that the master writes. With `judge` the cycle is judged whatever the scene has, and what is in the way of
-/// a good verdict is printed. All memory is taken before anything is printed. Each copy of its frames is
-/// recorded, if anybody wants it.
+/// that the master writes. Applications act behind each step and behind the cycle. With `judge` the cycle is
+/// judged whatever the scene has, and what is in the way of a good verdict is printed. All memory is taken
+/// before anything is printed. Each copy of its frames is recorded, if anybody wants it.
 pub fn run<S, W, T, M>(
     alloc: Global,
     judge: bool,
@@ -34,11 +35,12 @@ where
 {
     let scene = scene_of(alloc, source)?;
     let weathers = weathers_of(alloc, scene.weathers.as_slice())?;
+    let mut applications = applications_of(alloc, scene.slaves.as_slice())?;
     let ring = ring_of(alloc, scene.slaves, scene.links_down.as_slice())?;
     let mut ring = TapedRing::new(ring, recorder);
     let mut lines = Lines::new(out);
     for action in &scene.actions {
-        act_on(&mut ring, action, &mut lines)?;
+        act_on(&mut ring, &mut applications, action, &mut lines)?;
     }
     if scene.items.is_empty() {
         print_areas(ring.ring.slaves(), &mut lines)?;
@@ -49,9 +51,16 @@ where
     }
     let mut work = work_of(scene.items)?;
     if judge {
-        return judged(ring, &mut work, weathers.as_slice(), &mut lines);
+        return judged(
+            ring,
+            applications,
+            &mut work,
+            weathers.as_slice(),
+            &mut lines,
+        );
     }
     let status = cycle(&mut ring, &mut work, weathers.as_slice(), &mut lines)?;
+    applications.act(&mut ring.ring);
     print_areas(ring.ring.slaves(), &mut lines)?;
     Ok(status)
 }
@@ -60,6 +69,7 @@ where
 /// items and the areas.
 fn judged<T: Write, M: Moments, W: Write>(
     ring: TapedRing<'_, T, M>,
+    mut applications: Applications,
     work: &mut Work,
     weathers: &[Weather],
     lines: &mut Lines<'_, W>,
@@ -70,6 +80,7 @@ fn judged<T: Write, M: Moments, W: Write>(
     let verdict = judged_cycle(&mut ports, work, &expected[..count], lines)?;
     let (ports, report) = ports.into_parts();
     let mut ring = ports.into_ring();
+    applications.act(&mut ring);
     print_cable(verdict, &report, &mut ring, weathers, lines)?;
     print_items(work, &expected, lines)?;
     print_areas(ring.slaves(), lines)?;
@@ -79,11 +90,15 @@ fn judged<T: Write, M: Moments, W: Write>(
 /// Does one action, and prints the frame that it carries.
 fn act_on<T: Write, M: Moments, W: Write>(
     ring: &mut TapedRing<'_, T, M>,
+    applications: &mut Applications,
     action: &Action,
     lines: &mut Lines<'_, W>,
 ) -> Result<(), Failure> {
     match action {
-        Action::Step => ring.ring.step_all(),
+        Action::Step => {
+            ring.ring.step_all();
+            applications.act(&mut ring.ring);
+        }
         Action::Frame(sent) => {
             let Ok(joined) = carry(ring, sent) else {
                 return Err(Failure::Stranger);

@@ -6,7 +6,7 @@ ghost use Rattle.ecat.specs.Services.{address_words, awaits_input, counts_words,
 ghost use Rattle.ecat.specs.Services.{where_words};
 
 use crate::act::{Failure, report};
-use crate::line::{ring_of, scene_for_packets};
+use crate::line::{applications_of, ring_of, scene_for_packets};
 use crate::raw::RawWhereText;
 use ec_master::PortFault;
 use ec_ring::Ring;
@@ -136,33 +136,35 @@ impl fmt::Display for CountsText {
     }
 }
 
-/// The ring of the scene that the source holds, which has no actions and no weathers; its items are a
-/// master's, and are passed over. Where there is none, reports why and answers the exit status.
-pub fn ring_to_serve<S, W, V>(
+/// The line of the scene that the source holds, which has no actions and no weathers, as it is served; its
+/// items are a master's, and are passed over. Where there is none, reports why and answers the exit status.
+pub fn line_to_serve<S, W, V>(
     alloc: Global,
     source: &mut S,
     out: &mut W,
     err: &mut V,
-) -> Result<Ring, u8>
+) -> Result<Served, u8>
 where
     S: Source,
     W: Write,
     V: Write,
 {
     match served_ring(alloc, source) {
-        Ok(ring) => Ok(ring),
+        Ok(served) => Ok(served),
         Err(failure) => Err(report(&failure, out, err)),
     }
 }
 
-fn served_ring<S: Source>(alloc: Global, source: &mut S) -> Result<Ring, Failure> {
+fn served_ring<S: Source>(alloc: Global, source: &mut S) -> Result<Served, Failure> {
     let scene = scene_for_packets(alloc, source)?;
-    ring_of(alloc, scene.slaves, scene.links_down.as_slice())
+    let applications = applications_of(alloc, scene.slaves.as_slice())?;
+    let ring = ring_of(alloc, scene.slaves, scene.links_down.as_slice())?;
+    Ok(Served::acting(ring, applications))
 }
 
-/// Serves a ring, whose line has these ends, and answers the exit status. It takes no memory.
+/// Serves a line that has these ends, and answers the exit status. It takes no memory.
 pub fn act_serve<E, W, V>(
-    ring: Ring,
+    served: Served,
     service: Service,
     ends: &mut E,
     out: &mut W,
@@ -174,9 +176,9 @@ where
     V: Write,
 {
     let done = if service.log {
-        serve(ring, service, ends, &mut Log::new(err), out)
+        serve(served, service, ends, &mut Log::new(err), out)
     } else {
-        serve(ring, service, ends, &mut Unwatched, out)
+        serve(served, service, ends, &mut Unwatched, out)
     };
     tell_end(service, &done, err);
     match done {
@@ -188,7 +190,7 @@ where
 /// Prints where the line is served, and at the end how many packets came and a line for each active buffered
 /// area that the master writes. Somebody is told of each packet.
 fn serve<E, V, W>(
-    ring: Ring,
+    mut served: Served,
     service: Service,
     ends: &mut E,
     watch: &mut V,
@@ -199,7 +201,6 @@ where
     V: Watch,
     W: Write,
 {
-    let mut served = Served::new(ring);
     let mut lines = Lines::new(out);
     print_where(service, &mut lines)?;
     let counts = served.serve_watched(ends, most_packets(service.packets), watch)?;

@@ -1,21 +1,40 @@
 //! `ecat show`: the frames of a capture.
 
-use crate::act::Failure;
+use crate::act::{Failure, report};
 use ecat_list::Shown;
 use ecat_source::Source;
 use ecat_text::{GOOD, REFUSED};
 use std::alloc::Global;
 use std::io::Write;
 
-/// Shows each packet of the capture that the source holds: its lines at once where somebody follows, else in
-/// pieces of 64 KiB.
+/// Shows each packet of the capture that the source holds, and answers the exit status. Where somebody
+/// follows, the lines of each packet go out at once, else in pieces of 64 KiB.
+pub fn act_show<S, W, V>(
+    alloc: Global,
+    is_followed: bool,
+    source: &mut S,
+    out: &mut W,
+    err: &mut V,
+) -> u8
+where
+    S: Source,
+    W: Write,
+    V: Write,
+{
+    match show(alloc, is_followed, source, out) {
+        Ok(status) => status,
+        Err(failure) => report(&failure, out, err),
+    }
+}
+
+/// Shows each packet of the capture that the source holds.
 pub fn show<S: Source, W: Write>(
     alloc: Global,
-    live: bool,
+    is_followed: bool,
     source: &mut S,
     out: &mut W,
 ) -> Result<u8, Failure> {
-    match ecat_list::show(alloc, source, live, out) {
+    match ecat_list::show(alloc, source, is_followed, out) {
         Shown::Whole { faulty: false } => Ok(GOOD),
         Shown::Whole { faulty: true } => Ok(REFUSED),
         Shown::Stopped(fault) => Err(Failure::Capture(fault)),

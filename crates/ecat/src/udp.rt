@@ -5,9 +5,10 @@ ghost use Rattle.std.specs.Prelude.{◌≡◌, length};
 use crate::act::{Failure, report};
 use crate::cycle::work_of;
 use crate::judge::{judged_cycle, print_cable};
-use crate::line::{ring_of, scene_for_packets};
+use crate::line::{applications_of, ring_of, scene_for_packets};
 use ec_map::Item;
 use ec_master::{CycleFault, Reporting, Work, all_expected, run_cycle};
+use ec_process::Applications;
 use ec_ring::Ring;
 use ecat_source::Source;
 use ecat_text::{GOOD, Lines, REFUSED, print_areas, print_items, print_verdict, refuse, status_of};
@@ -33,10 +34,12 @@ pub struct Wanted {
     pub judge: bool,
 }
 
-/// What `udp` does once its sockets are open: the ring of a scene and its items, which are accepted.
+/// What `udp` does once its sockets are open: the ring of a scene, the applications of its slaves, and its
+/// items, which are accepted.
 #[derive(Drop)]
 pub struct Prepared {
     ring: Ring,
+    applications: Applications,
     items: Vec<Item>,
 }
 
@@ -68,12 +71,17 @@ fn checked<S: Source, W: Write>(
     out: &mut W,
 ) -> Result<Option<Prepared>, Failure> {
     let scene = scene_for_packets(alloc, source)?;
+    let applications = applications_of(alloc, scene.slaves.as_slice())?;
     let ring = ring_of(alloc, scene.slaves, scene.links_down.as_slice())?;
     let items = scene.items;
     if !items.is_empty() && refuse(ring.slaves(), items.as_slice(), &mut Lines::new(out))? {
         return Ok(None);
     }
-    Ok(Some(Prepared { ring, items }))
+    Ok(Some(Prepared {
+        ring,
+        applications,
+        items,
+    }))
 }
 
 /// Does `udp`, whose packets `line` carries, and answers the exit status. It takes no memory.
@@ -89,14 +97,18 @@ where
     }
 }
 
-/// If there are items, one cycle of them over the packets; then a line for each active buffered area that the
-/// master writes.
+/// If there are items, one cycle of them over the packets, behind which applications act; then a line for
+/// each active buffered area that the master writes.
 fn udp<L, W>(prepared: Prepared, judge: bool, line: L, out: &mut W) -> Result<u8, Failure>
 where
     L: PacketLine + Drop,
     W: Write,
 {
-    let Prepared { ring, items } = prepared;
+    let Prepared {
+        ring,
+        mut applications,
+        items,
+    } = prepared;
     let mut lines = Lines::new(out);
     if items.is_empty() {
         print_areas(ring.slaves(), &mut lines)?;
@@ -105,10 +117,12 @@ where
     let mut work = work_of(items)?;
     let mut ports = UdpPorts::new(ring, line);
     if judge {
-        return judged(ports, &mut work, &mut lines);
+        return judged(ports, applications, &mut work, &mut lines);
     }
     let status = cycle(&mut ports, &mut work, &mut lines)?;
-    print_areas(ports.ring().slaves(), &mut lines)?;
+    let (mut ring, _) = ports.into_parts();
+    applications.act(&mut ring);
+    print_areas(ring.slaves(), &mut lines)?;
     Ok(status)
 }
 
@@ -116,6 +130,7 @@ where
 /// areas.
 fn judged<L: PacketLine + Drop, W: Write>(
     ports: UdpPorts<L>,
+    mut applications: Applications,
     work: &mut Work,
     lines: &mut Lines<'_, W>,
 ) -> Result<u8, Failure> {
@@ -125,6 +140,7 @@ fn judged<L: PacketLine + Drop, W: Write>(
     let verdict = judged_cycle(&mut ports, work, &expected[..count], lines)?;
     let (ports, report) = ports.into_parts();
     let (mut ring, _) = ports.into_parts();
+    applications.act(&mut ring);
     print_cable(verdict, &report, &mut ring, &[], lines)?;
     print_items(work, &expected, lines)?;
     print_areas(ring.slaves(), lines)?;

@@ -3,13 +3,13 @@ use Rattle.std.specs.Prelude.{◌≡◌, ◌≢◌, ◌⊎◌, List, [], Some, N
 use Rattle.clap.specs.Words.{IsAmong, Text, fault_of, kind_of, subcommand_of, takes}
 use Rattle.clap.specs.declared.error.Error.{Error}
 use Rattle.clap.specs.declared.error.kind.ErrorKind.TheVariants.{OutOfMemory}
-use Rattle.ecat_args.specs.Given.{Given, IsComplete, IsNoAddress, LiesAt, control_in, forever_in, index_in}
+use Rattle.ecat_args.specs.Given.{Given, IsComplete, IsNoAddress, LiesAt, control_in, force_in, forever_in, index_in}
 use Rattle.ecat_args.specs.Given.{judge_in, log_in, many_in, port_in, station_in, sub_in, surely_in}
 use Rattle.ecat_args.specs.Given.{csv_in, every_in, faults_in, limit_in, recover_in, stats_in, stop_in}
 use Rattle.ecat_args.specs.Given.{value_in, word_in}
 use Rattle.ecat_args.specs.Line.{line}
 use Rattle.ecat_args.specs.declared.args.Args.{Args}
-use Rattle.ecat_args.specs.declared.args.Args.TheVariants.{Show, Check, Cover, Where, Run, Sweep, Sdo}
+use Rattle.ecat_args.specs.declared.args.Args.TheVariants.{Show, Check, Cover, Lint, Where, Run, Sweep, Sdo}
 use Rattle.ecat_args.specs.declared.args.Args.TheVariants.{Udp, Serve, Vectors, List as Lists, Master, Scan}
 use Rattle.ecat_args.specs.declared.args.ArgsFault.{ArgsFault}
 use Rattle.ecat_args.specs.declared.args.ArgsFault.TheVariants.{Line, BadNumber, NoMemory}
@@ -25,12 +25,15 @@ Says (Check scene) given =
     (given.0 ≡ codes "check") × (word_in given (codes "SCENE") ≡ Some scene.now)
 Says (Cover scene) given =
     (given.0 ≡ codes "cover") × (word_in given (codes "SCENE") ≡ Some scene.now)
+Says (Lint scene) given =
+    (given.0 ≡ codes "lint") × (word_in given (codes "SCENE") ≡ Some scene.now)
 Says (Where scene place) given =
     (given.0 ≡ codes "where") × (word_in given (codes "SCENE") ≡ Some scene.now)
     × (word_in given (codes "AT") ≡ option_map (λ w. w.now) place)
-Says (Run scene judge) given =
+Says (Run scene judge pcap force) given =
     (given.0 ≡ codes "run") × (word_in given (codes "SCENE") ≡ Some scene.now)
-    × (judge_in given ≡ judge)
+    × (judge_in given ≡ judge) × (word_in given (codes "PCAP") ≡ option_map (λ w. w.now) pcap)
+    × (force_in given ≡ force)
 Says (Sweep scene) given =
     (given.0 ≡ codes "sweep") × (word_in given (codes "SCENE") ≡ Some scene.now)
 Says (Sdo scene station index sub value surely place) given =
@@ -38,15 +41,17 @@ Says (Sdo scene station index sub value surely place) given =
     × (station_in given ≡ Some station) × (index_in given ≡ Some index)
     × (sub_in given ≡ Some sub) × (value_in given ≡ Some value) × (surely_in given ≡ surely)
     × (word_in given (codes "AT") ≡ option_map (λ w. w.now) place)
-Says (Udp scene port judge) given =
+Says (Udp scene port judge pcap force) given =
     (given.0 ≡ codes "udp") × (word_in given (codes "SCENE") ≡ Some scene.now)
     × (port_in given ≡ Some port) × (judge_in given ≡ judge)
-Says (Serve scene port packets address forever control log raw) given =
+    × (word_in given (codes "PCAP") ≡ option_map (λ w. w.now) pcap) × (force_in given ≡ force)
+Says (Serve scene port packets address forever control log raw pcap force) given =
     (given.0 ≡ codes "serve") × (word_in given (codes "SCENE") ≡ Some scene.now)
     × (port_in given ≡ Some port) × (many_in given ≡ Some packets)
     × LiesAt (word_in given (codes "ADDRESS")) address
     × (forever_in given ≡ forever) × (control_in given ≡ control) × (log_in given ≡ log)
     × (word_in given (codes "RAW") ≡ option_map (λ w. w.now) raw)
+    × (word_in given (codes "PCAP") ≡ option_map (λ w. w.now) pcap) × (force_in given ≡ force)
 Says (Master scene place raw cycles every limit outputs log stop recover) given =
     (given.0 ≡ codes "master") × (word_in given (codes "SCENE") ≡ Some scene.now)
     × (word_in given (codes "AT") ≡ option_map (λ w. w.now) place)

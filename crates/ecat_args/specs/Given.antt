@@ -85,6 +85,9 @@ control_in given = flag_by (word_in given (codes "control"))
 abbrev pub forever_in : Given → Bool
 forever_in given = flag_by (word_in given (codes "forever"))
 
+abbrev pub force_in : Given → Bool
+force_in given = flag_by (word_in given (codes "force"))
+
 abbrev pub log_in : Given → Bool
 log_in given = flag_by (word_in given (codes "log"))
 
@@ -116,9 +119,9 @@ IsNoAddress (Some word) = (address : Ipv4Addr) → IsIpv4Text word address → �
 
 -- the names of the commands
 abbrev pub command_names : List Text
-command_names = codes "show" ∷ codes "list" ∷ codes "check" ∷ codes "cover" ∷ codes "where" ∷ codes "run"
-    ∷ codes "sweep" ∷ codes "sdo" ∷ codes "udp" ∷ codes "serve" ∷ codes "master" ∷ codes "scan"
-    ∷ codes "vectors" ∷ []
+command_names = codes "show" ∷ codes "list" ∷ codes "check" ∷ codes "cover" ∷ codes "lint" ∷ codes "where"
+    ∷ codes "run" ∷ codes "sweep" ∷ codes "sdo" ∷ codes "udp" ∷ codes "serve" ∷ codes "master"
+    ∷ codes "scan" ∷ codes "vectors" ∷ []
 
 -- the names of the words that a command needs
 abbrev pub needed_words : Text → List Text
@@ -127,6 +130,7 @@ needed_words command =
     else if bytes_eq command (codes "list") then codes "FILE" ∷ []
     else if bytes_eq command (codes "check") then codes "SCENE" ∷ []
     else if bytes_eq command (codes "cover") then codes "SCENE" ∷ []
+    else if bytes_eq command (codes "lint") then codes "SCENE" ∷ []
     else if bytes_eq command (codes "where") then codes "SCENE" ∷ []
     else if bytes_eq command (codes "run") then codes "SCENE" ∷ []
     else if bytes_eq command (codes "sweep") then codes "SCENE" ∷ []
@@ -137,7 +141,7 @@ needed_words command =
     else if bytes_eq command (codes "master") then codes "SCENE" ∷ []
     else []
 
--- the command is one of the thirteen, and the words that it needs were given
+-- the command is one of the fourteen, and the words that it needs were given
 abbrev pub IsComplete : Given → Type 0
 IsComplete given = (list_any (bytes_eq given.0) command_names ≡ true)
     × (list_all (λ name. is_some (word_in given name)) (needed_words given.0) ≡ true)

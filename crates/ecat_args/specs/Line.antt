@@ -1,4 +1,4 @@
--- The command line of `ecat`, in clap's own words: thirteen commands, of which one has to be given.
+-- The command line of `ecat`, in clap's own words: fourteen commands, of which one has to be given.
 use Rattle.std.specs.Prelude.{codes, true, Some}
 use Rattle.clap.specs.Words.{App, Rule, Text, new_app, new_rule, with_rule, with_subcommand}
 use Rattle.clap.specs.declared.builder.action.ArgAction.TheVariants.{SetTrue}
@@ -38,6 +38,10 @@ check_line = with_rule (new_app (codes "check")) (needed_rule (codes "SCENE"))
 abbrev pub cover_line : App
 cover_line = with_rule (new_app (codes "cover")) (needed_rule (codes "SCENE"))
 
+-- `lint SCENE`
+abbrev pub lint_line : App
+lint_line = with_rule (new_app (codes "lint")) (needed_rule (codes "SCENE"))
+
 -- `--at AT`
 abbrev pub at_rule : Rule
 at_rule = record (new_rule (codes "AT")) { long = Some (codes "at") }
@@ -54,9 +58,18 @@ where_line = with_rule (with_rule (new_app (codes "where")) (needed_rule (codes 
 abbrev pub judge_rule : Rule
 judge_rule = flag_rule (codes "judge")
 
--- `run SCENE [--judge]`
+-- `--pcap PCAP`
+abbrev pub pcap_rule : Rule
+pcap_rule = record (new_rule (codes "PCAP")) { long = Some (codes "pcap") }
+
+-- `--force`
+abbrev pub force_rule : Rule
+force_rule = flag_rule (codes "force")
+
+-- `run SCENE [--judge] [--pcap PCAP] [--force]`
 abbrev pub run_line : App
-run_line = with_rule (with_rule (new_app (codes "run")) (needed_rule (codes "SCENE"))) judge_rule
+run_line = with_rule (with_rule (with_rule (with_rule (new_app (codes "run")) (needed_rule (codes "SCENE")))
+    judge_rule) pcap_rule) force_rule
 
 -- `sweep SCENE`
 abbrev pub sweep_line : App
@@ -76,10 +89,10 @@ sdo_line = with_rule (with_rule (with_rule (with_rule (with_rule (with_rule (wit
 abbrev pub port_rule : Rule
 port_rule = record (new_rule (codes "P")) { long = Some (codes "port") }
 
--- `udp SCENE [--port P] [--judge]`
+-- `udp SCENE [--port P] [--judge] [--pcap PCAP] [--force]`
 abbrev pub udp_line : App
-udp_line = with_rule (with_rule (with_rule (new_app (codes "udp")) (needed_rule (codes "SCENE"))) port_rule)
-    judge_rule
+udp_line = with_rule (with_rule (with_rule (with_rule (with_rule (new_app (codes "udp"))
+    (needed_rule (codes "SCENE"))) port_rule) judge_rule) pcap_rule) force_rule
 
 -- `--packets N`
 abbrev pub packets_rule : Rule
@@ -101,11 +114,12 @@ forever_rule = flag_rule (codes "forever")
 abbrev pub log_rule : Rule
 log_rule = flag_rule (codes "log")
 
--- `serve SCENE [--port P] [--packets N] [--bind ADDRESS] [--forever] [--control] [--log] [--raw RAW]`
+-- `serve SCENE [--port P] [--packets N] [--bind ADDRESS] [--forever] [--control] [--log] [--raw RAW]
+-- [--pcap PCAP] [--force]`
 abbrev pub serve_line : App
 serve_line = with_rule (with_rule (with_rule (with_rule (with_rule (with_rule (with_rule (with_rule
-    (new_app (codes "serve")) (needed_rule (codes "SCENE"))) port_rule) packets_rule) address_rule)
-    forever_rule) control_rule) log_rule) raw_rule
+    (with_rule (with_rule (new_app (codes "serve")) (needed_rule (codes "SCENE"))) port_rule) packets_rule)
+    address_rule) forever_rule) control_rule) log_rule) raw_rule) pcap_rule) force_rule
 
 -- `--cycles N`
 abbrev pub cycles_rule : Rule
@@ -161,7 +175,7 @@ ecat_line = needs_command (new_app (codes "ecat"))
 unfoldable pub line : App
 line = with_subcommand (with_subcommand (with_subcommand (with_subcommand (with_subcommand
     (with_subcommand (with_subcommand (with_subcommand (with_subcommand (with_subcommand
-    (with_subcommand (with_subcommand (with_subcommand ecat_line
-    show_line.top) list_line.top) check_line.top) cover_line.top) where_line.top) run_line.top)
+    (with_subcommand (with_subcommand (with_subcommand (with_subcommand ecat_line
+    show_line.top) list_line.top) check_line.top) cover_line.top) lint_line.top) where_line.top) run_line.top)
     sweep_line.top) sdo_line.top) udp_line.top) serve_line.top) master_line.top) scan_line.top)
     vectors_line.top

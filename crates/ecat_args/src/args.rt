@@ -19,13 +19,13 @@ use std::net::Ipv4Addr;
 const DEFAULT_PORT: u16 = 0x88a4;
 
 /// The least port of the end A.
-const LEAST_PORT: u32 = 1024;
+pub(crate) const LEAST_PORT: u32 = 1024;
 
 /// The greatest port of the end A: the end B has the port after it.
-const GREATEST_PORT: u32 = 65534;
+pub(crate) const GREATEST_PORT: u32 = 65534;
 
 /// The least number of packets, of cycles and of microseconds.
-const LEAST_COUNT: u32 = 1;
+pub(crate) const LEAST_COUNT: u32 = 1;
 
 /// A command of the program, with its texts and numbers.
 #[derive(Clone, Copy, Debug, PartialEq, Eq)]
@@ -56,6 +56,11 @@ pub enum Args<'a> {
         /// The path of the scene.
         scene: &'a str,
     },
+    /// `lint SCENE`: names what a scene says that is accepted and yet seldom meant.
+    Lint {
+        /// The path of the scene.
+        scene: &'a str,
+    },
     /// `where SCENE [--at AT]`: says where the cable of a scene is broken, and who is missing.
     Where {
         /// The path of the scene.
@@ -63,12 +68,16 @@ pub enum Args<'a> {
         /// Where the line lies, if it is not simulated here: the address of an end, or of both.
         at: Option<&'a str>,
     },
-    /// `run SCENE [--judge]`: does the actions of a scene, and then its work.
+    /// `run SCENE [--judge] [--pcap PCAP] [--force]`: does the actions of a scene, and then its work.
     Run {
         /// The path of the scene.
         scene: &'a str,
         /// Whether its cycle is judged, and what is short is named.
         judge: bool,
+        /// The path of a capture that gets each copy, as it leaves and as it arrives.
+        pcap: Option<&'a str>,
+        /// Whether a capture that is there is overwritten.
+        force: bool,
     },
     /// `sweep SCENE`: does the cycle of a scene whole, and with each cable broken.
     Sweep {
@@ -92,7 +101,7 @@ pub enum Args<'a> {
         /// Where the line lies, if it is not simulated here: the address of an end, or of both.
         at: Option<&'a str>,
     },
-    /// `udp SCENE [--port P] [--judge]`: does the work of a scene through UDP sockets.
+    /// `udp SCENE [--port P] [--judge] [--pcap PCAP] [--force]`: does the work of a scene through UDP sockets.
     Udp {
         /// The path of the scene.
         scene: &'a str,
@@ -100,9 +109,13 @@ pub enum Args<'a> {
         port: u16,
         /// Whether what is short is named.
         judge: bool,
+        /// The path of a capture that gets each copy, as it leaves and as it arrives.
+        pcap: Option<&'a str>,
+        /// Whether a capture that is there is overwritten.
+        force: bool,
     },
-    /// `serve SCENE [--port P] [--packets N] [--bind ADDRESS] [--forever] [--control] [--log] [--raw RAW]`:
-    /// puts the line of a scene on the network.
+    /// `serve SCENE [--port P] [--packets N] [--bind ADDRESS] [--forever] [--control] [--log] [--raw RAW]
+    /// [--pcap PCAP] [--force]`: puts the line of a scene on the network.
     Serve {
         /// The path of the scene.
         scene: &'a str,
@@ -120,6 +133,10 @@ pub enum Args<'a> {
         log: bool,
         /// The descriptors of packet sockets, if its ends lie at network interfaces.
         raw: Option<&'a str>,
+        /// The path of a capture that gets each copy, as it comes and as it leaves.
+        pcap: Option<&'a str>,
+        /// Whether a capture that is there is overwritten.
+        force: bool,
     },
     /// `master SCENE [--at AT] [--raw RAW] [--cycles N] [--every MICROSECONDS] [--limit LIMIT]
     /// [--outputs OUTPUTS] [--log LOG] [--stop] [--recover]`: brings a line somewhere else to Op, and cycles
@@ -168,6 +185,16 @@ pub enum ArgsFault {
     BadNumber,
     /// Memory ran out.
     NoMemory,
+}
+
+impl ArgsFault {
+    /// Do the words ask for help, whose text the error has?
+    pub fn is_help(&self) -> bool {
+        match self {
+            ArgsFault::Line(error) => error.kind() == ErrorKind::DisplayHelp,
+            ArgsFault::BadNumber | ArgsFault::NoMemory => false,
+        }
+    }
 }
 
 impl From<AllocError> for ArgsFault {
@@ -237,6 +264,9 @@ fn command<'a>(name: &str, given: &ArgMatches<'a>) -> Option<Args<'a>>
         "cover" => Some(Args::Cover {
             scene: text(given, "SCENE"),
         }),
+        "lint" => Some(Args::Lint {
+            scene: text(given, "SCENE"),
+        }),
         "where" => Some(Args::Where {
             scene: text(given, "SCENE"),
             at: word(given, "AT"),
@@ -244,6 +274,8 @@ fn command<'a>(name: &str, given: &ArgMatches<'a>) -> Option<Args<'a>>
         "run" => Some(Args::Run {
             scene: text(given, "SCENE"),
             judge: flag(given, "judge"),
+            pcap: word(given, "PCAP"),
+            force: flag(given, "force"),
         }),
         "sweep" => Some(Args::Sweep {
             scene: text(given, "SCENE"),
@@ -328,6 +360,8 @@ fn udp<'a>(given: &ArgMatches<'a>) -> Option<Args<'a>>
         scene: text(given, "SCENE"),
         port,
         judge: flag(given, "judge"),
+        pcap: word(given, "PCAP"),
+        force: flag(given, "force"),
     })
 }
 
@@ -349,6 +383,8 @@ fn serve<'a>(given: &ArgMatches<'a>) -> Option<Args<'a>>
         control: flag(given, "control"),
         log: flag(given, "log"),
         raw: word(given, "RAW"),
+        pcap: word(given, "PCAP"),
+        force: flag(given, "force"),
     })
 }
 
@@ -421,7 +457,7 @@ fn address_given(given: &ArgMatches<'_>) -> Option<Ipv4Addr>
 }
 
 // The address that a text writes, if it writes one.
-fn address_of(text: &str) -> Option<Ipv4Addr>
+pub(crate) fn address_of(text: &str) -> Option<Ipv4Addr>
     ensures { MatchOption result (IsNoAddress (Some text.now)) (IsIpv4Text text.now) }
 {
     match text.parse() {

@@ -19,6 +19,7 @@ Examples:
   ecat list scenes/startup.pcap
   ecat check scenes/check/accepted.scene
   ecat cover scenes/check/accepted.scene
+  ecat lint scenes/check/accepted.scene
   ecat where scenes/run/two_slaves_link_1_down.scene
   ecat run scenes/run/example.scene
   ecat sweep scenes/run/example.scene
@@ -73,6 +74,16 @@ of that byte; or not shown and the sync manager of the outputs.
 Example:
   ecat cover scenes/check/accepted.scene";
 
+/// Of `lint`.
+pub(crate) const LINT: &str = "\
+Names what a scene says that is accepted and yet seldom meant, a line each: the
+line of the scene, the slave, and what is odd; as a sync manager that is set
+twice, a mailbox that is never active, or items that lie outside of all that is
+mapped. Prints nothing and has the status 0 where there is none, else 1.
+
+Example:
+  ecat lint scenes/check/accepted.scene";
+
 /// Of `where`.
 pub(crate) const WHERE: &str = "\
 Sends one frame from both ports over the line of a scene, under its links down
@@ -95,6 +106,8 @@ each area that the master writes, in the memory and as the application sees it.
 With --judge the verdict is always printed, and after it what is in the way:
 the items that are short, the frames whose copies are lost, where the cable is
 broken and which slaves are cut off; or that the redundancy is lost.
+With --pcap each copy of a frame is kept in a capture, as it leaves a port and
+as it arrives at one; its time is a counter of microseconds.
 
 Example:
   ecat run scenes/run/example.scene";
@@ -133,6 +146,7 @@ Does the items of a scene in one cycle over UDP sockets on 127.0.0.1: the end A
 of the line has the port P, the end B the next one. Prints good, short K or
 over K, and then what run prints. A scene with actions or weathers is refused.
 With --judge what is in the way of a verdict is printed after it, as by run.
+With --pcap each copy of a frame is kept in a capture, as by run.
 
 Example:
   ecat udp scenes/run/example.scene --port 4000";
@@ -154,6 +168,8 @@ and of a frame each datagram, with the counter as it came and as it left, and
 where it left; or why it was dropped, and ethernet or padded where it looks so.
 With --raw the ends lie at network interfaces, through packet sockets that
 tools/raw opens: end A has the first and end B the second one.
+With --pcap each copy is kept in a capture, as it comes in at an end and as it
+leaves from one.
 With --control each line of standard input is a command, which is done between
 two packets and answered by ok, what it asks for and ok, or refused and why:
   link K up|down            mends or breaks a link, 0 before the first slave
@@ -181,7 +197,9 @@ cycle that is not good, with the item that is short and where the cable is
 broken; of redundancy that is lost though cycles are good; and of a ring that
 is whole again. At the end it prints how many cycles were good, short, over and
 without a verdict, and the items with their last answers.
-With --outputs count the outputs are a number that grows by one each cycle.
+With --outputs count the outputs are a number that grows by one each cycle. With
+--outputs FILE each line of it has the data of all items that write, one after
+the other in hexadecimal digits, for one cycle; behind the last comes the first.
 With --stop it ends at the first cycle that is not good. With --recover slaves
 that show an error, or came back in Init, are brought up again.
 

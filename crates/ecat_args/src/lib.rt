@@ -5,12 +5,14 @@
 //! ecat list FILE [--csv] [--faults] [--stats]
 //! ecat check SCENE
 //! ecat cover SCENE
+//! ecat lint SCENE
 //! ecat where SCENE [--at AT]
-//! ecat run SCENE [--judge]
+//! ecat run SCENE [--judge] [--pcap PCAP] [--force]
 //! ecat sweep SCENE
 //! ecat sdo SCENE STATION INDEX SUB [VALUE] [--surely] [--at AT]
-//! ecat udp SCENE [--port P] [--judge]
+//! ecat udp SCENE [--port P] [--judge] [--pcap PCAP] [--force]
 //! ecat serve SCENE [--port P] [--packets N] [--bind ADDRESS] [--forever] [--control] [--log] [--raw RAW]
+//!     [--pcap PCAP] [--force]
 //! ecat master SCENE [--at AT] [--raw RAW] [--cycles N] [--every MICROSECONDS] [--limit LIMIT]
 //!     [--outputs OUTPUTS] [--log LOG] [--stop] [--recover]
 //! ecat scan [--at AT] [--raw RAW] [--limit LIMIT]
@@ -44,11 +46,13 @@
 #![tactic(auto)]
 
 mod args;
+mod explain;
 mod help;
 mod line;
 mod number;
 
 pub use args::{Args, ArgsFault};
+pub use explain::{BadWord, bad_word};
 pub use number::Value;
 
 #[cfg(test)]

@@ -7,7 +7,7 @@ ghost use Rattle.ecat_args.specs.Line.{judge_rule, limit_rule, line, log_file_ru
 ghost use Rattle.ecat_args.specs.Line.{outputs_rule, packets_rule, port_rule, raw_rule};
 ghost use Rattle.ecat_args.specs.Line.{show_line, check_line, cover_line, where_line, run_line, sweep_line};
 ghost use Rattle.ecat_args.specs.Line.{sdo_line, udp_line, serve_line, vectors_line};
-ghost use Rattle.ecat_args.specs.Line.{list_line, master_line, scan_line};
+ghost use Rattle.ecat_args.specs.Line.{force_rule, lint_line, list_line, master_line, pcap_rule, scan_line};
 
 use crate::help;
 use clap::{Arg, ArgAction, Command};
@@ -153,7 +153,7 @@ fn outputs<'a>(alloc: Global) -> Arg<'a>
     let outputs = optional(
         alloc,
         "OUTPUTS",
-        "The outputs: count, a number that grows by one each cycle; the scene's if not given",
+        "The outputs: count, a number that grows each cycle; or a file, an image a line; else the scene's",
     );
     outputs.long("outputs")
 }
@@ -169,6 +169,19 @@ fn log_file<'a>(alloc: Global) -> Arg<'a>
         "A file that gets a line for each cycle: its number, its verdict and its counters",
     );
     log.long("log")
+}
+
+// Where each copy is kept.
+fn pcap<'a>(alloc: Global) -> Arg<'a>
+    ensures rule { rule_of result ≡ pcap_rule }
+    ensures local { result.global ≡ false }
+{
+    let pcap = optional(
+        alloc,
+        "PCAP",
+        "A capture that gets each copy, as it leaves and as it arrives; it must not be there yet",
+    );
+    pcap.long("pcap")
 }
 
 // A word that is given or not, after two hyphens.
@@ -191,6 +204,14 @@ fn judge<'a>(alloc: Global) -> Arg<'a>
         "judge",
         "Judges the cycle: which items are short, whose copies are lost, where the cable is broken",
     )
+}
+
+// Whether a capture is overwritten.
+fn force<'a>(alloc: Global) -> Arg<'a>
+    ensures rule { rule_of result ≡ force_rule }
+    ensures local { result.global ≡ false }
+{
+    flag(alloc, "force", "Overwrites the capture where it is there")
 }
 
 // A command with no words so far: its line in the list of commands, and what its help tells.
@@ -264,6 +285,15 @@ fn cover<'a>(alloc: Global) -> Result<Command<'a>, AllocError>
     command(alloc, "cover", about, help::COVER).arg(scene(alloc))
 }
 
+// `lint SCENE`
+fn lint<'a>(alloc: Global) -> Result<Command<'a>, AllocError>
+    ensures line { IfOk result (λ c. app_of c ≡ lint_line) }
+    ensures local { IfOk result (λ c. (fields_of c).has_globals ≡ false) }
+{
+    let about = "Names what a scene says that is accepted and yet seldom meant";
+    command(alloc, "lint", about, help::LINT).arg(scene(alloc))
+}
+
 // `where SCENE [--at AT]`
 fn where_broken<'a>(alloc: Global) -> Result<Command<'a>, AllocError>
     ensures line { IfOk result (λ c. app_of c ≡ where_line) }
@@ -275,7 +305,7 @@ fn where_broken<'a>(alloc: Global) -> Result<Command<'a>, AllocError>
         .arg(at(alloc))
 }
 
-// `run SCENE [--judge]`
+// `run SCENE [--judge] [--pcap PCAP] [--force]`
 fn run<'a>(alloc: Global) -> Result<Command<'a>, AllocError>
     ensures line { IfOk result (λ c. app_of c ≡ run_line) }
     ensures local { IfOk result (λ c. (fields_of c).has_globals ≡ false) }
@@ -283,7 +313,9 @@ fn run<'a>(alloc: Global) -> Result<Command<'a>, AllocError>
     let about = "Does the actions of a scene, and then its work";
     command(alloc, "run", about, help::RUN)
         .arg(scene(alloc))?
-        .arg(judge(alloc))
+        .arg(judge(alloc))?
+        .arg(pcap(alloc))?
+        .arg(force(alloc))
 }
 
 // `sweep SCENE`
@@ -324,7 +356,7 @@ fn sdo<'a>(alloc: Global) -> Result<Command<'a>, AllocError>
         .arg(at(alloc))
 }
 
-// `udp SCENE [--port P] [--judge]`
+// `udp SCENE [--port P] [--judge] [--pcap PCAP] [--force]`
 fn udp<'a>(alloc: Global) -> Result<Command<'a>, AllocError>
     ensures line { IfOk result (λ c. app_of c ≡ udp_line) }
     ensures local { IfOk result (λ c. (fields_of c).has_globals ≡ false) }
@@ -333,10 +365,13 @@ fn udp<'a>(alloc: Global) -> Result<Command<'a>, AllocError>
     command(alloc, "udp", about, help::UDP)
         .arg(scene(alloc))?
         .arg(port(alloc))?
-        .arg(judge(alloc))
+        .arg(judge(alloc))?
+        .arg(pcap(alloc))?
+        .arg(force(alloc))
 }
 
-// `serve SCENE [--port P] [--packets N] [--bind ADDRESS] [--forever] [--control] [--log] [--raw RAW]`
+// `serve SCENE [--port P] [--packets N] [--bind ADDRESS] [--forever] [--control] [--log] [--raw RAW]
+// [--pcap PCAP] [--force]`
 fn serve<'a>(alloc: Global) -> Result<Command<'a>, AllocError>
     ensures line { IfOk result (λ c. app_of c ≡ serve_line) }
     ensures local { IfOk result (λ c. (fields_of c).has_globals ≡ false) }
@@ -365,7 +400,9 @@ fn serve<'a>(alloc: Global) -> Result<Command<'a>, AllocError>
         .arg(forever)?
         .arg(control)?
         .arg(log)?
-        .arg(raw(alloc))
+        .arg(raw(alloc))?
+        .arg(pcap(alloc))?
+        .arg(force(alloc))
 }
 
 // `master SCENE [--at AT] [--raw RAW] [--cycles N] [--every MICROSECONDS] [--limit LIMIT] [--outputs OUTPUTS]
@@ -425,6 +462,7 @@ pub(crate) fn line<'a>(alloc: Global) -> Result<Command<'a>, AllocError>
         .subcommand(list(alloc)?)?
         .subcommand(check(alloc)?)?
         .subcommand(cover(alloc)?)?
+        .subcommand(lint(alloc)?)?
         .subcommand(where_broken(alloc)?)?
         .subcommand(run(alloc)?)?
         .subcommand(sweep(alloc)?)?

@@ -1,5 +1,6 @@
 //! Rows of command lines, and what they give.
 mod door;
+mod explain;
 mod help;
 mod lines;
 mod memory;

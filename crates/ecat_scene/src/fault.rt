@@ -29,7 +29,7 @@ pub enum LineFault {
     /// More slaves, objects of a slave, actions, items or weathers than a scene may have.
     #[error("TooMany")]
     TooMany,
-    /// An object that the slave has already.
+    /// An object that the slave has already, or inputs that its application puts already.
     #[error("Twin")]
     Twin,
     /// The bytes are no EtherCAT frame.

@@ -29,7 +29,10 @@
 //! - `words`, `number`: the words of a line, and the numbers and rows of bytes among them.
 
 mod bench;
+mod explain;
 mod fault;
+mod forms;
+mod lint;
 mod number;
 mod reader;
 mod scene;
@@ -38,7 +41,9 @@ mod words;
 mod work_lines;
 
 pub use bench::{BenchCommand, CommandFault, SlaveName};
+pub use explain::{Explanation, explained};
 pub use fault::{LineFault, SceneFault};
+pub use lint::{OddLine, odd_lines};
 pub use scene::{
     Action, FmmuSetting, Load, MAX_ACTIONS, MAX_ITEMS, MAX_SLAVES, MAX_TEXT, MAX_WEATHERS, Scene,
     SceneSlave, SceneWeather, Setting, SyncManSetting,

@@ -6,6 +6,7 @@ use crate::fault::SceneFault;
 use crate::reader::Reader;
 use ec_app::Objects;
 use ec_map::Item;
+use ec_process::Behaviour;
 use ec_regs::{AlState, Fmmu, SyncMan};
 use ec_wire::FrameBuf;
 use std::alloc::Global;
@@ -74,6 +75,8 @@ pub struct SceneSlave {
     pub station: u16,
     /// The state that it is in; Init where no line says another.
     pub state: AlState,
+    /// Whether its application needs no mailbox (`ec_app::Slave::simple`).
+    pub simple: bool,
     /// How many bytes of outputs its application takes.
     pub output_length: u16,
     /// How many bytes of inputs its application gives.
@@ -83,6 +86,9 @@ pub struct SceneSlave {
     pub settings: Vec<Setting>,
     /// The objects of the slave, in the order of their lines.
     pub objects: Objects,
+    /// What its application does with its process data, in the order of the lines. No two of them put the
+    /// inputs of one sync manager.
+    pub behaviours: Vec<Behaviour>,
 }
 
 /// What is done with the line before its cycle.

@@ -10,6 +10,7 @@ use crate::reader::Reader;
 use crate::scene::{FmmuSetting, Load, MAX_SLAVES, SceneSlave, Setting, SyncManSetting};
 use bitflags::Flags;
 use ec_app::{ObjectFault, Objects, Rights, Value};
+use ec_process::Behaviour;
 use ec_regs::registers::{FMMU_COUNT, MEMORY_SIZE, PROCESS_MEMORY, SYNC_MANAGER_COUNT};
 use ec_regs::{AlState, Fmmu, FmmuType, SyncMan, SyncManControl};
 use std::alloc::Global;
@@ -32,10 +33,12 @@ impl Reader {
         let slave = SceneSlave {
             station,
             state: AlState::Init,
+            simple: false,
             output_length: 0,
             input_length: 0,
             settings: Vec::new(self.alloc),
             objects: Objects::new(),
+            behaviours: Vec::new(self.alloc),
         };
         self.scene.slaves.push(slave)?;
         Ok(())
@@ -87,6 +90,57 @@ impl Reader {
         let slave = self.last_slave()?;
         slave.output_length = outputs;
         slave.input_length = inputs;
+        Ok(())
+    }
+
+    /// `simple`
+    pub(crate) fn simple(&mut self, words: &[&[u8]]) -> Result<(), Stop>
+        ensures { MissesSlave 0 words.now self.old.scene result }
+    {
+        let [] = words else {
+            return Err(Stop::Fault(LineFault::WrongCount));
+        };
+        self.test_slave()?;
+        self.last_slave()?.simple = true;
+        Ok(())
+    }
+
+    /// `mirror IN OUT`
+    pub(crate) fn mirror(&mut self, words: &[&[u8]]) -> Result<(), Stop>
+        ensures { MissesSlave 2 words.now self.old.scene result }
+    {
+        let [inputs, outputs] = words else {
+            return Err(Stop::Fault(LineFault::WrongCount));
+        };
+        self.test_slave()?;
+        let inputs = number(inputs)?;
+        let outputs = number(outputs)?;
+        let inputs = index_of(inputs, SYNC_MANAGER_COUNT)?;
+        let outputs = index_of(outputs, SYNC_MANAGER_COUNT)?;
+        self.behave(Behaviour::Mirror { inputs, outputs })
+    }
+
+    /// `count IN`
+    pub(crate) fn count(&mut self, words: &[&[u8]]) -> Result<(), Stop>
+        ensures { MissesSlave 1 words.now self.old.scene result }
+    {
+        let [inputs] = words else {
+            return Err(Stop::Fault(LineFault::WrongCount));
+        };
+        self.test_slave()?;
+        let inputs = number(inputs)?;
+        let inputs = index_of(inputs, SYNC_MANAGER_COUNT)?;
+        self.behave(Behaviour::Count { inputs })
+    }
+
+    /// Has the application of the last slave do this, unless it puts those inputs already.
+    fn behave(&mut self, behaviour: Behaviour) -> Result<(), Stop> {
+        let slave = self.last_slave()?;
+        let inputs = behaviour.inputs();
+        if slave.behaviours.iter().any(|one| one.inputs() == inputs) {
+            return Err(Stop::Fault(LineFault::Twin));
+        }
+        slave.behaviours.push(behaviour)?;
         Ok(())
     }
 
@@ -191,7 +245,7 @@ pub(crate) fn load_of(alloc: Global, address: &[u8], row: &[u8]) -> Result<Load,
 }
 
 /// The record of an enabled sync manager of these numbers.
-fn sync_man_of(start: u64, length: u64, control: u8) -> Result<SyncMan, LineFault>
+pub(crate) fn sync_man_of(start: u64, length: u64, control: u8) -> Result<SyncMan, LineFault>
     ensures numbers { IfOk result (λ made. made ≡ enabled_sync_man start length control) }
     ensures fits { start < 2 ^ 16 → length < 2 ^ 16 → IsOk result }
 {
@@ -234,7 +288,7 @@ fn fmmu_of(
 }
 
 /// What a sync manager of a kind may do.
-fn control_of(kind: &[u8]) -> Result<SyncManControl, LineFault> {
+pub(crate) fn control_of(kind: &[u8]) -> Result<SyncManControl, LineFault> {
     match kind {
         b"mailbox-write" => Ok(SyncManControl::MAILBOX.union(SyncManControl::WRITE)),
         b"mailbox-read" => Ok(SyncManControl::MAILBOX),

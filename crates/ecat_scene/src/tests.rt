@@ -6,9 +6,12 @@ use ec_regs::{Fmmu, SyncMan};
 use std::fmt::Debug;
 use std::process::Abort;
 
+mod applications;
 mod bench;
 mod door;
+mod explains;
 mod faults;
+mod lints;
 mod slaves;
 mod works;
 

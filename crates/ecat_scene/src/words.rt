@@ -8,7 +8,7 @@ use crate::fault::LineFault;
 use std::alloc::{AllocError, Global};
 
 /// Is the byte a character of ASCII text?
-fn is_text(byte: u8) -> bool
+pub(crate) fn is_text(byte: u8) -> bool
     ensures { result ≡ is_text byte }
 {
     matches!(byte, 0x20..=0x7e)

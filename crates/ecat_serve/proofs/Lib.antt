@@ -1,1 +1,2 @@
 pub mod RoundLemmas
+mod CommandLemmas

@@ -8,12 +8,12 @@ use Rattle.ec_wire.specs.Datagram.{DatagramRecord}
 use Rattle.ec_wire.specs.Spelling.{spelling}
 use Rattle.ec_ring.specs.declared.port.PortFault.{PortFault}
 use Rattle.ec_ring.specs.Links.{is_up}
-use Rattle.ec_ring.specs.Ring.{line_of, stepped, with_line}
+use Rattle.ec_ring.specs.Ring.{line_of, with_line}
 use Rattle.ec_ring.specs.Walk.{walked}
 use Rattle.ec_ring.specs.declared.links.Links.{Links}
 use Rattle.ec_ring.specs.declared.port.Port.{Port}
 use Rattle.ecat_serve.specs.Ends.{Sends}
-use Rattle.ecat_serve.specs.State.{ServedState, losing, peer_at, to_lose_at}
+use Rattle.ecat_serve.specs.State.{ServedState, losing, moved_on, peer_at, to_lose_at}
 
 -- the links under which frames walk are the ring's, but the last one is down while nobody has ever spoken to
 -- end B: it is the last port of a real line, and empty
@@ -25,15 +25,14 @@ AreServed s links = (k : ℕ) → is_up links k
 abbrev pub Arrival : Type 0
 Arrival = Option (List DatagramRecord × Port)
 
--- a frame walks from an end over the line, and then each slave takes its step
+-- a frame walks from an end over the line, and then each slave takes its step and each application acts
 pub record Walks (before : ServedState) (from : Port) (frame : List DatagramRecord) (arrival : Arrival)
     (later : ServedState) : Type 0 where
   pub links : Links
   pub served : AreServed before links
   pub arrives : arrival ≡ (walked from links frame (line_of before.ring)).arrived
-  pub leaves : later ≡ record before {
-    ring = stepped (with_line before.ring (walked from links frame (line_of before.ring)).line);
-  }
+  pub leaves : later ≡ moved_on before
+      (with_line before.ring (walked from links frame (line_of before.ring)).line)
 
 -- what of an arrival is not lost: nothing where a copy that arrives there is still to be
 abbrev pub spared : ServedState → Arrival → Arrival

@@ -4,4 +4,5 @@ pub mod Answering
 pub mod Bench
 pub mod Lines
 pub mod Rounds
+pub mod Commands
 pub mod Watching

@@ -4,10 +4,9 @@ use Rattle.ec_wire.specs.Datagram.{DatagramRecord}
 use Rattle.ec_wire.specs.Fault.{IsSpelt}
 use Rattle.ec_wire.specs.declared.fault.Form.TheVariants.{Udp}
 use Rattle.ec_ring.specs.declared.port.PortFault.{PortFault}
-use Rattle.ec_ring.specs.Ring.{stepped}
 use Rattle.ecat_serve.specs.Answering.{Arrival, Replies, Walks, once_lost, spared}
 use Rattle.ecat_serve.specs.Ends.{Receives, Sends}
-use Rattle.ecat_serve.specs.State.{ServedState, spoken}
+use Rattle.ecat_serve.specs.State.{ServedState, moved_on, spoken}
 use Rattle.ecat_serve.specs.declared.ends.Arrived.{Arrived}
 use Rattle.ecat_serve.specs.declared.served.Counts.{Counts}
 use Rattle.ecat_serve.specs.declared.served.Round.{Round}
@@ -35,12 +34,12 @@ pub record IsAnswered {E : Type 0} (sends : Sends E) (arrived : Arrived) (packet
   pub replies : Replies sends later (spared walked arrival) ends sent ends_later
   pub ends_as : result ≡ round_of sent
 
--- a packet that is none: it is dropped, and each slave takes its step all the same
+-- a packet that is none: it is dropped, and each slave takes its step and each application acts all the same
 pub record IsDropped {E : Type 0} (packet : List ℕ) (before : ServedState) (ends : E)
     (result : Result Round PortFault) (later : ServedState) (ends_later : E) : Type 0 where
   pub no_frame : (frame : List DatagramRecord) → IsSpelt Udp packet frame → ⊥
   pub ends_as : result ≡ Ok Dropped
-  pub leaves : later ≡ record before { ring = stepped before.ring }
+  pub leaves : later ≡ moved_on before before.ring
   pub stays : ends_later ≡ ends
 
 -- ---- one round

@@ -1,13 +1,16 @@
--- A line that is served: its ring, who spoke last at each of its ends, if anybody did, and how many of the
--- copies that arrive at each end are still to be lost.
+-- A line that is served: its ring and the applications of its slaves, who spoke last at each of its ends, if
+-- anybody did, and how many of the copies that arrive at each end are still to be lost.
 use Rattle.std.specs.Prelude.{ℕ, Option, None, Some}
 use Rattle.std.specs.declared.net.socket_addr.SocketAddr.{SocketAddr}
-use Rattle.ec_ring.specs.Ring.{RingState}
+use Rattle.ec_process.specs.Acting.{acted}
+use Rattle.ec_process.specs.State.{ApplicationsState, once_more}
+use Rattle.ec_ring.specs.Ring.{RingState, stepped}
 use Rattle.ec_ring.specs.declared.port.Port.{Port}
 use Rattle.ec_ring.specs.declared.port.Port.TheVariants.{A, B}
 
 pub record ServedState : Type 0 where
   pub ring : RingState
+  pub applications : ApplicationsState
   pub peer_a : Option SocketAddr
   pub peer_b : Option SocketAddr
   pub to_lose_a : ℕ
@@ -37,3 +40,11 @@ to_lose_at s B = s.to_lose_b
 abbrev pub losing : ServedState → Port → ℕ → ServedState
 losing s A count = record s { to_lose_a = count }
 losing s B count = record s { to_lose_b = count }
+
+-- the same line, of whose ring, which by then is this one, each slave has taken its step, and then each
+-- application has acted
+abbrev pub moved_on : ServedState → RingState → ServedState
+moved_on s ring = let now = once_more s.applications in record s {
+  ring = acted now.acted now.all (stepped ring);
+  applications = now;
+}

@@ -8,6 +8,7 @@ ghost use Rattle.ec_regs.specs.declared.registers.TheConstants.{MEMORY_SIZE, PRO
 ghost use Rattle.ec_ring.specs.Links.{is_up};
 ghost use Rattle.ecat_serve.specs.Bench.{Changes, bytes_fault, link_fault, load_fault, loaded};
 ghost use Rattle.ecat_serve.specs.Bench.{put_in, slave_fault, with_links};
+ghost use Rattle.ecat_serve.specs.Commands.{IsCommanded};
 ghost use Rattle.ecat_serve.specs.State.{losing, to_lose_at, unplugged};
 
 use crate::served::Served;
@@ -37,6 +38,7 @@ impl Served {
         ensures others { OnOk result ((j : ℕ) → j ≢ k
             → is_up self.new.ring.links j ≡ is_up self.old.ring.links j) }
         ensures stays { OnOk result (self.new ≡ with_links self.old self.new.ring.links) }
+        ensures commanded { IsCommanded self.old self.new }
     {
         if self.ring.slaves().len() < k {
             return Err(BenchFault::NoLink);
@@ -48,7 +50,8 @@ impl Served {
     /// Has this many more of the copies that arrive at an end be lost there; all else stays. What would be
     /// past the greatest number is that number.
     pub fn lose(&mut self, at: Port, count: u64)
-        ensures { self.new ≡ losing self.old at (min (to_lose_at self.old at + count) (2 ^ 64 - 1)) }
+        ensures line { self.new ≡ losing self.old at (min (to_lose_at self.old at + count) (2 ^ 64 - 1)) }
+        ensures commanded { IsCommanded self.old self.new }
     {
         let before = self.to_lose(at);
         self.set_to_lose(at, before.saturating_add(count));
@@ -58,7 +61,8 @@ impl Served {
     /// from it, and at end B the last link counts as down. All else stays; the next frame there plugs in
     /// again.
     pub fn unplug(&mut self, at: Port)
-        ensures { self.new ≡ unplugged self.old at }
+        ensures line { self.new ≡ unplugged self.old at }
+        ensures commanded { IsCommanded self.old self.new }
     {
         match at {
             Port::A => self.peer_a = None,
@@ -83,6 +87,7 @@ impl Served {
         ensures err { result_err result ≡ load_fault self.old place address bytes.now }
         ensures unchanged { OnErr result (self.new ≡ self.old) }
         ensures ok { OnOk result (Changes self.old place (loaded address bytes.now) self.new) }
+        ensures commanded { IsCommanded self.old self.new }
     {
         self.check_slave(place)?;
         check_bytes(address, bytes)?;
@@ -96,6 +101,7 @@ impl Served {
         ensures err { result_err result ≡ slave_fault self.old place }
         ensures unchanged { OnErr result (self.new ≡ self.old) }
         ensures ok { OnOk result (Changes self.old place (put_in state) self.new) }
+        ensures commanded { IsCommanded self.old self.new }
     {
         self.check_slave(place)?;
         self.ring.slave_mut(place).set_state(state);

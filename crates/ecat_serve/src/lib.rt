@@ -44,6 +44,7 @@
 //! Of the packets that come to a socket nothing is stated: they are up to the system.
 
 pub mod bench;
+pub mod commands;
 pub mod ends;
 pub mod lines;
 pub mod served;
@@ -52,6 +53,7 @@ pub mod waiting;
 pub mod watch;
 
 pub use bench::BenchFault;
+pub use commands::Desk;
 pub use ends::{Arrived, Console, Ends};
 pub use lines::{InputLine, LINE_ROOM};
 pub use served::{Counts, Round, Served};

@@ -1,16 +1,17 @@
 //! A line that is served to whoever speaks to its ends.
 
-ghost use Rattle.std.specs.Prelude.{◌≡◌, ◌+◌, ◌-◌, ◌^◌, ◌<◌, ◌≤◌, ◌⊎◌, IfOk, None, nat_lt};
+ghost use Rattle.std.specs.Prelude.{◌≡◌, ◌+◌, ◌-◌, ◌^◌, ◌<◌, ◌≤◌, ◌⊎◌, IfOk, None, [], nat_lt};
 ghost use Rattle.ec_wire.specs.Datagram.{DatagramRecord};
 ghost use Rattle.ec_wire.specs.Fault.{IsSpelt};
 ghost use Rattle.ec_wire.specs.declared.fault.Form.TheVariants.{Udp};
 ghost use Rattle.ecat_serve.specs.Answering.{AreServed, Replies, Walks, once_lost, spared};
 ghost use Rattle.ecat_serve.specs.Rounds.{IsAnswered, IsDropped, IsRound, Serves, round_of};
-ghost use Rattle.ecat_serve.specs.State.{losing, peer_at, spoken, to_lose_at};
+ghost use Rattle.ecat_serve.specs.State.{losing, moved_on, peer_at, spoken, to_lose_at};
 ghost use Rattle.ecat_serve.specs.Watching.{IsFrame, leaving};
 
 use crate::ends::{Arrived, Ends};
 use crate::watch::{Leaving, Unwatched, Watch};
+use ec_process::Applications;
 use ec_ring::{Links, Port, PortFault, Ring, Travel};
 use ec_wire::{Form, FrameBuf, PACKET_ROOM};
 use std::marker::Model;
@@ -37,6 +38,16 @@ pub struct Counts {
 }
 
 impl Counts {
+    /// No packet has come in yet.
+    pub fn none() -> Counts
+        ensures { result ≡ record { frames = 0; dropped = 0 } }
+    {
+        Counts {
+            frames: 0,
+            dropped: 0,
+        }
+    }
+
     /// All of them. What would be past the greatest number is that number.
     pub fn packets(&self) -> u64
         ensures { self.now.frames + self.now.dropped < 2 ^ 64 → result ≡ self.now.frames + self.now.dropped }
@@ -45,11 +56,12 @@ impl Counts {
     }
 }
 
-/// A ring whose two ends anybody may speak to, who spoke last at each of them, and how many of the copies
-/// that arrive there are still to be lost. Contracts see these five.
+/// A ring whose two ends anybody may speak to, the applications of its slaves, who spoke last at each end,
+/// and how many of the copies that arrive there are still to be lost. Contracts see these six.
 #[derive(Drop)]
 pub struct Served {
     pub(crate) ring: Ring,
+    pub(crate) applications: Applications,
     pub(crate) peer_a: Option<SocketAddr>,
     pub(crate) peer_b: Option<SocketAddr>,
     to_lose_a: u64,
@@ -63,6 +75,7 @@ impl Model for Served {
 
     ghost view = { λ s. record {
       ring = s.ring;
+      applications = s.applications;
       peer_a = s.peer_a;
       peer_b = s.peer_b;
       to_lose_a = s.to_lose_a;
@@ -71,9 +84,23 @@ impl Model for Served {
 }
 
 impl Served {
-    /// A ring to whose ends nobody has spoken yet, and where no copy is to be lost.
+    /// A ring to whose ends nobody has spoken yet, and where no copy is to be lost. Its slaves' applications
+    /// do nothing with their process data.
     pub fn new(ring: Ring) -> Served
         ensures ring { result.ring ≡ ring }
+        ensures applications { result.applications.all ≡ [] }
+        ensures peer_a { result.peer_a ≡ None }
+        ensures peer_b { result.peer_b ≡ None }
+        ensures to_lose_a { result.to_lose_a ≡ 0 }
+        ensures to_lose_b { result.to_lose_b ≡ 0 }
+    {
+        Served::acting(ring, Applications::none())
+    }
+
+    /// A ring as by `new`, whose slaves have these applications.
+    pub fn acting(ring: Ring, applications: Applications) -> Served
+        ensures ring { result.ring ≡ ring }
+        ensures applications { result.applications ≡ applications }
         ensures peer_a { result.peer_a ≡ None }
         ensures peer_b { result.peer_b ≡ None }
         ensures to_lose_a { result.to_lose_a ≡ 0 }
@@ -81,6 +108,7 @@ impl Served {
     {
         Served {
             ring,
+            applications,
             peer_a: None,
             peer_b: None,
             to_lose_a: 0,
@@ -117,10 +145,23 @@ impl Served {
             result self.new ends.new }
         ensures counted { IfOk result (λ counts. counts.frames + counts.dropped ≤ most) }
     {
-        let mut counts = Counts {
-            frames: 0,
-            dropped: 0,
-        };
+        self.serve_on(ends, most, Counts::none(), watch)
+    }
+
+    /// Serves packets as `serve_watched` does, and counts them on from those that came before.
+    pub(crate) fn serve_on<E: Ends, V: Watch>(
+        &mut self,
+        ends: &mut E,
+        most: u64,
+        before: Counts,
+        watch: &mut V,
+    ) -> Result<Counts, PortFault>
+        requires { before.frames + before.dropped + most < 2 ^ 64 }
+        ensures serves { Serves E.receives E.sends most before self.old ends.old result self.new ends.new }
+        ensures counted { IfOk result (λ counts. counts.frames + counts.dropped
+            ≤ before.frames + before.dropped + most) }
+    {
+        let mut counts = before;
         for _round in 0..most {
             match self.watch_one(ends, watch)? {
                 Round::Frame => counts.frames += 1,
@@ -133,10 +174,10 @@ impl Served {
 
     /// Waits for one packet, and answers it where it is a frame in the UDP form: who sent it has spoken at
     /// the end where it came in; the frame walks from there under the ring's own links, the last of which
-    /// is down while nobody has ever spoken to end B; each slave takes its step; and what arrives is sent
-    /// from the end where it arrives to whoever spoke last there, if anybody did, unless a copy is still to
-    /// be lost there: then it is that one. A packet that is no frame is dropped, and each slave takes its
-    /// step. It takes no memory.
+    /// is down while nobody has ever spoken to end B; each slave takes its step, and then each application
+    /// acts; and what arrives is sent from the end where it arrives to whoever spoke last there, if anybody
+    /// did, unless a copy is still to be lost there: then it is that one. A packet that is no frame is
+    /// dropped; the slaves take their step, and the applications act, all the same. It takes no memory.
     pub fn serve_one<E: Ends>(&mut self, ends: &mut E) -> Result<Round, PortFault>
         ensures { IsRound E.receives E.sends self.old ends.old result self.new ends.new }
     {
@@ -181,7 +222,7 @@ impl Served {
             }
             Err(fault) => {
                 watch.dropped(arrived, packet, fault);
-                self.ring.step_all();
+                self.move_on();
                 Ok(Round::Dropped)
             }
         }
@@ -248,13 +289,21 @@ impl Served {
         links
     }
 
-    /// Lets a frame walk, and then each slave take its step.
+    /// Lets each slave take its step, and then each application act.
+    fn move_on(&mut self)
+        ensures { self.new ≡ moved_on self.old self.old.ring }
+    {
+        self.ring.step_all();
+        self.applications.act(&mut self.ring);
+    }
+
+    /// Lets a frame walk, and then the slaves and their applications go on.
     fn walk(&mut self, from: Port, frame: FrameBuf) -> Option<(FrameBuf, Port)>
         ensures { Walks self.old from frame result self.new }
     {
         let links = self.links();
         let arrival = self.ring.walk(from, frame, &links);
-        self.ring.step_all();
+        self.move_on();
         arrival
     }
 

@@ -4,7 +4,7 @@ ghost use Rattle.ecat_serve.specs.Ends.{any_receive, any_send};
 
 use super::{ROOM, written};
 use crate::control::act_control;
-use crate::serve::{Service, ring_to_serve};
+use crate::serve::{Service, line_to_serve};
 use ec_master::PortFault;
 use ec_ring::Port;
 use ec_wire::PACKET_ROOM;
@@ -69,14 +69,14 @@ fn answers(rt: &(impl AllocGlobal + Abort), commands: &[&[u8]], told: &[u8]) {
         taken: 0,
     };
     let source = &mut Bytes::new(LINE);
-    let Ok(ring) = ring_to_serve(rt.alloc(), source, &mut printed, &mut complained) else {
+    let Ok(served) = line_to_serve(rt.alloc(), source, &mut printed, &mut complained) else {
         assert_eq!(rt; written(&complained), b"scene: NoMemory\n".as_slice());
         return;
     };
     let alloc = rt.alloc();
     let status = act_control(
         alloc,
-        ring,
+        served,
         service,
         &mut ends,
         &mut printed,

@@ -3,7 +3,7 @@
 ghost use Rattle.ecat_serve.specs.Ends.{any_receive, any_send};
 
 use super::{NoRoom, ROOM, written};
-use crate::serve::{Service, act_serve, ring_to_serve};
+use crate::serve::{Service, act_serve, line_to_serve};
 use ec_master::PortFault;
 use ec_ring::Port;
 use ec_wire::PACKET_ROOM;
@@ -105,8 +105,8 @@ fn serves(
     let mut complained = Cursor::new([0u8; ROOM]);
     let source = &mut Bytes::new(scene);
     let ends = &mut Two::new(failing);
-    let status = match ring_to_serve(rt.alloc(), source, &mut printed, &mut complained) {
-        Ok(ring) => act_serve(ring, service, ends, &mut printed, &mut complained),
+    let status = match line_to_serve(rt.alloc(), source, &mut printed, &mut complained) {
+        Ok(served) => act_serve(served, service, ends, &mut printed, &mut complained),
         Err(status) => status,
     };
     if written(&complained) == b"scene: NoMemory\n".as_slice() {
@@ -195,8 +195,14 @@ fn a_scene_that_acts_is_not_served(rt: HostRuntime) {
 fn fails<S: Source>(rt: &(impl AllocGlobal + Abort), source: &mut S, line: &[u8]) {
     let mut complained = Cursor::new([0u8; ROOM]);
     let mut ends = Two::new(0);
-    let status = match ring_to_serve(rt.alloc(), source, &mut NoRoom, &mut complained) {
-        Ok(ring) => act_serve(ring, service(None), &mut ends, &mut NoRoom, &mut complained),
+    let status = match line_to_serve(rt.alloc(), source, &mut NoRoom, &mut complained) {
+        Ok(served) => act_serve(
+            served,
+            service(None),
+            &mut ends,
+            &mut NoRoom,
+            &mut complained,
+        ),
         Err(status) => status,
     };
     assert_eq!(rt; status, 3);

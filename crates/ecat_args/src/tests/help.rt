@@ -15,6 +15,7 @@ Examples:
   ecat list scenes/startup.pcap
   ecat check scenes/check/accepted.scene
   ecat cover scenes/check/accepted.scene
+  ecat lint scenes/check/accepted.scene
   ecat where scenes/run/two_slaves_link_1_down.scene
   ecat run scenes/run/example.scene
   ecat sweep scenes/run/example.scene
@@ -33,6 +34,7 @@ Commands:
   list     Lists the datagrams of a capture
   check    Says whether the slaves of a scene fit together on one line
   cover    Says whether the items of a scene carry all that its slaves are mapped for
+  lint     Names what a scene says that is accepted and yet seldom meant
   where    Says where the cable of a scene is broken, and who is missing
   run      Does the actions of a scene, and then its work
   sweep    Does the work of a scene with each cable broken, each two, and each copy lost
@@ -72,6 +74,8 @@ and of a frame each datagram, with the counter as it came and as it left, and
 where it left; or why it was dropped, and ethernet or padded where it looks so.
 With --raw the ends lie at network interfaces, through packet sockets that
 tools/raw opens: end A has the first and end B the second one.
+With --pcap each copy is kept in a capture, as it comes in at an end and as it
+leaves from one.
 With --control each line of standard input is a command, which is done between
 two packets and answered by ok, what it asks for and ok, or refused and why:
   link K up|down            mends or breaks a link, 0 before the first slave
@@ -114,6 +118,12 @@ Options:
 
       --raw <RAW>
           The descriptors of packet sockets, of end A and behind a comma of end B; tools/raw opens them
+
+      --pcap <PCAP>
+          A capture that gets each copy, as it leaves and as it arrives; it must not be there yet
+
+      --force
+          Overwrites the capture where it is there
 
   -h, --help
           Print help (see a summary with '-h')

@@ -16,10 +16,16 @@ fn each_command_reads_its_words(rt: HostRuntime) {
         Ok(Args::Check { scene: "a.scene" })
     );
     assert_eq!(rt;
+        read(alloc, &["ecat", "lint", "a.scene"]),
+        Ok(Args::Lint { scene: "a.scene" })
+    );
+    assert_eq!(rt;
         read(alloc, &["ecat", "run", "a.scene"]),
         Ok(Args::Run {
             scene: "a.scene",
-            judge: false
+            judge: false,
+            pcap: None,
+            force: false,
         })
     );
     assert_eq!(rt;
@@ -78,12 +84,16 @@ fn udp_takes_a_port_or_uses_34980(rt: HostRuntime) {
         scene: "a.scene",
         port: 34980,
         judge: false,
+        pcap: None,
+        force: false,
     };
     assert_eq!(rt; read(alloc, &["ecat", "udp", "a.scene"]), Ok(own));
     let other = Args::Udp {
         scene: "a.scene",
         port: 4000,
         judge: false,
+        pcap: None,
+        force: false,
     };
     assert_eq!(rt;
         read(alloc, &["ecat", "udp", "a.scene", "--port", "4000"]),
@@ -101,6 +111,8 @@ fn a_cycle_is_judged_where_it_is_asked(rt: HostRuntime) {
     let run = Ok(Args::Run {
         scene: "a.scene",
         judge: true,
+        pcap: None,
+        force: false,
     });
     assert_eq!(rt; read(alloc, &["ecat", "run", "a.scene", "--judge"]), run);
     assert_eq!(rt; read(alloc, &["ecat", "run", "--judge", "a.scene"]), run);
@@ -113,6 +125,8 @@ fn a_cycle_is_judged_where_it_is_asked(rt: HostRuntime) {
             scene: "a.scene",
             port: 4000,
             judge: true,
+            pcap: None,
+            force: false,
         })
     );
     assert_eq!(rt;
@@ -120,7 +134,62 @@ fn a_cycle_is_judged_where_it_is_asked(rt: HostRuntime) {
         Ok(Args::Run {
             scene: "--judge",
             judge: false,
+            pcap: None,
+            force: false,
         })
+    );
+}
+
+#[test]
+fn copies_are_kept_where_it_is_asked(rt: HostRuntime) {
+    let alloc = rt.alloc();
+    assert_eq!(rt;
+        read(alloc, &["ecat", "run", "a.scene", "--pcap", "a.pcap"]),
+        Ok(Args::Run {
+            scene: "a.scene",
+            judge: false,
+            pcap: Some("a.pcap"),
+            force: false,
+        })
+    );
+    assert_eq!(rt;
+        read(
+            alloc,
+            &["ecat", "udp", "a.scene", "--force", "--pcap=a.pcap"]
+        ),
+        Ok(Args::Udp {
+            scene: "a.scene",
+            port: 34980,
+            judge: false,
+            pcap: Some("a.pcap"),
+            force: true,
+        })
+    );
+    assert_eq!(rt;
+        read(
+            alloc,
+            &["ecat", "serve", "a.scene", "--pcap", "a.pcap", "--force"]
+        ),
+        Ok(Args::Serve {
+            scene: "a.scene",
+            port: 34980,
+            packets: None,
+            address: Ipv4Addr::LOCALHOST,
+            forever: false,
+            control: false,
+            log: false,
+            raw: None,
+            pcap: Some("a.pcap"),
+            force: true,
+        })
+    );
+    assert_eq!(rt;
+        read(alloc, &["ecat", "run", "a.scene", "--pcap"]),
+        Err(Refusal::Line(ErrorKind::InvalidValue))
+    );
+    assert_eq!(rt;
+        read(alloc, &["ecat", "sweep", "a.scene", "--force"]),
+        Err(Refusal::Line(ErrorKind::UnknownArgument))
     );
 }
 
@@ -180,6 +249,8 @@ fn serve_reads_commands_where_it_is_asked(rt: HostRuntime) {
         control: true,
         log: false,
         raw: None,
+        pcap: None,
+        force: false,
     };
     assert_eq!(rt;
         read(alloc, &["ecat", "serve", "a.scene", "--control"]),
@@ -194,6 +265,8 @@ fn serve_reads_commands_where_it_is_asked(rt: HostRuntime) {
         control: true,
         log: false,
         raw: None,
+        pcap: None,
+        force: false,
     };
     assert_eq!(rt;
         read(
@@ -259,6 +332,8 @@ fn serve_takes_a_port_or_uses_34980(rt: HostRuntime) {
         control: false,
         log: false,
         raw: None,
+        pcap: None,
+        force: false,
     };
     assert_eq!(rt; read(alloc, &["ecat", "serve", "a.scene"]), Ok(own));
     let other = Args::Serve {
@@ -270,6 +345,8 @@ fn serve_takes_a_port_or_uses_34980(rt: HostRuntime) {
         control: false,
         log: false,
         raw: None,
+        pcap: None,
+        force: false,
     };
     assert_eq!(rt;
         read(alloc, &["ecat", "serve", "a.scene", "--port", "4000"]),
@@ -293,6 +370,8 @@ fn serve_takes_a_number_of_packets_or_none(rt: HostRuntime) {
         control: false,
         log: false,
         raw: None,
+        pcap: None,
+        force: false,
     };
     assert_eq!(rt;
         read(alloc, &["ecat", "serve", "a.scene", "--packets", "100"]),
@@ -307,6 +386,8 @@ fn serve_takes_a_number_of_packets_or_none(rt: HostRuntime) {
         control: false,
         log: false,
         raw: None,
+        pcap: None,
+        force: false,
     };
     assert_eq!(rt;
         read(
@@ -351,6 +432,8 @@ fn serve_lies_at_an_address_and_leaves_its_input_alone_where_it_is_asked(rt: Hos
         control: false,
         log: true,
         raw: None,
+        pcap: None,
+        force: false,
     };
     assert_eq!(rt;
         read(

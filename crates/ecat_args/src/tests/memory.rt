@@ -17,7 +17,9 @@ fn a_command_is_read_or_memory_ran_out(rt: HostRuntime) {
             answer,
             Ok(Args::Run {
                 scene: "a.scene",
-                judge: false
+                judge: false,
+                pcap: None,
+                force: false,
             })
         ),
         "{answer:?}"

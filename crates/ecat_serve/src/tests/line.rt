@@ -1,5 +1,7 @@
 //! A line of two slaves, and the frames that go over it: a BRD of the station address, two bytes at 0x0010.
 
+ghost use Rattle.std.specs.Prelude.{◌≡◌, length};
+
 use crate::Served;
 use ec_app::{Objects, Slave};
 use ec_ring::Ring;
@@ -36,6 +38,13 @@ fn slave(rt: &impl Abort, alloc: Global, station: u16) -> Slave {
 
 /// A line of two of them; of its links 0 to 2 these are up.
 pub fn served(rt: &impl Abort, alloc: Global, up: [bool; 3]) -> Served {
+    Served::new(ring(rt, alloc, up))
+}
+
+/// The ring of such a line.
+pub fn ring(rt: &impl Abort, alloc: Global, up: [bool; 3]) -> Ring
+    ensures { length result.slaves ≡ 2 }
+{
     let mut slaves = Vec::new(alloc);
     let first = slaves.push(slave(rt, alloc, 0x1001));
     assert!(rt; first.is_ok());
@@ -46,5 +55,5 @@ pub fn served(rt: &impl Abort, alloc: Global, up: [bool; 3]) -> Served {
     ring.set_link(0, up[0]);
     ring.set_link(1, up[1]);
     ring.set_link(2, up[2]);
-    Served::new(ring)
+    ring
 }

@@ -19,22 +19,24 @@ returns c =
     c.in_ok-check.ensures.local in
     let cover = app_of-subcommand c.in_ok-subcommand-4.ensures check c.in_ok-cover.ensures.line
     c.in_ok-cover.ensures.local in
-    let where_broken = app_of-subcommand c.in_ok-subcommand-5.ensures cover c.in_ok-where_broken.ensures.line
+    let lint = app_of-subcommand c.in_ok-subcommand-5.ensures cover c.in_ok-lint.ensures.line
+    c.in_ok-lint.ensures.local in
+    let where_broken = app_of-subcommand c.in_ok-subcommand-6.ensures lint c.in_ok-where_broken.ensures.line
     c.in_ok-where_broken.ensures.local in
-    let run = app_of-subcommand c.in_ok-subcommand-6.ensures where_broken c.in_ok-run.ensures.line
+    let run = app_of-subcommand c.in_ok-subcommand-7.ensures where_broken c.in_ok-run.ensures.line
     c.in_ok-run.ensures.local in
-    let sweep = app_of-subcommand c.in_ok-subcommand-7.ensures run c.in_ok-sweep.ensures.line
+    let sweep = app_of-subcommand c.in_ok-subcommand-8.ensures run c.in_ok-sweep.ensures.line
     c.in_ok-sweep.ensures.local in
-    let sdo = app_of-subcommand c.in_ok-subcommand-8.ensures sweep c.in_ok-sdo.ensures.line
+    let sdo = app_of-subcommand c.in_ok-subcommand-9.ensures sweep c.in_ok-sdo.ensures.line
     c.in_ok-sdo.ensures.local in
-    let udp = app_of-subcommand c.in_ok-subcommand-9.ensures sdo c.in_ok-udp.ensures.line
+    let udp = app_of-subcommand c.in_ok-subcommand-10.ensures sdo c.in_ok-udp.ensures.line
     c.in_ok-udp.ensures.local in
-    let serve = app_of-subcommand c.in_ok-subcommand-10.ensures udp c.in_ok-serve.ensures.line
+    let serve = app_of-subcommand c.in_ok-subcommand-11.ensures udp c.in_ok-serve.ensures.line
     c.in_ok-serve.ensures.local in
-    let master = app_of-subcommand c.in_ok-subcommand-11.ensures serve c.in_ok-master.ensures.line
+    let master = app_of-subcommand c.in_ok-subcommand-12.ensures serve c.in_ok-master.ensures.line
     c.in_ok-master.ensures.local in
-    let scan = app_of-subcommand c.in_ok-subcommand-12.ensures master c.in_ok-scan.ensures.line
+    let scan = app_of-subcommand c.in_ok-subcommand-13.ensures master c.in_ok-scan.ensures.line
     c.in_ok-scan.ensures.local in
-    IfOk-weaker c.subcommand-13.result _ _
+    IfOk-weaker c.subcommand-14.result _ _
     (λ r added. app_of-subcommand added scan c.vectors.ensures.line c.vectors.ensures.local)
-    c.subcommand-13.ensures
+    c.subcommand-14.ensures

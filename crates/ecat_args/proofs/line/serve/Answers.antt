@@ -14,8 +14,10 @@ returns-clause-line c =
     let control = app_of-arg c.in_ok-arg-6.ensures forever c.flag-control.ensures.rule
     c.flag-control.ensures.local in
     let log = app_of-arg c.in_ok-arg-7.ensures control c.flag-log.ensures.rule c.flag-log.ensures.local in
-    IfOk-weaker c.arg-8.result _ _ (λ r added. app_of-arg added log c.raw.ensures.rule c.raw.ensures.local)
-    c.arg-8.ensures
+    let raw = app_of-arg c.in_ok-arg-8.ensures log c.raw.ensures.rule c.raw.ensures.local in
+    let pcap = app_of-arg c.in_ok-arg-9.ensures raw c.pcap.ensures.rule c.pcap.ensures.local in
+    IfOk-weaker c.arg-10.result _ _ (λ r added. app_of-arg added pcap c.force.ensures.rule c.force.ensures.local)
+    c.arg-10.ensures
 
 pub returns-clause-local : goal.returns-clause-local
 returns-clause-local c =
@@ -26,4 +28,7 @@ returns-clause-local c =
     let forever = has_globals-arg c.in_ok-arg-5.ensures address c.flag-forever.ensures.local in
     let control = has_globals-arg c.in_ok-arg-6.ensures forever c.flag-control.ensures.local in
     let log = has_globals-arg c.in_ok-arg-7.ensures control c.flag-log.ensures.local in
-    IfOk-weaker c.arg-8.result _ _ (λ r added. has_globals-arg added log c.raw.ensures.local) c.arg-8.ensures
+    let raw = has_globals-arg c.in_ok-arg-8.ensures log c.raw.ensures.local in
+    let pcap = has_globals-arg c.in_ok-arg-9.ensures raw c.pcap.ensures.local in
+    IfOk-weaker c.arg-10.result _ _ (λ r added. has_globals-arg added pcap c.force.ensures.local)
+    c.arg-10.ensures

@@ -39,7 +39,7 @@ returns-in-Err g c =
       no_frame = λ (frame : List DatagramRecord) spelt.
           absurd (let no : Err c.in-Err.fault ≡ Ok frame = c.in-Err.ensures.only_found frame spelt in cc);
       ends_as = refl;
-      leaves = rw (c.step_all.ensures, ← c.self.view_is) refl;
+      leaves = c.move_on.ensures;
       stays = refl;
     })
 

@@ -1,11 +1,11 @@
 -- What the rounds that are left come to is what all come to, and no round counts more than one packet.
 use Rattle.std.proofs.Common.{◌≤◌, ◌+◌, ◌-◌}
 use Rattle.ecat_serve.proofs.RoundLemmas.{LeadsOn}
-use Rattle.ecat_serve.proofs.served.Served.serve_watched.Given as goal
+use Rattle.ecat_serve.proofs.served.Served.serve_on.Given as goal
 
 abbrev pub invariant-loop-round : goal.invariant-loop-round
 invariant-loop-round g l = record {
-  counted : l.counts.frames + l.counts.dropped ≤ l._round;
-  leads : LeadsOn g.E.Ends.receives g.E.Ends.sends l.most l.initial.self l.initial.ends (l.most - l._round)
+  counted : l.counts.frames + l.counts.dropped ≤ l.fn.before.frames + l.fn.before.dropped + l._round;
+  leads : LeadsOn g.E.Ends.receives g.E.Ends.sends l.most l.fn.before l.initial.self l.initial.ends (l.most - l._round)
       l.counts l.self l.ends;
 }

@@ -1,0 +1,18 @@
+#![tactic(auto)]
+//! What services do over a ring of simulated slaves: from a call's contract, which speaks of questions and
+//! answers, to the slave that is asked.
+//!
+//! A contract of `ec_services` says which datagrams a call sends and what their answers decide, over any two
+//! ports. Here the ports are a ring ([`ec_master::RingPorts`]) with at most one link down, and an answer is
+//! said by what the slave does. There is nothing to run. A law is the contract of a function with an empty
+//! body, which is cited where it is called; lemmas of the crates above import it from `proofs/Laws.antt`. In
+//! [`promises`]:
+//!
+//! - `one_question`: a question by station is answered by the one slave that has it, wherever the cable is
+//!   broken, and leaves the others as they were.
+//!
+//! The definitions are in specs/: `Question`, who is asked and what an answer carries.
+
+pub mod promises;
+#[cfg(test)]
+mod tests;

@@ -1,0 +1,18 @@
+-- What applications leave as it was of a slave: all but process memory as the wire reads it.
+use Rattle.std.specs.Prelude.{◌≡◌, ℕ, ◌<◌, length, slice_index}
+use Rattle.ec_app.specs.State.{SlaveState}
+use Rattle.ec_regs.specs.declared.registers.TheConstants.{MEMORY_SIZE, PROCESS_MEMORY}
+
+-- its objects, mails and lengths of process data; what it is shown; whether AL control was written; and each
+-- register, so its station, its state and its mapping
+pub record KeepsAllElse (before after : SlaveState) : Type 0 where
+  pub application : after.application ≡ before.application
+  pub shown : after.controller.shown ≡ before.controller.shown
+  pub written : after.controller.written ≡ before.controller.written
+  pub size : length after.controller.memory ≡ length before.controller.memory
+  pub registers : (address : ℕ) → address < PROCESS_MEMORY
+      → slice_index after.controller.memory address ≡ slice_index before.controller.memory address
+
+-- a slave with a memory of its size
+abbrev pub HasMemory : SlaveState → Type 0
+HasMemory s = length s.controller.memory ≡ MEMORY_SIZE

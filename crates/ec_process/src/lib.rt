@@ -1,0 +1,37 @@
+#![tactic(auto)]
+//! What the applications of slaves do with their process data, so that a line moves by itself under a master
+//! (IEC 61158-4-12, sync manager, buffered mode).
+//!
+//! A simulated slave answers requests and mails, and its inputs lie still. Here an application puts the
+//! outputs that it is shown into its inputs (a mirror), or counts in them. It acts behind each step of the
+//! line's slaves (`ec_ring::Ring::step_all`), by the calls that an application has of its controller:
+//! `outputs` and `put_inputs` of `ec_esc`. One use, which `tests/door.rt` tries; `ring` of `tests/line.rt` is
+//! two slaves, the first of which was written outputs:
+//!
+//! ```text
+//! let mut all = Vec::new(rt.alloc());
+//! all.push(Application { place: 0, behaviour: Behaviour::Mirror { inputs: 3, outputs: 2 } })?;
+//! all.push(Application { place: 1, behaviour: Behaviour::Count { inputs: 3 } })?;
+//! let mut applications = Applications::new(all);
+//! ring.step_all();
+//! applications.act(&mut ring);
+//! ```
+//!
+//! The first slave's inputs are its outputs now, and the second one's are 1.
+//!
+//! What is promised:
+//!
+//! - `Applications::act` leaves of a ring what `specs/Acting` says (`ring`), and has acted once more (`own`).
+//!   Inputs that are refused, since an area is not active, is of the other kind or has another length, change
+//!   nothing. It takes no memory.
+//! - [`promises`] says what stays: links, stations, states and mappings, what applications are shown, and
+//!   slaves without an application (`acting_leaves`); and that nobody changes nothing (`idle_acts`).
+
+pub mod act;
+pub mod application;
+pub mod promises;
+
+pub use application::{Application, Applications, Behaviour};
+
+#[cfg(test)]
+mod tests;

@@ -1,0 +1,29 @@
+//! What applications leave of a line, as laws.
+
+ghost use Rattle.std.specs.Prelude.{◌≡◌, ◌≢◌, ℕ, List, [], Some, length, slice_get};
+ghost use Rattle.std.specs.List.{All};
+ghost use Rattle.ec_app.specs.State.{SlaveState};
+ghost use Rattle.ec_ring.specs.Ring.{RingState};
+ghost use Rattle.ec_process.specs.Acting.{acted};
+ghost use Rattle.ec_process.specs.Left.{HasMemory, KeepsAllElse};
+ghost use Rattle.ec_process.specs.declared.application.Application.{Application};
+
+/// Applications change no link and add no slave. A slave that has none stays as it is; of any other one all
+/// stays but the process memory that the master reads: its registers (so its station, its AL status and its
+/// mapping), what it is shown, whether AL control was written, and its own state.
+pub fn acting_leaves()
+    ensures links { (times : ℕ) (all : List Application) (r : RingState) → (acted times all r).links ≡ r.links }
+    ensures size { (times : ℕ) (all : List Application) (r : RingState)
+        → length (acted times all r).slaves ≡ length r.slaves }
+    ensures beside { (times : ℕ) (all : List Application) (r : RingState) (k : ℕ)
+        → All (λ (one : Application). one.place ≢ k) all
+        → slice_get (acted times all r).slaves k ≡ slice_get r.slaves k }
+    ensures slave { (times : ℕ) (all : List Application) (r : RingState) (k : ℕ) (before after : SlaveState)
+        → slice_get r.slaves k ≡ Some before → slice_get (acted times all r).slaves k ≡ Some after
+        → HasMemory before → KeepsAllElse before after }
+{}
+
+/// A line whose slaves have no applications is as it was.
+pub fn idle_acts()
+    ensures { (times : ℕ) (r : RingState) → acted times [] r ≡ r }
+{}

@@ -1,0 +1,3 @@
+mod acting;
+mod door;
+mod line;

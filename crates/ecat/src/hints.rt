@@ -1,0 +1,228 @@
+//! What helps a person where something was refused: lines on standard error behind those that are fixed. What
+//! was refused is looked at once more, so that no command knows of it; what fails on the way is passed over.
+
+use crate::line::ring_of;
+use crate::where_broken::where_broken;
+use arrayvec::ArrayVec;
+use ec_app::Slave;
+use ec_app::roles::{ANSWER_MAILBOX, REQUEST_MAILBOX, is_answer_mailbox, is_request_mailbox};
+use ec_map::{MapFault, check as check_line, check_item};
+use ec_regs::{LONGEST_MAILBOX, SHORTEST_MAILBOX, SyncMan};
+use ec_ring::{Ring, Travel};
+use ecat_args::Args;
+use ecat_scene::{Scene, SceneFault, explained, odd_lines};
+use ecat_source::{Bytes, Source, SourceFault};
+use ecat_text::REFUSED;
+use std::alloc::Global;
+use std::io::Write;
+
+/// The first bytes of a capture, by which files are told apart.
+const FRONT: usize = 4;
+
+/// A source whose first bytes are kept.
+#[derive(Drop)]
+pub struct Fronted<S> {
+    source: S,
+    front: ArrayVec<u8, FRONT>,
+}
+
+impl<S: Source> Fronted<S> {
+    /// A source of which nothing has been read yet.
+    pub fn new(source: S) -> Fronted<S> {
+        Fronted {
+            source,
+            front: ArrayVec::new(),
+        }
+    }
+}
+
+impl<S: Source> Source for Fronted<S> {
+    ghost remaining = { λ s. S.remaining s.source };
+
+    ghost count = { λ s. S.count s.source };
+
+    fn read(&mut self, into: &mut [u8]) -> Result<usize, SourceFault> {
+        let count = self.source.read(into)?;
+        for byte in into.iter().take(count) {
+            let _ = self.front.try_push(*byte);
+        }
+        Ok(count)
+    }
+
+    fn failures(&self) -> u64 {
+        self.source.failures()
+    }
+}
+
+/// Tells `err` what a file is that is refused as a capture, if it is no classic one; `source` has been read.
+pub fn hint_capture<S: Source, V: Write>(path: &str, source: &Fronted<S>, status: u8, err: &mut V) {
+    let what = match source.front.as_slice() {
+        _ if status != REFUSED => return,
+        [0xd4, 0xc3, 0xb2, 0xa1] | [0xa1, 0xb2, 0xc3, 0xd4] => return,
+        [0x0a, 0x0d, 0x0d, 0x0a] =>
+            "a pcapng file: ecat list reads it, and editcap -F pcap IN OUT changes it",
+        [0x4d, 0x3c, 0xb2, 0xa1] | [0xa1, 0xb2, 0x3c, 0x4d] => {
+            "a pcap file with nanoseconds: ecat list reads it, and editcap -F pcap IN OUT changes it"
+        }
+        [0x1f, 0x8b, ..] => "a file that gzip packed: gunzip it first",
+        [] => "an empty file",
+        _ => "no pcap file",
+    };
+    let _ = writeln!(err, "{path}: {what}");
+}
+
+/// Tells `err` how many lines of a scene are odd, where some are.
+pub fn hint_odd_lines<V: Write>(alloc: Global, path: &str, text: &[u8], err: &mut V) {
+    if Scene::read(alloc, text).is_err() {
+        return;
+    }
+    if let Ok(found) = odd_lines(alloc, text)
+        && !found.is_empty()
+    {
+        let count = found.len();
+        let _ = writeln!(err, "odd lines: {count}; ecat lint {path} names them");
+    }
+}
+
+/// Tells `err` what helps where a command on the scene of this text was refused.
+pub fn hint_scene<V: Write>(
+    alloc: Global,
+    args: &Args<'_>,
+    path: &str,
+    text: &[u8],
+    status: u8,
+    err: &mut V,
+) {
+    if status != REFUSED {
+        return;
+    }
+    match Scene::read(alloc, text) {
+        Ok(scene) => hint_line(alloc, args, path, text, scene, err),
+        Err(SceneFault::Line { line, fault }) => {
+            if let Some(told) = explained(text, line, fault) {
+                let _ = writeln!(err, "{path}:{told}");
+            }
+        }
+        Err(SceneFault::TooLong | SceneFault::NoMemory) => {}
+    }
+}
+
+/// Tells what is in the way of a command on the line of a scene.
+fn hint_line<V: Write>(
+    alloc: Global,
+    args: &Args<'_>,
+    path: &str,
+    text: &[u8],
+    scene: Scene,
+    err: &mut V,
+) {
+    let weathers = scene.weathers.len();
+    let is_for_run_alone = !scene.actions.is_empty() || weathers != 0;
+    let items = scene.items;
+    let Ok(ring) = ring_of(alloc, scene.slaves, scene.links_down.as_slice()) else {
+        return;
+    };
+    match args {
+        Args::Sdo {
+            station,
+            at: None,
+            ..
+        } => hint_station(&ring, *station, err),
+        Args::Check { .. } | Args::Cover { .. } | Args::Lint { .. } | Args::Sweep { .. } => {
+            hint_refusal(ring.slaves(), err);
+        }
+        Args::Udp { .. } | Args::Serve { .. } | Args::Master { .. } if is_for_run_alone => {
+            let _ = writeln!(
+                err,
+                "{path} has a line frame, step or weather, which ecat run does alone"
+            );
+        }
+        Args::Run { judge, .. } | Args::Udp { judge, .. } => {
+            let is_fit = hint_refusal(ring.slaves(), err)
+                && items
+                    .iter()
+                    .all(|item| check_item(ring.slaves(), item).is_ok());
+            if is_fit && !judge {
+                hint_cable(alloc, path, text, weathers, err);
+            }
+        }
+        _ => {}
+    }
+}
+
+/// Tells where the cable of a scene is broken, unless its frames meet several weathers.
+fn hint_cable<V: Write>(alloc: Global, path: &str, text: &[u8], weathers: usize, err: &mut V) {
+    if weathers < 2 {
+        let _ = where_broken(alloc, &mut Bytes::new(text), err);
+    } else {
+        let _ = writeln!(err, "ecat run {path} --judge tells what is in the way");
+    }
+}
+
+/// Tells where the bit of a refusal lies. Is the line accepted?
+fn hint_refusal<V: Write>(line: &[Slave], err: &mut V) -> bool {
+    let bit = match check_line(line) {
+        Ok(()) => return true,
+        Err(
+            MapFault::TwiceWritten { bit, .. }
+            | MapFault::TwiceRead { bit, .. }
+            | MapFault::ReadAndWritten { bit, .. },
+        ) => bit,
+        Err(_) => return false,
+    };
+    let byte = bit / 8;
+    let place = bit % 8;
+    let _ = writeln!(err, "bit {bit} is bit {place} of logical byte 0x{byte:08x}");
+    false
+}
+
+/// Tells why a slave has no mailbox that is reached, if that is so.
+fn hint_station<V: Write>(ring: &Ring, station: u16, err: &mut V) {
+    let found = ring
+        .slaves()
+        .iter()
+        .position(|slave| slave.controller().station() == station);
+    let Some(place) = found else {
+        let _ = writeln!(err, "no slave of the scene has the station 0x{station:04x}");
+        return;
+    };
+    let controller = ring.slaves()[place].controller();
+    let requests = controller.syncman(REQUEST_MAILBOX);
+    let answers = controller.syncman(ANSWER_MAILBOX);
+    if let Some(length) = unfit_length(&requests).or(unfit_length(&answers)) {
+        let _ = writeln!(
+            err,
+            "slave {place} 0x{station:04x} has a mailbox of {length} bytes; \
+            {SHORTEST_MAILBOX} to {LONGEST_MAILBOX} are active"
+        );
+    } else if !is_request_mailbox(&requests) || !is_answer_mailbox(&answers) {
+        let _ = writeln!(
+            err,
+            "slave {place} 0x{station:04x} has no mailboxes: mailbox-write at sync manager 0, mailbox-read at 1"
+        );
+    } else if is_cut_off(ring, place) {
+        let _ = writeln!(
+            err,
+            "slave {place} 0x{station:04x} is cut off: a link is down on both sides of it"
+        );
+    }
+}
+
+/// The length of a mailbox that is too short or too long to be active.
+fn unfit_length(manager: &SyncMan) -> Option<u16> {
+    let length = manager.length;
+    if manager.is_mailbox() && (length < SHORTEST_MAILBOX || LONGEST_MAILBOX < length) {
+        Some(length)
+    } else {
+        None
+    }
+}
+
+/// Is a link down before a slave, and another one behind it?
+fn is_cut_off(ring: &Ring, place: usize) -> bool {
+    let links = ring.links();
+    let last = ring.slaves().len();
+    let is_before = (0..=place).any(|k| !links.is_up(k));
+    let is_behind = (place + 1..=last).any(|k| !links.is_up(k));
+    is_before && is_behind
+}

@@ -1,0 +1,199 @@
+//! What the words behind the first one of a scene's line have to be: their forms, their ranges, and both in
+//! words for a person.
+
+use crate::number::{number, test_bytes};
+
+/// What a word behind the first one of a line has to be.
+#[derive(Clone, Copy, PartialEq, Eq, Debug)]
+pub(crate) enum Form {
+    /// A number, at most this one.
+    Number(u64),
+    /// An AL state by its code.
+    State,
+    /// What a sync manager is for.
+    SyncManager,
+    /// What the master does through an FMMU.
+    Fmmu,
+    /// What the master may do with an object.
+    Rights,
+    /// How many bytes an object has.
+    Size,
+    /// An address of process memory.
+    Process,
+    /// A row of bytes.
+    Bytes,
+    /// A number of a link.
+    Link,
+    /// The word `down`.
+    Down,
+    /// Links with commas between them, or a hyphen.
+    Links,
+    /// Which copies are lost.
+    Lost,
+    /// Which copy goes first.
+    First,
+}
+
+/// The greatest number of 8, of 16 and of 32 bits.
+const BYTE: u64 = 0xff;
+
+const WORD: u64 = 0xffff;
+
+const DOUBLE_WORD: u64 = 0xffff_ffff;
+
+/// The greatest number of a sync manager or an FMMU.
+const LAST_RECORD: u64 = 7;
+
+/// The forms of the words that follow each first word of a scene, with the line as it is written.
+pub(crate) fn forms_of(first: &[u8]) -> Option<(&'static str, &'static [Form])> {
+    match first {
+        b"slave" => Some(("slave STATION", &[Form::Number(WORD)])),
+        b"simple" => Some(("simple", &[])),
+        b"state" => Some(("state S", &[Form::State])),
+        b"areas" => Some(("areas OUT IN", &[Form::Number(WORD), Form::Number(WORD)])),
+        b"sm" => Some((
+            "sm N START LENGTH KIND",
+            &[
+                Form::Number(LAST_RECORD),
+                Form::Number(WORD),
+                Form::Number(WORD),
+                Form::SyncManager,
+            ],
+        )),
+        b"fmmu" => Some((
+            "fmmu N LOGICAL LENGTH START STOP PHYSICAL BIT TYPE",
+            &[
+                Form::Number(LAST_RECORD),
+                Form::Number(DOUBLE_WORD),
+                Form::Number(WORD),
+                Form::Number(BYTE),
+                Form::Number(BYTE),
+                Form::Number(WORD),
+                Form::Number(BYTE),
+                Form::Fmmu,
+            ],
+        )),
+        b"mem" => Some(("mem ADDRESS BYTES", &[Form::Process, Form::Bytes])),
+        b"object" => Some((
+            "object INDEX SUB SIZE RIGHTS VALUE",
+            &[
+                Form::Number(WORD),
+                Form::Number(BYTE),
+                Form::Size,
+                Form::Rights,
+                Form::Number(DOUBLE_WORD),
+            ],
+        )),
+        b"mirror" => Some((
+            "mirror IN OUT",
+            &[Form::Number(LAST_RECORD), Form::Number(LAST_RECORD)],
+        )),
+        b"count" => Some(("count IN", &[Form::Number(LAST_RECORD)])),
+        b"link" => Some(("link K down", &[Form::Link, Form::Down])),
+        b"frame" => Some(("frame BYTES", &[Form::Bytes])),
+        b"step" => Some(("step", &[])),
+        b"lrd" => Some((
+            "lrd ADDRESS BYTES",
+            &[Form::Number(DOUBLE_WORD), Form::Bytes],
+        )),
+        b"lwr" => Some((
+            "lwr ADDRESS BYTES",
+            &[Form::Number(DOUBLE_WORD), Form::Bytes],
+        )),
+        b"lrw" => Some((
+            "lrw ADDRESS BYTES",
+            &[Form::Number(DOUBLE_WORD), Form::Bytes],
+        )),
+        b"brd" => Some((
+            "brd ADDRESS BYTES",
+            &[Form::Number(DOUBLE_WORD), Form::Bytes],
+        )),
+        b"fprd" => Some((
+            "fprd STATION ADDRESS BYTES",
+            &[Form::Number(WORD), Form::Number(WORD), Form::Bytes],
+        )),
+        b"fpwr" => Some((
+            "fpwr STATION ADDRESS BYTES",
+            &[Form::Number(WORD), Form::Number(WORD), Form::Bytes],
+        )),
+        b"weather" => Some((
+            "weather A B LOST FIRST",
+            &[Form::Links, Form::Links, Form::Lost, Form::First],
+        )),
+        _ => None,
+    }
+}
+
+impl Form {
+    /// Is a word of this form, whatever range it has to be in?
+    pub(crate) fn has(self, word: &[u8]) -> bool {
+        match self {
+            Form::Number(_) | Form::State | Form::Size | Form::Process | Form::Link => {
+                number(word).is_ok()
+            }
+            Form::SyncManager => matches!(
+                word,
+                b"mailbox-write" | b"mailbox-read" | b"write" | b"read"
+            ),
+            Form::Fmmu => matches!(word, b"read" | b"write" | b"both"),
+            Form::Rights => matches!(word, b"ro" | b"wo" | b"rw"),
+            Form::Bytes => test_bytes(word).is_ok(),
+            Form::Down => word == b"down".as_slice(),
+            Form::Links => are_links(word),
+            Form::Lost => matches!(word, b"-" | b"a" | b"b" | b"ab"),
+            Form::First => matches!(word, b"a" | b"b"),
+        }
+    }
+
+    /// Is a word of this form in its range?
+    pub(crate) fn is_in_range(self, word: &[u8]) -> bool {
+        match (self, number(word)) {
+            (Form::Number(most), Ok(number)) => number <= most,
+            (Form::State, Ok(number)) => matches!(number, 1 | 2 | 4 | 8),
+            (Form::Size, Ok(number)) => matches!(number, 1 | 2 | 4),
+            (Form::Process, Ok(number)) => 0x1000 <= number && number <= 0x2fff,
+            _ => true,
+        }
+    }
+
+    /// What a word of another form is not.
+    pub(crate) fn noun(self) -> &'static str {
+        match self {
+            Form::Number(_) | Form::State | Form::Size | Form::Process | Form::Link => "no number",
+            Form::Bytes => "no row of bytes",
+            Form::Links => "no list of links",
+            Form::SyncManager | Form::Fmmu | Form::Rights | Form::Down | Form::Lost | Form::First =>
+                "no such word",
+        }
+    }
+
+    /// What is wanted.
+    pub(crate) fn wanted(self) -> &'static str {
+        match self {
+            Form::Number(LAST_RECORD) => "0 to 7",
+            Form::Number(BYTE) => "0 to 255",
+            Form::Number(WORD) => "0 to 65535",
+            Form::Number(_) => "0 to 4294967295",
+            Form::State => "1, 2, 4 or 8 (Init, Pre-Op, Safe-Op, Op)",
+            Form::SyncManager => "mailbox-write, mailbox-read, write or read",
+            Form::Fmmu => "read, write or both",
+            Form::Rights => "ro, wo or rw",
+            Form::Size => "1, 2 or 4 bytes",
+            Form::Process => "an address in 0x1000 to 0x2FFF",
+            Form::Bytes => "two hexadecimal digits for each byte, without 0x",
+            Form::Link => "a link of the line: 0 before the first slave, then one behind each",
+            Form::Down => "down",
+            Form::Links => "links with commas between them, or -",
+            Form::Lost => "-, a, b or ab: the copies that are lost",
+            Form::First => "a or b: the copy that goes first",
+        }
+    }
+}
+
+/// Is a word a list of links, or the hyphen that stands for none?
+fn are_links(word: &[u8]) -> bool {
+    word == b"-".as_slice()
+        || word
+            .split(|byte| *byte == b',')
+            .all(|part| number(part).is_ok())
+}

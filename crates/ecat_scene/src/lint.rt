@@ -1,0 +1,305 @@
+//! What a scene says that is accepted and yet seldom meant.
+
+use crate::number::number;
+use crate::slave_lines::{control_of, sync_man_of};
+use crate::words::words_of;
+use bitflags::Flags;
+use ec_app::roles::{
+    ANSWER_MAILBOX, INPUTS, OUTPUTS, REQUEST_MAILBOX, fits_inputs, fits_outputs, is_answer_mailbox,
+    is_request_mailbox,
+};
+use ec_regs::SyncMan;
+use ec_regs::registers::{FMMU_COUNT, SYNC_MANAGER_COUNT};
+use std::alloc::{AllocError, Global};
+use std::fmt;
+
+/// What is odd about a line of a scene.
+#[derive(Clone, Copy, PartialEq, Eq, Debug)]
+enum Oddity {
+    /// The sync manager was set before, in this line.
+    SyncManagerAgain(usize),
+    /// The FMMU was set before, in this line.
+    FmmuAgain(usize),
+    /// The lengths were said before, in this line.
+    AreasAgain(usize),
+    /// The state was said before, in this line.
+    StateAgain(usize),
+    /// The sync manager is never active: too short or too long for what it is.
+    NeverActive,
+    /// The application takes outputs of another length than those of sync manager 2.
+    OutputsDiffer,
+    /// The application gives inputs of another length than those of sync manager 3.
+    InputsDiffer,
+    /// The object is never reached, since the slave has no mailboxes.
+    NoMailboxes,
+}
+
+/// One line of a scene that is accepted and yet seldom meant; it is printed as a sentence.
+#[derive(Clone, Copy, PartialEq, Eq, Debug)]
+pub struct OddLine {
+    line: usize,
+    slave: usize,
+    oddity: Oddity,
+}
+
+impl fmt::Display for OddLine {
+    fn fmt<W: fmt::Write>(&self, f: &mut fmt::Formatter<W>) -> fmt::Result {
+        let line = self.line;
+        let slave = self.slave;
+        write!(f, "line {line}: slave {slave}: ")?;
+        match self.oddity {
+            Oddity::SyncManagerAgain(earlier) => {
+                write!(
+                    f,
+                    "the sync manager is set in line {earlier} already, and set anew here"
+                )
+            }
+            Oddity::FmmuAgain(earlier) => {
+                write!(
+                    f,
+                    "the FMMU is set in line {earlier} already, and set anew here"
+                )
+            }
+            Oddity::AreasAgain(earlier) => {
+                write!(
+                    f,
+                    "the lengths are said in line {earlier} already, and said anew here"
+                )
+            }
+            Oddity::StateAgain(earlier) => {
+                write!(
+                    f,
+                    "the state is said in line {earlier} already, and said anew here"
+                )
+            }
+            Oddity::NeverActive => write!(f, "a sync manager of this length is never active"),
+            Oddity::OutputsDiffer => {
+                write!(
+                    f,
+                    "sync manager 2 is no area of so many outputs: Safe-Op is refused"
+                )
+            }
+            Oddity::InputsDiffer => {
+                write!(
+                    f,
+                    "sync manager 3 is no area of so many inputs: Safe-Op is refused"
+                )
+            }
+            Oddity::NoMailboxes => {
+                write!(
+                    f,
+                    "no object is reached without mailboxes at sync managers 0 and 1"
+                )
+            }
+        }
+    }
+}
+
+/// What the lines of one slave have said so far; the number of a line is 0 where none has.
+#[derive(Drop)]
+struct SlaveLines {
+    sync_managers: [SyncMan; SYNC_MANAGER_COUNT],
+    of_sync_managers: [usize; SYNC_MANAGER_COUNT],
+    of_fmmus: [usize; FMMU_COUNT],
+    of_areas: usize,
+    output_length: u16,
+    input_length: u16,
+    of_state: usize,
+    of_object: usize,
+}
+
+impl SlaveLines {
+    fn new() -> SlaveLines {
+        let unset = SyncMan {
+            start: 0,
+            length: 0,
+            control: 0,
+            status: 0,
+            activate: 0,
+            pdi: 0,
+        };
+        SlaveLines {
+            sync_managers: [unset; SYNC_MANAGER_COUNT],
+            of_sync_managers: [0; SYNC_MANAGER_COUNT],
+            of_fmmus: [0; FMMU_COUNT],
+            of_areas: 0,
+            output_length: 0,
+            input_length: 0,
+            of_state: 0,
+            of_object: 0,
+        }
+    }
+
+    /// Are both mailboxes there?
+    fn has_mailboxes(&self) -> bool {
+        is_request_mailbox(&self.sync_managers[REQUEST_MAILBOX])
+            && is_answer_mailbox(&self.sync_managers[ANSWER_MAILBOX])
+    }
+}
+
+/// The lines of a scene as far as they have been looked at.
+#[derive(Drop)]
+struct Linter {
+    alloc: Global,
+    /// The number of the line that is looked at, from 1.
+    line: usize,
+    /// How many slaves have begun.
+    slaves: usize,
+    slave: SlaveLines,
+    found: Vec<OddLine>,
+}
+
+/// What is odd about the lines of a scene that is accepted, in the order of the slaves.
+pub fn odd_lines(alloc: Global, text: &[u8]) -> Result<Vec<OddLine>, AllocError> {
+    let mut linter = Linter {
+        alloc,
+        line: 0,
+        slaves: 0,
+        slave: SlaveLines::new(),
+        found: Vec::new(alloc),
+    };
+    for line in text.split(|byte| *byte == b'\n') {
+        linter.take(line)?;
+    }
+    linter.end_slave()?;
+    Ok(linter.found)
+}
+
+impl Linter {
+    /// Looks at one line.
+    fn take(&mut self, line: &[u8]) -> Result<(), AllocError> {
+        self.line = self.line.saturating_add(1);
+        if line.starts_with(b"#") {
+            return Ok(());
+        }
+        let words = words_of(self.alloc, line)?;
+        match words.as_slice() {
+            [b"slave", ..] => self.begin_slave(),
+            [b"sm", index, start, length, kind] => self.sync_manager(index, start, length, kind),
+            [b"fmmu", index, ..] => self.fmmu(index),
+            [b"areas", outputs, inputs] => self.areas(outputs, inputs),
+            [b"state", ..] => self.state(),
+            [b"object", ..] => {
+                self.slave.of_object = self.line;
+                Ok(())
+            }
+            _ => Ok(()),
+        }
+    }
+
+    /// Keeps an oddity of a line.
+    fn keep(&mut self, line: usize, oddity: Oddity) -> Result<(), AllocError> {
+        let slave = self.slaves.saturating_sub(1);
+        self.found.push(OddLine {
+            line,
+            slave,
+            oddity,
+        })?;
+        Ok(())
+    }
+
+    /// Ends a slave and begins the next one.
+    fn begin_slave(&mut self) -> Result<(), AllocError> {
+        self.end_slave()?;
+        self.slaves = self.slaves.saturating_add(1);
+        self.slave = SlaveLines::new();
+        Ok(())
+    }
+
+    /// What is odd about a slave whose lines are all known.
+    fn end_slave(&mut self) -> Result<(), AllocError> {
+        let areas = self.slave.of_areas;
+        let outputs = self.slave.of_sync_managers[OUTPUTS];
+        let inputs = self.slave.of_sync_managers[INPUTS];
+        if areas != 0
+            && outputs != 0
+            && !fits_outputs(&self.slave.sync_managers[OUTPUTS], self.slave.output_length)
+        {
+            self.keep(areas, Oddity::OutputsDiffer)?;
+        }
+        if areas != 0
+            && inputs != 0
+            && !fits_inputs(&self.slave.sync_managers[INPUTS], self.slave.input_length)
+        {
+            self.keep(areas, Oddity::InputsDiffer)?;
+        }
+        let object = self.slave.of_object;
+        if object != 0 && !self.slave.has_mailboxes() {
+            self.keep(object, Oddity::NoMailboxes)?;
+        }
+        Ok(())
+    }
+
+    /// `sm N START LENGTH KIND`
+    fn sync_manager(
+        &mut self,
+        index: &[u8],
+        start: &[u8],
+        length: &[u8],
+        kind: &[u8],
+    ) -> Result<(), AllocError> {
+        let (Ok(index), Ok(start), Ok(length), Ok(control)) = (
+            number(index),
+            number(start),
+            number(length),
+            control_of(kind),
+        ) else {
+            return Ok(());
+        };
+        let Ok(record) = sync_man_of(start, length, control.bits()) else {
+            return Ok(());
+        };
+        if index >= SYNC_MANAGER_COUNT as u64 {
+            return Ok(());
+        }
+        let earlier = self.slave.of_sync_managers[index as usize];
+        if earlier != 0 {
+            self.keep(self.line, Oddity::SyncManagerAgain(earlier))?;
+        }
+        if !record.is_active() {
+            self.keep(self.line, Oddity::NeverActive)?;
+        }
+        self.slave.of_sync_managers[index as usize] = self.line;
+        self.slave.sync_managers[index as usize] = record;
+        Ok(())
+    }
+
+    /// `fmmu N ..`
+    fn fmmu(&mut self, index: &[u8]) -> Result<(), AllocError> {
+        let Ok(index) = number(index) else {
+            return Ok(());
+        };
+        if index >= FMMU_COUNT as u64 {
+            return Ok(());
+        }
+        let earlier = self.slave.of_fmmus[index as usize];
+        if earlier != 0 {
+            self.keep(self.line, Oddity::FmmuAgain(earlier))?;
+        }
+        self.slave.of_fmmus[index as usize] = self.line;
+        Ok(())
+    }
+
+    /// `areas OUT IN`
+    fn areas(&mut self, outputs: &[u8], inputs: &[u8]) -> Result<(), AllocError> {
+        let (Ok(outputs), Ok(inputs)) = (number(outputs), number(inputs)) else {
+            return Ok(());
+        };
+        if self.slave.of_areas != 0 {
+            self.keep(self.line, Oddity::AreasAgain(self.slave.of_areas))?;
+        }
+        self.slave.of_areas = self.line;
+        self.slave.output_length = outputs.min(u64::from(u16::MAX)) as u16;
+        self.slave.input_length = inputs.min(u64::from(u16::MAX)) as u16;
+        Ok(())
+    }
+
+    /// `state S`
+    fn state(&mut self) -> Result<(), AllocError> {
+        if self.slave.of_state != 0 {
+            self.keep(self.line, Oddity::StateAgain(self.slave.of_state))?;
+        }
+        self.slave.of_state = self.line;
+        Ok(())
+    }
+}

@@ -1,0 +1,84 @@
+-- A service with commands: rounds as those of a service without, and between two of them a command that
+-- changes the line. A command is what somebody does to a line who works on it: its cables and its lost
+-- copies, process memory and states of its slaves (IEC 61158-6-12, AL status).
+use Rattle.std.specs.Prelude.{◌≡◌, ◌≢◌, ◌⊎◌, ℕ, zero, suc, ◌+◌, ◌-◌, ◌^◌, ◌<◌, ◌≤◌, Bool, List, length, min}
+use Rattle.std.specs.Prelude.{Result, Ok, Err}
+use Rattle.ec_regs.specs.declared.al.AlState.{AlState}
+use Rattle.ec_regs.specs.declared.registers.TheConstants.{MEMORY_SIZE, PROCESS_MEMORY}
+use Rattle.ec_ring.specs.Links.{is_up}
+use Rattle.ec_ring.specs.declared.port.Port.{Port}
+use Rattle.ec_ring.specs.declared.port.PortFault.{PortFault}
+use Rattle.ecat_serve.specs.Bench.{Changes, loaded, put_in, with_links}
+use Rattle.ecat_serve.specs.Ends.{Receives, Sends}
+use Rattle.ecat_serve.specs.Rounds.{Serves}
+use Rattle.ecat_serve.specs.State.{ServedState, losing, to_lose_at, unplugged}
+use Rattle.ecat_serve.specs.declared.served.Counts.{Counts}
+
+-- ---- one command
+
+pub data Command : Type 0 where
+  -- it asks for something, or is refused, and changes nothing
+  Nothing : Command
+  -- a link is put up or down
+  Link : (number : ℕ) (up : Bool) → Command
+  -- the slave at a place has these bytes in its process memory, and shows them
+  Load : (place address : ℕ) (bytes : List ℕ) → Command
+  -- it is put into a state, with no error
+  State : (place : ℕ) (state : AlState) → Command
+  -- so many more of the copies that arrive at an end are to be lost
+  Lose : (at : Port) (count : ℕ) → Command
+  -- nobody has spoken at an end
+  Unplug : (at : Port) → Command
+
+-- one link of the line is put, and all else stays
+pub record IsPut (before : ServedState) (number : ℕ) (up : Bool) (later : ServedState) : Type 0 where
+  pub on_line : number ≤ length before.ring.slaves
+  pub at : is_up later.ring.links number ≡ up
+  pub others : (k : ℕ) → k ≢ number → is_up later.ring.links k ≡ is_up before.ring.links k
+  pub stays : later ≡ with_links before later.ring.links
+
+-- bytes of process memory are loaded
+pub record IsLoaded (before : ServedState) (place address : ℕ) (bytes : List ℕ) (later : ServedState) : Type 0
+  where
+    pub from : PROCESS_MEMORY ≤ address
+    pub to : address + length bytes ≤ MEMORY_SIZE
+    pub changes : Changes before place (loaded address bytes) later
+
+-- what a command leaves of a line
+abbrev pub Leaves : Command → ServedState → ServedState → Type 0
+Leaves Nothing before later = later ≡ before
+Leaves (Link number up) before later = IsPut before number up later
+Leaves (Load place address bytes) before later = IsLoaded before place address bytes later
+Leaves (State place state) before later = Changes before place (put_in state) later
+Leaves (Lose at count) before later = later ≡ losing before at (min (to_lose_at before at + count) (2 ^ 64 - 1))
+Leaves (Unplug at) before later = later ≡ unplugged before at
+
+-- a line behind one command
+abbrev pub IsCommanded : ServedState → ServedState → Type 0
+IsCommanded before later = (command : Command) × Leaves command before later
+
+-- ---- the service
+
+abbrev pub packets : Counts → ℕ
+packets counts = counts.frames + counts.dropped
+
+-- packets are served until there were so many, no more are to come at once, or a call fails; then, if there
+-- were not so many yet, a command comes, behind which the service ends or goes on; so many commands at the
+-- most. Packets are counted on from `counts`, and nothing is stated of the ends behind a command
+unfoldable pub ServesCommanded : {E : Type 0} → Receives E → Sends E → ℕ → ℕ → Counts → ServedState → E
+    → Result Counts PortFault → ServedState → E → Type 0
+ServesCommanded receives sends most zero counts before ends result later ends_later =
+    (result ≡ Ok counts) × (later ≡ before) × (ends_later ≡ ends)
+ServesCommanded {E} receives sends most (suc commands) counts before ends result later ends_later =
+    (came : Result Counts PortFault) × (between : ServedState) × (ends_between : E)
+    × Serves receives sends (most - packets counts) counts before ends came between ends_between
+    × (elim came [
+      | Err fault ↦ (result ≡ Err fault) × (later ≡ between) × (ends_later ≡ ends_between)
+      | Ok told ↦
+          ((most ≤ packets told) × (result ≡ Ok told) × (later ≡ between) × (ends_later ≡ ends_between))
+          ⊎ ((packets told < most) × (commanded : ServedState) × (ends_commanded : E)
+          × IsCommanded between commanded
+          × (((result ≡ Ok told) × (later ≡ commanded) × (ends_later ≡ ends_commanded))
+          ⊎ ServesCommanded receives sends most commands told commanded ends_commanded result later
+          ends_later))
+    ])
