@@ -2,7 +2,6 @@ pub mod Commands
 pub mod Controls
 pub mod Covers
 pub mod Failures
-pub mod Packets
 pub mod Raw
 pub mod Rows
 pub mod Services

@@ -19,6 +19,7 @@ use ecat_far::OpenFault;
 use ecat_raw::RawFault;
 use ecat_scene::SceneFault;
 use ecat_source::{PcapFault, Source};
+use ecat_tape::unrecorded;
 use ecat_text::{BAD_ARGUMENTS, FAILED, FaultText, PortText, REFUSED};
 use std::alloc::Global;
 use std::io::{self, Write};
@@ -58,6 +59,10 @@ pub enum Failure {
     Asked(MasterFault),
     /// The file of a log could not be made.
     Log,
+    /// The file of a capture could not be made.
+    PcapOpen,
+    /// The file of a capture is there, and was not to be overwritten.
+    PcapExists,
     /// The outputs of a master are none that there are.
     Outputs,
     /// It is not said where a line lies that is somewhere else, or it is said twice.
@@ -90,9 +95,9 @@ where
         Args::Cover { .. } => cover(alloc, source, out),
         Args::Lint { .. } => lint(alloc, source, out),
         Args::Where { .. } => where_broken(alloc, source, out),
-        Args::Run { judge, .. } => run(alloc, *judge, source, out),
+        Args::Run { judge, .. } => run(alloc, *judge, &mut unrecorded(), source, out),
         Args::Sweep { .. } => sweep(alloc, source, out),
-        Args::Show { .. } => show(alloc, source, out),
+        Args::Show { .. } => show(alloc, true, source, out),
         Args::Sdo {
             station,
             index,
@@ -133,6 +138,8 @@ pub fn report<W: Write, V: Write>(failure: &Failure, out: &mut W, err: &mut V) -
         Failure::Output => failed(err, b"output: Write\n"),
         Failure::Port => failed(err, b"cycle: Port\n"),
         Failure::Log => failed(err, b"log: Open\n"),
+        Failure::PcapOpen => failed(err, b"pcap: Open\n"),
+        Failure::PcapExists => failed(err, b"pcap: Exists\n"),
         Failure::Clock => failed(err, b"clock: Open\n"),
         Failure::Outputs => bad_argument(err, b"argument: --outputs wants count\n"),
         Failure::Reach => bad_argument(err, b"argument: --at or --raw is wanted, one of them\n"),

@@ -3,7 +3,8 @@
 use crate::act::Failure;
 use ec_map::Item;
 use ec_master::{Work, all_expected, ring_cycle, weather_cycle};
-use ec_ring::{Ring, Weather};
+use ec_ring::Weather;
+use ecat_tape::{Moments, TapedRing};
 use ecat_text::{GOOD, Lines, print_items, print_verdict};
 use std::io::{self, Write};
 
@@ -20,13 +21,13 @@ pub fn work_of(items: Vec<Item>) -> Result<Work, Failure> {
 
 /// Does one cycle over the ring and prints a line for each item. With weathers their verdict comes first, and
 /// the status says whether it is good; without them each frame travels under the ring's own links.
-pub fn cycle<W: Write>(
-    ring: &mut Ring,
+pub fn cycle<T: Write, M: Moments, W: Write>(
+    ring: &mut TapedRing<'_, T, M>,
     work: &mut Work,
     weathers: &[Weather],
     lines: &mut Lines<'_, W>,
 ) -> io::Result<u8> {
-    let expected = all_expected(ring.slaves(), work);
+    let expected = all_expected(ring.ring.slaves(), work);
     let count = work.len();
     let mut status = GOOD;
     if weathers.is_empty() {

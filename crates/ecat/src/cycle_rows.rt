@@ -8,6 +8,7 @@ use ec_merge::join_frames;
 use ec_ring::{Came, Links, MAX_LINKS, Travel, Weather};
 use ec_wire::{Form, FrameBuf};
 use ecat_source::Bytes;
+use ecat_tape::{TapedRing, unrecorded};
 use ecat_text::Lines;
 use std::alloc::Global;
 use std::io::Cursor;
@@ -121,10 +122,12 @@ fn a_counter_passes_its_end(alloc: Global) -> Result<bool, Failure> {
         item.set_counter(65_535);
     }
     let weathers = weathers_of(alloc, scene.weathers.as_slice())?;
-    let mut ring = ring_of(alloc, scene.slaves, &[])?;
+    let ring = ring_of(alloc, scene.slaves, &[])?;
     let mut work = work_of(scene.items)?;
     let mut out = Cursor::new([0u8; ROOM]);
     let mut lines = Lines::new(&mut out);
+    let mut recorder = unrecorded();
+    let mut ring = TapedRing::new(ring, &mut recorder);
     let status = cycle(&mut ring, &mut work, weathers.as_slice(), &mut lines)?;
     let back = b"good\nitem 0 BRD data 0c00 wkc 2 of 3 adp 3\n";
     Ok(status == 0 && written(&out) == back.as_slice())

@@ -26,6 +26,7 @@ mod slave_lines;
 mod slave_rows;
 mod stepping_ports;
 mod sweep;
+mod tape;
 mod udp;
 mod vectors;
 mod where_broken;
@@ -33,7 +34,7 @@ mod where_broken;
 ghost use Rattle.std.specs.Prelude.{◌≡◌};
 ghost use Rattle.ecat.specs.Failures.{refusal_status};
 
-use act::{Failure, act, report};
+use act::{Failure, report};
 use ecat_args::{Args, ArgsFault, bad_word};
 use ecat_scene::MAX_TEXT;
 use ecat_source::{Bytes, Counted, Source, read_all};
@@ -42,7 +43,9 @@ use hints::{Fronted, hint_capture, hint_odd_lines, hint_scene};
 use line::unread;
 use listing::{Wanted, act_list};
 use over_sockets::{Console, over_sockets};
+use show::act_show;
 use std::fmt::Display;
+use std::fs::OpenFile;
 use std::io::IsTerminal;
 use std::net::Net;
 use std::process::ExitCode;
@@ -56,6 +59,7 @@ fn main(rt: HostRuntime) -> ExitCode {
     let console = Console {
         input: rt.stdin(),
         is_watched: rt.stderr().is_terminal(),
+        is_read: rt.stdout().is_terminal(),
     };
     ExitCode::from(start(&rt, console, &mut rt.stdout(), &mut rt.stderr()))
 }
@@ -169,7 +173,7 @@ where
             let wanted = Wanted::of(*csv, *faults, *stats, console.is_watched);
             return open_listing(rt, file, wanted, console.input, out, err);
         }
-        Args::Show { file } => return open_capture(rt, args, file, out, err),
+        Args::Show { file } => return open_capture(rt, file, console.is_read, out, err),
         Args::Check { scene }
         | Args::Cover { scene }
         | Args::Lint { scene }
@@ -219,8 +223,10 @@ where
     status
 }
 
-/// Opens the capture that is to be shown, shows it, and tells what it is where it is none.
-fn open_capture<R, W, V>(rt: &R, args: &Args<'_>, path: &str, out: &mut W, err: &mut V) -> u8
+/// Opens the capture that is to be shown, shows it, and tells what it is where it is none. Each packet's lines
+/// come at once where somebody reads them at a terminal, or the capture may still grow since it is no plain
+/// file.
+fn open_capture<R, W, V>(rt: &R, path: &str, is_read: bool, out: &mut W, err: &mut V) -> u8
 where
     R: Files + AllocGlobal,
     W: io::Write,
@@ -228,12 +234,21 @@ where
 {
     match fs::open(rt, path) {
         Ok(file) => {
+            let is_followed = is_read || !is_plain(&file);
             let mut source = Fronted::new(Counted::new(file));
-            let status = act(rt.alloc(), args, &mut source, out, err);
+            let status = act_show(rt.alloc(), is_followed, &mut source, out, err);
             hint_capture(path, &source, status, err);
             status
         }
         Err(error) => report_unopened(path, &error, out, err),
+    }
+}
+
+/// Is an open file a plain one, whose end stands? One of which the system does not say so is none.
+fn is_plain<F: OpenFile>(file: &F) -> bool {
+    match file.metadata() {
+        Ok(known) => known.is_file(),
+        Err(_) => false,
     }
 }
 

@@ -3,9 +3,11 @@
 use crate::act::{Failure, act, report};
 use crate::control::act_control;
 use crate::far::{Course, Reach, act_master, act_scan, course_of, far_ports, raw_ports};
+use crate::run::run;
 use crate::sdo::{Asked, sdo_far};
 use crate::serve::{Service, act_serve, line_to_serve, unbound};
-use crate::udp::{Wanted, act_udp, prepare_udp};
+use crate::tape::{Pcap, end, make};
+use crate::udp::{Prepared, Wanted, act_udp, prepare_udp};
 use crate::where_broken::where_far;
 use ecat_args::Args;
 use ecat_master::{Outputs, Plan};
@@ -13,6 +15,7 @@ use ecat_pace::{Beat, Ending};
 use ecat_raw::{Descriptors, RawEnds, descriptors_of};
 use ecat_serve::{Served, UdpEnds};
 use ecat_source::Source;
+use ecat_tape::{Counter, Moments, Recorder, TapedEnds, TapedLine, WallClock, unrecorded};
 use ecat_udp::UdpLine;
 use std::net::{Ipv4Addr, Net};
 use std::rt::{Clock, Files, Stdin};
@@ -26,6 +29,8 @@ pub struct Console {
     pub input: Stdin,
     /// Whether standard error is a terminal.
     pub is_watched: bool,
+    /// Whether standard output is a terminal.
+    pub is_read: bool,
 }
 
 /// What the words of `master` say but for its scene.
@@ -55,12 +60,30 @@ where
     V: io::Write,
 {
     match args {
-        Args::Udp { port, judge, .. } => {
+        Args::Run {
+            judge,
+            pcap: Some(path),
+            force,
+            ..
+        } => {
+            let pcap = Pcap {
+                path,
+                force: *force,
+            };
+            run_taped(rt, *judge, pcap, source, out, err)
+        }
+        Args::Udp {
+            port,
+            judge,
+            pcap,
+            force,
+            ..
+        } => {
             let wanted = Wanted {
                 port: *port,
                 judge: *judge,
             };
-            udp_at(rt, wanted, source, out, err)
+            udp_at(rt, wanted, Pcap::of(*pcap, *force), source, out, err)
         }
         Args::Serve {
             port,
@@ -70,6 +93,8 @@ where
             control,
             log,
             raw,
+            pcap,
+            force,
             ..
         } => {
             let Some(raw) = raw_of(*raw) else {
@@ -84,7 +109,8 @@ where
                 log: *log,
                 raw,
             };
-            serve_at(rt, service, console.input, source, out, err)
+            let pcap = Pcap::of(*pcap, *force);
+            serve_at(rt, service, pcap, console.input, source, out, err)
         }
         Args::Master {
             at,
@@ -279,9 +305,16 @@ where
 }
 
 /// Does the work of a scene over sockets, which are opened once it is known that there is work.
-fn udp_at<R, S, W, V>(rt: &R, wanted: Wanted, source: &mut S, out: &mut W, err: &mut V) -> u8
+fn udp_at<R, S, W, V>(
+    rt: &R,
+    wanted: Wanted,
+    pcap: Option<Pcap<'_>>,
+    source: &mut S,
+    out: &mut W,
+    err: &mut V,
+) -> u8
 where
-    R: Net + AllocGlobal,
+    R: Files + Net + AllocGlobal,
     S: Source,
     W: io::Write,
     V: io::Write,
@@ -290,8 +323,41 @@ where
         Ok(prepared) => prepared,
         Err(status) => return status,
     };
+    let Some(pcap) = pcap else {
+        return udp_taped(rt, prepared, wanted, &mut unrecorded(), out, err);
+    };
+    match make(rt, pcap) {
+        Ok(file) => {
+            let mut recorder = Recorder::new(file, Counter::new());
+            let status = udp_taped(rt, prepared, wanted, &mut recorder, out, err);
+            end(&mut recorder, status, err)
+        }
+        Err(failure) => report(&failure, out, err),
+    }
+}
+
+/// Opens the sockets of a line, over which the work of a scene is done, and records each copy at the master's
+/// ports, if anybody wants it.
+fn udp_taped<R, T, M, W, V>(
+    rt: &R,
+    prepared: Prepared,
+    wanted: Wanted,
+    recorder: &mut Recorder<T, M>,
+    out: &mut W,
+    err: &mut V,
+) -> u8
+where
+    R: Net,
+    T: io::Write,
+    M: Moments,
+    W: io::Write,
+    V: io::Write,
+{
     match UdpLine::bind(rt, wanted.port) {
-        Ok(line) => act_udp(prepared, wanted.judge, line, out, err),
+        Ok(line) => {
+            let line = TapedLine::new(line, recorder);
+            act_udp(prepared, wanted.judge, line, out, err)
+        }
         Err(_) => report_unbound(&Failure::Bind, Ipv4Addr::LOCALHOST, wanted.port, out, err),
     }
 }
@@ -315,18 +381,45 @@ fn report_unbound<W: io::Write, V: io::Write>(
     status
 }
 
+/// Runs a scene, and records each copy of its frames.
+fn run_taped<R, S, W, V>(
+    rt: &R,
+    judge: bool,
+    pcap: Pcap<'_>,
+    source: &mut S,
+    out: &mut W,
+    err: &mut V,
+) -> u8
+where
+    R: Files + AllocGlobal,
+    S: Source,
+    W: io::Write,
+    V: io::Write,
+{
+    match make(rt, pcap) {
+        Ok(file) => {
+            let mut recorder = Recorder::new(file, Counter::new());
+            let done = run(rt.alloc(), judge, &mut recorder, source, out);
+            let status = status_of(done, out, err);
+            end(&mut recorder, status, err)
+        }
+        Err(failure) => report(&failure, out, err),
+    }
+}
+
 /// Serves the line of a scene. Its ends are opened once it is known that there is one. The service ends with
 /// the input where that has commands, or where it is not left alone.
 fn serve_at<R, S, W, V>(
     rt: &R,
     service: Service,
+    pcap: Option<Pcap<'_>>,
     input: Stdin,
     source: &mut S,
     out: &mut W,
     err: &mut V,
 ) -> u8
 where
-    R: Net + AllocGlobal,
+    R: Clock + Files + Net + AllocGlobal,
     S: Source,
     W: io::Write,
     V: io::Write,
@@ -335,13 +428,52 @@ where
         Ok(served) => served,
         Err(status) => return status,
     };
+    let Some(pcap) = pcap else {
+        return serve_taped(rt, service, input, served, &mut unrecorded(), out, err);
+    };
+    match make(rt, pcap) {
+        Ok(file) => {
+            let mut recorder = Recorder::new(file, WallClock::new(rt));
+            let status = serve_taped(rt, service, input, served, &mut recorder, out, err);
+            end(&mut recorder, status, err)
+        }
+        Err(failure) => report(&failure, out, err),
+    }
+}
+
+/// Serves a line, and records each copy at its ends, if anybody wants it.
+fn serve_taped<R, T, M, W, V>(
+    rt: &R,
+    service: Service,
+    input: Stdin,
+    served: Served,
+    recorder: &mut Recorder<T, M>,
+    out: &mut W,
+    err: &mut V,
+) -> u8
+where
+    R: Net + AllocGlobal,
+    T: io::Write,
+    M: Moments,
+    W: io::Write,
+    V: io::Write,
+{
     let awaited = if service.awaits_input() {
         Some(input)
     } else {
         None
     };
     if let Some(descriptors) = service.raw {
-        return serve_raw(rt, service, descriptors, awaited, served, out, err);
+        return serve_raw(
+            rt,
+            service,
+            descriptors,
+            awaited,
+            served,
+            recorder,
+            out,
+            err,
+        );
     }
     let mut ends = match UdpEnds::bind(rt, rt.alloc(), service.address, service.port, awaited) {
         Ok(ends) => ends,
@@ -351,24 +483,29 @@ where
     };
     if service.control {
         ends.keep_lines();
+        let mut ends = TapedEnds::new(&mut ends, recorder);
         act_control(rt.alloc(), served, service, &mut ends, out, err)
     } else {
+        let mut ends = TapedEnds::new(&mut ends, recorder);
         act_serve(served, service, &mut ends, out, err)
     }
 }
 
 /// Serves a line at packet sockets.
-fn serve_raw<R, W, V>(
+fn serve_raw<R, T, M, W, V>(
     rt: &R,
     service: Service,
     descriptors: Descriptors,
     awaited: Option<Stdin>,
     served: Served,
+    recorder: &mut Recorder<T, M>,
     out: &mut W,
     err: &mut V,
 ) -> u8
 where
     R: Net + AllocGlobal,
+    T: io::Write,
+    M: Moments,
     W: io::Write,
     V: io::Write,
 {
@@ -378,8 +515,10 @@ where
     };
     if service.control {
         ends.keep_lines();
+        let mut ends = TapedEnds::new(&mut ends, recorder);
         act_control(rt.alloc(), served, service, &mut ends, out, err)
     } else {
+        let mut ends = TapedEnds::new(&mut ends, recorder);
         act_serve(served, service, &mut ends, out, err)
     }
 }

@@ -5,38 +5,48 @@ use crate::carry::carry;
 use crate::cycle::{cycle, work_of};
 use crate::judge::{judged_cycle, print_cable};
 use crate::line::{applications_of, ring_of, scene_of, weathers_of};
-use ec_master::{Reporting, WeatherPorts, Work, all_expected};
+use ec_master::{Reporting, Work, all_expected};
 use ec_process::Applications;
-use ec_ring::{Ring, Weather};
+use ec_ring::Weather;
 use ecat_scene::Action;
 use ecat_source::Source;
+use ecat_tape::{Moments, Recorder, TapedPorts, TapedRing};
 use ecat_text::{GOOD, Lines, REFUSED, print_areas, print_items, refuse, status_of};
 use std::alloc::Global;
 use std::io::Write;
 
 /// Runs the scene that the source holds: its frames and steps in their order; if it has items, one cycle of
 /// them, where the line as it then is and the items are accepted; then a line for each active buffered area
-/// that the master writes. Applications act behind each step and behind the cycle. With `judge` the cycle is judged whatever the scene has, and what is in the way of
-/// a good verdict is printed. All memory is taken before anything is printed.
-pub fn run<S: Source, W: Write>(
+/// that the master writes. Applications act behind each step and behind the cycle. With `judge` the cycle is
+/// judged whatever the scene has, and what is in the way of a good verdict is printed. All memory is taken
+/// before anything is printed. Each copy of its frames is recorded, if anybody wants it.
+pub fn run<S, W, T, M>(
     alloc: Global,
     judge: bool,
+    recorder: &mut Recorder<T, M>,
     source: &mut S,
     out: &mut W,
-) -> Result<u8, Failure> {
+) -> Result<u8, Failure>
+where
+    S: Source,
+    W: Write,
+    T: Write,
+    M: Moments,
+{
     let scene = scene_of(alloc, source)?;
     let weathers = weathers_of(alloc, scene.weathers.as_slice())?;
     let mut applications = applications_of(alloc, scene.slaves.as_slice())?;
-    let mut ring = ring_of(alloc, scene.slaves, scene.links_down.as_slice())?;
+    let ring = ring_of(alloc, scene.slaves, scene.links_down.as_slice())?;
+    let mut ring = TapedRing::new(ring, recorder);
     let mut lines = Lines::new(out);
     for action in &scene.actions {
         act_on(&mut ring, &mut applications, action, &mut lines)?;
     }
     if scene.items.is_empty() {
-        print_areas(ring.slaves(), &mut lines)?;
+        print_areas(ring.ring.slaves(), &mut lines)?;
         return Ok(GOOD);
     }
-    if refuse(ring.slaves(), scene.items.as_slice(), &mut lines)? {
+    if refuse(ring.ring.slaves(), scene.items.as_slice(), &mut lines)? {
         return Ok(REFUSED);
     }
     let mut work = work_of(scene.items)?;
@@ -50,23 +60,23 @@ pub fn run<S: Source, W: Write>(
         );
     }
     let status = cycle(&mut ring, &mut work, weathers.as_slice(), &mut lines)?;
-    applications.act(&mut ring);
-    print_areas(ring.slaves(), &mut lines)?;
+    applications.act(&mut ring.ring);
+    print_areas(ring.ring.slaves(), &mut lines)?;
     Ok(status)
 }
 
 /// Does one cycle of the work over the ring, and prints its verdict, what is in the way of a good one, the
 /// items and the areas.
-fn judged<W: Write>(
-    ring: Ring,
+fn judged<T: Write, M: Moments, W: Write>(
+    ring: TapedRing<'_, T, M>,
     mut applications: Applications,
     work: &mut Work,
     weathers: &[Weather],
     lines: &mut Lines<'_, W>,
 ) -> Result<u8, Failure> {
-    let expected = all_expected(ring.slaves(), work);
+    let expected = all_expected(ring.ring.slaves(), work);
     let count = work.len();
-    let mut ports = Reporting::new(WeatherPorts::new(ring, weathers));
+    let mut ports = Reporting::new(TapedPorts::new(ring, weathers));
     let verdict = judged_cycle(&mut ports, work, &expected[..count], lines)?;
     let (ports, report) = ports.into_parts();
     let mut ring = ports.into_ring();
@@ -78,16 +88,16 @@ fn judged<W: Write>(
 }
 
 /// Does one action, and prints the frame that it carries.
-fn act_on<W: Write>(
-    ring: &mut Ring,
+fn act_on<T: Write, M: Moments, W: Write>(
+    ring: &mut TapedRing<'_, T, M>,
     applications: &mut Applications,
     action: &Action,
     lines: &mut Lines<'_, W>,
 ) -> Result<(), Failure> {
     match action {
         Action::Step => {
-            ring.step_all();
-            applications.act(ring);
+            ring.ring.step_all();
+            applications.act(&mut ring.ring);
         }
         Action::Frame(sent) => {
             let Ok(joined) = carry(ring, sent) else {

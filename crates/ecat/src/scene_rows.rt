@@ -5,6 +5,7 @@ use crate::check::check;
 use crate::run::run;
 use arrayvec::ArrayVec;
 use ecat_source::Bytes;
+use ecat_tape::unrecorded;
 use std::alloc::Global;
 use std::io::Cursor;
 
@@ -31,7 +32,13 @@ pub fn prints(
         return Ok(false);
     }
     let mut out = Cursor::new([0u8; ROOM]);
-    let answer = run(alloc, false, &mut Bytes::new(text.as_slice()), &mut out)?;
+    let answer = run(
+        alloc,
+        false,
+        &mut unrecorded(),
+        &mut Bytes::new(text.as_slice()),
+        &mut out,
+    )?;
     Ok(answer == status && written(&out) == printed)
 }
 
