@@ -17,6 +17,10 @@ use Rattle.ec_over_ring.specs.Question.{after_question, ring_after}
 
 -- ---- who is asked
 
+-- a slave that has another station
+abbrev pub IsElsewhere : ℕ → SlaveState → Type 0
+IsElsewhere station x = word_at x.controller.memory STATION_ADDRESS ≢ station
+
 -- a station of a ring that one slave has, between those before it and those behind it, with at most one link
 -- down; each slave has a controller
 pub record HasStation (station : ℕ) (r : RingState) (before : List SlaveState) (s : SlaveState)
@@ -25,8 +29,8 @@ pub record HasStation (station : ℕ) (r : RingState) (before : List SlaveState)
   pub slaves : r.slaves ≡ before ++ s ∷ behind
   pub address : station < 65536
   pub station_is : word_at s.controller.memory STATION_ADDRESS ≡ station
-  pub others_before : AllByRecursion (λ (x : SlaveState). word_at x.controller.memory STATION_ADDRESS ≢ station) before
-  pub others_behind : AllByRecursion (λ (x : SlaveState). word_at x.controller.memory STATION_ADDRESS ≢ station) behind
+  pub others_before : AllByRecursion (IsElsewhere station) before
+  pub others_behind : AllByRecursion (IsElsewhere station) behind
   pub controllers : AllByRecursion IsController (line_of r)
 
 -- ---- what it comes to
