@@ -4,4 +4,11 @@ pub mod TripLemmas
 pub mod JoinLemmas
 pub mod WayLemmas
 pub mod QuestionLemmas
+pub mod RegisterLemmas
+pub mod ControlLemmas
+pub mod AlLemmas
+pub mod MailLemmas
+pub mod TalkLemmas
+pub mod StationLemmas
+pub mod StateLemmas
 pub mod Laws

@@ -9,9 +9,12 @@
 //! [`promises`]:
 //!
 //! - `one_question`: a question by station is answered by the one slave that has it, wherever the cable is
-//!   broken, and leaves the others as they were.
+//!   broken, and leaves the others as they were;
+//! - `states_over_ring`: a state request ([`ec_services::request_state`]) comes to what AL status of that
+//!   slave tells once it took the step after the write: the state that was asked for, or Refused and its code.
 //!
-//! The definitions are in specs/: `Question`, who is asked and what an answer carries.
+//! The definitions are in specs/: `Question`, who is asked and what an answer carries; `States`, a station
+//! that one slave has, and what a state request comes to.
 
 pub mod promises;
 #[cfg(test)]

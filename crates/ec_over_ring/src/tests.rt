@@ -2,6 +2,7 @@
 
 mod line;
 mod question;
+mod states;
 
 use std::fmt::Debug;
 use std::process::Abort;
