@@ -12,7 +12,8 @@ ghost use Rattle.ec_process.specs.declared.application.Application.{Application}
 /// stays but the process memory that the master reads: its registers (so its station, its AL status and its
 /// mapping), what it is shown, whether AL control was written, and its own state.
 pub fn acting_leaves()
-    ensures links { (times : ℕ) (all : List Application) (r : RingState) → (acted times all r).links ≡ r.links }
+    ensures links { (times : ℕ) (all : List Application) (r : RingState) →
+        (acted times all r).links ≡ r.links }
     ensures size { (times : ℕ) (all : List Application) (r : RingState)
         → length (acted times all r).slaves ≡ length r.slaves }
     ensures beside { (times : ℕ) (all : List Application) (r : RingState) (k : ℕ)

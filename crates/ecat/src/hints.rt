@@ -198,7 +198,7 @@ fn hint_station<V: Write>(ring: &Ring, station: u16, err: &mut V) {
     } else if !is_request_mailbox(&requests) || !is_answer_mailbox(&answers) {
         let _ = writeln!(
             err,
-            "slave {place} 0x{station:04x} has no mailboxes: mailbox-write at sync manager 0, mailbox-read at 1"
+            "slave {place} 0x{station:04x} has no mailboxes: mailbox-write at sm 0, mailbox-read at sm 1"
         );
     } else if is_cut_off(ring, place) {
         let _ = writeln!(

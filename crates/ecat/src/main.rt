@@ -223,9 +223,9 @@ where
     status
 }
 
-/// Opens the capture that is to be shown, shows it, and tells what it is where it is none. Each packet's lines
-/// come at once where somebody reads them at a terminal, or the capture may still grow since it is no plain
-/// file.
+/// Opens the capture that is to be shown, shows it, and tells what it is where it is none. Each packet's
+/// lines come at once where somebody reads them at a terminal, or the capture may still grow since it is no
+/// plain file.
 fn open_capture<R, W, V>(rt: &R, path: &str, is_read: bool, out: &mut W, err: &mut V) -> u8
 where
     R: Files + AllocGlobal,

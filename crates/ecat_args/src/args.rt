@@ -101,7 +101,7 @@ pub enum Args<'a> {
         /// Where the line lies, if it is not simulated here: the address of an end, or of both.
         at: Option<&'a str>,
     },
-    /// `udp SCENE [--port P] [--judge] [--pcap PCAP] [--force]`: does the work of a scene through UDP sockets.
+    /// `udp SCENE [--port P] [--judge] [--pcap PCAP] [--force]`: does the work of a scene by UDP sockets.
     Udp {
         /// The path of the scene.
         scene: &'a str,

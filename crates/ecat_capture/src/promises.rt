@@ -8,8 +8,8 @@ ghost use Rattle.ecat_capture.specs.declared.capture.Stage.{Stage};
 ghost use Rattle.ecat_capture.specs.declared.capture.Stage.TheVariants.{Start};
 ghost use Rattle.ecat_source.specs.Source.{CanFail};
 
-/// What [`Capture::next`] gives one after another, up to the end, are the packets of the file, in their order,
-/// and all of them. That the file ends is known only while a failure of its source can be counted.
+/// What [`Capture::next`] gives one after another, up to the end, are the packets of the file, in their
+/// order, and all of them. That the file ends is known only while a failure of its source can be counted.
 ///
 /// [`Capture::next`]: crate::Capture::next
 pub fn whole_file()

@@ -50,7 +50,8 @@ Leaves Nothing before later = later ≡ before
 Leaves (Link number up) before later = IsPut before number up later
 Leaves (Load place address bytes) before later = IsLoaded before place address bytes later
 Leaves (State place state) before later = Changes before place (put_in state) later
-Leaves (Lose at count) before later = later ≡ losing before at (min (to_lose_at before at + count) (2 ^ 64 - 1))
+Leaves (Lose at count) before later =
+    later ≡ losing before at (min (to_lose_at before at + count) (2 ^ 64 - 1))
 Leaves (Unplug at) before later = later ≡ unplugged before at
 
 -- a line behind one command

@@ -29,8 +29,8 @@ fn bytes_that_are_no_text_are_named(rt: HostRuntime) {
         ),
         (
             b"#\n\xef\xbb\xbfslave 1",
-            "2:1: byte 0xef, a byte order mark or a letter outside ASCII; a scene is ASCII text, its lines end \
-            with LF",
+            "2:1: byte 0xef, a byte order mark or a letter outside ASCII; a scene is ASCII text, its lines \
+            end with LF",
         ),
         (
             b"#\nslave \xc3\xa4",
