@@ -9,12 +9,14 @@ use Rattle.ec_esc.specs.State.{IsController}
 use Rattle.ec_app.specs.State.{SlaveState}
 use Rattle.ec_ring.specs.Ring.{RingState, line_of, stepped}
 use Rattle.ec_master.specs.RingTrips.{RingTrips}
+use Rattle.ec_master.specs.Travelled.{AtMostOneDown}
 use Rattle.ec_services.specs.Ask.{Answer, Asks}
 use Rattle.ec_services.specs.States.{IsRequested}
 use Rattle.ec_services.specs.declared.fault.MasterFault.{MasterFault}
-use Rattle.ec_over_ring.specs.Question.{ReachesOne, Tells, ring_after}
+use Rattle.ec_over_ring.specs.Question.{IsByStation, IsOther, ReachesOne, Tells, ring_after}
 use Rattle.ec_over_ring.specs.States.{HasStation, asked_slave, asked_ring, told_state}
 use Rattle.ec_over_ring.proofs.QuestionLemmas as questions
+use Rattle.ec_over_ring.proofs.NobodyLemmas as nobody
 use Rattle.ec_over_ring.proofs.StateLemmas as states
 
 -- the answer is the pass of the slave that is asked
@@ -32,6 +34,20 @@ pub one_ring : (d : DatagramRecord) (r : RingState) (before behind : List SlaveS
     → later ≡ ring_after d r before s behind
 one_ring d r before behind s answer later one asks =
     (questions.asked_alone d r before behind s answer later one.asked one.alone one.down asks).1
+
+-- a question that no slave is meant by comes back as it was sent
+pub unanswered : (d : DatagramRecord) (r : RingState) (answer : Answer) (later : RingState)
+    → AtMostOneDown r → IsByStation d → AllByRecursion (IsOther d) (line_of r)
+    → Asks RingTrips r d answer later → Tells d answer
+unanswered d r answer later down asked others asks =
+    (nobody.unanswered d r answer later down asked others asks).tells
+
+-- and each slave has taken its step
+pub unanswered_ring : (d : DatagramRecord) (r : RingState) (answer : Answer) (later : RingState)
+    → AtMostOneDown r → IsByStation d → AllByRecursion (IsOther d) (line_of r)
+    → Asks RingTrips r d answer later → later ≡ stepped r
+unanswered_ring d r answer later down asked others asks =
+    (nobody.unanswered d r answer later down asked others asks).ring
 
 -- ---- a state request
 

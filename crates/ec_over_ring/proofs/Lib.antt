@@ -4,6 +4,7 @@ pub mod TripLemmas
 pub mod JoinLemmas
 pub mod WayLemmas
 pub mod QuestionLemmas
+pub mod NobodyLemmas
 pub mod RegisterLemmas
 pub mod ControlLemmas
 pub mod AlLemmas

@@ -44,7 +44,7 @@ one_changed [] s behind c =
 one_changed (x ∷ before) s behind c =
     ap (λ (ss : List SlaveState). x ∷ ss) (one_changed before s behind c)
 
-others_of : (d : DatagramRecord) (ss : List SlaveState)
+pub others_of : (d : DatagramRecord) (ss : List SlaveState)
     → AllByRecursion (λ (x : SlaveState). IsOther d x.controller) ss
     → AllByRecursion (IsOther d) (controllers ss)
 others_of d [] others = tt
@@ -78,7 +78,7 @@ owns d e a b passed (inr brings) = (
       (own_passed d e brings.bit passed),
 )
 
-told : (d e : DatagramRecord) (came : Came) (answer : Answer) → IsPassed d e → d.counter < 65536
+pub told : (d e : DatagramRecord) (came : Came) (answer : Answer) → IsPassed d e → d.counter < 65536
     → OneBrings d e (came_or came.a (d ∷ [])) (came_or came.b (d ∷ []))
     → Brings d (Ok came) answer → Tells e answer
 told d e came (Err fault) passed small one brings =
@@ -89,7 +89,7 @@ told d e came (Ok back) passed small one brings =
 
 -- ---- the trip
 
-underway_of : (d : DatagramRecord) → IsByStation d → IsUnderway d
+pub underway_of : (d : DatagramRecord) → IsByStation d → IsUnderway d
 underway_of d asked = record { station = asked.station; payload = asked.payload; counter = asked.counter }
 
 -- the trip over a ring whose slaves are these

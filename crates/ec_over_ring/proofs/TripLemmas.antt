@@ -58,7 +58,7 @@ underway_turned d b asked =
     record { station = asked.station; payload = asked.payload; counter = asked.counter }
 
 -- copy B passes others
-second_others : (m : ℕ) (b : Bool) (line : List ControllerState) (d : DatagramRecord) → IsUnderway d
+pub second_others : (m : ℕ) (b : Bool) (line : List ControllerState) (d : DatagramRecord) → IsUnderway d
     → AllByRecursion (IsOther d) (drop m line)
     → second_copy m b line d ≡ record { frame = turned (cond b true d.circulating) d ∷ []; line = line }
 second_others m b line d asked others =

@@ -25,7 +25,7 @@ use Rattle.ec_over_ring.proofs.TripLemmas.{front_first, front_second, behind_fir
 -- ---- both copies
 
 -- copy A passes the first m of a line, and then copy B those from m on
-both : ℕ → Bool → List ControllerState → DatagramRecord → Passed
+unfoldable pub both : ℕ → Bool → List ControllerState → DatagramRecord → Passed
 both m b line d =
     let a = first_copy m line d in
     let z = second_copy m b a.line d in
@@ -64,7 +64,7 @@ both_behind m b d before c behind others place =
 -- ---- what comes back of them
 
 -- unless they are lost
-abbrev came_back : Bool → Bool → Passed → Travelled
+abbrev pub came_back : Bool → Bool → Passed → Travelled
 came_back lost_a lost_b p = record {
   came = record { a = cond lost_a None (Some p.a); b = cond lost_b None (Some p.b) };
   line = p.line;
@@ -77,7 +77,7 @@ pub record IsWay (d : DatagramRecord) (before : List ControllerState) (c : Contr
   pub brings : OneBrings d (pass c d).datagram (came_or t.came.a (d ∷ [])) (came_or t.came.b (d ∷ []))
 
 -- the copy that passed others may be lost
-first_brings : (d e : DatagramRecord) (lost_a lost_b bit : Bool) → lost_a ≡ false
+pub first_brings : (d e : DatagramRecord) (lost_a lost_b bit : Bool) → lost_a ≡ false
     → OneBrings d e (came_or (cond lost_a None (Some (e ∷ []))) (d ∷ []))
     (came_or (cond lost_b None (Some (turned bit d ∷ []))) (d ∷ []))
 first_brings d e lost_a true bit came = inl (record {
@@ -121,7 +121,7 @@ size_of_line before c behind =
 -- ---- the trip
 
 -- what any trip over pieces brings
-abbrev way_of : Bool → Bool → ℕ → Bool → List ControllerState → DatagramRecord → Travelled
+abbrev pub way_of : Bool → Bool → ℕ → Bool → List ControllerState → DatagramRecord → Travelled
 way_of lost_a lost_b m b line d = came_back lost_a lost_b (both m b line d)
 
 way_front : (lost_a lost_b : Bool) (m : ℕ) (b : Bool) (d : DatagramRecord) (before : List ControllerState)
@@ -153,7 +153,7 @@ abbrev entries_of : DatagramRecord → List Entry
 entries_of d = record { request = record { kind = Fprd; address = 0; count = 0 }; sent = d } ∷ []
 
 -- the trip under a ring's links is one over the pieces before and behind the break
-travelled_pieces : (links : Links) (d : DatagramRecord) (line : List ControllerState)
+pub travelled_pieces : (links : Links) (d : DatagramRecord) (line : List ControllerState)
     → d.circulating ≡ false
     → front links (length line) ≡ back links (length line)
     → let n = length line in

@@ -10,6 +10,7 @@
 //!
 //! - `one_question`: a question by station is answered by the one slave that has it, wherever the cable is
 //!   broken, and leaves the others as they were;
+//! - `no_station`: a question to a station that no slave has comes back as it was sent;
 //! - `states_over_ring`: a state request ([`ec_services::request_state`]) comes to what AL status of that
 //!   slave tells once it took the step after the write: the state that was asked for, or Refused and its code.
 //!

@@ -10,10 +10,11 @@ ghost use Rattle.ec_esc.specs.State.{IsController};
 ghost use Rattle.ec_app.specs.State.{SlaveState};
 ghost use Rattle.ec_ring.specs.Ring.{RingState, line_of, stepped};
 ghost use Rattle.ec_master.specs.RingTrips.{RingTrips};
+ghost use Rattle.ec_master.specs.Travelled.{AtMostOneDown};
 ghost use Rattle.ec_services.specs.Ask.{Answer, Asks};
 ghost use Rattle.ec_services.specs.States.{IsRequested};
 ghost use Rattle.ec_services.specs.declared.fault.MasterFault.{MasterFault};
-ghost use Rattle.ec_over_ring.specs.Question.{ReachesOne, Tells, ring_after};
+ghost use Rattle.ec_over_ring.specs.Question.{IsByStation, IsOther, ReachesOne, Tells, ring_after};
 ghost use Rattle.ec_over_ring.specs.States.{HasStation, asked_slave, asked_ring, told_state};
 
 /// A datagram that names its slave by station address, not circulating, goes out alone in a frame over a ring
@@ -29,6 +30,19 @@ pub fn one_question()
         (answer : Answer) (later : RingState)
         → ReachesOne d r before s behind → Asks RingTrips r d answer later
         → later ≡ ring_after d r before s behind }
+{}
+
+/// A datagram that names a station which no slave of the ring has, with at most one link down, comes back as it
+/// was sent, counted by nobody; and each slave has taken its step and else stays.
+pub fn no_station()
+    ensures answer { (d : DatagramRecord) (r : RingState) (answer : Answer) (later : RingState)
+        → AtMostOneDown r → IsByStation d → AllByRecursion (IsOther d) (line_of r)
+        → Asks RingTrips r d answer later
+        → Tells d answer }
+    ensures ring { (d : DatagramRecord) (r : RingState) (answer : Answer) (later : RingState)
+        → AtMostOneDown r → IsByStation d → AllByRecursion (IsOther d) (line_of r)
+        → Asks RingTrips r d answer later
+        → later ≡ stepped r }
 {}
 
 /// A slave is asked for a state over a ring with at most one link down, of which it alone has the station,
