@@ -105,7 +105,8 @@ unfolding al_answer
 answer_stands Init s size =
     never_stands Init (with_al_answer s) (has_error s) _ _
     (either_stands Init (with_al_answer s) (leb 1 (current s)) _ _ (enters Init s size)
-    (either_stands Init (with_al_answer s) (ltb (2 * current s) 1) _ _ (refuses Init s InvalidStateChange size)
+    (either_stands Init (with_al_answer s) (ltb (2 * current s) 1) _ _
+    (refuses Init s InvalidStateChange size)
     (enters Init s size)))
 answer_stands PreOp s size =
     never_stands PreOp (with_al_answer s) (has_error s) _ _

@@ -53,7 +53,8 @@ unfolding write_effect
 control_effect c address meant place =
     ap (λ (b : Bool). record {
       reading = nothing;
-      writing = where_served (b && serves_range_write c (ado_of address) 2) (range_taken 1 c (ado_of address) 2);
+      writing = where_served (b && serves_range_write c (ado_of address) 2) (range_taken 1 c
+          (ado_of address) 2);
     }) meant
     ∙ ap (λ (a : ℕ). record {
       reading = nothing;
@@ -122,7 +123,8 @@ pub record HasControl (control : ℕ) (c : ControllerState) : Type 0 where
 
 control_touched : (m : List ℕ) → touches (written_places m 288 2) AL_CONTROL ≡ true
 control_touched m =
-    names_at (λ b. written_places m 288 2 (8 * 288 + b)) 8 0 (omega arith) (some_of _ _ (target_at m 288 0 0 (first_written m) refl (omega arith)))
+    names_at (λ b. written_places m 288 2 (8 * 288 + b)) 8 0 (omega arith) (some_of _ _
+    (target_at m 288 0 0 (first_written m) refl (omega arith)))
   where
     some_of : (o : Option ℕ) (x : ℕ) → o ≡ Some x → IsSome o
     some_of o x is = subst (λ (y : Option ℕ). IsSome y) (sym is) refl
@@ -145,10 +147,12 @@ control_written c address control controller small meant place =
     let bytes : AreBytes payload = two_bytes control small in
     let low : get_or (settled c.memory new) 288 0 ≡ control =
     kept_byte c.memory new 288 (omega arith) (omega (arith, size))
-    ∙ written_byte c.memory payload 288 0 controller.memory_size (omega arith) bytes (first_written c.memory) refl in
+    ∙ written_byte c.memory payload 288 0 controller.memory_size (omega arith) bytes
+    (first_written c.memory) refl in
     let high : get_or (settled c.memory new) 289 0 ≡ 0 =
     kept_byte c.memory new 289 (omega arith) (omega (arith, size))
-    ∙ written_byte c.memory payload 289 1 controller.memory_size (omega arith) bytes (second_written c.memory) refl in
+    ∙ written_byte c.memory payload 289 1 controller.memory_size (omega arith) bytes
+    (second_written c.memory) refl in
     subst P (sym (control_effect c address meant place))
     (record {
       written = ap (λ b. c.written || b) (control_touched c.memory) ∙ or-true c.written;

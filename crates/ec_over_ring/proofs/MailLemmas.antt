@@ -22,7 +22,8 @@ use Rattle.ec_app.specs.declared.abort_code.AbortCode.TheVariants.{ReadOfWriteOn
 use Rattle.ec_app.specs.declared.abort_code.AbortCode.TheVariants.{WrongLength}
 use Rattle.ec_app.specs.Mail.{mail_bytes, mail_of, sent}
 use Rattle.ec_app.specs.MailStep.{reply, mail_back, with_reply, mail_answer, after_mail, is_dropped}
-use Rattle.ec_app.specs.MailStep.{named, mail_rows, after_bytes, can_answer, has_request, request_bytes, mail_step}
+use Rattle.ec_app.specs.MailStep.{named, mail_rows, after_bytes, can_answer, has_request, request_bytes}
+use Rattle.ec_app.specs.MailStep.{mail_step}
 use Rattle.ec_app.specs.Roles.{is_answer_mailbox}
 use Rattle.ec_app.specs.Sdo.{sdo_bytes, index, sub}
 use Rattle.ec_app.specs.State.{SlaveState}

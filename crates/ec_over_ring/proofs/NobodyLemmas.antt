@@ -59,7 +59,8 @@ pub record IsIdle (d : DatagramRecord) (line : List ControllerState) (t : Travel
 idle_way : (lost_a lost_b : Bool) (m : ℕ) (b : Bool) (line : List ControllerState) (d : DatagramRecord)
     → IsUnderway d → AllByRecursion (IsOther d) line → IsIdle d line (way_of lost_a lost_b m b line d)
 idle_way lost_a lost_b m b line d asked others =
-    subst (λ (p : Passed). IsIdle d line (came_back lost_a lost_b p)) (sym (both_others m b line d asked others))
+    subst (λ (p : Passed). IsIdle d line (came_back lost_a lost_b p)) (sym
+    (both_others m b line d asked others))
     (record { line_is = refl; brings = idle_brings lost_a lost_b })
   where
     idle_brings : (x y : Bool) → OneBrings d d (came_or (cond x None (Some (d ∷ []))) (d ∷ []))
@@ -68,19 +69,22 @@ idle_way lost_a lost_b m b line d asked others =
     idle_brings false y = first_brings d d false y (cond b true d.circulating) refl
 
 idle_trip : (links : Links) (k : ℕ) (d : DatagramRecord) (line : List ControllerState)
-    → IsOnlyDown links (length line) k → d.circulating ≡ false → IsUnderway d → AllByRecursion (IsOther d) line
+    → IsOnlyDown links (length line) k → d.circulating ≡ false → IsUnderway d
+    → AllByRecursion (IsOther d) line
     → IsIdle d line (travelled (calm links) (d ∷ []) line)
 idle_trip links k d line one still asked others =
     let n : ℕ = length line in
     subst (λ (t : Travelled). IsIdle d line t)
     (sym (travelled_pieces links d line still (front-is-back links n k one)))
-    (idle_way (is_none (arrival_a links n)) (is_none (arrival_b links n)) (front links n) (turns links n) line d
+    (idle_way (is_none (arrival_a links n)) (is_none (arrival_b links n)) (front links n)
+    (turns links n) line d
     asked others)
 
 -- ---- the law
 
 -- what a question comes to that no slave is meant by
-pub record IsUnanswered (d : DatagramRecord) (r : RingState) (answer : Answer) (later : RingState) : Type 0 where
+pub record IsUnanswered (d : DatagramRecord) (r : RingState) (answer : Answer)
+    (later : RingState) : Type 0 where
   pub tells : Tells d answer
   pub ring : later ≡ stepped r
 
@@ -99,5 +103,6 @@ unanswered d r answer later down asked others asks =
           (subst (λ (x : Result Came PortFault). Brings d x answer) asks.made.0 asks.brings);
       ring = asks.made.1
           ∙ ap (λ (cs : List ControllerState). stepped (with_line r cs)) idle.line_is
-          ∙ ap (λ (ss : List SlaveState). stepped (record r { slaves = ss })) (with_controllers-controllers r.slaves);
+          ∙ ap (λ (ss : List SlaveState). stepped (record r { slaves = ss }))
+          (with_controllers-controllers r.slaves);
     }

@@ -67,7 +67,8 @@ unaddressed c x address n station other =
     ∙ halves_other c address n (reads x) (writes x) other
 
 -- a write of nothing leaves the controller
-pub written_nothing : (c : ControllerState) (payload : List ℕ) → IsController c → written_by nothing payload c ≡ c
+pub written_nothing : (c : ControllerState) (payload : List ℕ) → IsController c
+    → written_by nothing payload c ≡ c
 written_nothing c payload controller =
     let kept : with_bits c.memory payload (λ _. None) ≡ c.memory =
     with_bits_none c.memory payload (λ _. None) controller.memory (λ i inside. refl) in

@@ -33,7 +33,8 @@ read_effect c from = record {
   writing = nothing;
 }
 
-reads_effect : (c : ControllerState) (address from n : ℕ) → eqb (adp_of address) (word_at c.memory STATION_ADDRESS) ≡ true
+reads_effect : (c : ControllerState) (address from n : ℕ) → eqb (adp_of address)
+    (word_at c.memory STATION_ADDRESS) ≡ true
     → ado_of address ≡ from → 1 ≤ n → from + n ≤ PROCESS_MEMORY
     → effect Fprd c address n ≡ read_effect c from
 unfolding read_effect
@@ -123,7 +124,8 @@ none_met : (managers : List SyncMan) (from n : ℕ) → from + n ≤ PROCESS_MEM
     → filter (λ s. meets s from n) managers ≡ []
 none_met [] from n inside = refl
 none_met (s ∷ ss) from n inside =
-    ap (λ b. cond b (s ∷ filter (λ x. meets x from n) ss) (filter (λ x. meets x from n) ss)) (unmet s from n inside)
+    ap (λ b. cond b (s ∷ filter (λ x. meets x from n) ss) (filter (λ x. meets x from n) ss))
+    (unmet s from n inside)
     ∙ none_met ss from n inside
 
 pub none_filled : (managers : List SyncMan) (from n : ℕ) → from + n ≤ PROCESS_MEMORY

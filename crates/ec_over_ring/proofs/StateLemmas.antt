@@ -51,7 +51,8 @@ write_goes_on {A} told (Ok back) one tells =
 -- what data of AL status decide that were counted once
 abbrev by_status : AlState → ℕ → ℕ → Result (Option (Unit {0})) MasterFault
 by_status state byte code =
-    cond (status_of byte).error (Err (Refused code)) (cond (eqb (byte % 16) (code_of state)) (Ok (Some tt)) (Ok None))
+    cond (status_of byte).error (Err (Refused code)) (cond (eqb (byte % 16) (code_of state)) (Ok
+    (Some tt)) (Ok None))
 
 status_by : (state : AlState) (told : DatagramRecord) (answer : Answer) → told.counter ≡ 1 → Tells told answer
     → status_decides state answer
@@ -67,10 +68,12 @@ status_by state told (Ok back) one tells =
     )
     ∷ (eqb (get_or (nth back.joined 0).payload 0 0 % 16) (code_of state), Ok (Some tt))
     ∷ []) (Ok None)) (tells.counter ∙ one)
-    ∙ ap (λ (bytes : List ℕ). by_status state (get_or bytes 0 0) (from_le_bytes w16 (drop 4 bytes))) tells.payload
+    ∙ ap (λ (bytes : List ℕ). by_status state (get_or bytes 0 0) (from_le_bytes w16
+    (drop 4 bytes))) tells.payload
 
 -- the state's byte has its code
-code_is : (state : AlState) → eqb (status_byte (record { state = state; error = false }) % 16) (code_of state) ≡ true
+code_is : (state : AlState) → eqb (status_byte (record { state = state; error = false }) % 16)
+    (code_of state) ≡ true
 code_is Init = refl
 code_is PreOp = refl
 code_is SafeOp = refl
@@ -88,14 +91,16 @@ stands_decide state byte code (Stands.entered is) =
     ap (λ (b : ℕ). (status_of b).error) is ∙ ap (λ (s : AlStatus). s.error) (status_of-status_byte status) in
     let code_told : eqb (byte % 16) (code_of state) ≡ true =
     ap (λ (b : ℕ). eqb (b % 16) (code_of state)) is ∙ code_is state in
-    ap (λ e. cond e (Err (Refused code)) (cond (eqb (byte % 16) (code_of state)) (Ok (Some tt)) (Ok None))) told
+    ap (λ e. cond e (Err (Refused code)) (cond (eqb (byte % 16) (code_of state)) (Ok (Some tt))
+    (Ok None))) told
     ∙ ap (λ e. cond e (Ok (Some tt)) (Ok None)) code_told
     ∙ sym (ap (λ e. decided_as (cond e (Err (Refused code)) (Ok tt))) told)
 stands_decide state byte code (Stands.refused old is) =
     let status : AlStatus = record { state = old; error = true } in
     let told : (status_of byte).error ≡ true =
     ap (λ (b : ℕ). (status_of b).error) is ∙ ap (λ (s : AlStatus). s.error) (status_of-status_byte status) in
-    ap (λ e. cond e (Err (Refused code)) (cond (eqb (byte % 16) (code_of state)) (Ok (Some tt)) (Ok None))) told
+    ap (λ e. cond e (Err (Refused code)) (cond (eqb (byte % 16) (code_of state)) (Ok (Some tt))
+    (Ok None))) told
     ∙ sym (ap (λ e. decided_as (cond e (Err (Refused code)) (Ok tt))) told)
 
 -- without an error it is the state that was asked for
@@ -129,16 +134,19 @@ zeros (suc n) zero = omega arith
 zeros (suc n) (suc k) = zeros n k
 
 -- the slave that the write reached, as it stands before its step
-pub written_slave : (station : ℕ) (state : AlState) (r : RingState) (before : List SlaveState) (s : SlaveState)
+pub written_slave : (station : ℕ) (state : AlState) (r : RingState) (before : List SlaveState)
+    (s : SlaveState)
     (behind : List SlaveState) → HasStation station r before s behind
     → HasControl (code_of state + 16) (after_question (control_write station state) s).controller
 written_slave station state r before s behind has =
     control_written s.controller (address_of station AL_CONTROL) (code_of state + 16)
-    (parts_of station r before s behind has).own (small_code state) (meant station AL_CONTROL r before s behind has)
+    (parts_of station r before s behind has).own (small_code state)
+    (meant station AL_CONTROL r before s behind has)
     (ado_is station AL_CONTROL has.address)
 
 -- its AL status once it took its step
-pub status_stands : (station : ℕ) (state : AlState) (r : RingState) (before : List SlaveState) (s : SlaveState)
+pub status_stands : (station : ℕ) (state : AlState) (r : RingState) (before : List SlaveState)
+    (s : SlaveState)
     (behind : List SlaveState) → HasStation station r before s behind
     → Stands state (get_or (asked_slave station state s).controller.memory AL_STATUS 0)
 unfolding step
@@ -152,7 +160,8 @@ status_stands station state r before s behind has =
 -- ---- both trips
 
 -- the ring behind the write, and what its answer decides
-pub record IsWritten (station : ℕ) (state : AlState) (r : RingState) (before : List SlaveState) (s : SlaveState)
+pub record IsWritten (station : ℕ) (state : AlState) (r : RingState) (before : List SlaveState)
+    (s : SlaveState)
     (behind : List SlaveState) (answer : Answer) (between : RingState) : Type 0 where
   pub ring : between ≡ asked_ring station state r before s behind
   pub undecided : write_decides {A = Unit {0}} answer ≡ Ok None
@@ -180,13 +189,15 @@ status_passed : (station : ℕ) (r : RingState) (before : List SlaveState) (s : 
     (behind : List SlaveState) → HasStation station r before s behind
     → pass s.controller (status_read station)
     ≡ record {
-      datagram = record (request Fprd (address_of station AL_STATUS) (take 6 (drop 304 s.controller.memory))) {
-        counter = 1;
-      };
+      datagram = record (request Fprd (address_of station AL_STATUS) (take 6
+          (drop 304 s.controller.memory))) {
+            counter = 1;
+          };
       state = s.controller;
     }
 status_passed station r before s behind has =
-    registers_read s.controller (address_of station AL_STATUS) 304 6 (parts_of station r before s behind has).own
+    registers_read s.controller (address_of station AL_STATUS) 304 6
+    (parts_of station r before s behind has).own
     (meant station AL_STATUS r before s behind has) (ado_is station AL_STATUS has.address) (omega arith)
     (omega arith)
 
@@ -227,7 +238,8 @@ second_trip station state r before s behind answer later has asks =
       decides = status_by state (pass s.controller d).datagram answer
           (ap (λ (p : Passed). p.datagram.counter) passed) comes.0
           ∙ ap (λ (p : Passed).
-          by_status state (get_or p.datagram.payload 0 0) (from_le_bytes w16 (drop 4 p.datagram.payload))) passed
+          by_status state (get_or p.datagram.payload 0 0) (from_le_bytes w16
+          (drop 4 p.datagram.payload))) passed
           ∙ ap (λ (b : ℕ). by_status state b (from_le_bytes w16 (drop 4 (take 6 (drop 304 m)))))
           (get_or-run m 304 6 0 (omega arith))
           ∙ ap (λ (n : ℕ). by_status state (get_or m 304 0) n) (code_read m);
@@ -260,7 +272,8 @@ pub requested : (station limit : ℕ) (state : AlState) (r : RingState) (before 
     → AllByRecursion IsController (line_of (asked_ring station state r before s behind))
     → 1 ≤ limit → IsRequested RingTrips r station state limit result later
     → ComesTo station state r before s behind result later
-requested station zero state r before s behind result later has controllers some talk = absurd (omega (arith, some))
+requested station zero state r before s behind result later has controllers some talk = absurd (omega
+    (arith, some))
 requested station (suc n) state r before s behind result later has controllers some talk =
     let q = status_question station state in
     let rest = replicate (suc n) q in
@@ -279,7 +292,8 @@ requested station (suc n) state r before s behind result later has controllers s
     let read : IsRead station state ring one second.answer second.between =
     second_trip station state ring (map step before) one (map step behind) second.answer second.between
     (has_between station state r before s behind has controllers) second.asks in
-    let end = ends RingTrips ring q (replicate n q) (Err NoAnswer) result later second (told_state one.controller)
+    let end = ends RingTrips ring q (replicate n q) (Err NoAnswer) result later second
+    (told_state one.controller)
     (read.decides ∙ stands_decide state (get_or one.controller.memory AL_STATUS 0)
     (word_at one.controller.memory AL_STATUS_CODE) (status_stands station state r before s behind has)) in
     record { result_is = end.0; ring = end.1 ∙ read.ring }

@@ -32,11 +32,13 @@ station_of x = word_at x.controller.memory STATION_ADDRESS
 abbrev AreControllers : List SlaveState → Type 0
 AreControllers ss = AllByRecursion IsController (controllers ss)
 
-front_controllers : (before behind : List SlaveState) → AreControllers (before ++ behind) → AreControllers before
+front_controllers : (before behind : List SlaveState) → AreControllers (before ++ behind)
+    → AreControllers before
 front_controllers [] behind all = tt
 front_controllers (x ∷ before) behind all = (all.0, front_controllers before behind all.1)
 
-back_controllers : (before behind : List SlaveState) → AreControllers (before ++ behind) → AreControllers behind
+back_controllers : (before behind : List SlaveState) → AreControllers (before ++ behind)
+    → AreControllers behind
 back_controllers [] behind all = all
 back_controllers (x ∷ before) behind all = back_controllers before behind all.1
 
@@ -46,7 +48,8 @@ pub record AreParts (before : List SlaveState) (s : SlaveState) (behind : List S
   pub own : IsController s.controller
   pub last : AreControllers behind
 
-pub parts_of : (station : ℕ) (r : RingState) (before : List SlaveState) (s : SlaveState) (behind : List SlaveState)
+pub parts_of : (station : ℕ) (r : RingState) (before : List SlaveState) (s : SlaveState)
+    (behind : List SlaveState)
     → HasStation station r before s behind → AreParts before s behind
 parts_of station r before s behind has =
     let all : AreControllers (before ++ s ∷ behind) =

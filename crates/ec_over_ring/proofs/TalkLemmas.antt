@@ -5,7 +5,8 @@ use Rattle.ec_services.specs.Ask.{Answer, Asks, Question, IsAsked, Talks}
 use Rattle.ec_services.specs.declared.fault.MasterFault.{MasterFault}
 
 -- what is left of a talk behind what an answer decided
-abbrev Rest : {P A : Type 0} → Trips P → P → List (Question A) → Result A MasterFault → Result A MasterFault → P
+abbrev Rest : {P A : Type 0} → Trips P → P → List (Question A) → Result A MasterFault
+    → Result A MasterFault → P
     → Result (Option A) MasterFault → Type 0
 Rest trips between rest undecided result later (Err fault) = (result ≡ Err fault) × (later ≡ between)
 Rest trips between rest undecided result later (Ok (Some value)) = (result ≡ Ok value) × (later ≡ between)
@@ -31,7 +32,8 @@ rest_of trips before between q rest undecided result later decided asked left = 
 }
 
 pub begun : {P A : Type 0} (trips : Trips P) (before : P) (q : Question A) (rest : List (Question A))
-    (undecided result : Result A MasterFault) (later : P) → Talks trips before (q ∷ rest) undecided result later
+    (undecided result : Result A MasterFault) (later : P) → Talks trips before
+    (q ∷ rest) undecided result later
     → IsBegun trips before q rest undecided result later
 unfolding Talks
 begun trips before q rest undecided result later (Err fault, between, asked, left) =

@@ -12,7 +12,8 @@
 //!   broken, and leaves the others as they were;
 //! - `no_station`: a question to a station that no slave has comes back as it was sent;
 //! - `states_over_ring`: a state request ([`ec_services::request_state`]) comes to what AL status of that
-//!   slave tells once it took the step after the write: the state that was asked for, or Refused and its code.
+//!   slave tells once it took the step after the write: the state that was asked for, or Refused and its
+//!   code.
 //!
 //! The definitions are in specs/: `Question`, who is asked and what an answer carries; `States`, a station
 //! that one slave has, and what a state request comes to.

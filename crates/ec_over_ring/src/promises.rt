@@ -32,8 +32,8 @@ pub fn one_question()
         → later ≡ ring_after d r before s behind }
 {}
 
-/// A datagram that names a station which no slave of the ring has, with at most one link down, comes back as it
-/// was sent, counted by nobody; and each slave has taken its step and else stays.
+/// A datagram that names a station which no slave of the ring has, with at most one link down, comes back as
+/// it was sent, counted by nobody; and each slave has taken its step and else stays.
 pub fn no_station()
     ensures answer { (d : DatagramRecord) (r : RingState) (answer : Answer) (later : RingState)
         → AtMostOneDown r → IsByStation d → AllByRecursion (IsOther d) (line_of r)
