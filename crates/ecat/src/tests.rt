@@ -68,6 +68,8 @@ fn runs(rt: &(impl AllocGlobal + Abort), scene: &[u8], status: u8, out: &[u8]) {
         &Args::Run {
             scene: "s",
             judge: false,
+            pcap: None,
+            force: false,
         },
         &mut Bytes::new(scene),
         status,

@@ -24,6 +24,8 @@ const EXAMPLE: &[u8] = b"slave 0x1001\nstate 8\nsm 2 0x1000 1 write\nsm 3 0x1100
 const RUN: Args<'static> = Args::Run {
     scene: "s",
     judge: false,
+    pcap: None,
+    force: false,
 };
 
 const SDO: Args<'static> = Args::Sdo {

@@ -8,6 +8,8 @@ use std::process::Abort;
 const JUDGE: Args<'static> = Args::Run {
     scene: "s",
     judge: true,
+    pcap: None,
+    force: false,
 };
 
 /// `run --judge` over a text.

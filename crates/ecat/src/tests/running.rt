@@ -13,6 +13,8 @@ const FIRST: &[u8] =
 const RUN: Args<'static> = Args::Run {
     scene: "s",
     judge: false,
+    pcap: None,
+    force: false,
 };
 
 #[test]
