@@ -1,8 +1,7 @@
 -- The packets that come before a command, and the command, go before those that are left.
-use Rattle.std.proofs.Common.{◌≡◌, ◌+◌, ◌-◌, ◌^◌, ◌<◌, ◌≤◌, ℕ, arith, Ok, Err}
+use Rattle.std.proofs.Common.{◌≡◌, ◌-◌, ◌^◌, ◌<◌, arith}
 use Rattle.std.proofs.lemmas.Result.{err_from_is_err_and}
 use Rattle.ecat_serve.specs.Commands.{packets}
-use Rattle.ecat_serve.specs.Rounds.{Serves}
 use Rattle.ecat_serve.proofs.CommandLemmas.{leads_all, leads_end, leads_fault, leads_nowhere, leads_on}
 use Rattle.ecat_serve.proofs.CommandLemmas.{left_is, told_is}
 use Rattle.ecat_serve.proofs.served.Served.serve_commanded.Goals as goal
