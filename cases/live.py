@@ -478,6 +478,25 @@ def scene_is_checked_before_a_socket_is_opened(stage):
 
 
 @case
+def copies_of_a_run_are_kept_and_listed(stage):
+    stage.file("s", "slave 1\nslave 2\nbrd 0x0130 0000\nlink 1 down\n")
+    told = "item 0 BRD data 0100 wkc 2 of 2 adp 2\n0\n"
+    yield "run", told, stage.ends("run", "s", "--pcap", "p")
+    yield "list", COPIES, stage.ends("list", "p")
+
+
+# Each copy as it leaves and as it arrives, marked there by bit 1 of its source: each turns at the broken link,
+# behind one of the two slaves.
+COPIES = """\
+1 0.000000 10:52:4d:50:00:0a 0 BRD 0x0000:0x0130 2 wkc 0 0000
+2 0.000001 12:52:4d:50:00:0a 0 BRD 0x0001:0x0130 2 wkc 1 0100
+3 0.000002 10:52:4d:50:00:0b 0 BRD 0x0000:0x0130 2 wkc 0 0000
+4 0.000003 12:52:4d:50:00:0b 0 BRD 0x0001:0x0130 2 wkc 1 0100
+0
+"""
+
+
+@case
 def packet_of_a_live_pipe_is_shown_before_the_next_one(stage):
     pipe = os.path.join(stage.folder, "pipe")
     os.mkfifo(pipe)

@@ -169,7 +169,7 @@ where it left; or why it was dropped, and ethernet or padded where it looks so.
 With --raw the ends lie at network interfaces, through packet sockets that
 tools/raw opens: end A has the first and end B the second one.
 With --pcap each copy is kept in a capture, as it comes in at an end and as it
-leaves from one.
+leaves from one, at the time of the clock.
 With --control each line of standard input is a command, which is done between
 two packets and answered by ok, what it asks for and ok, or refused and why:
   link K up|down            mends or breaks a link, 0 before the first slave
