@@ -9,6 +9,8 @@ mod numbers;
 use crate::{Args, ArgsFault};
 use clap::error::ErrorKind;
 use std::alloc::Global;
+use std::fmt::Debug;
+use std::process::Abort;
 
 /// A fault, with the kind alone of clap's error.
 #[derive(Clone, Copy, Debug, PartialEq, Eq)]
@@ -18,6 +20,12 @@ enum Refusal {
     NoMemory,
     /// The words gave another command.
     Other,
+}
+
+/// Asserts that what was found is what was wanted. An assertion that stands in a test is proved again in
+/// each, which takes longer than all else of it; this one is proved once.
+fn assert_same<T: PartialEq + Debug + Drop>(rt: &impl Abort, found: T, wanted: T) {
+    assert_eq!(rt; found, wanted);
 }
 
 /// What the words give.

@@ -1,5 +1,5 @@
 //! Texts that write numbers and values, and texts that do not.
-use super::{Refusal, read};
+use super::{Refusal, assert_same, read};
 use crate::{Args, Value};
 use std::alloc::Global;
 use std::net::Ipv4Addr;
@@ -65,10 +65,11 @@ fn address(alloc: Global, text: &str) -> Result<Ipv4Addr, Refusal> {
 #[test]
 fn an_address_is_four_decimal_numbers(rt: HostRuntime) {
     let alloc = rt.alloc();
-    assert_eq!(rt; address(alloc, "0.0.0.0"), Ok(Ipv4Addr::UNSPECIFIED));
-    assert_eq!(rt;
+    assert_same(&rt, address(alloc, "0.0.0.0"), Ok(Ipv4Addr::UNSPECIFIED));
+    assert_same(
+        &rt,
         address(alloc, "255.10.9.1"),
-        Ok(Ipv4Addr::new(255, 10, 9, 1))
+        Ok(Ipv4Addr::new(255, 10, 9, 1)),
     );
     for text in [
         "",
@@ -82,66 +83,82 @@ fn an_address_is_four_decimal_numbers(rt: HostRuntime) {
         "::1",
         "localhost",
     ] {
-        assert_eq!(rt; address(alloc, text), Err(Refusal::BadNumber), "{text:?}");
+        assert_same(&rt, address(alloc, text), Err(Refusal::BadNumber));
     }
 }
 
 #[test]
 fn station_and_index_end_at_65535(rt: HostRuntime) {
     let alloc = rt.alloc();
-    assert_eq!(rt; numbers(alloc, "0", "0", "0"), Ok((0, 0, 0)));
-    assert_eq!(rt;
+    assert_same(&rt, numbers(alloc, "0", "0", "0"), Ok((0, 0, 0)));
+    assert_same(
+        &rt,
         numbers(alloc, "65535", "65534", "0"),
-        Ok((65535, 65534, 0))
+        Ok((65535, 65534, 0)),
     );
-    assert_eq!(rt;
+    assert_same(
+        &rt,
         numbers(alloc, "65534", "65535", "0"),
-        Ok((65534, 65535, 0))
+        Ok((65534, 65535, 0)),
     );
-    assert_eq!(rt; numbers(alloc, "65536", "0", "0"), Err(Refusal::BadNumber));
-    assert_eq!(rt; numbers(alloc, "0", "65536", "0"), Err(Refusal::BadNumber));
-    assert_eq!(rt;
+    assert_same(
+        &rt,
+        numbers(alloc, "65536", "0", "0"),
+        Err(Refusal::BadNumber),
+    );
+    assert_same(
+        &rt,
+        numbers(alloc, "0", "65536", "0"),
+        Err(Refusal::BadNumber),
+    );
+    assert_same(
+        &rt,
         numbers(alloc, "0x10000", "0", "0"),
-        Err(Refusal::BadNumber)
+        Err(Refusal::BadNumber),
     );
-    assert_eq!(rt;
+    assert_same(
+        &rt,
         numbers(alloc, "4294967296", "0", "0"),
-        Err(Refusal::BadNumber)
+        Err(Refusal::BadNumber),
     );
 }
 
 #[test]
 fn subindex_ends_at_255(rt: HostRuntime) {
     let alloc = rt.alloc();
-    assert_eq!(rt; numbers(alloc, "1", "2", "255"), Ok((1, 2, 255)));
-    assert_eq!(rt; numbers(alloc, "1", "2", "0xff"), Ok((1, 2, 255)));
-    assert_eq!(rt; numbers(alloc, "1", "2", "256"), Err(Refusal::BadNumber));
-    assert_eq!(rt; numbers(alloc, "1", "2", "0x100"), Err(Refusal::BadNumber));
+    assert_same(&rt, numbers(alloc, "1", "2", "255"), Ok((1, 2, 255)));
+    assert_same(&rt, numbers(alloc, "1", "2", "0xff"), Ok((1, 2, 255)));
+    assert_same(
+        &rt,
+        numbers(alloc, "1", "2", "256"),
+        Err(Refusal::BadNumber),
+    );
+    assert_same(
+        &rt,
+        numbers(alloc, "1", "2", "0x100"),
+        Err(Refusal::BadNumber),
+    );
 }
 
 #[test]
 fn port_is_from_1024_to_65534(rt: HostRuntime) {
     let alloc = rt.alloc();
-    assert_eq!(rt; port(alloc, "1023"), Err(Refusal::BadNumber));
-    assert_eq!(rt; port(alloc, "1024"), Ok(1024));
-    assert_eq!(rt; port(alloc, "65534"), Ok(65534));
-    assert_eq!(rt; port(alloc, "0xfffe"), Ok(65534));
-    assert_eq!(rt; port(alloc, "65535"), Err(Refusal::BadNumber));
-    assert_eq!(rt; port(alloc, "x"), Err(Refusal::BadNumber));
+    assert_same(&rt, port(alloc, "1023"), Err(Refusal::BadNumber));
+    assert_same(&rt, port(alloc, "1024"), Ok(1024));
+    assert_same(&rt, port(alloc, "65534"), Ok(65534));
+    assert_same(&rt, port(alloc, "0xfffe"), Ok(65534));
+    assert_same(&rt, port(alloc, "65535"), Err(Refusal::BadNumber));
+    assert_same(&rt, port(alloc, "x"), Err(Refusal::BadNumber));
 }
 
 #[test]
 fn port_of_serve_is_that_of_udp(rt: HostRuntime) {
     let alloc = rt.alloc();
     for text in ["1023", "65535", "x", "0x400g", ""] {
-        assert_eq!(rt;
-            port_of_serve(alloc, text),
-            Err(Refusal::BadNumber),
-            "{text:?}"
-        );
+        assert_same(&rt, port_of_serve(alloc, text), Err(Refusal::BadNumber));
     }
-    assert_eq!(rt; port_of_serve(alloc, "1024"), Ok(1024));
-    assert_eq!(rt; port_of_serve(alloc, "0xfffe"), Ok(65534));
+    assert_same(&rt, port_of_serve(alloc, "1024"), Ok(1024));
+    assert_same(&rt, port_of_serve(alloc, "0xfffe"), Ok(65534));
 }
 
 #[test]
@@ -157,62 +174,68 @@ fn packets_are_from_1_to_4294967295(rt: HostRuntime) {
         "1.5",
         "",
     ] {
-        assert_eq!(rt; packets(alloc, text), Err(Refusal::BadNumber), "{text:?}");
+        assert_same(&rt, packets(alloc, text), Err(Refusal::BadNumber));
     }
-    assert_eq!(rt; packets(alloc, "1"), Ok(Some(1)));
-    assert_eq!(rt; packets(alloc, "4294967295"), Ok(Some(4294967295)));
-    assert_eq!(rt; packets(alloc, "0xffffffff"), Ok(Some(4294967295)));
+    assert_same(&rt, packets(alloc, "1"), Ok(Some(1)));
+    assert_same(&rt, packets(alloc, "4294967295"), Ok(Some(4294967295)));
+    assert_same(&rt, packets(alloc, "0xffffffff"), Ok(Some(4294967295)));
 }
 
 #[test]
 fn a_bad_number_of_serve_is_found_beside_a_good_one(rt: HostRuntime) {
     let alloc = rt.alloc();
     let bad = Err(Refusal::BadNumber);
-    assert_eq!(rt;
+    assert_same(
+        &rt,
         read(
             alloc,
-            &["ecat", "serve", "s", "--port", "1", "--packets", "1"]
+            &["ecat", "serve", "s", "--port", "1", "--packets", "1"],
         ),
-        bad
+        bad,
     );
-    assert_eq!(rt;
+    assert_same(
+        &rt,
         read(
             alloc,
-            &["ecat", "serve", "s", "--port", "4000", "--packets", "0"]
+            &["ecat", "serve", "s", "--port", "4000", "--packets", "0"],
         ),
-        bad
+        bad,
     );
 }
 
 #[test]
 fn hexadecimal_digits_have_either_case(rt: HostRuntime) {
     let alloc = rt.alloc();
-    assert_eq!(rt;
+    assert_same(
+        &rt,
         numbers(alloc, "0xabcd", "0xABCD", "0xeF"),
-        Ok((43981, 43981, 239))
+        Ok((43981, 43981, 239)),
     );
-    assert_eq!(rt; numbers(alloc, "0x9", "0xa", "0xF"), Ok((9, 10, 15)));
+    assert_same(&rt, numbers(alloc, "0x9", "0xa", "0xF"), Ok((9, 10, 15)));
 }
 
 #[test]
 fn any_number_of_digits_is_read(rt: HostRuntime) {
     let alloc = rt.alloc();
-    assert_eq!(rt;
+    assert_same(
+        &rt,
         numbers(
             alloc,
             "000000000000000000000000065535",
             "0x00000000000000000000000000ffff",
-            "007"
+            "007",
         ),
-        Ok((65535, 65535, 7))
+        Ok((65535, 65535, 7)),
     );
-    assert_eq!(rt;
+    assert_same(
+        &rt,
         numbers(alloc, "999999999999999999999999999999", "0", "0"),
-        Err(Refusal::BadNumber)
+        Err(Refusal::BadNumber),
     );
-    assert_eq!(rt;
+    assert_same(
+        &rt,
         numbers(alloc, "0xffffffffffffffffffffffffffffff", "0", "0"),
-        Err(Refusal::BadNumber)
+        Err(Refusal::BadNumber),
     );
 }
 
@@ -222,35 +245,24 @@ fn other_forms_are_no_numbers(rt: HostRuntime) {
     for text in [
         "", "+1", "0x", "0X1", "0x+1", " 1", "1 ", "1_0", "1.0", "a", "0xg", "x1", "0x0x1", "one",
     ] {
-        assert_eq!(rt;
-            numbers(alloc, text, "0", "0"),
-            Err(Refusal::BadNumber),
-            "{text:?}"
-        );
-        assert_eq!(rt;
-            numbers(alloc, "0", text, "0"),
-            Err(Refusal::BadNumber),
-            "{text:?}"
-        );
-        assert_eq!(rt;
-            numbers(alloc, "0", "0", text),
-            Err(Refusal::BadNumber),
-            "{text:?}"
-        );
+        assert_same(&rt, numbers(alloc, text, "0", "0"), Err(Refusal::BadNumber));
+        assert_same(&rt, numbers(alloc, "0", text, "0"), Err(Refusal::BadNumber));
+        assert_same(&rt, numbers(alloc, "0", "0", text), Err(Refusal::BadNumber));
     }
 }
 
 #[test]
 fn digits_of_a_value_give_its_size(rt: HostRuntime) {
     let alloc = rt.alloc();
-    assert_eq!(rt; value(alloc, "0x02"), Ok(Some(Value::One(2))));
-    assert_eq!(rt; value(alloc, "0xFf"), Ok(Some(Value::One(255))));
-    assert_eq!(rt; value(alloc, "0x0002"), Ok(Some(Value::Two(2))));
-    assert_eq!(rt; value(alloc, "0xABcd"), Ok(Some(Value::Two(43981))));
-    assert_eq!(rt; value(alloc, "0x00000002"), Ok(Some(Value::Four(2))));
-    assert_eq!(rt;
+    assert_same(&rt, value(alloc, "0x02"), Ok(Some(Value::One(2))));
+    assert_same(&rt, value(alloc, "0xFf"), Ok(Some(Value::One(255))));
+    assert_same(&rt, value(alloc, "0x0002"), Ok(Some(Value::Two(2))));
+    assert_same(&rt, value(alloc, "0xABcd"), Ok(Some(Value::Two(43981))));
+    assert_same(&rt, value(alloc, "0x00000002"), Ok(Some(Value::Four(2))));
+    assert_same(
+        &rt,
         value(alloc, "0xffffffff"),
-        Ok(Some(Value::Four(4294967295)))
+        Ok(Some(Value::Four(4294967295))),
     );
 }
 
@@ -272,6 +284,6 @@ fn other_forms_are_no_values(rt: HostRuntime) {
         "+0x12",
         "0xg1",
     ] {
-        assert_eq!(rt; value(alloc, text), Err(Refusal::BadNumber), "{text:?}");
+        assert_same(&rt, value(alloc, text), Err(Refusal::BadNumber));
     }
 }
