@@ -8,7 +8,7 @@ use ec_app::Slave;
 use ec_app::roles::{ANSWER_MAILBOX, REQUEST_MAILBOX, is_answer_mailbox, is_request_mailbox};
 use ec_map::{MapFault, check as check_line, check_item};
 use ec_regs::{LONGEST_MAILBOX, SHORTEST_MAILBOX, SyncMan};
-use ec_ring::{Ring, Travel};
+use ec_ring::{Links, MAX_LINKS, Ring, Travel};
 use ecat_args::Args;
 use ecat_scene::{Scene, SceneFault, explained, odd_lines};
 use ecat_source::{Bytes, Source, SourceFault};
@@ -36,6 +36,13 @@ impl<S: Source> Fronted<S> {
     }
 }
 
+/// Keeps bytes as far as there is room.
+fn keep(front: &mut ArrayVec<u8, FRONT>, bytes: &[u8]) {
+    for byte in bytes {
+        let _ = front.try_push(*byte);
+    }
+}
+
 impl<S: Source> Source for Fronted<S> {
     ghost remaining = { λ s. S.remaining s.source };
 
@@ -43,9 +50,7 @@ impl<S: Source> Source for Fronted<S> {
 
     fn read(&mut self, into: &mut [u8]) -> Result<usize, SourceFault> {
         let count = self.source.read(into)?;
-        for byte in into.iter().take(count) {
-            let _ = self.front.try_push(*byte);
-        }
+        keep(&mut self.front, &into[..count]);
         Ok(count)
     }
 
@@ -221,8 +226,17 @@ fn unfit_length(manager: &SyncMan) -> Option<u16> {
 /// Is a link down before a slave, and another one behind it?
 fn is_cut_off(ring: &Ring, place: usize) -> bool {
     let links = ring.links();
-    let last = ring.slaves().len();
-    let is_before = (0..=place).any(|k| !links.is_up(k));
-    let is_behind = (place + 1..=last).any(|k| !links.is_up(k));
-    is_before && is_behind
+    let behind = place.saturating_add(1);
+    let end = ring.slaves().len().saturating_add(1);
+    is_any_down(&links, 0, behind) && is_any_down(&links, behind, end)
+}
+
+/// Is one of the links down from one number on and below another?
+fn is_any_down(links: &Links, from: usize, to: usize) -> bool {
+    for k in from..to {
+        if k < MAX_LINKS && !links.is_up(k) {
+            return true;
+        }
+    }
+    false
 }

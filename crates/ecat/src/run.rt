@@ -20,12 +20,12 @@ use std::io::Write;
 /// that the master writes. Applications act behind each step and behind the cycle. With `judge` the cycle is
 /// judged whatever the scene has, and what is in the way of a good verdict is printed. All memory is taken
 /// before anything is printed. Each copy of its frames is recorded, if anybody wants it.
-pub fn run<S, W, T, M>(
+pub fn run<'t, 'o, S, W, T, M>(
     alloc: Global,
     judge: bool,
-    recorder: &mut Recorder<T, M>,
+    recorder: &'t mut Recorder<T, M>,
     source: &mut S,
-    out: &mut W,
+    out: &'o mut W,
 ) -> Result<u8, Failure>
 where
     S: Source,
@@ -60,8 +60,9 @@ where
         );
     }
     let status = cycle(&mut ring, &mut work, weathers.as_slice(), &mut lines)?;
-    applications.act(&mut ring.ring);
-    print_areas(ring.ring.slaves(), &mut lines)?;
+    let mut ring = ring.ring;
+    applications.act(&mut ring);
+    print_areas(ring.slaves(), &mut lines)?;
     Ok(status)
 }
 
