@@ -1,6 +1,6 @@
 //! What applications put, and what is refused.
 
-use super::line::{applications, assert_inputs, count, mirror, ring};
+use super::line::{applications, assert_inputs, count, load_outputs, mirror, ring};
 use crate::{Application, Applications, Behaviour};
 use ec_ring::Ring;
 use std::process::Abort;
@@ -42,7 +42,7 @@ fn a_mirror_follows_what_its_application_is_shown(rt: HostRuntime) {
     let mut ring = ring(&rt, rt.alloc());
     let mut applications = applications(&rt, rt.alloc(), &[mirror(0)]);
     applications.act(&mut ring);
-    ring.slave_mut(0).controller_mut().load(0x1000, &[0x55]);
+    load_outputs(&rt, &mut ring, 0, &[0x55]);
     assert_inputs(&rt, &ring, 0, &[0xAB, 0xCD]);
     applications.act(&mut ring);
     assert_inputs(&rt, &ring, 0, &[0x55, 0xCD]);

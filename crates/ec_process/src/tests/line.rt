@@ -26,11 +26,11 @@ fn area(start: u16, length: u16, control: u8) -> SyncMan {
 /// bytes).
 fn slave(rt: &impl Abort, alloc: Global, station: u16, outputs: &[u8], inputs: u16) -> Slave {
     let mut slave = Slave::simple(alloc, station, Objects::new(), 0, inputs).expect(rt, "memory");
-    let controller = slave.controller_mut();
+    assert!(rt; outputs.len() < 0x100);
     let count = outputs.len() as u16;
+    let controller = slave.controller_mut();
     controller.set_syncman(2, &area(0x1000, count, MASTER_WRITES));
     controller.set_syncman(3, &area(0x1100, inputs, 0));
-    assert!(rt; outputs.len() < 0x100);
     controller.load(0x1000, outputs);
     slave
 }
@@ -80,7 +80,14 @@ pub fn applications(rt: &impl Abort, alloc: Global, these: &[Application]) -> Ap
 pub fn assert_inputs(rt: &impl Abort, ring: &Ring, place: usize, wanted: &[u8]) {
     let slaves = ring.slaves();
     let slave = slaves.get(place).expect(rt, "a slave");
+    assert!(rt; wanted.len() < 0x100);
     let count = wanted.len() as u16;
-    assert!(rt; count < 0x100);
     assert_eq!(rt; slave.controller().bytes(0x1100, count), wanted);
+}
+
+/// Loads bytes into a slave's outputs, from its first output on.
+pub fn load_outputs(rt: &impl Abort, ring: &mut Ring, place: usize, bytes: &[u8]) {
+    assert!(rt; place < ring.slaves().len());
+    assert!(rt; bytes.len() < 0x100);
+    ring.slave_mut(place).controller_mut().load(0x1000, bytes);
 }
