@@ -197,9 +197,7 @@ cycle that is not good, with the item that is short and where the cable is
 broken; of redundancy that is lost though cycles are good; and of a ring that
 is whole again. At the end it prints how many cycles were good, short, over and
 without a verdict, and the items with their last answers.
-With --outputs count the outputs are a number that grows by one each cycle. With
---outputs FILE each line of it has the data of all items that write, one after
-the other in hexadecimal digits, for one cycle; behind the last comes the first.
+With --outputs count the outputs are a number that grows by one each cycle.
 With --stop it ends at the first cycle that is not good. With --recover slaves
 that show an error, or came back in Init, are brought up again.
 
