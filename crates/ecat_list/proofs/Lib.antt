@@ -1,0 +1,2 @@
+mod StatsLemmas
+mod TallyLemmas

@@ -4,6 +4,7 @@ ghost use Rattle.std.specs.Prelude.{◌<◌, length};
 use crate::line::{CSV_HEAD, Head, Note, Since, Style, any_frame, put_datagrams, put_note};
 use crate::output::{Output, Stop};
 use crate::stats::{Key, Passed, Stats};
+use crate::tally::Came;
 use ec_wire::{Form as Carrier, FrameBuf};
 use ecat_capture::{
     Capture, CaptureFault, CaptureFaultKind, Packet, Payload, Time, frame_type, payload_of,
@@ -129,7 +130,7 @@ impl<'a, W: Write> Listing<'a, W> {
             output.text.extend_from_slice(CSV_HEAD)?;
         }
         let stats = if asked.form == Form::Stats {
-            Some(Stats::new(alloc)?)
+            Some(Stats::new(alloc))
         } else {
             None
         };
@@ -313,15 +314,19 @@ fn passed_of(frame: &FrameBuf, k: usize, packet: &Packet) -> Passed
     requires { k < length frame.now }
 {
     let time = packet.time;
+    let command = frame.command(k);
     Passed {
         key: Key {
-            command: frame.command(k),
+            code: command.code(),
             address: frame.address(k),
             length: frame.data(k).len() as u16,
             index: frame.index(k),
         },
-        counter: frame.counter(k),
-        packet: packet.number,
+        command,
+        came: Came {
+            counter: frame.counter(k),
+            packet: packet.number,
+        },
         time: time.map(nanoseconds_of),
         fine: time.is_some_and(|time| time.fine),
     }

@@ -1,25 +1,28 @@
 //! How often each datagram went by, with which counters and how far apart.
-ghost use Rattle.std.specs.Prelude.{◌<◌};
+
+ghost use Rattle.std.specs.Prelude.{◌≡◌, ◌<◌, [], ◌∷◌, ◌++◌, List, None, OnOk};
+ghost use Rattle.indexmap.specs.IndexMap.{index_map_len};
+ghost use Rattle.ecat_list.specs.declared.stats.Passed.{Passed};
+ghost use Rattle.ecat_list.specs.declared.stats.TheConstants.{MAX_GROUPS};
+ghost use Rattle.ecat_list.specs.declared.tally.Came.{Came};
+ghost use Rattle.ecat_list.specs.Stats.{IsTold, group_of};
+ghost use Rattle.ecat_list.specs.Tally.{IsTally};
 
 use crate::address::put_address;
+use crate::tally::{Came, Count, Tally};
 use crate::text::{put_byte, put_decimal, put_seconds};
 use ec_wire::Command;
+use indexmap::IndexMap;
 use std::alloc::{AllocError, Global};
 
 /// How many groups of datagrams are told apart.
 const MAX_GROUPS: usize = 4096;
 
-/// How many slots the table of groups has, twice as many.
-const SLOTS: usize = 8192;
-
-/// How many counters of a group are told apart.
-const MAX_COUNTERS: usize = 8;
-
 /// What datagrams of one group have in common.
-#[derive(Clone, Copy, Debug, PartialEq, Eq)]
+#[derive(Clone, Copy, Debug, PartialEq, Eq, Hash)]
 pub(crate) struct Key {
-    /// The command.
-    pub command: Command,
+    /// The code of the command.
+    pub code: u8,
     /// The address.
     pub address: u32,
     /// How many bytes of data.
@@ -33,22 +36,14 @@ pub(crate) struct Key {
 pub(crate) struct Passed {
     /// What it has in common with others.
     pub key: Key,
-    /// Its working counter.
-    pub counter: u16,
-    /// The number of its packet.
-    pub packet: u64,
+    /// Its command.
+    pub command: Command,
+    /// Its working counter, and its packet.
+    pub came: Came,
     /// When it was captured, in nanoseconds since the epoch.
     pub time: Option<u64>,
     /// Does the file count nanoseconds?
     pub fine: bool,
-}
-
-/// A counter that datagrams of a group came with.
-#[derive(Clone, Copy, Debug, PartialEq, Eq)]
-struct Count {
-    counter: u16,
-    times: u64,
-    first: u64,
 }
 
 /// The least and the greatest time between two datagrams of a group.
@@ -59,38 +54,31 @@ struct Gaps {
 }
 
 /// Datagrams that have their key in common.
-#[derive(Clone, Copy, Debug, PartialEq, Eq)]
+#[derive(Drop)]
 struct Group {
-    key: Key,
-    counts: [Count; MAX_COUNTERS],
-    used: usize,
-    others: u64,
+    command: Command,
+    tally: Tally,
     last: Option<u64>,
     gaps: Option<Gaps>,
     fine: bool,
 }
 
-/// The groups of the datagrams that went by.
+/// The groups of the datagrams that went by, in the order of their first datagrams, and how many datagrams of
+/// further groups were left out.
 #[derive(Drop)]
 pub(crate) struct Stats {
-    groups: Vec<Group>,
-    slots: Vec<u16>,
+    groups: IndexMap<Key, Group>,
     left_out: u64,
 }
 
 impl Group {
     /// A group of which nothing went by yet.
-    fn new(key: Key) -> Group {
-        let nothing = Count {
-            counter: 0,
-            times: 0,
-            first: 0,
-        };
+    fn new(command: Command) -> Group
+        ensures { IsTally [] result.tally }
+    {
         Group {
-            key,
-            counts: [nothing; MAX_COUNTERS],
-            used: 0,
-            others: 0,
+            command,
+            tally: Tally::new(),
             last: None,
             gaps: None,
             fine: false,
@@ -98,8 +86,11 @@ impl Group {
     }
 
     /// Takes a datagram of this group.
-    fn take(&mut self, passed: &Passed) {
-        self.count(passed.counter, passed.packet);
+    fn take(&mut self, passed: &Passed)
+        ensures { (all : List Came) → IsTally all self.old.tally
+            → IsTally (all ++ passed.now.came ∷ []) self.new.tally }
+    {
+        self.tally.count(passed.came);
         if let Some(time) = passed.time {
             self.gaps = gaps_with(self.gaps, self.last, time);
             self.last = Some(time);
@@ -107,73 +98,19 @@ impl Group {
         self.fine = passed.fine;
     }
 
-    /// Counts a counter.
-    fn count(&mut self, counter: u16, packet: u64) {
-        for k in 0..MAX_COUNTERS {
-            if k >= self.used {
-                self.counts[k] = Count {
-                    counter,
-                    times: 1,
-                    first: packet,
-                };
-                self.used = k + 1;
-                return;
-            }
-            if self.counts[k].counter == counter {
-                self.counts[k].times = self.counts[k].times.saturating_add(1);
-                return;
-            }
-        }
-        self.others = self.others.saturating_add(1);
-    }
-
-    /// The place of the counter that came most often, the first of several.
-    fn most_frequent(&self) -> usize
-        ensures { result < MAX_COUNTERS }
-    {
-        let mut best = 0;
-        for k in 1..MAX_COUNTERS {
-            if self.counts[best].times < self.counts[k].times {
-                best = k;
-            }
-        }
-        best
-    }
-
     /// Puts the line of this group.
-    fn put(&self, text: &mut Vec<u8>) -> Result<(), AllocError> {
-        text.extend_from_slice(self.key.command.name().as_bytes())?;
+    fn put(&self, text: &mut Vec<u8>, key: &Key) -> Result<(), AllocError> {
+        text.extend_from_slice(self.command.name().as_bytes())?;
         put_byte(text, b' ')?;
-        put_address(text, self.key.command, self.key.address)?;
+        put_address(text, self.command, key.address)?;
         put_byte(text, b' ')?;
-        put_decimal(text, u64::from(self.key.length))?;
+        put_decimal(text, u64::from(key.length))?;
         text.extend_from_slice(b" bytes: ")?;
-        self.put_counts(text)?;
+        put_counts(text, &self.tally)?;
         text.extend_from_slice(b", index ")?;
-        put_decimal(text, u64::from(self.key.index))?;
+        put_decimal(text, u64::from(key.index))?;
         self.put_gaps(text)?;
         put_byte(text, b'\n')
-    }
-
-    /// Puts how often each counter came: the most frequent one, and then the others with their first packet.
-    fn put_counts(&self, text: &mut Vec<u8>) -> Result<(), AllocError> {
-        let best = self.most_frequent();
-        put_count(text, self.counts[best])?;
-        for k in 0..MAX_COUNTERS {
-            if k != best && k < self.used {
-                text.extend_from_slice(b", ")?;
-                put_count(text, self.counts[k])?;
-                text.extend_from_slice(b" (first in packet ")?;
-                put_decimal(text, self.counts[k].first)?;
-                put_byte(text, b')')?;
-            }
-        }
-        if self.others > 0 {
-            text.extend_from_slice(b", ")?;
-            put_decimal(text, self.others)?;
-            text.extend_from_slice(b" of other counters")?;
-        }
-        Ok(())
     }
 
     /// Puts the least and the greatest time between two.
@@ -189,8 +126,45 @@ impl Group {
     }
 }
 
+/// Puts how often each counter came: the most frequent one, and then the others with their first packet.
+fn put_counts(text: &mut Vec<u8>, tally: &Tally) -> Result<(), AllocError> {
+    let told = tally.told();
+    let best = most_frequent(told);
+    if let Some(count) = told.get(best) {
+        put_count(text, count)?;
+    }
+    for k in 0..told.len() {
+        if k != best {
+            text.extend_from_slice(b", ")?;
+            put_count(text, &told[k])?;
+            text.extend_from_slice(b" (first in packet ")?;
+            put_decimal(text, told[k].first)?;
+            put_byte(text, b')')?;
+        }
+    }
+    if tally.others() > 0 {
+        text.extend_from_slice(b", ")?;
+        put_decimal(text, tally.others())?;
+        text.extend_from_slice(b" of other counters")?;
+    }
+    Ok(())
+}
+
+/// The place of the counter that came most often, the first of several.
+fn most_frequent(told: &[Count]) -> usize {
+    let mut best = 0;
+    let mut times = 0;
+    for (k, count) in told.iter().enumerate() {
+        if times < count.times {
+            best = k;
+            times = count.times;
+        }
+    }
+    best
+}
+
 /// Puts how often a counter came.
-fn put_count(text: &mut Vec<u8>, count: Count) -> Result<(), AllocError> {
+fn put_count(text: &mut Vec<u8>, count: &Count) -> Result<(), AllocError> {
     put_decimal(text, count.times)?;
     text.extend_from_slice(b" of wkc ")?;
     put_decimal(text, u64::from(count.counter))
@@ -214,79 +188,46 @@ fn gaps_with(gaps: Option<Gaps>, last: Option<u64>, time: u64) -> Option<Gaps> {
     }
 }
 
-/// The slot at which a key is looked for first.
-fn slot_of(key: &Key) -> usize {
-    let seed = u64::from(key.address)
-        .wrapping_mul(31)
-        .wrapping_add(u64::from(key.length))
-        .wrapping_mul(31)
-        .wrapping_add(u64::from(key.index))
-        .wrapping_mul(31)
-        .wrapping_add(u64::from(key.command.code()));
-    let mixed = seed.wrapping_mul(0x9e37_79b9_7f4a_7c15);
-    ((mixed >> 40) % (SLOTS as u64)) as usize
-}
-
 impl Stats {
     /// No datagram went by yet.
-    pub(crate) fn new(alloc: Global) -> Result<Stats, AllocError> {
-        Ok(Stats {
-            groups: Vec::new(alloc),
-            slots: Vec::from_elem(alloc, 0, SLOTS)?,
+    pub(crate) fn new(alloc: Global) -> Stats
+        ensures { IsTold [] result }
+    {
+        Stats {
+            groups: IndexMap::new(alloc),
             left_out: 0,
-        })
+        }
     }
 
     /// Takes a datagram, or counts it as left out where it is of a group past the 4,096th.
-    pub(crate) fn take(&mut self, passed: &Passed) -> Result<(), AllocError> {
-        let found = self.find(&passed.key)?;
-        match self.groups.get_mut(found) {
-            Some(group) => group.take(passed),
-            None => self.left_out = self.left_out.saturating_add(1),
+    pub(crate) fn take(&mut self, passed: &Passed) -> Result<(), AllocError>
+        ensures { OnOk result ((all : List Passed) → IsTold all self.old
+            → IsTold (all ++ passed.now ∷ []) self.new) }
+    {
+        if let Some(known) = self.groups.get_mut(&passed.key) {
+            known.take(passed);
+            return Ok(());
         }
+        if self.groups.len() < MAX_GROUPS {
+            return self.add(passed);
+        }
+        self.left_out = self.left_out.saturating_add(1);
         Ok(())
     }
 
-    /// The place of the group with this key, which is made where there is none; past all others where there
-    /// is no room.
-    fn find(&mut self, key: &Key) -> Result<usize, AllocError> {
-        let start = slot_of(key);
-        for probe in 0..SLOTS {
-            let slot = (start % SLOTS + probe) % SLOTS;
-            let Some(place) = self.slots.get(slot).copied() else {
-                return Ok(MAX_GROUPS);
-            };
-            if place == 0 {
-                return self.add(slot, key);
-            }
-            if self.has_key(place as usize - 1, key) {
-                return Ok(place as usize - 1);
-            }
+    /// Makes a group of a datagram that is of none yet.
+    fn add(&mut self, passed: &Passed) -> Result<(), AllocError>
+        requires absent { group_of self.old passed.now.key ≡ None }
+        requires room { index_map_len self.old.groups < MAX_GROUPS }
+        ensures { OnOk result ((all : List Passed) → IsTold all self.old
+            → IsTold (all ++ passed.now ∷ []) self.new) }
+    {
+        let mut group = Group::new(passed.command);
+        group.take(passed);
+        match self.groups.insert(passed.key, group) {
+            Ok(_) => Ok(()),
+            Err(_) => Err(AllocError),
         }
-        Ok(MAX_GROUPS)
-    }
-
-    /// Has the group at this place this key?
-    fn has_key(&self, place: usize, key: &Key) -> bool {
-        match self.groups.get(place) {
-            Some(group) => group.key == *key,
-            None => false,
-        }
-    }
-
-    /// Makes a group in a free slot, if there is room for one.
-    fn add(&mut self, slot: usize, key: &Key) -> Result<usize, AllocError> {
-        let place = self.groups.len();
-        if place >= MAX_GROUPS {
-            return Ok(MAX_GROUPS);
-        }
-        if self.groups.push(Group::new(*key)).is_err() {
-            return Err(AllocError);
-        }
-        if let Some(free) = self.slots.get_mut(slot) {
-            *free = (place + 1) as u16;
-        }
-        Ok(place)
     }
 
     /// How many groups there are.
@@ -296,8 +237,8 @@ impl Stats {
 
     /// Puts the line of a group.
     pub(crate) fn put(&self, text: &mut Vec<u8>, place: usize) -> Result<(), AllocError> {
-        match self.groups.get(place) {
-            Some(group) => group.put(text),
+        match self.groups.get_index(place) {
+            Some((key, group)) => group.put(text, key),
             None => Ok(()),
         }
     }

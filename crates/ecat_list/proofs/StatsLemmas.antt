@@ -1,0 +1,209 @@
+-- What is told of some datagrams becomes what is told of one more once this is taken.
+use Rattle.std.proofs.Common.{◌≡◌, ℕ, ◌+◌, ◌<◌, ◌≤◌, Bool, true, false, cond, not, ◌&&◌, eqb, filter, is_none}
+use Rattle.std.proofs.Common.{List, [], ◌∷◌, ◌++◌, map, count_by, Option, Some, None}
+use Rattle.std.proofs.Common.{refl, sym, ap, subst, ◌∙◌, arith}
+use Rattle.std.specs.Io.Iter.{u64_saturate}
+use Rattle.std.proofs.lemmas.Bool.{and_parts}
+use Rattle.std.proofs.lemmas.Bool.Decides.{nat_tests}
+use Rattle.std.proofs.lemmas.List.{append-nil, map-append}
+use Rattle.std.proofs.lemmas.List.Elements.{filter-append}
+use Rattle.indexmap.specs.IndexMap.{index_map_len}
+use Rattle.ecat_list.specs.Stats.{IsTold, datagrams_of, group_of, is_left_out, same_key}
+use Rattle.ecat_list.specs.Tally.{IsTally}
+use Rattle.ecat_list.specs.declared.stats.TheConstants.{MAX_GROUPS}
+use Rattle.ecat_list.specs.declared.stats.Group.{Group}
+use Rattle.ecat_list.specs.declared.stats.Key.{Key}
+use Rattle.ecat_list.specs.declared.stats.Passed.{Passed}
+use Rattle.ecat_list.specs.declared.stats.Stats.{Stats}
+use Rattle.ecat_list.specs.declared.tally.Came.{Came}
+use Rattle.ecat_list.proofs.TallyLemmas as tallies
+
+-- ---- keys
+
+-- numbers that are equal by test are equal
+same_number : (a b : ℕ) → eqb a b ≡ true → a ≡ b
+same_number a b e = grind (arith, nat_tests, e)
+
+-- keys that are the same in each part are one key
+key_is : (a b : Key) → same_key a b ≡ true → a ≡ b
+key_is a b e =
+    let index = eqb a.index b.index in
+    let length = eqb a.length b.length in
+    let address = eqb a.address b.address in
+    let code = and_parts (eqb a.code b.code) (address && (length && index)) e in
+    let rest = and_parts address (length && index) code.1 in
+    let last = and_parts length index rest.1 in
+    λ i. record {
+      code = same_number a.code b.code code.0 i;
+      address = same_number a.address b.address rest.0 i;
+      length = same_number a.length b.length last.0 i;
+      index = same_number a.index b.index last.1 i;
+    }
+
+-- a key is the same as itself
+key_itself : (a : Key) → same_key a a ≡ true
+key_itself a =
+    rw (itself a.code, itself a.address, itself a.length, itself a.index) refl
+  where
+    itself : (n : ℕ) → eqb n n ≡ true
+    itself n = grind (arith, nat_tests)
+
+-- ---- the datagrams of a key
+
+module _ (all : List Passed) (p : Passed) (key : Key) where
+  abbrev of_key : Passed → Bool
+  of_key x = same_key x.key key
+
+  split : datagrams_of key (all ++ p ∷ [])
+      ≡ datagrams_of key all ++ map (λ (x : Passed). x.came) (filter of_key (p ∷ []))
+  split = ap (map (λ (x : Passed). x.came)) (filter-append of_key all (p ∷ []))
+      ∙ map-append (λ (x : Passed). x.came) (filter of_key all) (filter of_key (p ∷ []))
+
+  -- one more of them
+  datagrams_more : same_key p.key key ≡ true
+      → datagrams_of key (all ++ p ∷ []) ≡ datagrams_of key all ++ p.came ∷ []
+  datagrams_more same = split
+      ∙ ap (λ b. datagrams_of key all ++ map (λ (x : Passed). x.came) (cond b (p ∷ []) [])) same
+
+  -- one more of another key
+  datagrams_same : same_key p.key key ≡ false → datagrams_of key (all ++ p ∷ []) ≡ datagrams_of key all
+  datagrams_same other = split
+      ∙ ap (λ b. datagrams_of key all ++ map (λ (x : Passed). x.came) (cond b (p ∷ []) [])) other
+      ∙ append-nil (datagrams_of key all)
+
+-- ---- what has no group
+
+-- where each datagram has a group, none has a key that has none
+nobody_has : (s : Stats) (key : Key) (all : List Passed) → count_by (is_left_out s) all ≡ 0
+    → group_of s key ≡ None → datagrams_of key all ≡ []
+nobody_has s key [] none absent = refl
+nobody_has s key (x ∷ xs) none absent =
+    by (same_key x.key key) refl (nobody_has s key xs (omega (arith, parted)) absent)
+  where
+    parted : cond (is_left_out s x) 1 0 + count_by (is_left_out s) xs ≡ 0
+    parted = sym (tallies.count_cons (is_left_out s) x xs) ∙ none
+
+    by : (b : Bool) → same_key x.key key ≡ b → datagrams_of key xs ≡ []
+        → map (λ (y : Passed). y.came) (cond b (x ∷ filter (λ y. same_key y.key key) xs)
+        (filter (λ y. same_key y.key key) xs)) ≡ []
+    by true e more =
+        let here : group_of s x.key ≡ None = ap (group_of s) (key_is x.key key e) ∙ absent in
+        absurd (omega (arith, parted, ap {B = ℕ} (λ (o : Option Group). cond (is_none o) 1 0) here))
+    by false e more = more
+
+-- a group more leaves at most as many without one
+fewer_left_out : (s later : Stats) → ((x : Passed) → is_left_out s x ≡ false → is_left_out later x ≡ false)
+    → (all : List Passed) → count_by (is_left_out s) all ≡ 0 → count_by (is_left_out later) all ≡ 0
+fewer_left_out s later keeps [] none = refl
+fewer_left_out s later keeps (x ∷ xs) none =
+    tallies.count_cons (is_left_out later) x xs
+    ∙ ap (λ b. cond b 1 0 + count_by (is_left_out later) xs) (keeps x (by (is_left_out s x) refl))
+    ∙ ap (λ n. 0 + n) (fewer_left_out s later keeps xs (omega (arith, parted)))
+  where
+    parted : cond (is_left_out s x) 1 0 + count_by (is_left_out s) xs ≡ 0
+    parted = sym (tallies.count_cons (is_left_out s) x xs) ∙ none
+
+    by : (b : Bool) → is_left_out s x ≡ b → is_left_out s x ≡ false
+    by true e = absurd (omega (arith, parted, ap {B = ℕ} (λ b. cond b 1 0) e))
+    by false e = e
+
+-- ---- one more is taken
+
+module _ (all : List Passed) (p : Passed) (s later : Stats) (h : IsTold all s) (w : Group)
+    (at : (key : Key) → group_of later key ≡ cond (same_key p.key key) (Some w) (group_of s key)) where
+  -- the groups of all, where the datagram's own group has its tally
+  groups_told : IsTally (datagrams_of p.key all ++ p.came ∷ []) w.tally → (key : Key) (g : Group)
+      → group_of later key ≡ Some g → IsTally (datagrams_of key (all ++ p ∷ [])) g.tally
+  groups_told own key g is = by (same_key p.key key) refl
+    where
+      some_is : (x y : Group) → Some x ≡ Some y → x ≡ y
+      some_is x y e = cc
+
+      by : (b : Bool) → same_key p.key key ≡ b → IsTally (datagrams_of key (all ++ p ∷ [])) g.tally
+      by true e =
+          let same : Some w ≡ Some g = sym (at key ∙ ap (λ b. cond b (Some w) (group_of s key)) e) ∙ is in
+          let group : w ≡ g = some_is w g same in
+          subst (λ (x : Group). IsTally (datagrams_of key (all ++ p ∷ [])) x.tally) group
+          (subst (λ xs. IsTally xs w.tally) (sym (datagrams_more all p key e))
+          (subst (λ k. IsTally (datagrams_of k all ++ p.came ∷ []) w.tally) (key_is p.key key e) own))
+      by false e =
+          let still : group_of s key ≡ Some g =
+          sym (at key ∙ ap (λ b. cond b (Some w) (group_of s key)) e) ∙ is in
+          subst (λ xs. IsTally xs g.tally) (sym (datagrams_same all p key e)) (h.groups key g still)
+
+  -- the datagram has a group now
+  has_one : is_left_out later p ≡ false
+  has_one = ap is_none (at p.key ∙ ap (λ b. cond b (Some w) (group_of s p.key)) (key_itself p.key))
+
+  -- what had one has one
+  keeps_one : (x : Passed) → is_left_out s x ≡ false → is_left_out later x ≡ false
+  keeps_one x e = ap is_none (at x.key) ∙ by (same_key p.key x.key)
+    where
+      by : (b : Bool) → is_none (cond b (Some w) (group_of s x.key)) ≡ false
+      by true = refl
+      by false = e
+
+  left_out_push : count_by (is_left_out later) (all ++ p ∷ []) ≡ count_by (is_left_out later) all
+  left_out_push = tallies.count_push (is_left_out later) all p
+      ∙ ap (λ b. count_by (is_left_out later) all + cond b 1 0) has_one ∙ omega arith
+
+  -- one more of a group that there is
+  pub told_again : (g : Group) → group_of s p.key ≡ Some g → later.left_out ≡ s.left_out
+      → index_map_len later.groups ≡ index_map_len s.groups
+      → ((xs : List Came) → IsTally xs g.tally → IsTally (xs ++ p.came ∷ []) w.tally)
+      → IsTold (all ++ p ∷ []) later
+  told_again g is left len counted =
+      record {
+        groups = groups_told (counted (datagrams_of p.key all) (h.groups p.key g is));
+        left_out = left ∙ h.left_out ∙ sym (ap u64_saturate as_many);
+        all_told = λ less. as_many ∙ h.all_told (subst (λ n. n < MAX_GROUPS) len less);
+      }
+    where
+      alike : (x : Passed) → is_left_out later x ≡ is_left_out s x
+      alike x = by (same_key p.key x.key) refl
+        where
+          by : (b : Bool) → same_key p.key x.key ≡ b → is_left_out later x ≡ is_left_out s x
+          by true e =
+              ap is_none (at x.key ∙ ap (λ b. cond b (Some w) (group_of s x.key)) e)
+              ∙ sym (ap is_none (sym (ap (group_of s) (key_is p.key x.key e)) ∙ is))
+          by false e = ap is_none (at x.key ∙ ap (λ b. cond b (Some w) (group_of s x.key)) e)
+
+      as_many : count_by (is_left_out later) (all ++ p ∷ []) ≡ count_by (is_left_out s) all
+      as_many = left_out_push ∙ tallies.count_alike (is_left_out later) (is_left_out s) alike all
+
+  -- the first of a group
+  pub told_first : group_of s p.key ≡ None → later.left_out ≡ s.left_out → index_map_len s.groups < MAX_GROUPS
+      → IsTally (p.came ∷ []) w.tally → IsTold (all ++ p ∷ []) later
+  told_first absent left room first =
+      record {
+        groups = groups_told (subst (λ xs. IsTally (xs ++ p.came ∷ []) w.tally)
+            (sym (nobody_has s p.key all none absent)) first);
+        left_out = left ∙ h.left_out ∙ ap u64_saturate (none ∙ sym still);
+        all_told = λ less. still;
+      }
+    where
+      none : count_by (is_left_out s) all ≡ 0
+      none = h.all_told room
+
+      still : count_by (is_left_out later) (all ++ p ∷ []) ≡ 0
+      still = left_out_push ∙ fewer_left_out s later keeps_one all none
+
+-- one more that has no group, and there is no room for one
+pub told_left_out : (all : List Passed) (p : Passed) (s : Stats) → IsTold all s → group_of s p.key ≡ None
+    → MAX_GROUPS ≤ index_map_len s.groups
+    → IsTold (all ++ p ∷ []) (record s { left_out = u64_saturate (s.left_out + 1) })
+told_left_out all p s h absent full =
+    record {
+      groups = λ key g is. by key g is (same_key p.key key) refl;
+      left_out = ap (λ n. u64_saturate (n + 1)) h.left_out ∙ tallies.saturated_more _
+          ∙ sym (ap u64_saturate (tallies.count_push (is_left_out s) all p
+          ∙ ap (λ o. count_by (is_left_out s) all + cond (is_none o) 1 0) absent));
+      all_told = λ less. absurd (omega (arith, full, less));
+    }
+  where
+    by : (key : Key) (g : Group) → group_of s key ≡ Some g → (b : Bool) → same_key p.key key ≡ b
+        → IsTally (datagrams_of key (all ++ p ∷ [])) g.tally
+    by key g is true e =
+        let wrong : None ≡ Some g = sym absent ∙ ap (group_of s) (key_is p.key key e) ∙ is in
+        absurd (cc)
+    by key g is false e = subst (λ xs. IsTally xs g.tally) (sym (datagrams_same all p key e)) (h.groups key g is)

@@ -1,0 +1,8 @@
+-- What a tally of working counters tells.
+use Rattle.std.specs.Prelude.{ℕ, List}
+use Rattle.ecat_list.specs.declared.tally.Count.{Count}
+
+-- counters apart, in the order in which they came first, and of how many datagrams the counter is another one
+pub record TallyRecord : Type 0 where
+  pub told : List Count
+  pub others : ℕ
