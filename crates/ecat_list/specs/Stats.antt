@@ -1,5 +1,5 @@
--- What is told of all datagrams that went by: a tally of each group of them, and how many were of further groups
--- than are told apart.
+-- What is told of all datagrams that went by: a tally of each group of them, and how many were of further
+-- groups than are told apart.
 use Rattle.std.specs.Prelude.{◌≡◌, ℕ, ◌<◌, ◌≤◌, Bool, ◌==◌, ◌&&◌, Option, Some, List, map, filter, count_by}
 use Rattle.std.specs.Prelude.{is_none}
 use Rattle.std.specs.Io.Iter.{u64_saturate}
@@ -29,8 +29,8 @@ datagrams_of key all = map (λ (p : Passed). p.came) (filter (λ (p : Passed). s
 abbrev pub is_left_out : Stats → Passed → Bool
 is_left_out s p = is_none (group_of s p.key)
 
--- each group that is told apart has the tally of its datagrams; the others are counted together, and there are
--- none before 4,096 groups are told apart
+-- each group that is told apart has the tally of its datagrams; the others are counted together, and there
+-- are none before 4,096 groups are told apart
 pub record IsTold (all : List Passed) (s : Stats) : Type 0 where
   pub groups : (key : Key) (g : Group) → group_of s key ≡ Some g → IsTally (datagrams_of key all) g.tally
   pub left_out : s.left_out ≡ u64_saturate (count_by (is_left_out s) all)

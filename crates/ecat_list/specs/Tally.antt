@@ -27,8 +27,8 @@ pub record IsCounted (all : List Came) (c : Count) : Type 0 where
 abbrev pub is_other : List Count → Came → Bool
 is_other told c = not (list_any (has_counter c.counter) told)
 
--- each counter that is told apart is counted; the others are counted together, and there are none before eight
--- are told apart
+-- each counter that is told apart is counted; the others are counted together, and there are none before
+-- eight are told apart
 pub record IsTally (all : List Came) (t : TallyRecord) : Type 0 where
   pub room : length t.told ≤ MAX_COUNTERS
   pub told : AllByRecursion (IsCounted all) t.told
