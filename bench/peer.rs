@@ -1,5 +1,6 @@
 //! The peer of the benchmark: the same works in plain Rust by hand, over plain bytes and with no proof. It is
-//! what a careful programmer writes who knows where each byte stands. Built by `rustc -O -C target-cpu=native`.
+//! what a careful programmer writes who knows where each byte stands. Built by
+//! `rustc -O -C target-cpu=native`.
 //!
 //! It prints a line for each work: its name and the picoseconds of one run, the best of many.
 

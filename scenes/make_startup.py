@@ -1,6 +1,7 @@
 #!/usr/bin/env python3
-"""Makes startup.pcap, the start-up of one slave and three cycles as a sniffer at the master's port sees them, and
-startup.out, the lines that `ecat show` prints of it. Each telegram stands twice: as it is sent, and as it comes back."""
+"""Makes startup.pcap, the start-up of one slave and three cycles as a sniffer at the master's port sees them,
+and startup.out, the lines that `ecat show` prints of it. Each telegram stands twice: as it is sent, and as it
+comes back."""
 import pathlib
 import struct
 
