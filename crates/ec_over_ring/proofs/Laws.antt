@@ -1,23 +1,36 @@
--- The laws that crates above cite: on one question over a ring, and on a state request.
-use Rattle.std.proofs.Common.{◌≡◌, ◌≤◌, ℕ, false, List, Result}
+-- The laws that crates above cite: on one question over a ring, on a state request and on transfers.
+use Rattle.std.proofs.Common.{◌≡◌, ◌≤◌, ℕ, true, false, List, Result, Ok, Some, ap, ◌∙◌}
 use Rattle.std.specs.List.{AllByRecursion}
 use Rattle.ec_regs.specs.declared.al.AlState.{AlState}
 use Rattle.ec_wire.specs.Datagram.{DatagramRecord}
 use Rattle.ec_esc.specs.Application.{al_status}
 use Rattle.ec_esc.specs.Pass.{pass}
 use Rattle.ec_esc.specs.State.{IsController}
+use Rattle.ec_app.specs.Objects.{object_at}
 use Rattle.ec_app.specs.State.{SlaveState}
+use Rattle.ec_app.specs.Value.{may_read, may_write, size_of}
+use Rattle.ec_app.specs.declared.objects.Entry.{Entry}
+use Rattle.ec_app.specs.declared.sdo.Sdo.{Sdo}
+use Rattle.ec_app.specs.declared.sdo.Sdo.TheVariants.{Upload, Download}
+use Rattle.ec_app.specs.declared.value.Rights.{Rights}
+use Rattle.ec_app.specs.declared.value.Value.{Value}
 use Rattle.ec_ring.specs.Ring.{RingState, line_of, stepped}
 use Rattle.ec_master.specs.RingTrips.{RingTrips}
 use Rattle.ec_master.specs.Travelled.{AtMostOneDown}
 use Rattle.ec_services.specs.Ask.{Answer, Asks}
+use Rattle.ec_services.specs.Mailbox.{skipped}
 use Rattle.ec_services.specs.States.{IsRequested}
+use Rattle.ec_services.specs.Transfer.{IsTransferred, uploaded_by, downloaded_by}
 use Rattle.ec_services.specs.declared.fault.MasterFault.{MasterFault}
+use Rattle.ec_services.specs.declared.mailbox.Peer.{Peer}
 use Rattle.ec_over_ring.specs.Question.{IsByStation, IsOther, ReachesOne, Tells, ring_after}
 use Rattle.ec_over_ring.specs.States.{HasStation, asked_slave, asked_ring, told_state}
+use Rattle.ec_over_ring.specs.Transfers.{HasPeer, IsAnswered, IsRequest, answered, answered_ring}
+use Rattle.ec_over_ring.specs.Transfers.{download_of, objects_after, two_steps, upload_of}
 use Rattle.ec_over_ring.proofs.QuestionLemmas as questions
 use Rattle.ec_over_ring.proofs.NobodyLemmas as nobody
 use Rattle.ec_over_ring.proofs.StateLemmas as states
+use Rattle.ec_over_ring.proofs.ObjectLemmas as objects
 
 -- the answer is the pass of the slave that is asked
 pub one_answer : (d : DatagramRecord) (r : RingState) (before behind : List SlaveState) (s : SlaveState)
@@ -78,3 +91,84 @@ pub state_ring : (station limit : ℕ) (state : AlState) (r : RingState) (before
     → later ≡ stepped (asked_ring station state r before s behind)
 state_ring station limit state r before behind s result later has controllers some talk =
     (states.requested station limit state r before s behind result later has controllers some talk).ring
+
+-- ---- transfers
+
+-- an upload comes to the object's value, or to the abort code that says why not
+pub upload_answered : (peer peer_later : Peer) (index sub limit : ℕ) (r : RingState)
+    (before behind : List SlaveState) (s : SlaveState) (result : Result Value MasterFault) (later : RingState)
+    → HasPeer peer r before s behind → IsRequest (Upload index sub) → 1 ≤ limit
+    → IsTransferred RingTrips r peer (Upload index sub) limit uploaded_by result peer_later later
+    → IsAnswered peer (Upload index sub) r before s behind (upload_of index sub s.application.objects) result
+    peer_later later
+upload_answered peer peer_later index sub limit r before behind s result later =
+    objects.uploaded peer peer_later index sub limit r before s behind result later
+
+-- a download comes to Ok, or to that code
+pub download_answered : (peer peer_later : Peer) (index sub : ℕ) (value : Value) (limit : ℕ) (r : RingState)
+    (before behind : List SlaveState) (s : SlaveState) (result : Result (Unit {0}) MasterFault)
+    (later : RingState)
+    → HasPeer peer r before s behind → IsRequest (Download index sub value) → 1 ≤ limit
+    → IsTransferred RingTrips r peer (Download index sub value) limit downloaded_by result peer_later later
+    → IsAnswered peer (Download index sub value) r before s behind
+    (download_of index sub value s.application.objects) result peer_later later
+download_answered peer peer_later index sub value limit r before behind s result later =
+    objects.downloaded peer peer_later index sub value limit r before s behind result later
+
+-- the objects then
+pub objects_answered : (peer : Peer) (asked : Sdo) (r : RingState) (before behind : List SlaveState)
+    (s : SlaveState) → HasPeer peer r before s behind → IsRequest asked
+    → (answered peer asked s).application.objects ≡ objects_after asked s.application.objects
+objects_answered peer asked r before behind s has fits =
+    (objects.slave_done peer asked r before s behind has fits).objects
+
+-- the next transfer finds what this one found
+pub answered_again : (peer : Peer) (asked : Sdo) (r : RingState) (before behind : List SlaveState)
+    (s : SlaveState) → HasPeer peer r before s behind → IsRequest asked
+    → HasPeer (skipped peer) (answered_ring peer asked r before s behind) (two_steps before)
+    (answered peer asked s) (two_steps behind)
+answered_again peer asked r before behind s = objects.ring_done peer asked r before s behind
+
+-- ---- the object that a transfer names
+
+-- one that may be read is read
+pub object_read : (peer peer_later : Peer) (index sub limit : ℕ) (r : RingState)
+    (before behind : List SlaveState) (s : SlaveState) (result : Result Value MasterFault) (later : RingState)
+    (rights : Rights) (value : Value)
+    → HasPeer peer r before s behind → IsRequest (Upload index sub) → 1 ≤ limit
+    → IsTransferred RingTrips r peer (Upload index sub) limit uploaded_by result peer_later later
+    → object_at index sub s.application.objects ≡ Some (rights, value) → may_read rights ≡ true
+    → result ≡ Ok value
+object_read peer peer_later index sub limit r before behind s result later rights value has fits some transfer
+    is may =
+    (objects.uploaded peer peer_later index sub limit r before s behind result later has fits some
+    transfer).result_is
+    ∙ objects.readable index sub s.application.objects rights value is may
+
+-- one that may be written takes a value of its length
+pub object_written : (peer peer_later : Peer) (index sub : ℕ) (value : Value) (limit : ℕ) (r : RingState)
+    (before behind : List SlaveState) (s : SlaveState) (result : Result (Unit {0}) MasterFault)
+    (later : RingState) (rights : Rights) (old : Value)
+    → HasPeer peer r before s behind → IsRequest (Download index sub value) → 1 ≤ limit
+    → IsTransferred RingTrips r peer (Download index sub value) limit downloaded_by result peer_later later
+    → object_at index sub s.application.objects ≡ Some (rights, old) → may_write rights ≡ true
+    → size_of value ≡ size_of old
+    → result ≡ Ok tt
+object_written peer peer_later index sub value limit r before behind s result later rights old has fits some
+    transfer is may size =
+    (objects.downloaded peer peer_later index sub value limit r before s behind result later has fits some
+    transfer).result_is
+    ∙ objects.writable index sub s.application.objects rights value old is may size
+
+-- and holds it then
+pub object_holds : (peer : Peer) (index sub : ℕ) (value : Value) (r : RingState)
+    (before behind : List SlaveState) (s : SlaveState) (rights : Rights) (old : Value)
+    → HasPeer peer r before s behind → IsRequest (Download index sub value)
+    → object_at index sub s.application.objects ≡ Some (rights, old) → may_write rights ≡ true
+    → size_of value ≡ size_of old
+    → object_at index sub (answered peer (Download index sub value) s).application.objects
+    ≡ Some (rights, value)
+object_holds peer index sub value r before behind s rights old has fits is may size =
+    ap (λ (es : List Entry). object_at index sub es)
+    (objects.slave_done peer (Download index sub value) r before s behind has fits).objects
+    ∙ objects.holds_value index sub s.application.objects rights value old is may size

@@ -12,4 +12,14 @@ pub mod MailLemmas
 pub mod TalkLemmas
 pub mod StationLemmas
 pub mod StateLemmas
+pub mod ManagerLemmas
+pub mod SpellingLemmas
+pub mod BytesLemmas
+pub mod AnswerLemmas
+pub mod MailboxLemmas
+pub mod StepLemmas
+pub mod SlaveLemmas
+pub mod PeerLemmas
+pub mod TransferLemmas
+pub mod ObjectLemmas
 pub mod Laws

@@ -13,10 +13,15 @@
 //! - `no_station`: a question to a station that no slave has comes back as it was sent;
 //! - `states_over_ring`: a state request ([`ec_services::request_state`]) comes to what AL status of that
 //!   slave tells once it took the step after the write: the state that was asked for, or Refused and its
-//!   code.
+//!   code;
+//! - `transfers_over_ring`: an object that is read or written ([`ec_services::sdo_upload`] and
+//!   [`ec_services::sdo_download`]) comes to its value, to Ok, or to the abort code that says why not, and
+//!   the law applies again to the next transfer;
+//! - `objects_over_ring`: an object that may be read is read, and one that may be written holds the value.
 //!
 //! The definitions are in specs/: `Question`, who is asked and what an answer carries; `States`, a station
-//! that one slave has, and what a state request comes to.
+//! that one slave has, and what a state request comes to; `Transfers`, a slave that takes a peer's next
+//! request, and what a transfer comes to.
 
 pub mod promises;
 #[cfg(test)]

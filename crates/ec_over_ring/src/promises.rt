@@ -1,21 +1,32 @@
 //! The laws of services over a ring, each the contract of a function that does nothing.
 
-ghost use Rattle.std.specs.Prelude.{◌≡◌, ◌≤◌, ℕ, false, List, Result};
+ghost use Rattle.std.specs.Prelude.{◌≡◌, ◌≤◌, ℕ, true, false, List, Result, Ok, Some};
 ghost use Rattle.std.specs.List.{AllByRecursion};
 ghost use Rattle.ec_regs.specs.declared.al.AlState.{AlState};
 ghost use Rattle.ec_wire.specs.Datagram.{DatagramRecord};
 ghost use Rattle.ec_esc.specs.Application.{al_status};
 ghost use Rattle.ec_esc.specs.Pass.{pass};
 ghost use Rattle.ec_esc.specs.State.{IsController};
+ghost use Rattle.ec_app.specs.Objects.{object_at};
 ghost use Rattle.ec_app.specs.State.{SlaveState};
+ghost use Rattle.ec_app.specs.Value.{may_read, may_write, size_of};
+ghost use Rattle.ec_app.specs.declared.sdo.Sdo.{Sdo};
+ghost use Rattle.ec_app.specs.declared.sdo.Sdo.TheVariants.{Upload, Download};
+ghost use Rattle.ec_app.specs.declared.value.Rights.{Rights};
+ghost use Rattle.ec_app.specs.declared.value.Value.{Value};
 ghost use Rattle.ec_ring.specs.Ring.{RingState, line_of, stepped};
 ghost use Rattle.ec_master.specs.RingTrips.{RingTrips};
 ghost use Rattle.ec_master.specs.Travelled.{AtMostOneDown};
 ghost use Rattle.ec_services.specs.Ask.{Answer, Asks};
+ghost use Rattle.ec_services.specs.Mailbox.{skipped};
 ghost use Rattle.ec_services.specs.States.{IsRequested};
+ghost use Rattle.ec_services.specs.Transfer.{IsTransferred, uploaded_by, downloaded_by};
 ghost use Rattle.ec_services.specs.declared.fault.MasterFault.{MasterFault};
+ghost use Rattle.ec_services.specs.declared.mailbox.Peer.{Peer};
 ghost use Rattle.ec_over_ring.specs.Question.{IsByStation, IsOther, ReachesOne, Tells, ring_after};
 ghost use Rattle.ec_over_ring.specs.States.{HasStation, asked_slave, asked_ring, told_state};
+ghost use Rattle.ec_over_ring.specs.Transfers.{HasPeer, IsAnswered, IsRequest, answered, answered_ring};
+ghost use Rattle.ec_over_ring.specs.Transfers.{download_of, objects_after, two_steps, upload_of};
 
 /// A datagram that names its slave by station address, not circulating, goes out alone in a frame over a ring
 /// with at most one link down, and one slave alone may have that station: what the question answers is that
@@ -68,4 +79,65 @@ pub fn states_over_ring()
         → AllByRecursion IsController (line_of (asked_ring station state r before s behind))
         → 1 ≤ limit → IsRequested RingTrips r station state limit result later
         → later ≡ stepped (asked_ring station state r before s behind) }
+{}
+
+/// An object of one slave is read or written over a ring with at most one link down (`sdo_upload` and
+/// `sdo_download`), where that slave alone has the station, is in Pre-Op or above, and has the peer's areas
+/// as its two mailboxes, both empty; the mail that it took last has another counter than the peer's, and at
+/// least one read is allowed. The others may have whatever to do. Then the first read of the mailbox finds
+/// the answer: an upload comes to the object's value, a download to Ok, or each to the abort code that says
+/// why not. Only a download that comes to Ok changes objects, and only the one that it names. The peer's
+/// counter moves on, every slave took two steps, and all that is asked for here holds again for the next
+/// transfer.
+pub fn transfers_over_ring()
+    ensures upload { (peer peer_later : Peer) (index sub limit : ℕ) (r : RingState)
+        (before behind : List SlaveState) (s : SlaveState) (result : Result Value MasterFault)
+        (later : RingState)
+        → HasPeer peer r before s behind → IsRequest (Upload index sub) → 1 ≤ limit
+        → IsTransferred RingTrips r peer (Upload index sub) limit uploaded_by result peer_later later
+        → IsAnswered peer (Upload index sub) r before s behind (upload_of index sub s.application.objects)
+        result peer_later later }
+    ensures download { (peer peer_later : Peer) (index sub : ℕ) (value : Value) (limit : ℕ) (r : RingState)
+        (before behind : List SlaveState) (s : SlaveState) (result : Result (Unit {0}) MasterFault)
+        (later : RingState)
+        → HasPeer peer r before s behind → IsRequest (Download index sub value) → 1 ≤ limit
+        → IsTransferred RingTrips r peer (Download index sub value) limit downloaded_by result peer_later
+        later
+        → IsAnswered peer (Download index sub value) r before s behind
+        (download_of index sub value s.application.objects) result peer_later later }
+    ensures objects { (peer : Peer) (asked : Sdo) (r : RingState) (before behind : List SlaveState)
+        (s : SlaveState) → HasPeer peer r before s behind → IsRequest asked
+        → (answered peer asked s).application.objects ≡ objects_after asked s.application.objects }
+    ensures again { (peer : Peer) (asked : Sdo) (r : RingState) (before behind : List SlaveState)
+        (s : SlaveState) → HasPeer peer r before s behind → IsRequest asked
+        → HasPeer (skipped peer) (answered_ring peer asked r before s behind) (two_steps before)
+        (answered peer asked s) (two_steps behind) }
+{}
+
+/// Over such a ring an upload of an object that may be read is Ok of its value; a download to an object that
+/// may be written, of a value of its length, is Ok, and the object holds that value then.
+pub fn objects_over_ring()
+    ensures read { (peer peer_later : Peer) (index sub limit : ℕ) (r : RingState)
+        (before behind : List SlaveState) (s : SlaveState) (result : Result Value MasterFault)
+        (later : RingState) (rights : Rights) (value : Value)
+        → HasPeer peer r before s behind → IsRequest (Upload index sub) → 1 ≤ limit
+        → IsTransferred RingTrips r peer (Upload index sub) limit uploaded_by result peer_later later
+        → object_at index sub s.application.objects ≡ Some (rights, value) → may_read rights ≡ true
+        → result ≡ Ok value }
+    ensures written { (peer peer_later : Peer) (index sub : ℕ) (value : Value) (limit : ℕ) (r : RingState)
+        (before behind : List SlaveState) (s : SlaveState) (result : Result (Unit {0}) MasterFault)
+        (later : RingState) (rights : Rights) (old : Value)
+        → HasPeer peer r before s behind → IsRequest (Download index sub value) → 1 ≤ limit
+        → IsTransferred RingTrips r peer (Download index sub value) limit downloaded_by result peer_later
+        later
+        → object_at index sub s.application.objects ≡ Some (rights, old) → may_write rights ≡ true
+        → size_of value ≡ size_of old
+        → result ≡ Ok tt }
+    ensures holds { (peer : Peer) (index sub : ℕ) (value : Value) (r : RingState)
+        (before behind : List SlaveState) (s : SlaveState) (rights : Rights) (old : Value)
+        → HasPeer peer r before s behind → IsRequest (Download index sub value)
+        → object_at index sub s.application.objects ≡ Some (rights, old) → may_write rights ≡ true
+        → size_of value ≡ size_of old
+        → object_at index sub (answered peer (Download index sub value) s).application.objects
+        ≡ Some (rights, value) }
 {}
