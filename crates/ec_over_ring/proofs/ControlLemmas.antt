@@ -1,11 +1,13 @@
 -- AL control is written by station: the slave that is meant counts it, and finds it as it was sent.
 use Rattle.std.proofs.Common.{◌≡◌, ℕ, zero, suc, ◌+◌, ◌*◌, ◌/◌, ◌-◌, ◌<◌, Bool, true, false, cond, eqb}
 use Rattle.std.proofs.Common.{ltb, leb, ◌&&◌, ◌||◌, List, [], ◌∷◌, length, get_or, Option, None, Some}
-use Rattle.std.proofs.Common.{refl, sym, ap, ◌∙◌, arith, subst}
+use Rattle.std.proofs.Common.{refl, sym, ap, ◌∙◌, arith, subst, ◌≤◌, ⊎_elim}
 use Rattle.std.specs.Prelude.{not}
 use Rattle.std.specs.Option.{is_some, IsSome}
 use Rattle.std.proofs.Math.Bool.{or-true}
+use Rattle.std.proofs.lemmas.Bool.{cases_lt}
 use Rattle.std.proofs.lemmas.Bool.Decides.{nat_tests}
+use Rattle.std.proofs.lemmas.List.{get_or_past}
 use Rattle.std.proofs.lemmas.List.FromFn.{length-map-range_with_len, get_or-map-range_with_len}
 use Rattle.std.proofs.lemmas.Nat.Bits.{same_from_bits_below}
 use Rattle.ec_regs.specs.Bits.{AreBytes, with_bits}
@@ -22,7 +24,9 @@ use Rattle.ec_esc.specs.State.{ControllerState, IsController, word_at}
 use Rattle.ec_esc.specs.Writing.{settled, settled_byte}
 use Rattle.ec_esc.specs.Pass.{Effect, nothing, where_served, effect, applied, range_taken, range_targets}
 use Rattle.ec_esc.specs.Pass.{is_written, written_places, touches, serves_range_write, pass}
+use Rattle.ec_esc.proofs.Laws.{length-shown_after}
 use Rattle.ec_services.specs.Ask.{request}
+use Rattle.ec_over_ring.proofs.MailboxLemmas.{bytes_shown, either_small}
 use Rattle.ec_over_ring.proofs.RegisterLemmas.{unlocked, none_filled}
 
 -- ---- what the write does
@@ -207,3 +211,41 @@ control_station c address control controller meant place =
     ap (λ (e : Effect). word_at (applied e c d).state.memory STATION_ADDRESS)
     (control_effect c address meant place)
     ∙ omega (arith, low, high)
+
+-- and a controller stays one
+bytes_settled : (before after : List ℕ) → AreBytes after → AreBytes (settled before after)
+unfolding settled
+bytes_settled before after bytes k =
+    ⊎_elim
+    (λ (inside : k < length after).
+    subst (λ (x : ℕ). x < 256)
+    (sym (get_or-map-range_with_len (settled_byte before after) 0 (length after) k k 0 (omega arith)
+    (omega (arith, inside))))
+    (either_small _ 0 (get_or after k 0) (omega arith) (bytes k)))
+    (λ (past : length after ≤ k).
+    let size : length (settled before after) ≡ length after = settled_size before after in
+    let none : get_or (settled before after) k 0 ≡ 0 =
+    get_or_past (settled before after) k 0 (omega (arith, size, past)) in
+    omega (arith, none))
+    (cases_lt k (length after))
+
+pub control_controller : (c : ControllerState) (address control : ℕ) → IsController c
+    → eqb (adp_of address) (word_at c.memory STATION_ADDRESS) ≡ true → ado_of address ≡ AL_CONTROL
+    → IsController (pass c (request Fpwr address (control ∷ 0 ∷ []))).state
+unfolding pass write_effect
+control_controller c address control controller meant place =
+    let payload : List ℕ = control ∷ 0 ∷ [] in
+    let d : DatagramRecord = request Fpwr address payload in
+    let P : Effect → Type 0 = λ e. IsController (applied e c d).state in
+    let places : ℕ → Option ℕ = written_places c.memory 288 2 in
+    let new : List ℕ = with_bits c.memory payload places in
+    let size : length new ≡ MEMORY_SIZE = length-with_bits c.memory payload places ∙ controller.memory_size in
+    let memory : List ℕ = settled c.memory new in
+    let bytes : AreBytes memory = bytes_settled c.memory new (AreBytes-with_bits c.memory payload places) in
+    subst P (sym (control_effect c address meant place))
+    (record {
+      memory_size = settled_size c.memory new ∙ size;
+      memory = bytes;
+      shown_size = length-shown_after _ _ _ memory c.shown ∙ controller.shown_size;
+      shown = bytes_shown _ _ _ memory c.shown bytes controller.shown;
+    })

@@ -5,7 +5,6 @@ use Rattle.ec_regs.specs.declared.al.AlState.{AlState}
 use Rattle.ec_wire.specs.Datagram.{DatagramRecord}
 use Rattle.ec_esc.specs.Application.{al_status}
 use Rattle.ec_esc.specs.Pass.{pass}
-use Rattle.ec_esc.specs.State.{IsController}
 use Rattle.ec_app.specs.Objects.{object_at}
 use Rattle.ec_app.specs.State.{SlaveState}
 use Rattle.ec_app.specs.Value.{may_read, may_write, size_of}
@@ -25,7 +24,7 @@ use Rattle.ec_services.specs.declared.fault.MasterFault.{MasterFault}
 use Rattle.ec_services.specs.declared.mailbox.Peer.{Peer}
 use Rattle.ec_over_ring.specs.Question.{IsByStation, IsOther, ReachesOne, Tells, ring_after}
 use Rattle.ec_over_ring.specs.States.{HasStation, asked_slave, asked_ring, told_state}
-use Rattle.ec_over_ring.specs.Transfers.{HasPeer, IsAnswered, IsRequest, answered, answered_ring}
+use Rattle.ec_over_ring.specs.Transfers.{HasPeer, IsAnswered, IsRequest, IsSlave, answered, answered_ring}
 use Rattle.ec_over_ring.specs.Transfers.{download_of, objects_after, two_steps, upload_of}
 use Rattle.ec_over_ring.proofs.QuestionLemmas as questions
 use Rattle.ec_over_ring.proofs.NobodyLemmas as nobody
@@ -68,11 +67,12 @@ unanswered_ring d r answer later down asked others asks =
 pub state_told : (station limit : ℕ) (state : AlState) (r : RingState) (before behind : List SlaveState)
     (s : SlaveState) (result : Result (Unit {0}) MasterFault) (later : RingState)
     → HasStation station r before s behind
-    → AllByRecursion IsController (line_of (asked_ring station state r before s behind))
+    → AllByRecursion IsSlave r.slaves
     → 1 ≤ limit → IsRequested RingTrips r station state limit result later
     → result ≡ told_state (asked_slave station state s).controller
-state_told station limit state r before behind s result later has controllers some talk =
-    (states.requested station limit state r before s behind result later has controllers some talk).result_is
+state_told station limit state r before behind s result later has slaves some talk =
+    (states.requested station limit state r before s behind result later has
+    (states.slaves_between station state r before s behind has slaves) some talk).result_is
 
 -- without an error the slave is in the state that was asked for
 pub state_entered : (station : ℕ) (state : AlState) (r : RingState) (before behind : List SlaveState)
@@ -86,11 +86,12 @@ state_entered station state r before behind s has none =
 pub state_ring : (station limit : ℕ) (state : AlState) (r : RingState) (before behind : List SlaveState)
     (s : SlaveState) (result : Result (Unit {0}) MasterFault) (later : RingState)
     → HasStation station r before s behind
-    → AllByRecursion IsController (line_of (asked_ring station state r before s behind))
+    → AllByRecursion IsSlave r.slaves
     → 1 ≤ limit → IsRequested RingTrips r station state limit result later
     → later ≡ stepped (asked_ring station state r before s behind)
-state_ring station limit state r before behind s result later has controllers some talk =
-    (states.requested station limit state r before s behind result later has controllers some talk).ring
+state_ring station limit state r before behind s result later has slaves some talk =
+    (states.requested station limit state r before s behind result later has
+    (states.slaves_between station state r before s behind has slaves) some talk).ring
 
 -- ---- transfers
 

@@ -308,11 +308,11 @@ bytes_set m a v bytes small k =
     (cases_eq k a)
 
 -- shown bytes are bytes behind a write
-either_small : (b : Bool) (x y : ℕ) → x < 256 → y < 256 → cond b x y < 256
+pub either_small : (b : Bool) (x y : ℕ) → x < 256 → y < 256 → cond b x y < 256
 either_small true x y first second = first
 either_small false x y first second = second
 
-bytes_shown : (test : ℕ → Bool) (before after : List SyncMan) (m shown : List ℕ) → AreBytes m → AreBytes shown
+pub bytes_shown : (test : ℕ → Bool) (before after : List SyncMan) (m shown : List ℕ) → AreBytes m → AreBytes shown
     → AreBytes (shown_after test before after m shown)
 bytes_shown test before after m shown bytes are k =
     ⊎_elim

@@ -30,13 +30,16 @@ use Rattle.ec_services.specs.declared.fault.MasterFault.{MasterFault}
 use Rattle.ec_services.specs.declared.fault.MasterFault.TheVariants.{NoSlave, BadAnswer, Refused, NoAnswer}
 use Rattle.ec_over_ring.specs.Question.{Tells, ReachesOne, after_question}
 use Rattle.ec_over_ring.specs.States.{HasStation, asked_slave, asked_ring, told_state}
+use Rattle.ec_over_ring.specs.Transfers.{IsSlave}
 use Rattle.ec_over_ring.proofs.AlLemmas.{Stands, IsTold, al_stands}
-use Rattle.ec_over_ring.proofs.ControlLemmas.{HasControl, control_written, control_counted, control_station}
+use Rattle.ec_over_ring.proofs.ControlLemmas.{HasControl, control_controller, control_counted}
+use Rattle.ec_over_ring.proofs.ControlLemmas.{control_station, control_written}
 use Rattle.ec_over_ring.proofs.MailLemmas.{mail_step_same}
 use Rattle.ec_over_ring.proofs.QuestionLemmas.{asked_alone}
 use Rattle.ec_over_ring.proofs.RegisterLemmas.{registers_read}
 use Rattle.ec_over_ring.proofs.StationLemmas.{parts_of, ado_is, reaches, meant, has_later}
 use Rattle.ec_over_ring.proofs.TalkLemmas.{IsBegun, begun, goes_on, decided_as, ends}
+use Rattle.ec_over_ring.proofs.TransferLemmas.{have_controllers, one_of, slaves_later}
 
 -- ---- what an answer decides
 
@@ -297,3 +300,21 @@ requested station (suc n) state r before s behind result later has controllers s
     (read.decides ∙ stands_decide state (get_or one.controller.memory AL_STATUS 0)
     (word_at one.controller.memory AL_STATUS_CODE) (status_stands station state r before s behind has)) in
     record { result_is = end.0; ring = end.1 ∙ read.ring }
+
+-- each slave stays one behind the write
+pub slaves_between : (station : ℕ) (state : AlState) (r : RingState) (before : List SlaveState)
+    (s : SlaveState) (behind : List SlaveState) → HasStation station r before s behind
+    → AllByRecursion IsSlave r.slaves
+    → AllByRecursion IsController (line_of (asked_ring station state r before s behind))
+slaves_between station state r before s behind has slaves =
+    let d : DatagramRecord = control_write station state in
+    let own : IsSlave s =
+    one_of before s behind (subst (λ (ss : List SlaveState). AllByRecursion IsSlave ss) has.slaves slaves) in
+    have_controllers (asked_ring station state r before s behind).slaves
+    (slaves_later d r before s behind has.slaves slaves
+    (record {
+      controller = control_controller s.controller (address_of station AL_CONTROL) (code_of state + 16)
+          own.controller (meant station AL_CONTROL r before s behind has)
+          (ado_is station AL_CONTROL has.address);
+      values = own.values;
+    }))

@@ -55,7 +55,7 @@ one_other : (before : List SlaveState) (s t : SlaveState) (behind : List SlaveSt
 one_other [] s t behind all is = (is, all.1)
 one_other (x ∷ before) s t behind all is = (all.0, one_other before s t behind all.1 is)
 
-one_of : (before : List SlaveState) (s : SlaveState) (behind : List SlaveState)
+pub one_of : (before : List SlaveState) (s : SlaveState) (behind : List SlaveState)
     → AreSlaves (before ++ s ∷ behind) → IsSlave s
 one_of [] s behind all = all.0
 one_of (x ∷ before) s behind all = one_of before s behind all.1
@@ -66,7 +66,7 @@ steps [] all = tt
 steps (s ∷ ss) all = (step_slave s all.0, steps ss all.1)
 
 -- and has a controller
-have_controllers : (ss : List SlaveState) → AreSlaves ss → AllByRecursion IsController (controllers ss)
+pub have_controllers : (ss : List SlaveState) → AreSlaves ss → AllByRecursion IsController (controllers ss)
 have_controllers [] all = tt
 have_controllers (s ∷ ss) all = (all.0.controller, have_controllers ss all.1)
 
@@ -165,7 +165,7 @@ first_trip peer asked r before s behind answer between has fits asks =
 -- ---- the ring between both
 
 -- slaves and station behind a question to the one
-slaves_later : (d : DatagramRecord) (r : RingState) (before : List SlaveState) (s : SlaveState)
+pub slaves_later : (d : DatagramRecord) (r : RingState) (before : List SlaveState) (s : SlaveState)
     (behind : List SlaveState) → r.slaves ≡ before ++ s ∷ behind → AreSlaves r.slaves
     → IsSlave (after_question d s) → AreSlaves (ring_after d r before s behind).slaves
 slaves_later d r before s behind are all one =

@@ -6,7 +6,6 @@ ghost use Rattle.ec_regs.specs.declared.al.AlState.{AlState};
 ghost use Rattle.ec_wire.specs.Datagram.{DatagramRecord};
 ghost use Rattle.ec_esc.specs.Application.{al_status};
 ghost use Rattle.ec_esc.specs.Pass.{pass};
-ghost use Rattle.ec_esc.specs.State.{IsController};
 ghost use Rattle.ec_app.specs.Objects.{object_at};
 ghost use Rattle.ec_app.specs.State.{SlaveState};
 ghost use Rattle.ec_app.specs.Value.{may_read, may_write, size_of};
@@ -25,7 +24,7 @@ ghost use Rattle.ec_services.specs.declared.fault.MasterFault.{MasterFault};
 ghost use Rattle.ec_services.specs.declared.mailbox.Peer.{Peer};
 ghost use Rattle.ec_over_ring.specs.Question.{IsByStation, IsOther, ReachesOne, Tells, ring_after};
 ghost use Rattle.ec_over_ring.specs.States.{HasStation, asked_slave, asked_ring, told_state};
-ghost use Rattle.ec_over_ring.specs.Transfers.{HasPeer, IsAnswered, IsRequest, answered, answered_ring};
+ghost use Rattle.ec_over_ring.specs.Transfers.{HasPeer, IsAnswered, IsRequest, IsSlave, answered, answered_ring};
 ghost use Rattle.ec_over_ring.specs.Transfers.{download_of, objects_after, two_steps, upload_of};
 
 /// A datagram that names its slave by station address, not circulating, goes out alone in a frame over a ring
@@ -60,13 +59,13 @@ pub fn no_station()
 /// and at least one read is allowed (`request_state`): AL control is written to it, every slave takes its
 /// step, and what the slave's AL status tells then is the result, Refused with its code where an error
 /// stands. Without an error it is in the state that was asked for. Behind the read every slave took one step
-/// more, and nothing else has changed. (That the line behind the write is one of controllers is known of
-/// every ring: `ec_check::are_controllers`.)
+/// more, and nothing else has changed. The other slaves may have whatever to do; the values of all objects
+/// fit their bytes.
 pub fn states_over_ring()
     ensures result { (station limit : ℕ) (state : AlState) (r : RingState) (before behind : List SlaveState)
         (s : SlaveState) (result : Result (Unit {0}) MasterFault) (later : RingState)
         → HasStation station r before s behind
-        → AllByRecursion IsController (line_of (asked_ring station state r before s behind))
+        → AllByRecursion IsSlave r.slaves
         → 1 ≤ limit → IsRequested RingTrips r station state limit result later
         → result ≡ told_state (asked_slave station state s).controller }
     ensures entered { (station : ℕ) (state : AlState) (r : RingState) (before behind : List SlaveState)
@@ -76,7 +75,7 @@ pub fn states_over_ring()
     ensures ring { (station limit : ℕ) (state : AlState) (r : RingState) (before behind : List SlaveState)
         (s : SlaveState) (result : Result (Unit {0}) MasterFault) (later : RingState)
         → HasStation station r before s behind
-        → AllByRecursion IsController (line_of (asked_ring station state r before s behind))
+        → AllByRecursion IsSlave r.slaves
         → 1 ≤ limit → IsRequested RingTrips r station state limit result later
         → later ≡ stepped (asked_ring station state r before s behind) }
 {}

@@ -3,6 +3,7 @@
 mod line;
 mod question;
 mod states;
+mod transfers;
 
 use std::fmt::Debug;
 use std::process::Abort;
