@@ -40,7 +40,7 @@ run_head m x xs at inside =
     ∙ ap (λ (n : ℕ). get_or (x ∷ xs) n 0) none
 
 -- the byte of AL status is that of a status
-status_stands : (c : ControllerState) (status : AlStatus) (code : ℕ) → length c.memory ≡ MEMORY_SIZE
+pub status_stands : (c : ControllerState) (status : AlStatus) (code : ℕ) → length c.memory ≡ MEMORY_SIZE
     → get_or (with_al c status code).memory AL_STATUS 0 ≡ status_byte status
 status_stands c status code size =
     let bytes : List ℕ = status_byte status ∷ 0 ∷ [] in

@@ -1,12 +1,14 @@
 -- The laws that crates above cite: on one question over a ring, on a state request and on transfers.
-use Rattle.std.proofs.Common.{◌≡◌, ◌≤◌, ℕ, true, false, List, Result, Ok, Some, ap, ◌∙◌}
+use Rattle.std.proofs.Common.{◌≡◌, ◌≤◌, ℕ, true, false, List, Result, Ok, None, Some, ap, ◌∙◌}
 use Rattle.std.specs.List.{AllByRecursion}
 use Rattle.ec_regs.specs.declared.al.AlState.{AlState}
 use Rattle.ec_wire.specs.Datagram.{DatagramRecord}
 use Rattle.ec_esc.specs.Application.{al_status}
 use Rattle.ec_esc.specs.Pass.{pass}
 use Rattle.ec_app.specs.Objects.{object_at}
-use Rattle.ec_app.specs.State.{SlaveState}
+use Rattle.ec_regs.specs.declared.sync_man.SyncMan.{SyncMan}
+use Rattle.ec_esc.specs.State.{ControllerState, IsFresh}
+use Rattle.ec_app.specs.State.{ApplicationState, SlaveState}
 use Rattle.ec_app.specs.Value.{may_read, may_write, size_of}
 use Rattle.ec_app.specs.declared.objects.Entry.{Entry}
 use Rattle.ec_app.specs.declared.sdo.Sdo.{Sdo}
@@ -25,11 +27,13 @@ use Rattle.ec_services.specs.declared.mailbox.Peer.{Peer}
 use Rattle.ec_over_ring.specs.Question.{IsByStation, IsOther, ReachesOne, Tells, ring_after}
 use Rattle.ec_over_ring.specs.States.{HasStation, asked_slave, asked_ring, told_state}
 use Rattle.ec_over_ring.specs.Transfers.{HasPeer, IsAnswered, IsRequest, IsSlave, answered, answered_ring}
+use Rattle.ec_over_ring.specs.Transfers.{AreMailboxes, IsReady, prepared}
 use Rattle.ec_over_ring.specs.Transfers.{download_of, objects_after, two_steps, upload_of}
 use Rattle.ec_over_ring.proofs.QuestionLemmas as questions
 use Rattle.ec_over_ring.proofs.NobodyLemmas as nobody
 use Rattle.ec_over_ring.proofs.StateLemmas as states
 use Rattle.ec_over_ring.proofs.ObjectLemmas as objects
+use Rattle.ec_over_ring.proofs.ReadyLemmas as ready
 
 -- the answer is the pass of the slave that is asked
 pub one_answer : (d : DatagramRecord) (r : RingState) (before behind : List SlaveState) (s : SlaveState)
@@ -173,3 +177,12 @@ object_holds peer index sub value r before behind s rights old has fits is may s
     ap (λ (es : List Entry). object_at index sub es)
     (objects.slave_done peer (Download index sub value) r before s behind has fits).objects
     ∙ objects.holds_value index sub s.application.objects rights value old is may size
+
+-- ---- whom a transfer may be with
+
+-- a slave in Pre-Op with two mailboxes, as it is made, takes a peer's first request
+pub ready_at_first : (station : ℕ) (c : ControllerState) (requests answers : SyncMan)
+    (application : ApplicationState) (peer : Peer) → IsFresh station c → AreMailboxes peer requests answers
+    → application.kept ≡ None
+    → IsReady peer (record { controller = prepared c requests answers; application = application })
+ready_at_first = ready.ready_at_first

@@ -22,4 +22,5 @@ pub mod SlaveLemmas
 pub mod PeerLemmas
 pub mod TransferLemmas
 pub mod ObjectLemmas
+pub mod ReadyLemmas
 pub mod Laws

@@ -312,8 +312,8 @@ pub either_small : (b : Bool) (x y : ℕ) → x < 256 → y < 256 → cond b x y
 either_small true x y first second = first
 either_small false x y first second = second
 
-pub bytes_shown : (test : ℕ → Bool) (before after : List SyncMan) (m shown : List ℕ) → AreBytes m → AreBytes shown
-    → AreBytes (shown_after test before after m shown)
+pub bytes_shown : (test : ℕ → Bool) (before after : List SyncMan) (m shown : List ℕ) → AreBytes m
+    → AreBytes shown → AreBytes (shown_after test before after m shown)
 bytes_shown test before after m shown bytes are k =
     ⊎_elim
     (λ (inside : k < length shown).

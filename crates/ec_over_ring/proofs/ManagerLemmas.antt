@@ -29,7 +29,7 @@ abbrev record_of : ℕ → ℕ → ℕ → ℕ → ℕ → ℕ → ℕ → ℕ �
 record_of a b c d e f g h =
     record { start = a + 256 * b; length = c + 256 * d; control = e; status = f; activate = g; pdi = h }
 
-manager_is : (m : List ℕ) (i : ℕ) → sync_manager_at m i
+pub manager_is : (m : List ℕ) (i : ℕ) → sync_manager_at m i
     ≡ record_of (get_or m (2048 + 8 * i + 0) 0) (get_or m (2048 + 8 * i + 1) 0)
     (get_or m (2048 + 8 * i + 2) 0)
     (get_or m (2048 + 8 * i + 3) 0) (get_or m (2048 + 8 * i + 4) 0) (get_or m (2048 + 8 * i + 5) 0)

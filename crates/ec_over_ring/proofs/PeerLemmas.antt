@@ -318,7 +318,8 @@ has_read peer s mail after x is ready has meant place =
     (length_same before c.memory 1 has.same (omega arith) ∙ ready.from.length)
     (meets_one_same before c.memory from n has.same ∙ ready.from.alone)
     (full_by before c.memory 1 1 has.same (omega arith) has.full) in
-    let passed = mail_taken c (address_of peer.station from) from n has.slave.controller meant place at.some at.high
+    let passed = mail_taken c (address_of peer.station from) from n has.slave.controller meant place
+    at.some at.high
     emptied in
     record {
       counted = ap (λ (p : Passed). p.datagram.counter) passed;

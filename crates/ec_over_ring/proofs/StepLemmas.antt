@@ -118,7 +118,7 @@ pub record IsAnswering (c : ControllerState) (from n : ℕ) (mail : List ℕ) (a
   pub full : bit_at (get_or after.memory 2061 0) 3 ≡ 1
 
 -- a run that was put stands where it was put
-run_put : (m ys : List ℕ) (at n : ℕ) → at ≤ length m → length ys ≡ n
+pub run_put : (m ys : List ℕ) (at n : ℕ) → at ≤ length m → length ys ≡ n
     → take n (drop at (with_run m at ys)) ≡ ys
 run_put m ys at n inside size =
     let zs : List ℕ = drop (at + length ys) m in
@@ -160,7 +160,7 @@ put_facts c s mail size active room sixteen =
     )
 
 -- a mailbox has sixteen bytes or more
-enough_room : (s : SyncMan) → is_active s ≡ true → is_mailbox s ≡ true → 16 ≤ s.length
+pub enough_room : (s : SyncMan) → is_active s ≡ true → is_mailbox s ≡ true → 16 ≤ s.length
 unfolding is_active
 enough_room s active mailbox = grind (arith, nat_tests)
 

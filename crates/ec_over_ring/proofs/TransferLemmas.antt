@@ -365,8 +365,8 @@ transferred peer peer_later asked limit r before s behind comes_to expected afte
     (subst (λ (x : Result (Option Mail) MasterFault).
     ThenFetches RingTrips exchange.between peer asked limit x transfer.answer later)
     (posting.decides ∙ written.undecided) exchange.fetching) in
-    let end = fetches peer asked limit r before s behind comes_to expected after transfer.answer later has fits
-    comes some left in
+    let end = fetches peer asked limit r before s behind comes_to expected after transfer.answer later has
+    fits comes some left in
     record {
       result_is = transfer.understands
           ∙ ap (λ (x : Result Mail MasterFault). understood comes_to x) end.0 ∙ comes.says;

@@ -5,11 +5,14 @@ use Rattle.std.specs.Prelude.{◌≡◌, ◌<◌, ◌^◌, ◌==◌, ℕ, true, 
 use Rattle.std.specs.List.{AllByRecursion}
 use Rattle.std.specs.Option.{is_none, unwrap_or}
 use Rattle.ec_regs.specs.SyncMan.{is_full}
-use Rattle.ec_areas.specs.Ranges.{meets_one}
+use Rattle.ec_regs.specs.declared.al.AlState.TheVariants.{PreOp}
+use Rattle.ec_regs.specs.declared.sync_man.SyncMan.{SyncMan}
+use Rattle.ec_areas.specs.Ranges.{meets, meets_one}
 use Rattle.ec_areas.specs.Records.{sync_manager_at, sync_managers_of}
 use Rattle.ec_esc.specs.Application.{al_status}
-use Rattle.ec_esc.specs.State.{IsController}
+use Rattle.ec_esc.specs.State.{ControllerState, IsController, with_sync_manager}
 use Rattle.ec_app.specs.AbortCode.{abort_code}
+use Rattle.ec_app.specs.AlStep.{with_state}
 use Rattle.ec_app.specs.MailStep.{has_mail, is_kept}
 use Rattle.ec_app.specs.Objects.{has_index, object_at, with_value}
 use Rattle.ec_app.specs.Roles.{is_answer_mailbox, is_request_mailbox}
@@ -68,6 +71,21 @@ pub record HasPeer (peer : Peer) (r : RingState) (before : List SlaveState) (s :
   pub station : HasStation peer.station r before s behind
   pub slaves : AllByRecursion IsSlave r.slaves
   pub ready : IsReady peer s
+
+-- a peer's areas as two mailboxes that share no byte, both empty
+pub record AreMailboxes (peer : Peer) (requests answers : SyncMan) : Type 0 where
+  pub to : peer.to ≡ record { start = requests.start; length = requests.length }
+  pub from : peer.from ≡ record { start = answers.start; length = answers.length }
+  pub requests_are : is_request_mailbox requests ≡ true
+  pub answers_are : is_answer_mailbox answers ≡ true
+  pub apart : meets requests answers.start answers.length ≡ false
+  pub no_request : is_full requests ≡ false
+  pub no_answer : is_full answers ≡ false
+
+-- a controller that is put into Pre-Op and given two mailboxes
+abbrev pub prepared : ControllerState → SyncMan → SyncMan → ControllerState
+prepared c requests answers =
+    with_sync_manager (with_sync_manager (with_state c PreOp) REQUEST_MAILBOX requests) ANSWER_MAILBOX answers
 
 -- a request for a value, or one to take a value, whose numbers fit their fields
 abbrev pub IsRequest : Sdo → Type 0

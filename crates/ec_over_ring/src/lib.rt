@@ -17,7 +17,8 @@
 //! - `transfers_over_ring`: an object that is read or written ([`ec_services::sdo_upload`] and
 //!   [`ec_services::sdo_download`]) comes to its value, to Ok, or to the abort code that says why not, and
 //!   the law applies again to the next transfer;
-//! - `objects_over_ring`: an object that may be read is read, and one that may be written holds the value.
+//! - `objects_over_ring`: an object that may be read is read, and one that may be written holds the value;
+//! - `ready_at_first`: a slave in Pre-Op with two mailboxes takes a peer's first request.
 //!
 //! The definitions are in specs/: `Question`, who is asked and what an answer carries; `States`, a station
 //! that one slave has, and what a state request comes to; `Transfers`, a slave that takes a peer's next

@@ -1,13 +1,15 @@
 //! The laws of services over a ring, each the contract of a function that does nothing.
 
-ghost use Rattle.std.specs.Prelude.{◌≡◌, ◌≤◌, ℕ, true, false, List, Result, Ok, Some};
+ghost use Rattle.std.specs.Prelude.{◌≡◌, ◌≤◌, ℕ, true, false, List, Result, Ok, None, Some};
 ghost use Rattle.std.specs.List.{AllByRecursion};
 ghost use Rattle.ec_regs.specs.declared.al.AlState.{AlState};
+ghost use Rattle.ec_regs.specs.declared.sync_man.SyncMan.{SyncMan};
 ghost use Rattle.ec_wire.specs.Datagram.{DatagramRecord};
 ghost use Rattle.ec_esc.specs.Application.{al_status};
 ghost use Rattle.ec_esc.specs.Pass.{pass};
+ghost use Rattle.ec_esc.specs.State.{ControllerState, IsFresh};
 ghost use Rattle.ec_app.specs.Objects.{object_at};
-ghost use Rattle.ec_app.specs.State.{SlaveState};
+ghost use Rattle.ec_app.specs.State.{ApplicationState, SlaveState};
 ghost use Rattle.ec_app.specs.Value.{may_read, may_write, size_of};
 ghost use Rattle.ec_app.specs.declared.sdo.Sdo.{Sdo};
 ghost use Rattle.ec_app.specs.declared.sdo.Sdo.TheVariants.{Upload, Download};
@@ -24,8 +26,9 @@ ghost use Rattle.ec_services.specs.declared.fault.MasterFault.{MasterFault};
 ghost use Rattle.ec_services.specs.declared.mailbox.Peer.{Peer};
 ghost use Rattle.ec_over_ring.specs.Question.{IsByStation, IsOther, ReachesOne, Tells, ring_after};
 ghost use Rattle.ec_over_ring.specs.States.{HasStation, asked_slave, asked_ring, told_state};
-ghost use Rattle.ec_over_ring.specs.Transfers.{HasPeer, IsAnswered, IsRequest, IsSlave, answered, answered_ring};
-ghost use Rattle.ec_over_ring.specs.Transfers.{download_of, objects_after, two_steps, upload_of};
+ghost use Rattle.ec_over_ring.specs.Transfers.{HasPeer, IsAnswered, IsRequest, IsSlave, answered};
+ghost use Rattle.ec_over_ring.specs.Transfers.{AreMailboxes, IsReady, answered_ring, download_of};
+ghost use Rattle.ec_over_ring.specs.Transfers.{objects_after, prepared, two_steps, upload_of};
 
 /// A datagram that names its slave by station address, not circulating, goes out alone in a frame over a ring
 /// with at most one link down, and one slave alone may have that station: what the question answers is that
@@ -139,4 +142,13 @@ pub fn objects_over_ring()
         → size_of value ≡ size_of old
         → object_at index sub (answered peer (Download index sub value) s).application.objects
         ≡ Some (rights, value) }
+{}
+
+/// A slave as `Slave::new` makes it that is put into Pre-Op and given two mailboxes, as sync managers 0 and
+/// 1, which share no byte, is ready for a peer's first request, whatever its counter.
+pub fn ready_at_first()
+    ensures { (station : ℕ) (c : ControllerState) (requests answers : SyncMan)
+        (application : ApplicationState) (peer : Peer) → IsFresh station c
+        → AreMailboxes peer requests answers → application.kept ≡ None
+        → IsReady peer (record { controller = prepared c requests answers; application = application }) }
 {}

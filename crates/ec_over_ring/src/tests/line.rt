@@ -1,5 +1,11 @@
 //! The ring that the tests ask.
 
+ghost use Rattle.std.specs.Prelude.{◌≡◌};
+ghost use Rattle.ec_regs.specs.declared.sync_man.SyncMan.{SyncMan};
+ghost use Rattle.ec_services.specs.declared.mailbox.Peer.{Peer};
+ghost use Rattle.ec_over_ring.specs.Transfers.{IsReady};
+
+use crate::promises::ready_at_first;
 use ec_app::{Objects, Rights, Slave, Value};
 use ec_master::RingPorts;
 use ec_regs::{AlState, SyncMan};
@@ -58,7 +64,16 @@ const WAITING: [u8; 46] = [
 ];
 
 /// An enabled mailbox of 32 bytes.
-fn mailbox(start: u16, control: u8) -> SyncMan {
+fn mailbox(start: u16, control: u8) -> SyncMan
+    ensures { result ≡ record {
+      start = start;
+      length = 32;
+      control = control;
+      status = 0;
+      activate = 1;
+      pdi = 0;
+    } }
+{
     SyncMan {
         start,
         length: 32,
@@ -82,8 +97,13 @@ fn objects(rt: &impl Abort, place: u16) -> Objects {
     objects
 }
 
-/// The slave at a place, in Pre-Op, requests at 0x1800 and answers at 0x1880.
-fn mail_slave(rt: &impl Abort, alloc: Global, place: u16) -> Slave {
+/// The slave at a place, in Pre-Op, requests at 0x1800 and answers at 0x1880: it is ready for the first
+/// request of a peer of these areas.
+fn mail_slave(rt: &impl Abort, alloc: Global, place: u16) -> Slave
+    ensures { (peer : Peer) → peer.to ≡ record { start = 0x1800; length = 32 }
+        → peer.from ≡ record { start = 0x1880; length = 32 } → IsReady peer result }
+{
+    ready_at_first();
     let station = 0x3000 + place % 3;
     let mut slave = Slave::new(alloc, station, objects(rt, place), 0, 0).expect(rt, "memory");
     slave.set_state(AlState::PreOp);

@@ -68,7 +68,8 @@ fn download(
 ) -> Result<(), MasterFault>
     requires { IsPeer peer.old }
     ensures told { (before behind : List SlaveState) (s : SlaveState)
-        → HasPeer peer.old ports.old before s behind → result ≡ download_of index sub value s.application.objects }
+        → HasPeer peer.old ports.old before s behind
+        → result ≡ download_of index sub value s.application.objects }
 {
     fits(value);
     transfers_over_ring();
