@@ -16,22 +16,26 @@
 #include <string.h>
 #include <sys/socket.h>
 
-enum { OUTPUTS, INPUTS, STATES, ITEMS };
+enum { OUTPUTS, INPUTS, ITEMS };
 enum { SLAVES = 5, CYCLES = 1000, WAIT_MS = 200 };
 
-/* The process image: a byte out and a byte in for each slave, and the AL status of all of them. */
-static uint8_t image[2 * SLAVES + 2];
+/* The process image: a byte out and a byte in for each slave. */
+static uint8_t image[2 * SLAVES];
 static struct rmp_item items[ITEMS] = {
     [OUTPUTS] = {.kind = RMP_LWR, .address = 0x10000, .offset = 0, .length = SLAVES, .expected = SLAVES},
     [INPUTS] = {.kind = RMP_LRD, .address = 0x20000, .offset = SLAVES, .length = SLAVES, .expected = SLAVES},
-    [STATES] = {.kind = RMP_BRD, .address = 0x0130, .offset = 2 * SLAVES, .length = 2, .expected = SLAVES},
 };
 
-/* What came at one port. */
-struct packet {
+/* The AL status of all slaves: the copies of this read alone in its frame tell where the cable is broken. */
+static uint8_t status[2];
+static const struct rmp_item probe = {.kind = RMP_BRD, .address = 0x0130, .length = 2, .expected = SLAVES};
+
+/* The frame that is out, what came at each port, and what both are joined to. */
+static uint8_t sent[RMP_FRAME_SIZE], joined[RMP_FRAME_SIZE];
+static struct packet {
     uint8_t bytes[RMP_FRAME_SIZE + 1];
     size_t size;
-};
+} came[2];
 
 static void give_up(void) {
     perror("master");
@@ -55,32 +59,37 @@ static void receive(int port, int wait, struct packet *packet) {
     packet->size = size > 0 ? (size_t)size : 0;
 }
 
-/* A frame goes out at both ports, and this comes back; what is late of frames before is dropped. */
-static void travel(const int ports[2], const uint8_t *frame, size_t size, struct packet came[2]) {
+/* The frame goes out at both ports and comes back; what is late of frames before is dropped. */
+static void travel(const int ports[2], size_t size) {
     for (int p = 0; p < 2; p++)
         do
             receive(ports[p], 0, &came[p]);
         while (came[p].size);
     for (int p = 0; p < 2; p++)
-        if (send(ports[p], frame, size, 0) < 0)
+        if (send(ports[p], sent, size, 0) < 0)
             perror("master: a copy is lost");
     for (int p = 0; p < 2; p++)
         receive(ports[p], WAIT_MS, &came[p]);
 }
 
-/* How many slaves the copy that came at a port had passed, by its broadcast read. */
-static int passed(const struct packet *came) {
-    struct rmp_item seen[ITEMS];
-    memcpy(seen, items, sizeof seen);
-    return rmp_judge(seen, ITEMS, 0, came->bytes, came->size).code <= RMP_OVER ? seen[STATES].passed : -1;
+/* Where the cable is broken, in words. */
+static void find_break(const int ports[2], char *told, size_t room) {
+    struct rmp_framed made = rmp_frame(&probe, 1, status, sizeof status, 0, sent, sizeof sent);
+    travel(ports, made.bytes);
+    struct rmp_located place = rmp_where(RMP_UDP, sent, made.bytes, came[0].bytes, came[0].size,
+                                         came[1].bytes, came[1].size, SLAVES);
+    if (place.cable == RMP_ONE)
+        snprintf(told, room, ", link %zu down", place.first);
+    else if (place.cable == RMP_BETWEEN)
+        snprintf(told, room, ", links %zu and %zu down", place.first, place.last);
+    else if (place.cable != RMP_WHOLE)
+        snprintf(told, room, ", a copy lost");
 }
 
 /* One cycle: what is known of it, in words. */
 static void cycle(const int ports[2], char *told, size_t room) {
-    static uint8_t sent[RMP_FRAME_SIZE], joined[RMP_FRAME_SIZE];
-    static struct packet came[2];
     struct rmp_framed made = rmp_frame(items, ITEMS, image, sizeof image, 0, sent, sizeof sent);
-    travel(ports, sent, made.bytes, came);
+    travel(ports, made.bytes);
     struct rmp_joined answer = rmp_join(RMP_UDP, sent, made.bytes, came[0].bytes, came[0].size, came[1].bytes,
                                         came[1].size, joined, sizeof joined);
     if (answer.code != RMP_GOOD) {
@@ -96,17 +105,7 @@ static void cycle(const int ports[2], char *told, size_t room) {
         snprintf(told, room, "%s: item %zu came %u of %u", verdict.code == RMP_SHORT ? "short" : "over",
                  verdict.at, (unsigned)(uint16_t)(item->came - item->sent), (unsigned)item->expected);
     }
-    /* Over a whole ring the copy from port A passes all slaves on its way to B, and the other one none. */
-    int from_a = passed(&came[0]), from_b = passed(&came[1]);
-    if (from_a != 0 || from_b != SLAVES) {
-        size_t end = strlen(told);
-        if (from_a < 0 || from_b < 0)
-            snprintf(told + end, room - end, ", a copy lost");
-        else if (from_a + from_b == SLAVES)
-            snprintf(told + end, room - end, ", link %d down", from_a);
-        else
-            snprintf(told + end, room - end, ", links %d and %d down", from_a, SLAVES - from_b);
-    }
+    find_break(ports, told + strlen(told), room - strlen(told));
 }
 
 /* The line: its standard input takes commands. */

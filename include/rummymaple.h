@@ -1,8 +1,8 @@
 /*
  * rummymaple.h: the proved core of an EtherCAT master, for masters in C (C11) and C++ (C++17).
  *
- * Four calls, in the order of a cycle, and a reader. Between the calls the master does what it likes: it
- * sends each frame both ways round the ring, works, and receives.
+ * Four calls, in the order of a cycle, a reader, and a call that says where the cable is broken. Between the
+ * calls the master does what it likes: it sends each frame both ways round the ring, works, and receives.
  *
  *     for (first = 0; first < n; first += made.items) {
  *         made = rmp_frame(items, n, image, sizeof image, first, sent, sizeof sent);
@@ -97,6 +97,20 @@ enum rmp_copy {
     RMP_NO_FRAME = 2 /* what came is no frame, and counts as lost */
 };
 
+/* What is known of the cable. Links are numbered from 0, before the first slave, to the number of slaves,
+ * behind the last one. */
+enum rmp_cable {
+    RMP_UNKNOWN = 0, /* nothing */
+    RMP_WHOLE = 1,   /* all links are up */
+    RMP_ONE = 2,     /* link `first` is down, and no other: each slave is reached */
+    RMP_BETWEEN = 3, /* links `first` and `last` are down, and none before or behind them: no copy reaches
+                        slaves `first` to `last` - 1, numbered from 0, and each other slave is reached */
+    RMP_FIRST = 4,   /* link `first` is down, and none before it; of those behind it nothing is known */
+    RMP_LAST = 5,    /* link `last` is down, and none behind it; of those before it nothing is known */
+    RMP_CHANGED = 6  /* no one set of links gives these packets: links changed meanwhile, a packet is late, or
+                        the line has another number of slaves */
+};
+
 /* One thing that is asked in each cycle. The master fills in all but `came` and `passed`. */
 struct rmp_item {
     uint32_t address;  /* logical; of BRD the register; of FPRD and FPWR the station + 65,536 * register */
@@ -153,6 +167,17 @@ struct rmp_reading {
     uint32_t code; /* RMP_GOOD, RMP_NO_ROOM, RMP_BAD_FORM or RMP_FAULT_.. */
 };
 
+/* What rmp_where answers. */
+struct rmp_located {
+    size_t first;    /* the first link that is down, where it is known, else 0 */
+    size_t last;     /* the last link that is down, where it is known, else 0 */
+    size_t at;       /* the byte at fault of what is said to be sent */
+    uint32_t code;   /* RMP_GOOD, RMP_BAD_FORM or RMP_NOT_SENT */
+    uint32_t cable;  /* of enum rmp_cable */
+    uint32_t copy_a; /* of enum rmp_copy: what came at port A */
+    uint32_t copy_b; /* and at port B */
+};
+
 /*
  * Puts the frame that begins with item `first` at the front of `room`: as many items from there on as one
  * frame holds (1,498 bytes of datagrams), each with its number as index and its data from the image.
@@ -207,6 +232,20 @@ struct rmp_answer rmp_store(const struct rmp_item *items, size_t n, size_t first
 struct rmp_reading rmp_read(uint32_t form, const uint8_t *bytes, size_t size, struct rmp_datagram *room,
                             size_t room_count);
 
+/*
+ * Says where the cable of a line of so many slaves is broken, by a frame `sent` that went out at both ports
+ * and begins with a BRD: `a` is the packet that port A received, at the first slave's end of the line, and
+ * `b` the one that port B received. A packet of length 0 tells nothing, nor does one that is no frame, or
+ * whose first datagram is not that BRD by command, index, register and length.
+ *
+ * Proved: the answer says of the links exactly that the packets can arrive so, each by how many slaves its
+ * BRD was counted up, and by whether it turned round. And it is so, over any line of up to 256 slaves, where
+ * the BRD is the only datagram of the frame, all that it reads lies below 0x1000, the packets are copies of
+ * this frame as they arrived, and both travelled under the same links.
+ */
+struct rmp_located rmp_where(uint32_t form, const uint8_t *sent, size_t sent_size, const uint8_t *a,
+                             size_t a_size, const uint8_t *b, size_t b_size, size_t slaves);
+
 #ifdef __cplusplus
 }
 #define RMP_ASSERT static_assert
@@ -239,6 +278,14 @@ RMP_ASSERT(offsetof(struct rmp_joined, copy_b) == 24, "copy_b");
 RMP_ASSERT(sizeof(struct rmp_answer) == 16, "size of rmp_answer");
 RMP_ASSERT(offsetof(struct rmp_answer, at) == 0, "at");
 RMP_ASSERT(offsetof(struct rmp_answer, code) == 8, "code");
+RMP_ASSERT(sizeof(struct rmp_located) == 40, "size of rmp_located");
+RMP_ASSERT(offsetof(struct rmp_located, first) == 0, "first");
+RMP_ASSERT(offsetof(struct rmp_located, last) == 8, "last");
+RMP_ASSERT(offsetof(struct rmp_located, at) == 16, "at");
+RMP_ASSERT(offsetof(struct rmp_located, code) == 24, "code");
+RMP_ASSERT(offsetof(struct rmp_located, cable) == 28, "cable");
+RMP_ASSERT(offsetof(struct rmp_located, copy_a) == 32, "copy_a");
+RMP_ASSERT(offsetof(struct rmp_located, copy_b) == 36, "copy_b");
 RMP_ASSERT(sizeof(struct rmp_datagram) == 32, "size of rmp_datagram");
 RMP_ASSERT(offsetof(struct rmp_datagram, data) == 0, "data");
 RMP_ASSERT(offsetof(struct rmp_datagram, length) == 8, "length");

@@ -1,4 +1,4 @@
-/* The four calls, with bytes written out by hand from IEC 61158-4-12; what each needs of the stack; and that
+/* The calls, with bytes written out by hand from IEC 61158-4-12; what each needs of the stack; and that
  * each field of each struct is the one that the library means. Prints what it finds, and ends with 1 at the
  * first that is not as it should be. */
 #include "rummymaple.h"
@@ -184,6 +184,51 @@ static void reading(void) {
     CHECK(read.code == RMP_FAULT_BAD_TYPE && read.at == 1);
 }
 
+/* What two copies of a BRD of AL status tell of the cable of three slaves. */
+static const uint8_t PROBE[] = {14, 0x10, 0x07, 0, 0, 0, 0x30, 0x01, 2, 0, 0, 0, 0, 0, 0x00, 0x08};
+
+static void processed(uint8_t copy[sizeof PROBE], uint8_t count, int turned) {
+    memcpy(copy, PROBE, sizeof PROBE);
+    copy[4] = count; /* the ADP, and the counter */
+    copy[14] = count;
+    if (turned)
+        copy[9] |= 0x40;
+}
+
+static void cable(int a, int turned_a, int b, int turned_b, uint32_t kind, size_t first, size_t last) {
+    uint8_t from_a[sizeof PROBE], from_b[sizeof PROBE];
+    processed(from_a, (uint8_t)a, turned_a);
+    processed(from_b, (uint8_t)b, turned_b);
+    struct rmp_located place = rmp_where(RMP_UDP, PROBE, sizeof PROBE, a < 0 ? NULL : from_a,
+                                         a < 0 ? 0 : sizeof from_a, b < 0 ? NULL : from_b,
+                                         b < 0 ? 0 : sizeof from_b, 3);
+    CHECK(place.code == RMP_GOOD && place.at == 0);
+    CHECK(place.cable == kind && place.first == first && place.last == last);
+    CHECK(place.copy_a == (a < 0 ? RMP_LOST : RMP_CAME) && place.copy_b == (b < 0 ? RMP_LOST : RMP_CAME));
+}
+
+static void cables(void) {
+    struct rmp_located place;
+    cable(0, 0, 3, 0, RMP_WHOLE, 0, 0);
+    cable(1, 0, 2, 1, RMP_ONE, 1, 1);
+    cable(2, 0, 1, 1, RMP_ONE, 2, 2);
+    cable(-1, 0, 3, 1, RMP_ONE, 0, 0); /* the first slave's cable to port A */
+    cable(3, 0, -1, 0, RMP_ONE, 3, 3); /* and the last slave's to port B */
+    cable(1, 0, 1, 1, RMP_BETWEEN, 1, 2);
+    cable(1, 0, -1, 0, RMP_FIRST, 1, 0);
+    cable(-1, 0, 1, 1, RMP_LAST, 0, 2);
+    cable(-1, 0, -1, 0, RMP_UNKNOWN, 0, 0);
+    cable(0, 0, 2, 1, RMP_CHANGED, 0, 0);
+    cable(4, 0, -1, 0, RMP_CHANGED, 0, 0); /* more than there are */
+    place = rmp_where(RMP_UDP, PROBE, 5, NULL, 0, NULL, 0, 3);
+    CHECK(place.code == RMP_NOT_SENT && place.at == 5 && place.cable == RMP_UNKNOWN);
+    CHECK(rmp_where(2, PROBE, sizeof PROBE, NULL, 0, NULL, 0, 3).code == RMP_BAD_FORM);
+    place = rmp_where(RMP_UDP, FRAME, sizeof FRAME, FROM_A, sizeof FROM_A, FROM_B, sizeof FROM_B, 2);
+    CHECK(place.code == RMP_GOOD && place.cable == RMP_UNKNOWN); /* it does not begin with a BRD */
+    place = rmp_where(RMP_UDP, PROBE, sizeof PROBE, PROBE, 15, NULL, 0, SIZE_MAX);
+    CHECK(place.code == RMP_GOOD && place.copy_a == RMP_NO_FRAME && place.cable == RMP_UNKNOWN);
+}
+
 /* A byte more than a frame holds goes onto the next one. */
 static void cut(void) {
     static struct rmp_item many[3];
@@ -209,6 +254,7 @@ static struct rmp_framed made;
 static struct rmp_joined came;
 static struct rmp_answer told;
 static struct rmp_reading seen;
+static struct rmp_located located;
 static struct rmp_datagram places[2];
 
 static void call_nothing(void) {}
@@ -221,6 +267,10 @@ static void call_judge(void) { told = rmp_judge(items, 2, 0, JOINED, sizeof JOIN
 static void call_store(void) { told = rmp_store(items, 2, 0, JOINED, sizeof JOINED, image, sizeof image); }
 
 static void call_read(void) { seen = rmp_read(RMP_UDP, JOINED, sizeof JOINED, places, 2); }
+
+static void call_where(void) {
+    located = rmp_where(RMP_UDP, JOINED, sizeof JOINED, FROM_A, sizeof FROM_A, FROM_B, sizeof FROM_B, 3);
+}
 
 static size_t used_by(void (*call)(void)) {
     size_t clean = 0;
@@ -253,12 +303,14 @@ int main(void) {
     refusals();
     cut();
     reading();
+    cables();
     begin();
     measure("rmp_frame", call_frame);
     measure("rmp_join", call_join);
     measure("rmp_judge", call_judge);
     measure("rmp_store", call_store);
     measure("rmp_read", call_read);
+    measure("rmp_where", call_where);
     puts(failed ? "calls: not as they should be" : "calls: as they should be");
     return failed;
 }

@@ -129,6 +129,77 @@ static int is_read(uint32_t form, const uint8_t *bytes, size_t size) {
     return read.code == RMP_GOOD && read.count == (size_t)count;
 }
 
+/* What a port receives of a BRD's copies over n slaves where these links are up (bit k is link k): by how
+ * many slaves it was counted up, with 256 where it turned round at a closed port 0; or -1. */
+static int arrives(unsigned up, int n, int port) {
+    int first = 0, last = n;
+    while (first <= n && (up >> first & 1))
+        first++;
+    while (last >= 0 && (up >> last & 1))
+        last--;
+    if (first > n)
+        return port ? n : 0;
+    if (port)
+        return last == n ? -1 : n - last + 256;
+    return first == 0 ? -1 : first;
+}
+
+/* What a packet tells of the BRD that was sent first, as `arrives` says it; or -1. */
+static int heard(uint32_t form, const uint8_t *sent, const uint8_t *packet, size_t size) {
+    size_t at[MOST + 1];
+    const uint8_t *s = sent + 2, *d = packet + 2;
+    unsigned length = word(s + 6) & 0x7FF;
+    if (!places(packet, size, form, at) || s[0] != RMP_BRD || (s[7] & 0x40) || d[0] != RMP_BRD ||
+        d[1] != s[1] || word(d + 4) != word(s + 4) || (word(d + 6) & 0x7FF) != length)
+        return -1;
+    return ((word(d + 10 + length) - word(s + 10 + length)) & 0xFFFF) + (d[7] & 0x40 ? 65536 : 0);
+}
+
+/* Whether these links are up and down as an answer says. */
+static int fits(unsigned up, int n, const struct rmp_located *place) {
+    unsigned all = (2u << n) - 1, first = (1u << place->first) - 1, last = (2u << place->last) - 1;
+    int begins = (up & first) == first && !(up >> place->first & 1);
+    int ends = (up & all & ~last) == (all & ~last) && !(up >> place->last & 1);
+    switch (place->cable) {
+    case RMP_UNKNOWN:
+        return 1;
+    case RMP_WHOLE:
+        return up == all;
+    case RMP_ONE:
+        return begins && ends && place->first == place->last;
+    case RMP_BETWEEN:
+        return begins && ends && place->first < place->last;
+    case RMP_FIRST:
+        return begins;
+    case RMP_LAST:
+        return ends;
+    }
+    return 0;
+}
+
+/* Whether the library says of the cable exactly which links of n slaves can give these packets. */
+static int is_located(uint32_t form, const uint8_t *sent, size_t size, const uint8_t *packets[2],
+                      const size_t sizes[2], int n) {
+    struct rmp_located place =
+        rmp_where(form, sent, size, packets[0], sizes[0], packets[1], sizes[1], (size_t)n);
+    int told[2];
+    for (int port = 0; port < 2; port++) {
+        told[port] = heard(form, sent, packets[port], sizes[port]);
+        if (told[port] >= 65536) /* a count that no line has stays one */
+            told[port] = told[port] < 65536 + 256 ? told[port] - 65536 + 256 : 65536;
+        else if (told[port] >= 256)
+            told[port] = 65536;
+    }
+    for (unsigned up = 0; up < 2u << n; up++) {
+        int can = 1;
+        for (int port = 0; port < 2; port++)
+            can &= told[port] < 0 || arrives(up, n, port) == told[port];
+        if (can != fits(up, n, &place))
+            return 0;
+    }
+    return place.code == RMP_GOOD;
+}
+
 /* Room that ends where no memory is mapped. */
 static uint8_t *edge(void) {
     uint8_t *pages = mmap(NULL, 3 * PAGE, PROT_READ | PROT_WRITE, MAP_PRIVATE | MAP_ANONYMOUS, -1, 0);
@@ -227,6 +298,12 @@ int main(int count, char **words) {
         }
         if (!is_read(form, a, sizes[0]) || !is_read(form, b, sizes[1])) {
             printf("damaged: pair %ld is not read as it should be\n", i);
+            return 1;
+        }
+        packets[0] = a;
+        packets[1] = b;
+        if (!is_located(form, sent, made.bytes, packets, sizes, 1 + (int)chance(6))) {
+            printf("damaged: pair %ld is not located as it should be\n", i);
             return 1;
         }
         good += came.code == RMP_GOOD;

@@ -3,10 +3,10 @@
 //!     ECAT=./ecat cargo run --offline --manifest-path bindings/rust/Cargo.toml --example master [PORT]
 //!
 //! It starts `ecat serve scenes/serve/bench.scene --control`, a line of five slaves, breaks two of its links
-//! while it cycles and mends them, and prints each change of the verdict. Run it at the top of the repository.
-//! The status is 0 where the line was short for a while, and good at last.
+//! while it cycles and mends them, and prints each change: the verdict, and where the cable is broken. Run it
+//! at the top of the repository. The status is 0 where the line was short for a while, and good at last.
 
-use rummymaple::{frame, join, judge, store, Fault, Form, Item, Kind, Verdict};
+use rummymaple::{frame, join, judge, locate, store, Cable, Fault, Form, Item, Kind, Verdict};
 use std::io::{Result, Write};
 use std::net::UdpSocket;
 use std::process::{Child, Command, Stdio};
@@ -70,6 +70,19 @@ fn cycle(
     }))
 }
 
+/// Where the cable is broken: by the copies of a broadcast read of AL status that is alone in its frame.
+fn find_break(ports: &Ports) -> Result<std::result::Result<Cable, Fault>> {
+    let (mut sent, mut came) = ([0; ROOM], [[0; ROOM]; 2]);
+    let probe = [Item::new(Kind::Brd, 0x0130, 0, 2, SLAVES as u16)];
+    let made = match frame(&probe, &[0; 2], 0, &mut sent) {
+        Ok(made) => made,
+        Err(fault) => return Ok(Err(fault)),
+    };
+    let sizes = ports.travel(&sent[..made.bytes], &mut came)?;
+    let (a, b) = (&came[0][..sizes[0]], &came[1][..sizes[1]]);
+    Ok(locate(Form::Udp, &sent[..made.bytes], a, b, SLAVES).map(|place| place.cable))
+}
+
 /// The line: its standard input takes commands.
 fn serve(port: u16) -> Result<Child> {
     let program = std::env::var("ECAT").unwrap_or("./ecat".into());
@@ -87,9 +100,8 @@ fn main() -> Result<()> {
     let mut items = [
         Item::new(Kind::Lwr, 0x10000, 0, count, count),
         Item::new(Kind::Lrd, 0x20000, inputs, count, count),
-        Item::new(Kind::Brd, 0x0130, 2 * inputs, 2, count),
     ];
-    let mut image = [0; 2 * SLAVES + 2];
+    let mut image = [0; 2 * SLAVES];
     let (mut before, mut short) = (None, false);
     let _ = cycle(&ports, &mut items, &mut image)?; // the line learns who speaks at its ends
     for k in 0..1000usize {
@@ -103,14 +115,14 @@ fn main() -> Result<()> {
             item.sent = (2048 * k % 65536) as u16; // a late frame of another cycle shows in its counters
         }
         image[..SLAVES].fill(k as u8);
-        let told = cycle(&ports, &mut items, &mut image)?;
+        let told = (cycle(&ports, &mut items, &mut image)?, find_break(&ports)?);
         if before != Some(told) {
-            println!("cycle {k}: {told:?}, {} slaves seen", items[2].passed);
+            println!("cycle {k}: {:?}, {:?}", told.0, told.1);
         }
-        short |= matches!(told, Ok(Verdict::Short(_)));
+        short |= matches!(told.0, Ok(Verdict::Short(_)));
         before = Some(told);
     }
     drop(commands);
     line.wait()?;
-    std::process::exit(if short && before == Some(Ok(Verdict::Good)) { 0 } else { 1 })
+    std::process::exit(if short && before == Some((Ok(Verdict::Good), Ok(Cable::Whole))) { 0 } else { 1 })
 }

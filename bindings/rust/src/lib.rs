@@ -4,8 +4,8 @@
 //! into slices, by hand. No call panics, takes memory or keeps anything.
 //!
 //! ```
-//! use rummymaple::{frame, join, judge, read, store};
-//! use rummymaple::{Copies, Datagram, Fault, Form, Item, Kind, Verdict, Wrong};
+//! use rummymaple::{frame, join, judge, locate, read, store};
+//! use rummymaple::{Cable, Copies, Datagram, Fault, Form, Item, Kind, Verdict, Wrong};
 //!
 //! // One exchange of two bytes; a slave adds 3 to its counter.
 //! let mut items = [Item::new(Kind::Lrw, 0x0001_0000, 0, 2, 3)];
@@ -21,10 +21,18 @@
 //! store(&items, 0, &joined[..came.bytes], &mut image)?;
 //! assert_eq!(image, [0x12, 0x34]);
 //!
+//! // Where the cable is broken, a broadcast read tells that came back at port A from one slave of three.
+//! let states = [Item::new(Kind::Brd, 0x0130, 0, 2, 3)];
+//! let probe = frame(&states, &image, 0, &mut sent)?;
+//! let mut a = sent;
+//! (a[4], a[14]) = (1, 1);
+//! let told = locate(Form::Udp, &sent[..probe.bytes], &a[..probe.bytes], &[], 3)?;
+//! assert_eq!(told.cable, Cable::First(1));
+//!
 //! // Whatever else came can be read by itself.
 //! let mut found = [Datagram::default(); 124];
-//! assert_eq!(read(Form::Udp, &a[..made.bytes], &mut found)?, 1);
-//! assert_eq!((found[0].data, found[0].length, found[0].counter), (12, 2, 3));
+//! assert_eq!(read(Form::Udp, &a[..probe.bytes], &mut found)?, 1);
+//! assert_eq!((found[0].data, found[0].length, found[0].counter), (12, 2, 1));
 //! assert_eq!(read(Form::Udp, &a[..9], &mut found), Err(Fault::NoFrame(Wrong::Short, 9)));
 //! # Ok::<(), rummymaple::Fault>(())
 //! ```
@@ -140,6 +148,36 @@ pub struct Joined {
     pub copies: Copies,
 }
 
+/// What is known of the links of a line, which are numbered from 0, before the first slave, to the number of
+/// slaves, behind the last one.
+#[derive(Clone, Copy, PartialEq, Eq, Debug)]
+pub enum Cable {
+    /// Nothing.
+    Unknown,
+    /// All links are up.
+    Whole,
+    /// This link is down, and no other: each slave is reached.
+    One(usize),
+    /// Both links are down, and none before or behind them: the slaves between them are cut off.
+    Between(usize, usize),
+    /// This link is down, and none before it; of those behind it nothing is known.
+    First(usize),
+    /// This link is down, and none behind it; of those before it nothing is known.
+    Last(usize),
+    /// No one set of links gives these packets: links changed meanwhile, a packet is late, or the line has
+    /// another number of slaves.
+    Changed,
+}
+
+/// Where the cable is broken.
+#[derive(Clone, Copy, PartialEq, Eq, Debug)]
+pub struct Located {
+    /// What is known of the links.
+    pub cable: Cable,
+    /// What came at port A and at port B.
+    pub copies: Copies,
+}
+
 /// A datagram of a frame that was read.
 #[derive(Clone, Copy, PartialEq, Eq, Debug, Default)]
 #[repr(C)]
@@ -236,6 +274,17 @@ struct JoinAnswer {
 }
 
 #[repr(C)]
+struct CableAnswer {
+    first: usize,
+    last: usize,
+    at: usize,
+    code: u32,
+    cable: u32,
+    copy_a: u32,
+    copy_b: u32,
+}
+
+#[repr(C)]
 struct Reading {
     count: usize,
     at: usize,
@@ -269,6 +318,16 @@ extern "C" {
         room: *mut u8,
         room_size: usize,
     ) -> JoinAnswer;
+    fn rmp_where(
+        form: u32,
+        sent: *const u8,
+        sent_size: usize,
+        a: *const u8,
+        a_size: usize,
+        b: *const u8,
+        b_size: usize,
+        slaves: usize,
+    ) -> CableAnswer;
     fn rmp_read(
         form: u32,
         bytes: *const u8,
@@ -405,6 +464,29 @@ pub fn store(items: &[Item], first: usize, joined: &[u8], image: &mut [u8]) -> R
     }
 }
 
+/// Says where the cable of a line of so many slaves is broken, by the packets that port A and port B received
+/// of a frame that went out at both, each of length 0 where nothing came. The frame's first datagram is a
+/// broadcast read; what is told is so where it is the only one (docs/LIBRARY.md).
+pub fn locate(form: Form, sent: &[u8], a: &[u8], b: &[u8], slaves: usize) -> Result<Located, Fault> {
+    // SAFETY: each pointer is that of a slice of that length.
+    let told = unsafe {
+        let (sent, sent_size) = (sent.as_ptr(), sent.len());
+        rmp_where(form as u32, sent, sent_size, a.as_ptr(), a.len(), b.as_ptr(), b.len(), slaves)
+    };
+    let cable = match (told.code, told.cable) {
+        (0, 0) => Cable::Unknown,
+        (0, 1) => Cable::Whole,
+        (0, 2) => Cable::One(told.first),
+        (0, 3) => Cable::Between(told.first, told.last),
+        (0, 4) => Cable::First(told.first),
+        (0, 5) => Cable::Last(told.last),
+        (0, 6) => Cable::Changed,
+        (0, kind) => return Err(Fault::Unknown(kind)),
+        (code, _) => return Err(fault(code, told.at)),
+    };
+    Ok(Located { cable, copies: Copies { a: came(told.copy_a), b: came(told.copy_b) } })
+}
+
 /// Reads the bytes of a frame: puts its datagrams at the front of `room`, and answers how many they are. Room
 /// for 124 suffices for each frame.
 pub fn read(form: Form, bytes: &[u8], room: &mut [Datagram]) -> Result<usize, Fault> {
@@ -421,6 +503,7 @@ pub fn read(form: Form, bytes: &[u8], room: &mut [Datagram]) -> Result<usize, Fa
 
 const _: () = assert!(core::mem::size_of::<Item>() == 20);
 const _: () = assert!(core::mem::size_of::<Datagram>() == 32);
+const _: () = assert!(core::mem::size_of::<CableAnswer>() == 40);
 const _: () = assert!(core::mem::size_of::<Reading>() == 24);
 const _: () = assert!(core::mem::size_of::<Framed>() == 32);
 const _: () = assert!(core::mem::size_of::<JoinAnswer>() == 32);

@@ -4,3 +4,4 @@ pub mod AnswerLemmas
 pub mod CutLemmas
 pub mod ItemLemmas
 pub mod JoinLemmas
+pub mod CableLemmas

@@ -7,3 +7,4 @@ pub mod Answers
 pub mod Judge
 pub mod Cycle
 pub mod Read
+pub mod Cable

@@ -121,7 +121,7 @@ fn none_joined(end: JoinEnd) -> Join
 }
 
 /// Puts the frame of a packet in the place of the sent one, if it is a frame.
-fn read_copy(copy: &mut FrameBuf, packet: &[u8], form: Form) -> Copy
+pub(crate) fn read_copy(copy: &mut FrameBuf, packet: &[u8], form: Form) -> Copy
     ensures { IsCopy form packet.now copy.old result copy.new }
 {
     if packet.is_empty() {

@@ -1,19 +1,30 @@
 //! What the calls in their order come to, each promise the contract of a function that does nothing.
 
-ghost use Rattle.std.specs.Prelude.{◌≡◌, ◌≤◌, ℕ, List, [], map, length, Ok};
+ghost use Rattle.std.specs.Prelude.{◌≡◌, ◌≤◌, ℕ, List, [], ◌∷◌, map, length, Ok};
 ghost use Rattle.std.specs.List.{AllByRecursion};
 ghost use Rattle.ec_wire.specs.Datagram.{DatagramRecord};
+ghost use Rattle.ec_wire.specs.declared.fault.Form.{Form};
+ghost use Rattle.ec_esc.specs.State.{ControllerState};
+ghost use Rattle.ec_esc.specs.declared.counting.TheConstants.{MOST_CONTROLLERS};
 ghost use Rattle.ec_map.specs.Item.{IsItem};
+ghost use Rattle.ec_ring.specs.Arrivals.{arrivals_of};
+ghost use Rattle.ec_ring.specs.declared.port.Port.TheVariants.{A, B};
 ghost use Rattle.ec_ring.specs.declared.weather.Came.{Came};
+ghost use Rattle.ec_ring.specs.declared.weather.Weather.{Weather};
+ghost use Rattle.ec_diag.specs.Heard.{IsProbe};
+ghost use Rattle.ec_diag.specs.Located.{Tells};
 ghost use Rattle.ec_master.specs.Cut.{concat};
 ghost use Rattle.ec_master.specs.Ports.{IsPortCycle};
 ghost use Rattle.ec_master.specs.Suffice.{in_turn, SaysOfEach};
 ghost use Rattle.ec_master.specs.Work.{with_answers};
 ghost use Rattle.ec_master.specs.declared.verdict.Verdict.TheVariants.{Good};
+ghost use Rattle.rummymaple.specs.Cable.{AreHeard, IsArrival};
 ghost use Rattle.rummymaple.specs.Cycle.{AreCalls, AreGood, as_ports_give};
 ghost use Rattle.rummymaple.specs.Items.{asked};
+ghost use Rattle.rummymaple.specs.declared.cable.Cable.{Cable};
 ghost use Rattle.rummymaple.specs.declared.item.Item.{Item};
 
+use ec_diag::promises::trips_are_heard;
 use ec_master::certificate::frames_suffice;
 
 /// Calls in their order are a cycle over ports that give what came: where each frame is made behind the one
@@ -34,4 +45,17 @@ pub fn calls_are_a_cycle()
         (Ok Good) (with_answers (map (asked image) items) (concat joined)) }
 {
     frames_suffice();
+}
+
+/// What is told of the cable is so: over any line of controllers, fit or not, where the sent frame is a
+/// broadcast read of registers and no more, and each packet that spells a frame is a copy of one trip that
+/// arrived at the port where it is said to have come, both of them under the same links.
+pub fn what_is_told_is_so()
+    ensures { (form : Form) (sent a b : List ℕ) (cable : Cable) (w : Weather) (line : List ControllerState)
+        (d : DatagramRecord) (heard : AreHeard form sent a b (length line) cable)
+        → heard.frame ≡ d ∷ [] → IsProbe d → length line ≤ MOST_CONTROLLERS → w.a ≡ w.b
+        → IsArrival form A a (arrivals_of w (d ∷ []) line) → IsArrival form B b (arrivals_of w (d ∷ []) line)
+        → Tells heard.located w.a (length line) }
+{
+    trips_are_heard();
 }

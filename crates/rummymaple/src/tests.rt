@@ -1,3 +1,4 @@
-//! The calls of a cycle, with the bytes written out by hand.
+//! The calls of a cycle and the search for a broken link, with the bytes written out by hand.
 
+mod cable;
 mod door;
