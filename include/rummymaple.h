@@ -71,7 +71,8 @@ enum rmp_code {
     RMP_FAULT_OVERRUN = 22,     /* a datagram's data reach past the end of the frame */
     RMP_FAULT_MORE_AT_END = 23, /* the last datagram says that more follow */
     RMP_FAULT_LEFT_OVER = 24,   /* bytes are left behind the last datagram, or too few for one more */
-    RMP_FAULT_TRAILING = 25     /* bytes follow the frame in a UDP packet */
+    RMP_FAULT_TRAILING = 25,    /* bytes follow the frame in a UDP packet */
+    RMP_NOT_UNDER_WAY = 26      /* the cycle is done or ended */
 };
 
 /* What an item does: the codes of its commands on the wire (IEC 61158-4-12). */
@@ -178,6 +179,28 @@ struct rmp_located {
     uint32_t copy_b; /* and at port B */
 };
 
+/* How far a cycle is. */
+enum rmp_state {
+    RMP_UNDER_WAY = 0, /* items are left */
+    RMP_DONE = 1,      /* each frame was good, and the image has their data */
+    RMP_ENDED = 2      /* a verdict ended it, and the image is as it was */
+};
+
+/* A cycle, for masters that want no loop of their own: made by rmp_cycle_begin, only read by the master. */
+struct rmp_cycle {
+    size_t first;   /* the first item that has no good answer yet */
+    uint32_t form;  /* of enum rmp_form */
+    uint32_t state; /* of enum rmp_state */
+};
+
+/* What rmp_cycle_came answers. */
+struct rmp_turn {
+    size_t at;       /* the item, the datagram or the byte that `code` is about */
+    uint32_t code;   /* of enum rmp_code */
+    uint32_t copy_a; /* of enum rmp_copy: what came of copy a */
+    uint32_t copy_b; /* and of copy b */
+};
+
 /*
  * Puts the frame that begins with item `first` at the front of `room`: as many items from there on as one
  * frame holds (1,498 bytes of datagrams), each with its number as index and its data from the image.
@@ -233,6 +256,47 @@ struct rmp_reading rmp_read(uint32_t form, const uint8_t *bytes, size_t size, st
                             size_t room_count);
 
 /*
+ * A cycle as a state machine, in place of a loop over the four calls:
+ *
+ *     struct rmp_cycle cycle = rmp_cycle_begin(RMP_UDP);
+ *     while (cycle.state == RMP_UNDER_WAY) {
+ *         made = rmp_cycle_next(&cycle, items, n, image, size, sent, sizeof sent);
+ *         ... where made.code is not RMP_GOOD, give up; send sent[0 .. made.bytes], receive a and b ...
+ *         turn = rmp_cycle_came(&cycle, items, n, sent, made.bytes, a, a_size, b, b_size, waiting, size,
+ *                               image, size);
+ *     }
+ */
+struct rmp_cycle rmp_cycle_begin(uint32_t form);
+
+/*
+ * Puts the next frame of a cycle at the front of `room`: again the last one, while that has no good answer.
+ *
+ * Proved: it does what rmp_frame does from item `cycle->first` on, in a cycle that is under way: RMP_NO_ITEM
+ * where no item is left; of any other cycle RMP_NOT_UNDER_WAY. Any end but RMP_GOOD leaves `room` as it is.
+ */
+struct rmp_framed rmp_cycle_next(const struct rmp_cycle *cycle, const struct rmp_item *items, size_t n,
+                                 const uint8_t *image, size_t image_size, uint8_t *room, size_t room_size);
+
+/*
+ * Takes the packets `a` and `b` that came back of the frame `sent`, which rmp_cycle_next made last. `waiting`
+ * is an array of the master's, as large as the image, where the data of a cycle wait until all its frames are
+ * good: give the same one in each call of a cycle, and do not write it.
+ *
+ * Proved: the packets are joined as by rmp_join, and judged as by rmp_judge, `came` and `passed` included.
+ * RMP_GOOD: the frame's data wait, and the cycle goes on behind its items; behind the last item the data of
+ * each item that reads go from `waiting` into the image, no other byte of it changes, and the cycle is done.
+ * RMP_SHORT, RMP_OVER: the cycle is ended, and the image is as it was. Any other code leaves the cycle, the
+ * items, `waiting` and the image as they are, so that a stranger may be dropped and the next packets taken:
+ * those of rmp_join but RMP_NO_ROOM; RMP_OTHER_ITEM; RMP_BAD_.. of an item; RMP_NO_ROOM where `waiting` is
+ * not as large as the image; RMP_NOT_UNDER_WAY. A cycle that is done is a good cycle, as that of the four
+ * calls is, where the master leaves the image alone meanwhile.
+ */
+struct rmp_turn rmp_cycle_came(struct rmp_cycle *cycle, struct rmp_item *items, size_t n,
+                               const uint8_t *sent, size_t sent_size, const uint8_t *a, size_t a_size,
+                               const uint8_t *b, size_t b_size, uint8_t *waiting, size_t waiting_size,
+                               uint8_t *image, size_t image_size);
+
+/*
  * Says where the cable of a line of so many slaves is broken, by a frame `sent` that went out at both ports
  * and begins with a BRD: `a` is the packet that port A received, at the first slave's end of the line, and
  * `b` the one that port B received. A packet of length 0 tells nothing, nor does one that is no frame, or
@@ -286,6 +350,15 @@ RMP_ASSERT(offsetof(struct rmp_located, code) == 24, "code");
 RMP_ASSERT(offsetof(struct rmp_located, cable) == 28, "cable");
 RMP_ASSERT(offsetof(struct rmp_located, copy_a) == 32, "copy_a");
 RMP_ASSERT(offsetof(struct rmp_located, copy_b) == 36, "copy_b");
+RMP_ASSERT(sizeof(struct rmp_cycle) == 16, "size of rmp_cycle");
+RMP_ASSERT(offsetof(struct rmp_cycle, first) == 0, "first");
+RMP_ASSERT(offsetof(struct rmp_cycle, form) == 8, "form");
+RMP_ASSERT(offsetof(struct rmp_cycle, state) == 12, "state");
+RMP_ASSERT(sizeof(struct rmp_turn) == 24, "size of rmp_turn");
+RMP_ASSERT(offsetof(struct rmp_turn, at) == 0, "at");
+RMP_ASSERT(offsetof(struct rmp_turn, code) == 8, "code");
+RMP_ASSERT(offsetof(struct rmp_turn, copy_a) == 12, "copy_a");
+RMP_ASSERT(offsetof(struct rmp_turn, copy_b) == 16, "copy_b");
 RMP_ASSERT(sizeof(struct rmp_datagram) == 32, "size of rmp_datagram");
 RMP_ASSERT(offsetof(struct rmp_datagram, data) == 0, "data");
 RMP_ASSERT(offsetof(struct rmp_datagram, length) == 8, "length");

@@ -184,6 +184,50 @@ static void reading(void) {
     CHECK(read.code == RMP_FAULT_BAD_TYPE && read.at == 1);
 }
 
+/* A cycle of one frame, and of two: the data wait until both are good. */
+static void turns(void) {
+    static uint8_t large[1600], waits[1600], copy[RMP_FRAME_SIZE];
+    static const uint8_t nothing[1600];
+    struct rmp_item two[2] = {{0x1000, 0, 1400, RMP_LRD, 1, 0, 0, 0},
+                              {0x2000, 1400, 200, RMP_LRD, 1, 0, 0, 0}};
+    const uint8_t after[6] = {0xF0, 0x12, 0x34, 0xF1, 8, 0};
+    uint8_t waiting[6] = {0};
+    struct rmp_cycle cycle = rmp_cycle_begin(RMP_UDP);
+    struct rmp_framed made;
+    struct rmp_turn turn;
+    begin();
+    CHECK(cycle.first == 0 && cycle.form == RMP_UDP && cycle.state == RMP_UNDER_WAY);
+    made = rmp_cycle_next(&cycle, items, 2, image, sizeof image, sent, sizeof sent);
+    CHECK(made.code == RMP_GOOD && made.items == 2 && memcmp(sent, FRAME, sizeof FRAME) == 0);
+    turn = rmp_cycle_came(&cycle, items, 2, sent, made.bytes, FROM_A, sizeof FROM_A, FROM_A, 9, waiting, 5,
+                          image, sizeof image);
+    CHECK(turn.code == RMP_NO_ROOM && cycle.state == RMP_UNDER_WAY && items[0].came == 0);
+    turn = rmp_cycle_came(&cycle, items, 2, sent, made.bytes, FROM_A, sizeof FROM_A, FROM_B, sizeof FROM_B,
+                          waiting, sizeof waiting, image, sizeof image);
+    CHECK(turn.code == RMP_GOOD && turn.copy_a == RMP_CAME && turn.copy_b == RMP_CAME);
+    CHECK(cycle.state == RMP_DONE && cycle.first == 2 && memcmp(image, after, sizeof after) == 0);
+    CHECK(items[0].came == 0x0806 && items[1].passed == 2);
+    made = rmp_cycle_next(&cycle, items, 2, image, sizeof image, sent, sizeof sent);
+    CHECK(made.code == RMP_NOT_UNDER_WAY && made.bytes == 0);
+    for (int good = 0; good < 2; good++) {
+        cycle = rmp_cycle_begin(RMP_ETHERNET);
+        for (int k = 0; k < 2; k++) {
+            made = rmp_cycle_next(&cycle, two, 2, large, sizeof large, sent, sizeof sent);
+            CHECK(made.code == RMP_GOOD && made.items == 1 && sent[3] == k);
+            memcpy(copy, sent, made.bytes);
+            copy[12] = 0x77;
+            copy[made.bytes - 2] = (uint8_t)(k == 0 || good); /* the counter */
+            turn = rmp_cycle_came(&cycle, two, 2, sent, made.bytes, copy, made.bytes, NULL, 0, waits,
+                                  sizeof waits, large, sizeof large);
+            CHECK(turn.at == (size_t)(k == 1 && !good) && turn.code == (turn.at ? RMP_SHORT : RMP_GOOD));
+            CHECK(k == 1 || (cycle.state == RMP_UNDER_WAY && memcmp(large, nothing, sizeof large) == 0));
+        }
+        CHECK(cycle.state == (good ? RMP_DONE : RMP_ENDED));
+        CHECK(good || memcmp(large, nothing, sizeof large) == 0);
+        CHECK(large[0] == (good ? 0x77 : 0) && large[1400] == large[0] && large[1] == 0 && large[1401] == 0);
+    }
+}
+
 /* What two copies of a BRD of AL status tell of the cable of three slaves. */
 static const uint8_t PROBE[] = {14, 0x10, 0x07, 0, 0, 0, 0x30, 0x01, 2, 0, 0, 0, 0, 0, 0x00, 0x08};
 
@@ -255,6 +299,9 @@ static struct rmp_joined came;
 static struct rmp_answer told;
 static struct rmp_reading seen;
 static struct rmp_located located;
+static struct rmp_cycle begun;
+static struct rmp_turn turned;
+static uint8_t waiting[6];
 static struct rmp_datagram places[2];
 
 static void call_nothing(void) {}
@@ -270,6 +317,16 @@ static void call_read(void) { seen = rmp_read(RMP_UDP, JOINED, sizeof JOINED, pl
 
 static void call_where(void) {
     located = rmp_where(RMP_UDP, JOINED, sizeof JOINED, FROM_A, sizeof FROM_A, FROM_B, sizeof FROM_B, 3);
+}
+
+static void call_next(void) {
+    begun = rmp_cycle_begin(RMP_UDP);
+    made = rmp_cycle_next(&begun, items, 2, image, sizeof image, sent, sizeof sent);
+}
+
+static void call_came(void) {
+    turned = rmp_cycle_came(&begun, items, 2, FRAME, sizeof FRAME, FROM_A, sizeof FROM_A, FROM_B,
+                            sizeof FROM_B, waiting, sizeof waiting, image, sizeof image);
 }
 
 static size_t used_by(void (*call)(void)) {
@@ -304,6 +361,7 @@ int main(void) {
     cut();
     reading();
     cables();
+    turns();
     begin();
     measure("rmp_frame", call_frame);
     measure("rmp_join", call_join);
@@ -311,6 +369,8 @@ int main(void) {
     measure("rmp_store", call_store);
     measure("rmp_read", call_read);
     measure("rmp_where", call_where);
+    measure("rmp_cycle_next", call_next);
+    measure("rmp_cycle_came", call_came);
     puts(failed ? "calls: not as they should be" : "calls: as they should be");
     return failed;
 }

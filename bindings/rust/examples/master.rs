@@ -6,7 +6,7 @@
 //! while it cycles and mends them, and prints each change: the verdict, and where the cable is broken. Run it
 //! at the top of the repository. The status is 0 where the line was short for a while, and good at last.
 
-use rummymaple::{frame, join, judge, locate, store, Cable, Fault, Form, Item, Kind, Verdict};
+use rummymaple::{frame, locate, Cable, Cycle, Fault, Form, Item, Kind, State, Verdict};
 use std::io::{Result, Write};
 use std::net::UdpSocket;
 use std::process::{Child, Command, Stdio};
@@ -48,26 +48,29 @@ impl Ports {
     }
 }
 
-/// One cycle: the verdict, or why nothing was joined.
+/// One cycle as a state machine: its last verdict, or why nothing was joined.
 fn cycle(
     ports: &Ports,
     items: &mut [Item],
+    waiting: &mut [u8],
     image: &mut [u8],
 ) -> Result<std::result::Result<Verdict, Fault>> {
-    let (mut sent, mut joined, mut came) = ([0; ROOM], [0; ROOM], [[0; ROOM]; 2]);
-    let made = match frame(items, image, 0, &mut sent) {
-        Ok(made) => made,
-        Err(fault) => return Ok(Err(fault)),
-    };
-    let sizes = ports.travel(&sent[..made.bytes], &mut came)?;
-    let (a, b) = (&came[0][..sizes[0]], &came[1][..sizes[1]]);
-    Ok(join(Form::Udp, &sent[..made.bytes], a, b, &mut joined).and_then(|answer| {
-        let verdict = judge(items, 0, &joined[..answer.bytes])?;
-        if verdict == Verdict::Good {
-            store(items, 0, &joined[..answer.bytes], image)?;
+    let (mut sent, mut came, mut verdict) = ([0; ROOM], [[0; ROOM]; 2], Verdict::Good);
+    let mut cycle = Cycle::begin(Form::Udp);
+    while cycle.state() == State::UnderWay {
+        let made = match cycle.next_frame(items, image, &mut sent) {
+            Ok(made) => made,
+            Err(fault) => return Ok(Err(fault)),
+        };
+        let sent = &sent[..made.bytes];
+        let sizes = ports.travel(sent, &mut came)?;
+        let (a, b) = (&came[0][..sizes[0]], &came[1][..sizes[1]]);
+        match cycle.came(items, sent, a, b, waiting, image) {
+            Ok(turn) => verdict = turn.verdict,
+            Err(fault) => return Ok(Err(fault)),
         }
-        Ok(verdict)
-    }))
+    }
+    Ok(Ok(verdict))
 }
 
 /// Where the cable is broken: by the copies of a broadcast read of AL status that is alone in its frame.
@@ -101,9 +104,9 @@ fn main() -> Result<()> {
         Item::new(Kind::Lwr, 0x10000, 0, count, count),
         Item::new(Kind::Lrd, 0x20000, inputs, count, count),
     ];
-    let mut image = [0; 2 * SLAVES];
+    let (mut image, mut waiting) = ([0; 2 * SLAVES], [0; 2 * SLAVES]);
     let (mut before, mut short) = (None, false);
-    let _ = cycle(&ports, &mut items, &mut image)?; // the line learns who speaks at its ends
+    let _ = cycle(&ports, &mut items, &mut waiting, &mut image)?; // the line learns who speaks at its ends
     for k in 0..1000usize {
         if k % 200 == 0 && k > 0 {
             let command = ["link 2 down", "link 4 down", "link 4 up", "link 2 up"][k / 200 - 1];
@@ -115,7 +118,8 @@ fn main() -> Result<()> {
             item.sent = (2048 * k % 65536) as u16; // a late frame of another cycle shows in its counters
         }
         image[..SLAVES].fill(k as u8);
-        let told = (cycle(&ports, &mut items, &mut image)?, find_break(&ports)?);
+        let verdict = cycle(&ports, &mut items, &mut waiting, &mut image)?;
+        let told = (verdict, find_break(&ports)?);
         if before != Some(told) {
             println!("cycle {k}: {:?}, {:?}", told.0, told.1);
         }

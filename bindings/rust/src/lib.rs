@@ -200,6 +200,127 @@ pub struct Datagram {
     pub circulating: u8,
 }
 
+/// How far a cycle is.
+#[derive(Clone, Copy, PartialEq, Eq, Debug)]
+pub enum State {
+    /// Items are left.
+    UnderWay,
+    /// Each frame was good, and the image has their data.
+    Done,
+    /// A verdict ended it, and the image is as it was.
+    Ended,
+}
+
+/// A cycle as a state machine, for masters that want no loop of their own.
+///
+/// ```
+/// use rummymaple::{Cycle, Form, Item, Kind, State, Verdict};
+///
+/// let mut items = [Item::new(Kind::Lrd, 0x0001_0000, 0, 2, 1)];
+/// let (mut image, mut waiting, mut sent) = ([0; 2], [0; 2], [0; 1500]);
+/// let mut cycle = Cycle::begin(Form::Udp);
+/// while cycle.state() == State::UnderWay {
+///     let made = cycle.next_frame(&items, &image, &mut sent)?;
+///     // .. the frame goes out both ways, and copy b is lost ..
+///     let mut a = sent;
+///     (a[12], a[14]) = (0x12, 1);
+///     let (sent, a) = (&sent[..made.bytes], &a[..made.bytes]);
+///     let turn = cycle.came(&mut items, sent, a, &[], &mut waiting, &mut image)?;
+///     assert_eq!(turn.verdict, Verdict::Good);
+/// }
+/// assert_eq!((cycle.state(), image), (State::Done, [0x12, 0]));
+/// # Ok::<(), rummymaple::Fault>(())
+/// ```
+#[derive(Clone, Copy, PartialEq, Eq, Debug)]
+#[repr(C)]
+pub struct Cycle {
+    first: usize,
+    form: u32,
+    state: u32,
+}
+
+/// What became of a frame of a cycle.
+#[derive(Clone, Copy, PartialEq, Eq, Debug)]
+pub struct Turn {
+    /// What the working counters say; any but good has ended the cycle.
+    pub verdict: Verdict,
+    /// What came back of both copies.
+    pub copies: Copies,
+}
+
+impl Cycle {
+    /// A cycle whose packets are framed so.
+    pub fn begin(form: Form) -> Cycle {
+        // SAFETY: it takes a number.
+        unsafe { rmp_cycle_begin(form as u32) }
+    }
+
+    /// How far it is.
+    pub fn state(&self) -> State {
+        match self.state {
+            0 => State::UnderWay,
+            1 => State::Done,
+            _ => State::Ended,
+        }
+    }
+
+    /// The first item that has no good answer yet.
+    pub fn first(&self) -> usize {
+        self.first
+    }
+
+    /// Puts the next frame at the front of `room`: again the last one, where that has no good answer yet.
+    pub fn next_frame(&self, items: &[Item], image: &[u8], room: &mut [u8]) -> Result<Made, Fault> {
+        // SAFETY: each pointer is that of a slice of that length; what is written is borrowed alone.
+        let made = unsafe {
+            let (n, size, room_size) = (items.len(), image.len(), room.len());
+            rmp_cycle_next(self, items.as_ptr(), n, image.as_ptr(), size, room.as_mut_ptr(), room_size)
+        };
+        match made.code {
+            0 => Ok(Made { bytes: made.bytes, items: made.items }),
+            code => Err(fault(code, made.at)),
+        }
+    }
+
+    /// Takes the packets that came back of the frame that was made last. The data wait in `waiting`, which is
+    /// as large as the image and the same in each call of a cycle, until each frame is good.
+    pub fn came(
+        &mut self,
+        items: &mut [Item],
+        sent: &[u8],
+        a: &[u8],
+        b: &[u8],
+        waiting: &mut [u8],
+        image: &mut [u8],
+    ) -> Result<Turn, Fault> {
+        // SAFETY: each pointer is that of a slice of that length; what is written is borrowed alone.
+        let told = unsafe {
+            rmp_cycle_came(
+                self,
+                items.as_mut_ptr(),
+                items.len(),
+                sent.as_ptr(),
+                sent.len(),
+                a.as_ptr(),
+                a.len(),
+                b.as_ptr(),
+                b.len(),
+                waiting.as_mut_ptr(),
+                waiting.len(),
+                image.as_mut_ptr(),
+                image.len(),
+            )
+        };
+        let verdict = match told.code {
+            0 => Verdict::Good,
+            1 => Verdict::Short(told.at),
+            2 => Verdict::Over(told.at),
+            code => return Err(fault(code, told.at)),
+        };
+        Ok(Turn { verdict, copies: Copies { a: came(told.copy_a), b: came(told.copy_b) } })
+    }
+}
+
 /// What is wrong with bytes that are no frame.
 #[derive(Clone, Copy, PartialEq, Eq, Debug)]
 pub enum Wrong {
@@ -232,7 +353,7 @@ pub enum Fault {
     StrangerA(usize),
     /// Packet b is not of the sent frame.
     StrangerB(usize),
-    /// The frame does not fit the room for it.
+    /// The frame does not fit the room for it, or the room where data wait is not as large as the image.
     NoRoom,
     /// What is said to be sent is no frame: this byte is the first at fault.
     NotSent(usize),
@@ -252,6 +373,8 @@ pub enum Fault {
     BadRange(usize),
     /// The data of this item do not lie in the image.
     BadPlace(usize),
+    /// The cycle is done or ended.
+    NotUnderWay,
     /// A number that the library of this crate does not have: another library was linked.
     Unknown(u32),
 }
@@ -267,6 +390,14 @@ struct Framed {
 #[repr(C)]
 struct JoinAnswer {
     bytes: usize,
+    at: usize,
+    code: u32,
+    copy_a: u32,
+    copy_b: u32,
+}
+
+#[repr(C)]
+struct TurnAnswer {
     at: usize,
     code: u32,
     copy_a: u32,
@@ -318,6 +449,31 @@ extern "C" {
         room: *mut u8,
         room_size: usize,
     ) -> JoinAnswer;
+    fn rmp_cycle_begin(form: u32) -> Cycle;
+    fn rmp_cycle_next(
+        cycle: *const Cycle,
+        items: *const Item,
+        n: usize,
+        image: *const u8,
+        image_size: usize,
+        room: *mut u8,
+        room_size: usize,
+    ) -> Framed;
+    fn rmp_cycle_came(
+        cycle: *mut Cycle,
+        items: *mut Item,
+        n: usize,
+        sent: *const u8,
+        sent_size: usize,
+        a: *const u8,
+        a_size: usize,
+        b: *const u8,
+        b_size: usize,
+        waiting: *mut u8,
+        waiting_size: usize,
+        image: *mut u8,
+        image_size: usize,
+    ) -> TurnAnswer;
     fn rmp_where(
         form: u32,
         sent: *const u8,
@@ -372,6 +528,7 @@ fn fault(code: u32, at: usize) -> Fault {
         23 => Fault::NoFrame(Wrong::MoreAtEnd, at),
         24 => Fault::NoFrame(Wrong::LeftOver, at),
         25 => Fault::NoFrame(Wrong::Trailing, at),
+        26 => Fault::NotUnderWay,
         _ => Fault::Unknown(code),
     }
 }
@@ -503,6 +660,8 @@ pub fn read(form: Form, bytes: &[u8], room: &mut [Datagram]) -> Result<usize, Fa
 
 const _: () = assert!(core::mem::size_of::<Item>() == 20);
 const _: () = assert!(core::mem::size_of::<Datagram>() == 32);
+const _: () = assert!(core::mem::size_of::<Cycle>() == 16);
+const _: () = assert!(core::mem::size_of::<TurnAnswer>() == 24);
 const _: () = assert!(core::mem::size_of::<CableAnswer>() == 40);
 const _: () = assert!(core::mem::size_of::<Reading>() == 24);
 const _: () = assert!(core::mem::size_of::<Framed>() == 32);

@@ -163,7 +163,7 @@ unfolding stored
 stored-end [] image = refl
 stored-end (i ∷ items) image = refl
 
-length-placed : (b : Bool) (from count : ℕ) (bytes image : List ℕ) → from + count ≤ length image
+pub length-placed : (b : Bool) (from count : ℕ) (bytes image : List ℕ) → from + count ≤ length image
     → length bytes ≡ count
     → length (cond b (take from image ++ (bytes ++ drop (from + count) image)) image) ≡ length image
 length-placed false from count bytes image place size = refl

@@ -5,3 +5,4 @@ pub mod CutLemmas
 pub mod ItemLemmas
 pub mod JoinLemmas
 pub mod CableLemmas
+pub mod TurnLemmas

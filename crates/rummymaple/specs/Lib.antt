@@ -8,3 +8,5 @@ pub mod Judge
 pub mod Cycle
 pub mod Read
 pub mod Cable
+pub mod Turn
+pub mod Turns

@@ -98,7 +98,7 @@ fn make_frame(items: &[Item], image: &[u8], first: usize, room: &mut [u8]) -> Fr
 }
 
 /// Makes the frame that begins with the item at `first`, where all items are taken.
-fn frame_end(items: &[Item], image: &[u8], first: usize, room: &mut [u8]) -> FrameEnd
+pub(crate) fn frame_end(items: &[Item], image: &[u8], first: usize, room: &mut [u8]) -> FrameEnd
     ensures { IsFrame items.now image.now first room.old result room.new }
 {
     if items.len() > MAX_ITEMS {
@@ -115,7 +115,7 @@ fn frame_end(items: &[Item], image: &[u8], first: usize, room: &mut [u8]) -> Fra
 
 impl FrameEnd {
     /// The end in numbers.
-    fn answer(self) -> FrameAnswer
+    pub(crate) fn answer(self) -> FrameAnswer
         ensures { result ≡ frame_answer self }
     {
         let (bytes, items, at, code) = match self {

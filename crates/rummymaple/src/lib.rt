@@ -25,18 +25,22 @@
 //! - [`rmp_store`]: the image gets the data of those items that read, and nothing else;
 //! - [`rmp_read`]: the datagrams of the frame that the bytes spell and where their data lie, or the first
 //!   fault with its place (`ec_wire`, `IsFirstFault`);
-//! - [`rmp_where`]: what is known of the links is exactly that the packets can arrive so (`ec_diag`, `Tells`),
-//!   and over a trip it is so ([`what_is_told_is_so`]);
+//! - [`rmp_where`]: what is known of the links is exactly that the packets can arrive so (`ec_diag`,
+//!   `Tells`), and over a trip it is so ([`what_is_told_is_so`]);
+//! - [`rmp_cycle_next`] and [`rmp_cycle_came`]: the cycle as a state machine over a struct of the caller's;
+//!   its image stays as it is until the last frame is good, and its turns are calls ([`turns_are_a_cycle`]);
 //! - [`calls_are_a_cycle`]: where every verdict is good, the calls in their order are a good cycle of
 //!   `ec_master::run_cycle` over ports that give what came, with all that this certifies.
 //!
 //! Each export answers by a struct of numbers, and its contract says of which end they are the numbers
-//! (`Join`, `Frame`, `Judge`, `Read` and `Cable` of specs/). What an item is stands in `Items`, what a joined frame
-//! gives it in `Answers`, and the calls in their order in `Cycle`. A call needs less than 8 KB of stack:
-//! nothing that has the size of a frame is moved or made twice where it can stay in its place.
+//! (`Join`, `Frame`, `Judge`, `Read`, `Cable` and `Turn` of specs/). What an item is stands in `Items`, what a
+//! joined frame gives it in `Answers`, the calls in their order in `Cycle`, and turns in `Turns`. A call needs
+//! less than 8 KB of stack: nothing that has the size of a frame is moved or made twice where it can stay in
+//! its place.
 
 mod answered;
 mod cable;
+mod cycle;
 mod frame;
 mod item;
 mod join;
@@ -49,12 +53,16 @@ mod read;
 mod store;
 
 pub use cable::{Cable, CableAnswer, CableEnd, CablePlace, rmp_where};
+pub use cycle::{
+    Cycle, DONE, ENDED, Turn, TurnAnswer, TurnEnd, UNDER_WAY, rmp_cycle_begin, rmp_cycle_came,
+    rmp_cycle_next,
+};
 pub use frame::{FrameAnswer, FrameEnd, rmp_frame};
 pub use item::{Item, MAX_ITEMS};
 pub use join::{Join, JoinAnswer, JoinEnd, rmp_join};
 pub use judge::{ItemAnswer, JudgeEnd, rmp_judge};
 pub use numbers::{Code, Copy};
-pub use promises::{calls_are_a_cycle, what_is_told_is_so};
+pub use promises::{calls_are_a_cycle, turns_are_a_cycle, what_is_told_is_so};
 pub use read::{DatagramPlace, ReadAnswer, ReadEnd, rmp_read};
 pub use store::{StoreEnd, rmp_store};
 

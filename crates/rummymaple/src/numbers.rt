@@ -60,6 +60,8 @@ pub enum Code {
     FaultLeftOver,
     /// Bytes follow the frame in a UDP packet.
     FaultTrailing,
+    /// The cycle is done or ended.
+    NotUnderWay,
 }
 
 impl Code {

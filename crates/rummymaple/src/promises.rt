@@ -19,6 +19,8 @@ ghost use Rattle.ec_master.specs.Suffice.{in_turn, SaysOfEach};
 ghost use Rattle.ec_master.specs.Work.{with_answers};
 ghost use Rattle.ec_master.specs.declared.verdict.Verdict.TheVariants.{Good};
 ghost use Rattle.rummymaple.specs.Cable.{AreHeard, IsArrival};
+ghost use Rattle.rummymaple.specs.Turn.{Held};
+ghost use Rattle.rummymaple.specs.Turns.{AreTurns};
 ghost use Rattle.rummymaple.specs.Cycle.{AreCalls, AreGood, as_ports_give};
 ghost use Rattle.rummymaple.specs.Items.{asked};
 ghost use Rattle.rummymaple.specs.declared.cable.Cable.{Cable};
@@ -58,4 +60,20 @@ pub fn what_is_told_is_so()
         → Tells heard.located w.a (length line) }
 {
     trips_are_heard();
+}
+
+/// Turns of a cycle from its first item on, of which each frame is made behind the one before it, and what
+/// came back of it is joined and judged good, are calls in their order (`calls`), and so a good cycle over
+/// ports that give what came (`cycle`).
+pub fn turns_are_a_cycle()
+    ensures calls { (h later : Held) (came : List Came) (joined : List (List DatagramRecord))
+        → AreTurns h came joined later → h.cycle.first ≡ 0
+        → AreCalls (map (asked h.image) h.items) 0 came joined × AreGood h.items 0 joined }
+    ensures cycle { (h later : Held) (came : List Came) (joined : List (List DatagramRecord))
+        → AreTurns h came joined later → h.cycle.first ≡ 0
+        → IsPortCycle in_turn (as_ports_give came) (map (asked h.image) h.items)
+        (map (λ i. i.expected) h.items) (Ok Good)
+        (with_answers (map (asked h.image) h.items) (concat joined)) [] }
+{
+    calls_are_a_cycle();
 }

@@ -8,10 +8,10 @@ use crate::{
 use std::mem::size_of;
 
 /// The number of the UDP form.
-const UDP: u32 = 1;
+pub(super) const UDP: u32 = 1;
 
 /// The items: an LRW of two bytes at 0x00010000, and a broadcast read of register 0x0130.
-fn asked() -> [Item; 2] {
+pub(super) fn asked() -> [Item; 2] {
     let exchange = Item {
         address: 0x0001_0000,
         offset: 1,
@@ -36,17 +36,17 @@ fn asked() -> [Item; 2] {
 }
 
 /// The frame of the items, and what the two slaves make of its copies.
-const SENT: [u8; 30] = [
+pub(super) const SENT: [u8; 30] = [
     28, 0x10, 0x0C, 0, 0, 0, 1, 0, 2, 0x80, 0, 0, 0xAA, 0x55, 0x00, 0x08, 0x07, 1, 0, 0, 0x30,
     0x01, 2, 0, 0, 0, 0, 0, 0x00, 0x08,
 ];
 
-const FROM_A: [u8; 30] = [
+pub(super) const FROM_A: [u8; 30] = [
     28, 0x10, 0x0C, 0, 0, 0, 1, 0, 2, 0x80, 0, 0, 0x12, 0x55, 0x03, 0x08, 0x07, 1, 1, 0, 0x30,
     0x01, 2, 0, 0, 0, 8, 0, 0x01, 0x08,
 ];
 
-const FROM_B: [u8; 30] = [
+pub(super) const FROM_B: [u8; 30] = [
     28, 0x10, 0x0C, 0, 0, 0, 1, 0, 2, 0xC0, 0, 0, 0xAA, 0x34, 0x03, 0x08, 0x07, 1, 1, 0, 0x30,
     0x01, 2, 0x40, 0, 0, 8, 0, 0x01, 0x08,
 ];
