@@ -16,6 +16,7 @@ use crate::item::{Item, first_refused};
 use crate::join::read_copy;
 use crate::joining::join_into;
 use crate::numbers::{Code, Copy, form_of};
+use crate::packet::blank;
 use ec_master::Verdict;
 use ec_merge::JoinFault;
 use ec_wire::{Form, FrameBuf, WireFault};
@@ -298,10 +299,10 @@ fn turn_packets(
         (held cycle.old items.old waiting.old image.old)
         result (held cycle.new items.new waiting.new image.new) }
 {
-    let read = FrameBuf::read(sent, form);
-    match &read {
-        Ok(frame) => turn_both(frame, form, a, b, cycle, items, waiting, image),
-        Err(fault) => none_turned(TurnEnd::NotSent(*fault)),
+    let mut frame = blank();
+    match frame.refill(sent, form) {
+        Ok(()) => turn_both(&frame, form, a, b, cycle, items, waiting, image),
+        Err(fault) => none_turned(TurnEnd::NotSent(fault)),
     }
 }
 

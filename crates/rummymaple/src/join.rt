@@ -10,7 +10,7 @@ ghost use Rattle.rummymaple.specs.declared.join.Join.{Join};
 
 use crate::joining::join_into;
 use crate::numbers::{Code, Copy, form_of};
-use crate::packet::put_frame;
+use crate::packet::{blank, put_frame};
 use ec_merge::JoinFault;
 use ec_wire::{Form, FrameBuf, WireFault};
 
@@ -163,10 +163,10 @@ fn join_copies(sent: &FrameBuf, form: Form, a: &[u8], b: &[u8], room: &mut [u8])
 fn join_packets(form: Form, sent: &[u8], a: &[u8], b: &[u8], room: &mut [u8]) -> Join
     ensures { IsJoin (Some form) sent.now a.now b.now room.old result room.new }
 {
-    let read = FrameBuf::read(sent, form);
-    match &read {
-        Ok(frame) => join_copies(frame, form, a, b, room),
-        Err(fault) => none_joined(JoinEnd::NotSent(*fault)),
+    let mut frame = blank();
+    match frame.refill(sent, form) {
+        Ok(()) => join_copies(&frame, form, a, b, room),
+        Err(fault) => none_joined(JoinEnd::NotSent(fault)),
     }
 }
 

@@ -7,6 +7,7 @@ ghost use Rattle.rummymaple.specs.declared.judge.JudgeEnd.{JudgeEnd};
 use crate::answered::{first_other, take_counts, verdict};
 use crate::item::Item;
 use crate::numbers::Code;
+use crate::packet::blank;
 use ec_master::Verdict;
 use ec_wire::{Form, FrameBuf, WireFault};
 
@@ -66,10 +67,10 @@ fn judge_frame(items: &mut [Item], first: usize, frame: &FrameBuf) -> JudgeEnd
 fn judge(items: &mut [Item], first: usize, joined: &[u8]) -> JudgeEnd
     ensures { IsJudged items.old first joined.now result items.new }
 {
-    let read = FrameBuf::read(joined, Form::Udp);
-    match &read {
-        Ok(frame) => judge_frame(items, first, frame),
-        Err(fault) => JudgeEnd::NotJoined(*fault),
+    let mut frame = blank();
+    match frame.refill(joined, Form::Udp) {
+        Ok(()) => judge_frame(items, first, &frame),
+        Err(fault) => JudgeEnd::NotJoined(fault),
     }
 }
 

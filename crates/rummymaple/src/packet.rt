@@ -1,10 +1,16 @@
-//! A frame's bytes put into the caller's room.
+//! A frame's bytes put into the caller's room, and a frame to read others into.
 
 ghost use Rattle.std.specs.Prelude.{◌≡◌, ◌<◌, IfSome, IfNone, length};
 ghost use Rattle.ec_wire.specs.Spelling.{spelling};
 ghost use Rattle.rummymaple.specs.Join.{IsPut};
 
+use ec_diag::probe;
 use ec_wire::FrameBuf;
+
+/// A frame to read into: it is refilled in its place, so that a read moves no frame.
+pub(crate) fn blank() -> FrameBuf {
+    probe()
+}
 
 /// Puts the frame's bytes at the front of the room and says how many they are, or leaves a room that is too
 /// small as it is.

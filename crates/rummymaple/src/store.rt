@@ -8,6 +8,7 @@ use crate::answered::{first_other, store_items};
 use crate::item::{Item, first_refused};
 use crate::judge::ItemAnswer;
 use crate::numbers::Code;
+use crate::packet::blank;
 use ec_wire::{Form, FrameBuf, WireFault};
 
 /// How the storing of a joined frame ended.
@@ -59,10 +60,10 @@ fn store_frame(items: &[Item], first: usize, frame: &FrameBuf, image: &mut [u8])
 fn store(items: &[Item], first: usize, joined: &[u8], image: &mut [u8]) -> StoreEnd
     ensures { IsStored items.now first joined.now image.old result image.new }
 {
-    let read = FrameBuf::read(joined, Form::Udp);
-    match &read {
-        Ok(frame) => store_frame(items, first, frame, image),
-        Err(fault) => StoreEnd::NotJoined(*fault),
+    let mut frame = blank();
+    match frame.refill(joined, Form::Udp) {
+        Ok(()) => store_frame(items, first, &frame, image),
+        Err(fault) => StoreEnd::NotJoined(fault),
     }
 }
 
