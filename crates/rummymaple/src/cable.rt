@@ -7,8 +7,8 @@ ghost use Rattle.rummymaple.specs.Cable.{place_of};
 ghost use Rattle.rummymaple.specs.Numbers.{form_of};
 ghost use Rattle.rummymaple.specs.declared.cable.Cable.{Cable};
 
-use crate::join::read_copy;
 use crate::numbers::{Code, Copy, form_of};
+use crate::packet::blank;
 use ec_diag::{Heard, Located};
 use ec_ring::Port;
 use ec_wire::{Form, FrameBuf, WireFault};
@@ -141,10 +141,12 @@ impl HeardPacket {
 fn hear(sent: &FrameBuf, place: &mut FrameBuf, form: Form, packet: &[u8], at: Port) -> HeardPacket
     ensures { IsHeard form at sent.now packet.now result.copy result.heard }
 {
-    let heard = match read_copy(place, packet, form) {
-        Copy::Came => Heard::of(sent, place, at),
-        Copy::Lost => return HeardPacket::silent(Copy::Lost),
-        Copy::NoFrame => return HeardPacket::silent(Copy::NoFrame),
+    if packet.is_empty() {
+        return HeardPacket::silent(Copy::Lost);
+    }
+    let heard = match place.refill(packet, form) {
+        Ok(()) => Heard::of(sent, place, at),
+        Err(_) => return HeardPacket::silent(Copy::NoFrame),
     };
     HeardPacket {
         copy: Copy::Came,
@@ -165,7 +167,7 @@ fn hear_both(sent: &FrameBuf, form: Form, a: &[u8], b: &[u8], slaves: usize) -> 
     ensures { (bytes : List ℕ) → IsSpelt form bytes sent.now
         → AreHeard form bytes a.now b.now slaves result }
 {
-    let mut place = sent.copy();
+    let mut place = blank();
     let at_a = hear(sent, &mut place, form, a, Port::A);
     let at_b = hear(sent, &mut place, form, b, Port::B);
     Cable {
@@ -179,10 +181,10 @@ fn hear_both(sent: &FrameBuf, form: Form, a: &[u8], b: &[u8], slaves: usize) -> 
 fn hear_packets(form: Form, sent: &[u8], a: &[u8], b: &[u8], slaves: usize) -> Cable
     ensures { IsCable (Some form) sent.now a.now b.now slaves result }
 {
-    let read = FrameBuf::read(sent, form);
-    match &read {
-        Ok(frame) => hear_both(frame, form, a, b, slaves),
-        Err(fault) => none_heard(CableEnd::NotSent(*fault)),
+    let mut frame = blank();
+    match frame.refill(sent, form) {
+        Ok(()) => hear_both(&frame, form, a, b, slaves),
+        Err(fault) => none_heard(CableEnd::NotSent(fault)),
     }
 }
 

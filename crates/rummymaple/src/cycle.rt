@@ -257,10 +257,11 @@ fn turn_copies(
     turn_frame(cycle, items, a, waiting, image)
 }
 
-/// Takes the packets that came back of a frame.
+/// Takes the packets that came back of a frame, which these bytes spell.
 fn turn_both(
-    sent: &FrameBuf,
+    frame: &FrameBuf,
     form: Form,
+    sent: &[u8],
     a: &[u8],
     b: &[u8],
     cycle: &mut Cycle,
@@ -268,17 +269,17 @@ fn turn_both(
     waiting: &mut [u8],
     image: &mut [u8],
 ) -> Turn
+    requires spelt { IsSpelt form sent.now frame.now }
     requires taken { AreTaken (length image.old) items.old }
     requires size { length waiting.old ≡ length image.old }
-    ensures { (bytes : List ℕ) → IsSpelt form bytes sent.now → AreTurned form bytes a.now b.now
-        (held cycle.old items.old waiting.old image.old)
+    ensures { AreTurned form sent.now a.now b.now (held cycle.old items.old waiting.old image.old)
         result (held cycle.new items.new waiting.new image.new) }
 {
-    let mut copy_a = sent.copy();
-    let a = read_copy(&mut copy_a, a, form);
-    let mut copy_b = sent.copy();
-    let b = read_copy(&mut copy_b, b, form);
-    let end = turn_copies(sent, &mut copy_a, &copy_b, cycle, items, waiting, image);
+    let mut copy_a = blank();
+    let a = read_copy(&mut copy_a, form, sent, a);
+    let mut copy_b = blank();
+    let b = read_copy(&mut copy_b, form, sent, b);
+    let end = turn_copies(frame, &mut copy_a, &copy_b, cycle, items, waiting, image);
     Turn { end, a, b }
 }
 
@@ -301,7 +302,7 @@ fn turn_packets(
 {
     let mut frame = blank();
     match frame.refill(sent, form) {
-        Ok(()) => turn_both(&frame, form, a, b, cycle, items, waiting, image),
+        Ok(()) => turn_both(&frame, form, sent, a, b, cycle, items, waiting, image),
         Err(fault) => none_turned(TurnEnd::NotSent(fault)),
     }
 }

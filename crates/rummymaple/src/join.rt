@@ -1,6 +1,7 @@
 //! What came back of a frame that was sent both ways round the ring, joined into one answer.
 
-ghost use Rattle.std.specs.Prelude.{◌≡◌, ℕ, List, Some};
+ghost use Rattle.std.specs.Prelude.{◌≡◌, List, Some};
+ghost use Rattle.ec_wire.specs.Datagram.{DatagramRecord};
 ghost use Rattle.ec_wire.specs.Fault.{IsSpelt};
 ghost use Rattle.rummymaple.specs.Copies.{IsCopy};
 ghost use Rattle.rummymaple.specs.Join.{EndsIn, AreJoined, IsJoin, end_code, end_place, end_count};
@@ -120,16 +121,28 @@ fn none_joined(end: JoinEnd) -> Join
     }
 }
 
-/// Puts the frame of a packet in the place of the sent one, if it is a frame.
-pub(crate) fn read_copy(copy: &mut FrameBuf, packet: &[u8], form: Form) -> Copy
-    ensures { IsCopy form packet.now copy.old result copy.new }
+/// Puts the frame that these bytes spell in the place of a lost copy.
+fn stand_in(place: &mut FrameBuf, form: Form, sent: &[u8])
+    ensures { (frame : List DatagramRecord) → IsSpelt form sent.now frame → place.new ≡ frame }
+{
+    let _read = place.refill(sent, form);
+}
+
+/// Reads a packet into a place for a copy of the frame that the sent bytes spell.
+pub(crate) fn read_copy(place: &mut FrameBuf, form: Form, sent: &[u8], packet: &[u8]) -> Copy
+    ensures { (frame : List DatagramRecord) → IsSpelt form sent.now frame
+        → IsCopy form packet.now frame result place.new }
 {
     if packet.is_empty() {
+        stand_in(place, form, sent);
         return Copy::Lost;
     }
-    match copy.refill(packet, form) {
+    match place.refill(packet, form) {
         Ok(()) => Copy::Came,
-        Err(_) => Copy::NoFrame,
+        Err(_) => {
+            stand_in(place, form, sent);
+            Copy::NoFrame
+        }
     }
 }
 
@@ -146,16 +159,23 @@ fn end_of(sent: &FrameBuf, a: &mut FrameBuf, b: &FrameBuf, room: &mut [u8]) -> J
     }
 }
 
-/// Joins the packets that came back of a frame.
-fn join_copies(sent: &FrameBuf, form: Form, a: &[u8], b: &[u8], room: &mut [u8]) -> Join
-    ensures { (bytes : List ℕ) → IsSpelt form bytes sent.now
-        → AreJoined form bytes a.now b.now room.old result room.new }
+/// Joins the packets that came back of a frame, which these bytes spell.
+fn join_copies(
+    frame: &FrameBuf,
+    form: Form,
+    sent: &[u8],
+    a: &[u8],
+    b: &[u8],
+    room: &mut [u8],
+) -> Join
+    requires { IsSpelt form sent.now frame.now }
+    ensures { AreJoined form sent.now a.now b.now room.old result room.new }
 {
-    let mut copy_a = sent.copy();
-    let a = read_copy(&mut copy_a, a, form);
-    let mut copy_b = sent.copy();
-    let b = read_copy(&mut copy_b, b, form);
-    let end = end_of(sent, &mut copy_a, &copy_b, room);
+    let mut copy_a = blank();
+    let a = read_copy(&mut copy_a, form, sent, a);
+    let mut copy_b = blank();
+    let b = read_copy(&mut copy_b, form, sent, b);
+    let end = end_of(frame, &mut copy_a, &copy_b, room);
     Join { end, a, b }
 }
 
@@ -165,7 +185,7 @@ fn join_packets(form: Form, sent: &[u8], a: &[u8], b: &[u8], room: &mut [u8]) ->
 {
     let mut frame = blank();
     match frame.refill(sent, form) {
-        Ok(()) => join_copies(&frame, form, a, b, room),
+        Ok(()) => join_copies(&frame, form, sent, a, b, room),
         Err(fault) => none_joined(JoinEnd::NotSent(fault)),
     }
 }

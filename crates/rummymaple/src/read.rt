@@ -7,6 +7,7 @@ ghost use Rattle.rummymaple.specs.Read.{place_of, places_from, IsReadFrame, IsRe
 ghost use Rattle.rummymaple.specs.declared.read.ReadEnd.{ReadEnd};
 
 use crate::numbers::{Code, fault_code, form_of};
+use crate::packet::blank;
 use ec_wire::{Form, FrameBuf, WireFault};
 
 /// The bytes of a frame's header; the first datagram follows it.
@@ -130,10 +131,10 @@ fn read_places(frame: &FrameBuf, room: &mut [DatagramPlace]) -> ReadEnd
 fn read(form: Form, bytes: &[u8], room: &mut [DatagramPlace]) -> ReadEnd
     ensures { IsRead (Some form) bytes.now room.old result room.new }
 {
-    let read = FrameBuf::read(bytes, form);
-    match &read {
-        Ok(frame) => read_places(frame, room),
-        Err(fault) => ReadEnd::NoFrame(*fault),
+    let mut frame = blank();
+    match frame.refill(bytes, form) {
+        Ok(()) => read_places(&frame, room),
+        Err(fault) => ReadEnd::NoFrame(fault),
     }
 }
 
