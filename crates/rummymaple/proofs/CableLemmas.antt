@@ -1,12 +1,11 @@
 -- What is heard of the copies of a trip can be so, and what is known by it is so.
-use Rattle.std.specs.Prelude.{◌⊎◌, if◌then◌else◌}
+use Rattle.std.specs.Prelude.{if◌then◌else◌}
 use Rattle.std.proofs.Common.{◌≡◌, ℕ, Bool, true, false, inl, inr, Option, None, Some, List, [], ◌∷◌, length}
-use Rattle.std.proofs.Common.{refl, sym, ap, subst, ◌∙◌}
-use Rattle.ec_wire.specs.Datagram.{DatagramRecord, nth}
+use Rattle.std.proofs.Common.{sym, ap, subst, ◌∙◌}
+use Rattle.ec_wire.specs.Datagram.{DatagramRecord}
 use Rattle.ec_wire.specs.declared.fault.Form.{Form}
 use Rattle.ec_esc.specs.State.{ControllerState}
 use Rattle.ec_ring.specs.Arrivals.{arrivals_of}
-use Rattle.ec_ring.specs.declared.arrivals.Arrival.{Arrival}
 use Rattle.ec_ring.specs.declared.arrivals.Arrivals.{Arrivals}
 use Rattle.ec_ring.specs.declared.links.Links.{Links}
 use Rattle.ec_ring.specs.declared.port.Port.{Port}

@@ -1,7 +1,7 @@
 -- A cycle by turns is one by calls; and the data that wait go into the image one item after the other.
 use Rattle.std.proofs.Common.{◌≡◌, ℕ, zero, suc, ◌+◌, ◌<◌, ◌≤◌, ◌∙◌, arith, ap, sym, refl, subst}
 use Rattle.std.proofs.Common.{eqb}
-use Rattle.std.proofs.Common.{Bool, true, false, inl, inr, List, [], ◌∷◌, length, map, drop, get_or, drop-cons}
+use Rattle.std.proofs.Common.{false, inl, inr, List, [], ◌∷◌, length, map, drop, get_or, drop-cons}
 use Rattle.std.proofs.lemmas.Bool.{cases_eq, ne_eqb}
 use Rattle.std.proofs.lemmas.List.{length-map, length-take-le, length-drop}
 use Rattle.std.specs.List.{slice_range}
@@ -9,10 +9,8 @@ use Rattle.std.proofs.Common.{◌-◌}
 use Rattle.ec_wire.specs.Command.{reads}
 use Rattle.ec_wire.specs.Kind.{command_of}
 use Rattle.ec_wire.specs.Datagram.{DatagramRecord}
-use Rattle.ec_line.specs.Answered.{sent_of}
 use Rattle.ec_map.specs.Item.{ItemRecord}
 use Rattle.ec_ring.specs.declared.weather.Came.{Came}
-use Rattle.ec_master.specs.Cut.{frame_at}
 use Rattle.ec_master.specs.Verdict.{verdict_from}
 use Rattle.ec_master.specs.declared.verdict.Verdict.TheVariants.{Good}
 use Rattle.rummymaple.specs.Answers.{came_back, with_counts, with_counts_at, verdict_on}

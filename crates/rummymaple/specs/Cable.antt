@@ -5,7 +5,6 @@ use Rattle.ec_wire.specs.Datagram.{DatagramRecord, nth}
 use Rattle.ec_wire.specs.Fault.{IsSpelt, IsFirstFault}
 use Rattle.ec_wire.specs.declared.fault.Form.{Form}
 use Rattle.ec_wire.specs.declared.fault.WireFault.{WireFault}
-use Rattle.ec_ring.specs.declared.arrivals.Arrival.{Arrival}
 use Rattle.ec_ring.specs.declared.arrivals.Arrivals.{Arrivals}
 use Rattle.ec_ring.specs.declared.links.Links.{Links}
 use Rattle.ec_ring.specs.declared.port.Port.{Port}

@@ -1,5 +1,5 @@
 -- A cycle as a state machine: what a master holds before and after it takes what came back of a frame.
-use Rattle.std.specs.Prelude.{◌≡◌, ◌≢◌, ◌≤◌, ◌==◌, ◌⊎◌, ℕ, ◌+◌, if◌then◌else◌, Option, None, Some}
+use Rattle.std.specs.Prelude.{◌≡◌, ◌≢◌, ◌==◌, ◌⊎◌, ℕ, ◌+◌, if◌then◌else◌, Option, None, Some}
 use Rattle.std.specs.Prelude.{List, [], ◌∷◌, ◌++◌, length, take, drop, slice_range}
 use Rattle.ec_wire.specs.Command.{reads}
 use Rattle.ec_wire.specs.Datagram.{DatagramRecord}

@@ -1,0 +1,324 @@
+//! The library's benchmark: frame, join, judge and store of one LRW of 1,280 bytes and one BRD of 2, by
+//! `librummymaple.a` and in plain Rust by hand, over the same plain data and with no proof. Both are tried to
+//! come to the same before they are measured. It prints the nanoseconds of a cycle, ours and the peer's.
+
+use std::hint::black_box;
+use std::time::Instant;
+
+#[derive(Clone, Copy, PartialEq, Debug)]
+#[repr(C)]
+struct Item {
+    address: u32,
+    offset: u32,
+    length: u16,
+    kind: u16,
+    expected: u16,
+    sent: u16,
+    came: u16,
+    passed: u16,
+}
+
+#[repr(C)]
+struct Framed {
+    bytes: usize,
+    items: usize,
+    at: usize,
+    code: u32,
+}
+
+#[repr(C)]
+struct Joined {
+    bytes: usize,
+    at: usize,
+    code: u32,
+    copy_a: u32,
+    copy_b: u32,
+}
+
+#[repr(C)]
+struct Answer {
+    at: usize,
+    code: u32,
+}
+
+extern "C" {
+    fn rmp_frame(items: *const Item, n: usize, image: *const u8, image_size: usize, first: usize,
+        room: *mut u8, room_size: usize) -> Framed;
+    fn rmp_join(form: u32, sent: *const u8, sent_size: usize, a: *const u8, a_size: usize, b: *const u8,
+        b_size: usize, room: *mut u8, room_size: usize) -> Joined;
+    fn rmp_judge(items: *mut Item, n: usize, first: usize, joined: *const u8, size: usize) -> Answer;
+    fn rmp_store(items: *const Item, n: usize, first: usize, joined: *const u8, size: usize, image: *mut u8,
+        image_size: usize) -> Answer;
+}
+
+/// The peer: each call as a careful programmer writes it who knows where each byte stands.
+mod peer {
+    use super::Item;
+
+    fn word(bytes: &[u8], at: usize) -> u16 {
+        u16::from_le_bytes([bytes[at], bytes[at + 1]])
+    }
+
+    fn counts_adp(command: u8) -> bool {
+        matches!(command, 1..=3 | 7 | 8)
+    }
+
+    /// Where the datagrams of a frame begin, and how many they are; none where the bytes are no frame.
+    struct Frame<'a> {
+        bytes: &'a [u8],
+        starts: [u16; 124],
+        count: usize,
+    }
+
+    impl Frame<'_> {
+        fn read(bytes: &[u8]) -> Option<Frame<'_>> {
+            let head = if bytes.len() < 2 { return None } else { word(bytes, 0) };
+            let end = 2 + usize::from(head & 0x7FF);
+            if head >> 12 != 1 || head & 0x800 != 0 || end == 2 || end > 1500 || bytes.len() != end {
+                return None;
+            }
+            let (mut starts, mut count, mut at) = ([0; 124], 0, 2);
+            loop {
+                if end - at < 12 || bytes[at] > 14 || count == 124 {
+                    return None;
+                }
+                let length = word(bytes, at + 6);
+                let next = at + 12 + usize::from(length & 0x7FF);
+                let more = length >> 15 == 1;
+                if length & 0x3800 != 0 || next > end || more == (next == end) {
+                    return None;
+                }
+                starts[count] = at as u16;
+                count += 1;
+                at = next;
+                if !more {
+                    return Some(Frame { bytes, starts, count });
+                }
+            }
+        }
+
+        fn place(&self, k: usize) -> (usize, usize) {
+            let at = usize::from(self.starts[k]);
+            (at, at + 10 + usize::from(word(self.bytes, at + 6) & 0x7FF))
+        }
+
+        /// May it have come of the sent frame?
+        fn is_own(&self, sent: &Frame) -> bool {
+            self.count == sent.count
+                && (0..sent.count).all(|k| {
+                    let (at, _) = sent.place(k);
+                    let fixed = if counts_adp(sent.bytes[at]) { at + 4 } else { at + 2 };
+                    self.starts[k] == sent.starts[k]
+                        && self.bytes[at..at + 2] == sent.bytes[at..at + 2]
+                        && self.bytes[fixed..at + 6] == sent.bytes[fixed..at + 6]
+                        && (word(self.bytes, at + 6) ^ word(sent.bytes, at + 6)) & 0x7FF == 0
+                })
+        }
+
+        /// Are its datagrams answers of the items from `first` on?
+        fn answers(&self, items: &[Item], first: usize) -> bool {
+            self.count <= items.len().saturating_sub(first)
+                && (0..self.count).all(|k| {
+                    let (item, (at, end)) = (&items[first + k], self.place(k));
+                    u16::from(self.bytes[at]) == item.kind
+                        && usize::from(self.bytes[at + 1]) == first + k
+                        && end - at - 10 == usize::from(item.length)
+                })
+        }
+    }
+
+    fn is_taken(item: &Item, size: usize) -> bool {
+        let (end, length) = (u64::from(item.address), u64::from(item.length));
+        let in_range = match item.kind {
+            4 | 5 => (end >> 16) + length <= 0x3000,
+            7 => end + length <= 0x1000,
+            10..=12 => end + length <= 1 << 32,
+            _ => false,
+        };
+        let place = item.offset as usize + usize::from(item.length);
+        in_range && length > 0 && length <= 1486 && place <= size
+    }
+
+    pub fn frame(items: &[Item], image: &[u8], first: usize, room: &mut [u8]) -> Option<(usize, usize)> {
+        if items.len() > 256 || first >= items.len() || !items.iter().all(|i| is_taken(i, image.len())) {
+            return None;
+        }
+        let (mut at, mut count) = (2, 0);
+        let mut last = 0;
+        for (k, item) in items.iter().enumerate().skip(first) {
+            let length = usize::from(item.length);
+            if at + 12 + length > 1500 {
+                break;
+            }
+            if at + 12 + length > room.len() {
+                return None;
+            }
+            let address = if item.kind == 7 { item.address << 16 } else { item.address };
+            let (offset, end) = (item.offset as usize, at + 10 + length);
+            room[at..at + 2].copy_from_slice(&[item.kind as u8, k as u8]);
+            room[at + 2..at + 6].copy_from_slice(&address.to_le_bytes());
+            room[at + 6..at + 8].copy_from_slice(&(item.length | 0x8000).to_le_bytes());
+            room[at + 8..at + 10].copy_from_slice(&[0, 0]);
+            room[at + 10..end].copy_from_slice(&image[offset..offset + length]);
+            room[end..end + 2].copy_from_slice(&item.sent.to_le_bytes());
+            (last, at, count) = (at, end + 2, count + 1);
+        }
+        room[last + 7] &= 0x7F;
+        room[..2].copy_from_slice(&((at - 2) as u16 | 1 << 12).to_le_bytes());
+        Some((at, count))
+    }
+
+    pub fn join(sent: &[u8], a: &[u8], b: &[u8], room: &mut [u8]) -> Option<usize> {
+        let s = Frame::read(sent)?;
+        let x = Frame::read(a).unwrap_or(Frame { bytes: sent, ..s });
+        let y = Frame::read(b).unwrap_or(Frame { bytes: sent, ..s });
+        if !x.is_own(&s) || !y.is_own(&s) || room.len() < sent.len() {
+            return None;
+        }
+        room[..sent.len()].copy_from_slice(sent);
+        for k in 0..s.count {
+            let (at, end) = s.place(k);
+            let bits = at + 6..end;
+            let copies = x.bytes[bits.clone()].iter().zip(&y.bytes[bits.clone()]);
+            for ((r, s), (a, b)) in room[bits.clone()].iter_mut().zip(&sent[bits]).zip(copies) {
+                *r = s ^ ((s ^ a) | (s ^ b));
+            }
+            let mut count = |at: usize| {
+                let more = word(y.bytes, at).wrapping_sub(word(sent, at));
+                let joined = word(x.bytes, at).wrapping_add(more);
+                room[at..at + 2].copy_from_slice(&joined.to_le_bytes());
+            };
+            count(end);
+            if counts_adp(sent[at]) {
+                count(at + 2);
+            }
+        }
+        Some(sent.len())
+    }
+
+    /// The number of the first item whose counter has not moved as is expected, or none.
+    pub fn judge(items: &mut [Item], first: usize, joined: &[u8]) -> Option<Option<usize>> {
+        let frame = Frame::read(joined)?;
+        if !frame.answers(items, first) {
+            return None;
+        }
+        let mut wrong = None;
+        for k in 0..frame.count {
+            let (item, (at, end)) = (&mut items[first + k], frame.place(k));
+            item.came = word(joined, end);
+            item.passed = if item.kind == 7 { word(joined, at + 2) } else { 0 };
+            if item.came.wrapping_sub(item.sent) != item.expected && wrong.is_none() {
+                wrong = Some(first + k);
+            }
+        }
+        Some(wrong)
+    }
+
+    pub fn store(items: &[Item], first: usize, joined: &[u8], image: &mut [u8]) -> Option<()> {
+        let frame = Frame::read(joined)?;
+        if !items.iter().all(|item| is_taken(item, image.len())) || !frame.answers(items, first) {
+            return None;
+        }
+        for k in 0..frame.count {
+            let (item, (at, end)) = (&items[first + k], frame.place(k));
+            if !matches!(item.kind, 5 | 11) {
+                let offset = item.offset as usize;
+                image[offset..offset + usize::from(item.length)].copy_from_slice(&joined[at + 10..end]);
+            }
+        }
+        Some(())
+    }
+}
+
+const DATA: u16 = 1280;
+
+/// What a master holds, and what its ring brings back.
+struct Master {
+    items: [Item; 2],
+    image: [u8; DATA as usize + 2],
+    sent: [u8; 1500],
+    joined: [u8; 1500],
+    a: Vec<u8>,
+    b: Vec<u8>,
+}
+
+impl Master {
+    fn new() -> Master {
+        let none = Item { address: 0, offset: 0, length: 2, kind: 7, expected: 2, sent: 7, came: 0, passed: 0 };
+        let exchange = Item { address: 0x10000, length: DATA, kind: 12, expected: 3, ..none };
+        let states = Item { address: 0x130, offset: DATA.into(), ..none };
+        let mut master = Master {
+            items: [exchange, states],
+            image: [0x5A; DATA as usize + 2],
+            sent: [0; 1500],
+            joined: [0; 1500],
+            a: vec![],
+            b: vec![],
+        };
+        let (bytes, _) = peer::frame(&master.items, &master.image, 0, &mut master.sent).unwrap();
+        let (mut a, mut b) = (master.sent[..bytes].to_vec(), master.sent[..bytes].to_vec());
+        (a[20], a[12 + 1280], a[1296], a[1306]) = (0x33, 10, 1, 8); // one slave reads and writes on the way
+        (b[21], b[1296], b[1306], b[9]) = (0x44, 1, 8, b[9] | 0x40);
+        (master.a, master.b) = (a, b);
+        master
+    }
+
+    fn ours(&mut self) -> [u32; 4] {
+        let (n, size) = (self.items.len(), self.image.len());
+        let (items, image) = (self.items.as_mut_ptr(), self.image.as_mut_ptr());
+        let (sent, joined) = (self.sent.as_mut_ptr(), self.joined.as_mut_ptr());
+        // SAFETY: each pointer is that of an array of that length, and none of them overlap.
+        unsafe {
+            let made = rmp_frame(items, n, image, size, 0, sent, 1500);
+            let (a, b) = (&self.a, &self.b);
+            let came = rmp_join(1, sent, made.bytes, a.as_ptr(), a.len(), b.as_ptr(), b.len(), joined, 1500);
+            let verdict = rmp_judge(items, n, 0, joined, came.bytes);
+            let stored = rmp_store(items, n, 0, joined, came.bytes, image, size);
+            [made.code, came.code, verdict.code, stored.code]
+        }
+    }
+
+    fn peer(&mut self) -> Option<()> {
+        let (bytes, _) = peer::frame(&self.items, &self.image, 0, &mut self.sent)?;
+        let bytes = peer::join(&self.sent[..bytes], &self.a, &self.b, &mut self.joined)?;
+        if peer::judge(&mut self.items, 0, &self.joined[..bytes])?.is_some() {
+            return None;
+        }
+        peer::store(&self.items, 0, &self.joined[..bytes], &mut self.image)
+    }
+}
+
+/// The nanoseconds of one run, the best of some hundreds.
+fn measure(mut work: impl FnMut()) -> f64 {
+    const RUNS: u32 = 2000;
+    let one = |_| {
+        let start = Instant::now();
+        (0..RUNS).for_each(|_| work());
+        start.elapsed().as_secs_f64() * 1e9 / f64::from(RUNS)
+    };
+    (0..200).map(one).fold(f64::MAX, f64::min)
+}
+
+fn main() {
+    let (mut ours, mut peers) = (Master::new(), Master::new());
+    let first = ours.image;
+    assert_eq!(ours.ours(), [0; 4]);
+    assert_eq!(peers.peer(), Some(()));
+    assert!(ours.image != first && ours.image == peers.image && ours.joined == peers.joined);
+    assert!(ours.sent == peers.sent && ours.items == peers.items);
+    let image = ours.image;
+    let (mut here, mut there) = (f64::MAX, f64::MAX);
+    for _ in 0..5 {
+        // A cycle's outputs are written anew: what is joined is the sent frame and what its copies changed.
+        here = here.min(measure(|| {
+            ours.image = first;
+            black_box(black_box(&mut ours).ours());
+        }));
+        there = there.min(measure(|| {
+            peers.image = first;
+            black_box(black_box(&mut peers).peer());
+        }));
+    }
+    assert!(ours.image == image && peers.image == image);
+    println!("{here:.0} {there:.0}");
+}
