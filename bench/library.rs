@@ -244,9 +244,10 @@ struct Master {
 
 impl Master {
     fn new() -> Master {
-        let none = Item { address: 0, offset: 0, length: 2, kind: 7, expected: 2, sent: 7, came: 0, passed: 0 };
-        let exchange = Item { address: 0x10000, length: DATA, kind: 12, expected: 3, ..none };
-        let states = Item { address: 0x130, offset: DATA.into(), ..none };
+        let (address, offset) = (0x130, DATA.into());
+        let states = Item { address, offset, length: 2, kind: 7, expected: 2, sent: 7, came: 0, passed: 0 };
+        let exchange =
+            Item { address: 0x10000, offset: 0, length: DATA, kind: 12, expected: 3, ..states };
         let mut master = Master {
             items: [exchange, states],
             image: [0x5A; DATA as usize + 2],

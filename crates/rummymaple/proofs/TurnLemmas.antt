@@ -114,7 +114,8 @@ turns-calls h (c ∷ cs) (j ∷ js) later turns =
     let k : ℕ = h.cycle.first + length j in
     let next : Held = judged h j Good in
     let size : length (map (asked h.image) h.items) ≡ length h.items = length-map h.items (asked h.image) in
-    let more : AreCalls (map (asked next.image) next.items) k cs js = turns-calls next cs js later turns.3 in (
+    let more : AreCalls (map (asked next.image) next.items) k cs js =
+    turns-calls next cs js later turns.3 in (
       omega (arith, turns.0, size),
       turns.1,
       elim (cases_eq k (length h.items)) [

@@ -7,7 +7,8 @@ ghost use Rattle.rummymaple.specs.Items.{AreTaken};
 ghost use Rattle.rummymaple.specs.Numbers.{form_of};
 ghost use Rattle.rummymaple.specs.Turn.{held, begun, kept, settled, EndsFrame, EndsCopies, AreTurned};
 ghost use Rattle.rummymaple.specs.Turn.{IsFormTurn, IsFitTurn, IsOpenTurn, IsTurn, IsNext, none_made};
-ghost use Rattle.rummymaple.specs.Turn.{none_turned, turn_code, turn_place, turn_answer, taken_item, taken_over};
+ghost use Rattle.rummymaple.specs.Turn.{none_turned, turn_code, turn_place, turn_answer};
+ghost use Rattle.rummymaple.specs.Turn.{taken_item, taken_over};
 ghost use Rattle.rummymaple.specs.declared.cycle.Turn.{Turn};
 
 use crate::answered::{first_other, store_items, take_counts, verdict};

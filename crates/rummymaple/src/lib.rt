@@ -33,10 +33,10 @@
 //!   `ec_master::run_cycle` over ports that give what came, with all that this certifies.
 //!
 //! Each export answers by a struct of numbers, and its contract says of which end they are the numbers
-//! (`Join`, `Frame`, `Judge`, `Read`, `Cable` and `Turn` of specs/). What an item is stands in `Items`, what a
-//! joined frame gives it in `Answers`, the calls in their order in `Cycle`, and turns in `Turns`. A call needs
-//! less than 8 KB of stack: nothing that has the size of a frame is moved or made twice where it can stay in
-//! its place.
+//! (`Join`, `Frame`, `Judge`, `Read`, `Cable` and `Turn` of specs/). What an item is stands in `Items`, what
+//! a joined frame gives it in `Answers`, the calls in their order in `Cycle`, and turns in `Turns`. A call
+//! needs less than 8 KB of stack: nothing that has the size of a frame is moved or made twice where it can
+//! stay in its place.
 
 mod answered;
 mod cable;
