@@ -753,11 +753,85 @@ def a_master_names_what_is_in_its_way(stage):
         why = "fault: slave 0 (0x1001): Safe-Op: refused 0x001d invalid output configuration"
         yield "a refusal", why + "\n1\n", last_lines(stage.ends(*words), 2)
     yield "no items", "no items: nothing to cycle on\n1\n", stage.ends("master", "n", "--at", "127.0.0.1:9")
-    wanted = "argument: --outputs wants count\n2\n"
-    yield "outputs", wanted, stage.ends("master", "m", "--at", "127.0.0.1:9", "--outputs", "counts")
+    told_file = stage.ends("master", "m", "--at", "127.0.0.1:9", "--outputs", "counts")
+    yield "outputs", "outputs: Open\ncounts: ", told_file[:22]
     told_name = stage.ends("master", "m", "--at", "127.0.0.1:9,no end")
     yield "a name", "end B: \n3\n", told_name[:7] + told_name[-3:]
     yield "a log", "log: Open\n3\n", stage.ends(*words, "--log", "no/log")
+
+
+@case
+def the_outputs_of_a_file_begin_again_behind_its_last_line(stage):
+    """Each run begins at the first line; what a slave was shown last is the line of the last cycle."""
+    with stage.serve(TERMINALS, "--control", stdin=subprocess.PIPE) as line:
+        stage.file("m", TERMINALS)
+        stage.file("o", "0102\n0304\nF5f6")
+        for cycles, wanted in ((1, "01 02"), (2, "03 04"), (3, "f5 f6"), (4, "01 02"), (8, "03 04")):
+            at = ("--at", both_ends(stage), "--cycles", str(cycles), "--outputs", "o", *PATIENCE)
+            sums = f"cycles {cycles} good {cycles} short 0 over 0 fault 0\n"
+            yield "sums", sums, last_lines(stage.ends("master", "m", *at), 6).splitlines(True)[0]
+            line.process.stdin.write(b"areas\n")
+            shown = [line.line().split()[-1] for _ in range(2)]
+            yield f"{cycles} cycles", wanted, " ".join(shown)
+            yield "areas", "ok\n", line.line()
+
+
+# The machine with an object that the slaves let be written, and what is written into that of slave 1.
+WRITABLE = re.sub("(object 0x1018 1 .*\n)", r"\1object 0x8000 1 2 rw 5\n", MACHINE)
+STARTING = WRITABLE.replace("slave 0x1003", "startup 0x8000 1 0700\nstartup 0x8000 1 e803\nslave 0x1003")
+OBJECTS_STARTED = STARTED.replace("all in Safe-Op\n", "startup objects written\nall in Safe-Op\n")
+
+
+@case
+def startup_objects_are_written_before_safe_op(stage):
+    with stage.serve(WRITABLE, "--forever") as _line:
+        stage.file("m", STARTING)
+        at = ("--at", both_ends(stage))
+        wanted = OBJECTS_STARTED + "cycles 5 good 5 short 0 over 0 fault 0\n" + ITEMS + "0\n"
+        yield "master", wanted, stage.ends("master", "m", *at, "--cycles", "5", *PATIENCE)
+        yield "written", "value 0x03e8\n0\n", stage.ends("sdo", "m", "0x1002", "0x8000", "1", *at)
+        yield "another", "value 0x0005\n0\n", stage.ends("sdo", "m", "0x1003", "0x8000", "1", *at)
+
+
+@case
+def startup_objects_that_cannot_be_written_are_named(stage):
+    bad = {
+        "startup 0x8000 2 01": "0x8000:2: abort 0x06090011 subindex does not exist",
+        "startup 0x8001 0 01": "0x8001:0: abort 0x06020000 object does not exist in the object dictionary",
+        "startup 0x1018 1 02000000": "0x1018:1: abort 0x06010002 attempt to write a read only object",
+    }
+    with stage.serve(WRITABLE, "--forever") as _line:
+        for text, why in bad.items():
+            stage.file("m", WRITABLE.replace("slave 0x1003\n", f"{text}\nslave 0x1003\n"))
+            words = ("master", "m", "--at", both_ends(stage), "--cycles", "5", *PATIENCE)
+            wanted = f"all in Pre-Op\nfault: slave 1 (0x1002): startup object {why}\n1\n"
+            yield text, wanted, last_lines(stage.ends(*words), 3)
+    with stage.serve(TERMINALS, "--forever") as _line:
+        stage.file("m", TERMINALS.replace("slave 0x1002", "startup 0x8000 1 01\nslave 0x1002"))
+        wanted = "fault: slave 0 (0x1001): startup object 0x8000:1: no mailboxes\n1\n"
+        yield "no mailboxes", wanted, last_lines(stage.ends(*words), 2)
+
+
+@case
+def startup_objects_are_written_to_a_slave_that_came_back(stage):
+    """The service is started anew under a master: its slaves know nothing."""
+    stage.file("m", STARTING)
+    line = stage.serve(WRITABLE, "--forever")
+    words = ("master", "m", "--at", both_ends(stage), "--every", "2000", "--recover")
+    with stage.start(*words, stdin=subprocess.PIPE) as master:
+        for wanted in OBJECTS_STARTED.splitlines(True):
+            yield "start", wanted, master.line()
+        line.process.terminate()
+        line.process.wait()
+        with stage.serve(WRITABLE, "--forever") as _line:
+            brought = 0
+            while brought < 3:
+                brought += "brought to Op" in master.line()
+            master.process.stdin.close()
+            master.process.stdin = None
+            yield "end", ITEMS + "0\n", last_lines(master.end(), 3)
+            told_value = stage.ends("sdo", "m", "0x1002", "0x8000", "1", "--at", both_ends(stage))
+            yield "written", "value 0x03e8\n0\n", told_value
 
 
 @case

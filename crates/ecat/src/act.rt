@@ -16,6 +16,7 @@ use crate::where_broken::where_broken;
 use ec_services::MasterFault;
 use ecat_args::Args;
 use ecat_far::OpenFault;
+use ecat_master::ImagesFault;
 use ecat_raw::RawFault;
 use ecat_scene::SceneFault;
 use ecat_source::{PcapFault, Source};
@@ -63,8 +64,10 @@ pub enum Failure {
     PcapOpen,
     /// The file of a capture is there, and was not to be overwritten.
     PcapExists,
-    /// The outputs of a master are none that there are.
+    /// The file of a master's outputs could not be opened.
     Outputs,
+    /// The file of a master's outputs has none.
+    Images(ImagesFault),
     /// It is not said where a line lies that is somewhere else, or it is said twice.
     Reach,
     /// The descriptors of packet sockets are no numbers.
@@ -141,7 +144,9 @@ pub fn report<W: Write, V: Write>(failure: &Failure, out: &mut W, err: &mut V) -
         Failure::PcapOpen => failed(err, b"pcap: Open\n"),
         Failure::PcapExists => failed(err, b"pcap: Exists\n"),
         Failure::Clock => failed(err, b"clock: Open\n"),
-        Failure::Outputs => bad_argument(err, b"argument: --outputs wants count\n"),
+        Failure::Outputs => failed(err, b"outputs: Open\n"),
+        Failure::Images(ImagesFault::NoMemory) => failed(err, b"outputs: NoMemory\n"),
+        Failure::Images(fault) => refused(writeln!(out, "outputs: {fault}"), err),
         Failure::Reach => bad_argument(err, b"argument: --at or --raw is wanted, one of them\n"),
         Failure::Descriptors => bad_argument(
             err,

@@ -10,8 +10,12 @@ use ec_master::{MAX_ITEMS, Ports, Work, all_expected};
 use ec_ring::HeardPorts;
 use ec_wire::{Command, Datagram, FrameBuf};
 use ecat_far::{FarPorts, OpenFault, UdpCarrier, ends_of};
-use ecat_master::{Pace, Plan, ScanEnd, Wanted, Watched, master, scan, wanted_of};
+use ecat_master::{
+    MAX_STARTUP, Pace, Plan, ScanEnd, StartupObject, Wanted, Watched, image_length, master, scan,
+    wanted_of,
+};
 use ecat_raw::{Descriptors, RawCarrier, descriptors_of};
+use ecat_scene::SceneSlave;
 use ecat_source::Source;
 use ecat_text::{GOOD, Lines, REFUSED, refuse};
 use std::alloc::Global;
@@ -24,6 +28,9 @@ const LIMIT: u32 = 20_000;
 
 /// How long it is waited for at a network interface.
 const RAW_LIMIT: u32 = 2_000;
+
+/// What is written to a slave in Pre-Op.
+type Startup = [Option<StartupObject>; MAX_STARTUP];
 
 /// How a line is reached that lies somewhere else.
 #[derive(Clone, Copy)]
@@ -117,6 +124,13 @@ pub struct Course {
     expected: [u16; MAX_ITEMS],
 }
 
+impl Course {
+    /// How many bytes of outputs a cycle has.
+    pub fn image_length(&self) -> usize {
+        image_length(&self.work)
+    }
+}
+
 /// Reads and checks the scene that the source holds, before any socket is opened. Where there is nothing to
 /// cycle on, reports why and answers the exit status.
 pub fn course_of<S, W, V>(
@@ -145,6 +159,7 @@ fn checked_course<S: Source, W: Write>(
     out: &mut W,
 ) -> Result<Option<Course>, Failure> {
     let scene = scene_for_packets(alloc, source)?;
+    let startups = startups_of(alloc, scene.slaves.as_slice())?;
     let ring = ring_of(alloc, scene.slaves, &[])?;
     let mut lines = Lines::new(out);
     if scene.items.is_empty() {
@@ -157,21 +172,50 @@ fn checked_course<S: Source, W: Write>(
     }
     let work = work_of(scene.items)?;
     let expected = all_expected(ring.slaves(), &work);
-    match wanted_of(alloc, ring.slaves()) {
-        Ok(line) => Ok(Some(Course {
-            line,
-            work,
-            expected,
-        })),
-        Err(_) => Err(Failure::NoMemory),
+    let Ok(mut line) = wanted_of(alloc, ring.slaves()) else {
+        return Err(Failure::NoMemory);
+    };
+    for (wanted, startup) in line.iter_mut().zip(startups.iter()) {
+        wanted.startup = *startup;
     }
+    Ok(Some(Course {
+        line,
+        work,
+        expected,
+    }))
+}
+
+/// The startup objects of the slaves that a scene describes, by their places.
+fn startups_of(alloc: Global, described: &[SceneSlave]) -> Result<Vec<Startup>, Failure> {
+    let mut startups = Vec::new(alloc);
+    for slave in described {
+        if startups.push(startup_of(slave)).is_err() {
+            return Err(Failure::NoMemory);
+        }
+    }
+    Ok(startups)
+}
+
+/// The startup objects of a slave that a scene describes, in their order.
+fn startup_of(described: &SceneSlave) -> Startup {
+    let mut startup = [None; MAX_STARTUP];
+    for (number, object) in described.startup.iter().enumerate() {
+        if number < MAX_STARTUP {
+            startup[number] = Some(StartupObject {
+                index: object.index,
+                sub: object.sub,
+                value: object.value,
+            });
+        }
+    }
+    startup
 }
 
 /// Brings up a line over two ports and cycles on it, and answers the exit status. It takes no memory.
 pub fn act_master<P, T, W, V, L>(
     course: Course,
     ports: P,
-    plan: &Plan,
+    plan: &Plan<'_>,
     pace: &mut T,
     out: &mut W,
     err: &mut V,

@@ -66,6 +66,7 @@ fn slave_of(alloc: Global, described: SceneSlave) -> Result<Slave, Failure> {
         settings,
         objects,
         behaviours: _,
+        startup: _,
     } = described;
     let made = if simple {
         Slave::simple(alloc, station, objects, output_length, input_length)

@@ -11,6 +11,7 @@ mod cycle_rows;
 mod far;
 mod frame_rows;
 mod hints;
+mod images;
 mod judge;
 mod line;
 mod lint;

@@ -3,6 +3,7 @@
 use crate::act::{Failure, act, report};
 use crate::control::act_control;
 use crate::far::{Course, Reach, act_master, act_scan, course_of, far_ports, raw_ports};
+use crate::images::images_at;
 use crate::run::run;
 use crate::sdo::{Asked, sdo_far};
 use crate::serve::{Service, act_serve, line_to_serve, unbound};
@@ -10,7 +11,7 @@ use crate::tape::{Pcap, end, make};
 use crate::udp::{Prepared, Wanted, act_udp, prepare_udp};
 use crate::where_broken::where_far;
 use ecat_args::Args;
-use ecat_master::{Outputs, Plan};
+use ecat_master::{Image, Outputs, Plan};
 use ecat_pace::{Beat, Ending};
 use ecat_raw::{Descriptors, RawEnds, descriptors_of};
 use ecat_serve::{Served, UdpEnds};
@@ -40,8 +41,24 @@ struct Running<'a> {
     cycles: Option<u32>,
     every: Option<u32>,
     limit: Option<u32>,
+    outputs: Option<&'a str>,
     log: Option<&'a str>,
-    plan: Plan,
+    stop: bool,
+    recover: bool,
+    progress: bool,
+}
+
+impl Running<'_> {
+    /// How a master runs that has these outputs.
+    fn plan<'a>(&self, outputs: Outputs<'a>) -> Plan<'a> {
+        Plan {
+            outputs,
+            stop: self.stop,
+            recover: self.recover,
+            progress: self.progress,
+            log: self.log.is_some(),
+        }
+    }
 }
 
 /// Does a command, whose file is open as `source`, and answers the exit status.
@@ -124,9 +141,6 @@ where
             recover,
             ..
         } => {
-            let Some(outputs) = outputs_of(*outputs) else {
-                return report(&Failure::Outputs, out, err);
-            };
             let reach = match Reach::of(*at, *raw) {
                 Ok(reach) => reach,
                 Err(failure) => return report(&failure, out, err),
@@ -136,14 +150,11 @@ where
                 cycles: *cycles,
                 every: *every,
                 limit: *limit,
+                outputs: *outputs,
                 log: *log,
-                plan: Plan {
-                    outputs,
-                    stop: *stop,
-                    recover: *recover,
-                    progress: console.is_watched,
-                    log: log.is_some(),
-                },
+                stop: *stop,
+                recover: *recover,
+                progress: console.is_watched,
             };
             master_at(rt, running, console.input, source, out, err)
         }
@@ -207,12 +218,32 @@ where
     }
 }
 
-/// What the outputs of a master are to be: those of its scene, or a number that grows.
-fn outputs_of(word: Option<&str>) -> Option<Outputs> {
+/// What the outputs of a master are to be: those of its scene, a number that grows, or these images.
+fn outputs_of<'a>(word: Option<&str>, images: &'a [Image]) -> Outputs<'a> {
     match word {
-        None => Some(Outputs::Kept),
-        Some(word) if word == "count" => Some(Outputs::Count),
-        Some(_) => None,
+        None => Outputs::Kept,
+        Some(word) if word == "count" => Outputs::Count,
+        Some(_) => Outputs::Images(images),
+    }
+}
+
+/// The images of so many bytes that a word names by a file, if it names one; the exit status where they could
+/// not be had.
+fn images_of<R, W, V>(
+    rt: &R,
+    word: Option<&str>,
+    length: usize,
+    out: &mut W,
+    err: &mut V,
+) -> Result<Vec<Image>, u8>
+where
+    R: Files + AllocGlobal,
+    W: io::Write,
+    V: io::Write,
+{
+    match word {
+        Some(path) if path != "count" => images_at(rt, path, length, out, err),
+        _ => Ok(Vec::new(rt.alloc())),
     }
 }
 
@@ -229,7 +260,7 @@ where
 }
 
 /// Brings the line of a scene to Op, where it lies, and cycles on it. The sockets and the log are opened once
-/// it is known that there is something to cycle on.
+/// it is known that there is something to cycle on, and what the outputs are.
 fn master_at<R, S, W, V>(
     rt: &R,
     running: Running<'_>,
@@ -248,10 +279,15 @@ where
         Ok(course) => course,
         Err(status) => return status,
     };
+    let images = match images_of(rt, running.outputs, course.image_length(), out, err) {
+        Ok(images) => images,
+        Err(status) => return status,
+    };
+    let plan = running.plan(outputs_of(running.outputs, images.as_slice()));
     match running.log {
-        None => run_master(rt, course, running, input, out, err, &mut io::sink()),
+        None => run_master(rt, course, running, &plan, input, out, err, &mut io::sink()),
         Some(path) => match fs::create(rt, path) {
-            Ok(mut log) => run_master(rt, course, running, input, out, err, &mut log),
+            Ok(mut log) => run_master(rt, course, running, &plan, input, out, err, &mut log),
             Err(_) => report(&Failure::Log, out, err),
         },
     }
@@ -262,6 +298,7 @@ fn run_master<R, W, V, L>(
     rt: &R,
     course: Course,
     running: Running<'_>,
+    plan: &Plan<'_>,
     input: Stdin,
     out: &mut W,
     err: &mut V,
@@ -278,11 +315,11 @@ where
     };
     match running.reach {
         Reach::At(at) => match far_ports(rt, at, running.limit) {
-            Ok(ports) => act_master(course, ports, &running.plan, &mut beat, out, err, log),
+            Ok(ports) => act_master(course, ports, plan, &mut beat, out, err, log),
             Err(failure) => report(&failure, out, err),
         },
         Reach::Raw(descriptors) => match raw_ports(descriptors, running.limit) {
-            Ok(ports) => act_master(course, ports, &running.plan, &mut beat, out, err, log),
+            Ok(ports) => act_master(course, ports, plan, &mut beat, out, err, log),
             Err(failure) => report(&failure, out, err),
         },
     }

@@ -154,7 +154,7 @@ pub enum Args<'a> {
         every: Option<u32>,
         /// How many microseconds a copy is waited for.
         limit: Option<u32>,
-        /// What the outputs are; without it those of the scene.
+        /// What the outputs are: `count`, or the path of a file; without it those of the scene.
         outputs: Option<&'a str>,
         /// The path of a file that gets a line for each cycle.
         log: Option<&'a str>,

@@ -188,19 +188,21 @@ Example:
 /// Of `master`.
 pub(crate) const MASTER: &str = "\
 A master of a line somewhere else, whose ends A and B lie at AT; with one
-address it has one port. The scene is
-what the slaves are to be told, and its items are what each cycle asks. It
-counts the slaves, gives them their stations, writes their sync managers and
-FMMUs, and brings them to Op, a line for each step. Then it cycles, N times or
-to the end of standard input, and is silent while all is good. It tells of a
-cycle that is not good, with the item that is short and where the cable is
-broken; of redundancy that is lost though cycles are good; and of a ring that
-is whole again. At the end it prints how many cycles were good, short, over and
-without a verdict, and the items with their last answers.
+address it has one port. The scene is what the slaves are to be told, and its
+items are what each cycle asks. It counts the slaves, gives them their stations,
+writes their sync managers and FMMUs and, in Pre-Op, their startup objects, and
+brings them to Op, a line for each step. Then it cycles, N times or to the end
+of standard input, and is silent while all is good. It tells of a cycle that is
+not good, with the item that is short and where the cable is broken; of
+redundancy that is lost though cycles are good; and of a ring that is whole
+again. At the end it prints how many cycles were good, short, over and without
+a verdict, and the items with their last answers.
 With --outputs count the outputs are a number that grows by one each cycle.
+With --outputs and a file, of 1 MiB at most, each of its lines has the outputs
+of one cycle, and behind the last line it begins again at the first: the bytes
+of the items that write, item after item, two hexadecimal digits each.
 With --stop it ends at the first cycle that is not good. With --recover slaves
 that show an error, or came back in Init, are brought up again.
-
 With --raw the line is reached by network interfaces, through packet sockets
 that tools/raw opens; port A has the first and port B the second one.
 

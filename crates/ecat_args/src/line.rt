@@ -153,7 +153,7 @@ fn outputs<'a>(alloc: Global) -> Arg<'a>
     let outputs = optional(
         alloc,
         "OUTPUTS",
-        "The outputs: count, a number that grows by one each cycle; the scene's if not given",
+        "The outputs: count, or a file with a line for each cycle; the scene's if not given",
     );
     outputs.long("outputs")
 }

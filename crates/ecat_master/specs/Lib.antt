@@ -1,6 +1,7 @@
 pub mod Ask
 pub mod Watched
 pub mod Counting
+pub mod StartupObjects
 pub mod Step
 pub mod Phase
 pub mod Recovery

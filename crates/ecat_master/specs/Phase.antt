@@ -1,15 +1,16 @@
--- The slaves of a line are brought up phase by phase (IEC 61158-6-12, AL state machine): the mailboxes stand
--- before Pre-Op, the areas of process data and the FMMUs before Safe-Op.
+-- The slaves of a line are brought up phase by phase (IEC 61158-6-12, AL state machine; ETG.2000, InitCmd):
+-- the mailboxes stand before Pre-Op, startup objects are written there, and the areas of process data and the
+-- FMMUs stand before Safe-Op.
 use Rattle.std.specs.Prelude.{◌≡◌, ℕ, ◌+◌, List, [], ◌∷◌, Result, Ok, Err}
 use Rattle.ec_regs.specs.declared.al.AlState.TheVariants as state
 use Rattle.ec_master.specs.Ports.{Trips}
 use Rattle.ec_services.specs.declared.fault.MasterFault.{MasterFault}
 use Rattle.ecat_master.specs.Step.{IsTried}
 use Rattle.ecat_master.specs.declared.phase.Phase.{Phase}
-use Rattle.ecat_master.specs.declared.phase.Phase.TheVariants.{Init, PreOp, SafeOp, Op}
+use Rattle.ecat_master.specs.declared.phase.Phase.TheVariants.{Init, PreOp, Startup, SafeOp, Op}
 use Rattle.ecat_master.specs.declared.phase.StepFault.{StepFault}
 use Rattle.ecat_master.specs.declared.step.Step.{Step}
-use Rattle.ecat_master.specs.declared.step.Step.TheVariants.{SyncManager, Fmmu, State}
+use Rattle.ecat_master.specs.declared.step.Step.TheVariants.{SyncManager, Startup as StartupStep, Fmmu, State}
 use Rattle.ecat_master.specs.declared.step.TheConstants.{MORE_TRIES}
 use Rattle.ecat_master.specs.declared.wanted.Wanted.{Wanted}
 
@@ -17,6 +18,11 @@ use Rattle.ecat_master.specs.declared.wanted.Wanted.{Wanted}
 abbrev pub steps_of : Phase → List Step
 steps_of Init = State state.Init ∷ []
 steps_of PreOp = SyncManager 0 ∷ SyncManager 1 ∷ State state.PreOp ∷ []
+steps_of Startup =
+    StartupStep 0 ∷ StartupStep 1 ∷ StartupStep 2 ∷ StartupStep 3 ∷ StartupStep 4 ∷ StartupStep 5
+    ∷ StartupStep 6 ∷ StartupStep 7 ∷ StartupStep 8 ∷ StartupStep 9 ∷ StartupStep 10 ∷ StartupStep 11
+    ∷ StartupStep 12 ∷ StartupStep 13 ∷ StartupStep 14 ∷ StartupStep 15
+    ∷ []
 steps_of SafeOp =
     SyncManager 2 ∷ SyncManager 3 ∷ SyncManager 4 ∷ SyncManager 5 ∷ SyncManager 6 ∷ SyncManager 7
     ∷ Fmmu 0 ∷ Fmmu 1 ∷ Fmmu 2 ∷ Fmmu 3 ∷ Fmmu 4 ∷ Fmmu 5 ∷ Fmmu 6 ∷ Fmmu 7

@@ -15,13 +15,14 @@ use Rattle.ecat_master.specs.declared.recovery.Remedy.TheVariants.{Leave, From, 
 use Rattle.ecat_master.specs.declared.recovery.Seen.{Seen}
 use Rattle.ecat_master.specs.declared.recovery.Seen.TheVariants.{Nobody, In, Error, Several}
 
--- a slave in Op is left alone; one below it is brought up from the next phase on; one with an error from Init
--- on, which acknowledges it; one that does not answer is given its station address first
+-- a slave in Op is left alone; one below it is brought up from the next phase on, one in Pre-Op from its
+-- startup objects on; one with an error from Init on, which acknowledges it; one that does not answer is given
+-- its station address first
 abbrev pub remedy_of : Seen → Remedy
 remedy_of Nobody = Address
 remedy_of (In s) = elim s [
   | state.Init ↦ From phase.PreOp
-  | state.PreOp ↦ From phase.SafeOp
+  | state.PreOp ↦ From phase.Startup
   | state.SafeOp ↦ From phase.Op
   | state.Op ↦ Leave
 ]

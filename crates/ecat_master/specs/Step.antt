@@ -1,5 +1,6 @@
 -- A slave is brought up step by step (IEC 61158-6-12, AL management; IEC 61158-4-12, sync manager and FMMU
--- entities): it gets its station address, its records are written and read back, it is asked for a state.
+-- entities): it gets its station address, its records are written and read back, its startup objects are
+-- written, it is asked for a state.
 use Rattle.std.specs.Prelude.{◌≡◌, ℕ, zero, suc, ◌+◌, ◌-◌, ◌*◌, ◌%◌, ◌==◌, nat_lt, Bool, true, false, Option}
 use Rattle.std.specs.Prelude.{None, Some, List, [], ◌∷◌, length, take, replicate, Result, Ok, Err, not}
 use Rattle.std.specs.Prelude.{nat_eq, slice_get, slice_index}
@@ -19,9 +20,10 @@ use Rattle.ec_services.specs.States.{IsRequested}
 use Rattle.ec_services.specs.Stations.{station_write}
 use Rattle.ec_services.specs.declared.fault.MasterFault.{MasterFault}
 use Rattle.ec_services.specs.declared.fault.MasterFault.TheVariants.{NoSlave, BadAnswer}
+use Rattle.ecat_master.specs.StartupObjects.{startup_peer, WritesStartup}
 use Rattle.ecat_master.specs.declared.step.Step.{Step}
 use Rattle.ecat_master.specs.declared.step.Step.TheVariants.{Station, StationBehind, StationBefore}
-use Rattle.ecat_master.specs.declared.step.Step.TheVariants.{SyncManager, Fmmu as FmmuRecord, State}
+use Rattle.ecat_master.specs.declared.step.Step.TheVariants.{SyncManager, Fmmu as FmmuRecord, Startup, State}
 use Rattle.ecat_master.specs.declared.step.TheConstants.{MOST_READS, AREA_BYTES, SWITCH_AT}
 use Rattle.ecat_master.specs.declared.wanted.Wanted.{Wanted}
 
@@ -92,6 +94,10 @@ behind_question distance station = record {
 abbrev pub number_in : ℕ → ℕ
 number_in number = number % 8
 
+-- those of startup objects at 16
+abbrev pub startup_number : ℕ → ℕ
+startup_number number = number % 16
+
 -- the record of a sync manager or of an FMMU that is there is set
 abbrev pub SetsManager : {P : Type 0} → Trips P → P → ℕ → ℕ → Option SyncMan
     → Result (Unit {0}) MasterFault → P
@@ -122,6 +128,9 @@ IsDone trips before place wanted (SyncManager n) result later =
     (number_in n)) result later
 IsDone trips before place wanted (FmmuRecord n) result later =
     SetsFmmu trips before wanted.station (number_in n) (slice_get wanted.fmmus (number_in n)) result later
+IsDone trips before place wanted (Startup n) result later =
+    WritesStartup trips before (startup_peer wanted (startup_number n))
+    (slice_get wanted.startup (startup_number n)) result later
 IsDone trips before place wanted (State state) result later =
     IsRequested trips before wanted.station state MOST_READS result later
 

@@ -40,13 +40,13 @@ impl Cycles {
     pub fn cycle<P: Ports>(
         &mut self,
         ports: &mut P,
-        outputs: Outputs,
+        outputs: Outputs<'_>,
         expected: &[u16],
     ) -> Result<Verdict, CycleFault>
         requires items { length expected.now ≡ length self.old.asked }
         requires room { self.old.counts.cycles < 2 ^ 64 - 1 }
         requires sum { AddUp self.old.counts }
-        ensures cycle { IsCycle P.trips ports.old outputs expected.now self.old result self.new ports.new }
+        ensures cycle { IsCycle P.trips ports.old outputs.entry expected.now self.old result self.new ports.new }
         ensures adds_up { AddUp self.new.counts }
         ensures counted { result ≡ Err Port → P.failed ports.old < P.failed ports.new }
         ensures never_lower { P.failed ports.old ≤ P.failed ports.new }

@@ -42,10 +42,12 @@
 //! item 0 LRW data a0a1a2 wkc 9 of 9
 //! ```
 //!
-//! - [`Wanted`] is what a slave is to be told; [`wanted_of`] reads it off the slaves of a scene.
+//! - [`Wanted`] is what a slave is to be told; [`wanted_of`] reads it off the slaves of a scene, and its
+//!   startup objects are put beside.
 //! - [`start`] counts the slaves, looks at the cable, gives the stations by place, and brings all slaves
 //!   through the phases ([`Phase`]), each a list of steps ([`Step`]).
-//! - [`Cycles`] is a work that is done again and again: [`Cycles::cycle`] makes one.
+//! - [`Cycles`] is a work that is done again and again: [`Cycles::cycle`] makes one. Its [`Outputs`] may be
+//!   images of a text, a line for each cycle ([`read_images`]).
 //! - [`Seen::remedy`] is the table of what is done with a slave that has left Op.
 //! - [`scan`] tells what stands on a line, slave by slave. [`master`] is all but that, with an exit status.
 //!
@@ -58,14 +60,16 @@
 //!   cycle brought and nothing else. `adds_up`: good, short, over and fault are all cycles together.
 //! - [`run_cycles`] (`cycles`): the cycles of a run are such cycles, one after the other.
 //!
-//! What is printed and when is tried by tests. What the contracts speak of stands in specs/: `Step` and
-//! `Phase` (start-up), `Cycles` and `Outputs`, `Recovery`, `Watched` (ports that tell where copies arrive, as
-//! ports of a master), `Ask` and `Counting` (one question).
+//! What is printed and when is tried by tests. What the contracts speak of stands in specs/: `Step`, `Phase`
+//! and `StartupObjects` (start-up), `Cycles` and `Outputs`, `Recovery`, `Watched` (ports that tell where
+//! copies arrive, as ports of a master), `Ask` and `Counting` (one question).
 
 mod ask;
 mod counting;
 mod counts;
 mod cycles;
+mod images;
+mod objects;
 mod outputs;
 mod pace;
 mod phase;
@@ -83,6 +87,7 @@ mod words;
 pub use counting::count_slaves;
 pub use counts::Counts;
 pub use cycles::{Cycles, MOST_CYCLES};
+pub use images::{Image, ImageFault, ImagesFault, MAX_IMAGES_TEXT, image_length, read_images};
 pub use outputs::Outputs;
 pub use pace::Pace;
 pub use phase::{PHASES, Phase, StepFault, bring_line};
@@ -92,7 +97,7 @@ pub use run::{FAILED, GOOD, Plan, REFUSED, Teller, master, run_cycles};
 pub use scanning::{ScanEnd, scan};
 pub use startup::{StartEnd, StartFault, put_start_fault, start};
 pub use step::Step;
-pub use wanted::{Wanted, wanted_of};
+pub use wanted::{MAX_STARTUP, StartupObject, Wanted, wanted_of};
 pub use watched::{Signs, Watched, Ways};
 
 #[cfg(test)]

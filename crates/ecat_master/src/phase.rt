@@ -17,6 +17,8 @@ pub enum Phase {
     Init,
     /// The mailboxes, and Pre-Op.
     PreOp,
+    /// The startup objects, in Pre-Op.
+    Startup,
     /// The areas of process data and the FMMUs, and Safe-Op.
     SafeOp,
     /// Op.
@@ -24,7 +26,13 @@ pub enum Phase {
 }
 
 /// The phases in their order.
-pub const PHASES: [Phase; 4] = [Phase::Init, Phase::PreOp, Phase::SafeOp, Phase::Op];
+pub const PHASES: [Phase; 5] = [
+    Phase::Init,
+    Phase::PreOp,
+    Phase::Startup,
+    Phase::SafeOp,
+    Phase::Op,
+];
 
 const INIT_STEPS: [Step; 1] = [Step::State(AlState::Init)];
 
@@ -32,6 +40,25 @@ const PRE_OP_STEPS: [Step; 3] = [
     Step::SyncManager(0),
     Step::SyncManager(1),
     Step::State(AlState::PreOp),
+];
+
+const STARTUP_STEPS: [Step; 16] = [
+    Step::Startup(0),
+    Step::Startup(1),
+    Step::Startup(2),
+    Step::Startup(3),
+    Step::Startup(4),
+    Step::Startup(5),
+    Step::Startup(6),
+    Step::Startup(7),
+    Step::Startup(8),
+    Step::Startup(9),
+    Step::Startup(10),
+    Step::Startup(11),
+    Step::Startup(12),
+    Step::Startup(13),
+    Step::Startup(14),
+    Step::Startup(15),
 ];
 
 const SAFE_OP_STEPS: [Step; 15] = [
@@ -56,13 +83,14 @@ const OP_STEPS: [Step; 1] = [Step::State(AlState::Op)];
 
 impl Phase {
     /// The steps of the phase, in their order (IEC 61158-6-12, AL state machine: the mailboxes stand before
-    /// Pre-Op, the process data before Safe-Op).
+    /// Pre-Op, the process data before Safe-Op; ETG.2000, InitCmd: objects are written between them).
     pub fn steps(self) -> &'static [Step]
         ensures { result.now ≡ steps_of self }
     {
         match self {
             Phase::Init => &INIT_STEPS,
             Phase::PreOp => &PRE_OP_STEPS,
+            Phase::Startup => &STARTUP_STEPS,
             Phase::SafeOp => &SAFE_OP_STEPS,
             Phase::Op => &OP_STEPS,
         }
@@ -72,7 +100,7 @@ impl Phase {
     pub fn state(self) -> AlState {
         match self {
             Phase::Init => AlState::Init,
-            Phase::PreOp => AlState::PreOp,
+            Phase::PreOp | Phase::Startup => AlState::PreOp,
             Phase::SafeOp => AlState::SafeOp,
             Phase::Op => AlState::Op,
         }

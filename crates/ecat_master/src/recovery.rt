@@ -52,7 +52,7 @@ impl Seen {
         match self {
             Seen::Nobody => Remedy::Address,
             Seen::In(AlState::Init) => Remedy::From(Phase::PreOp),
-            Seen::In(AlState::PreOp) => Remedy::From(Phase::SafeOp),
+            Seen::In(AlState::PreOp) => Remedy::From(Phase::Startup),
             Seen::In(AlState::SafeOp) => Remedy::From(Phase::Op),
             Seen::In(AlState::Op) => Remedy::Leave,
             Seen::Error(_) => Remedy::From(Phase::Init),
@@ -153,8 +153,10 @@ fn bring_from<P: Ports>(
 ) -> Result<(), StepFault>
     ensures never_lower { P.failed ports.old ≤ P.failed ports.new }
 {
+    let mut is_reached = false;
     for phase in PHASES {
-        if phase.state().code() >= first.state().code() {
+        is_reached = is_reached || phase == first;
+        if is_reached {
             bring_slave(ports, place, wanted, phase.steps())?;
         }
     }

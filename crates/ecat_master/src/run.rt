@@ -38,10 +38,10 @@ const LOOK_EVERY: u64 = 16;
 const SECOND: u64 = 1_000_000;
 
 /// How a master runs.
-#[derive(Clone, Copy, PartialEq, Eq, Debug)]
-pub struct Plan {
+#[derive(Clone, Copy)]
+pub struct Plan<'a> {
     /// What the items of each cycle send.
-    pub outputs: Outputs,
+    pub outputs: Outputs<'a>,
     /// Whether the first cycle that is not good is the last one.
     pub stop: bool,
     /// Whether slaves that have left Op are brought up again.
@@ -193,7 +193,7 @@ impl<'a, W: Write, V: Write, L: Write> Teller<'a, W, V, L> {
             Outcome::Failed(fault) if self.failed == Some(fault) => Ok(()),
             Outcome::Failed(fault) => {
                 self.failed = Some(fault);
-                put_unrecovered(cycle, &fault, &mut self.out)
+                put_unrecovered(cycle, &fault, wanted, &mut self.out)
             }
         }
     }
@@ -248,12 +248,13 @@ fn put_recovered<W: Write>(
 fn put_unrecovered<W: Write>(
     cycle: u64,
     fault: &StepFault,
+    wanted: &Wanted,
     lines: &mut Lines<'_, W>,
 ) -> io::Result<()> {
     lines.text("cycle ")?;
     lines.number(cycle)?;
     lines.text(": ")?;
-    put_step_fault(fault, lines)?;
+    put_step_fault(fault, wanted, lines)?;
     lines.end()
 }
 
@@ -265,7 +266,7 @@ pub fn run_cycles<P, T, W, V, L>(
     ports: &mut Watched<P>,
     line: &[Wanted],
     expected: &[u16],
-    plan: &Plan,
+    plan: &Plan<'_>,
     pace: &mut T,
     teller: &mut Teller<'_, W, V, L>,
 ) -> io::Result<Option<Result<Verdict, CycleFault>>>
@@ -338,7 +339,7 @@ pub fn master<P, T, W, V, L>(
     line: &[Wanted],
     work: Work,
     expected: &[u16],
-    plan: &Plan,
+    plan: &Plan<'_>,
     pace: &mut T,
     out: &mut W,
     err: &mut V,

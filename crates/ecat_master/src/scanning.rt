@@ -6,12 +6,13 @@ ghost use Rattle.ec_wire.specs.Datagram.{nth};
 
 use crate::ask::{one_counted, put, request};
 use crate::counting::count_slaves;
+use crate::objects::peer_between;
 use crate::print::Lines;
 use crate::startup::look_surely;
 use crate::watched::Watched;
 use crate::words::{put_cable, put_code, put_fault, state_name};
 use ec_app::Value;
-use ec_app::roles::{ANSWER_MAILBOX, REQUEST_MAILBOX, is_answer_mailbox, is_request_mailbox};
+use ec_app::roles::{ANSWER_MAILBOX, REQUEST_MAILBOX};
 use ec_diag::Located;
 use ec_master::Ports;
 use ec_regs::registers::{
@@ -19,7 +20,7 @@ use ec_regs::registers::{
 };
 use ec_regs::{AlState, AlStatus, Fmmu, SyncMan};
 use ec_ring::{HeardPorts, MAX_SLAVES};
-use ec_services::{Area, MasterFault, Peer, upload_surely};
+use ec_services::{MasterFault, Peer, upload_surely};
 use ec_wire::{Command, FrameBuf, address_of};
 use std::io::{self, Write};
 
@@ -297,32 +298,6 @@ fn put_fmmu<W: Write>(number: usize, fmmu: &Fmmu, lines: &mut Lines<'_, W>) -> i
     })
 }
 
-/// The area of a mailbox.
-fn area_of(manager: &SyncMan) -> Area
-    ensures { result.length ≡ manager.now.length }
-{
-    Area {
-        start: manager.start,
-        length: manager.length,
-    }
-}
-
-/// A slave with these records as one with which mails are exchanged, if both are mailboxes.
-#[tactic(auto, unfolding(ec_regs::specs::SyncMan::is_active))]
-fn peer_between(station: u16, requests: &SyncMan, answers: &SyncMan) -> Option<Peer>
-    ensures { IfSome result IsPeer }
-{
-    if !is_request_mailbox(requests) || !is_answer_mailbox(answers) {
-        return None;
-    }
-    Some(Peer {
-        station,
-        to: area_of(requests),
-        from: area_of(answers),
-        counter: 1,
-    })
-}
-
 /// A slave as one with which mails are exchanged, if it has both mailboxes and answers mails in its state.
 fn peer_of(shown: &Shown) -> Option<Peer>
     ensures { IfSome result IsPeer }
@@ -332,7 +307,7 @@ fn peer_of(shown: &Shown) -> Option<Peer>
     }
     let requests = &shown.managers[REQUEST_MAILBOX];
     let answers = &shown.managers[ANSWER_MAILBOX];
-    peer_between(shown.station, requests, answers)
+    peer_between(shown.station, requests, answers, 1)
 }
 
 /// Puts who a slave is, if it answers mails: its vendor and its product.

@@ -3,7 +3,7 @@
 ghost use Rattle.std.specs.Prelude.{◌≤◌, length};
 
 use crate::counting::count_slaves;
-use crate::phase::{PHASES, StepFault, bring, bring_line};
+use crate::phase::{PHASES, Phase, StepFault, bring, bring_line};
 use crate::print::Lines;
 use crate::step::Step;
 use crate::wanted::Wanted;
@@ -53,7 +53,8 @@ impl From<StepFault> for StartEnd {
 
 /// Brings up a line, at most 256 slaves, and writes a line of text for each part of it that is done: the
 /// slaves are counted and the cable is looked at; each slave is given its station address; then phase by
-/// phase all slaves are brought to Op. It answers where the cable is broken: nowhere, or at one link.
+/// phase all slaves are brought to Op, and their startup objects are written. It answers where the cable is
+/// broken: nowhere, or at one link.
 pub fn start<P: HeardPorts, W: Write>(
     ports: &mut Watched<P>,
     line: &[Wanted],
@@ -73,11 +74,23 @@ pub fn start<P: HeardPorts, W: Write>(
     lines.end()?;
     for phase in PHASES {
         bring_line(ports, line, phase)?;
-        lines.text("all in ")?;
-        lines.text(state_name(phase.state()))?;
-        lines.end()?;
+        tell_phase(phase, line, lines)?;
     }
     Ok(located)
+}
+
+/// Tells of a phase through which all slaves were brought; nothing of startup objects where there is none.
+fn tell_phase<W: Write>(phase: Phase, line: &[Wanted], lines: &mut Lines<'_, W>) -> io::Result<()> {
+    if phase != Phase::Startup {
+        lines.text("all in ")?;
+        lines.text(state_name(phase.state()))?;
+        return lines.end();
+    }
+    if line.iter().any(|wanted| wanted.has_startup()) {
+        lines.text("startup objects written")?;
+        lines.end()?;
+    }
+    Ok(())
 }
 
 /// Counts the slaves, which are to be so many.
@@ -182,7 +195,10 @@ pub fn put_start_fault<W: Write>(
         StartFault::Ask(fault) => put_fault(*fault, lines)?,
         StartFault::Count(_) => lines.text("another number of slaves")?,
         StartFault::Cable(located) => put_cable(*located, line, lines)?,
-        StartFault::Step(fault) => put_step_fault(fault, lines)?,
+        StartFault::Step(fault) => match line.get(usize::from(fault.place)) {
+            Some(wanted) => put_step_fault(fault, wanted, lines)?,
+            None => {}
+        },
     }
     lines.end()
 }

@@ -3,11 +3,13 @@
 ghost use Rattle.std.specs.Prelude.{◌≡◌, ◌≤◌, ◌<◌, Ok, Err, length};
 ghost use Rattle.ec_services.specs.Ask.{IsAsked, Talks, done, write};
 ghost use Rattle.ec_services.specs.declared.fault.MasterFault.TheVariants.{Port};
-ghost use Rattle.ecat_master.specs.Step.{number_in, register_write, holds, manager_talk, fmmu_talk};
-ghost use Rattle.ecat_master.specs.Step.{address_write, behind_question, is_answered, IsDone, IsTried};
+ghost use Rattle.ecat_master.specs.Step.{number_in, startup_number, register_write, holds, manager_talk};
+ghost use Rattle.ecat_master.specs.Step.{fmmu_talk, address_write, behind_question, is_answered, IsDone};
+ghost use Rattle.ecat_master.specs.Step.{IsTried};
 
 use crate::ask::{held_by, one_counted, one_or_two, put, request};
-use crate::wanted::Wanted;
+use crate::objects::write_startup;
+use crate::wanted::{MAX_STARTUP, Wanted};
 use ec_master::Ports;
 use ec_regs::AlState;
 use ec_regs::registers::{
@@ -52,6 +54,8 @@ pub enum Step {
     SyncManager(u8),
     /// The record of the FMMU with this number is written and read back.
     Fmmu(u8),
+    /// The startup object with this number is written, if there is one; numbers begin anew at 16.
+    Startup(u8),
     /// It is asked for this state, which acknowledges an error that stands.
     State(AlState),
 }
@@ -62,6 +66,14 @@ fn number_in(number: u8) -> usize
     ensures bound { result < 8 }
 {
     usize::from(number % RECORDS)
+}
+
+/// Which startup object a number names.
+pub(crate) fn startup_number(number: u8) -> usize
+    ensures value { result ≡ startup_number number }
+    ensures bound { result < 16 }
+{
+    usize::from(number) % MAX_STARTUP
 }
 
 /// Writes bytes to a run of registers of one slave.
@@ -196,6 +208,7 @@ fn take<P: Ports>(ports: &mut P, place: u16, wanted: &Wanted, step: Step) -> Res
             let record = wanted.fmmu(number).write();
             set_fmmu(ports, station, number, &record)
         }
+        Step::Startup(number) => write_startup(ports, wanted, startup_number(number)),
         Step::State(state) => request_state(ports, station, state, MOST_READS),
     }
 }

@@ -2,13 +2,29 @@
 
 ghost use Rattle.std.specs.Prelude.{◌≡◌, ◌<◌, Some, slice_get};
 
-use ec_app::Slave;
+use ec_app::{Slave, Value};
 use ec_regs::registers::{FMMU_COUNT, SYNC_MANAGER_COUNT};
 use ec_regs::{Fmmu, NoMemory, SyncMan};
 use std::alloc::Global;
 
-/// What a slave is to be told at start-up: its station address, and the records of its sync managers and of
-/// its FMMUs, by number (IEC 61158-4-12, configured station address, sync manager and FMMU entities).
+/// The most startup objects of a slave.
+pub const MAX_STARTUP: usize = 16;
+
+/// An object that is written at start-up, in Pre-Op (ETG.2000, InitCmd of CoE at the transition Pre-Op to
+/// Safe-Op).
+#[derive(Clone, Copy, PartialEq, Eq, Debug)]
+pub struct StartupObject {
+    /// Its index.
+    pub index: u16,
+    /// Its subindex.
+    pub sub: u8,
+    /// What is written.
+    pub value: Value,
+}
+
+/// What a slave is to be told at start-up: its station address, the records of its sync managers and of its
+/// FMMUs, by number (IEC 61158-4-12, configured station address, sync manager and FMMU entities), and its
+/// startup objects.
 #[derive(Clone, Copy, Debug)]
 pub struct Wanted {
     /// Its station address.
@@ -17,10 +33,13 @@ pub struct Wanted {
     pub managers: [SyncMan; SYNC_MANAGER_COUNT],
     /// The records of its FMMUs.
     pub fmmus: [Fmmu; FMMU_COUNT],
+    /// The objects that are written in Pre-Op, in their order.
+    pub startup: [Option<StartupObject>; MAX_STARTUP],
 }
 
 impl Wanted {
-    /// What makes a slave that which this one is: its station address and its records as they stand.
+    /// What makes a slave that which this one is: its station address and its records as they stand, and no
+    /// startup object.
     pub fn of(slave: &Slave) -> Wanted {
         let controller = slave.controller();
         let mut managers = [SyncMan::read(&[0; 8]); SYNC_MANAGER_COUNT];
@@ -35,7 +54,13 @@ impl Wanted {
             station: controller.station(),
             managers,
             fmmus,
+            startup: [None; MAX_STARTUP],
         }
+    }
+
+    /// Has it any startup object?
+    pub fn has_startup(&self) -> bool {
+        self.startup.iter().any(|object| object.is_some())
     }
 }
 
@@ -54,6 +79,14 @@ impl Wanted {
         ensures { slice_get self.now.fmmus number ≡ Some result.now }
     {
         &self.fmmus[number]
+    }
+
+    /// The startup object with a number, if there is one.
+    pub(crate) fn startup_object(&self, number: usize) -> Option<StartupObject>
+        requires { number < MAX_STARTUP }
+        ensures { slice_get self.now.startup number ≡ Some result }
+    {
+        self.startup[number]
     }
 }
 

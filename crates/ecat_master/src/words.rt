@@ -2,8 +2,9 @@
 
 use crate::phase::StepFault;
 use crate::print::Lines;
-use crate::step::Step;
-use crate::wanted::Wanted;
+use crate::step::{Step, startup_number};
+use crate::wanted::{StartupObject, Wanted};
+use ec_app::AbortCode;
 use ec_diag::{CutOff, Located};
 use ec_regs::{AlState, AlStatusCode};
 use ec_services::MasterFault;
@@ -63,8 +64,8 @@ pub fn put_fault<W: Write>(fault: MasterFault, lines: &mut Lines<'_, W>) -> io::
     }
 }
 
-/// Puts what a step does.
-fn put_step<W: Write>(step: Step, lines: &mut Lines<'_, W>) -> io::Result<()> {
+/// Puts what a step does with a slave that is to be told this.
+fn put_step<W: Write>(step: Step, wanted: &Wanted, lines: &mut Lines<'_, W>) -> io::Result<()> {
     match step {
         Step::Station | Step::StationBehind(_) | Step::StationBefore => lines.text("station"),
         Step::SyncManager(number) => {
@@ -75,17 +76,57 @@ fn put_step<W: Write>(step: Step, lines: &mut Lines<'_, W>) -> io::Result<()> {
             lines.text("FMMU ")?;
             lines.number(u64::from(number))
         }
+        Step::Startup(number) => {
+            lines.text("startup object ")?;
+            match wanted.startup_object(startup_number(number)) {
+                Some(object) => put_object(object, lines),
+                None => lines.number(u64::from(number)),
+            }
+        }
         Step::State(state) => lines.text(state_name(state)),
     }
 }
 
-/// Puts why a slave could not be brought up.
-pub fn put_step_fault<W: Write>(fault: &StepFault, lines: &mut Lines<'_, W>) -> io::Result<()> {
+/// Puts which object a startup object is.
+fn put_object<W: Write>(object: StartupObject, lines: &mut Lines<'_, W>) -> io::Result<()> {
+    lines.word(object.index)?;
+    lines.text(":")?;
+    lines.number(u64::from(object.sub))
+}
+
+/// Puts why a step failed. Where a startup object found no slave to be written to, it has no mailboxes.
+fn put_step_reason<W: Write>(fault: &StepFault, lines: &mut Lines<'_, W>) -> io::Result<()> {
+    match (fault.step, fault.fault) {
+        (Step::Startup(_), MasterFault::NoSlave) => lines.text("no mailboxes"),
+        (Step::Startup(_), MasterFault::Abort(code)) => put_abort(code, lines),
+        _ => put_fault(fault.fault, lines),
+    }
+}
+
+/// Puts the code of an abort, and its name where it has one.
+fn put_abort<W: Write>(code: u32, lines: &mut Lines<'_, W>) -> io::Result<()> {
+    lines.text("abort ")?;
+    lines.long(code)?;
+    match AbortCode::from_code(code) {
+        Some(reason) => {
+            lines.text(" ")?;
+            lines.text(reason.name())
+        }
+        None => Ok(()),
+    }
+}
+
+/// Puts why a slave could not be brought up that is to be told this.
+pub fn put_step_fault<W: Write>(
+    fault: &StepFault,
+    wanted: &Wanted,
+    lines: &mut Lines<'_, W>,
+) -> io::Result<()> {
     put_slave(u64::from(fault.place), fault.station, lines)?;
     lines.text(": ")?;
-    put_step(fault.step, lines)?;
+    put_step(fault.step, wanted, lines)?;
     lines.text(": ")?;
-    put_fault(fault.fault, lines)
+    put_step_reason(fault, lines)
 }
 
 /// Puts where the cable of a line is broken and who is cut off, as far as it is known.

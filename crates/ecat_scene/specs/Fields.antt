@@ -1,5 +1,8 @@
 -- What the numbers of a line may be: a field takes those below its bound and no other, each as it is.
-use Rattle.std.specs.Prelude.{ℕ, nat_lt, if◌then◌else◌, [], ◌∷◌, Result, Ok, Err}
+use Rattle.std.specs.Prelude.{ℕ, nat_lt, if◌then◌else◌, List, [], ◌∷◌, Result, Ok, Err}
+use Rattle.std.specs.Int.{w16, w32, from_le_bytes}
+use Rattle.ec_app.specs.declared.value.Value.{Value}
+use Rattle.ec_app.specs.declared.value.Value.TheVariants.{One, Two, Four}
 use Rattle.ec_regs.specs.declared.fmmu.Fmmu.{Fmmu}
 use Rattle.ec_regs.specs.declared.sync_man.SyncMan.{SyncMan}
 use Rattle.ecat_scene.specs.declared.fault.LineFault.{LineFault}
@@ -33,3 +36,10 @@ enabled_sync_man start length control = record {
   activate = 1;
   pdi = 0;
 }
+
+-- the value of an object by its bytes on the wire, the lowest first
+abbrev pub wire_value : List ℕ → Result Value LineFault
+wire_value (a ∷ []) = Ok (One a)
+wire_value (a ∷ b ∷ []) = Ok (Two (from_le_bytes w16 (a ∷ b ∷ [])))
+wire_value (a ∷ b ∷ c ∷ d ∷ []) = Ok (Four (from_le_bytes w32 (a ∷ b ∷ c ∷ d ∷ [])))
+wire_value _ = Err OutOfRange

@@ -227,6 +227,7 @@ fn outside_of(first: &[u8]) -> &'static str {
     match first {
         b"mem" => "the bytes go past the process memory, which ends at 0x2FFF",
         b"object" => "the value does not fit its size in bytes",
+        b"startup" => "an object is written with 1, 2 or 4 bytes",
         b"link" | b"weather" => {
             "the line has no such link; link 0 is before the first slave, and one is behind each"
         }
@@ -243,6 +244,7 @@ fn most_of(first: &[u8]) -> &'static str {
     match first {
         b"slave" => "a scene has 256 slaves at most",
         b"object" => "a slave has 32 objects at most",
+        b"startup" => "a slave has 16 startup objects at most",
         b"frame" | b"step" => "a scene has 32 actions at most",
         b"weather" => "a scene has 32 weathers at most",
         _ => "a scene has 32 items at most",

@@ -26,7 +26,7 @@ pub enum LineFault {
     /// A value outside its field, or outside the memory that it names.
     #[error("OutOfRange")]
     OutOfRange,
-    /// More slaves, objects of a slave, actions, items or weathers than a scene may have.
+    /// More slaves, objects or startup objects of a slave, actions, items or weathers than a scene may have.
     #[error("TooMany")]
     TooMany,
     /// An object that the slave has already, or inputs that its application puts already.

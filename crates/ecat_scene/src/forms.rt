@@ -84,6 +84,10 @@ pub(crate) fn forms_of(first: &[u8]) -> Option<(&'static str, &'static [Form])> 
                 Form::Number(DOUBLE_WORD),
             ],
         )),
+        b"startup" => Some((
+            "startup INDEX SUB BYTES",
+            &[Form::Number(WORD), Form::Number(BYTE), Form::Bytes],
+        )),
         b"mirror" => Some((
             "mirror IN OUT",
             &[Form::Number(LAST_RECORD), Form::Number(LAST_RECORD)],

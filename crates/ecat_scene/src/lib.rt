@@ -45,8 +45,8 @@ pub use explain::{Explanation, explained};
 pub use fault::{LineFault, SceneFault};
 pub use lint::{OddLine, odd_lines};
 pub use scene::{
-    Action, FmmuSetting, Load, MAX_ACTIONS, MAX_ITEMS, MAX_SLAVES, MAX_TEXT, MAX_WEATHERS, Scene,
-    SceneSlave, SceneWeather, Setting, SyncManSetting,
+    Action, FmmuSetting, Load, MAX_ACTIONS, MAX_ITEMS, MAX_SLAVES, MAX_STARTUP, MAX_TEXT,
+    MAX_WEATHERS, Scene, SceneSlave, SceneWeather, Setting, StartupObject, SyncManSetting,
 };
 
 #[cfg(test)]

@@ -1,9 +1,12 @@
 //! What a scene says that is accepted and yet seldom meant.
 
+use crate::fault::Stop;
 use crate::number::number;
-use crate::slave_lines::{control_of, sync_man_of};
+use crate::scene::StartupObject;
+use crate::slave_lines::{control_of, object_of, startup_of, sync_man_of};
 use crate::words::words_of;
 use bitflags::Flags;
+use ec_app::Objects;
 use ec_app::roles::{
     ANSWER_MAILBOX, INPUTS, OUTPUTS, REQUEST_MAILBOX, fits_inputs, fits_outputs, is_answer_mailbox,
     is_request_mailbox,
@@ -32,6 +35,14 @@ enum Oddity {
     InputsDiffer,
     /// The object is never reached, since the slave has no mailboxes.
     NoMailboxes,
+    /// The startup object is never written, since the slave has no mailboxes.
+    StartsWithoutMailboxes,
+    /// The startup object is none that the slave has.
+    StartsWithNone,
+    /// The startup object may not be written.
+    StartsReadOnly,
+    /// The startup object has another size.
+    StartsOtherSize,
 }
 
 /// One line of a scene that is accepted and yet seldom meant; it is printed as a sentence.
@@ -91,6 +102,22 @@ impl fmt::Display for OddLine {
                     "no object is reached without mailboxes at sync managers 0 and 1"
                 )
             }
+            Oddity::StartsWithoutMailboxes => {
+                write!(
+                    f,
+                    "no startup object is written without mailboxes at sync managers 0 and 1"
+                )
+            }
+            Oddity::StartsWithNone => {
+                write!(f, "the slave has no object of this index and subindex")
+            }
+            Oddity::StartsReadOnly => write!(f, "the object is read only: its write is aborted"),
+            Oddity::StartsOtherSize => {
+                write!(
+                    f,
+                    "the object has another number of bytes: its write is aborted"
+                )
+            }
         }
     }
 }
@@ -106,10 +133,19 @@ struct SlaveLines {
     input_length: u16,
     of_state: usize,
     of_object: usize,
+    objects: Objects,
+    startup: Vec<StartupLine>,
+}
+
+/// A line with a startup object.
+#[derive(Clone, Copy)]
+struct StartupLine {
+    line: usize,
+    object: StartupObject,
 }
 
 impl SlaveLines {
-    fn new() -> SlaveLines {
+    fn new(alloc: Global) -> SlaveLines {
         let unset = SyncMan {
             start: 0,
             length: 0,
@@ -127,6 +163,8 @@ impl SlaveLines {
             input_length: 0,
             of_state: 0,
             of_object: 0,
+            objects: Objects::new(),
+            startup: Vec::new(alloc),
         }
     }
 
@@ -134,6 +172,21 @@ impl SlaveLines {
     fn has_mailboxes(&self) -> bool {
         is_request_mailbox(&self.sync_managers[REQUEST_MAILBOX])
             && is_answer_mailbox(&self.sync_managers[ANSWER_MAILBOX])
+    }
+
+    /// What is odd about the write of a startup object, if anything is.
+    fn oddity_of(&self, object: &StartupObject) -> Option<Oddity> {
+        if !self.has_mailboxes() {
+            return Some(Oddity::StartsWithoutMailboxes);
+        }
+        match self.objects.get(object.index, object.sub) {
+            None => Some(Oddity::StartsWithNone),
+            Some((rights, _)) if !rights.may_write() => Some(Oddity::StartsReadOnly),
+            Some((_, value)) if value.size() != object.value.size() => Some(
+                Oddity::StartsOtherSize,
+            ),
+            Some(_) => None,
+        }
     }
 }
 
@@ -155,7 +208,7 @@ pub fn odd_lines(alloc: Global, text: &[u8]) -> Result<Vec<OddLine>, AllocError>
         alloc,
         line: 0,
         slaves: 0,
-        slave: SlaveLines::new(),
+        slave: SlaveLines::new(alloc),
         found: Vec::new(alloc),
     };
     for line in text.split(|byte| *byte == b'\n') {
@@ -179,10 +232,12 @@ impl Linter {
             [b"fmmu", index, ..] => self.fmmu(index),
             [b"areas", outputs, inputs] => self.areas(outputs, inputs),
             [b"state", ..] => self.state(),
-            [b"object", ..] => {
+            [b"object", index, sub, size, rights, value] => {
                 self.slave.of_object = self.line;
+                self.object(index, sub, size, rights, value);
                 Ok(())
             }
+            [b"startup", index, sub, row] => self.startup(index, sub, row),
             _ => Ok(()),
         }
     }
@@ -202,7 +257,7 @@ impl Linter {
     fn begin_slave(&mut self) -> Result<(), AllocError> {
         self.end_slave()?;
         self.slaves = self.slaves.saturating_add(1);
-        self.slave = SlaveLines::new();
+        self.slave = SlaveLines::new(self.alloc);
         Ok(())
     }
 
@@ -227,7 +282,38 @@ impl Linter {
         if object != 0 && !self.slave.has_mailboxes() {
             self.keep(object, Oddity::NoMailboxes)?;
         }
+        self.end_startup()
+    }
+
+    /// What is odd about the startup objects of a slave whose lines are all known.
+    fn end_startup(&mut self) -> Result<(), AllocError> {
+        for k in 0..self.slave.startup.len() {
+            let StartupLine { line, object } = self.slave.startup[k];
+            if let Some(oddity) = self.slave.oddity_of(&object) {
+                self.keep(line, oddity)?;
+            }
+        }
         Ok(())
+    }
+
+    /// `object INDEX SUB SIZE RIGHTS VALUE`
+    fn object(&mut self, index: &[u8], sub: &[u8], size: &[u8], rights: &[u8], value: &[u8]) {
+        if let Ok((index, sub, rights, value)) = object_of(index, sub, size, rights, value) {
+            let _ = self.slave.objects.add(index, sub, rights, value);
+        }
+    }
+
+    /// `startup INDEX SUB BYTES`
+    fn startup(&mut self, index: &[u8], sub: &[u8], row: &[u8]) -> Result<(), AllocError> {
+        let line = self.line;
+        match startup_of(self.alloc, index, sub, row) {
+            Ok(object) => {
+                self.slave.startup.push(StartupLine { line, object })?;
+                Ok(())
+            }
+            Err(Stop::Fault(_)) => Ok(()),
+            Err(Stop::NoMemory) => Err(AllocError),
+        }
     }
 
     /// `sm N START LENGTH KIND`

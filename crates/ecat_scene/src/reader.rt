@@ -112,6 +112,7 @@ impl Reader {
             [b"fmmu", rest @ ..] => self.fmmu(rest),
             [b"mem", rest @ ..] => self.load(rest),
             [b"object", rest @ ..] => self.object(rest),
+            [b"startup", rest @ ..] => self.startup(rest),
             [b"link", rest @ ..] => self.link(rest),
             [b"frame", rest @ ..] => self.frame(rest),
             [b"step", rest @ ..] => self.step(rest),

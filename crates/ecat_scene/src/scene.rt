@@ -4,7 +4,7 @@ ghost use Rattle.ec_regs.specs.declared.registers.TheConstants.{FMMU_COUNT, SYNC
 
 use crate::fault::SceneFault;
 use crate::reader::Reader;
-use ec_app::Objects;
+use ec_app::{Objects, Value};
 use ec_map::Item;
 use ec_process::Behaviour;
 use ec_regs::{AlState, Fmmu, SyncMan};
@@ -25,6 +25,9 @@ pub const MAX_ITEMS: usize = 32;
 
 /// The most weathers of a scene.
 pub const MAX_WEATHERS: usize = 32;
+
+/// The most startup objects of a slave.
+pub const MAX_STARTUP: usize = 16;
 
 /// The record of one sync manager.
 #[derive(Debug, Drop)]
@@ -68,6 +71,18 @@ pub enum Setting {
     Load(Load),
 }
 
+/// An object that a master writes when it starts the slave, in Pre-Op (ETG.2000, InitCmd of CoE at the
+/// transition Pre-Op to Safe-Op).
+#[derive(Clone, Copy, PartialEq, Eq, Debug)]
+pub struct StartupObject {
+    /// Its index.
+    pub index: u16,
+    /// Its subindex.
+    pub sub: u8,
+    /// What is written.
+    pub value: Value,
+}
+
 /// One slave of the line.
 #[derive(Drop)]
 pub struct SceneSlave {
@@ -89,6 +104,9 @@ pub struct SceneSlave {
     /// What its application does with its process data, in the order of the lines. No two of them put the
     /// inputs of one sync manager.
     pub behaviours: Vec<Behaviour>,
+    /// What a master writes when it starts the slave, in the order of the lines, at most `MAX_STARTUP`; the
+    /// simulated slave knows nothing of it.
+    pub startup: Vec<StartupObject>,
 }
 
 /// What is done with the line before its cycle.

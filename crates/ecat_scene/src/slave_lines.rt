@@ -1,13 +1,15 @@
 //! The lines that describe a slave.
 
 ghost use Rattle.std.specs.Prelude.{◌≡◌, ◌<◌, ◌^◌, vec_len, Err, IfOk, IsOk};
-ghost use Rattle.ecat_scene.specs.Fields.{active_fmmu, enabled_sync_man, fitting};
+ghost use Rattle.ecat_scene.specs.Fields.{active_fmmu, enabled_sync_man, fitting, wire_value};
 ghost use Rattle.ecat_scene.specs.Order.{MissesSlave};
 
 use crate::fault::{LineFault, Stop};
 use crate::number::{byte, bytes, double_word, number, test_bytes, word};
 use crate::reader::Reader;
-use crate::scene::{FmmuSetting, Load, MAX_SLAVES, SceneSlave, Setting, SyncManSetting};
+use crate::scene::{
+    FmmuSetting, Load, MAX_SLAVES, MAX_STARTUP, SceneSlave, Setting, StartupObject, SyncManSetting,
+};
 use bitflags::Flags;
 use ec_app::{ObjectFault, Objects, Rights, Value};
 use ec_process::Behaviour;
@@ -39,6 +41,7 @@ impl Reader {
             settings: Vec::new(self.alloc),
             objects: Objects::new(),
             behaviours: Vec::new(self.alloc),
+            startup: Vec::new(self.alloc),
         };
         self.scene.slaves.push(slave)?;
         Ok(())
@@ -207,19 +210,74 @@ impl Reader {
             return Err(Stop::Fault(LineFault::WrongCount));
         };
         self.test_slave()?;
-        let index = number(index)?;
-        let sub = number(sub)?;
-        let size = number(size)?;
-        let rights = rights_of(rights)?;
-        let value = number(value)?;
-        let index = word(index)?;
-        let sub = byte(sub)?;
-        let value = value_of(size, value)?;
+        let (index, sub, rights, value) = object_of(index, sub, size, rights, value)?;
         match self.last_slave()?.objects.add(index, sub, rights, value) {
             Ok(()) => Ok(()),
             Err(ObjectFault::Full) => Err(Stop::Fault(LineFault::TooMany)),
             Err(ObjectFault::Twin) => Err(Stop::Fault(LineFault::Twin)),
         }
+    }
+
+    /// `startup INDEX SUB BYTES`
+    pub(crate) fn startup(&mut self, words: &[&[u8]]) -> Result<(), Stop>
+        ensures { MissesSlave 3 words.now self.old.scene result }
+    {
+        let [index, sub, row] = words else {
+            return Err(Stop::Fault(LineFault::WrongCount));
+        };
+        self.test_slave()?;
+        let object = startup_of(self.alloc, index, sub, row)?;
+        let slave = self.last_slave()?;
+        if slave.startup.len() >= MAX_STARTUP {
+            return Err(Stop::Fault(LineFault::TooMany));
+        }
+        slave.startup.push(object)?;
+        Ok(())
+    }
+}
+
+/// The index, the subindex, the rights and the value of an object of these words.
+pub(crate) fn object_of(
+    index: &[u8],
+    sub: &[u8],
+    size: &[u8],
+    rights: &[u8],
+    value: &[u8],
+) -> Result<(u16, u8, Rights, Value), LineFault> {
+    let index = number(index)?;
+    let sub = number(sub)?;
+    let size = number(size)?;
+    let rights = rights_of(rights)?;
+    let value = number(value)?;
+    Ok((word(index)?, byte(sub)?, rights, value_of(size, value)?))
+}
+
+/// The object that a master writes when it starts a slave, with the bytes of a row as they lie on the wire.
+pub(crate) fn startup_of(
+    alloc: Global,
+    index: &[u8],
+    sub: &[u8],
+    row: &[u8],
+) -> Result<StartupObject, Stop> {
+    let index = number(index)?;
+    let sub = number(sub)?;
+    test_bytes(row)?;
+    let index = word(index)?;
+    let sub = byte(sub)?;
+    let row = bytes(alloc, row)?;
+    let value = wire_value(row.as_slice())?;
+    Ok(StartupObject { index, sub, value })
+}
+
+/// The value of one, two or four bytes, the lowest first.
+fn wire_value(row: &[u8]) -> Result<Value, LineFault>
+    ensures { result ≡ wire_value row.now }
+{
+    match row {
+        [one] => Ok(Value::One(*one)),
+        [low, high] => Ok(Value::Two(u16::from_le_bytes([*low, *high]))),
+        [a, b, c, d] => Ok(Value::Four(u32::from_le_bytes([*a, *b, *c, *d]))),
+        _ => Err(LineFault::OutOfRange),
     }
 }
 

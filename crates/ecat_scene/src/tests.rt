@@ -13,6 +13,7 @@ mod explains;
 mod faults;
 mod lints;
 mod slaves;
+mod startups;
 mod works;
 
 const FIRST: &[u8] =

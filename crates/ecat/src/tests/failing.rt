@@ -9,6 +9,7 @@ use crate::udp::{act_udp, prepare_udp};
 use ec_master::PortFault;
 use ec_wire::PACKET_ROOM;
 use ecat_args::Args;
+use ecat_master::{ImageFault, ImagesFault};
 use ecat_scene::{LineFault, SceneFault};
 use ecat_source::{Bytes, FailsAt, PcapFault};
 use ecat_udp::{PacketLine, Socket};
@@ -194,6 +195,12 @@ fn what_fails_is_told_to_standard_error(rt: HostRuntime) {
         b"capture: NoMemory\n",
     );
     fails(&rt, Failure::Output, b"output: Write\n");
+    fails(&rt, Failure::Outputs, b"outputs: Open\n");
+    fails(
+        &rt,
+        Failure::Images(ImagesFault::NoMemory),
+        b"outputs: NoMemory\n",
+    );
     fails(&rt, Failure::Bind, b"socket: Bind\n");
     fails(&rt, Failure::NoMemoryForSockets, b"socket: NoMemory\n");
     fails(&rt, Failure::Port, b"cycle: Port\n");
@@ -206,6 +213,8 @@ fn what_is_refused_is_told_to_standard_output(rt: HostRuntime) {
         fault: LineFault::Twin,
     };
     refuses(&rt, Failure::Scene(fault), b"scene: line 7: Twin\n");
+    let fault = ImagesFault::Line(3, ImageFault::Length(2));
+    refuses(&rt, Failure::Images(fault), b"outputs: line 3: Length\n");
     refuses(
         &rt,
         Failure::Scene(SceneFault::TooLong),

@@ -11,10 +11,13 @@ use ec_ring::Ring;
 use std::alloc::Global;
 use std::process::Abort;
 
-/// A slave in Init with one object, a byte of outputs and a byte of inputs, and nothing set.
+/// A slave in Init with an object that is read and one of two bytes that is written, a byte of outputs and a
+/// byte of inputs, and nothing set.
 fn bare(rt: &impl Abort, alloc: Global, station: u16) -> Slave {
     let mut objects = Objects::new();
     let added = objects.add(0x1018, 1, Rights::ReadOnly, Value::Four(2));
+    assert!(rt; added.is_ok());
+    let added = objects.add(0x8000, 1, Rights::Both, Value::Two(0));
     assert!(rt; added.is_ok());
     Slave::new(alloc, station, objects, 1, 1).expect(rt, "memory")
 }
@@ -77,4 +80,10 @@ pub fn shown(ring: &Ring, place: usize) -> Option<(AlState, u16)> {
     let slave = ring.slaves().get(place)?;
     let controller = slave.controller();
     Some((slave.state(), controller.station()))
+}
+
+/// What the object holds that is written of the slave at a place, where there is one.
+pub fn held(ring: &Ring, place: usize) -> Option<Value> {
+    let (_, value) = ring.slaves().get(place)?.objects().get(0x8000, 1)?;
+    Some(value)
 }

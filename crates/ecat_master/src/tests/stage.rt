@@ -179,7 +179,7 @@ pub fn written(cursor: &Cursor<[u8; ROOM]>) -> &str {
 }
 
 /// How the runs of the tests go: the outputs are kept, slaves are recovered, nothing is logged.
-pub const PLAN: Plan = Plan {
+pub const PLAN: Plan<'static> = Plan {
     outputs: Outputs::Kept,
     stop: false,
     recover: true,
@@ -192,7 +192,7 @@ pub const PLAN: Plan = Plan {
 pub fn runs<P: HeardPorts + Drop>(
     rt: &(impl AllocGlobal + Abort),
     ports: P,
-    plan: &Plan,
+    plan: &Plan<'_>,
     cycles: u64,
     status: u8,
     text: &str,
@@ -207,7 +207,7 @@ pub fn runs_on<P: HeardPorts + Drop>(
     rt: &impl Abort,
     ports: P,
     line: &[Wanted],
-    plan: &Plan,
+    plan: &Plan<'_>,
     cycles: u64,
     status: u8,
     text: &str,

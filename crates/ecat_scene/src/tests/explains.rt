@@ -125,7 +125,7 @@ fn a_word_of_another_form_is_named(rt: HostRuntime) {
 
 #[test]
 fn a_word_out_of_its_range_is_named(rt: HostRuntime) {
-    let rows: [(&[u8], &str); 5] = [
+    let rows: [(&[u8], &str); 7] = [
         (
             b"slave 1\nsm 8 0x1000 1 write",
             "2:4: \"8\" is out of range; sm wants 0 to 7",
@@ -141,6 +141,14 @@ fn a_word_out_of_its_range_is_named(rt: HostRuntime) {
         (
             b"slave 1\nobject 1 1 1 ro 256",
             "2:1: the value does not fit its size in bytes",
+        ),
+        (
+            b"slave 1\nstartup 1 1 010203",
+            "2:1: an object is written with 1, 2 or 4 bytes",
+        ),
+        (
+            b"slave 1\nstartup 1 256 01",
+            "2:11: \"256\" is out of range; startup wants 0 to 255",
         ),
         (
             b"slave 1\nlink 2 down",

@@ -79,6 +79,25 @@ fn objects_without_mailboxes_are_odd(rt: HostRuntime) {
 }
 
 #[test]
+fn startup_objects_that_are_never_written_are_odd(rt: HostRuntime) {
+    let text = b"slave 1\nstartup 0x8000 1 01\nslave 2\nsm 0 0x1800 32 mailbox-write\n\
+        sm 1 0x1880 32 mailbox-read\nstartup 0x8000 1 01\nstartup 0x8000 2 0100\n\
+        startup 0x8000 3 01\nstartup 0x8000 4 01\nobject 0x8000 1 1 rw 0\nobject 0x8000 2 1 wo 0\n\
+        object 0x8000 3 1 ro 0";
+    assert_odd(
+        &rt,
+        rt.alloc(),
+        text,
+        &[
+            "line 2: slave 0: no startup object is written without mailboxes at sync managers 0 and 1",
+            "line 7: slave 1: the object has another number of bytes: its write is aborted",
+            "line 8: slave 1: the object is read only: its write is aborted",
+            "line 9: slave 1: the slave has no object of this index and subindex",
+        ],
+    );
+}
+
+#[test]
 fn a_usual_scene_has_nothing_odd(rt: HostRuntime) {
     assert_odd(
         &rt,

@@ -1,5 +1,7 @@
-use Rattle.std.proofs.Common.{◌+◌, ◌-◌, ◌%◌, true, false}
+use Rattle.std.proofs.Common.{◌+◌, ◌-◌, ◌%◌, true, false, ℕ, subst}
+use Rattle.std.specs.List.{slice_get}
 use Rattle.ec_services.specs.Ask.{write}
+use Rattle.ecat_master.specs.StartupObjects.{startup_peer, WritesStartup}
 use Rattle.ecat_master.specs.Step.{number_in, address_write, behind_question}
 use Rattle.ecat_master.proofs.StepLemmas.{talks_last, sets_manager}
 use Rattle.ecat_master.proofs.step.take.Goals as goal
@@ -32,3 +34,11 @@ returns-in-SyncManager-clause-done g c =
     (number_in c.in-SyncManager.number) c.number_in-number.result c.args.wanted.now.managers
     c.manager.result.now c.write-record.result c.set_manager.result c.number_in-number.ensures.value
     c.manager.ensures c.write-record.ensures.value c.set_manager.ensures.talk)
+
+pub returns-in-Startup-clause-done : goal.returns-in-Startup-clause-done
+returns-in-Startup-clause-done g c =
+    rw c.in-Startup.is
+    (subst
+    (λ (k : ℕ). WritesStartup g.P.Ports.trips c.args.ports.now (startup_peer c.args.wanted.now k)
+    (slice_get c.args.wanted.now.startup k) c.write_startup.result c.write_startup.new.ports)
+    c.startup_number.ensures.value c.write_startup.ensures.writes)
