@@ -827,6 +827,7 @@ def startup_objects_are_written_to_a_slave_that_came_back(stage):
             brought = 0
             while brought < 3:
                 brought += "brought to Op" in master.line()
+            time.sleep(1)
             master.process.stdin.close()
             master.process.stdin = None
             yield "end", ITEMS + "0\n", last_lines(master.end(), 3)

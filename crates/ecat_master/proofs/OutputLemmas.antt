@@ -1,10 +1,12 @@
 -- Items that are pushed, and what an image leaves.
 use Rattle.std.proofs.Common.{◌≡◌, ◌<◌, ◌≤◌, ◌+◌, ℕ, List, [], ◌∷◌, ◌++◌, length, refl, arith, Result, Ok}
-use Rattle.std.proofs.Common.{Err, ap, sym, ◌∙◌, drop, get_or}
+use Rattle.std.proofs.Common.{suc, Err, ap, sym, ◌∙◌, drop, get_or}
 use Rattle.std.specs.Prelude.{OnOk, IsErr, ◌↔◌}
-use Rattle.std.proofs.lemmas.List.{append_assoc, append-nil}
+use Rattle.std.proofs.lemmas.List.{append_assoc, append-nil, length-map}
 use Rattle.ec_map.specs.Item.{ItemRecord}
-use Rattle.ecat_master.specs.Outputs.{filled, filled_item, left_by}
+use Rattle.ecat_master.specs.Outputs.{filled, filled_item, image_of, left_by, numbered, outputs_at}
+use Rattle.ecat_master.specs.declared.outputs.Outputs.{Outputs}
+use Rattle.ecat_master.specs.declared.outputs.Outputs.TheVariants.{Kept, Count, Images}
 use Rattle.ecat_master.proofs.StepLemmas.{left_is, left_none}
 
 pub pushed : {E : Type 0} (result : Result (Unit {0}) E) (old later : List ItemRecord) (r : ItemRecord)
@@ -47,3 +49,16 @@ fills_all image rest items work k past so_far =
     ∙ ap (λ (ws : List ItemRecord). work ++ ws)
     (sym (ap (λ (rs : List ItemRecord). filled rest rs) (left_none items k past) ∙ filled-none rest))
     ∙ so_far
+
+-- ---- how many items there are
+
+filled-length : (image : List ℕ) (items : List ItemRecord) → length (filled image items) ≡ length items
+unfolding filled
+filled-length image [] = refl
+filled-length image (r ∷ rest) = ap suc (filled-length (left_by image r) rest)
+
+pub length_of_outputs : (outputs : Outputs) (cycle : ℕ) (items : List ItemRecord)
+    → length (outputs_at outputs cycle items) ≡ length items
+length_of_outputs Kept cycle items = refl
+length_of_outputs Count cycle items = length-map items (numbered cycle)
+length_of_outputs (Images images) cycle items = filled-length (image_of images.now cycle) items
