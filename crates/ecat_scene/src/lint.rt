@@ -288,7 +288,10 @@ impl Linter {
     /// What is odd about the startup objects of a slave whose lines are all known.
     fn end_startup(&mut self) -> Result<(), AllocError> {
         for k in 0..self.slave.startup.len() {
-            let StartupLine { line, object } = self.slave.startup[k];
+            let Some(one) = self.slave.startup.as_slice().get(k) else {
+                return Ok(());
+            };
+            let StartupLine { line, object } = *one;
             if let Some(oddity) = self.slave.oddity_of(&object) {
                 self.keep(line, oddity)?;
             }
