@@ -16,8 +16,8 @@ use Rattle.ecat_master.specs.declared.recovery.Seen.{Seen}
 use Rattle.ecat_master.specs.declared.recovery.Seen.TheVariants.{Nobody, In, Error, Several}
 
 -- a slave in Op is left alone; one below it is brought up from the next phase on, one in Pre-Op from its
--- startup objects on; one with an error from Init on, which acknowledges it; one that does not answer is given
--- its station address first
+-- startup objects on; one with an error from Init on, which acknowledges it; one that does not answer is
+-- given its station address first
 abbrev pub remedy_of : Seen → Remedy
 remedy_of Nobody = Address
 remedy_of (In s) = elim s [

@@ -46,7 +46,8 @@ impl Cycles {
         requires items { length expected.now ≡ length self.old.asked }
         requires room { self.old.counts.cycles < 2 ^ 64 - 1 }
         requires sum { AddUp self.old.counts }
-        ensures cycle { IsCycle P.trips ports.old outputs.entry expected.now self.old result self.new ports.new }
+        ensures cycle { IsCycle P.trips ports.old outputs.entry expected.now self.old result self.new
+            ports.new }
         ensures adds_up { AddUp self.new.counts }
         ensures counted { result ≡ Err Port → P.failed ports.old < P.failed ports.new }
         ensures never_lower { P.failed ports.old ≤ P.failed ports.new }
