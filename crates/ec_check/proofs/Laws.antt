@@ -11,7 +11,7 @@ use Rattle.ec_esc.specs.State.{ControllerState, IsController}
 use Rattle.ec_line.specs.Fit.{IsFitLine}
 use Rattle.ec_app.specs.Slave.{step}
 use Rattle.ec_app.specs.State.{SlaveState}
-use Rattle.ec_check.specs.Line.{controllers, controller_of, station_of}
+use Rattle.ec_check.specs.Line.{controllers, controllers_by, controller_of, station_of}
 use Rattle.ec_check.specs.Mapping.{without_status, mapping_of, mapping}
 use Rattle.ec_check.specs.Fit.{IsFit}
 use Rattle.ec_check.proofs.LineLemmas as lines
@@ -19,6 +19,17 @@ use Rattle.ec_check.proofs.FactLemmas as facts
 use Rattle.ec_check.proofs.MappingLemmas as mappings
 use Rattle.ec_check.proofs.LastsLemmas as lasts
 use Rattle.ec_check.proofs.PlacesLemmas as places
+
+-- the controller under a number is that of what stands under it
+pub controller_of-controllers_by : {S : Type 0} (controller : S → ControllerState) (line : List S) (i : ℕ)
+    (s : S) → i < length line → s ≡ get_or line i s
+    → controller_of (controllers_by controller line) i ≡ controller s
+controller_of-controllers_by = lines.controller_of-controllers_by
+
+-- there are as many controllers as there stand
+pub length-controllers_by : {S : Type 0} (controller : S → ControllerState) (line : List S)
+    → length (controllers_by controller line) ≡ length line
+length-controllers_by = lines.length-controllers_by
 
 -- the controller under a number is that of the slave under it
 pub controller_of-controllers : (slaves : List SlaveState) (i : ℕ) (s : SlaveState) → i < length slaves

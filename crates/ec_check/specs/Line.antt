@@ -12,6 +12,10 @@ use Rattle.ec_esc.specs.State.{word_at}
 use Rattle.ec_app.specs.State.{SlaveState}
 use Rattle.ec_check.specs.declared.line.Standing.{Standing}
 
+-- the controllers of a line, where this says which each has
+abbrev pub controllers_by : {S : Type 0} → (S → ControllerState) → List S → List ControllerState
+controllers_by controller line = map controller line
+
 -- the controllers of a line of slaves
 abbrev pub controllers : List SlaveState → List ControllerState
 controllers slaves = map (λ s. s.controller) slaves

@@ -3,20 +3,20 @@
 ghost use Rattle.std.specs.Prelude.{◌≡◌, ◌<◌, ◌≤◌, [], ◌∷◌, IsTrue, length};
 ghost use Rattle.ec_regs.specs.declared.registers.TheConstants.{SYNC_MANAGER_COUNT};
 ghost use Rattle.ec_regs.specs.declared.registers.TheConstants.{MEMORY_SIZE};
-ghost use Rattle.ec_check.specs.Line.{controllers};
+ghost use Rattle.ec_check.specs.Line.{controllers_by};
 ghost use Rattle.ec_check.specs.Order.{IsLowest};
 ghost use Rattle.ec_check.specs.Rules.{IsInArea};
 ghost use Rattle.ec_check.specs.Search.{Answers};
 
 use crate::fault::MapFault;
 use crate::line::sync_manager_of;
-use ec_app::Slave;
+use crate::mapped::Mapped;
 use ec_regs::SyncMan;
 use ec_regs::registers::SYNC_MANAGER_COUNT;
 
 /// Areas of all slaves.
-pub(crate) fn meeting_areas(line: &[Slave]) -> Result<(), MapFault>
-    ensures { Answers (3 ∷ []) (controllers line.now) result }
+pub(crate) fn meeting_areas<S: Mapped>(line: &[S]) -> Result<(), MapFault>
+    ensures { Answers (3 ∷ []) (controllers_by S.controller line.now) result }
 {
     for slave in 0..line.len() {
         areas_of(line, slave)?;
@@ -25,9 +25,9 @@ pub(crate) fn meeting_areas(line: &[Slave]) -> Result<(), MapFault>
 }
 
 /// Areas of one slave.
-fn areas_of(line: &[Slave], slave: usize) -> Result<(), MapFault>
+fn areas_of<S: Mapped>(line: &[S], slave: usize) -> Result<(), MapFault>
     requires { slave < length line.now }
-    ensures { Answers (3 ∷ slave ∷ []) (controllers line.now) result }
+    ensures { Answers (3 ∷ slave ∷ []) (controllers_by S.controller line.now) result }
 {
     for number in 0..SYNC_MANAGER_COUNT {
         areas_met_by(line, slave, number)?;
@@ -36,10 +36,10 @@ fn areas_of(line: &[Slave], slave: usize) -> Result<(), MapFault>
 }
 
 /// One area and the later ones of its slave.
-fn areas_met_by(line: &[Slave], slave: usize, number: usize) -> Result<(), MapFault>
+fn areas_met_by<S: Mapped>(line: &[S], slave: usize, number: usize) -> Result<(), MapFault>
     requires slave { slave < length line.now }
     requires number { number < SYNC_MANAGER_COUNT }
-    ensures { Answers (3 ∷ slave ∷ number ∷ []) (controllers line.now) result }
+    ensures { Answers (3 ∷ slave ∷ number ∷ []) (controllers_by S.controller line.now) result }
 {
     for later_number in number + 1..SYNC_MANAGER_COUNT {
         compare_areas(line, slave, number, later_number)?;
@@ -48,8 +48,8 @@ fn areas_met_by(line: &[Slave], slave: usize, number: usize) -> Result<(), MapFa
 }
 
 /// Do these two areas of a slave share a byte?
-fn compare_areas(
-    line: &[Slave],
+fn compare_areas<S: Mapped>(
+    line: &[S],
     slave: usize,
     number: usize,
     later_number: usize,
@@ -57,7 +57,7 @@ fn compare_areas(
     requires slave { slave < length line.now }
     requires order { number < later_number }
     requires number { later_number < SYNC_MANAGER_COUNT }
-    ensures { Answers (3 ∷ slave ∷ number ∷ later_number ∷ []) (controllers line.now) result }
+    ensures { Answers (3 ∷ slave ∷ number ∷ later_number ∷ []) (controllers_by S.controller line.now) result }
 {
     let first = sync_manager_of(line, slave, number);
     let second = sync_manager_of(line, slave, later_number);

@@ -2,18 +2,18 @@
 
 ghost use Rattle.std.specs.Prelude.{◌≡◌, ◌≢◌, ◌<◌, [], ◌∷◌, true, length};
 ghost use Rattle.ec_regs.specs.Pairs.{reads};
-ghost use Rattle.ec_check.specs.Line.{controllers, HasFmmu, StandsOn};
+ghost use Rattle.ec_check.specs.Line.{controllers_by, HasFmmu, StandsOn};
 ghost use Rattle.ec_check.specs.Search.{Answers};
 
 use crate::fault::MapFault;
 use crate::line::{Standing, fmmu_of, standing_at};
+use crate::mapped::Mapped;
 use crate::runs::lowest_shared_logical;
-use ec_app::Slave;
 use ec_regs::registers::FMMU_COUNT;
 
 /// FMMUs that read, of all slaves.
-pub(crate) fn bits_read_and_written(line: &[Slave]) -> Result<(), MapFault>
-    ensures { Answers (7 ∷ []) (controllers line.now) result }
+pub(crate) fn bits_read_and_written<S: Mapped>(line: &[S]) -> Result<(), MapFault>
+    ensures { Answers (7 ∷ []) (controllers_by S.controller line.now) result }
 {
     for reader in 0..line.len() {
         written_elsewhere(line, reader)?;
@@ -22,9 +22,9 @@ pub(crate) fn bits_read_and_written(line: &[Slave]) -> Result<(), MapFault>
 }
 
 /// FMMUs that read, of one slave.
-fn written_elsewhere(line: &[Slave], reader: usize) -> Result<(), MapFault>
+fn written_elsewhere<S: Mapped>(line: &[S], reader: usize) -> Result<(), MapFault>
     requires { reader < length line.now }
-    ensures { Answers (7 ∷ reader ∷ []) (controllers line.now) result }
+    ensures { Answers (7 ∷ reader ∷ []) (controllers_by S.controller line.now) result }
 {
     for reader_fmmu in 0..FMMU_COUNT {
         written_by_others(line, &standing_at(line, reader, reader_fmmu))?;
@@ -33,9 +33,9 @@ fn written_elsewhere(line: &[Slave], reader: usize) -> Result<(), MapFault>
 }
 
 /// One FMMU that reads, and those of the other slaves that write.
-fn written_by_others(line: &[Slave], reader: &Standing) -> Result<(), MapFault>
-    requires { StandsOn (controllers line.now) reader.now }
-    ensures { Answers (7 ∷ reader.now.slave ∷ reader.now.number ∷ []) (controllers line.now) result }
+fn written_by_others<S: Mapped>(line: &[S], reader: &Standing) -> Result<(), MapFault>
+    requires { StandsOn (controllers_by S.controller line.now) reader.now }
+    ensures { Answers (7 ∷ reader.now.slave ∷ reader.now.number ∷ []) (controllers_by S.controller line.now) result }
 {
     if !reader.record.reads() {
         return Ok(());
@@ -47,12 +47,12 @@ fn written_by_others(line: &[Slave], reader: &Standing) -> Result<(), MapFault>
 }
 
 /// One FMMU that reads, and those of one slave that write. A slave may read and write the same bit.
-fn written_by(line: &[Slave], reader: &Standing, writer: usize) -> Result<(), MapFault>
-    requires reader { StandsOn (controllers line.now) reader.now }
+fn written_by<S: Mapped>(line: &[S], reader: &Standing, writer: usize) -> Result<(), MapFault>
+    requires reader { StandsOn (controllers_by S.controller line.now) reader.now }
     requires there { writer < length line.now }
     requires for_reading { reads reader.now.record ≡ true }
     ensures { Answers (7 ∷ reader.now.slave ∷ reader.now.number ∷ writer ∷ [])
-        (controllers line.now) result }
+        (controllers_by S.controller line.now) result }
 {
     if writer == reader.slave {
         return Ok(());
@@ -64,18 +64,18 @@ fn written_by(line: &[Slave], reader: &Standing, writer: usize) -> Result<(), Ma
 }
 
 /// Does the one FMMU read a logical bit that the other writes?
-fn compare_crossed(
-    line: &[Slave],
+fn compare_crossed<S: Mapped>(
+    line: &[S],
     reader: &Standing,
     writer: usize,
     writer_fmmu: usize,
 ) -> Result<(), MapFault>
-    requires reader { StandsOn (controllers line.now) reader.now }
+    requires reader { StandsOn (controllers_by S.controller line.now) reader.now }
     requires apart { reader.now.slave ≢ writer }
-    requires writer { HasFmmu (controllers line.now) writer writer_fmmu }
+    requires writer { HasFmmu (controllers_by S.controller line.now) writer writer_fmmu }
     requires for_reading { reads reader.now.record ≡ true }
     ensures { Answers (7 ∷ reader.now.slave ∷ reader.now.number ∷ writer ∷ writer_fmmu ∷ [])
-        (controllers line.now) result }
+        (controllers_by S.controller line.now) result }
 {
     let second = fmmu_of(line, writer, writer_fmmu);
     if !second.writes() {

@@ -2,13 +2,13 @@
 
 ghost use Rattle.std.specs.Prelude.{◌≡◌, ◌<◌, [], ◌∷◌, length};
 ghost use Rattle.ec_regs.specs.declared.registers.TheConstants.{FMMU_COUNT};
-ghost use Rattle.ec_check.specs.Line.{controllers};
+ghost use Rattle.ec_check.specs.Line.{controllers_by};
 ghost use Rattle.ec_check.specs.Search.{Answers};
 ghost use Rattle.ec_check.specs.Runs.{is_good};
 
 use crate::fault::MapFault;
 use crate::line::fmmu_of;
-use ec_app::Slave;
+use crate::mapped::Mapped;
 use ec_regs::Fmmu;
 use ec_regs::registers::{FMMU_COUNT, LOGICAL_BITS, MEMORY_SIZE};
 
@@ -16,8 +16,8 @@ use ec_regs::registers::{FMMU_COUNT, LOGICAL_BITS, MEMORY_SIZE};
 const MEMORY_BITS: u32 = 8 * MEMORY_SIZE as u32;
 
 /// Bad FMMUs of all slaves.
-pub(crate) fn bad_fmmus(line: &[Slave]) -> Result<(), MapFault>
-    ensures { Answers (2 ∷ []) (controllers line.now) result }
+pub(crate) fn bad_fmmus<S: Mapped>(line: &[S]) -> Result<(), MapFault>
+    ensures { Answers (2 ∷ []) (controllers_by S.controller line.now) result }
 {
     for slave in 0..line.len() {
         bad_fmmus_of(line, slave)?;
@@ -26,9 +26,9 @@ pub(crate) fn bad_fmmus(line: &[Slave]) -> Result<(), MapFault>
 }
 
 /// Bad FMMUs of one slave.
-fn bad_fmmus_of(line: &[Slave], slave: usize) -> Result<(), MapFault>
+fn bad_fmmus_of<S: Mapped>(line: &[S], slave: usize) -> Result<(), MapFault>
     requires { slave < length line.now }
-    ensures { Answers (2 ∷ slave ∷ []) (controllers line.now) result }
+    ensures { Answers (2 ∷ slave ∷ []) (controllers_by S.controller line.now) result }
 {
     for fmmu in 0..FMMU_COUNT {
         test_fmmu(line, slave, fmmu)?;
@@ -37,10 +37,10 @@ fn bad_fmmus_of(line: &[Slave], slave: usize) -> Result<(), MapFault>
 }
 
 /// Is this FMMU bad?
-fn test_fmmu(line: &[Slave], slave: usize, fmmu: usize) -> Result<(), MapFault>
+fn test_fmmu<S: Mapped>(line: &[S], slave: usize, fmmu: usize) -> Result<(), MapFault>
     requires slave { slave < length line.now }
     requires fmmu { fmmu < FMMU_COUNT }
-    ensures { Answers (2 ∷ slave ∷ fmmu ∷ []) (controllers line.now) result }
+    ensures { Answers (2 ∷ slave ∷ fmmu ∷ []) (controllers_by S.controller line.now) result }
 {
     let record = fmmu_of(line, slave, fmmu);
     if !record.is_switched_on() {

@@ -26,7 +26,8 @@
 //! - `fault`: why a line is refused.
 //! - `stations`, `fmmus`, `areas`, `outside`, `twice_written`, `twice_read`, `crossed`: the rules, in this
 //!   order.
-//! - `line`: the records that stand on the line; `runs`: the lowest number that two runs share.
+//! - `mapped`: what the rules must know of a slave, so that they judge records alone as well; `line`: the
+//!   records that stand on the line; `runs`: the lowest number that two runs share.
 //!
 //! What the contracts speak of stands in specs/: the records of a line (`Line`), the rules as what breaks
 //! them (`Rules`), a line's faults and their order (`Fit`, `Order`), what a part of the checker answers
@@ -39,6 +40,7 @@ mod facts;
 mod fault;
 mod fmmus;
 mod line;
+mod mapped;
 mod outside;
 mod runs;
 mod stations;
@@ -50,3 +52,4 @@ mod twice_written;
 pub use checker::{are_controllers, check};
 pub use facts::{fit_by_mapping, fit_in_any_order, fit_line, mapping_lasts};
 pub use fault::MapFault;
+pub use mapped::Mapped;

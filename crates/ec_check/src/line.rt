@@ -1,10 +1,10 @@
-//! What a line of slaves is mapped by: the stations, FMMUs and sync managers of its controllers.
+//! What a line is mapped by: the stations, FMMUs and sync managers of its slaves.
 
 ghost use Rattle.std.specs.Prelude.{◌≡◌, ◌<◌, length};
 ghost use Rattle.ec_regs.specs.declared.registers.TheConstants.{FMMU_COUNT, SYNC_MANAGER_COUNT};
-ghost use Rattle.ec_check.specs.Line.{controllers, station_of, fmmu_of, sync_manager_of, StandsOn};
+ghost use Rattle.ec_check.specs.Line.{controllers_by, station_of, fmmu_of, sync_manager_of, StandsOn};
 
-use ec_app::Slave;
+use crate::mapped::Mapped;
 use ec_regs::{Fmmu, SyncMan};
 
 /// An FMMU, with the slave and the number under which it stands on a line.
@@ -21,27 +21,27 @@ pub(crate) struct Standing {
 }
 
 /// The station address of a slave.
-pub(crate) fn station_of(line: &[Slave], slave: usize) -> u16
+pub(crate) fn station_of<S: Mapped>(line: &[S], slave: usize) -> u16
     requires { slave < length line.now }
-    ensures { result ≡ station_of (controllers line.now) slave }
+    ensures { result ≡ station_of (controllers_by S.controller line.now) slave }
 {
-    line[slave].controller().station()
+    line[slave].station()
 }
 
 /// An FMMU of a slave, by its number.
-pub(crate) fn fmmu_of(line: &[Slave], slave: usize, number: usize) -> Fmmu
+pub(crate) fn fmmu_of<S: Mapped>(line: &[S], slave: usize, number: usize) -> Fmmu
     requires slave { slave < length line.now }
     requires number { number < FMMU_COUNT }
-    ensures { result ≡ fmmu_of (controllers line.now) slave number }
+    ensures { result ≡ fmmu_of (controllers_by S.controller line.now) slave number }
 {
-    line[slave].controller().fmmu(number)
+    line[slave].fmmu(number)
 }
 
 /// An FMMU of a slave, by its number, with both numbers.
-pub(crate) fn standing_at(line: &[Slave], slave: usize, number: usize) -> Standing
+pub(crate) fn standing_at<S: Mapped>(line: &[S], slave: usize, number: usize) -> Standing
     requires slave { slave < length line.now }
     requires number { number < FMMU_COUNT }
-    ensures stands { StandsOn (controllers line.now) result }
+    ensures stands { StandsOn (controllers_by S.controller line.now) result }
     ensures slave { result.slave ≡ slave }
     ensures number { result.number ≡ number }
 {
@@ -55,10 +55,10 @@ pub(crate) fn standing_at(line: &[Slave], slave: usize, number: usize) -> Standi
 }
 
 /// A sync manager of a slave, by its number.
-pub(crate) fn sync_manager_of(line: &[Slave], slave: usize, number: usize) -> SyncMan
+pub(crate) fn sync_manager_of<S: Mapped>(line: &[S], slave: usize, number: usize) -> SyncMan
     requires slave { slave < length line.now }
     requires number { number < SYNC_MANAGER_COUNT }
-    ensures { result ≡ sync_manager_of (controllers line.now) slave number }
+    ensures { result ≡ sync_manager_of (controllers_by S.controller line.now) slave number }
 {
-    line[slave].controller().syncman(number)
+    line[slave].sync_manager(number)
 }

@@ -3,7 +3,7 @@
 ghost use Rattle.std.specs.Prelude.{◌≡◌, ◌<◌, ◌≤◌, ◌+◌, ◌-◌, ◌/◌, [], ◌∷◌, IsTrue, length, MatchOption};
 ghost use Rattle.ec_regs.specs.declared.registers.TheConstants.{FMMU_COUNT};
 ghost use Rattle.ec_regs.specs.Pairs.{first_physical, pair_count};
-ghost use Rattle.ec_check.specs.Line.{controllers, fmmu_of};
+ghost use Rattle.ec_check.specs.Line.{controllers_by, fmmu_of};
 ghost use Rattle.ec_check.specs.Rules.{suits, IsAreaEnd, HasNoArea};
 ghost use Rattle.ec_check.specs.Runs.{holds_first_byte, begins_at_mail_status};
 ghost use Rattle.ec_regs.specs.declared.registers.TheConstants.{MEMORY_SIZE};
@@ -11,14 +11,14 @@ ghost use Rattle.ec_check.specs.Search.{Answers, HasNone};
 
 use crate::fault::MapFault;
 use crate::line::{fmmu_of, sync_manager_of};
-use ec_app::Slave;
+use crate::mapped::Mapped;
 use ec_regs::registers::{ANSWER_MAILBOX_STATUS, FMMU_COUNT, SYNC_MANAGER_COUNT};
 use ec_regs::{Fmmu, SyncMan};
 
 /// FMMUs of all slaves. No two areas of a slave share a byte.
-pub(crate) fn fmmus_outside(line: &[Slave]) -> Result<(), MapFault>
-    requires { HasNone (3 ∷ []) (controllers line.now) }
-    ensures { Answers (4 ∷ []) (controllers line.now) result }
+pub(crate) fn fmmus_outside<S: Mapped>(line: &[S]) -> Result<(), MapFault>
+    requires { HasNone (3 ∷ []) (controllers_by S.controller line.now) }
+    ensures { Answers (4 ∷ []) (controllers_by S.controller line.now) result }
 {
     for slave in 0..line.len() {
         outside_of(line, slave)?;
@@ -27,10 +27,10 @@ pub(crate) fn fmmus_outside(line: &[Slave]) -> Result<(), MapFault>
 }
 
 /// FMMUs of one slave.
-fn outside_of(line: &[Slave], slave: usize) -> Result<(), MapFault>
+fn outside_of<S: Mapped>(line: &[S], slave: usize) -> Result<(), MapFault>
     requires slave { slave < length line.now }
-    requires areas { HasNone (3 ∷ []) (controllers line.now) }
-    ensures { Answers (4 ∷ slave ∷ []) (controllers line.now) result }
+    requires areas { HasNone (3 ∷ []) (controllers_by S.controller line.now) }
+    ensures { Answers (4 ∷ slave ∷ []) (controllers_by S.controller line.now) result }
 {
     for fmmu in 0..FMMU_COUNT {
         place_fmmu(line, slave, fmmu)?;
@@ -39,11 +39,11 @@ fn outside_of(line: &[Slave], slave: usize) -> Result<(), MapFault>
 }
 
 /// Does this FMMU lie in one area of its kind?
-fn place_fmmu(line: &[Slave], slave: usize, fmmu: usize) -> Result<(), MapFault>
+fn place_fmmu<S: Mapped>(line: &[S], slave: usize, fmmu: usize) -> Result<(), MapFault>
     requires slave { slave < length line.now }
     requires fmmu { fmmu < FMMU_COUNT }
-    requires areas { HasNone (3 ∷ []) (controllers line.now) }
-    ensures { Answers (4 ∷ slave ∷ fmmu ∷ []) (controllers line.now) result }
+    requires areas { HasNone (3 ∷ []) (controllers_by S.controller line.now) }
+    ensures { Answers (4 ∷ slave ∷ fmmu ∷ []) (controllers_by S.controller line.now) result }
 {
     let record = fmmu_of(line, slave, fmmu);
     if record.mapped_bits() == 0 {
@@ -74,11 +74,11 @@ fn last_byte(fmmu: &Fmmu) -> u32
 }
 
 /// The first address behind the area of the FMMU's kind that holds its first byte.
-fn end_of_area(line: &[Slave], slave: usize, fmmu: &Fmmu) -> Option<u16>
+fn end_of_area<S: Mapped>(line: &[S], slave: usize, fmmu: &Fmmu) -> Option<u16>
     requires slave { slave < length line.now }
     requires some_bit { 0 < pair_count fmmu.now }
-    ensures { MatchOption result (HasNoArea (controllers line.now) slave fmmu.now)
-        (IsAreaEnd (controllers line.now) slave fmmu.now) }
+    ensures { MatchOption result (HasNoArea (controllers_by S.controller line.now) slave fmmu.now)
+        (IsAreaEnd (controllers_by S.controller line.now) slave fmmu.now) }
 {
     for number in 0..SYNC_MANAGER_COUNT {
         let manager = sync_manager_of(line, slave, number);

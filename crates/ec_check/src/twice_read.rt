@@ -3,19 +3,19 @@
 ghost use Rattle.std.specs.Prelude.{◌≡◌, ◌<◌, ◌≤◌, ℕ, [], ◌∷◌, true, length};
 ghost use Rattle.ec_regs.specs.declared.registers.TheConstants.{FMMU_COUNT};
 ghost use Rattle.ec_regs.specs.Pairs.{reads};
-ghost use Rattle.ec_check.specs.Line.{controllers, HasFmmu, StandsOn};
+ghost use Rattle.ec_check.specs.Line.{controllers_by, HasFmmu, StandsOn};
 ghost use Rattle.ec_check.specs.Order.{IsBefore};
 ghost use Rattle.ec_check.specs.Search.{Answers};
 
 use crate::fault::MapFault;
 use crate::line::{Standing, fmmu_of, standing_at};
+use crate::mapped::Mapped;
 use crate::runs::lowest_shared_logical;
-use ec_app::Slave;
 use ec_regs::registers::FMMU_COUNT;
 
 /// FMMUs of all slaves.
-pub(crate) fn bits_read_twice(line: &[Slave]) -> Result<(), MapFault>
-    ensures { Answers (6 ∷ []) (controllers line.now) result }
+pub(crate) fn bits_read_twice<S: Mapped>(line: &[S]) -> Result<(), MapFault>
+    ensures { Answers (6 ∷ []) (controllers_by S.controller line.now) result }
 {
     for slave in 0..line.len() {
         read_twice_by(line, slave)?;
@@ -24,9 +24,9 @@ pub(crate) fn bits_read_twice(line: &[Slave]) -> Result<(), MapFault>
 }
 
 /// FMMUs of one slave, and the later ones of the line.
-fn read_twice_by(line: &[Slave], slave: usize) -> Result<(), MapFault>
+fn read_twice_by<S: Mapped>(line: &[S], slave: usize) -> Result<(), MapFault>
     requires { slave < length line.now }
-    ensures { Answers (6 ∷ slave ∷ []) (controllers line.now) result }
+    ensures { Answers (6 ∷ slave ∷ []) (controllers_by S.controller line.now) result }
 {
     for fmmu in 0..FMMU_COUNT {
         read_again(line, &standing_at(line, slave, fmmu))?;
@@ -35,9 +35,9 @@ fn read_twice_by(line: &[Slave], slave: usize) -> Result<(), MapFault>
 }
 
 /// One FMMU, and the later ones of the line.
-fn read_again(line: &[Slave], first: &Standing) -> Result<(), MapFault>
-    requires { StandsOn (controllers line.now) first.now }
-    ensures { Answers (6 ∷ first.now.slave ∷ first.now.number ∷ []) (controllers line.now) result }
+fn read_again<S: Mapped>(line: &[S], first: &Standing) -> Result<(), MapFault>
+    requires { StandsOn (controllers_by S.controller line.now) first.now }
+    ensures { Answers (6 ∷ first.now.slave ∷ first.now.number ∷ []) (controllers_by S.controller line.now) result }
 {
     if !first.record.reads() {
         return Ok(());
@@ -49,13 +49,17 @@ fn read_again(line: &[Slave], first: &Standing) -> Result<(), MapFault>
 }
 
 /// One FMMU, and the later ones of one slave.
-fn read_again_by(line: &[Slave], first: &Standing, later_slave: usize) -> Result<(), MapFault>
-    requires first { StandsOn (controllers line.now) first.now }
+fn read_again_by<S: Mapped>(
+    line: &[S],
+    first: &Standing,
+    later_slave: usize,
+) -> Result<(), MapFault>
+    requires first { StandsOn (controllers_by S.controller line.now) first.now }
     requires order { first.now.slave ≤ later_slave }
     requires there { later_slave < length line.now }
     requires for_reading { reads first.now.record ≡ true }
     ensures { Answers (6 ∷ first.now.slave ∷ first.now.number ∷ later_slave ∷ [])
-        (controllers line.now) result }
+        (controllers_by S.controller line.now) result }
 {
     for later_fmmu in first_after(first, later_slave)..FMMU_COUNT {
         compare_read(line, first, later_slave, later_fmmu)?;
@@ -80,18 +84,18 @@ fn first_after(first: &Standing, later_slave: usize) -> usize
 }
 
 /// Do these two FMMUs read one logical bit?
-fn compare_read(
-    line: &[Slave],
+fn compare_read<S: Mapped>(
+    line: &[S],
     first: &Standing,
     later_slave: usize,
     later_fmmu: usize,
 ) -> Result<(), MapFault>
-    requires first { StandsOn (controllers line.now) first.now }
+    requires first { StandsOn (controllers_by S.controller line.now) first.now }
     requires order { IsBefore (first.now.slave ∷ first.now.number ∷ []) (later_slave ∷ later_fmmu ∷ []) }
-    requires second { HasFmmu (controllers line.now) later_slave later_fmmu }
+    requires second { HasFmmu (controllers_by S.controller line.now) later_slave later_fmmu }
     requires for_reading { reads first.now.record ≡ true }
     ensures { Answers (6 ∷ first.now.slave ∷ first.now.number ∷ later_slave ∷ later_fmmu ∷ [])
-        (controllers line.now) result }
+        (controllers_by S.controller line.now) result }
 {
     let second = fmmu_of(line, later_slave, later_fmmu);
     if !second.reads() {

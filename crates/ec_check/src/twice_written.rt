@@ -2,18 +2,18 @@
 
 ghost use Rattle.std.specs.Prelude.{◌≡◌, ◌<◌, [], ◌∷◌, length};
 ghost use Rattle.ec_regs.specs.declared.registers.TheConstants.{FMMU_COUNT};
-ghost use Rattle.ec_check.specs.Line.{controllers};
+ghost use Rattle.ec_check.specs.Line.{controllers_by};
 ghost use Rattle.ec_check.specs.Search.{Answers};
 
 use crate::fault::MapFault;
 use crate::line::fmmu_of;
+use crate::mapped::Mapped;
 use crate::runs::lowest_shared_physical;
-use ec_app::Slave;
 use ec_regs::registers::FMMU_COUNT;
 
 /// FMMUs of all slaves.
-pub(crate) fn bits_written_twice(line: &[Slave]) -> Result<(), MapFault>
-    ensures { Answers (5 ∷ []) (controllers line.now) result }
+pub(crate) fn bits_written_twice<S: Mapped>(line: &[S]) -> Result<(), MapFault>
+    ensures { Answers (5 ∷ []) (controllers_by S.controller line.now) result }
 {
     for slave in 0..line.len() {
         written_twice_in(line, slave)?;
@@ -22,9 +22,9 @@ pub(crate) fn bits_written_twice(line: &[Slave]) -> Result<(), MapFault>
 }
 
 /// FMMUs of one slave.
-fn written_twice_in(line: &[Slave], slave: usize) -> Result<(), MapFault>
+fn written_twice_in<S: Mapped>(line: &[S], slave: usize) -> Result<(), MapFault>
     requires { slave < length line.now }
-    ensures { Answers (5 ∷ slave ∷ []) (controllers line.now) result }
+    ensures { Answers (5 ∷ slave ∷ []) (controllers_by S.controller line.now) result }
 {
     for fmmu in 0..FMMU_COUNT {
         written_again(line, slave, fmmu)?;
@@ -33,10 +33,10 @@ fn written_twice_in(line: &[Slave], slave: usize) -> Result<(), MapFault>
 }
 
 /// One FMMU and the later ones of its slave.
-fn written_again(line: &[Slave], slave: usize, fmmu: usize) -> Result<(), MapFault>
+fn written_again<S: Mapped>(line: &[S], slave: usize, fmmu: usize) -> Result<(), MapFault>
     requires slave { slave < length line.now }
     requires fmmu { fmmu < FMMU_COUNT }
-    ensures { Answers (5 ∷ slave ∷ fmmu ∷ []) (controllers line.now) result }
+    ensures { Answers (5 ∷ slave ∷ fmmu ∷ []) (controllers_by S.controller line.now) result }
 {
     for later_fmmu in fmmu + 1..FMMU_COUNT {
         compare_written(line, slave, fmmu, later_fmmu)?;
@@ -45,8 +45,8 @@ fn written_again(line: &[Slave], slave: usize, fmmu: usize) -> Result<(), MapFau
 }
 
 /// Do these two FMMUs of a slave write one physical bit?
-fn compare_written(
-    line: &[Slave],
+fn compare_written<S: Mapped>(
+    line: &[S],
     slave: usize,
     fmmu: usize,
     later_fmmu: usize,
@@ -54,7 +54,7 @@ fn compare_written(
     requires slave { slave < length line.now }
     requires order { fmmu < later_fmmu }
     requires fmmu { later_fmmu < FMMU_COUNT }
-    ensures { Answers (5 ∷ slave ∷ fmmu ∷ later_fmmu ∷ []) (controllers line.now) result }
+    ensures { Answers (5 ∷ slave ∷ fmmu ∷ later_fmmu ∷ []) (controllers_by S.controller line.now) result }
 {
     let first = fmmu_of(line, slave, fmmu);
     let second = fmmu_of(line, slave, later_fmmu);

@@ -1,6 +1,13 @@
 -- Where an addressed item may go.
-use Rattle.std.proofs.Common.{◌≡◌, ⊎_elim, ℕ, ◌<◌, true, false, List, length, refl, sym, ◌∙◌}
+use Rattle.std.proofs.Common.{◌≡◌, ⊎_elim, ℕ, ◌<◌, Bool, true, false, List, length, refl, sym, ap, ◌∙◌, arith}
+use Rattle.std.specs.List.{list_any}
+use Rattle.std.proofs.lemmas.List.Elements.{All-from_get_or}
+use Rattle.std.proofs.lemmas.List.Folds.{list_any_at, list_any_none}
 use Rattle.std.proofs.lemmas.Bool.{cases_Bool}
+use Rattle.ec_regs.specs.declared.registers.TheConstants.{SYNC_MANAGER_COUNT}
+use Rattle.ec_regs.specs.declared.sync_man.SyncMan.{SyncMan}
+use Rattle.ec_areas.specs.Records.{sync_manager_at, sync_managers_of}
+use Rattle.ec_areas.proofs.Laws.{get_or-sync_managers_of, length-sync_managers_of}
 use Rattle.ec_esc.specs.State.{ControllerState}
 use Rattle.ec_check.specs.declared.fault.MapFault.TheVariants.{TwinStation}
 use Rattle.ec_check.specs.Fit.{IsFit}
@@ -55,3 +62,23 @@ may_write-IsPlaced line r slave fit placed kind there same =
       address_named = refl;
     })))
     (cases_Bool (may_write (controller_of line slave) (ado_named r) (length r.payload)))
+
+-- a sync manager that passes a test is one of those of its memory
+pub some_manager : (test : SyncMan → Bool) (memory : List ℕ) (k : ℕ) → k < SYNC_MANAGER_COUNT
+    → test (sync_manager_at memory k) ≡ true
+    → list_any test (sync_managers_of memory) ≡ true
+some_manager test memory k there is =
+    list_any_at test (sync_managers_of memory) k (sync_manager_at memory 0)
+    (omega (arith, there, length-sync_managers_of memory))
+    (ap test (get_or-sync_managers_of memory (sync_manager_at memory 0) k there) ∙ is)
+
+-- where none of the eight passes it, none of them all does
+pub no_manager : (test : SyncMan → Bool) (memory : List ℕ)
+    → ((n : ℕ) → n < SYNC_MANAGER_COUNT → test (sync_manager_at memory n) ≡ false)
+    → list_any test (sync_managers_of memory) ≡ false
+no_manager test memory none =
+    list_any_none test (sync_managers_of memory)
+    (All-from_get_or (λ (s : SyncMan). test s ≡ false) (sync_managers_of memory) (sync_manager_at memory 0)
+    (λ i inside.
+    let there : i < SYNC_MANAGER_COUNT = omega (arith, inside, length-sync_managers_of memory) in
+    ap test (get_or-sync_managers_of memory (sync_manager_at memory 0) i there) ∙ none i there))

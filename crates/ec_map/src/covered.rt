@@ -4,7 +4,7 @@ ghost use Rattle.std.specs.Prelude.{◌≡◌, ◌*◌, ◌+◌, ◌<◌, ◌≤
 ghost use Rattle.std.specs.Prelude.{IfNone, IfSome, MatchOption};
 ghost use Rattle.ec_regs.specs.Pairs.{pair_count, first_logical};
 ghost use Rattle.ec_regs.specs.declared.registers.TheConstants.{FMMU_COUNT};
-ghost use Rattle.ec_check.specs.Line.{controllers, fmmu_of};
+ghost use Rattle.ec_check.specs.Line.{controllers_by, fmmu_of};
 ghost use Rattle.ec_check.specs.Order.{IsBefore, IsLowest};
 ghost use Rattle.ec_check.specs.Rules.{MapsLogical};
 ghost use Rattle.ec_map.specs.First.{Answers};
@@ -13,7 +13,7 @@ ghost use Rattle.ec_map.specs.Covered.{way_number};
 
 use crate::item::Item;
 use crate::line::fmmu_of;
-use ec_app::Slave;
+use ec_check::Mapped;
 use ec_regs::Fmmu;
 use ec_regs::registers::FMMU_COUNT;
 use ec_wire::Kind;
@@ -46,11 +46,11 @@ pub struct Gap {
 /// exchange, one through which it writes by a logical write or exchange; of an FMMU of both ways reads come
 /// first. `None` says that each mapped bit is asked for. It goes from the end of one item to that of the
 /// next.
-pub fn first_uncovered(line: &[Slave], items: &[Item]) -> Option<Gap>
-    ensures gap { IfSome result (IsGap (controllers line.now) items.now) }
-    ensures first { IfSome result (λ gap. (other : Gap) → IsGap (controllers line.now) items.now other
+pub fn first_uncovered<S: Mapped>(line: &[S], items: &[Item]) -> Option<Gap>
+    ensures gap { IfSome result (IsGap (controllers_by S.controller line.now) items.now) }
+    ensures first { IfSome result (λ gap. (other : Gap) → IsGap (controllers_by S.controller line.now) items.now other
         → ¬ IsBefore (gap_numbers other) (gap_numbers gap)) }
-    ensures covered { IfNone result (IsCovered (controllers line.now) items.now) }
+    ensures covered { IfNone result (IsCovered (controllers_by S.controller line.now) items.now) }
 {
     for slave in 0..line.len() {
         match gap_of_slave(line, items, slave) {
@@ -62,9 +62,9 @@ pub fn first_uncovered(line: &[Slave], items: &[Item]) -> Option<Gap>
 }
 
 /// The first gap of a slave.
-fn gap_of_slave(line: &[Slave], items: &[Item], slave: usize) -> Option<Gap>
+fn gap_of_slave<S: Mapped>(line: &[S], items: &[Item], slave: usize) -> Option<Gap>
     requires { slave < length line.now }
-    ensures { Answers gap_numbers (IsGap (controllers line.now) items.now) (slave ∷ []) result }
+    ensures { Answers gap_numbers (IsGap (controllers_by S.controller line.now) items.now) (slave ∷ []) result }
 {
     for fmmu in 0..FMMU_COUNT {
         match gap_of_fmmu(line, items, slave, fmmu) {
@@ -76,10 +76,10 @@ fn gap_of_slave(line: &[Slave], items: &[Item], slave: usize) -> Option<Gap>
 }
 
 /// The first gap of an FMMU: of its reads, and then of its writes.
-fn gap_of_fmmu(line: &[Slave], items: &[Item], slave: usize, fmmu: usize) -> Option<Gap>
+fn gap_of_fmmu<S: Mapped>(line: &[S], items: &[Item], slave: usize, fmmu: usize) -> Option<Gap>
     requires slave { slave < length line.now }
     requires fmmu { fmmu < FMMU_COUNT }
-    ensures { Answers gap_numbers (IsGap (controllers line.now) items.now) (slave ∷ fmmu ∷ []) result }
+    ensures { Answers gap_numbers (IsGap (controllers_by S.controller line.now) items.now) (slave ∷ fmmu ∷ []) result }
 {
     match gap_of_way(line, items, slave, fmmu, Way::Reads) {
         Some(gap) => Some(gap),
@@ -88,10 +88,16 @@ fn gap_of_fmmu(line: &[Slave], items: &[Item], slave: usize, fmmu: usize) -> Opt
 }
 
 /// The first gap of an FMMU on one way.
-fn gap_of_way(line: &[Slave], items: &[Item], slave: usize, fmmu: usize, way: Way) -> Option<Gap>
+fn gap_of_way<S: Mapped>(
+    line: &[S],
+    items: &[Item],
+    slave: usize,
+    fmmu: usize,
+    way: Way,
+) -> Option<Gap>
     requires slave { slave < length line.now }
     requires fmmu { fmmu < FMMU_COUNT }
-    ensures { Answers gap_numbers (IsGap (controllers line.now) items.now)
+    ensures { Answers gap_numbers (IsGap (controllers_by S.controller line.now) items.now)
         (slave ∷ fmmu ∷ way_number way ∷ []) result }
 {
     let record = fmmu_of(line, slave, fmmu);

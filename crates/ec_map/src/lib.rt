@@ -46,7 +46,8 @@ mod written;
 
 pub use covered::{Gap, Way, first_uncovered};
 pub use ec_check::{
-    MapFault, are_controllers, check, fit_by_mapping, fit_in_any_order, fit_line, mapping_lasts,
+    MapFault, Mapped, are_controllers, check, fit_by_mapping, fit_in_any_order, fit_line,
+    mapping_lasts,
 };
 pub use ec_wire::Kind;
 pub use item::Item;

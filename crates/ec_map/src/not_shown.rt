@@ -5,7 +5,7 @@ ghost use Rattle.std.specs.Prelude.{IfNone, IfSome, MatchOption, IsTrue, IsFalse
 ghost use Rattle.ec_regs.specs.SyncMan.{guards_outputs};
 ghost use Rattle.ec_regs.specs.declared.registers.TheConstants.{SYNC_MANAGER_COUNT, MEMORY_SIZE};
 ghost use Rattle.ec_areas.specs.Showing.{last_byte};
-ghost use Rattle.ec_check.specs.Line.{controllers, sync_manager_of};
+ghost use Rattle.ec_check.specs.Line.{controllers_by, sync_manager_of};
 ghost use Rattle.ec_check.specs.Order.{IsBefore, IsLowest};
 ghost use Rattle.ec_map.specs.First.{Answers, IsFirst};
 ghost use Rattle.ec_map.specs.NotShown.{IsNotShown, AreShown, not_shown_numbers, IsMappedArea, IsWhy};
@@ -14,7 +14,7 @@ ghost use Rattle.ec_map.specs.NotShown.{why_numbers, Leaves, LeavesBytes, Writes
 use crate::item::Item;
 use crate::line::sync_manager_of;
 use crate::written::{maps_some, writes_some};
-use ec_app::Slave;
+use ec_check::Mapped;
 use ec_regs::registers::SYNC_MANAGER_COUNT;
 use ec_regs::{AddressRange, SyncMan};
 
@@ -46,12 +46,12 @@ pub struct NotShown {
 /// that an item writes without its last byte, or else whose last byte no item writes: a controller hands an
 /// area to its application when the last byte is written. `None` says that each item which writes such an
 /// area completes it, and that one does.
-pub fn first_not_shown(line: &[Slave], items: &[Item]) -> Option<NotShown>
-    ensures not_shown { IfSome result (IsNotShown (controllers line.now) items.now) }
+pub fn first_not_shown<S: Mapped>(line: &[S], items: &[Item]) -> Option<NotShown>
+    ensures not_shown { IfSome result (IsNotShown (controllers_by S.controller line.now) items.now) }
     ensures first { IfSome result (λ found. (other : NotShown)
-        → IsNotShown (controllers line.now) items.now other
+        → IsNotShown (controllers_by S.controller line.now) items.now other
         → ¬ IsBefore (not_shown_numbers other) (not_shown_numbers found)) }
-    ensures shown { IfNone result (AreShown (controllers line.now) items.now) }
+    ensures shown { IfNone result (AreShown (controllers_by S.controller line.now) items.now) }
 {
     for slave in 0..line.len() {
         match not_shown_of_slave(line, items, slave) {
@@ -63,9 +63,9 @@ pub fn first_not_shown(line: &[Slave], items: &[Item]) -> Option<NotShown>
 }
 
 /// The first area of a slave.
-fn not_shown_of_slave(line: &[Slave], items: &[Item], slave: usize) -> Option<NotShown>
+fn not_shown_of_slave<S: Mapped>(line: &[S], items: &[Item], slave: usize) -> Option<NotShown>
     requires { slave < length line.now }
-    ensures { Answers not_shown_numbers (IsNotShown (controllers line.now) items.now) (slave ∷ []) result }
+    ensures { Answers not_shown_numbers (IsNotShown (controllers_by S.controller line.now) items.now) (slave ∷ []) result }
 {
     for number in 0..SYNC_MANAGER_COUNT {
         match not_shown_of_area(line, items, slave, number) {
@@ -77,15 +77,15 @@ fn not_shown_of_slave(line: &[Slave], items: &[Item], slave: usize) -> Option<No
 }
 
 /// An area of a slave, if it is not shown.
-fn not_shown_of_area(
-    line: &[Slave],
+fn not_shown_of_area<S: Mapped>(
+    line: &[S],
     items: &[Item],
     slave: usize,
     sync_manager: usize,
 ) -> Option<NotShown>
     requires slave { slave < length line.now }
     requires number { sync_manager < SYNC_MANAGER_COUNT }
-    ensures { Answers not_shown_numbers (IsNotShown (controllers line.now) items.now)
+    ensures { Answers not_shown_numbers (IsNotShown (controllers_by S.controller line.now) items.now)
         (slave ∷ sync_manager ∷ []) result }
 {
     if !is_mapped_area(line, slave, sync_manager) {
@@ -102,23 +102,28 @@ fn not_shown_of_area(
 }
 
 /// Is the area one of outputs that FMMUs for writing map?
-fn is_mapped_area(line: &[Slave], slave: usize, number: usize) -> bool
+fn is_mapped_area<S: Mapped>(line: &[S], slave: usize, number: usize) -> bool
     requires slave { slave < length line.now }
     requires number { number < SYNC_MANAGER_COUNT }
-    ensures { (result ≡ true) ↔ IsMappedArea (controllers line.now) slave number }
+    ensures { (result ≡ true) ↔ IsMappedArea (controllers_by S.controller line.now) slave number }
 {
     let manager = sync_manager_of(line, slave, number);
     manager.guards_outputs() && maps_some(line, slave, manager.area())
 }
 
 /// Why an area of outputs is not shown, if it is not.
-fn why_not_shown(line: &[Slave], items: &[Item], slave: usize, number: usize) -> Option<WhyNotShown>
+fn why_not_shown<S: Mapped>(
+    line: &[S],
+    items: &[Item],
+    slave: usize,
+    number: usize,
+) -> Option<WhyNotShown>
     requires slave { slave < length line.now }
     requires number { number < SYNC_MANAGER_COUNT }
-    requires outputs { guards_outputs (sync_manager_of (controllers line.now) slave number) ≡ true }
+    requires outputs { guards_outputs (sync_manager_of (controllers_by S.controller line.now) slave number) ≡ true }
     ensures { MatchOption result
-        ((why : WhyNotShown) → ¬ IsWhy (controllers line.now) items.now slave number why)
-        (IsFirst why_numbers (IsWhy (controllers line.now) items.now slave number)) }
+        ((why : WhyNotShown) → ¬ IsWhy (controllers_by S.controller line.now) items.now slave number why)
+        (IsFirst why_numbers (IsWhy (controllers_by S.controller line.now) items.now slave number)) }
 {
     let manager = sync_manager_of(line, slave, number);
     let last = last_byte(&manager);
@@ -147,8 +152,8 @@ fn last_byte(manager: &SyncMan) -> AddressRange
 }
 
 /// The first item that writes one of some bytes of the slave, and none of others.
-fn first_left(
-    line: &[Slave],
+fn first_left<S: Mapped>(
+    line: &[S],
     items: &[Item],
     slave: usize,
     area: AddressRange,
@@ -157,7 +162,7 @@ fn first_left(
     requires slave { slave < length line.now }
     requires area { 1 ≤ area.count }
     requires last { 1 ≤ last.count }
-    ensures { IsLowest (LeavesBytes (controllers line.now) items.now slave area last) result }
+    ensures { IsLowest (LeavesBytes (controllers_by S.controller line.now) items.now slave area last) result }
 {
     for k in 0..items.len() {
         if leaves(line, &items[k], slave, area, last) {
@@ -168,21 +173,27 @@ fn first_left(
 }
 
 /// Does the item write one of some bytes of the slave, and none of others?
-fn leaves(line: &[Slave], item: &Item, slave: usize, area: AddressRange, last: AddressRange) -> bool
+fn leaves<S: Mapped>(
+    line: &[S],
+    item: &Item,
+    slave: usize,
+    area: AddressRange,
+    last: AddressRange,
+) -> bool
     requires slave { slave < length line.now }
     requires area { 1 ≤ area.count }
     requires last { 1 ≤ last.count }
-    ensures { (result ≡ true) ↔ Leaves (controllers line.now) slave area last item.now }
+    ensures { (result ≡ true) ↔ Leaves (controllers_by S.controller line.now) slave area last item.now }
 {
     writes_some(line, slave, item, area) && !writes_some(line, slave, item, last)
 }
 
 /// Does an item write one of these bytes of the slave?
-fn is_written(line: &[Slave], items: &[Item], slave: usize, bytes: AddressRange) -> bool
+fn is_written<S: Mapped>(line: &[S], items: &[Item], slave: usize, bytes: AddressRange) -> bool
     requires slave { slave < length line.now }
     requires some { 1 ≤ bytes.count }
-    ensures yes { IsTrue result → (k : ℕ) × WritesBytes (controllers line.now) items.now slave bytes k }
-    ensures no { IsFalse result → (k : ℕ) → ¬ WritesBytes (controllers line.now) items.now slave bytes k }
+    ensures yes { IsTrue result → (k : ℕ) × WritesBytes (controllers_by S.controller line.now) items.now slave bytes k }
+    ensures no { IsFalse result → (k : ℕ) → ¬ WritesBytes (controllers_by S.controller line.now) items.now slave bytes k }
 {
     for k in 0..items.len() {
         if writes_some(line, slave, &items[k], bytes) {

@@ -3,19 +3,20 @@
 ghost use Rattle.std.specs.Prelude.{◌≡◌, ◌≤◌, ◌<◌, ℕ, true, List, OnOk, IfErr, MatchOption, length};
 ghost use Rattle.std.specs.List.{list_any};
 ghost use Rattle.ec_wire.specs.declared.datagram.TheConstants.{MAX_DATA};
+ghost use Rattle.ec_areas.specs.Records.{sync_managers_of};
+ghost use Rattle.ec_regs.specs.declared.registers.TheConstants.{SYNC_MANAGER_COUNT};
 ghost use Rattle.ec_esc.specs.State.{ControllerState};
 ghost use Rattle.ec_check.specs.Fit.{IsFit};
-ghost use Rattle.ec_check.specs.Line.{controllers, controller_of, station_of};
+ghost use Rattle.ec_check.specs.Line.{controllers_by, controller_of, station_of};
 ghost use Rattle.ec_map.specs.Item.{ItemRecord};
 ghost use Rattle.ec_map.specs.Place.{station_named, ado_named, holds_run, is_input_run, is_output_run};
 ghost use Rattle.ec_map.specs.Place.{may_read, may_write, HasNoStation, IsFirstOfStation, IsPlaceFault};
 ghost use Rattle.ec_map.specs.Place.{IsPlaced};
 
 use crate::item::Item;
-use ec_app::Slave;
-use ec_esc::Controller;
-use ec_regs::registers::PROCESS_MEMORY;
-use ec_regs::{AddressRange, PlannedSyncMan, SyncMan};
+use ec_check::Mapped;
+use ec_regs::registers::{PROCESS_MEMORY, SYNC_MANAGER_COUNT};
+use ec_regs::{AddressRange, SyncMan};
 use ec_wire::{Kind, ado_of, adp_of};
 
 /// An addressed item that goes where a cycle may not. It names the slave, the first one of the item's
@@ -40,9 +41,9 @@ pub enum PlaceFault {
 
 /// Does the item go where a cycle may? Logical items and broadcast reads always do, and so does one that is
 /// addressed to a station that is not on the line.
-pub fn check_item(line: &[Slave], item: &Item) -> Result<(), PlaceFault>
-    ensures accepted { OnOk result (IsPlaced (controllers line.now) item.now) }
-    ensures refused { IfErr result (IsPlaceFault (controllers line.now) item.now) }
+pub fn check_item<S: Mapped>(line: &[S], item: &Item) -> Result<(), PlaceFault>
+    ensures accepted { OnOk result (IsPlaced (controllers_by S.controller line.now) item.now) }
+    ensures refused { IfErr result (IsPlaceFault (controllers_by S.controller line.now) item.now) }
 {
     match item.kind() {
         Kind::Fprd => check_read(line, item),
@@ -52,32 +53,32 @@ pub fn check_item(line: &[Slave], item: &Item) -> Result<(), PlaceFault>
 }
 
 /// May the addressed read go where it goes?
-fn check_read(line: &[Slave], item: &Item) -> Result<(), PlaceFault>
+fn check_read<S: Mapped>(line: &[S], item: &Item) -> Result<(), PlaceFault>
     requires { item.now.kind ≡ Kind.Fprd }
-    ensures accepted { OnOk result (IsPlaced (controllers line.now) item.now) }
-    ensures refused { IfErr result (IsPlaceFault (controllers line.now) item.now) }
+    ensures accepted { OnOk result (IsPlaced (controllers_by S.controller line.now) item.now) }
+    ensures refused { IfErr result (IsPlaceFault (controllers_by S.controller line.now) item.now) }
 {
     let Some(slave) = first_of_station(line, station_named(item)) else {
         return Ok(());
     };
     let address = ado_named(item);
-    if may_read(line[slave].controller(), address, item.len()) {
+    if may_read(&line[slave], address, item.len()) {
         return Ok(());
     }
     Err(PlaceFault::OutsideRead { slave, address })
 }
 
 /// May the addressed write go where it goes?
-fn check_write(line: &[Slave], item: &Item) -> Result<(), PlaceFault>
+fn check_write<S: Mapped>(line: &[S], item: &Item) -> Result<(), PlaceFault>
     requires { item.now.kind ≡ Kind.Fpwr }
-    ensures accepted { OnOk result (IsPlaced (controllers line.now) item.now) }
-    ensures refused { IfErr result (IsPlaceFault (controllers line.now) item.now) }
+    ensures accepted { OnOk result (IsPlaced (controllers_by S.controller line.now) item.now) }
+    ensures refused { IfErr result (IsPlaceFault (controllers_by S.controller line.now) item.now) }
 {
     let Some(slave) = first_of_station(line, station_named(item)) else {
         return Ok(());
     };
     let address = ado_named(item);
-    if may_write(line[slave].controller(), address, item.len()) {
+    if may_write(&line[slave], address, item.len()) {
         return Ok(());
     }
     Err(PlaceFault::OutsideWrite { slave, address })
@@ -98,12 +99,12 @@ fn ado_named(item: &Item) -> u16
 }
 
 /// The first slave with a station address.
-fn first_of_station(line: &[Slave], station: u16) -> Option<usize>
-    ensures { MatchOption result (HasNoStation (controllers line.now) station)
-        (IsFirstOfStation (controllers line.now) station) }
+fn first_of_station<S: Mapped>(line: &[S], station: u16) -> Option<usize>
+    ensures { MatchOption result (HasNoStation (controllers_by S.controller line.now) station)
+        (IsFirstOfStation (controllers_by S.controller line.now) station) }
 {
     for slave in 0..line.len() {
-        if line[slave].controller().station() == station {
+        if line[slave].station() == station {
             return Some(slave);
         }
     }
@@ -111,40 +112,39 @@ fn first_of_station(line: &[Slave], station: u16) -> Option<usize>
 }
 
 /// May a cycle read that many bytes from an address on?
-fn may_read(controller: &Controller, from: u16, count: usize) -> bool
+fn may_read<S: Mapped>(slave: &S, from: u16, count: usize) -> bool
     requires { count ≤ MAX_DATA }
-    ensures { result ≡ may_read controller.now from count }
+    ensures { result ≡ may_read (S.controller slave.now) from count }
 {
     let to = usize::from(from) + count;
-    to <= usize::from(PROCESS_MEMORY) || lies_in_inputs(controller.syncmans(), from, count)
+    to <= usize::from(PROCESS_MEMORY) || lies_in_inputs(slave, from, count)
 }
 
 /// May a cycle write that many bytes from an address on?
-fn may_write(controller: &Controller, from: u16, count: usize) -> bool
+fn may_write<S: Mapped>(slave: &S, from: u16, count: usize) -> bool
     requires { count ≤ MAX_DATA }
-    ensures { result ≡ may_write controller.now from count }
+    ensures { result ≡ may_write (S.controller slave.now) from count }
 {
-    lies_in_outputs(controller.syncmans(), from, count)
+    for number in 0..SYNC_MANAGER_COUNT {
+        if is_output_run(&slave.sync_manager(number), from, count) {
+            return true;
+        }
+    }
+    false
 }
 
 /// Do that many bytes lie in one active buffered area that the master reads?
-fn lies_in_inputs(managers: &[PlannedSyncMan], from: u16, count: usize) -> bool
+fn lies_in_inputs<S: Mapped>(slave: &S, from: u16, count: usize) -> bool
     requires { count ≤ MAX_DATA }
-    ensures { result ≡ list_any (is_input_run from count) managers.now }
+    ensures { result
+        ≡ list_any (is_input_run from count) (sync_managers_of (S.controller slave.now).memory) }
 {
-    managers
-        .iter()
-        .any(|manager| is_input_run(&manager.manager(), from, count))
-}
-
-/// Do that many bytes lie in one active buffered area that the master writes?
-fn lies_in_outputs(managers: &[PlannedSyncMan], from: u16, count: usize) -> bool
-    requires { count ≤ MAX_DATA }
-    ensures { result ≡ list_any (is_output_run from count) managers.now }
-{
-    managers
-        .iter()
-        .any(|manager| is_output_run(&manager.manager(), from, count))
+    for number in 0..SYNC_MANAGER_COUNT {
+        if is_input_run(&slave.sync_manager(number), from, count) {
+            return true;
+        }
+    }
+    false
 }
 
 /// Does the sync manager guard inputs, and hold that many bytes from an address on?

@@ -1,35 +1,29 @@
 //! What a line adds to the working counter of an item.
 
 ghost use Rattle.std.specs.Prelude.{◌≡◌, ◌≤◌};
-ghost use Rattle.ec_check.specs.Line.{controllers};
+ghost use Rattle.ec_check.specs.Line.{controllers_by};
 ghost use Rattle.ec_map.specs.Share.{share, expected_of};
 
 use crate::item::Item;
-use ec_app::Slave;
-use ec_esc::Controller;
+use ec_check::Mapped;
 
 /// What the line adds to the working counter of the item, modulo 65,536, whether it is fit or not: of each
 /// slave 1 where it reads or writes bits of the item, in an exchange 1 and 2; 1 of each slave for a broadcast
 /// read; and 1 where an addressed item is served.
-pub fn expected(line: &[Slave], item: &Item) -> u16
-    ensures { result ≡ expected_of (controllers line.now) item.now }
+pub fn expected<S: Mapped>(line: &[S], item: &Item) -> u16
+    ensures { result ≡ expected_of (controllers_by S.controller line.now) item.now }
 {
     let mut total = 0u16;
     for slave in line {
-        total = total.wrapping_add(share(slave.controller(), item));
+        total = total.wrapping_add(share(slave, item));
     }
     total
 }
 
 /// What a slave adds to the working counter of the item.
-#[tactic(auto, unfolding(ec_line::specs::Claims::gain))]
-fn share(controller: &Controller, item: &Item) -> u16
-    ensures value { result ≡ share item.now controller.now }
+fn share<S: Mapped>(slave: &S, item: &Item) -> u16
+    ensures value { result ≡ share item.now (S.controller slave.now) }
     ensures bound { result ≤ 3 }
 {
-    controller.gain(
-        item.kind().command(),
-        item.wire_address(),
-        item.len() as u16,
-    )
+    slave.gain(item.kind(), item.wire_address(), item.len() as u16)
 }

@@ -2,7 +2,7 @@
 
 ghost use Rattle.std.specs.Prelude.{◌≡◌, ◌↔◌, ◌+◌, ◌*◌, ◌<◌, ◌≤◌, ◌^◌, ℕ, true, length};
 ghost use Rattle.ec_regs.specs.declared.registers.TheConstants.{FMMU_COUNT, MEMORY_SIZE};
-ghost use Rattle.ec_check.specs.Line.{controllers};
+ghost use Rattle.ec_check.specs.Line.{controllers_by};
 ghost use Rattle.ec_wire.specs.declared.kind.Kind.TheVariants.{Fpwr};
 ghost use Rattle.ec_map.specs.Covered.{asks};
 ghost use Rattle.ec_map.specs.Written.{WritesSome, WritesRun, WritesRuns};
@@ -11,7 +11,7 @@ ghost use Rattle.ec_map.specs.declared.covered.Way.TheVariants.{Writes};
 
 use crate::item::Item;
 use crate::line::{fmmu_of, station_of};
-use ec_app::Slave;
+use ec_check::Mapped;
 use ec_regs::registers::FMMU_COUNT;
 use ec_regs::{AddressRange, Fmmu};
 use ec_wire::{Kind, ado_of, adp_of};
@@ -37,10 +37,15 @@ fn bits_of(bytes: AddressRange) -> BitRun
 }
 
 /// Does the item write one of the bytes, of which there are some?
-pub(crate) fn writes_some(line: &[Slave], slave: usize, item: &Item, bytes: AddressRange) -> bool
+pub(crate) fn writes_some<S: Mapped>(
+    line: &[S],
+    slave: usize,
+    item: &Item,
+    bytes: AddressRange,
+) -> bool
     requires slave { slave < length line.now }
     requires some { 1 ≤ bytes.count }
-    ensures { (result ≡ true) ↔ WritesSome (controllers line.now) slave bytes.first bytes.count item.now }
+    ensures { (result ≡ true) ↔ WritesSome (controllers_by S.controller line.now) slave bytes.first bytes.count item.now }
 {
     match item.kind() {
         Kind::Lwr | Kind::Lrw => writes_mapped(line, slave, item, bytes),
@@ -50,10 +55,10 @@ pub(crate) fn writes_some(line: &[Slave], slave: usize, item: &Item, bytes: Addr
 }
 
 /// Does the logical item write one of the bytes through FMMUs of the slave?
-fn writes_mapped(line: &[Slave], slave: usize, item: &Item, bytes: AddressRange) -> bool
+fn writes_mapped<S: Mapped>(line: &[S], slave: usize, item: &Item, bytes: AddressRange) -> bool
     requires slave { slave < length line.now }
     requires kind { asks Writes item.now.kind ≡ true }
-    ensures { (result ≡ true) ↔ WritesSome (controllers line.now) slave bytes.first bytes.count item.now }
+    ensures { (result ≡ true) ↔ WritesSome (controllers_by S.controller line.now) slave bytes.first bytes.count item.now }
 {
     let first = 8 * u64::from(item.address());
     let logical = BitRun {
@@ -64,11 +69,11 @@ fn writes_mapped(line: &[Slave], slave: usize, item: &Item, bytes: AddressRange)
 }
 
 /// Does the write to a station write one of the bytes?
-fn writes_named(line: &[Slave], slave: usize, item: &Item, bytes: AddressRange) -> bool
+fn writes_named<S: Mapped>(line: &[S], slave: usize, item: &Item, bytes: AddressRange) -> bool
     requires slave { slave < length line.now }
     requires some { 1 ≤ bytes.count }
     requires kind { item.now.kind ≡ Fpwr }
-    ensures { (result ≡ true) ↔ WritesSome (controllers line.now) slave bytes.first bytes.count item.now }
+    ensures { (result ≡ true) ↔ WritesSome (controllers_by S.controller line.now) slave bytes.first bytes.count item.now }
 {
     let range = AddressRange {
         first: ado_of(item.address()),
@@ -78,9 +83,9 @@ fn writes_named(line: &[Slave], slave: usize, item: &Item, bytes: AddressRange) 
 }
 
 /// Does an FMMU for writing of the slave map one of the bytes?
-pub(crate) fn maps_some(line: &[Slave], slave: usize, bytes: AddressRange) -> bool
+pub(crate) fn maps_some<S: Mapped>(line: &[S], slave: usize, bytes: AddressRange) -> bool
     requires { slave < length line.now }
-    ensures { (result ≡ true) ↔ MapsRun (controllers line.now) slave bytes.first bytes.count }
+    ensures { (result ≡ true) ↔ MapsRun (controllers_by S.controller line.now) slave bytes.first bytes.count }
 {
     let physical = bits_of(bytes);
     for number in 0..FMMU_COUNT {
@@ -102,9 +107,9 @@ fn maps_run(fmmu: &Fmmu, physical: BitRun) -> bool
 }
 
 /// Does an FMMU for writing of the slave pair a logical bit of the one run with a physical bit of the other?
-fn pairs_runs(line: &[Slave], slave: usize, logical: BitRun, physical: BitRun) -> bool
+fn pairs_runs<S: Mapped>(line: &[S], slave: usize, logical: BitRun, physical: BitRun) -> bool
     requires { slave < length line.now }
-    ensures { (result ≡ true) ↔ PairsRuns (controllers line.now) slave logical physical }
+    ensures { (result ≡ true) ↔ PairsRuns (controllers_by S.controller line.now) slave logical physical }
 {
     for number in 0..FMMU_COUNT {
         if pairs_through(&fmmu_of(line, slave, number), logical, physical) {

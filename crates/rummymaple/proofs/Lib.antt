@@ -6,3 +6,4 @@ pub mod ItemLemmas
 pub mod JoinLemmas
 pub mod CableLemmas
 pub mod TurnLemmas
+pub mod RecordsLemmas

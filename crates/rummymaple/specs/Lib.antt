@@ -10,3 +10,5 @@ pub mod Read
 pub mod Cable
 pub mod Turn
 pub mod Turns
+pub mod Records
+pub mod Mapping

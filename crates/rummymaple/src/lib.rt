@@ -46,10 +46,12 @@ mod item;
 mod join;
 mod joining;
 mod judge;
+mod mapping;
 mod numbers;
 mod packet;
 mod promises;
 mod read;
+mod records;
 mod store;
 
 pub use cable::{Cable, CableAnswer, CableEnd, CablePlace, rmp_where};
@@ -61,9 +63,11 @@ pub use frame::{FrameAnswer, FrameEnd, rmp_frame};
 pub use item::{Item, MAX_ITEMS};
 pub use join::{Join, JoinAnswer, JoinEnd, rmp_join};
 pub use judge::{ItemAnswer, JudgeEnd, rmp_judge};
+pub use mapping::{MapAnswer, rmp_check};
 pub use numbers::{Code, Copy};
 pub use promises::{calls_are_a_cycle, turns_are_a_cycle, what_is_told_is_so};
 pub use read::{DatagramPlace, ReadAnswer, ReadEnd, rmp_read};
+pub use records::{FMMU_BYTES, Records, SYNC_MANAGER_BYTES};
 pub use store::{StoreEnd, rmp_store};
 
 #[cfg(test)]

@@ -1,17 +1,17 @@
 use Rattle.std.proofs.Common.{sym, arith}
-use Rattle.ec_check.specs.Line.{controllers}
-use Rattle.ec_check.proofs.LineLemmas.{length-controllers}
+use Rattle.ec_check.specs.Line.{controllers_by}
+use Rattle.ec_check.proofs.LineLemmas.{length-controllers_by}
 use Rattle.ec_check.proofs.AreaLemmas.{HasNone-meeting, IsFirstOf-meeting}
 use Rattle.ec_check.proofs.areas.compare_areas.Goals as goal
 
 pub returns-in-Some : goal.returns-in-Some
-returns-in-Some c =
+returns-in-Some g c =
     let first = c.sync_manager_of-first.ensures in
     let second = c.sync_manager_of-second.ensures in
     IsFirstOf-meeting
-    (controllers c.args.line.now) c.args.slave c.args.number c.args.later_number c.in-Some.address
+    (controllers_by g.S.Mapped.controller c.args.line.now) c.args.slave c.args.number c.args.later_number c.in-Some.address
     (record {
-      slave_there = omega (arith, length-controllers c.args.line.now);
+      slave_there = omega (arith, length-controllers_by g.S.Mapped.controller c.args.line.now);
       order = c.requires.order;
       number_there = c.requires.number;
       first = rw (sym first) c.in-Some.ensures.0.0;
@@ -20,8 +20,8 @@ returns-in-Some c =
     (λ n meeting. c.in-Some.ensures.1 n (rw first meeting.first, rw second meeting.second))
 
 pub returns-in-None : goal.returns-in-None
-returns-in-None c =
+returns-in-None g c =
     let first = c.sync_manager_of-first.ensures in
     let second = c.sync_manager_of-second.ensures in
-    HasNone-meeting (controllers c.args.line.now) c.args.slave c.args.number c.args.later_number
+    HasNone-meeting (controllers_by g.S.Mapped.controller c.args.line.now) c.args.slave c.args.number c.args.later_number
     (λ n meeting. c.in-None.ensures n (rw first meeting.first, rw second meeting.second))

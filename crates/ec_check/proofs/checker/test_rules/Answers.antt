@@ -1,20 +1,20 @@
 use Rattle.std.proofs.lemmas.Result.{err_from_is_err_and}
-use Rattle.ec_check.specs.Line.{controllers}
+use Rattle.ec_check.specs.Line.{controllers_by}
 use Rattle.ec_check.proofs.FitLemmas.{no_rule_yet, one_rule_more, IsFirstFault-rule, last_rule-accepted}
 use Rattle.ec_check.proofs.FitLemmas.{last_rule-refused}
 use Rattle.ec_check.proofs.checker.test_rules.Goals as goal
 
 pub returns-in_err-twin_stations : goal.returns-in_err-twin_stations
-returns-in_err-twin_stations c =
-    let line = controllers c.args.line.now in
+returns-in_err-twin_stations g c =
+    let line = controllers_by g.S.Mapped.controller c.args.line.now in
     let none = no_rule_yet line in
     let p = err_from_is_err_and c.from_residual.result c.from_residual.ensures.1 in
     rw (p.1, p.2)
     (record { accepted = tt; refused = IsFirstFault-rule line 1 _ none c.in_err-twin_stations.ensures })
 
 pub returns-in_err-bad_fmmus : goal.returns-in_err-bad_fmmus
-returns-in_err-bad_fmmus c =
-    let line = controllers c.args.line.now in
+returns-in_err-bad_fmmus g c =
+    let line = controllers_by g.S.Mapped.controller c.args.line.now in
     let none = no_rule_yet line in
     let one = one_rule_more line 1 none c.in_ok-twin_stations.ensures in
     let p = err_from_is_err_and c.from_residual-in_err-bad_fmmus.result
@@ -23,8 +23,8 @@ returns-in_err-bad_fmmus c =
     (record { accepted = tt; refused = IsFirstFault-rule line 2 _ one c.in_err-bad_fmmus.ensures })
 
 pub returns-in_err-meeting_areas : goal.returns-in_err-meeting_areas
-returns-in_err-meeting_areas c =
-    let line = controllers c.args.line.now in
+returns-in_err-meeting_areas g c =
+    let line = controllers_by g.S.Mapped.controller c.args.line.now in
     let none = no_rule_yet line in
     let one = one_rule_more line 1 none c.in_ok-twin_stations.ensures in
     let two = one_rule_more line 2 one c.in_ok-bad_fmmus.ensures in
@@ -34,8 +34,8 @@ returns-in_err-meeting_areas c =
     (record { accepted = tt; refused = IsFirstFault-rule line 3 _ two c.in_err-meeting_areas.ensures })
 
 pub returns-in_err-fmmus_outside : goal.returns-in_err-fmmus_outside
-returns-in_err-fmmus_outside c =
-    let line = controllers c.args.line.now in
+returns-in_err-fmmus_outside g c =
+    let line = controllers_by g.S.Mapped.controller c.args.line.now in
     let none = no_rule_yet line in
     let one = one_rule_more line 1 none c.in_ok-twin_stations.ensures in
     let two = one_rule_more line 2 one c.in_ok-bad_fmmus.ensures in
@@ -46,8 +46,8 @@ returns-in_err-fmmus_outside c =
     (record { accepted = tt; refused = IsFirstFault-rule line 4 _ three c.in_err-fmmus_outside.ensures })
 
 pub returns-in_err-bits_written_twice : goal.returns-in_err-bits_written_twice
-returns-in_err-bits_written_twice c =
-    let line = controllers c.args.line.now in
+returns-in_err-bits_written_twice g c =
+    let line = controllers_by g.S.Mapped.controller c.args.line.now in
     let none = no_rule_yet line in
     let one = one_rule_more line 1 none c.in_ok-twin_stations.ensures in
     let two = one_rule_more line 2 one c.in_ok-bad_fmmus.ensures in
@@ -59,8 +59,8 @@ returns-in_err-bits_written_twice c =
     (record { accepted = tt; refused = IsFirstFault-rule line 5 _ four c.in_err-bits_written_twice.ensures })
 
 pub returns-in_err-bits_read_twice : goal.returns-in_err-bits_read_twice
-returns-in_err-bits_read_twice c =
-    let line = controllers c.args.line.now in
+returns-in_err-bits_read_twice g c =
+    let line = controllers_by g.S.Mapped.controller c.args.line.now in
     let none = no_rule_yet line in
     let one = one_rule_more line 1 none c.in_ok-twin_stations.ensures in
     let two = one_rule_more line 2 one c.in_ok-bad_fmmus.ensures in
@@ -73,8 +73,8 @@ returns-in_err-bits_read_twice c =
     (record { accepted = tt; refused = IsFirstFault-rule line 6 _ five c.in_err-bits_read_twice.ensures })
 
 pub returns : goal.returns
-returns c =
-    let line = controllers c.args.line.now in
+returns g c =
+    let line = controllers_by g.S.Mapped.controller c.args.line.now in
     let none = no_rule_yet line in
     let one = one_rule_more line 1 none c.in_ok-twin_stations.ensures in
     let two = one_rule_more line 2 one c.in_ok-bad_fmmus.ensures in

@@ -1,23 +1,23 @@
 use Rattle.std.proofs.Common.{[], ◌∷◌, below_more, arith}
 use Rattle.std.proofs.lemmas.Result.{err_from_is_err_and}
-use Rattle.ec_check.specs.Line.{controllers}
-use Rattle.ec_check.proofs.LineLemmas.{length-controllers}
+use Rattle.ec_check.specs.Line.{controllers_by}
+use Rattle.ec_check.proofs.LineLemmas.{length-controllers_by}
 use Rattle.ec_check.proofs.SearchLemmas.{IsFirstOf-shorter, HasNone-all}
 use Rattle.ec_check.proofs.CrossedLemmas.{crossed_go_on}
 use Rattle.ec_check.proofs.crossed.bits_read_and_written.Goals as goal
 
 pub loop-reader-preserved : goal.loop-reader-preserved
-loop-reader-preserved c = below_more _ _ c.loop-reader.invariant c.in_ok-written_elsewhere.ensures
+loop-reader-preserved g c = below_more _ _ c.loop-reader.invariant c.in_ok-written_elsewhere.ensures
 
 pub returns-in_err-written_elsewhere : goal.returns-in_err-written_elsewhere
-returns-in_err-written_elsewhere c =
+returns-in_err-written_elsewhere g c =
     let p = err_from_is_err_and c.from_residual.result c.from_residual.ensures.1 in
     rw (p.1, p.2)
-    (IsFirstOf-shorter (7 ∷ []) (controllers c.args.line.now) c.loop-reader.reader _
+    (IsFirstOf-shorter (7 ∷ []) (controllers_by g.S.Mapped.controller c.args.line.now) c.loop-reader.reader _
     c.loop-reader.invariant c.in_err-written_elsewhere.ensures)
 
 pub returns : goal.returns
-returns c =
-    let line = controllers c.args.line.now in
+returns g c =
+    let line = controllers_by g.S.Mapped.controller c.args.line.now in
     HasNone-all (7 ∷ []) line c.loop-reader.reader c.loop-reader.invariant
-    (crossed_go_on line c.loop-reader.reader (omega (arith, length-controllers c.args.line.now)))
+    (crossed_go_on line c.loop-reader.reader (omega (arith, length-controllers_by g.S.Mapped.controller c.args.line.now)))

@@ -1,23 +1,23 @@
 use Rattle.std.proofs.Common.{[], ◌∷◌, below_more, arith}
 use Rattle.std.proofs.lemmas.Result.{err_from_is_err_and}
-use Rattle.ec_check.specs.Line.{controllers}
-use Rattle.ec_check.proofs.LineLemmas.{length-controllers}
+use Rattle.ec_check.specs.Line.{controllers_by}
+use Rattle.ec_check.proofs.LineLemmas.{length-controllers_by}
 use Rattle.ec_check.proofs.SearchLemmas.{IsFirstOf-shorter, HasNone-all}
 use Rattle.ec_check.proofs.StationLemmas.{twins_go_on}
 use Rattle.ec_check.proofs.stations.twin_stations.Goals as goal
 
 pub loop-slave-preserved : goal.loop-slave-preserved
-loop-slave-preserved c = below_more _ _ c.loop-slave.invariant c.in_ok-twins_of.ensures
+loop-slave-preserved g c = below_more _ _ c.loop-slave.invariant c.in_ok-twins_of.ensures
 
 pub returns-in_err-twins_of : goal.returns-in_err-twins_of
-returns-in_err-twins_of c =
+returns-in_err-twins_of g c =
     let p = err_from_is_err_and c.from_residual.result c.from_residual.ensures.1 in
     rw (p.1, p.2)
     (IsFirstOf-shorter (1 ∷ [])
-    (controllers c.args.line.now) c.loop-slave.slave _ c.loop-slave.invariant c.in_err-twins_of.ensures)
+    (controllers_by g.S.Mapped.controller c.args.line.now) c.loop-slave.slave _ c.loop-slave.invariant c.in_err-twins_of.ensures)
 
 pub returns : goal.returns
-returns c =
-    let line = controllers c.args.line.now in
+returns g c =
+    let line = controllers_by g.S.Mapped.controller c.args.line.now in
     HasNone-all (1 ∷ []) line c.loop-slave.slave c.loop-slave.invariant
-    (twins_go_on line c.loop-slave.slave (omega (arith, length-controllers c.args.line.now)))
+    (twins_go_on line c.loop-slave.slave (omega (arith, length-controllers_by g.S.Mapped.controller c.args.line.now)))

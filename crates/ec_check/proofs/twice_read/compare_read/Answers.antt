@@ -1,15 +1,15 @@
 use Rattle.std.proofs.Common.{sym, ap, ◌∙◌}
 use Rattle.ec_regs.specs.Pairs.{reads}
-use Rattle.ec_check.specs.Line.{controllers}
+use Rattle.ec_check.specs.Line.{controllers_by}
 use Rattle.ec_check.proofs.ReadLemmas.{HasNone-read, IsFirstOf-read}
 use Rattle.ec_check.proofs.twice_read.compare_read.Goals as goal
 
 pub returns-in-Some : goal.returns-in-Some
-returns-in-Some c =
+returns-in-Some g c =
     let first = c.requires.first.is in
     let second = c.fmmu_of-second.ensures in
     IsFirstOf-read
-    (controllers c.args.line.now) c.args.first.now.slave c.args.first.now.number c.args.later_slave
+    (controllers_by g.S.Mapped.controller c.args.line.now) c.args.first.now.slave c.args.first.now.number c.args.later_slave
     c.args.later_fmmu
     c.in-Some.bit
     (record {
@@ -28,10 +28,10 @@ returns-in-Some c =
     (λ n twice. c.in-Some.ensures.1 n (rw first twice.first.maps, rw second twice.second.maps))
 
 pub returns-in-None : goal.returns-in-None
-returns-in-None c =
+returns-in-None g c =
     let first = c.requires.first.is in
     let second = c.fmmu_of-second.ensures in
     HasNone-read
-    (controllers c.args.line.now) c.args.first.now.slave c.args.first.now.number c.args.later_slave
+    (controllers_by g.S.Mapped.controller c.args.line.now) c.args.first.now.slave c.args.first.now.number c.args.later_slave
     c.args.later_fmmu
     (λ n twice. c.in-None.ensures n (rw first twice.first.maps, rw second twice.second.maps))

@@ -1,8 +1,8 @@
 use Rattle.std.proofs.Common.{[], ◌∷◌}
-use Rattle.ec_check.specs.Line.{controllers}
+use Rattle.ec_check.specs.Line.{controllers_by}
 use Rattle.ec_check.specs.Search.{HasNoneBelow}
 use Rattle.ec_check.proofs.twice_read.read_again.Given as goal
 
 abbrev pub invariant-loop-later_slave : goal.invariant-loop-later_slave
-invariant-loop-later_slave l =
-    HasNoneBelow (6 ∷ l.first.slave ∷ l.first.number ∷ []) (controllers l.line) l.later_slave
+invariant-loop-later_slave g l =
+    HasNoneBelow (6 ∷ l.first.slave ∷ l.first.number ∷ []) (controllers_by g.S.Mapped.controller l.line) l.later_slave

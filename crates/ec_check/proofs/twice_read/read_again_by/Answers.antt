@@ -1,30 +1,30 @@
 use Rattle.std.proofs.Common.{[], ◌∷◌, below_more, arith}
 use Rattle.std.proofs.lemmas.Result.{err_from_is_err_and}
-use Rattle.ec_check.specs.Line.{controllers}
+use Rattle.ec_check.specs.Line.{controllers_by}
 use Rattle.ec_check.proofs.SearchLemmas.{IsFirstOf-shorter, HasNone-all}
 use Rattle.ec_check.proofs.ReadLemmas.{read_again_by_go_on, HasNone-read}
 use Rattle.ec_check.proofs.twice_read.read_again_by.Goals as goal
 
 pub loop-later_fmmu-init : goal.loop-later_fmmu-init
-loop-later_fmmu-init c = λ n below.
+loop-later_fmmu-init g c = λ n below.
     HasNone-read
-    (controllers c.args.line.now) c.args.first.now.slave c.args.first.now.number c.args.later_slave n
+    (controllers_by g.S.Mapped.controller c.args.line.now) c.args.first.now.slave c.args.first.now.number c.args.later_slave n
     (λ bit twice. c.first_after-later_fmmu.ensures.before n below twice.order)
 
 pub loop-later_fmmu-preserved : goal.loop-later_fmmu-preserved
-loop-later_fmmu-preserved c = below_more _ _ c.loop-later_fmmu.invariant c.in_ok-compare_read.ensures
+loop-later_fmmu-preserved g c = below_more _ _ c.loop-later_fmmu.invariant c.in_ok-compare_read.ensures
 
 pub returns-in_err-compare_read : goal.returns-in_err-compare_read
-returns-in_err-compare_read c =
+returns-in_err-compare_read g c =
     let p = err_from_is_err_and c.from_residual.result c.from_residual.ensures.1 in
     rw (p.1, p.2)
     (IsFirstOf-shorter (6 ∷ c.args.first.now.slave ∷ c.args.first.now.number ∷ c.args.later_slave ∷ [])
-    (controllers c.args.line.now) c.loop-later_fmmu.later_fmmu _
+    (controllers_by g.S.Mapped.controller c.args.line.now) c.loop-later_fmmu.later_fmmu _
     c.loop-later_fmmu.invariant c.in_err-compare_read.ensures)
 
 pub returns : goal.returns
-returns c =
-    let line = controllers c.args.line.now in
+returns g c =
+    let line = controllers_by g.S.Mapped.controller c.args.line.now in
     HasNone-all
     (6 ∷ c.args.first.now.slave ∷ c.args.first.now.number ∷ c.args.later_slave ∷ []) line
     c.loop-later_fmmu.later_fmmu c.loop-later_fmmu.invariant

@@ -1,21 +1,21 @@
 use Rattle.std.proofs.Common.{sym, ap, ◌∙◌, arith}
 use Rattle.ec_regs.specs.Pairs.{writes}
-use Rattle.ec_check.specs.Line.{controllers}
-use Rattle.ec_check.proofs.LineLemmas.{length-controllers}
+use Rattle.ec_check.specs.Line.{controllers_by}
+use Rattle.ec_check.proofs.LineLemmas.{length-controllers_by}
 use Rattle.ec_check.proofs.WrittenLemmas.{HasNone-written, IsFirstOf-written}
 use Rattle.ec_check.proofs.twice_written.compare_written.Goals as goal
 
 pub returns-in-Some : goal.returns-in-Some
-returns-in-Some c =
+returns-in-Some g c =
     let first = c.fmmu_of-first.ensures in
     let second = c.fmmu_of-second.ensures in
-    IsFirstOf-written (controllers c.args.line.now) c.args.slave c.args.fmmu c.args.later_fmmu c.in-Some.bit
+    IsFirstOf-written (controllers_by g.S.Mapped.controller c.args.line.now) c.args.slave c.args.fmmu c.args.later_fmmu c.in-Some.bit
     (record {
       order = c.requires.order;
       first = record {
         there = record {
           slave_there = omega
-              (arith, length-controllers c.args.line.now);
+              (arith, length-controllers_by g.S.Mapped.controller c.args.line.now);
           number_there = omega arith;
         };
         for_writing = ap writes (sym first) ∙ sym c.writes.ensures ∙ c.if-not-writes.false;
@@ -24,7 +24,7 @@ returns-in-Some c =
       second = record {
         there = record {
           slave_there = omega
-              (arith, length-controllers c.args.line.now);
+              (arith, length-controllers_by g.S.Mapped.controller c.args.line.now);
           number_there = omega arith;
         };
         for_writing = ap writes (sym second) ∙ sym c.writes-2.ensures ∙ c.if-not-writes-2.false;
@@ -34,8 +34,8 @@ returns-in-Some c =
     (λ n twice. c.in-Some.ensures.1 n (rw first twice.first.maps, rw second twice.second.maps))
 
 pub returns-in-None : goal.returns-in-None
-returns-in-None c =
+returns-in-None g c =
     let first = c.fmmu_of-first.ensures in
     let second = c.fmmu_of-second.ensures in
-    HasNone-written (controllers c.args.line.now) c.args.slave c.args.fmmu c.args.later_fmmu
+    HasNone-written (controllers_by g.S.Mapped.controller c.args.line.now) c.args.slave c.args.fmmu c.args.later_fmmu
     (λ n twice. c.in-None.ensures n (rw first twice.first.maps, rw second twice.second.maps))

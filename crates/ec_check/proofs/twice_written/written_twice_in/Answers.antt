@@ -1,22 +1,22 @@
 use Rattle.std.proofs.Common.{[], ◌∷◌, below_more, arith}
 use Rattle.std.proofs.lemmas.Result.{err_from_is_err_and}
-use Rattle.ec_check.specs.Line.{controllers}
+use Rattle.ec_check.specs.Line.{controllers_by}
 use Rattle.ec_check.proofs.SearchLemmas.{IsFirstOf-shorter, HasNone-all}
 use Rattle.ec_check.proofs.WrittenLemmas.{written_in_go_on}
 use Rattle.ec_check.proofs.twice_written.written_twice_in.Goals as goal
 
 pub loop-fmmu-preserved : goal.loop-fmmu-preserved
-loop-fmmu-preserved c = below_more _ _ c.loop-fmmu.invariant c.in_ok-written_again.ensures
+loop-fmmu-preserved g c = below_more _ _ c.loop-fmmu.invariant c.in_ok-written_again.ensures
 
 pub returns-in_err-written_again : goal.returns-in_err-written_again
-returns-in_err-written_again c =
+returns-in_err-written_again g c =
     let p = err_from_is_err_and c.from_residual.result c.from_residual.ensures.1 in
     rw (p.1, p.2)
-    (IsFirstOf-shorter (5 ∷ c.args.slave ∷ []) (controllers c.args.line.now) c.loop-fmmu.fmmu _
+    (IsFirstOf-shorter (5 ∷ c.args.slave ∷ []) (controllers_by g.S.Mapped.controller c.args.line.now) c.loop-fmmu.fmmu _
     c.loop-fmmu.invariant c.in_err-written_again.ensures)
 
 pub returns : goal.returns
-returns c =
-    let line = controllers c.args.line.now in
+returns g c =
+    let line = controllers_by g.S.Mapped.controller c.args.line.now in
     HasNone-all (5 ∷ c.args.slave ∷ []) line c.loop-fmmu.fmmu c.loop-fmmu.invariant
     (written_in_go_on line c.args.slave c.loop-fmmu.fmmu (omega arith))

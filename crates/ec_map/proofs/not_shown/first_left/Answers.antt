@@ -4,7 +4,7 @@ use Rattle.ec_map.proofs.NotShownLemmas.{item_there, item_same, item_at}
 use Rattle.ec_map.proofs.not_shown.first_left.Goals as goal
 
 pub loop-k-preserved : goal.loop-k-preserved
-loop-k-preserved c =
+loop-k-preserved g c =
     below_more _ _ c.loop-k.invariant
     (λ left.
     let same = item_same c.args.items.now c.loop-k.k c.index-items-k.result left.item c.index-items-k.is
@@ -12,7 +12,7 @@ loop-k-preserved c =
     both_ways c.leaves.result c.if-leaves.false (c.leaves.ensures.1 (rw (← same) left.leaves)))
 
 pub returns-then-leaves : goal.returns-then-leaves
-returns-then-leaves c = (
+returns-then-leaves g c = (
   record {
     item = c.index-items-k.result;
     is = item_at c.args.items.now c.loop-k.k c.index-items-k.result (omega arith) c.index-items-k.is;
@@ -24,6 +24,6 @@ returns-then-leaves c = (
 )
 
 pub returns : goal.returns
-returns c = λ k left.
+returns g c = λ k left.
     let inside = item_there c.args.items.now k left.item left.is in
     c.loop-k.invariant k (omega arith) left

@@ -1,8 +1,8 @@
 use Rattle.std.proofs.Common.{ℕ, ◌<◌}
-use Rattle.ec_check.specs.Line.{controllers}
+use Rattle.ec_check.specs.Line.{controllers_by}
 use Rattle.ec_map.specs.NotShown.{LeavesBytes}
 use Rattle.ec_map.proofs.not_shown.first_left.Given as goal
 
 abbrev pub invariant-loop-k : goal.invariant-loop-k
-invariant-loop-k l =
-    (n : ℕ) → n < l.k → ¬ LeavesBytes (controllers l.line) l.items l.slave l.area l.last n
+invariant-loop-k g l =
+    (n : ℕ) → n < l.k → ¬ LeavesBytes (controllers_by g.S.Mapped.controller l.line) l.items l.slave l.area l.last n

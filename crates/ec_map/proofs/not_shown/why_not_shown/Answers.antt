@@ -1,28 +1,28 @@
 use Rattle.std.proofs.Common.{◌≡◌, ap, ◌∙◌, refl}
 use Rattle.ec_regs.specs.SyncMan.{guards_outputs}
-use Rattle.ec_check.specs.Line.{controllers, sync_manager_of}
+use Rattle.ec_check.specs.Line.{controllers_by, sync_manager_of}
 use Rattle.ec_map.proofs.NotShownLemmas.{area_of, last_of, outputs_size, outputs_end, IsFirst-left}
 use Rattle.ec_map.proofs.NotShownLemmas.{IsFirst-never, no_why}
 use Rattle.ec_map.proofs.not_shown.why_not_shown.Goals as goal
 
 pub last_byte-last-requires-clause-some : goal.last_byte-last-requires-clause-some
-last_byte-last-requires-clause-some c =
+last_byte-last-requires-clause-some g c =
     outputs_size c.sync_manager_of-manager.result
     (ap guards_outputs c.sync_manager_of-manager.ensures ∙ c.requires.outputs)
 
 pub last_byte-last-requires-clause-end : goal.last_byte-last-requires-clause-end
-last_byte-last-requires-clause-end c =
+last_byte-last-requires-clause-end g c =
     outputs_end c.sync_manager_of-manager.result
     (ap guards_outputs c.sync_manager_of-manager.ensures ∙ c.requires.outputs)
 
 pub first_left-requires-clause-area : goal.first_left-requires-clause-area
-first_left-requires-clause-area c =
+first_left-requires-clause-area g c =
     rw (c.area.ensures) (outputs_size c.sync_manager_of-manager.result
     (ap guards_outputs c.sync_manager_of-manager.ensures ∙ c.requires.outputs))
 
 pub returns-in-Some : goal.returns-in-Some
-returns-in-Some c =
-    let line = controllers c.args.line.now in
+returns-in-Some g c =
+    let line = controllers_by g.S.Mapped.controller c.args.line.now in
     let is = c.sync_manager_of-manager.ensures in
     let area : c.area.result ≡ area_of (sync_manager_of line c.args.slave c.args.number) =
     c.area.ensures ∙ ap area_of is in
@@ -32,8 +32,8 @@ returns-in-Some c =
     (rw (← area, ← last) c.in-Some.ensures)
 
 pub returns-then-is_written : goal.returns-then-is_written
-returns-then-is_written c =
-    let line = controllers c.args.line.now in
+returns-then-is_written g c =
+    let line = controllers_by g.S.Mapped.controller c.args.line.now in
     let is = c.sync_manager_of-manager.ensures in
     let area : c.area.result ≡ area_of (sync_manager_of line c.args.slave c.args.number) =
     c.area.ensures ∙ ap area_of is in
@@ -43,8 +43,8 @@ returns-then-is_written c =
     (rw (← last) (c.if-is_written.ensures.yes refl))
 
 pub returns-else-is_written : goal.returns-else-is_written
-returns-else-is_written c =
-    let line = controllers c.args.line.now in
+returns-else-is_written g c =
+    let line = controllers_by g.S.Mapped.controller c.args.line.now in
     let is = c.sync_manager_of-manager.ensures in
     let area : c.area.result ≡ area_of (sync_manager_of line c.args.slave c.args.number) =
     c.area.ensures ∙ ap area_of is in

@@ -1,10 +1,10 @@
-use Rattle.ec_check.specs.Line.{controllers}
+use Rattle.ec_check.specs.Line.{controllers_by}
 use Rattle.ec_map.proofs.WrittenLemmas.{writes_from_runs, runs_from_writes}
 use Rattle.ec_map.proofs.written.writes_mapped.Goals as goal
 
 pub returns : goal.returns
-returns c =
-    let line = controllers c.args.line.now in (
+returns g c =
+    let line = controllers_by g.S.Mapped.controller c.args.line.now in (
       λ yes. writes_from_runs line c.args.slave c.args.bytes.first c.args.bytes.count c.args.item.now
           c.requires.kind
           (rw (← c.address.ensures, ← c.from-first.ensures, ← c.len.ensures.length, ← c.bits_of.ensures)

@@ -1,0 +1,200 @@
+//! A slave by its station address and its records alone.
+
+ghost use Rattle.std.specs.Prelude.{◌≡◌, ◌<◌, ◌≤◌, ◌&&◌, if◌then◌else◌};
+ghost use Rattle.ec_regs.specs.Bits.{AreBytes};
+ghost use Rattle.ec_regs.specs.declared.registers.TheConstants.{FMMU_COUNT, SYNC_MANAGER_COUNT};
+ghost use Rattle.ec_regs.specs.declared.registers.TheConstants.{STATION_ADDRESS};
+ghost use Rattle.ec_wire.specs.Datagram.{ado_of, adp_of};
+ghost use Rattle.ec_areas.specs.Records.{fmmu_at, fmmus_of, sync_manager_at, sync_managers_of};
+ghost use Rattle.ec_esc.specs.Pass.{serves_read, serves_write, serves_range_read, serves_range_write};
+ghost use Rattle.ec_esc.specs.State.{IsController, word_at};
+ghost use Rattle.ec_line.specs.Claims.{gain};
+ghost use Rattle.rummymaple.specs.Records.{controller_with, memory_of};
+
+use ec_areas::{reads_some, serves_physical_read, serves_physical_write, writes_some};
+use ec_map::Mapped;
+use ec_regs::registers::{FMMU_SIZE, SYNC_MANAGER_SIZE};
+use ec_regs::{AddressRange, Fmmu, Fmmus, PlannedFmmu, PlannedSyncMan, SyncMan, SyncManagers};
+use ec_wire::{Kind, ado_of, adp_of};
+
+/// The bytes of a slave's FMMU records.
+pub const FMMU_BYTES: usize = 128;
+
+/// The bytes of its sync manager records.
+pub const SYNC_MANAGER_BYTES: usize = 64;
+
+/// What a slave is mapped by, as a master writes it or reads it back (IEC 61158-4-12): `struct rmp_records`
+/// of the header.
+#[repr(C)]
+#[derive(Clone, Copy)]
+pub struct Records {
+    /// The station address, which the slave has at 0x0010.
+    pub station: u16,
+    /// The eight FMMU records of 16 bytes each, which it has from 0x0600 on.
+    pub fmmus: [u8; FMMU_BYTES],
+    /// The eight sync manager records of 8 bytes each, which it has from 0x0800 on.
+    pub sync_managers: [u8; SYNC_MANAGER_BYTES],
+}
+
+/// Does nothing; its clause is what a proof knows of the elements of a slice of bytes.
+fn are_bytes(bytes: &[u8])
+    ensures { AreBytes bytes.now }
+{
+    // For the prover: the elements of a slice that is read are bytes.
+    let _length = bytes.len();
+}
+
+/// A gain where something is served, else 0.
+fn counted(served: bool, gain: u16) -> u16
+    ensures value { result ≡ (if served then gain else 0) }
+    ensures bound { result ≤ gain }
+{
+    if served { gain } else { 0 }
+}
+
+impl Records {
+    /// The station address, and that the records are those of a controller.
+    fn named(&self) -> u16
+        ensures value { result ≡ word_at (memory_of self.now) STATION_ADDRESS }
+        ensures controller { IsController (controller_with self.now) }
+    {
+        are_bytes(&self.fmmus);
+        are_bytes(&self.sync_managers);
+        self.station
+    }
+
+    /// The FMMU with a number.
+    fn fmmu_numbered(&self, number: usize) -> Fmmu
+        requires { number < FMMU_COUNT }
+        ensures { result ≡ fmmu_at (memory_of self.now) number }
+    {
+        let at = FMMU_SIZE as usize * number;
+        Fmmu::read(self.fmmus[at..at + FMMU_SIZE as usize].try_into().unwrap())
+    }
+
+    /// The sync manager with a number.
+    fn sync_manager_numbered(&self, number: usize) -> SyncMan
+        requires { number < SYNC_MANAGER_COUNT }
+        ensures { result ≡ sync_manager_at (memory_of self.now) number }
+    {
+        let at = SYNC_MANAGER_SIZE as usize * number;
+        SyncMan::read(
+            self.sync_managers[at..at + SYNC_MANAGER_SIZE as usize]
+                .try_into()
+                .unwrap(),
+        )
+    }
+
+    /// All FMMUs, by number.
+    fn fmmus(&self) -> Fmmus
+        ensures { result ≡ fmmus_of (memory_of self.now) }
+    {
+        [
+            PlannedFmmu::new(self.fmmu_numbered(0)),
+            PlannedFmmu::new(self.fmmu_numbered(1)),
+            PlannedFmmu::new(self.fmmu_numbered(2)),
+            PlannedFmmu::new(self.fmmu_numbered(3)),
+            PlannedFmmu::new(self.fmmu_numbered(4)),
+            PlannedFmmu::new(self.fmmu_numbered(5)),
+            PlannedFmmu::new(self.fmmu_numbered(6)),
+            PlannedFmmu::new(self.fmmu_numbered(7)),
+        ]
+    }
+
+    /// All sync managers, by number.
+    fn sync_managers(&self) -> SyncManagers
+        ensures { result ≡ sync_managers_of (memory_of self.now) }
+    {
+        [
+            PlannedSyncMan::new(self.sync_manager_numbered(0)),
+            PlannedSyncMan::new(self.sync_manager_numbered(1)),
+            PlannedSyncMan::new(self.sync_manager_numbered(2)),
+            PlannedSyncMan::new(self.sync_manager_numbered(3)),
+            PlannedSyncMan::new(self.sync_manager_numbered(4)),
+            PlannedSyncMan::new(self.sync_manager_numbered(5)),
+            PlannedSyncMan::new(self.sync_manager_numbered(6)),
+            PlannedSyncMan::new(self.sync_manager_numbered(7)),
+        ]
+    }
+
+    /// Does a logical read of so many bytes read a bit of the slave?
+    fn reads_bits(&self, address: u32, count: u16) -> bool
+        ensures { result ≡ serves_read (controller_with self.now) address count }
+    {
+        reads_some(&self.sync_managers(), &self.fmmus(), address, count.into())
+    }
+
+    /// Does a logical write of so many bytes write one?
+    fn writes_bits(&self, address: u32, count: u16) -> bool
+        ensures { result ≡ serves_write (controller_with self.now) address count }
+    {
+        writes_some(&self.sync_managers(), &self.fmmus(), address, count.into())
+    }
+
+    /// Is a read of so many bytes of the memory served?
+    fn serves_read(&self, address: u32, count: u16) -> bool
+        ensures { result ≡ serves_range_read (controller_with self.now) (ado_of address) count }
+    {
+        let range = AddressRange {
+            first: ado_of(address),
+            count,
+        };
+        serves_physical_read(&self.sync_managers(), range)
+    }
+
+    /// Is a write of so many bytes served?
+    fn serves_write(&self, address: u32, count: u16) -> bool
+        ensures { result ≡ serves_range_write (controller_with self.now) (ado_of address) count }
+    {
+        let range = AddressRange {
+            first: ado_of(address),
+            count,
+        };
+        serves_physical_write(&self.sync_managers(), range)
+    }
+
+    /// Does the address of a datagram name the slave's station?
+    fn is_named(&self, address: u32) -> bool
+        ensures { result ≡ (adp_of address == word_at (memory_of self.now) STATION_ADDRESS) }
+    {
+        adp_of(address) == self.named()
+    }
+}
+
+/// A slave's records are mapped as the controller that has them.
+impl Mapped for Records {
+    ghost controller = { controller_with };
+
+    fn station(&self) -> u16 {
+        self.named()
+    }
+
+    fn fmmu(&self, number: usize) -> Fmmu {
+        self.fmmu_numbered(number)
+    }
+
+    fn sync_manager(&self, number: usize) -> SyncMan {
+        self.sync_manager_numbered(number)
+    }
+
+    #[tactic(auto, unfolding(ec_line::specs::Claims::gain))]
+    fn gain(&self, kind: Kind, address: u32, count: u16) -> u16 {
+        match kind {
+            Kind::Lrd => counted(self.reads_bits(address, count), 1),
+            Kind::Lwr => counted(self.writes_bits(address, count), 1),
+            Kind::Lrw => {
+                counted(self.reads_bits(address, count), 1)
+                    + counted(self.writes_bits(address, count), 2)
+            }
+            Kind::Brd => counted(self.serves_read(address, count), 1),
+            Kind::Fprd => counted(
+                self.is_named(address) && self.serves_read(address, count),
+                1,
+            ),
+            Kind::Fpwr => counted(
+                self.is_named(address) && self.serves_write(address, count),
+                1,
+            ),
+        }
+    }
+}
