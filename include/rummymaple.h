@@ -179,6 +179,36 @@ struct rmp_located {
     uint32_t copy_b; /* and at port B */
 };
 
+/* What a slave is mapped by: its registers as a master writes them or reads them back. */
+struct rmp_records {
+    uint16_t station;             /* the station address, which the slave has at 0x0010 */
+    uint8_t fmmus[8][16];         /* its FMMU records, which it has from 0x0600 on */
+    uint8_t sync_managers[8][8];  /* its sync manager records, which it has from 0x0800 on */
+};
+
+/* The rules of a mapping, in the order in which they are tested. Only active FMMUs and areas count. */
+enum rmp_rule {
+    RMP_FIT = 0,             /* none is broken */
+    RMP_TWIN_STATION = 1,    /* two slaves have one station address */
+    RMP_BAD_FMMU = 2,        /* an FMMU neither reads nor writes, or does both, or maps bits that do not exist */
+    RMP_AREAS_MEET = 3,      /* two areas of a slave share the byte at address `place` */
+    RMP_OUTSIDE_AREA = 4,    /* an FMMU is at address `place` outside of each buffered area of its direction */
+    RMP_TWICE_WRITTEN = 5,   /* two FMMUs of a slave write its memory's bit `place` */
+    RMP_TWICE_READ = 6,      /* two FMMUs of the line read logical bit `place` */
+    RMP_READ_AND_WRITTEN = 7 /* logical bit `place` is read from one slave and written to another */
+};
+
+/* What rmp_check answers. Slaves and their FMMUs and sync managers are numbered from 0, bits are 8 * byte
+ * address + bit; where a rule has one party alone, the other is the same, and what it does not name is 0. */
+struct rmp_mapping {
+    size_t slave;        /* the first party's slave; of RMP_READ_AND_WRITTEN the one that is read */
+    size_t number;       /* its FMMU, of RMP_AREAS_MEET its sync manager */
+    size_t other_slave;  /* the other party's slave */
+    size_t other_number; /* its FMMU or sync manager */
+    uint64_t place;      /* the lowest address or bit at which the rule is broken */
+    uint32_t rule;       /* of enum rmp_rule */
+};
+
 /* How far a cycle is. */
 enum rmp_state {
     RMP_UNDER_WAY = 0, /* items are left */
@@ -310,6 +340,16 @@ struct rmp_turn rmp_cycle_came(struct rmp_cycle *cycle, struct rmp_item *items, 
 struct rmp_located rmp_where(uint32_t form, const uint8_t *sent, size_t sent_size, const uint8_t *a,
                              size_t a_size, const uint8_t *b, size_t b_size, size_t slaves);
 
+/*
+ * Says whether a line is mapped as a cycle needs it, by the records of its slaves in whatever order: before
+ * the first cycle, of what the master is to write, or has read back.
+ *
+ * Proved: the answer is RMP_FIT exactly where no rule is broken, and else the first rule that is, with the
+ * smallest numbers from left to right and the lowest address or bit. Of fit lines alone the promises about
+ * cycles hold.
+ */
+struct rmp_mapping rmp_check(const struct rmp_records *line, size_t slaves);
+
 #ifdef __cplusplus
 }
 #define RMP_ASSERT static_assert
@@ -350,6 +390,17 @@ RMP_ASSERT(offsetof(struct rmp_located, code) == 24, "code");
 RMP_ASSERT(offsetof(struct rmp_located, cable) == 28, "cable");
 RMP_ASSERT(offsetof(struct rmp_located, copy_a) == 32, "copy_a");
 RMP_ASSERT(offsetof(struct rmp_located, copy_b) == 36, "copy_b");
+RMP_ASSERT(sizeof(struct rmp_records) == 194, "size of rmp_records");
+RMP_ASSERT(offsetof(struct rmp_records, station) == 0, "station");
+RMP_ASSERT(offsetof(struct rmp_records, fmmus) == 2, "fmmus");
+RMP_ASSERT(offsetof(struct rmp_records, sync_managers) == 130, "sync_managers");
+RMP_ASSERT(sizeof(struct rmp_mapping) == 48, "size of rmp_mapping");
+RMP_ASSERT(offsetof(struct rmp_mapping, slave) == 0, "slave");
+RMP_ASSERT(offsetof(struct rmp_mapping, number) == 8, "number");
+RMP_ASSERT(offsetof(struct rmp_mapping, other_slave) == 16, "other_slave");
+RMP_ASSERT(offsetof(struct rmp_mapping, other_number) == 24, "other_number");
+RMP_ASSERT(offsetof(struct rmp_mapping, place) == 32, "place");
+RMP_ASSERT(offsetof(struct rmp_mapping, rule) == 40, "rule");
 RMP_ASSERT(sizeof(struct rmp_cycle) == 16, "size of rmp_cycle");
 RMP_ASSERT(offsetof(struct rmp_cycle, first) == 0, "first");
 RMP_ASSERT(offsetof(struct rmp_cycle, form) == 8, "form");

@@ -5,6 +5,7 @@
 #include <stdio.h>
 #include <stdlib.h>
 #include <string.h>
+#include <time.h>
 #include <ucontext.h>
 
 #define STACK_LIMIT 8192
@@ -290,6 +291,98 @@ static void cut(void) {
     CHECK(made.code == RMP_GOOD && made.items == 1 && sent[3] == 2);
 }
 
+/* ---- the mapping: records written out by hand */
+
+static struct rmp_records line[RMP_MAX_ITEMS];
+
+/* An active sync manager: start, length, control (0x04 the master writes, 0x00 it reads), activate. */
+static void area(int slave, int k, uint16_t start, uint8_t length, uint8_t control) {
+    const uint8_t record[8] = {(uint8_t)start, (uint8_t)(start >> 8), length, 0, control, 0, 1, 0};
+    memcpy(line[slave].sync_managers[k], record, sizeof record);
+}
+
+/* An active FMMU of one whole byte: type 1 is read by the master, 2 written. */
+static void maps(int slave, int k, uint32_t logical, uint16_t physical, uint8_t type) {
+    const uint8_t record[16] = {(uint8_t)logical, (uint8_t)(logical >> 8), (uint8_t)(logical >> 16),
+                                (uint8_t)(logical >> 24), 1, 0, 0, 7, (uint8_t)physical,
+                                (uint8_t)(physical >> 8), 0, type, 1, 0, 0, 0};
+    memcpy(line[slave].fmmus[k], record, sizeof record);
+}
+
+/* Two slaves; the first has an area of each direction, and exchanges the byte at 0x00010000. */
+static void map(void) {
+    memset(line, 0, sizeof line);
+    line[0].station = 0x1001;
+    line[1].station = 0x1002;
+    area(0, 2, 0x1000, 4, 0x04);
+    area(0, 3, 0x1100, 4, 0x00);
+    maps(0, 0, 0x00010000, 0x1000, 2);
+    maps(0, 1, 0x00010000, 0x1100, 1);
+}
+
+static void broken(uint32_t rule, size_t slave, size_t number, size_t other_slave, size_t other_number,
+                   uint64_t place) {
+    struct rmp_mapping found = rmp_check(line, 2);
+    CHECK(found.rule == rule && found.place == place);
+    CHECK(found.slave == slave && found.number == number);
+    CHECK(found.other_slave == other_slave && found.other_number == other_number);
+    map();
+}
+
+static void mappings(void) {
+    map();
+    broken(RMP_FIT, 0, 0, 0, 0, 0);
+    line[1].station = 0x1001;
+    broken(RMP_TWIN_STATION, 0, 0, 1, 0, 0);
+    maps(0, 2, 0x00010001, 0x1001, 3); /* it reads and writes */
+    broken(RMP_BAD_FMMU, 0, 2, 0, 2, 0);
+    area(0, 2, 0x1000, 5, 0x04);
+    area(0, 3, 0x1004, 4, 0x00);
+    broken(RMP_AREAS_MEET, 0, 2, 0, 3, 0x1004);
+    maps(0, 2, 0x00010001, 0x1104, 1);
+    broken(RMP_OUTSIDE_AREA, 0, 2, 0, 2, 0x1104);
+    maps(0, 1, 0x00010001, 0x1000, 2);
+    broken(RMP_TWICE_WRITTEN, 0, 0, 0, 1, 32768);
+    maps(0, 0, 0x00010000, 0x1100, 1);
+    maps(0, 1, 0x00010001, 0x1101, 1);
+    area(1, 3, 0x1100, 1, 0x00);
+    maps(1, 0, 0x00010000, 0x1100, 1);
+    broken(RMP_TWICE_READ, 0, 0, 1, 0, 524288);
+    memset(line[0].fmmus[1], 0, sizeof line[0].fmmus[1]);
+    area(1, 3, 0x1100, 1, 0x00);
+    maps(1, 0, 0x00010000, 0x1100, 1);
+    broken(RMP_READ_AND_WRITTEN, 1, 0, 0, 0, 524288);
+    CHECK(rmp_check(NULL, 0).rule == RMP_FIT);
+    area(0, 2, 0x1000, 4, 0x26); /* a mailbox that the master writes, with its interrupt */
+    broken(RMP_OUTSIDE_AREA, 0, 0, 0, 0, 0x1000);
+}
+
+/* A full line, each slave with all its FMMUs in use, and the time that its check takes. */
+static void full_line(void) {
+    enum { SLAVES = RMP_MAX_ITEMS, ROUNDS = 20 };
+    clock_t begun_at;
+    double milliseconds;
+    memset(line, 0, sizeof line);
+    for (int k = 0; k < SLAVES; k++) {
+        line[k].station = (uint16_t)(0x1001 + k);
+        area(k, 2, 0x1000, 4, 0x04);
+        area(k, 3, 0x1100, 4, 0x00);
+        for (int j = 0; j < 8; j++)
+            maps(k, j, (uint32_t)(0x00010000 + 8 * k + j), (uint16_t)((j < 4 ? 0x1000 : 0x1100) + j % 4),
+                 j < 4 ? 2 : 1);
+    }
+    begun_at = clock();
+    for (int round = 0; round < ROUNDS; round++)
+        CHECK(rmp_check(line, SLAVES).rule == RMP_FIT);
+    milliseconds = 1000.0 * (double)(clock() - begun_at) / CLOCKS_PER_SEC / ROUNDS;
+    printf("time of rmp_check of %d slaves: %.2f ms\n", SLAVES, milliseconds);
+    CHECK(milliseconds < 20);
+    maps(SLAVES - 1, 7, 0x00010004, 0x1100, 1); /* what the first slave's FMMU 4 reads */
+    CHECK(rmp_check(line, SLAVES).rule == RMP_TWICE_READ);
+    CHECK(rmp_check(line, SLAVES).other_slave == SLAVES - 1 && rmp_check(line, SLAVES).other_number == 7);
+    map();
+}
+
 /* ---- the stack: each call runs on one that was painted */
 
 static uint8_t stack[65536];
@@ -299,6 +392,7 @@ static struct rmp_joined came;
 static struct rmp_answer told;
 static struct rmp_reading seen;
 static struct rmp_located located;
+static struct rmp_mapping mapped;
 static struct rmp_cycle begun;
 static struct rmp_turn turned;
 static uint8_t waiting[6];
@@ -318,6 +412,8 @@ static void call_read(void) { seen = rmp_read(RMP_UDP, JOINED, sizeof JOINED, pl
 static void call_where(void) {
     located = rmp_where(RMP_UDP, JOINED, sizeof JOINED, FROM_A, sizeof FROM_A, FROM_B, sizeof FROM_B, 3);
 }
+
+static void call_check(void) { mapped = rmp_check(line, 2); }
 
 static void call_next(void) {
     begun = rmp_cycle_begin(RMP_UDP);
@@ -362,6 +458,8 @@ int main(void) {
     reading();
     cables();
     turns();
+    mappings();
+    full_line();
     begin();
     measure("rmp_frame", call_frame);
     measure("rmp_join", call_join);
@@ -369,6 +467,7 @@ int main(void) {
     measure("rmp_store", call_store);
     measure("rmp_read", call_read);
     measure("rmp_where", call_where);
+    measure("rmp_check", call_check);
     measure("rmp_cycle_next", call_next);
     measure("rmp_cycle_came", call_came);
     puts(failed ? "calls: not as they should be" : "calls: as they should be");

@@ -12,9 +12,6 @@ use ec_map::{MapFault, check};
 #[repr(C)]
 #[derive(Clone, Copy, PartialEq, Eq, Debug)]
 pub struct MapAnswer {
-    /// The rule that is broken, 1 to 7 in their order, or 0 where none is: a twin station, a bad FMMU, areas
-    /// that meet, an FMMU outside its area, a bit written twice, read twice, read and written.
-    pub rule: u32,
     /// The first party's slave.
     pub slave: usize,
     /// Its FMMU or sync manager.
@@ -25,6 +22,9 @@ pub struct MapAnswer {
     pub other_number: usize,
     /// The lowest address (rules 3 and 4) or bit, 8 * byte + bit (rules 5 to 7).
     pub place: u64,
+    /// The rule that is broken, 1 to 7 in their order, or 0 where none is: a twin station, a bad FMMU, areas
+    /// that meet, an FMMU outside its area, a bit written twice, read twice, read and written.
+    pub rule: u32,
 }
 
 /// What was found, in numbers.
@@ -90,12 +90,12 @@ fn numbered(rule: u32, first: (usize, usize), other: (usize, usize), place: u64)
     } }
 {
     MapAnswer {
-        rule,
         slave: first.0,
         number: first.1,
         other_slave: other.0,
         other_number: other.1,
         place,
+        rule,
     }
 }
 
