@@ -1,6 +1,10 @@
 -- Gaps of a line, number by number.
 use Rattle.std.proofs.Common.{◌≡◌, ℕ, ◌+◌, ◌-◌, ◌<◌, ◌≤◌, true, false, List, [], ◌∷◌, length, refl, arith}
-use Rattle.std.proofs.Common.{Option, None, Some}
+use Rattle.std.proofs.Common.{Option, None, Some, leb, ltb, ap, ◌∙◌, ◌*◌}
+use Rattle.std.specs.List.{list_any}
+use Rattle.std.specs.Cmp.Derive.{both_true}
+use Rattle.std.proofs.lemmas.Bool.{and_parts, leb-true, ltb-true, le-leb, lt-ltb}
+use Rattle.std.proofs.lemmas.List.Folds.{list_any_at}
 use Rattle.ec_regs.specs.declared.registers.TheConstants.{FMMU_COUNT}
 use Rattle.ec_regs.specs.Pairs.{first_logical, first_physical, pair_count}
 use Rattle.ec_regs.specs.declared.fmmu.Fmmu.{Fmmu}
@@ -8,9 +12,9 @@ use Rattle.ec_esc.specs.State.{ControllerState}
 use Rattle.ec_check.specs.Order.{BeginsWith, IsLowest}
 use Rattle.ec_check.specs.Rules.{MapsLogical}
 use Rattle.ec_check.specs.Line.{fmmu_of}
-use Rattle.ec_map.specs.Item.{ItemRecord}
+use Rattle.ec_map.specs.Item.{ItemRecord, is_bit_of}
 use Rattle.ec_map.specs.First.{HasNone, IsFirstOf}
-use Rattle.ec_map.specs.Covered.{is_asked, goes, IsGap, gap_numbers, way_number}
+use Rattle.ec_map.specs.Covered.{asks, asks_bit, is_asked, goes, IsGap, gap_numbers, way_number}
 use Rattle.ec_map.specs.declared.covered.Way.{Way}
 use Rattle.ec_map.specs.declared.covered.Way.TheVariants.{Reads, Writes}
 use Rattle.ec_map.specs.declared.covered.Gap.{Gap}
@@ -44,6 +48,23 @@ IsLowest-run f way items (Some l) lowest = (
   (from_run f l lowest.0.0 lowest.0.1, lowest.0.2),
   λ m gap. let inside = in_run f m gap.0 in lowest.1 m (inside.0, inside.1, gap.1),
 )
+
+-- each bit from one that an item asks for up to the item's end is one that it asks for
+pub asked_run : (way : Way) (bit : ℕ) (r : ItemRecord) → asks_bit way bit r ≡ true
+    → (bit < 8 * (r.address + length r.payload))
+    × ((l : ℕ) → bit ≤ l → l < 8 * (r.address + length r.payload) → asks_bit way l r ≡ true)
+asked_run way bit r e =
+    let first : ℕ = 8 * r.address in
+    let bits : ℕ = 8 * length r.payload in
+    let parts = and_parts (asks way r.kind) (is_bit_of r.address (length r.payload) bit) e in
+    let place = and_parts (leb first bit) (ltb (bit - first) bits) parts.1 in
+    let from : first ≤ bit = leb-true first bit place.0 in
+    let to : bit - first < bits = ltb-true (bit - first) bits place.1 in (
+      omega (arith, from, to),
+      λ l above below. both_true parts.0
+          (both_true (le-leb first l (omega (arith, from, above)))
+          (lt-ltb (l - first) bits (omega (arith, from, above, below)))),
+    )
 
 -- ---- gaps by their numbers
 

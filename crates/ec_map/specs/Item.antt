@@ -1,7 +1,7 @@
 -- An item is what a master asks in each cycle, with the data and the counter of the last answer (IEC
 -- 61158-4-12, logical, broadcast and station-addressed commands).
 use Rattle.std.specs.Prelude.{◌≡◌, ◌==◌, ◌&&◌, ◌||◌, ℕ, ◌+◌, ◌-◌, ◌*◌, ◌^◌, ◌<◌, Bool, true, false, nat_le}
-use Rattle.std.specs.Prelude.{nat_lt, if◌then◌else◌, Option, None, Some, List, length}
+use Rattle.std.specs.Prelude.{nat_lt, if◌then◌else◌, Option, None, Some, List, length, map}
 use Rattle.ec_regs.specs.Bits.{bit}
 use Rattle.ec_regs.specs.declared.registers.TheConstants.{PROCESS_MEMORY, MEMORY_SIZE}
 use Rattle.ec_wire.specs.Datagram.{DatagramRecord, ado_of}
@@ -68,6 +68,10 @@ pub record AsksTheSame (r other : ItemRecord) : Type 0 where
   pub kind : other.kind ≡ r.kind
   pub address : other.address ≡ r.address
   pub size : length other.payload ≡ length r.payload
+
+-- the items of a list, where this says what each asks
+abbrev pub items_by : {I : Type 0} → (I → ItemRecord) → List I → List ItemRecord
+items_by item items = map item items
 
 -- an item at first
 abbrev pub new_item : Kind → ℕ → List ℕ → ItemRecord

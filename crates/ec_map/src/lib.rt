@@ -31,6 +31,7 @@
 //! Nothing here takes memory. What the contracts speak of stands in specs/: an item and its datagram
 //! (`Item`), where an addressed item may go (`Place`), and a slave's share in the counter (`Share`).
 
+mod asking;
 mod covered;
 mod item;
 mod kind;
@@ -44,7 +45,8 @@ mod shares;
 mod tests;
 mod written;
 
-pub use covered::{Gap, Way, first_uncovered};
+pub use asking::Asking;
+pub use covered::{Gap, Way, first_gap, first_uncovered};
 pub use ec_check::{
     MapFault, Mapped, are_controllers, check, fit_by_mapping, fit_in_any_order, fit_line,
     mapping_lasts,
