@@ -1,8 +1,9 @@
 /*
  * rummymaple.h: the proved core of an EtherCAT master, for masters in C (C11) and C++ (C++17).
  *
- * Four calls, in the order of a cycle, a reader, and a call that says where the cable is broken. Between the
- * calls the master does what it likes: it sends each frame both ways round the ring, works, and receives.
+ * Four calls, in the order of a cycle, a reader, a call that says where the cable is broken, and four that
+ * check the slaves' records and the items before the first cycle. Between the calls of a cycle the master
+ * does what it likes: it sends each frame both ways round the ring, works, and receives.
  *
  *     for (first = 0; first < n; first += made.items) {
  *         made = rmp_frame(items, n, image, sizeof image, first, sent, sizeof sent);
@@ -72,7 +73,11 @@ enum rmp_code {
     RMP_FAULT_MORE_AT_END = 23, /* the last datagram says that more follow */
     RMP_FAULT_LEFT_OVER = 24,   /* bytes are left behind the last datagram, or too few for one more */
     RMP_FAULT_TRAILING = 25,    /* bytes follow the frame in a UDP packet */
-    RMP_NOT_UNDER_WAY = 26      /* the cycle is done or ended */
+    RMP_NOT_UNDER_WAY = 26,     /* the cycle is done or ended */
+    /* of rmp_check_item, `at` being the first slave of the item's station: */
+    RMP_OUTSIDE_READ = 27,  /* it reads neither registers nor one buffered area that the master reads */
+    RMP_OUTSIDE_WRITE = 28, /* it does not write one buffered area that the master writes */
+    RMP_NOT_ASKED = 29      /* of rmp_covered: no item asks for a logical bit that is mapped */
 };
 
 /* What an item does: the codes of its commands on the wire (IEC 61158-4-12). */
@@ -190,7 +195,7 @@ struct rmp_records {
 enum rmp_rule {
     RMP_FIT = 0,             /* none is broken */
     RMP_TWIN_STATION = 1,    /* two slaves have one station address */
-    RMP_BAD_FMMU = 2,        /* an FMMU neither reads nor writes, or does both, or maps bits that do not exist */
+    RMP_BAD_FMMU = 2,        /* an FMMU does not read or write, does both, or maps bits that are not there */
     RMP_AREAS_MEET = 3,      /* two areas of a slave share the byte at address `place` */
     RMP_OUTSIDE_AREA = 4,    /* an FMMU is at address `place` outside of each buffered area of its direction */
     RMP_TWICE_WRITTEN = 5,   /* two FMMUs of a slave write its memory's bit `place` */
@@ -207,6 +212,21 @@ struct rmp_mapping {
     size_t other_number; /* its FMMU or sync manager */
     uint64_t place;      /* the lowest address or bit at which the rule is broken */
     uint32_t rule;       /* of enum rmp_rule */
+};
+
+/* What rmp_expected answers. */
+struct rmp_expectation {
+    uint32_t counter; /* by how much the counter moves, modulo 65,536; 0 where there is no such item */
+    uint32_t code;    /* RMP_GOOD, RMP_BAD_KIND, RMP_BAD_LENGTH or RMP_BAD_RANGE */
+};
+
+/* What rmp_covered answers. */
+struct rmp_gap {
+    size_t at;     /* the slave whose FMMU maps the bit; of RMP_BAD_.. the item */
+    size_t fmmu;   /* the number of the FMMU */
+    uint64_t bit;  /* the logical bit, 8 * byte address + bit */
+    uint32_t way;  /* 0 where the master reads through the FMMU, 1 where it writes */
+    uint32_t code; /* RMP_GOOD, RMP_NOT_ASKED, RMP_BAD_KIND, RMP_BAD_LENGTH or RMP_BAD_RANGE */
 };
 
 /* How far a cycle is. */
@@ -350,6 +370,37 @@ struct rmp_located rmp_where(uint32_t form, const uint8_t *sent, size_t sent_siz
  */
 struct rmp_mapping rmp_check(const struct rmp_records *line, size_t slaves);
 
+/*
+ * Says whether an item goes where a cycle may: an FPRD into registers or into one active buffered area that
+ * the master reads, an FPWR into one that it writes. Logical items and BRD always do, and so does an item of
+ * a station that no slave has. Of the item, kind, address and length are looked at alone.
+ *
+ * Proved: RMP_GOOD exactly where it does; else the first slave of its station is named. RMP_BAD_KIND,
+ * RMP_BAD_LENGTH, RMP_BAD_RANGE: there is no such item. Of fit lines and of items that go where they may the
+ * promises about cycles hold.
+ */
+struct rmp_answer rmp_check_item(const struct rmp_records *line, size_t slaves, const struct rmp_item *item);
+
+/*
+ * Says by how much the working counter of an item moves where every slave takes part: what `expected` is to
+ * be. Of the item, kind, address and length are looked at alone.
+ *
+ * Proved: it is the sum, modulo 65,536, of what the pass of the item's datagram counts at each slave that has
+ * these records: 1 where it reads, 1 where it writes, 1 and 2 where an LRW does.
+ */
+struct rmp_expectation rmp_expected(const struct rmp_records *line, size_t slaves,
+                                    const struct rmp_item *item);
+
+/*
+ * Says whether the items of a cycle ask for each logical bit that the line maps: one through which the master
+ * reads by an LRD or LRW, one through which it writes by an LWR or LRW.
+ *
+ * Proved: RMP_GOOD exactly where each bit is asked for; else the first that is not, by slave, FMMU, way (reads
+ * first) and bit. The first item that is none is named before.
+ */
+struct rmp_gap rmp_covered(const struct rmp_records *line, size_t slaves, const struct rmp_item *items,
+                           size_t n);
+
 #ifdef __cplusplus
 }
 #define RMP_ASSERT static_assert
@@ -401,6 +452,15 @@ RMP_ASSERT(offsetof(struct rmp_mapping, other_slave) == 16, "other_slave");
 RMP_ASSERT(offsetof(struct rmp_mapping, other_number) == 24, "other_number");
 RMP_ASSERT(offsetof(struct rmp_mapping, place) == 32, "place");
 RMP_ASSERT(offsetof(struct rmp_mapping, rule) == 40, "rule");
+RMP_ASSERT(sizeof(struct rmp_expectation) == 8, "size of rmp_expectation");
+RMP_ASSERT(offsetof(struct rmp_expectation, counter) == 0, "counter");
+RMP_ASSERT(offsetof(struct rmp_expectation, code) == 4, "code");
+RMP_ASSERT(sizeof(struct rmp_gap) == 32, "size of rmp_gap");
+RMP_ASSERT(offsetof(struct rmp_gap, at) == 0, "at");
+RMP_ASSERT(offsetof(struct rmp_gap, fmmu) == 8, "fmmu");
+RMP_ASSERT(offsetof(struct rmp_gap, bit) == 16, "bit");
+RMP_ASSERT(offsetof(struct rmp_gap, way) == 24, "way");
+RMP_ASSERT(offsetof(struct rmp_gap, code) == 28, "code");
 RMP_ASSERT(sizeof(struct rmp_cycle) == 16, "size of rmp_cycle");
 RMP_ASSERT(offsetof(struct rmp_cycle, first) == 0, "first");
 RMP_ASSERT(offsetof(struct rmp_cycle, form) == 8, "form");

@@ -357,6 +357,76 @@ static void mappings(void) {
     broken(RMP_OUTSIDE_AREA, 0, 0, 0, 0, 0x1000);
 }
 
+static void placed(uint16_t kind, uint32_t address, uint16_t length, uint32_t code, size_t at) {
+    struct rmp_item item = {address, 0, length, kind, 0, 0, 0, 0};
+    struct rmp_answer found = rmp_check_item(line, 2, &item);
+    CHECK(found.code == code && found.at == at);
+}
+
+static void expected(uint16_t kind, uint32_t address, uint16_t length, uint32_t counter, uint32_t code) {
+    struct rmp_item item = {address, 0, length, kind, 0, 0, 0, 0};
+    struct rmp_expectation found = rmp_expected(line, 2, &item);
+    CHECK(found.code == code && found.counter == counter);
+}
+
+/* Where items may go, and by how much their counters move. */
+static void items_on_a_line(void) {
+    map();
+    placed(RMP_LRW, 0x00020000, 8, RMP_GOOD, 0);
+    placed(RMP_BRD, 0x0130, 2, RMP_GOOD, 0);
+    placed(RMP_FPRD, 0x01301002, 2, RMP_GOOD, 0);
+    placed(RMP_FPRD, 0x11001001, 4, RMP_GOOD, 0);
+    placed(RMP_FPRD, 0x11001001, 5, RMP_OUTSIDE_READ, 0);
+    placed(RMP_FPRD, 0x11001002, 1, RMP_OUTSIDE_READ, 1);
+    placed(RMP_FPWR, 0x10001001, 4, RMP_GOOD, 0);
+    placed(RMP_FPWR, 0x11001001, 1, RMP_OUTSIDE_WRITE, 0);
+    placed(RMP_FPWR, 0x01201002, 2, RMP_OUTSIDE_WRITE, 1);
+    placed(RMP_FPWR, 0x11001003, 1, RMP_GOOD, 0); /* nobody's station */
+    placed(8, 0, 1, RMP_BAD_KIND, 0);
+    placed(RMP_LRD, 0, 0, RMP_BAD_LENGTH, 0);
+    placed(RMP_LRD, 0, RMP_MAX_DATA + 1, RMP_BAD_LENGTH, 0);
+    placed(RMP_BRD, 0x0FFF, 2, RMP_BAD_RANGE, 0);
+    expected(RMP_LRW, 0x00010000, 1, 3, RMP_GOOD);
+    expected(RMP_LRD, 0x00010000, 1, 1, RMP_GOOD);
+    expected(RMP_LWR, 0x0000FFFF, 2, 1, RMP_GOOD);
+    expected(RMP_LRW, 0x00010001, 4, 0, RMP_GOOD);
+    expected(RMP_BRD, 0x0130, 2, 2, RMP_GOOD);
+    expected(RMP_FPRD, 0x11001001, 4, 1, RMP_GOOD);
+    expected(RMP_FPRD, 0x11001003, 4, 0, RMP_GOOD);
+    expected(RMP_FPWR, 0x10001001, 4, 1, RMP_GOOD);
+    expected(RMP_LRD, 0xFFFFFFFF, 2, 0, RMP_BAD_RANGE);
+    expected(RMP_LRD, 0xFFFFFFFF, 0, 0, RMP_BAD_LENGTH);
+    expected(9, 0, 1, 0, RMP_BAD_KIND);
+}
+
+/* Which mapped bit no item asks for. */
+static void coverage(void) {
+    struct rmp_item asked[2] = {{0x00010000, 0, 1, RMP_LRD, 0, 0, 0, 0},
+                                {0x00010000, 0, 1, RMP_LWR, 0, 0, 0, 0}};
+    struct rmp_gap gap;
+    map();
+    gap = rmp_covered(line, 2, asked, 2);
+    CHECK(gap.code == RMP_GOOD && gap.at == 0 && gap.fmmu == 0 && gap.bit == 0 && gap.way == 0);
+    gap = rmp_covered(line, 2, asked, 1); /* the first FMMU writes */
+    CHECK(gap.code == RMP_NOT_ASKED && gap.at == 0 && gap.fmmu == 0 && gap.bit == 524288 && gap.way == 1);
+    gap = rmp_covered(line, 2, asked + 1, 1);
+    CHECK(gap.code == RMP_NOT_ASKED && gap.at == 0 && gap.fmmu == 1 && gap.bit == 524288 && gap.way == 0);
+    asked[1].kind = 3;
+    gap = rmp_covered(line, 2, asked, 2);
+    CHECK(gap.code == RMP_BAD_KIND && gap.at == 1 && gap.bit == 0);
+    CHECK(rmp_covered(line, 2, NULL, 0).code == RMP_NOT_ASKED);
+    CHECK(rmp_covered(NULL, 0, NULL, 0).code == RMP_GOOD);
+    area(1, 2, 0x1000, 4, 0x04);
+    maps(1, 5, 0x00010007, 0x1003, 2);
+    asked[1].kind = RMP_LWR;
+    asked[1].length = 7;
+    gap = rmp_covered(line, 2, asked, 2);
+    CHECK(gap.code == RMP_NOT_ASKED && gap.at == 1 && gap.fmmu == 5 && gap.bit == 524344 && gap.way == 1);
+    asked[1].length = 8;
+    CHECK(rmp_covered(line, 2, asked, 2).code == RMP_GOOD);
+    map();
+}
+
 /* A full line, each slave with all its FMMUs in use, and the time that its check takes. */
 static void full_line(void) {
     enum { SLAVES = RMP_MAX_ITEMS, ROUNDS = 20 };
@@ -393,6 +463,8 @@ static struct rmp_answer told;
 static struct rmp_reading seen;
 static struct rmp_located located;
 static struct rmp_mapping mapped;
+static struct rmp_expectation awaited;
+static struct rmp_gap gap_found;
 static struct rmp_cycle begun;
 static struct rmp_turn turned;
 static uint8_t waiting[6];
@@ -414,6 +486,10 @@ static void call_where(void) {
 }
 
 static void call_check(void) { mapped = rmp_check(line, 2); }
+
+static void call_check_item(void) { told = rmp_check_item(line, 2, items); }
+static void call_expected(void) { awaited = rmp_expected(line, 2, items); }
+static void call_covered(void) { gap_found = rmp_covered(line, 2, items, 2); }
 
 static void call_next(void) {
     begun = rmp_cycle_begin(RMP_UDP);
@@ -459,6 +535,8 @@ int main(void) {
     cables();
     turns();
     mappings();
+    items_on_a_line();
+    coverage();
     full_line();
     begin();
     measure("rmp_frame", call_frame);
@@ -468,6 +546,9 @@ int main(void) {
     measure("rmp_read", call_read);
     measure("rmp_where", call_where);
     measure("rmp_check", call_check);
+    measure("rmp_check_item", call_check_item);
+    measure("rmp_expected", call_expected);
+    measure("rmp_covered", call_covered);
     measure("rmp_cycle_next", call_next);
     measure("rmp_cycle_came", call_came);
     puts(failed ? "calls: not as they should be" : "calls: as they should be");

@@ -38,6 +38,10 @@
 //! ```
 #![no_std]
 
+mod mapping;
+
+pub use mapping::{check, check_item, covered, expected, Gap, Outside, Party, Records, Unfit};
+
 /// What an item does, by the standard's codes (IEC 61158-4-12).
 #[derive(Clone, Copy, PartialEq, Eq, Debug)]
 #[repr(u16)]

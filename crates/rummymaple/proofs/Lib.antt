@@ -7,3 +7,4 @@ pub mod JoinLemmas
 pub mod CableLemmas
 pub mod TurnLemmas
 pub mod RecordsLemmas
+pub mod ReadBackLemmas

@@ -45,6 +45,10 @@ are_more : (x : ℕ) (xs : List ℕ) → x < 256 → AreBytes xs → AreBytes (x
 are_more x xs small are zero = small
 are_more x xs small are (suc k) = are k
 
+-- there are as many zeros as are asked for
+zeros_size : (n : ℕ) → length (replicate {A = ℕ} n 0) ≡ n
+zeros_size n = length-replicate {A = ℕ} n 0
+
 -- zeros are bytes
 are_zeros : (n : ℕ) → AreBytes (replicate n 0)
 are_zeros n k =
@@ -52,7 +56,7 @@ are_zeros n k =
     ⊎_elim
     (λ (inside : k < n). subst Small (sym (get_or-replicate n k 0 0 inside)) (omega arith))
     (λ (past : n ≤ k).
-    subst Small (sym (get_or_past (replicate n 0) k 0 (omega (arith, past, length-replicate n 0)))) (omega arith))
+    subst Small (sym (get_or_past (replicate n 0) k 0 (omega (arith, past, zeros_size n)))) (omega arith))
     (cases_lt k n)
 
 -- ---- the memory
@@ -61,7 +65,7 @@ are_zeros n k =
 below_size : (station : ℕ) → length (station_bytes station) ≡ FMMU_BASE
 below_size station =
     length-append (replicate 16 0) (station % 256 ∷ station / 256 ∷ replicate 1518 0)
-    ∙ omega (arith, length-replicate 16 0, length-replicate 1518 0)
+    ∙ omega (arith, zeros_size 16, zeros_size 1518)
 
 below_bytes : (station : ℕ) → station < 65536 → AreBytes (station_bytes station)
 below_bytes station small =
@@ -88,15 +92,15 @@ IsController-records r small fmmus_size fmmus managers_size managers =
         below_size r.station,
         fmmus_size,
         managers_size,
-        length-replicate 384 0,
-        length-replicate 10176 0,
+        zeros_size 384,
+        zeros_size 10176,
       );
       memory =
           are_append below (r.fmmus ++ (gap ++ (r.sync_managers ++ behind))) (below_bytes r.station small)
           (are_append r.fmmus (gap ++ (r.sync_managers ++ behind)) fmmus
           (are_append gap (r.sync_managers ++ behind) (are_zeros 384)
           (are_append r.sync_managers behind managers (are_zeros 10176))));
-      shown_size = length-replicate 8192 0;
+      shown_size = zeros_size 8192;
       shown = are_zeros 8192;
     }
 
@@ -143,7 +147,7 @@ sync_manager-records r i there fmmus_size size =
       length-append r.fmmus gap,
       below_size r.station,
       fmmus_size,
-      length-replicate 384 0,
+      zeros_size 384,
     ) in
     ap sync_man_of
     (ap (λ (xs : List ℕ). take 8 (drop (2048 + 8 * i) xs)) joined

@@ -12,3 +12,5 @@ pub mod Turn
 pub mod Turns
 pub mod Records
 pub mod Mapping
+pub mod Asked
+pub mod ReadBack

@@ -12,7 +12,8 @@ use Rattle.rummymaple.specs.declared.numbers.Code.TheVariants.{BadLength, BadRan
 use Rattle.rummymaple.specs.declared.numbers.Code.TheVariants.{FaultBadType, FaultReserved, FaultEmpty}
 use Rattle.rummymaple.specs.declared.numbers.Code.TheVariants.{FaultTooLong, FaultBadCommand, FaultOverrun}
 use Rattle.rummymaple.specs.declared.numbers.Code.TheVariants.{FaultMoreAtEnd, FaultLeftOver, FaultTrailing}
-use Rattle.rummymaple.specs.declared.numbers.Code.TheVariants.{NotUnderWay}
+use Rattle.rummymaple.specs.declared.numbers.Code.TheVariants.{NotUnderWay, OutsideRead, OutsideWrite}
+use Rattle.rummymaple.specs.declared.numbers.Code.TheVariants.{NotAsked}
 use Rattle.rummymaple.specs.declared.numbers.Copy.{Copy}
 use Rattle.rummymaple.specs.declared.numbers.Copy.TheVariants.{Lost, Came, NoFrame}
 
@@ -45,6 +46,9 @@ number_of FaultMoreAtEnd = 23
 number_of FaultLeftOver = 24
 number_of FaultTrailing = 25
 number_of NotUnderWay = 26
+number_of OutsideRead = 27
+number_of OutsideWrite = 28
+number_of NotAsked = 29
 
 -- the code of a fault of bytes that are no frame
 abbrev pub fault_code : FaultKind → Code

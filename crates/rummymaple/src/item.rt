@@ -44,7 +44,7 @@ pub struct Item {
 
 /// The kind of item of a command's code.
 #[tactic(auto, unfolding(crate::specs::Items::kind_of))]
-fn kind_of(code: u16) -> Option<Kind>
+pub(crate) fn kind_of(code: u16) -> Option<Kind>
     ensures { result ≡ kind_of code }
 {
     match code {
@@ -59,7 +59,7 @@ fn kind_of(code: u16) -> Option<Kind>
 }
 
 /// Do that many bytes exist from an address on?
-fn is_in_range(kind: Kind, address: u32, length: u16) -> bool
+pub(crate) fn is_in_range(kind: Kind, address: u32, length: u16) -> bool
     ensures { result ≡ is_in_range kind address length }
 {
     let length = u64::from(length);
@@ -72,7 +72,7 @@ fn is_in_range(kind: Kind, address: u32, length: u16) -> bool
 
 impl Item {
     /// The kind that it names; a logical read where it names none.
-    fn kind(&self) -> Kind
+    pub(crate) fn kind(&self) -> Kind
         ensures { result ≡ kind_named self.now.kind }
     {
         kind_of(self.kind).unwrap_or(Kind::Lrd)

@@ -27,19 +27,26 @@
 //!   fault with its place (`ec_wire`, `IsFirstFault`);
 //! - [`rmp_where`]: what is known of the links is exactly that the packets can arrive so (`ec_diag`,
 //!   `Tells`), and over a trip it is so ([`what_is_told_is_so`]);
+//! - [`rmp_check`], [`rmp_check_item`], [`rmp_expected`] and [`rmp_covered`]: before the first cycle, by the
+//!   slaves' records alone, whether the line is mapped as a cycle needs it (`ec_check`, `IsFit`), where an
+//!   item may go, by how much its counter moves, and whether all that is mapped is asked for (`ec_map`); of
+//!   records that were read back it is so of the line itself ([`records_are_the_line`]);
 //! - [`rmp_cycle_next`] and [`rmp_cycle_came`]: the cycle as a state machine over a struct of the caller's;
 //!   its image stays as it is until the last frame is good, and its turns are calls ([`turns_are_a_cycle`]);
 //! - [`calls_are_a_cycle`]: where every verdict is good, the calls in their order are a good cycle of
 //!   `ec_master::run_cycle` over ports that give what came, with all that this certifies.
 //!
 //! Each export answers by a struct of numbers, and its contract says of which end they are the numbers
-//! (`Join`, `Frame`, `Judge`, `Read`, `Cable` and `Turn` of specs/). What an item is stands in `Items`, what
-//! a joined frame gives it in `Answers`, the calls in their order in `Cycle`, and turns in `Turns`. A call
+//! (`Join`, `Frame`, `Judge`, `Read`, `Cable`, `Turn`, `Mapping` and `Asked` of specs/). What an item is
+//! stands in `Items`, the controller of a slave's records in `Records`, what a joined frame gives an item in
+//! `Answers`, the calls in their order in `Cycle`, and turns in `Turns`. A call
 //! needs less than 8 KB of stack: nothing that has the size of a frame is moved or made twice where it can
 //! stay in its place.
 
 mod answered;
+mod asked;
 mod cable;
+mod covered;
 mod cycle;
 mod frame;
 mod item;
@@ -54,7 +61,9 @@ mod read;
 mod records;
 mod store;
 
+pub use asked::{Expectation, PlaceEnd, rmp_check_item, rmp_expected};
 pub use cable::{Cable, CableAnswer, CableEnd, CablePlace, rmp_where};
+pub use covered::{GapAnswer, GapEnd, rmp_covered};
 pub use cycle::{
     Cycle, DONE, ENDED, Turn, TurnAnswer, TurnEnd, UNDER_WAY, rmp_cycle_begin, rmp_cycle_came,
     rmp_cycle_next,
@@ -65,7 +74,9 @@ pub use join::{Join, JoinAnswer, JoinEnd, rmp_join};
 pub use judge::{ItemAnswer, JudgeEnd, rmp_judge};
 pub use mapping::{MapAnswer, rmp_check};
 pub use numbers::{Code, Copy};
-pub use promises::{calls_are_a_cycle, turns_are_a_cycle, what_is_told_is_so};
+pub use promises::{
+    calls_are_a_cycle, records_are_the_line, turns_are_a_cycle, what_is_told_is_so,
+};
 pub use read::{DatagramPlace, ReadAnswer, ReadEnd, rmp_read};
 pub use records::{FMMU_BYTES, Records, SYNC_MANAGER_BYTES};
 pub use store::{StoreEnd, rmp_store};

@@ -62,6 +62,12 @@ pub enum Code {
     FaultTrailing,
     /// The cycle is done or ended.
     NotUnderWay,
+    /// A read of one slave lies neither in its registers nor in one buffered area that the master reads.
+    OutsideRead,
+    /// A write of one slave does not lie in one buffered area that the master writes.
+    OutsideWrite,
+    /// No item asks for a logical bit that is mapped.
+    NotAsked,
 }
 
 impl Code {

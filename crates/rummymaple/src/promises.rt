@@ -6,6 +6,8 @@ ghost use Rattle.ec_wire.specs.Datagram.{DatagramRecord};
 ghost use Rattle.ec_wire.specs.declared.fault.Form.{Form};
 ghost use Rattle.ec_esc.specs.State.{ControllerState};
 ghost use Rattle.ec_esc.specs.declared.counting.TheConstants.{MOST_CONTROLLERS};
+ghost use Rattle.ec_check.specs.Fit.{IsFit};
+ghost use Rattle.ec_check.specs.Mapping.{mapping};
 ghost use Rattle.ec_map.specs.Item.{IsItem};
 ghost use Rattle.ec_ring.specs.Arrivals.{arrivals_of};
 ghost use Rattle.ec_ring.specs.declared.port.Port.TheVariants.{A, B};
@@ -23,8 +25,11 @@ ghost use Rattle.rummymaple.specs.Turn.{Held};
 ghost use Rattle.rummymaple.specs.Turns.{AreTurns};
 ghost use Rattle.rummymaple.specs.Cycle.{AreCalls, AreGood, as_ports_give};
 ghost use Rattle.rummymaple.specs.Items.{asked};
+ghost use Rattle.rummymaple.specs.Mapping.{line_of};
+ghost use Rattle.rummymaple.specs.ReadBack.{AreOfLine};
 ghost use Rattle.rummymaple.specs.declared.cable.Cable.{Cable};
 ghost use Rattle.rummymaple.specs.declared.item.Item.{Item};
+ghost use Rattle.rummymaple.specs.declared.records.Records.{Records};
 
 use ec_diag::promises::trips_are_heard;
 use ec_master::certificate::frames_suffice;
@@ -77,3 +82,15 @@ pub fn turns_are_a_cycle()
 {
     calls_are_a_cycle();
 }
+
+/// Records that are the bytes of the slaves' registers are mapped as the slaves' controllers are: a line is
+/// fit exactly where its records are, so that what [`rmp_check`](crate::rmp_check) finds of records that were
+/// read back holds of the line itself, as long as its mapping stays.
+pub fn records_are_the_line()
+    ensures mapping { (records : List Records) (line : List ControllerState) → AreOfLine records line
+        → mapping (line_of records) ≡ mapping line }
+    ensures fit { (records : List Records) (line : List ControllerState) → AreOfLine records line
+        → IsFit (line_of records) → IsFit line }
+    ensures unfit { (records : List Records) (line : List ControllerState) → AreOfLine records line
+        → IsFit line → IsFit (line_of records) }
+{}

@@ -1,14 +1,15 @@
 //! A slave by its station address and its records alone.
 
-ghost use Rattle.std.specs.Prelude.{◌≡◌, ◌<◌, ◌≤◌, ◌&&◌, if◌then◌else◌};
+ghost use Rattle.std.specs.Prelude.{◌≡◌, ◌==◌, ◌<◌, ◌≤◌, ◌*◌, if◌then◌else◌, length, take, drop};
 ghost use Rattle.ec_regs.specs.Bits.{AreBytes};
+ghost use Rattle.ec_regs.specs.Fmmu.{fmmu_of};
+ghost use Rattle.ec_regs.specs.SyncMan.{sync_man_of};
 ghost use Rattle.ec_regs.specs.declared.registers.TheConstants.{FMMU_COUNT, SYNC_MANAGER_COUNT};
 ghost use Rattle.ec_regs.specs.declared.registers.TheConstants.{STATION_ADDRESS};
 ghost use Rattle.ec_wire.specs.Datagram.{ado_of, adp_of};
 ghost use Rattle.ec_areas.specs.Records.{fmmu_at, fmmus_of, sync_manager_at, sync_managers_of};
 ghost use Rattle.ec_esc.specs.Pass.{serves_read, serves_write, serves_range_read, serves_range_write};
 ghost use Rattle.ec_esc.specs.State.{IsController, word_at};
-ghost use Rattle.ec_line.specs.Claims.{gain};
 ghost use Rattle.rummymaple.specs.Records.{controller_with, memory_of};
 
 use ec_areas::{reads_some, serves_physical_read, serves_physical_write, writes_some};
@@ -44,6 +45,40 @@ fn are_bytes(bytes: &[u8])
     let _length = bytes.len();
 }
 
+/// Does nothing; its clauses are what a proof knows of a slave's records.
+fn are_records(station: u16, fmmus: &[u8; FMMU_BYTES], sync_managers: &[u8; SYNC_MANAGER_BYTES])
+    ensures station { station < 65536 }
+    ensures fmmus { AreBytes fmmus.now }
+    ensures fmmu_bytes { length fmmus.now ≡ 128 }
+    ensures sync_managers { AreBytes sync_managers.now }
+    ensures sync_manager_bytes { length sync_managers.now ≡ 64 }
+{
+    are_bytes(fmmus);
+    are_bytes(sync_managers);
+}
+
+/// The FMMU with a number, of their bytes.
+fn fmmu_in(bytes: &[u8; FMMU_BYTES], number: usize) -> Fmmu
+    requires { number < FMMU_COUNT }
+    ensures { result ≡ fmmu_of (take 16 (drop (16 * number) bytes.now)) }
+{
+    let at = FMMU_SIZE as usize * number;
+    Fmmu::read(bytes[at..at + FMMU_SIZE as usize].try_into().unwrap())
+}
+
+/// The sync manager with a number, of their bytes.
+fn sync_manager_in(bytes: &[u8; SYNC_MANAGER_BYTES], number: usize) -> SyncMan
+    requires { number < SYNC_MANAGER_COUNT }
+    ensures { result ≡ sync_man_of (take 8 (drop (8 * number) bytes.now)) }
+{
+    let at = SYNC_MANAGER_SIZE as usize * number;
+    SyncMan::read(
+        bytes[at..at + SYNC_MANAGER_SIZE as usize]
+            .try_into()
+            .unwrap(),
+    )
+}
+
 /// A gain where something is served, else 0.
 fn counted(served: bool, gain: u16) -> u16
     ensures value { result ≡ (if served then gain else 0) }
@@ -58,8 +93,7 @@ impl Records {
         ensures value { result ≡ word_at (memory_of self.now) STATION_ADDRESS }
         ensures controller { IsController (controller_with self.now) }
     {
-        are_bytes(&self.fmmus);
-        are_bytes(&self.sync_managers);
+        are_records(self.station, &self.fmmus, &self.sync_managers);
         self.station
     }
 
@@ -68,8 +102,8 @@ impl Records {
         requires { number < FMMU_COUNT }
         ensures { result ≡ fmmu_at (memory_of self.now) number }
     {
-        let at = FMMU_SIZE as usize * number;
-        Fmmu::read(self.fmmus[at..at + FMMU_SIZE as usize].try_into().unwrap())
+        are_records(self.station, &self.fmmus, &self.sync_managers);
+        fmmu_in(&self.fmmus, number)
     }
 
     /// The sync manager with a number.
@@ -77,15 +111,12 @@ impl Records {
         requires { number < SYNC_MANAGER_COUNT }
         ensures { result ≡ sync_manager_at (memory_of self.now) number }
     {
-        let at = SYNC_MANAGER_SIZE as usize * number;
-        SyncMan::read(
-            self.sync_managers[at..at + SYNC_MANAGER_SIZE as usize]
-                .try_into()
-                .unwrap(),
-        )
+        are_records(self.station, &self.fmmus, &self.sync_managers);
+        sync_manager_in(&self.sync_managers, number)
     }
 
     /// All FMMUs, by number.
+    #[tactic(auto, unfolding(ec_areas::specs::Records::fmmus_of))]
     fn fmmus(&self) -> Fmmus
         ensures { result ≡ fmmus_of (memory_of self.now) }
     {
@@ -102,6 +133,7 @@ impl Records {
     }
 
     /// All sync managers, by number.
+    #[tactic(auto, unfolding(ec_areas::specs::Records::sync_managers_of))]
     fn sync_managers(&self) -> SyncManagers
         ensures { result ≡ sync_managers_of (memory_of self.now) }
     {

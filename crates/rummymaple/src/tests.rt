@@ -1,5 +1,7 @@
-//! The calls of a cycle, its turns and the search for a broken link, with the bytes written out by hand.
+//! The calls of a cycle, its turns, the search for a broken link and the check of a mapping, with the bytes
+//! written out by hand.
 
 mod cable;
 mod door;
+mod mapping;
 mod turns;
