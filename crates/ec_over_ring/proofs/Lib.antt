@@ -23,4 +23,11 @@ pub mod PeerLemmas
 pub mod TransferLemmas
 pub mod ObjectLemmas
 pub mod ReadyLemmas
+pub mod StationExamples
+pub mod StationWriteLemmas
+pub mod BroadcastLemmas
+pub mod PlaceLemmas
+pub mod CableLemmas
+pub mod CountLemmas
+pub mod AssignLemmas
 pub mod Laws

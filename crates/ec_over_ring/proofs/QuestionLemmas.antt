@@ -29,14 +29,14 @@ use Rattle.ec_over_ring.proofs.WayLemmas.{IsWay, one_way}
 
 -- ---- slaves and their controllers
 
-controllers-of : (before : List SlaveState) (s : SlaveState) (behind : List SlaveState)
+pub controllers-of : (before : List SlaveState) (s : SlaveState) (behind : List SlaveState)
     → controllers (before ++ s ∷ behind) ≡ controllers before ++ s.controller ∷ controllers behind
 controllers-of [] s behind = refl
 controllers-of (x ∷ before) s behind =
     ap (λ (cs : List ControllerState). x.controller ∷ cs) (controllers-of before s behind)
 
 -- one slave has another controller
-one_changed : (before : List SlaveState) (s : SlaveState) (behind : List SlaveState) (c : ControllerState)
+pub one_changed : (before : List SlaveState) (s : SlaveState) (behind : List SlaveState) (c : ControllerState)
     → with_controllers (before ++ s ∷ behind) (controllers before ++ c ∷ controllers behind)
     ≡ before ++ with_controller s c ∷ behind
 one_changed [] s behind c =

@@ -68,12 +68,13 @@ take_bytes (suc n) (x ∷ xs) are =
 drop_bytes : (n : ℕ) (xs : List ℕ) → AreBytes xs → AreBytes (drop n xs)
 drop_bytes n xs are k = subst (λ (x : ℕ). x < 256) (sym (get_or-drop n xs k 0)) (are (n + k))
 
-run_bytes : (xs : List ℕ) (at : ℕ) (ys : List ℕ) → AreBytes xs → AreBytes ys → AreBytes (with_run xs at ys)
+pub run_bytes : (xs : List ℕ) (at : ℕ) (ys : List ℕ) → AreBytes xs → AreBytes ys
+    → AreBytes (with_run xs at ys)
 run_bytes xs at ys are new =
     append_bytes (take at xs ++ ys) (drop (at + length ys) xs)
     (append_bytes (take at xs) ys (take_bytes at xs are) new) (drop_bytes (at + length ys) xs are)
 
-word_bytes : (n : ℕ) → AreBytes (to_le_bytes w16 n)
+pub word_bytes : (n : ℕ) → AreBytes (to_le_bytes w16 n)
 word_bytes n = small_bytes (to_le_bytes w16 n) (omega arith, (omega arith, tt))
 
 long_small : (n : ℕ) → AreSmall (to_le_bytes w32 n)

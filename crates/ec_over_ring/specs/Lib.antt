@@ -1,3 +1,4 @@
 pub mod Question
 pub mod States
 pub mod Transfers
+pub mod Stations

@@ -25,5 +25,6 @@
 //! request, and what a transfer comes to.
 
 pub mod promises;
+pub mod stations;
 #[cfg(test)]
 mod tests;

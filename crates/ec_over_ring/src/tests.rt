@@ -3,6 +3,7 @@
 mod line;
 mod question;
 mod states;
+mod stations;
 mod transfers;
 
 use std::fmt::Debug;
