@@ -487,7 +487,9 @@ static void call_where(void) {
 
 static void call_check(void) { mapped = rmp_check(line, 2); }
 
-static void call_check_item(void) { told = rmp_check_item(line, 2, items); }
+static const struct rmp_item read_one = {0x11001001, 0, 4, RMP_FPRD, 0, 0, 0, 0};
+
+static void call_check_item(void) { told = rmp_check_item(line, 2, &read_one); }
 static void call_expected(void) { awaited = rmp_expected(line, 2, items); }
 static void call_covered(void) { gap_found = rmp_covered(line, 2, items, 2); }
 
