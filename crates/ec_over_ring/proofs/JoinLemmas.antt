@@ -14,7 +14,7 @@ use Rattle.ec_over_ring.proofs.LineLemmas.{IsPassed, turned}
 -- ---- data
 
 -- a copy of the data as they were sent changes nothing
-joined_unit : (ss xs : List ℕ) → length xs ≡ length ss → joined_bytes ss xs ss ≡ xs
+pub joined_unit : (ss xs : List ℕ) → length xs ≡ length ss → joined_bytes ss xs ss ≡ xs
 joined_unit [] [] size = refl
 joined_unit [] (x ∷ xs) size = absurd (omega (arith, size))
 joined_unit (s ∷ ss) [] size = absurd (omega (arith, size))
@@ -22,7 +22,7 @@ joined_unit (s ∷ ss) (x ∷ xs) size =
     ap (λ (n : ℕ). n ∷ joined_bytes ss xs ss) (joined_bits_unit s x)
     ∙ ap (λ (ns : List ℕ). x ∷ ns) (joined_unit ss xs (omega (arith, size)))
 
-joined_unit_first : (ss xs : List ℕ) → length xs ≡ length ss → joined_bytes ss ss xs ≡ xs
+pub joined_unit_first : (ss xs : List ℕ) → length xs ≡ length ss → joined_bytes ss ss xs ≡ xs
 joined_unit_first [] [] size = refl
 joined_unit_first [] (x ∷ xs) size = absurd (omega (arith, size))
 joined_unit_first (s ∷ ss) [] size = absurd (omega (arith, size))

@@ -1,4 +1,5 @@
--- The laws that crates above cite: on one question over a ring, on a state request and on transfers.
+-- The laws that crates above cite: on one question over a ring, on a state request, on transfers, and on
+-- calls that recover, which stand in the files that are named below.
 use Rattle.std.proofs.Common.{◌≡◌, ◌≤◌, ℕ, true, false, List, Result, Ok, None, Some, ap, ◌∙◌}
 use Rattle.std.specs.List.{AllByRecursion}
 use Rattle.ec_regs.specs.declared.al.AlState.{AlState}
@@ -34,6 +35,19 @@ use Rattle.ec_over_ring.proofs.NobodyLemmas as nobody
 use Rattle.ec_over_ring.proofs.StateLemmas as states
 use Rattle.ec_over_ring.proofs.ObjectLemmas as objects
 use Rattle.ec_over_ring.proofs.ReadyLemmas as ready
+pub use Rattle.ec_over_ring.proofs.CallLemmas.{keeps}
+pub use Rattle.ec_over_ring.proofs.RecoveryLemmas.{begins, decides}
+pub use Rattle.ec_over_ring.proofs.RecoveryLemmas.{download_recovers, upload_recovers}
+pub use Rattle.ec_over_ring.proofs.ShapeLemmas.{said_throughout}
+pub use Rattle.ec_over_ring.proofs.ValueLemmas.{download_held, upload_held}
+pub use Rattle.ec_over_ring.proofs.AnsweredLemmas.{download_answered as calm_download}
+pub use Rattle.ec_over_ring.proofs.AnsweredLemmas.{upload_answered as calm_upload}
+pub use Rattle.ec_over_ring.proofs.WeatherLemmas.{ring_fate}
+pub use Rattle.ec_over_ring.proofs.RingCallLemmas.{call_over_ring, has_slave}
+pub use Rattle.ec_over_ring.proofs.RingRecoveryLemmas.{ring_downloaded, ring_refused, ring_uploaded}
+pub use Rattle.ec_over_ring.proofs.CalmRingLemmas.{ring_answers_download, ring_answers_upload}
+pub use Rattle.ec_over_ring.proofs.AnyPortsLemmas.{AreRing, IsOverRing, over_any_ports, ports_downloaded}
+pub use Rattle.ec_over_ring.proofs.AnyPortsLemmas.{ports_uploaded}
 
 -- the answer is the pass of the slave that is asked
 pub one_answer : (d : DatagramRecord) (r : RingState) (before behind : List SlaveState) (s : SlaveState)

@@ -76,7 +76,7 @@ back_same : (c : ControllerState) (m : Mail) (service : ℕ) (sdo : Sdo) → len
 back_same c m service sdo size room eight =
     put_same c (mail_bytes (sent (mail_back m service sdo))) size room (omega (arith, eight))
 
-eight_of : (i j : ℕ) (v : Value) → length (sdo_bytes (UploadAnswer i j v)) ≡ 8
+pub eight_of : (i j : ℕ) (v : Value) → length (sdo_bytes (UploadAnswer i j v)) ≡ 8
 eight_of i j (One x) = refl
 eight_of i j (Two x) = refl
 eight_of i j (Four x) = refl
@@ -154,7 +154,7 @@ taken_manager : (m : List ℕ) (v : ℕ) → sync_manager_at (set m 2053 v) 1 �
 unfolding sync_manager_at
 taken_manager m v = rw (drop-set-lt 2056 m 2053 v (omega arith)) refl
 
-taken_room : (c : ControllerState) → can_answer (with_mail_taken c 0) ≡ can_answer c
+pub taken_room : (c : ControllerState) → can_answer (with_mail_taken c 0) ≡ can_answer c
 taken_room c =
     let status : ℕ = bit_and (get_or c.memory 2053 0) 247 in
     rw (get_or-set_other c.memory 2053 304 status 0 (omega arith), taken_manager c.memory status) refl

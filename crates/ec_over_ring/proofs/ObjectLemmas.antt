@@ -112,7 +112,7 @@ index_there i j (e ∷ es) x is =
     (cases_Bool (eqb e.index i))
 
 -- so a value that may be read is told
-upload_by : Bool → Option (Rights × Value) → Result Value MasterFault
+unfoldable pub upload_by : Bool → Option (Rights × Value) → Result Value MasterFault
 upload_by there o =
     cond (not there) (Err (Aborted 0x06020000))
     (cond (is_none o) (Err (Aborted 0x06090011))
@@ -128,7 +128,7 @@ readable i j es rights v is may =
     ∙ ap (λ (b : Bool). cond (not b) (Err (Aborted 0x06010001)) (Ok v)) may
 
 -- and one that may be written takes a value of its length
-download_by : Value → Bool → Option (Rights × Value) → Result (Unit {0}) MasterFault
+unfoldable pub download_by : Value → Bool → Option (Rights × Value) → Result (Unit {0}) MasterFault
 download_by v there o =
     cond (not there) (Err (Aborted 0x06020000))
     (cond (is_none o) (Err (Aborted 0x06090011))

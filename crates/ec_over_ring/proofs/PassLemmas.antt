@@ -22,7 +22,7 @@ use Rattle.ec_over_ring.specs.Question.{IsOther}
 
 -- ---- nothing is done
 
-abbrev silent : Effect
+abbrev pub silent : Effect
 silent = record { reading = nothing; writing = nothing }
 
 served_nothing : (b : Bool) → where_served b nothing ≡ nothing
@@ -92,7 +92,7 @@ address_stays d station =
     ap (λ (a : Addressing). cond (is_counted a) ((adp d + 1) % 65536 + 65536 * ado d) d.address) station
 
 -- a datagram to which nothing is done stays
-silent_datagram : (c : ControllerState) (d : DatagramRecord) → addressing d.command ≡ ConfiguredStation
+pub silent_datagram : (c : ControllerState) (d : DatagramRecord) → addressing d.command ≡ ConfiguredStation
     → AreBytes d.payload → d.counter < 65536
     → datagram_after silent c d ≡ d
 silent_datagram c d station bytes small =

@@ -79,7 +79,8 @@ request_bytes_small (DownloadAnswer i j) fits = absurd fits
 request_bytes_small (Abort i j code) fits = absurd fits
 request_bytes_small (Other bytes) fits = absurd fits
 
-good_request : (peer : Peer) (asked : Sdo) → IsPeer peer → IsRequest asked → IsMail (request_mail peer asked)
+pub good_request : (peer : Peer) (asked : Sdo) → IsPeer peer → IsRequest asked
+    → IsMail (request_mail peer asked)
 good_request peer asked is fits = record {
   address = omega arith;
   channel = omega arith;
@@ -154,7 +155,7 @@ from_place peer s is ready =
     }
 
 -- is a mailbox full, by its status byte
-full_by : (before after : List ℕ) (i v : ℕ) → SameBut before after → i < 8
+pub full_by : (before after : List ℕ) (i v : ℕ) → SameBut before after → i < 8
     → bit_at (get_or after (2048 + 8 * i + 5) 0) 3 ≡ v → is_full (sync_manager_at after i) ≡ eqb v 1
 full_by before after i v same below bit =
     ap (λ (x : ℕ). eqb (bit_at x 3) 1) (status_is before after i same below)
@@ -163,14 +164,14 @@ full_by before after i v same below bit =
 same_all : (m : List ℕ) → SameBut m m
 same_all m = record { size = refl; bytes = λ a low requests answers. refl }
 
-full_same : (before after : List ℕ) (i : ℕ) → SameBut before after → i < 8
+pub full_same : (before after : List ℕ) (i : ℕ) → SameBut before after → i < 8
     → get_or after (2048 + 8 * i + 5) 0 ≡ get_or before (2048 + 8 * i + 5) 0
     → is_full (sync_manager_at after i) ≡ is_full (sync_manager_at before i)
 full_same before after i same below is =
     full_by before after i _ same below (ap (λ (x : ℕ). bit_at x 3) is)
     ∙ sym (full_by before before i _ (same_all before) below refl)
 
-state_same : (before after : ControllerState) → SameBut before.memory after.memory
+pub state_same : (before after : ControllerState) → SameBut before.memory after.memory
     → has_mail (al_status after).state ≡ has_mail (al_status before).state
 state_same before after same =
     ap (λ (x : ℕ). has_mail (status_of x).state)
@@ -330,7 +331,7 @@ has_read peer s mail after x is ready has meant place =
 
 -- ---- and it is ready for the next
 
-next_other : (counter : ℕ) → eqb counter (next_counter counter) ≡ false
+pub next_other : (counter : ℕ) → eqb counter (next_counter counter) ≡ false
 next_other counter =
     ⊎_elim
     (λ (last : counter ≡ 7). rw last refl)

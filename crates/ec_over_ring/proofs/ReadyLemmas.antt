@@ -68,7 +68,7 @@ unfolding meets is_active
 switched_off s from n off = rw off refl
 
 -- a mailbox meets its own area
-meets_itself : (s : SyncMan) → is_active s ≡ true → 1 ≤ s.length → meets s s.start s.length ≡ true
+pub meets_itself : (s : SyncMan) → is_active s ≡ true → 1 ≤ s.length → meets s s.start s.length ≡ true
 unfolding meets
 meets_itself s active some =
     let inside : ltb s.start (s.start + s.length) ≡ true = grind (arith, nat_tests) in

@@ -58,7 +58,7 @@ reads_effect c address from n meant place some inside =
     }) (emptied_registers (sync_managers_of c.memory) from n some inside)
 
 -- the bytes of registers
-run_size : (m : List ℕ) (from n : ℕ) → from + n ≤ length m → length (take n (drop from m)) ≡ n
+pub run_size : (m : List ℕ) (from n : ℕ) → from + n ≤ length m → length (take n (drop from m)) ≡ n
 run_size m from n inside =
     length-take-le n (drop from m) (let size = length-drop from m in omega (arith, size, inside))
 

@@ -90,7 +90,7 @@ record HasBytes (s : SlaveState) : Type 0 where
   values : AreValues s.application.objects
 
 -- what holds of each row of a table holds of what it says
-table_holds : {R : Type 0} (P : R → Type 0) (rows : List (Bool × R)) (other : R)
+pub table_holds : {R : Type 0} (P : R → Type 0) (rows : List (Bool × R)) (other : R)
     → AllByRecursion (λ (row : Bool × R). P row.1) rows → P other → P (first_fitting rows other)
 table_holds P [] other each last = last
 table_holds P ((true, x) ∷ rows) other each last = each.0

@@ -65,7 +65,7 @@ adp_is station register small = omega (arith, small)
 pub ado_is : (station register : ℕ) → station < 65536 → ado_of (address_of station register) ≡ register
 ado_is station register small = omega (arith, small)
 
-others_for : (d : DatagramRecord) (station : ℕ) (ss : List SlaveState) → adp d ≡ station
+pub others_for : (d : DatagramRecord) (station : ℕ) (ss : List SlaveState) → adp d ≡ station
     → AllByRecursion (λ (x : SlaveState). station_of x ≢ station) ss → AreControllers ss
     → AllByRecursion (λ (x : SlaveState). IsOther d x.controller) ss
 others_for d station [] named others are = tt
@@ -122,7 +122,7 @@ station_stays s size =
     same.bytes 17 (station_left 17 (omega arith)) in
     omega (arith, low, high)
 
-others_step : (station : ℕ) (ss : List SlaveState)
+pub others_step : (station : ℕ) (ss : List SlaveState)
     → AllByRecursion (λ (x : SlaveState). station_of x ≢ station) ss → AreControllers ss
     → AllByRecursion (λ (x : SlaveState). station_of x ≢ station) (map step ss)
 others_step station [] others are = tt
@@ -131,12 +131,12 @@ others_step station (x ∷ ss) others are = (
   others_step station ss others.1 are.1,
 )
 
-map_parts : (before : List SlaveState) (s : SlaveState) (behind : List SlaveState)
+pub map_parts : (before : List SlaveState) (s : SlaveState) (behind : List SlaveState)
     → map step (before ++ s ∷ behind) ≡ map step before ++ step s ∷ map step behind
 map_parts [] s behind = refl
 map_parts (x ∷ before) s behind = ap (λ (ss : List SlaveState). step x ∷ ss) (map_parts before s behind)
 
-size_parts : (before : List SlaveState) (s t : SlaveState) (behind : List SlaveState)
+pub size_parts : (before : List SlaveState) (s t : SlaveState) (behind : List SlaveState)
     → length (before ++ s ∷ behind) ≡ length (map step (before ++ t ∷ behind))
 size_parts [] s t behind = ap (λ (n : ℕ). suc n) (sym (length-map behind step))
 size_parts (x ∷ before) s t behind = ap (λ (n : ℕ). suc n) (size_parts before s t behind)

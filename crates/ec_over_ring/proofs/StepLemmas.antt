@@ -36,7 +36,7 @@ use Rattle.ec_over_ring.proofs.SpellingLemmas.{read_back, no_fault}
 -- ---- nothing to do
 
 -- no new state is asked for
-idle_al : (t : SlaveState) → t.controller.written ≡ false → al_step t ≡ t
+pub idle_al : (t : SlaveState) → t.controller.written ≡ false → al_step t ≡ t
 unfolding al_step
 idle_al t none =
     let c : ControllerState = t.controller in
@@ -127,7 +127,7 @@ run_put m ys at n inside size =
     ∙ take_at ys zs n size
 
 -- a mail of sixteen bytes is put
-put_facts : (c : ControllerState) (s : SyncMan) (mail : List ℕ) → length c.memory ≡ MEMORY_SIZE
+pub put_facts : (c : ControllerState) (s : SyncMan) (mail : List ℕ) → length c.memory ≡ MEMORY_SIZE
     → is_active s ≡ true → 16 ≤ s.length → length mail ≡ 16
     → let put = with_run c.memory s.start (mail_area s mail) in
     SameBut c.memory (set put 2061 (bit_or (get_or put 2061 0) 8))

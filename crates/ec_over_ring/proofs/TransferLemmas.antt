@@ -46,7 +46,7 @@ use Rattle.ec_over_ring.proofs.TalkLemmas.{IsBegun, begun, ends}
 
 -- ---- slaves
 
-abbrev AreSlaves : List SlaveState → Type 0
+abbrev pub AreSlaves : List SlaveState → Type 0
 AreSlaves ss = AllByRecursion IsSlave ss
 
 -- one among them is another
@@ -61,7 +61,7 @@ one_of [] s behind all = all.0
 one_of (x ∷ before) s behind all = one_of before s behind all.1
 
 -- each takes its step
-steps : (ss : List SlaveState) → AreSlaves ss → AreSlaves (map step ss)
+pub steps : (ss : List SlaveState) → AreSlaves ss → AreSlaves (map step ss)
 steps [] all = tt
 steps (s ∷ ss) all = (step_slave s all.0, steps ss all.1)
 

@@ -39,10 +39,10 @@ OneBrings d e a b = IsFirst d e a b ⊎ IsSecond d e a b
 -- ---- both copies, by the place of the break
 
 -- copy B as it starts over a part of the line
-abbrev second_sent : Bool → DatagramRecord → List DatagramRecord
+abbrev pub second_sent : Bool → DatagramRecord → List DatagramRecord
 second_sent b d = cond b (circulated (d ∷ [])) (d ∷ [])
 
-second_is : (b : Bool) (d : DatagramRecord) → second_sent b d ≡ turned (cond b true d.circulating) d ∷ []
+pub second_is : (b : Bool) (d : DatagramRecord) → second_sent b d ≡ turned (cond b true d.circulating) d ∷ []
 second_is true d = refl
 second_is false d = refl
 
@@ -145,11 +145,11 @@ back_of d xs ys = record {
 }
 
 -- a circulating datagram is passed as one that does not circulate
-turned_datagram : (c : ControllerState) (d : DatagramRecord) (b : Bool)
+pub turned_datagram : (c : ControllerState) (d : DatagramRecord) (b : Bool)
     → (pass c (turned b d)).datagram ≡ turned b (pass c d).datagram
 turned_datagram c d b = ap (λ (p : OnePassed). p.datagram) (turned_pass b c d)
 
-turned_state : (c : ControllerState) (d : DatagramRecord) (b : Bool)
+pub turned_state : (c : ControllerState) (d : DatagramRecord) (b : Bool)
     → (pass c (turned b d)).state ≡ (pass c d).state
 turned_state c d b = ap (λ (p : OnePassed). p.state) (turned_pass b c d)
 

@@ -107,11 +107,11 @@ second_brings d e false lost_b bit came = inr (record {
 
 -- ---- a copy that passed the one comes back
 
-came_by : (o : Option Port) → (o ≡ None → ⊥) → is_none o ≡ false
+pub came_by : (o : Option Port) → (o ≡ None → ⊥) → is_none o ≡ false
 came_by None none = absurd (none refl)
 came_by (Some p) none = refl
 
-size_of_line : (before : List ControllerState) (c : ControllerState) (behind : List ControllerState)
+pub size_of_line : (before : List ControllerState) (c : ControllerState) (behind : List ControllerState)
     → length before < length (before ++ c ∷ behind)
 size_of_line before c behind =
     let size : length (before ++ c ∷ behind) ≡ length before + length (c ∷ behind) =
@@ -149,7 +149,7 @@ way_behind lost_a lost_b m b d before c behind others place came =
     })
 
 -- the datagram as an entry of a frame
-abbrev entries_of : DatagramRecord → List Entry
+abbrev pub entries_of : DatagramRecord → List Entry
 entries_of d = record { request = record { kind = Fprd; address = 0; count = 0 }; sent = d } ∷ []
 
 -- the trip under a ring's links is one over the pieces before and behind the break

@@ -2,3 +2,4 @@ pub mod Question
 pub mod States
 pub mod Transfers
 pub mod Stations
+pub mod Recovery

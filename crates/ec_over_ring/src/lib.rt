@@ -20,11 +20,30 @@
 //! - `objects_over_ring`: an object that may be read is read, and one that may be written holds the value;
 //! - `ready_at_first`: a slave in Pre-Op with two mailboxes takes a peer's first request.
 //!
+//! In [`stations`], `stations_over_ring`: station addresses ([`ec_services::assign_stations`]) come to each
+//! slave's own with all links up, and to Broken, with nothing written, where any is down.
+//!
+//! Of calls that recover ([`ec_services::upload_surely`] and [`ec_services::download_surely`]), over a ring
+//! in any weather, where copies are lost and pass a slave twice, and from any state of its mailboxes, in
+//! [`recovery`]:
+//!
+//! - `calls_keep_their_own`: the invariant of such a call, kept in each of its trips: once it has posted, the
+//!   slave holds nothing but its request or the answer to it;
+//! - `uploads_recover` and `downloads_recover`: what they come to, said of the slave that is asked;
+//! - `ten_trips_are_enough`: where nothing is lost they are answered within ten trips;
+//! - `one_question_in_weather` and `calls_over_a_ring`: a trip over a ring in any weather is a trip of that
+//!   slave, and so is a call; `recovery_over_a_ring` says what Ok and an abort mean there;
+//! - `ten_trips_over_a_ring`: over [`ec_master::RingPorts`] with at most one link down ten trips are enough,
+//!   and `recovery_over_ring_ports`: whatever links are down, Ok means what it means in any weather.
+//!
 //! The definitions are in specs/: `Question`, who is asked and what an answer carries; `States`, a station
 //! that one slave has, and what a state request comes to; `Transfers`, a slave that takes a peer's next
-//! request, and what a transfer comes to.
+//! request, and what a transfer comes to; `Stations`, what each slave of a line went through; `Recovery`, how
+//! both copies of a frame fare at a slave, what stands in its mailboxes, and what a call that recovers comes
+//! to.
 
 pub mod promises;
+pub mod recovery;
 pub mod stations;
 #[cfg(test)]
 mod tests;

@@ -7,3 +7,4 @@ pub mod Mailbox
 pub mod Settling
 pub mod Transfer
 pub mod Surely
+pub mod Progress
