@@ -197,7 +197,7 @@ enum rmp_rule {
     RMP_TWIN_STATION = 1,    /* two slaves have one station address */
     RMP_BAD_FMMU = 2,        /* an FMMU does not read or write, does both, or maps bits that are not there */
     RMP_AREAS_MEET = 3,      /* two areas of a slave share the byte at address `place` */
-    RMP_OUTSIDE_AREA = 4,    /* an FMMU is at address `place` outside of each buffered area of its direction */
+    RMP_OUTSIDE_AREA = 4,    /* an FMMU is at address `place` outside each buffered area of its direction */
     RMP_TWICE_WRITTEN = 5,   /* two FMMUs of a slave write its memory's bit `place` */
     RMP_TWICE_READ = 6,      /* two FMMUs of the line read logical bit `place` */
     RMP_READ_AND_WRITTEN = 7 /* logical bit `place` is read from one slave and written to another */
@@ -395,8 +395,8 @@ struct rmp_expectation rmp_expected(const struct rmp_records *line, size_t slave
  * Says whether the items of a cycle ask for each logical bit that the line maps: one through which the master
  * reads by an LRD or LRW, one through which it writes by an LWR or LRW.
  *
- * Proved: RMP_GOOD exactly where each bit is asked for; else the first that is not, by slave, FMMU, way (reads
- * first) and bit. The first item that is none is named before.
+ * Proved: RMP_GOOD exactly where each bit is asked for; else the first that is not, by slave, FMMU, way
+ * (reads first) and bit. The first item that is none is named before.
  */
 struct rmp_gap rmp_covered(const struct rmp_records *line, size_t slaves, const struct rmp_item *items,
                            size_t n);

@@ -35,7 +35,8 @@ fn written_elsewhere<S: Mapped>(line: &[S], reader: usize) -> Result<(), MapFaul
 /// One FMMU that reads, and those of the other slaves that write.
 fn written_by_others<S: Mapped>(line: &[S], reader: &Standing) -> Result<(), MapFault>
     requires { StandsOn (controllers_by S.controller line.now) reader.now }
-    ensures { Answers (7 ∷ reader.now.slave ∷ reader.now.number ∷ []) (controllers_by S.controller line.now) result }
+    ensures { Answers (7 ∷ reader.now.slave ∷ reader.now.number ∷ [])
+        (controllers_by S.controller line.now) result }
 {
     if !reader.record.reads() {
         return Ok(());

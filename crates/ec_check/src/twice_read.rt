@@ -37,7 +37,8 @@ fn read_twice_by<S: Mapped>(line: &[S], slave: usize) -> Result<(), MapFault>
 /// One FMMU, and the later ones of the line.
 fn read_again<S: Mapped>(line: &[S], first: &Standing) -> Result<(), MapFault>
     requires { StandsOn (controllers_by S.controller line.now) first.now }
-    ensures { Answers (6 ∷ first.now.slave ∷ first.now.number ∷ []) (controllers_by S.controller line.now) result }
+    ensures { Answers (6 ∷ first.now.slave ∷ first.now.number ∷ [])
+        (controllers_by S.controller line.now) result }
 {
     if !first.record.reads() {
         return Ok(());

@@ -65,7 +65,8 @@ pub fn first_not_shown<S: Mapped>(line: &[S], items: &[Item]) -> Option<NotShown
 /// The first area of a slave.
 fn not_shown_of_slave<S: Mapped>(line: &[S], items: &[Item], slave: usize) -> Option<NotShown>
     requires { slave < length line.now }
-    ensures { Answers not_shown_numbers (IsNotShown (controllers_by S.controller line.now) items.now) (slave ∷ []) result }
+    ensures { Answers not_shown_numbers (IsNotShown (controllers_by S.controller line.now) items.now)
+        (slave ∷ []) result }
 {
     for number in 0..SYNC_MANAGER_COUNT {
         match not_shown_of_area(line, items, slave, number) {
@@ -120,7 +121,8 @@ fn why_not_shown<S: Mapped>(
 ) -> Option<WhyNotShown>
     requires slave { slave < length line.now }
     requires number { number < SYNC_MANAGER_COUNT }
-    requires outputs { guards_outputs (sync_manager_of (controllers_by S.controller line.now) slave number) ≡ true }
+    requires outputs { guards_outputs
+        (sync_manager_of (controllers_by S.controller line.now) slave number) ≡ true }
     ensures { MatchOption result
         ((why : WhyNotShown) → ¬ IsWhy (controllers_by S.controller line.now) items.now slave number why)
         (IsFirst why_numbers (IsWhy (controllers_by S.controller line.now) items.now slave number)) }
@@ -192,8 +194,10 @@ fn leaves<S: Mapped>(
 fn is_written<S: Mapped>(line: &[S], items: &[Item], slave: usize, bytes: AddressRange) -> bool
     requires slave { slave < length line.now }
     requires some { 1 ≤ bytes.count }
-    ensures yes { IsTrue result → (k : ℕ) × WritesBytes (controllers_by S.controller line.now) items.now slave bytes k }
-    ensures no { IsFalse result → (k : ℕ) → ¬ WritesBytes (controllers_by S.controller line.now) items.now slave bytes k }
+    ensures yes { IsTrue result
+        → (k : ℕ) × WritesBytes (controllers_by S.controller line.now) items.now slave bytes k }
+    ensures no { IsFalse result
+        → (k : ℕ) → ¬ WritesBytes (controllers_by S.controller line.now) items.now slave bytes k }
 {
     for k in 0..items.len() {
         if writes_some(line, slave, &items[k], bytes) {

@@ -45,7 +45,8 @@ pub(crate) fn writes_some<S: Mapped>(
 ) -> bool
     requires slave { slave < length line.now }
     requires some { 1 ≤ bytes.count }
-    ensures { (result ≡ true) ↔ WritesSome (controllers_by S.controller line.now) slave bytes.first bytes.count item.now }
+    ensures { (result ≡ true)
+        ↔ WritesSome (controllers_by S.controller line.now) slave bytes.first bytes.count item.now }
 {
     match item.kind() {
         Kind::Lwr | Kind::Lrw => writes_mapped(line, slave, item, bytes),
@@ -58,7 +59,8 @@ pub(crate) fn writes_some<S: Mapped>(
 fn writes_mapped<S: Mapped>(line: &[S], slave: usize, item: &Item, bytes: AddressRange) -> bool
     requires slave { slave < length line.now }
     requires kind { asks Writes item.now.kind ≡ true }
-    ensures { (result ≡ true) ↔ WritesSome (controllers_by S.controller line.now) slave bytes.first bytes.count item.now }
+    ensures { (result ≡ true)
+        ↔ WritesSome (controllers_by S.controller line.now) slave bytes.first bytes.count item.now }
 {
     let first = 8 * u64::from(item.address());
     let logical = BitRun {
@@ -73,7 +75,8 @@ fn writes_named<S: Mapped>(line: &[S], slave: usize, item: &Item, bytes: Address
     requires slave { slave < length line.now }
     requires some { 1 ≤ bytes.count }
     requires kind { item.now.kind ≡ Fpwr }
-    ensures { (result ≡ true) ↔ WritesSome (controllers_by S.controller line.now) slave bytes.first bytes.count item.now }
+    ensures { (result ≡ true)
+        ↔ WritesSome (controllers_by S.controller line.now) slave bytes.first bytes.count item.now }
 {
     let range = AddressRange {
         first: ado_of(item.address()),

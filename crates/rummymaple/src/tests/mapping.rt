@@ -1,5 +1,5 @@
-//! A line by its records: one slave with a byte of outputs at 0x1000, and one of inputs at 0x1100, both mapped
-//! to the logical byte 0x00010000.
+//! A line by its records: one slave with a byte of outputs at 0x1000, and one of inputs at 0x1100, both
+//! mapped to the logical byte 0x00010000.
 
 use crate::{Item, Records, rmp_check, rmp_check_item, rmp_covered, rmp_expected};
 use std::process::Abort;
