@@ -1,42 +1,20 @@
-use Rattle.std.proofs.Common.{◌≡◌, ◌∙◌, ap}
-use Rattle.std.proofs.lemmas.Result.{IfOk-weaker}
-use Rattle.clap.specs.Simple.{app_of_fields}
-use Rattle.clap.specs.Words.{app_of}
-use Rattle.ecat_args.specs.Line.{ecat_line, line, needs_command}
-use Rattle.ecat_args.proofs.LineLemmas.{app_of-subcommand}
+use Rattle.ecat_args.specs.Line.{line}
 use Rattle.ecat_args.proofs.line.line.Goals as goal
 
 pub returns : goal.returns
 unfolding line
 returns c =
-    let start : app_of c.subcommand_required.result ≡ ecat_line =
-    ap app_of_fields c.subcommand_required.ensures ∙ ap needs_command c.command.ensures.line in
-    let show = app_of-subcommand c.in_ok-subcommand.ensures start c.in_ok-show.ensures.line
-    c.in_ok-show.ensures.local in
-    let list = app_of-subcommand c.in_ok-subcommand-2.ensures show c.in_ok-list.ensures.line
-    c.in_ok-list.ensures.local in
-    let check = app_of-subcommand c.in_ok-subcommand-3.ensures list c.in_ok-check.ensures.line
-    c.in_ok-check.ensures.local in
-    let cover = app_of-subcommand c.in_ok-subcommand-4.ensures check c.in_ok-cover.ensures.line
-    c.in_ok-cover.ensures.local in
-    let lint = app_of-subcommand c.in_ok-subcommand-5.ensures cover c.in_ok-lint.ensures.line
-    c.in_ok-lint.ensures.local in
-    let where_broken = app_of-subcommand c.in_ok-subcommand-6.ensures lint c.in_ok-where_broken.ensures.line
-    c.in_ok-where_broken.ensures.local in
-    let run = app_of-subcommand c.in_ok-subcommand-7.ensures where_broken c.in_ok-run.ensures.line
-    c.in_ok-run.ensures.local in
-    let sweep = app_of-subcommand c.in_ok-subcommand-8.ensures run c.in_ok-sweep.ensures.line
-    c.in_ok-sweep.ensures.local in
-    let sdo = app_of-subcommand c.in_ok-subcommand-9.ensures sweep c.in_ok-sdo.ensures.line
-    c.in_ok-sdo.ensures.local in
-    let udp = app_of-subcommand c.in_ok-subcommand-10.ensures sdo c.in_ok-udp.ensures.line
-    c.in_ok-udp.ensures.local in
-    let serve = app_of-subcommand c.in_ok-subcommand-11.ensures udp c.in_ok-serve.ensures.line
-    c.in_ok-serve.ensures.local in
-    let master = app_of-subcommand c.in_ok-subcommand-12.ensures serve c.in_ok-master.ensures.line
-    c.in_ok-master.ensures.local in
-    let scan = app_of-subcommand c.in_ok-subcommand-13.ensures master c.in_ok-scan.ensures.line
-    c.in_ok-scan.ensures.local in
-    IfOk-weaker c.subcommand-14.result _ _
-    (λ r added. app_of-subcommand added scan c.vectors.ensures.line c.vectors.ensures.local)
-    c.subcommand-14.ensures
+    let show = c.add-line.ensures _ _ c.ecat.ensures c.show.ensures in
+    let list = c.add-line-2.ensures _ _ show c.list.ensures in
+    let check = c.add-line-3.ensures _ _ list c.check.ensures in
+    let cover = c.add-line-4.ensures _ _ check c.cover.ensures in
+    let lint = c.add-line-5.ensures _ _ cover c.lint.ensures in
+    let where_broken = c.add-line-6.ensures _ _ lint c.where_broken.ensures in
+    let run = c.add-line-7.ensures _ _ where_broken c.run.ensures in
+    let sweep = c.add-line-8.ensures _ _ run c.sweep.ensures in
+    let sdo = c.add-line-9.ensures _ _ sweep c.sdo.ensures in
+    let udp = c.add-line-10.ensures _ _ sdo c.udp.ensures in
+    let serve = c.add-line-11.ensures _ _ udp c.serve.ensures in
+    let master = c.add-line-12.ensures _ _ serve c.master.ensures in
+    let scan = c.add-line-13.ensures _ _ master c.scan.ensures in
+    c.add.ensures _ _ scan c.vectors.ensures
