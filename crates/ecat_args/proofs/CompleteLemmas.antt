@@ -13,7 +13,7 @@ use Rattle.clap.specs.Walk.{Text, answers_to, nothing_held, rows_after, stop_aft
 use Rattle.clap.specs.Simple.{Shape, argument_words, built, entered, label_of, names_of, rows_at}
 use Rattle.clap.specs.Simple.{subcommand_of}
 use Rattle.clap.specs.Faults.{entered_fault, fault_of, level_fault}
-use Rattle.ecat_args.specs.Line.{line}
+use Rattle.ecat_commands.specs.Commands.{line}
 use Rattle.ecat_args.specs.Given.{Given, IsComplete}
 use Rattle.ecat_args.proofs.GivenLemmas.{AllGiven, NotHelp, is_usable, level_parts}
 

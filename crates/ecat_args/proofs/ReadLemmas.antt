@@ -10,7 +10,7 @@ use Rattle.clap.specs.declared.parser.matches.ArgMatches.{ArgMatches}
 use Rattle.clap.specs.declared.parser.matches.ArgMatches.TheViews.{out-ArgMatches}
 use Rattle.clap.specs.declared.error.Error.{Error}
 use Rattle.clap.specs.declared.error.kind.ErrorKind.TheVariants.{OutOfMemory}
-use Rattle.ecat_args.specs.Line.{line}
+use Rattle.ecat_commands.specs.Commands.{line}
 use Rattle.ecat_args.specs.Answer.{Becomes, Explains, Takes}
 use Rattle.ecat_args.specs.Given.{Given, IsComplete}
 use Rattle.ecat_args.specs.declared.args.ArgsFault.{ArgsFault}

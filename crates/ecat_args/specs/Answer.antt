@@ -8,7 +8,7 @@ use Rattle.ecat_args.specs.Given.{index_in}
 use Rattle.ecat_args.specs.Given.{judge_in, log_in, many_in, port_in, station_in, sub_in, surely_in}
 use Rattle.ecat_args.specs.Given.{csv_in, every_in, faults_in, limit_in, recover_in, stats_in, stop_in}
 use Rattle.ecat_args.specs.Given.{value_in, word_in}
-use Rattle.ecat_args.specs.Line.{line}
+use Rattle.ecat_commands.specs.Commands.{line}
 use Rattle.ecat_args.specs.declared.args.Args.{Args}
 use Rattle.ecat_args.specs.declared.args.Args.TheVariants.{Show, Check, Cover, Lint, Where, Run, Sweep, Sdo}
 use Rattle.ecat_args.specs.declared.args.Args.TheVariants.{Udp, Serve, Vectors, List as Lists, Master, Scan}

@@ -1,4 +1,3 @@
 pub mod Answer
 pub mod Given
-pub mod Line
 pub mod Number

@@ -8,10 +8,10 @@ ghost use Rattle.ecat_args.specs.Answer.{Explains, HasBadNumber, Says, Takes};
 ghost use Rattle.ecat_args.specs.Given.{IsComplete, IsNoAddress, LiesAt, count_by, flag_by, port_by};
 ghost use Rattle.ecat_args.specs.Given.{value_by};
 
-use crate::line::line;
 use crate::number::{Value, number, value_of};
 use clap::ArgMatches;
 use clap::error::ErrorKind;
+use ecat_commands::line;
 use std::alloc::{AllocError, Global};
 use std::net::Ipv4Addr;
 
@@ -28,7 +28,7 @@ pub(crate) const GREATEST_PORT: u32 = 65534;
 pub(crate) const LEAST_COUNT: u32 = 1;
 
 /// A command of the program, with its texts and numbers.
-#[derive(Clone, Copy, Debug, PartialEq, Eq)]
+#[derive(Clone, Copy, Debug)]
 pub enum Args<'a> {
     /// `show FILE`: prints the frames of a capture.
     Show {
@@ -252,12 +252,7 @@ fn command<'a>(name: &str, given: &ArgMatches<'a>) -> Option<Args<'a>>
         "show" => Some(Args::Show {
             file: text(given, "FILE"),
         }),
-        "list" => Some(Args::List {
-            file: text(given, "FILE"),
-            csv: flag(given, "csv"),
-            faults: flag(given, "faults"),
-            stats: flag(given, "stats"),
-        }),
+        "list" => Some(list(given)),
         "check" => Some(Args::Check {
             scene: text(given, "SCENE"),
         }),
@@ -267,16 +262,8 @@ fn command<'a>(name: &str, given: &ArgMatches<'a>) -> Option<Args<'a>>
         "lint" => Some(Args::Lint {
             scene: text(given, "SCENE"),
         }),
-        "where" => Some(Args::Where {
-            scene: text(given, "SCENE"),
-            at: word(given, "AT"),
-        }),
-        "run" => Some(Args::Run {
-            scene: text(given, "SCENE"),
-            judge: flag(given, "judge"),
-            pcap: word(given, "PCAP"),
-            force: flag(given, "force"),
-        }),
+        "where" => Some(where_broken(given)),
+        "run" => Some(run(given)),
         "sweep" => Some(Args::Sweep {
             scene: text(given, "SCENE"),
         }),
@@ -315,6 +302,43 @@ fn flag(given: &ArgMatches<'_>, name: &str) -> bool
     match word(given, name) {
         Some(text) => text == "true",
         None => false,
+    }
+}
+
+// What `list` says.
+fn list<'a>(given: &ArgMatches<'a>) -> Args<'a>
+    requires { IsComplete (codes "list", rows_of (found_of given.now)) }
+    ensures { Says result (codes "list", rows_of (found_of given.now)) }
+{
+    Args::List {
+        file: text(given, "FILE"),
+        csv: flag(given, "csv"),
+        faults: flag(given, "faults"),
+        stats: flag(given, "stats"),
+    }
+}
+
+// What `where` says.
+fn where_broken<'a>(given: &ArgMatches<'a>) -> Args<'a>
+    requires { IsComplete (codes "where", rows_of (found_of given.now)) }
+    ensures { Says result (codes "where", rows_of (found_of given.now)) }
+{
+    Args::Where {
+        scene: text(given, "SCENE"),
+        at: word(given, "AT"),
+    }
+}
+
+// What `run` says.
+fn run<'a>(given: &ArgMatches<'a>) -> Args<'a>
+    requires { IsComplete (codes "run", rows_of (found_of given.now)) }
+    ensures { Says result (codes "run", rows_of (found_of given.now)) }
+{
+    Args::Run {
+        scene: text(given, "SCENE"),
+        judge: flag(given, "judge"),
+        pcap: word(given, "PCAP"),
+        force: flag(given, "force"),
     }
 }
 

@@ -5,7 +5,7 @@ use crate::number::{number, value_of};
 use std::fmt;
 
 /// What a word of the command line has to be.
-#[derive(Clone, Copy, Debug, PartialEq, Eq)]
+#[derive(Clone, Copy, Debug)]
 enum Form {
     /// A number from one to another one.
     Number(u32, u32),
@@ -42,7 +42,7 @@ impl fmt::Display for Form {
 }
 
 /// A word of the command line that is bad, and what it has to be; it is printed as a sentence.
-#[derive(Clone, Copy, Debug, PartialEq, Eq)]
+#[derive(Clone, Copy, Debug)]
 pub struct BadWord<'a> {
     name: &'static str,
     text: &'a str,

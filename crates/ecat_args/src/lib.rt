@@ -47,8 +47,6 @@
 
 mod args;
 mod explain;
-mod help;
-mod line;
 mod number;
 
 pub use args::{Args, ArgsFault};

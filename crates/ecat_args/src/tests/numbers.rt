@@ -1,5 +1,5 @@
 //! Texts that write numbers and values, and texts that do not.
-use super::{Refusal, assert_same, read};
+use super::{Refusal, assert_rows, assert_same, read};
 use crate::{Args, Value};
 use std::alloc::Global;
 use std::net::Ipv4Addr;
@@ -65,12 +65,12 @@ fn address(alloc: Global, text: &str) -> Result<Ipv4Addr, Refusal> {
 #[test]
 fn an_address_is_four_decimal_numbers(rt: HostRuntime) {
     let alloc = rt.alloc();
-    assert_same(&rt, address(alloc, "0.0.0.0"), Ok(Ipv4Addr::UNSPECIFIED));
-    assert_same(
-        &rt,
-        address(alloc, "255.10.9.1"),
-        Ok(Ipv4Addr::new(255, 10, 9, 1)),
-    );
+    for (text, wanted) in [
+        ("0.0.0.0", Ok(Ipv4Addr::UNSPECIFIED)),
+        ("255.10.9.1", Ok(Ipv4Addr::new(255, 10, 9, 1))),
+    ] {
+        assert_same(&rt, address(alloc, text), wanted);
+    }
     for text in [
         "",
         "1.2.3",
@@ -90,65 +90,45 @@ fn an_address_is_four_decimal_numbers(rt: HostRuntime) {
 #[test]
 fn station_and_index_end_at_65535(rt: HostRuntime) {
     let alloc = rt.alloc();
-    assert_same(&rt, numbers(alloc, "0", "0", "0"), Ok((0, 0, 0)));
-    assert_same(
-        &rt,
-        numbers(alloc, "65535", "65534", "0"),
-        Ok((65535, 65534, 0)),
-    );
-    assert_same(
-        &rt,
-        numbers(alloc, "65534", "65535", "0"),
-        Ok((65534, 65535, 0)),
-    );
-    assert_same(
-        &rt,
-        numbers(alloc, "65536", "0", "0"),
-        Err(Refusal::BadNumber),
-    );
-    assert_same(
-        &rt,
-        numbers(alloc, "0", "65536", "0"),
-        Err(Refusal::BadNumber),
-    );
-    assert_same(
-        &rt,
-        numbers(alloc, "0x10000", "0", "0"),
-        Err(Refusal::BadNumber),
-    );
-    assert_same(
-        &rt,
-        numbers(alloc, "4294967296", "0", "0"),
-        Err(Refusal::BadNumber),
-    );
+    for (station, index, sub, wanted) in [
+        ("0", "0", "0", Ok((0, 0, 0))),
+        ("65535", "65534", "0", Ok((65535, 65534, 0))),
+        ("65534", "65535", "0", Ok((65534, 65535, 0))),
+        ("65536", "0", "0", Err(Refusal::BadNumber)),
+        ("0", "65536", "0", Err(Refusal::BadNumber)),
+        ("0x10000", "0", "0", Err(Refusal::BadNumber)),
+        ("4294967296", "0", "0", Err(Refusal::BadNumber)),
+    ] {
+        assert_same(&rt, numbers(alloc, station, index, sub), wanted);
+    }
 }
 
 #[test]
 fn subindex_ends_at_255(rt: HostRuntime) {
     let alloc = rt.alloc();
-    assert_same(&rt, numbers(alloc, "1", "2", "255"), Ok((1, 2, 255)));
-    assert_same(&rt, numbers(alloc, "1", "2", "0xff"), Ok((1, 2, 255)));
-    assert_same(
-        &rt,
-        numbers(alloc, "1", "2", "256"),
-        Err(Refusal::BadNumber),
-    );
-    assert_same(
-        &rt,
-        numbers(alloc, "1", "2", "0x100"),
-        Err(Refusal::BadNumber),
-    );
+    for (station, index, sub, wanted) in [
+        ("1", "2", "255", Ok((1, 2, 255))),
+        ("1", "2", "0xff", Ok((1, 2, 255))),
+        ("1", "2", "256", Err(Refusal::BadNumber)),
+        ("1", "2", "0x100", Err(Refusal::BadNumber)),
+    ] {
+        assert_same(&rt, numbers(alloc, station, index, sub), wanted);
+    }
 }
 
 #[test]
 fn port_is_from_1024_to_65534(rt: HostRuntime) {
     let alloc = rt.alloc();
-    assert_same(&rt, port(alloc, "1023"), Err(Refusal::BadNumber));
-    assert_same(&rt, port(alloc, "1024"), Ok(1024));
-    assert_same(&rt, port(alloc, "65534"), Ok(65534));
-    assert_same(&rt, port(alloc, "0xfffe"), Ok(65534));
-    assert_same(&rt, port(alloc, "65535"), Err(Refusal::BadNumber));
-    assert_same(&rt, port(alloc, "x"), Err(Refusal::BadNumber));
+    for (text, wanted) in [
+        ("1023", Err(Refusal::BadNumber)),
+        ("1024", Ok(1024)),
+        ("65534", Ok(65534)),
+        ("0xfffe", Ok(65534)),
+        ("65535", Err(Refusal::BadNumber)),
+        ("x", Err(Refusal::BadNumber)),
+    ] {
+        assert_same(&rt, port(alloc, text), wanted);
+    }
 }
 
 #[test]
@@ -157,8 +137,9 @@ fn port_of_serve_is_that_of_udp(rt: HostRuntime) {
     for text in ["1023", "65535", "x", "0x400g", ""] {
         assert_same(&rt, port_of_serve(alloc, text), Err(Refusal::BadNumber));
     }
-    assert_same(&rt, port_of_serve(alloc, "1024"), Ok(1024));
-    assert_same(&rt, port_of_serve(alloc, "0xfffe"), Ok(65534));
+    for (text, wanted) in [("1024", Ok(1024)), ("0xfffe", Ok(65534))] {
+        assert_same(&rt, port_of_serve(alloc, text), wanted);
+    }
 }
 
 #[test]
@@ -176,67 +157,60 @@ fn packets_are_from_1_to_4294967295(rt: HostRuntime) {
     ] {
         assert_same(&rt, packets(alloc, text), Err(Refusal::BadNumber));
     }
-    assert_same(&rt, packets(alloc, "1"), Ok(Some(1)));
-    assert_same(&rt, packets(alloc, "4294967295"), Ok(Some(4294967295)));
-    assert_same(&rt, packets(alloc, "0xffffffff"), Ok(Some(4294967295)));
+    for (text, wanted) in [
+        ("1", Ok(Some(1))),
+        ("4294967295", Ok(Some(4294967295))),
+        ("0xffffffff", Ok(Some(4294967295))),
+    ] {
+        assert_same(&rt, packets(alloc, text), wanted);
+    }
 }
 
 #[test]
 fn a_bad_number_of_serve_is_found_beside_a_good_one(rt: HostRuntime) {
-    let alloc = rt.alloc();
-    let bad = Err(Refusal::BadNumber);
-    assert_same(
-        &rt,
-        read(
-            alloc,
-            &["ecat", "serve", "s", "--port", "1", "--packets", "1"],
-        ),
-        bad,
-    );
-    assert_same(
-        &rt,
-        read(
-            alloc,
-            &["ecat", "serve", "s", "--port", "4000", "--packets", "0"],
-        ),
-        bad,
-    );
+    let rows = [
+        ("serve s --port 1 --packets 1", "Err(BadNumber)"),
+        ("serve s --port 4000 --packets 0", "Err(BadNumber)"),
+    ];
+    assert_rows(&rt, rt.alloc(), &rows);
 }
 
 #[test]
 fn hexadecimal_digits_have_either_case(rt: HostRuntime) {
     let alloc = rt.alloc();
-    assert_same(
-        &rt,
-        numbers(alloc, "0xabcd", "0xABCD", "0xeF"),
-        Ok((43981, 43981, 239)),
-    );
-    assert_same(&rt, numbers(alloc, "0x9", "0xa", "0xF"), Ok((9, 10, 15)));
+    for (station, index, sub, wanted) in [
+        ("0xabcd", "0xABCD", "0xeF", Ok((43981, 43981, 239))),
+        ("0x9", "0xa", "0xF", Ok((9, 10, 15))),
+    ] {
+        assert_same(&rt, numbers(alloc, station, index, sub), wanted);
+    }
 }
 
 #[test]
 fn any_number_of_digits_is_read(rt: HostRuntime) {
     let alloc = rt.alloc();
-    assert_same(
-        &rt,
-        numbers(
-            alloc,
+    for (station, index, sub, wanted) in [
+        (
             "000000000000000000000000065535",
             "0x00000000000000000000000000ffff",
             "007",
+            Ok((65535, 65535, 7)),
         ),
-        Ok((65535, 65535, 7)),
-    );
-    assert_same(
-        &rt,
-        numbers(alloc, "999999999999999999999999999999", "0", "0"),
-        Err(Refusal::BadNumber),
-    );
-    assert_same(
-        &rt,
-        numbers(alloc, "0xffffffffffffffffffffffffffffff", "0", "0"),
-        Err(Refusal::BadNumber),
-    );
+        (
+            "999999999999999999999999999999",
+            "0",
+            "0",
+            Err(Refusal::BadNumber),
+        ),
+        (
+            "0xffffffffffffffffffffffffffffff",
+            "0",
+            "0",
+            Err(Refusal::BadNumber),
+        ),
+    ] {
+        assert_same(&rt, numbers(alloc, station, index, sub), wanted);
+    }
 }
 
 #[test]
@@ -254,16 +228,16 @@ fn other_forms_are_no_numbers(rt: HostRuntime) {
 #[test]
 fn digits_of_a_value_give_its_size(rt: HostRuntime) {
     let alloc = rt.alloc();
-    assert_same(&rt, value(alloc, "0x02"), Ok(Some(Value::One(2))));
-    assert_same(&rt, value(alloc, "0xFf"), Ok(Some(Value::One(255))));
-    assert_same(&rt, value(alloc, "0x0002"), Ok(Some(Value::Two(2))));
-    assert_same(&rt, value(alloc, "0xABcd"), Ok(Some(Value::Two(43981))));
-    assert_same(&rt, value(alloc, "0x00000002"), Ok(Some(Value::Four(2))));
-    assert_same(
-        &rt,
-        value(alloc, "0xffffffff"),
-        Ok(Some(Value::Four(4294967295))),
-    );
+    for (text, wanted) in [
+        ("0x02", Ok(Some(Value::One(2)))),
+        ("0xFf", Ok(Some(Value::One(255)))),
+        ("0x0002", Ok(Some(Value::Two(2)))),
+        ("0xABcd", Ok(Some(Value::Two(43981)))),
+        ("0x00000002", Ok(Some(Value::Four(2)))),
+        ("0xffffffff", Ok(Some(Value::Four(4294967295)))),
+    ] {
+        assert_same(&rt, value(alloc, text), wanted);
+    }
 }
 
 #[test]

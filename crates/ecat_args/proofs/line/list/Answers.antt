@@ -1,6 +1,0 @@
-use Rattle.ecat_args.specs.Line.{list_words}
-use Rattle.ecat_args.proofs.LineLemmas.{AreWords-items}
-use Rattle.ecat_args.proofs.line.list.Goals as goal
-
-pub returns : goal.returns
-returns c = c.command.ensures list_words (AreWords-items list_words c.in_ok-words.ensures.items (c.needed.ensures, (c.flag.ensures, (c.flag-2.ensures, (c.flag-3.ensures, tt)))))

@@ -1,6 +1,0 @@
-use Rattle.ecat_args.specs.Line.{sdo_words}
-use Rattle.ecat_args.proofs.LineLemmas.{AreWords-items}
-use Rattle.ecat_args.proofs.line.sdo.Goals as goal
-
-pub returns : goal.returns
-returns c = c.command.ensures sdo_words (AreWords-items sdo_words c.in_ok-words.ensures.items (c.scene.ensures, (c.needed.ensures, (c.needed-2.ensures, (c.needed-3.ensures, (c.optional.ensures, (c.flag.ensures, (c.at.ensures, tt))))))))

@@ -1,6 +1,0 @@
-use Rattle.ecat_args.specs.Line.{serve_words}
-use Rattle.ecat_args.proofs.LineLemmas.{AreWords-items}
-use Rattle.ecat_args.proofs.line.serve.Goals as goal
-
-pub returns : goal.returns
-returns c = c.command.ensures serve_words (AreWords-items serve_words c.in_ok-words.ensures.items (c.scene.ensures, (c.port.ensures, (c.option.ensures, (c.option-2.ensures, (c.flag.ensures, (c.flag-2.ensures, (c.flag-3.ensures, (c.raw.ensures, (c.pcap.ensures, (c.force.ensures, tt)))))))))))

@@ -1,0 +1,363 @@
+//! The command line, in clap's words.
+ghost use Rattle.std.specs.Prelude.{◌≡◌, List, IfOk, codes};
+ghost use Rattle.clap.specs.Words.{App, Rule, new_app, new_rule, with_subcommand};
+ghost use Rattle.ecat_commands.specs.Commands.{AreWords, Builds, IsWord, flag_rule, line, needed_rule, option_rule};
+ghost use Rattle.ecat_commands.specs.Commands.{at_rule, force_rule, judge_rule, limit_rule, pcap_rule, port_rule, raw_rule};
+ghost use Rattle.ecat_commands.specs.Commands.{check_line, cover_line, lint_line, list_line, master_line, run_line};
+ghost use Rattle.ecat_commands.specs.Commands.{scan_line, sdo_line, serve_line, show_line, sweep_line, udp_line};
+ghost use Rattle.ecat_commands.specs.Commands.{ecat_line, vectors_line, where_line, with_rules};
+
+use crate::help;
+use clap::{Arg, ArgAction, Command};
+use std::alloc::{AllocError, Global};
+
+// A word that may be given.
+fn optional<'a>(alloc: Global, id: &'a str, help: &'a str) -> Arg<'a>
+    ensures { IsWord (new_rule id.entry.now) result }
+{
+    Arg::new(alloc, id).help(help)
+}
+
+// A word that has to be given.
+fn needed<'a>(alloc: Global, id: &'a str, help: &'a str) -> Arg<'a>
+    ensures { IsWord (needed_rule id.entry.now) result }
+{
+    optional(alloc, id, help).required(true)
+}
+
+// A word that may be given behind its name, which stands after two hyphens.
+fn option<'a>(alloc: Global, id: &'a str, name: &'a str, help: &'a str) -> Arg<'a>
+    ensures { IsWord (option_rule id.entry.now name.entry.now) result }
+{
+    optional(alloc, id, help).long(name)
+}
+
+// A name after two hyphens, with no word behind it.
+fn flag<'a>(alloc: Global, name: &'a str, help: &'a str) -> Arg<'a>
+    ensures { IsWord (flag_rule name.entry.now) result }
+{
+    option(alloc, name, name, help).action(ArgAction::SetTrue)
+}
+
+// The scene of a command.
+fn scene<'a>(alloc: Global) -> Arg<'a>
+    ensures { IsWord (needed_rule (codes "SCENE")) result }
+{
+    let help = "A file with the slaves of a ring and its work";
+    needed(alloc, "SCENE", help)
+}
+
+// The port of the line's end A.
+fn port<'a>(alloc: Global) -> Arg<'a>
+    ensures { IsWord port_rule result }
+{
+    let help = "The port of the line's end A, 1024 to 65534; 34980 if not given";
+    option(alloc, "P", "port", help)
+}
+
+// Where the two ends of a line lie.
+fn at<'a>(alloc: Global) -> Arg<'a>
+    ensures { IsWord at_rule result }
+{
+    let help = "Where the line lies: HOST:PORT of its end A, and of its end B behind a comma";
+    option(alloc, "AT", "at", help)
+}
+
+// The packet sockets of network interfaces, which the program was started with.
+fn raw<'a>(alloc: Global) -> Arg<'a>
+    ensures { IsWord raw_rule result }
+{
+    let help =
+        "The descriptors of packet sockets, of end A and behind a comma of end B; tools/raw opens them";
+    option(alloc, "RAW", "raw", help)
+}
+
+// How long a copy is waited for.
+fn limit<'a>(alloc: Global) -> Arg<'a>
+    ensures { IsWord limit_rule result }
+{
+    let help = "After how many microseconds a copy counts as lost; 20000 if not given";
+    option(alloc, "LIMIT", "limit", help)
+}
+
+// Where each copy is kept.
+fn pcap<'a>(alloc: Global) -> Arg<'a>
+    ensures { IsWord pcap_rule result }
+{
+    let help =
+        "A capture that gets each copy, as it leaves and as it arrives; it must not be there yet";
+    option(alloc, "PCAP", "pcap", help)
+}
+
+// Whether a capture is overwritten.
+fn force<'a>(alloc: Global) -> Arg<'a>
+    ensures { IsWord force_rule result }
+{
+    flag(alloc, "force", "Overwrites the capture where it is there")
+}
+
+// Whether the cycle is judged.
+fn judge<'a>(alloc: Global) -> Arg<'a>
+    ensures { IsWord judge_rule result }
+{
+    let help =
+        "Judges the cycle: which items are short, whose copies are lost, where the cable is broken";
+    flag(alloc, "judge", help)
+}
+
+// A command with no words: its line in the list of commands, and what its help tells.
+fn plain<'a>(alloc: Global, name: &'a str, about: &'a str, text: &'a str) -> Command<'a>
+    ensures { Builds (new_app name.entry.now) result }
+{
+    Command::new(alloc, name)
+        .about(about)
+        .long_about(text)
+        .after_help(help::STATUSES)
+}
+
+// A command with these words, in their order.
+fn command<'a>(
+    alloc: Global,
+    name: &'a str,
+    about: &'a str,
+    text: &'a str,
+    words: Vec<Arg<'a>>,
+) -> Result<Command<'a>, AllocError>
+    ensures { (rules : List Rule) → AreWords rules words.entry.items
+        → IfOk result (Builds (with_rules (new_app name.entry.now) rules)) }
+{
+    plain(alloc, name, about, text).args(words)
+}
+
+// `show FILE`
+fn show<'a>(alloc: Global) -> Result<Command<'a>, AllocError>
+    ensures { IfOk result (Builds show_line) }
+{
+    let about = "Prints the frames of a capture";
+    let words = vec![in alloc; needed(alloc, "FILE", "The capture, a pcap file")]?;
+    command(alloc, "show", about, help::SHOW, words)
+}
+
+// `list FILE [--csv] [--faults] [--stats]`
+fn list<'a>(alloc: Global) -> Result<Command<'a>, AllocError>
+    ensures { IfOk result (Builds list_line) }
+{
+    let about = "Lists the datagrams of a capture";
+    let file = "The capture, a pcap or pcapng file; - for standard input";
+    let words = vec![in alloc;
+        needed(alloc, "FILE", file),
+        flag(alloc, "csv", "Separates by commas, below a line of names"),
+        flag(
+            alloc,
+            "faults",
+            "Lists packets alone that are damaged or cut short",
+        ),
+        flag(
+            alloc,
+            "stats",
+            "Counts each working counter of datagrams that are alike",
+        ),
+    ]?;
+    command(alloc, "list", about, help::LIST, words)
+}
+
+// `check SCENE`
+fn check<'a>(alloc: Global) -> Result<Command<'a>, AllocError>
+    ensures { IfOk result (Builds check_line) }
+{
+    let about = "Says whether the slaves of a scene fit together on one line";
+    let words = vec![in alloc; scene(alloc)]?;
+    command(alloc, "check", about, help::CHECK, words)
+}
+
+// `cover SCENE`
+fn cover<'a>(alloc: Global) -> Result<Command<'a>, AllocError>
+    ensures { IfOk result (Builds cover_line) }
+{
+    let about = "Says whether the items of a scene carry all that its slaves are mapped for";
+    let words = vec![in alloc; scene(alloc)]?;
+    command(alloc, "cover", about, help::COVER, words)
+}
+
+// `lint SCENE`
+fn lint<'a>(alloc: Global) -> Result<Command<'a>, AllocError>
+    ensures { IfOk result (Builds lint_line) }
+{
+    let about = "Names what a scene says that is accepted and yet seldom meant";
+    let words = vec![in alloc; scene(alloc)]?;
+    command(alloc, "lint", about, help::LINT, words)
+}
+
+// `where SCENE [--at AT]`
+fn where_broken<'a>(alloc: Global) -> Result<Command<'a>, AllocError>
+    ensures { IfOk result (Builds where_line) }
+{
+    let about = "Says where the cable of a scene is broken, and who is missing";
+    let words = vec![in alloc; scene(alloc), at(alloc)]?;
+    command(alloc, "where", about, help::WHERE, words)
+}
+
+// `run SCENE [--judge] [--pcap PCAP] [--force]`
+fn run<'a>(alloc: Global) -> Result<Command<'a>, AllocError>
+    ensures { IfOk result (Builds run_line) }
+{
+    let about = "Does the actions of a scene, and then its work";
+    let words = vec![in alloc; scene(alloc), judge(alloc), pcap(alloc), force(alloc)]?;
+    command(alloc, "run", about, help::RUN, words)
+}
+
+// `sweep SCENE`
+fn sweep<'a>(alloc: Global) -> Result<Command<'a>, AllocError>
+    ensures { IfOk result (Builds sweep_line) }
+{
+    let about = "Does the work of a scene with each cable broken, each two, and each copy lost";
+    let words = vec![in alloc; scene(alloc)]?;
+    command(alloc, "sweep", about, help::SWEEP, words)
+}
+
+// `sdo SCENE STATION INDEX SUB [VALUE] [--surely] [--at AT]`
+fn sdo<'a>(alloc: Global) -> Result<Command<'a>, AllocError>
+    ensures { IfOk result (Builds sdo_line) }
+{
+    let about = "Reads an object of a slave, or writes VALUE to it";
+    let value = "What to write: 0x and 2, 4 or 8 hexadecimal digits";
+    let surely = "Makes trips until it is done, whatever copies are lost: 64 at most";
+    let words = vec![in alloc;
+        scene(alloc),
+        needed(alloc, "STATION", "The station address of the slave"),
+        needed(alloc, "INDEX", "The index of the object"),
+        needed(alloc, "SUB", "The subindex of the object"),
+        optional(alloc, "VALUE", value),
+        flag(alloc, "surely", surely),
+        at(alloc),
+    ]?;
+    command(alloc, "sdo", about, help::SDO, words)
+}
+
+// `udp SCENE [--port P] [--judge] [--pcap PCAP] [--force]`
+fn udp<'a>(alloc: Global) -> Result<Command<'a>, AllocError>
+    ensures { IfOk result (Builds udp_line) }
+{
+    let about = "Does the work of a scene through UDP sockets";
+    let words = vec![in alloc;
+        scene(alloc),
+        port(alloc),
+        judge(alloc),
+        pcap(alloc),
+        force(alloc),
+    ]?;
+    command(alloc, "udp", about, help::UDP, words)
+}
+
+// `serve SCENE [--port P] [--packets N] [--bind ADDRESS] [--forever] [--control] [--log] [--raw RAW]
+// [--pcap PCAP] [--force]`
+fn serve<'a>(alloc: Global) -> Result<Command<'a>, AllocError>
+    ensures { IfOk result (Builds serve_line) }
+{
+    let about = "Puts the line of a scene on the network, behind UDP sockets";
+    let packets =
+        "After how many packets it ends, 1 to 4294967295; at the input's end if not given";
+    let address = "The IPv4 address of both ends; 127.0.0.1 if not given, for this machine alone";
+    let forever = "Leaves standard input alone, so that it serves on where that has ended";
+    let control = "Reads commands to the line from standard input, while it serves";
+    let words = vec![in alloc;
+        scene(alloc),
+        port(alloc),
+        option(alloc, "N", "packets", packets),
+        option(alloc, "ADDRESS", "bind", address),
+        flag(alloc, "forever", forever),
+        flag(alloc, "control", control),
+        flag(
+            alloc,
+            "log",
+            "Tells of each packet on standard error, a line each",
+        ),
+        raw(alloc),
+        pcap(alloc),
+        force(alloc),
+    ]?;
+    command(alloc, "serve", about, help::SERVE, words)
+}
+
+// `master SCENE [--at AT] [--raw RAW] [--cycles N] [--every MICROSECONDS] [--limit LIMIT] [--outputs OUTPUTS]
+// [--log LOG] [--stop] [--recover]`
+fn master<'a>(alloc: Global) -> Result<Command<'a>, AllocError>
+    ensures { IfOk result (Builds master_line) }
+{
+    let about = "Brings the line of a scene to Op, somewhere else, and cycles on it";
+    let cycles = "After how many cycles it ends, 1 to 4294967295; at the input's end if not given";
+    let every = "How far apart the cycles begin; back to back if not given";
+    let outputs =
+        "The outputs: count, or a file with a line for each cycle; the scene's if not given";
+    let log = "A file that gets a line for each cycle: its number, its verdict and its counters";
+    let recover = "Brings slaves up again that show an error or came back in Init";
+    let words = vec![in alloc;
+        scene(alloc),
+        at(alloc),
+        raw(alloc),
+        option(alloc, "N", "cycles", cycles),
+        option(alloc, "MICROSECONDS", "every", every),
+        limit(alloc),
+        option(alloc, "OUTPUTS", "outputs", outputs),
+        option(alloc, "LOG", "log", log),
+        flag(alloc, "stop", "Ends at the first cycle that is not good"),
+        flag(alloc, "recover", recover),
+    ]?;
+    command(alloc, "master", about, help::MASTER, words)
+}
+
+// `scan [--at AT] [--raw RAW] [--limit LIMIT]`
+fn scan<'a>(alloc: Global) -> Result<Command<'a>, AllocError>
+    ensures { IfOk result (Builds scan_line) }
+{
+    let about = "Tells what slaves a line somewhere else has";
+    let words = vec![in alloc; at(alloc), raw(alloc), limit(alloc)]?;
+    command(alloc, "scan", about, help::SCAN, words)
+}
+
+// The line with one command more, if memory lasts.
+fn add<'a>(
+    line: Result<Command<'a>, AllocError>,
+    command: Result<Command<'a>, AllocError>,
+) -> Result<Command<'a>, AllocError>
+    ensures { (above below : App) → IfOk line.entry (Builds above) → IfOk command.entry (Builds below)
+        → IfOk result (Builds (with_subcommand above below.top)) }
+{
+    line?.subcommand(command?)
+}
+
+// The program's name, behind which a command has to follow.
+fn ecat<'a>(alloc: Global) -> Command<'a>
+    ensures { Builds ecat_line result }
+{
+    let about = "An EtherCAT master and a ring of slaves";
+    plain(alloc, "ecat", about, help::ECAT).subcommand_required(true)
+}
+
+// `vectors`
+fn vectors<'a>(alloc: Global) -> Command<'a>
+    ensures { Builds vectors_line result }
+{
+    plain(alloc, "vectors", "Runs the worked rows", help::VECTORS)
+}
+
+/// The definition of the whole command line: fourteen commands, of which one has to be given, each with its
+/// words, and the texts of their help.
+pub fn line<'a>(alloc: Global) -> Result<Command<'a>, AllocError>
+    ensures { IfOk result (Builds line) }
+{
+    let line = add(Ok(ecat(alloc)), show(alloc));
+    let line = add(line, list(alloc));
+    let line = add(line, check(alloc));
+    let line = add(line, cover(alloc));
+    let line = add(line, lint(alloc));
+    let line = add(line, where_broken(alloc));
+    let line = add(line, run(alloc));
+    let line = add(line, sweep(alloc));
+    let line = add(line, sdo(alloc));
+    let line = add(line, udp(alloc));
+    let line = add(line, serve(alloc));
+    let line = add(line, master(alloc));
+    let line = add(line, scan(alloc));
+    add(line, Ok(vectors(alloc)))
+}
