@@ -1,10 +1,12 @@
 //! The command line, in clap's words.
 ghost use Rattle.std.specs.Prelude.{◌≡◌, List, IfOk, codes};
 ghost use Rattle.clap.specs.Words.{App, Rule, new_app, new_rule, with_subcommand};
-ghost use Rattle.ecat_commands.specs.Commands.{AreWords, Builds, IsWord, flag_rule, line, needed_rule, option_rule};
-ghost use Rattle.ecat_commands.specs.Commands.{at_rule, force_rule, judge_rule, limit_rule, pcap_rule, port_rule, raw_rule};
-ghost use Rattle.ecat_commands.specs.Commands.{check_line, cover_line, lint_line, list_line, master_line, run_line};
-ghost use Rattle.ecat_commands.specs.Commands.{scan_line, sdo_line, serve_line, show_line, sweep_line, udp_line};
+ghost use Rattle.ecat_commands.specs.Commands.{AreWords, Builds, IsWord, flag_rule, line};
+ghost use Rattle.ecat_commands.specs.Commands.{needed_rule, option_rule, at_rule, force_rule};
+ghost use Rattle.ecat_commands.specs.Commands.{judge_rule, limit_rule, pcap_rule, port_rule};
+ghost use Rattle.ecat_commands.specs.Commands.{raw_rule, check_line, cover_line, lint_line};
+ghost use Rattle.ecat_commands.specs.Commands.{list_line, master_line, run_line, scan_line, sdo_line};
+ghost use Rattle.ecat_commands.specs.Commands.{serve_line, show_line, sweep_line, udp_line};
 ghost use Rattle.ecat_commands.specs.Commands.{ecat_line, vectors_line, where_line, with_rules};
 
 use crate::help;

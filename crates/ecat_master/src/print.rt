@@ -61,6 +61,12 @@ impl<'a, W: Write> Lines<'a, W> {
         self.bytes(digits.as_str().as_bytes())
     }
 
+    /// Puts a text to the line, and behind it a number.
+    pub fn named(&mut self, name: &str, number: u64) -> io::Result<()> {
+        self.text(name)?;
+        self.number(number)
+    }
+
     /// Puts a number of 16 bits to the line: `0x` and four hexadecimal digits.
     pub fn word(&mut self, word: u16) -> io::Result<()> {
         let mut digits = ArrayString::<DIGITS>::new();

@@ -206,12 +206,9 @@ fn put_progress<W: Write>(
     lines: &mut Lines<'_, W>,
 ) -> io::Result<()> {
     put_counts(counts, lines)?;
-    lines.text(", cycle time least ")?;
-    lines.number(times.least.min(times.greatest))?;
-    lines.text(" mean ")?;
-    lines.number(times.mean())?;
-    lines.text(" greatest ")?;
-    lines.number(times.greatest)?;
+    lines.named(", cycle time least ", times.least.min(times.greatest))?;
+    lines.named(" mean ", times.mean())?;
+    lines.named(" greatest ", times.greatest)?;
     lines.text(" microseconds")?;
     lines.end()
 }
@@ -224,8 +221,7 @@ fn put_recovered<W: Write>(
     seen: Seen,
     lines: &mut Lines<'_, W>,
 ) -> io::Result<()> {
-    lines.text("cycle ")?;
-    lines.number(cycle)?;
+    lines.named("cycle ", cycle)?;
     lines.text(": ")?;
     put_slave(u64::from(place), station, lines)?;
     match seen {
@@ -251,8 +247,7 @@ fn put_unrecovered<W: Write>(
     wanted: &Wanted,
     lines: &mut Lines<'_, W>,
 ) -> io::Result<()> {
-    lines.text("cycle ")?;
-    lines.number(cycle)?;
+    lines.named("cycle ", cycle)?;
     lines.text(": ")?;
     put_step_fault(fault, wanted, lines)?;
     lines.end()

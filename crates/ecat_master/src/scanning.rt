@@ -80,8 +80,7 @@ pub fn scan<P: HeardPorts, W: Write>(
     lines: &mut Lines<'_, W>,
 ) -> Result<bool, ScanEnd> {
     let count = count_slaves(ports)?;
-    lines.text("slaves ")?;
-    lines.number(u64::from(count))?;
+    lines.named("slaves ", u64::from(count))?;
     lines.end()?;
     let located = match look_surely(ports, usize::from(count)) {
         Some(located) => located,
@@ -100,8 +99,7 @@ pub fn scan<P: HeardPorts, W: Write>(
 fn put_links<W: Write>(located: Located, lines: &mut Lines<'_, W>) -> io::Result<()> {
     match located {
         Located::One(link) => {
-            lines.text("link ")?;
-            lines.number(link as u64)?;
+            lines.named("link ", link as u64)?;
             lines.text(" down")
         }
         _ => put_cable(located, &[], lines),
@@ -115,8 +113,7 @@ fn scan_slave<P: HeardPorts, W: Write>(
     located: Located,
     lines: &mut Lines<'_, W>,
 ) -> Result<bool, ScanEnd> {
-    lines.text("slave ")?;
-    lines.number(u64::from(place))?;
+    lines.named("slave ", u64::from(place))?;
     let read = match look(ports, way_to(place, located)) {
         Err(MasterFault::Port) => return Err(ScanEnd::Ask(MasterFault::Port)),
         Err(fault) => {
@@ -260,12 +257,10 @@ fn put_manager<W: Write>(
     manager: &SyncMan,
     lines: &mut Lines<'_, W>,
 ) -> io::Result<()> {
-    lines.text(" sm ")?;
-    lines.number(number as u64)?;
+    lines.named(" sm ", number as u64)?;
     lines.text(" ")?;
     lines.word(manager.start)?;
-    lines.text(" ")?;
-    lines.number(u64::from(manager.length))?;
+    lines.named(" ", u64::from(manager.length))?;
     lines.text(match (manager.is_mailbox(), manager.master_writes()) {
         (true, true) => " mailbox-write",
         (true, false) => " mailbox-read",
@@ -276,20 +271,15 @@ fn put_manager<W: Write>(
 
 /// Puts an FMMU that is switched on in the words of a scene.
 fn put_fmmu<W: Write>(number: usize, fmmu: &Fmmu, lines: &mut Lines<'_, W>) -> io::Result<()> {
-    lines.text(" fmmu ")?;
-    lines.number(number as u64)?;
+    lines.named(" fmmu ", number as u64)?;
     lines.text(" ")?;
     lines.long(fmmu.logical)?;
-    lines.text(" ")?;
-    lines.number(u64::from(fmmu.length))?;
-    lines.text(" ")?;
-    lines.number(u64::from(fmmu.start))?;
-    lines.text(" ")?;
-    lines.number(u64::from(fmmu.stop))?;
+    lines.named(" ", u64::from(fmmu.length))?;
+    lines.named(" ", u64::from(fmmu.start))?;
+    lines.named(" ", u64::from(fmmu.stop))?;
     lines.text(" ")?;
     lines.word(fmmu.physical)?;
-    lines.text(" ")?;
-    lines.number(u64::from(fmmu.bit))?;
+    lines.named(" ", u64::from(fmmu.bit))?;
     lines.text(match (fmmu.reads(), fmmu.writes()) {
         (true, true) => " both",
         (true, false) => " read",
@@ -333,8 +323,7 @@ fn put_object<P: Ports, W: Write>(
     requires { IsPeer peer.old }
     ensures { IsPeer peer.new }
 {
-    lines.text(" 0x1018:")?;
-    lines.number(u64::from(sub))?;
+    lines.named(" 0x1018:", u64::from(sub))?;
     lines.text(" ")?;
     match upload_surely(ports, peer, IDENTITY, sub, TRIPS) {
         Ok(Value::One(value)) => lines.number(u64::from(value)),

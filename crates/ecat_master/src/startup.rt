@@ -109,11 +109,9 @@ fn count<P: HeardPorts, W: Write>(
             break;
         }
     }
-    lines.text("slaves ")?;
-    lines.number(u64::from(found))?;
+    lines.named("slaves ", u64::from(found))?;
     if usize::from(found) != wanted {
-        lines.text(", wanted ")?;
-        lines.number(wanted as u64)?;
+        lines.named(", wanted ", wanted as u64)?;
     }
     lines.end()?;
     Ok(found)

@@ -132,8 +132,7 @@ fn came_of(ended: Result<Verdict, CycleFault>, counts: &[u16]) -> u16 {
 
 /// Puts the number of a cycle.
 fn put_cycle<W: Write>(cycle: u64, lines: &mut Lines<'_, W>) -> io::Result<()> {
-    lines.text("cycle ")?;
-    lines.number(cycle)?;
+    lines.named("cycle ", cycle)?;
     lines.text(": ")
 }
 
@@ -214,10 +213,8 @@ fn put_count<W: Write>(
     expected: &[u16],
     lines: &mut Lines<'_, W>,
 ) -> io::Result<()> {
-    lines.text("item ")?;
-    lines.number(item as u64)?;
-    lines.text(": came ")?;
-    lines.number(u64::from(came))?;
+    lines.named("item ", item as u64)?;
+    lines.named(": came ", u64::from(came))?;
     lines.text(" of ")?;
     let wanted = match expected.get(item) {
         Some(wanted) => *wanted,
@@ -228,16 +225,11 @@ fn put_count<W: Write>(
 
 /// Puts how many cycles there were, by their ends.
 pub fn put_counts<W: Write>(counts: Counts, lines: &mut Lines<'_, W>) -> io::Result<()> {
-    lines.text("cycles ")?;
-    lines.number(counts.cycles)?;
-    lines.text(" good ")?;
-    lines.number(counts.good)?;
-    lines.text(" short ")?;
-    lines.number(counts.short)?;
-    lines.text(" over ")?;
-    lines.number(counts.over)?;
-    lines.text(" fault ")?;
-    lines.number(counts.fault)
+    lines.named("cycles ", counts.cycles)?;
+    lines.named(" good ", counts.good)?;
+    lines.named(" short ", counts.short)?;
+    lines.named(" over ", counts.over)?;
+    lines.named(" fault ", counts.fault)
 }
 
 /// Writes a line for a cycle that was made: its number, its end, and how far each counter moved.
@@ -247,13 +239,11 @@ pub fn log_cycle<W: Write>(
     counts: &[u16],
     lines: &mut Lines<'_, W>,
 ) -> io::Result<()> {
-    lines.text("cycle ")?;
-    lines.number(cycle)?;
+    lines.named("cycle ", cycle)?;
     put_end(ended, lines)?;
     lines.text(" counts")?;
     for count in counts {
-        lines.text(" ")?;
-        lines.number(u64::from(*count))?;
+        lines.named(" ", u64::from(*count))?;
     }
     lines.end()
 }
@@ -265,14 +255,8 @@ fn put_end<W: Write>(
 ) -> io::Result<()> {
     match ended {
         Ok(Verdict::Good) => lines.text(" good"),
-        Ok(Verdict::Short(item)) => {
-            lines.text(" short ")?;
-            lines.number(item as u64)
-        }
-        Ok(Verdict::Over(item)) => {
-            lines.text(" over ")?;
-            lines.number(item as u64)
-        }
+        Ok(Verdict::Short(item)) => lines.named(" short ", item as u64),
+        Ok(Verdict::Over(item)) => lines.named(" over ", item as u64),
         Err(CycleFault::Port) => lines.text(" fault Port"),
         Err(CycleFault::Stranger) => lines.text(" fault Stranger"),
     }
@@ -300,14 +284,12 @@ fn tell_item<W: Write>(
     expected: &[u16],
     lines: &mut Lines<'_, W>,
 ) -> io::Result<()> {
-    lines.text("item ")?;
-    lines.number(number as u64)?;
+    lines.named("item ", number as u64)?;
     lines.text(" ")?;
     lines.text(item.kind().command().name())?;
     lines.text(" data ")?;
     lines.hex(item.data())?;
-    lines.text(" wkc ")?;
-    lines.number(u64::from(item.counter() % ROUND))?;
+    lines.named(" wkc ", u64::from(item.counter() % ROUND))?;
     lines.text(" of ")?;
     let wanted = match expected.get(number) {
         Some(wanted) => *wanted,
@@ -315,8 +297,7 @@ fn tell_item<W: Write>(
     };
     lines.number(u64::from(wanted))?;
     if item.kind() == Kind::Brd {
-        lines.text(" adp ")?;
-        lines.number(u64::from(item.adp()))?;
+        lines.named(" adp ", u64::from(item.adp()))?;
     }
     lines.end()
 }

@@ -25,8 +25,7 @@ pub fn state_name(state: AlState) -> &'static str {
 
 /// Puts a slave: its place on the line, and its station address.
 pub fn put_slave<W: Write>(place: u64, station: u16, lines: &mut Lines<'_, W>) -> io::Result<()> {
-    lines.text("slave ")?;
-    lines.number(place)?;
+    lines.named("slave ", place)?;
     lines.text(" (")?;
     lines.word(station)?;
     lines.text(")")
@@ -68,14 +67,8 @@ pub fn put_fault<W: Write>(fault: MasterFault, lines: &mut Lines<'_, W>) -> io::
 fn put_step<W: Write>(step: Step, wanted: &Wanted, lines: &mut Lines<'_, W>) -> io::Result<()> {
     match step {
         Step::Station | Step::StationBehind(_) | Step::StationBefore => lines.text("station"),
-        Step::SyncManager(number) => {
-            lines.text("sync manager ")?;
-            lines.number(u64::from(number))
-        }
-        Step::Fmmu(number) => {
-            lines.text("FMMU ")?;
-            lines.number(u64::from(number))
-        }
+        Step::SyncManager(number) => lines.named("sync manager ", u64::from(number)),
+        Step::Fmmu(number) => lines.named("FMMU ", u64::from(number)),
         Step::Startup(number) => {
             lines.text("startup object ")?;
             match wanted.startup_object(startup_number(number)) {
@@ -90,8 +83,7 @@ fn put_step<W: Write>(step: Step, wanted: &Wanted, lines: &mut Lines<'_, W>) -> 
 /// Puts which object a startup object is.
 fn put_object<W: Write>(object: StartupObject, lines: &mut Lines<'_, W>) -> io::Result<()> {
     lines.word(object.index)?;
-    lines.text(":")?;
-    lines.number(u64::from(object.sub))
+    lines.named(":", u64::from(object.sub))
 }
 
 /// Puts why a step failed. Where a startup object found no slave to be written to, it has no mailboxes.
@@ -159,8 +151,7 @@ pub fn put_cable<W: Write>(
 
 /// Puts the name of a link.
 fn put_link<W: Write>(link: usize, lines: &mut Lines<'_, W>) -> io::Result<()> {
-    lines.text("link ")?;
-    lines.number(link as u64)
+    lines.named("link ", link as u64)
 }
 
 /// Puts a link that is down, and what it lies between.
@@ -186,10 +177,8 @@ fn put_end<W: Write>(place: usize, line: &[Wanted], lines: &mut Lines<'_, W>) ->
 
 /// Puts two links that are down.
 fn put_two<W: Write>(first: usize, last: usize, lines: &mut Lines<'_, W>) -> io::Result<()> {
-    lines.text("links ")?;
-    lines.number(first as u64)?;
-    lines.text(" and ")?;
-    lines.number(last as u64)?;
+    lines.named("links ", first as u64)?;
+    lines.named(" and ", last as u64)?;
     lines.text(" down")
 }
 
@@ -203,13 +192,10 @@ fn put_cut_off<W: Write>(
         return Ok(());
     };
     if first == last {
-        lines.text(": slave ")?;
-        lines.number(first as u64)?;
+        lines.named(": slave ", first as u64)?;
     } else {
-        lines.text(": slaves ")?;
-        lines.number(first as u64)?;
-        lines.text("..")?;
-        lines.number(last as u64)?;
+        lines.named(": slaves ", first as u64)?;
+        lines.named("..", last as u64)?;
     }
     lines.text(" cut off (")?;
     put_stations(first, last, line, lines)?;

@@ -10,7 +10,7 @@ use crate::fault::{LineFault, Stop};
 use crate::number::{double_word, number, word};
 use crate::scene::Load;
 use crate::slave_lines::{load_of, state_of};
-use crate::words::{test_text, words_of};
+use crate::words::{test_text, text_of, words_of};
 use ec_regs::AlState;
 use ec_ring::Port;
 use std::alloc::Global;
@@ -73,7 +73,7 @@ pub enum BenchCommand {
 }
 
 /// Why a line is no command.
-#[derive(Clone, Copy, PartialEq, Eq, Debug)]
+#[derive(Clone, Copy, Debug)]
 pub enum CommandFault {
     /// The line is refused.
     Refused {
@@ -110,17 +110,19 @@ impl BenchCommand {
 
 /// The command of these words.
 fn command_of(alloc: Global, words: &[&[u8]]) -> Result<BenchCommand, CommandFault> {
-    match words {
-        [] => Ok(BenchCommand::Nothing),
-        [b"link", rest @ ..] => wanting("link K up|down", link(rest)),
-        [b"mem", rest @ ..] => wanting("mem SLAVE ADDRESS BYTES", load(alloc, rest)),
-        [b"state", rest @ ..] => wanting("state SLAVE 1|2|4|8", state(rest)),
-        [b"lose", rest @ ..] => wanting("lose A|B N", lose(rest)),
-        [b"unplug", rest @ ..] => wanting("unplug A|B", unplug(rest)),
-        [b"areas", rest @ ..] => wanting("areas", alone(rest, BenchCommand::Areas)),
-        [b"line", rest @ ..] => wanting("line", alone(rest, BenchCommand::Line)),
-        [b"counts", rest @ ..] => wanting("counts", alone(rest, BenchCommand::Counts)),
-        [b"quit", rest @ ..] => wanting("quit", alone(rest, BenchCommand::Quit)),
+    let [first, rest @ ..] = words else {
+        return Ok(BenchCommand::Nothing);
+    };
+    match text_of(first) {
+        "link" => wanting("link K up|down", link(rest)),
+        "mem" => wanting("mem SLAVE ADDRESS BYTES", load(alloc, rest)),
+        "state" => wanting("state SLAVE 1|2|4|8", state(rest)),
+        "lose" => wanting("lose A|B N", lose(rest)),
+        "unplug" => wanting("unplug A|B", unplug(rest)),
+        "areas" => wanting("areas", alone(rest, BenchCommand::Areas)),
+        "line" => wanting("line", alone(rest, BenchCommand::Line)),
+        "counts" => wanting("counts", alone(rest, BenchCommand::Counts)),
+        "quit" => wanting("quit", alone(rest, BenchCommand::Quit)),
         _ => wanting(
             "link, mem, state, lose, unplug, areas, line, counts or quit",
             Err(Stop::Fault(LineFault::UnknownWord)),
@@ -224,18 +226,18 @@ fn slave_of(spelling: &[u8], number: u64) -> Result<SlaveName, LineFault> {
 
 /// Is a link to be up?
 fn is_up(switch: &[u8]) -> Result<bool, LineFault> {
-    match switch {
-        b"up" => Ok(true),
-        b"down" => Ok(false),
+    match text_of(switch) {
+        "up" => Ok(true),
+        "down" => Ok(false),
         _ => Err(LineFault::BadNumber),
     }
 }
 
 /// The end of a line that a word names.
 fn end_of(end: &[u8]) -> Result<Port, LineFault> {
-    match end {
-        b"A" => Ok(Port::A),
-        b"B" => Ok(Port::B),
+    match text_of(end) {
+        "A" => Ok(Port::A),
+        "B" => Ok(Port::B),
         _ => Err(LineFault::BadNumber),
     }
 }

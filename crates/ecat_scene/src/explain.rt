@@ -2,7 +2,7 @@
 
 use crate::fault::LineFault;
 use crate::forms::{Form, forms_of};
-use crate::words::is_text;
+use crate::words::{is_text, text_of};
 use std::fmt;
 
 /// A word of a line, and the column of its first byte, from 1.
@@ -59,13 +59,7 @@ impl fmt::Display for Explanation<'_> {
         let word = self.word;
         let first = self.first;
         match self.reason {
-            Reason::Byte(byte) => {
-                let name = name_of(byte);
-                write!(
-                    f,
-                    "byte 0x{byte:02x}{name}; a scene is ASCII text, its lines end with LF"
-                )
-            }
+            Reason::Byte(byte) => write_byte(byte, f),
             Reason::Comment => write!(
                 f,
                 "a comment begins with # in column 1, on a line of its own"
@@ -73,18 +67,32 @@ impl fmt::Display for Explanation<'_> {
             Reason::Unknown => write!(f, "\"{word}\" is no word of a scene"),
             Reason::Count(usage) => write!(f, "the line wants to be {usage}"),
             Reason::NoSlave => write!(f, "{first} belongs to a slave; slave STATION begins one"),
-            Reason::Form(form) => {
-                let noun = form.noun();
-                let wanted = form.wanted();
-                write!(f, "\"{word}\" is {noun}; {first} wants {wanted}")
-            }
-            Reason::Range(form) => {
-                let wanted = form.wanted();
-                write!(f, "\"{word}\" is out of range; {first} wants {wanted}")
-            }
+            Reason::Form(form) => write_wanted(word, form.noun(), first, form, f),
+            Reason::Range(form) => write_wanted(word, "out of range", first, form, f),
             Reason::Told(what) => write!(f, "{what}"),
         }
     }
+}
+
+/// Writes of a byte that it is no text.
+fn write_byte<W: fmt::Write>(byte: u8, f: &mut fmt::Formatter<W>) -> fmt::Result {
+    let name = name_of(byte);
+    write!(
+        f,
+        "byte 0x{byte:02x}{name}; a scene is ASCII text, its lines end with LF"
+    )
+}
+
+/// Writes what a word is, and what the first word of its line wants in its place.
+fn write_wanted<W: fmt::Write>(
+    word: Word<'_>,
+    noun: &str,
+    first: Word<'_>,
+    form: Form,
+    f: &mut fmt::Formatter<W>,
+) -> fmt::Result {
+    let wanted = form.wanted();
+    write!(f, "\"{word}\" is {noun}; {first} wants {wanted}")
 }
 
 /// What a byte is that is no text, if it has a name.
@@ -224,29 +232,28 @@ fn outside<'a>(line: &'a [u8], first: Word<'a>) -> (Word<'a>, Reason) {
 
 /// What is out of range in a line with this first word, where each of its words is in its own.
 fn outside_of(first: &[u8]) -> &'static str {
-    match first {
-        b"mem" => "the bytes go past the process memory, which ends at 0x2FFF",
-        b"object" => "the value does not fit its size in bytes",
-        b"startup" => "an object is written with 1, 2 or 4 bytes",
-        b"link" | b"weather" => {
+    match text_of(first) {
+        "mem" => "the bytes go past the process memory, which ends at 0x2FFF",
+        "object" => "the value does not fit its size in bytes",
+        "startup" => "an object is written with 1, 2 or 4 bytes",
+        "link" | "weather" => {
             "the line has no such link; link 0 is before the first slave, and one is behind each"
         }
-        b"lrd" | b"lwr" | b"lrw" =>
-            "a logical item has 1 to 1486 bytes, and ends below 0x100000000",
-        b"brd" => "a broadcast read has 1 to 1486 bytes, and ends below 0x1000",
-        b"fprd" | b"fpwr" => "an addressed item has 1 to 1486 bytes, and ends at 0x2FFF",
+        "lrd" | "lwr" | "lrw" => "a logical item has 1 to 1486 bytes, and ends below 0x100000000",
+        "brd" => "a broadcast read has 1 to 1486 bytes, and ends below 0x1000",
+        "fprd" | "fpwr" => "an addressed item has 1 to 1486 bytes, and ends at 0x2FFF",
         _ => "a number is out of its range",
     }
 }
 
 /// How many lines of this first word a scene may have.
 fn most_of(first: &[u8]) -> &'static str {
-    match first {
-        b"slave" => "a scene has 256 slaves at most",
-        b"object" => "a slave has 32 objects at most",
-        b"startup" => "a slave has 16 startup objects at most",
-        b"frame" | b"step" => "a scene has 32 actions at most",
-        b"weather" => "a scene has 32 weathers at most",
+    match text_of(first) {
+        "slave" => "a scene has 256 slaves at most",
+        "object" => "a slave has 32 objects at most",
+        "startup" => "a slave has 16 startup objects at most",
+        "frame" | "step" => "a scene has 32 actions at most",
+        "weather" => "a scene has 32 weathers at most",
         _ => "a scene has 32 items at most",
     }
 }

@@ -57,7 +57,7 @@ pub enum SceneFault {
 }
 
 /// Why the reading of one line stops.
-#[derive(Clone, Copy, PartialEq, Eq, Debug)]
+#[derive(Clone, Copy)]
 pub(crate) enum Stop {
     /// The line is at fault.
     Fault(LineFault),

@@ -2,9 +2,10 @@
 //! words for a person.
 
 use crate::number::{number, test_bytes};
+use crate::words::text_of;
 
 /// What a word behind the first one of a line has to be.
-#[derive(Clone, Copy, PartialEq, Eq, Debug)]
+#[derive(Clone, Copy)]
 pub(crate) enum Form {
     /// A number, at most this one.
     Number(u64),
@@ -46,12 +47,12 @@ const LAST_RECORD: u64 = 7;
 
 /// The forms of the words that follow each first word of a scene, with the line as it is written.
 pub(crate) fn forms_of(first: &[u8]) -> Option<(&'static str, &'static [Form])> {
-    match first {
-        b"slave" => Some(("slave STATION", &[Form::Number(WORD)])),
-        b"simple" => Some(("simple", &[])),
-        b"state" => Some(("state S", &[Form::State])),
-        b"areas" => Some(("areas OUT IN", &[Form::Number(WORD), Form::Number(WORD)])),
-        b"sm" => Some((
+    match text_of(first) {
+        "slave" => Some(("slave STATION", &[Form::Number(WORD)])),
+        "simple" => Some(("simple", &[])),
+        "state" => Some(("state S", &[Form::State])),
+        "areas" => Some(("areas OUT IN", &[Form::Number(WORD), Form::Number(WORD)])),
+        "sm" => Some((
             "sm N START LENGTH KIND",
             &[
                 Form::Number(LAST_RECORD),
@@ -60,7 +61,7 @@ pub(crate) fn forms_of(first: &[u8]) -> Option<(&'static str, &'static [Form])> 
                 Form::SyncManager,
             ],
         )),
-        b"fmmu" => Some((
+        "fmmu" => Some((
             "fmmu N LOGICAL LENGTH START STOP PHYSICAL BIT TYPE",
             &[
                 Form::Number(LAST_RECORD),
@@ -73,8 +74,8 @@ pub(crate) fn forms_of(first: &[u8]) -> Option<(&'static str, &'static [Form])> 
                 Form::Fmmu,
             ],
         )),
-        b"mem" => Some(("mem ADDRESS BYTES", &[Form::Process, Form::Bytes])),
-        b"object" => Some((
+        "mem" => Some(("mem ADDRESS BYTES", &[Form::Process, Form::Bytes])),
+        "object" => Some((
             "object INDEX SUB SIZE RIGHTS VALUE",
             &[
                 Form::Number(WORD),
@@ -84,43 +85,43 @@ pub(crate) fn forms_of(first: &[u8]) -> Option<(&'static str, &'static [Form])> 
                 Form::Number(DOUBLE_WORD),
             ],
         )),
-        b"startup" => Some((
+        "startup" => Some((
             "startup INDEX SUB BYTES",
             &[Form::Number(WORD), Form::Number(BYTE), Form::Bytes],
         )),
-        b"mirror" => Some((
+        "mirror" => Some((
             "mirror IN OUT",
             &[Form::Number(LAST_RECORD), Form::Number(LAST_RECORD)],
         )),
-        b"count" => Some(("count IN", &[Form::Number(LAST_RECORD)])),
-        b"link" => Some(("link K down", &[Form::Link, Form::Down])),
-        b"frame" => Some(("frame BYTES", &[Form::Bytes])),
-        b"step" => Some(("step", &[])),
-        b"lrd" => Some((
+        "count" => Some(("count IN", &[Form::Number(LAST_RECORD)])),
+        "link" => Some(("link K down", &[Form::Link, Form::Down])),
+        "frame" => Some(("frame BYTES", &[Form::Bytes])),
+        "step" => Some(("step", &[])),
+        "lrd" => Some((
             "lrd ADDRESS BYTES",
             &[Form::Number(DOUBLE_WORD), Form::Bytes],
         )),
-        b"lwr" => Some((
+        "lwr" => Some((
             "lwr ADDRESS BYTES",
             &[Form::Number(DOUBLE_WORD), Form::Bytes],
         )),
-        b"lrw" => Some((
+        "lrw" => Some((
             "lrw ADDRESS BYTES",
             &[Form::Number(DOUBLE_WORD), Form::Bytes],
         )),
-        b"brd" => Some((
+        "brd" => Some((
             "brd ADDRESS BYTES",
             &[Form::Number(DOUBLE_WORD), Form::Bytes],
         )),
-        b"fprd" => Some((
+        "fprd" => Some((
             "fprd STATION ADDRESS BYTES",
             &[Form::Number(WORD), Form::Number(WORD), Form::Bytes],
         )),
-        b"fpwr" => Some((
+        "fpwr" => Some((
             "fpwr STATION ADDRESS BYTES",
             &[Form::Number(WORD), Form::Number(WORD), Form::Bytes],
         )),
-        b"weather" => Some((
+        "weather" => Some((
             "weather A B LOST FIRST",
             &[Form::Links, Form::Links, Form::Lost, Form::First],
         )),
@@ -136,16 +137,16 @@ impl Form {
                 number(word).is_ok()
             }
             Form::SyncManager => matches!(
-                word,
-                b"mailbox-write" | b"mailbox-read" | b"write" | b"read"
+                text_of(word),
+                "mailbox-write" | "mailbox-read" | "write" | "read"
             ),
-            Form::Fmmu => matches!(word, b"read" | b"write" | b"both"),
-            Form::Rights => matches!(word, b"ro" | b"wo" | b"rw"),
+            Form::Fmmu => matches!(text_of(word), "read" | "write" | "both"),
+            Form::Rights => matches!(text_of(word), "ro" | "wo" | "rw"),
             Form::Bytes => test_bytes(word).is_ok(),
-            Form::Down => word == b"down".as_slice(),
+            Form::Down => text_of(word) == "down",
             Form::Links => are_links(word),
-            Form::Lost => matches!(word, b"-" | b"a" | b"b" | b"ab"),
-            Form::First => matches!(word, b"a" | b"b"),
+            Form::Lost => matches!(text_of(word), "-" | "a" | "b" | "ab"),
+            Form::First => matches!(text_of(word), "a" | "b"),
         }
     }
 

@@ -4,7 +4,7 @@ use crate::fault::Stop;
 use crate::number::number;
 use crate::scene::StartupObject;
 use crate::slave_lines::{control_of, object_of, startup_of, sync_man_of};
-use crate::words::words_of;
+use crate::words::{text_of, words_of};
 use bitflags::Flags;
 use ec_app::Objects;
 use ec_app::roles::{
@@ -17,7 +17,7 @@ use std::alloc::{AllocError, Global};
 use std::fmt;
 
 /// What is odd about a line of a scene.
-#[derive(Clone, Copy, PartialEq, Eq, Debug)]
+#[derive(Clone, Copy)]
 enum Oddity {
     /// The sync manager was set before, in this line.
     SyncManagerAgain(usize),
@@ -45,8 +45,42 @@ enum Oddity {
     StartsOtherSize,
 }
 
+impl Oddity {
+    /// Where a line does anew what an earlier one did: of what, how it is called, and which line did it.
+    fn earlier(self) -> Option<(&'static str, &'static str, usize)> {
+        match self {
+            Oddity::SyncManagerAgain(line) => Some(("the sync manager is", "set", line)),
+            Oddity::FmmuAgain(line) => Some(("the FMMU is", "set", line)),
+            Oddity::AreasAgain(line) => Some(("the lengths are", "said", line)),
+            Oddity::StateAgain(line) => Some(("the state is", "said", line)),
+            _ => None,
+        }
+    }
+
+    /// What is odd, in a sentence that names no other line.
+    fn sentence(self) -> &'static str {
+        match self {
+            Oddity::NeverActive => "a sync manager of this length is never active",
+            Oddity::OutputsDiffer =>
+                "sync manager 2 is no area of so many outputs: Safe-Op is refused",
+            Oddity::InputsDiffer =>
+                "sync manager 3 is no area of so many inputs: Safe-Op is refused",
+            Oddity::NoMailboxes =>
+                "no object is reached without mailboxes at sync managers 0 and 1",
+            Oddity::StartsWithoutMailboxes => {
+                "no startup object is written without mailboxes at sync managers 0 and 1"
+            }
+            Oddity::StartsWithNone => "the slave has no object of this index and subindex",
+            Oddity::StartsReadOnly => "the object is read only: its write is aborted",
+            Oddity::StartsOtherSize =>
+                "the object has another number of bytes: its write is aborted",
+            _ => "an earlier line did this already",
+        }
+    }
+}
+
 /// One line of a scene that is accepted and yet seldom meant; it is printed as a sentence.
-#[derive(Clone, Copy, PartialEq, Eq, Debug)]
+#[derive(Clone, Copy)]
 pub struct OddLine {
     line: usize,
     slave: usize,
@@ -58,65 +92,16 @@ impl fmt::Display for OddLine {
         let line = self.line;
         let slave = self.slave;
         write!(f, "line {line}: slave {slave}: ")?;
-        match self.oddity {
-            Oddity::SyncManagerAgain(earlier) => {
+        match self.oddity.earlier() {
+            Some((what, done, earlier)) => {
                 write!(
                     f,
-                    "the sync manager is set in line {earlier} already, and set anew here"
+                    "{what} {done} in line {earlier} already, and {done} anew here"
                 )
             }
-            Oddity::FmmuAgain(earlier) => {
-                write!(
-                    f,
-                    "the FMMU is set in line {earlier} already, and set anew here"
-                )
-            }
-            Oddity::AreasAgain(earlier) => {
-                write!(
-                    f,
-                    "the lengths are said in line {earlier} already, and said anew here"
-                )
-            }
-            Oddity::StateAgain(earlier) => {
-                write!(
-                    f,
-                    "the state is said in line {earlier} already, and said anew here"
-                )
-            }
-            Oddity::NeverActive => write!(f, "a sync manager of this length is never active"),
-            Oddity::OutputsDiffer => {
-                write!(
-                    f,
-                    "sync manager 2 is no area of so many outputs: Safe-Op is refused"
-                )
-            }
-            Oddity::InputsDiffer => {
-                write!(
-                    f,
-                    "sync manager 3 is no area of so many inputs: Safe-Op is refused"
-                )
-            }
-            Oddity::NoMailboxes => {
-                write!(
-                    f,
-                    "no object is reached without mailboxes at sync managers 0 and 1"
-                )
-            }
-            Oddity::StartsWithoutMailboxes => {
-                write!(
-                    f,
-                    "no startup object is written without mailboxes at sync managers 0 and 1"
-                )
-            }
-            Oddity::StartsWithNone => {
-                write!(f, "the slave has no object of this index and subindex")
-            }
-            Oddity::StartsReadOnly => write!(f, "the object is read only: its write is aborted"),
-            Oddity::StartsOtherSize => {
-                write!(
-                    f,
-                    "the object has another number of bytes: its write is aborted"
-                )
+            None => {
+                let sentence = self.oddity.sentence();
+                write!(f, "{sentence}")
             }
         }
     }
@@ -226,18 +211,20 @@ impl Linter {
             return Ok(());
         }
         let words = words_of(self.alloc, line)?;
-        match words.as_slice() {
-            [b"slave", ..] => self.begin_slave(),
-            [b"sm", index, start, length, kind] => self.sync_manager(index, start, length, kind),
-            [b"fmmu", index, ..] => self.fmmu(index),
-            [b"areas", outputs, inputs] => self.areas(outputs, inputs),
-            [b"state", ..] => self.state(),
-            [b"object", index, sub, size, rights, value] => {
-                self.slave.of_object = self.line;
-                self.object(index, sub, size, rights, value);
+        let [first, rest @ ..] = words.as_slice() else {
+            return Ok(());
+        };
+        match text_of(first) {
+            "slave" => self.begin_slave(),
+            "sm" => self.sync_manager(rest),
+            "fmmu" => self.fmmu(rest),
+            "areas" => self.areas(rest),
+            "state" => self.state(),
+            "object" => {
+                self.object(rest);
                 Ok(())
             }
-            [b"startup", index, sub, row] => self.startup(index, sub, row),
+            "startup" => self.startup(rest),
             _ => Ok(()),
         }
     }
@@ -300,14 +287,21 @@ impl Linter {
     }
 
     /// `object INDEX SUB SIZE RIGHTS VALUE`
-    fn object(&mut self, index: &[u8], sub: &[u8], size: &[u8], rights: &[u8], value: &[u8]) {
+    fn object(&mut self, words: &[&[u8]]) {
+        let [index, sub, size, rights, value] = words else {
+            return;
+        };
+        self.slave.of_object = self.line;
         if let Ok((index, sub, rights, value)) = object_of(index, sub, size, rights, value) {
             let _ = self.slave.objects.add(index, sub, rights, value);
         }
     }
 
     /// `startup INDEX SUB BYTES`
-    fn startup(&mut self, index: &[u8], sub: &[u8], row: &[u8]) -> Result<(), AllocError> {
+    fn startup(&mut self, words: &[&[u8]]) -> Result<(), AllocError> {
+        let [index, sub, row] = words else {
+            return Ok(());
+        };
         let line = self.line;
         match startup_of(self.alloc, index, sub, row) {
             Ok(object) => {
@@ -320,13 +314,10 @@ impl Linter {
     }
 
     /// `sm N START LENGTH KIND`
-    fn sync_manager(
-        &mut self,
-        index: &[u8],
-        start: &[u8],
-        length: &[u8],
-        kind: &[u8],
-    ) -> Result<(), AllocError> {
+    fn sync_manager(&mut self, words: &[&[u8]]) -> Result<(), AllocError> {
+        let [index, start, length, kind] = words else {
+            return Ok(());
+        };
         let (Ok(index), Ok(start), Ok(length), Ok(control)) = (
             number(index),
             number(start),
@@ -354,7 +345,10 @@ impl Linter {
     }
 
     /// `fmmu N ..`
-    fn fmmu(&mut self, index: &[u8]) -> Result<(), AllocError> {
+    fn fmmu(&mut self, words: &[&[u8]]) -> Result<(), AllocError> {
+        let [index, ..] = words else {
+            return Ok(());
+        };
         let Ok(index) = number(index) else {
             return Ok(());
         };
@@ -370,7 +364,10 @@ impl Linter {
     }
 
     /// `areas OUT IN`
-    fn areas(&mut self, outputs: &[u8], inputs: &[u8]) -> Result<(), AllocError> {
+    fn areas(&mut self, words: &[&[u8]]) -> Result<(), AllocError> {
+        let [outputs, inputs] = words else {
+            return Ok(());
+        };
         let (Ok(outputs), Ok(inputs)) = (number(outputs), number(inputs)) else {
             return Ok(());
         };

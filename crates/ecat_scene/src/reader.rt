@@ -5,7 +5,7 @@ ghost use Rattle.ecat_scene.specs.declared.fault.SceneFault.TheVariants.{TooLong
 
 use crate::fault::{LineFault, SceneFault, Stop};
 use crate::scene::Scene;
-use crate::words::{test_text, words_of};
+use crate::words::{test_text, text_of, words_of};
 use ec_map::Kind;
 use std::alloc::Global;
 
@@ -100,29 +100,31 @@ impl Reader {
             return Ok(());
         }
         let words = words_of(self.alloc, line)?;
-        match words.as_slice() {
-            [] => Ok(()),
-            [b"slave", rest @ ..] => self.slave(rest),
-            [b"state", rest @ ..] => self.state(rest),
-            [b"areas", rest @ ..] => self.areas(rest),
-            [b"simple", rest @ ..] => self.simple(rest),
-            [b"mirror", rest @ ..] => self.mirror(rest),
-            [b"count", rest @ ..] => self.count(rest),
-            [b"sm", rest @ ..] => self.sync_manager(rest),
-            [b"fmmu", rest @ ..] => self.fmmu(rest),
-            [b"mem", rest @ ..] => self.load(rest),
-            [b"object", rest @ ..] => self.object(rest),
-            [b"startup", rest @ ..] => self.startup(rest),
-            [b"link", rest @ ..] => self.link(rest),
-            [b"frame", rest @ ..] => self.frame(rest),
-            [b"step", rest @ ..] => self.step(rest),
-            [b"lrd", rest @ ..] => self.item(Kind::Lrd, rest),
-            [b"lwr", rest @ ..] => self.item(Kind::Lwr, rest),
-            [b"lrw", rest @ ..] => self.item(Kind::Lrw, rest),
-            [b"brd", rest @ ..] => self.item(Kind::Brd, rest),
-            [b"fprd", rest @ ..] => self.addressed_item(Kind::Fprd, rest),
-            [b"fpwr", rest @ ..] => self.addressed_item(Kind::Fpwr, rest),
-            [b"weather", rest @ ..] => self.weather(rest),
+        let [first, rest @ ..] = words.as_slice() else {
+            return Ok(());
+        };
+        match text_of(first) {
+            "slave" => self.slave(rest),
+            "state" => self.state(rest),
+            "areas" => self.areas(rest),
+            "simple" => self.simple(rest),
+            "mirror" => self.mirror(rest),
+            "count" => self.count(rest),
+            "sm" => self.sync_manager(rest),
+            "fmmu" => self.fmmu(rest),
+            "mem" => self.load(rest),
+            "object" => self.object(rest),
+            "startup" => self.startup(rest),
+            "link" => self.link(rest),
+            "frame" => self.frame(rest),
+            "step" => self.step(rest),
+            "lrd" => self.item(Kind::Lrd, rest),
+            "lwr" => self.item(Kind::Lwr, rest),
+            "lrw" => self.item(Kind::Lrw, rest),
+            "brd" => self.item(Kind::Brd, rest),
+            "fprd" => self.addressed_item(Kind::Fprd, rest),
+            "fpwr" => self.addressed_item(Kind::Fpwr, rest),
+            "weather" => self.weather(rest),
             _ => Err(Stop::Fault(LineFault::UnknownWord)),
         }
     }

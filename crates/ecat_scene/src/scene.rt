@@ -30,7 +30,7 @@ pub const MAX_WEATHERS: usize = 32;
 pub const MAX_STARTUP: usize = 16;
 
 /// The record of one sync manager.
-#[derive(Debug, Drop)]
+#[derive(Drop)]
 pub struct SyncManSetting {
     /// The number of the record, 0 to 7.
     pub index: usize,
@@ -40,7 +40,7 @@ pub struct SyncManSetting {
 }
 
 /// The record of one FMMU.
-#[derive(Debug, Drop)]
+#[derive(Drop)]
 pub struct FmmuSetting {
     /// The number of the record, 0 to 7.
     pub index: usize,
@@ -50,7 +50,7 @@ pub struct FmmuSetting {
 }
 
 /// Bytes for the process memory.
-#[derive(Debug, Drop)]
+#[derive(Drop)]
 pub struct Load {
     /// Where the bytes go.
     pub address: u16,
@@ -61,7 +61,7 @@ pub struct Load {
 }
 
 /// One line that sets up a slave's controller.
-#[derive(Debug, Drop)]
+#[derive(Drop)]
 pub enum Setting {
     /// `sm`: a sync manager.
     SyncMan(SyncManSetting),

@@ -10,6 +10,7 @@ use crate::reader::Reader;
 use crate::scene::{
     FmmuSetting, Load, MAX_SLAVES, MAX_STARTUP, SceneSlave, Setting, StartupObject, SyncManSetting,
 };
+use crate::words::text_of;
 use bitflags::Flags;
 use ec_app::{ObjectFault, Objects, Rights, Value};
 use ec_process::Behaviour;
@@ -155,14 +156,8 @@ impl Reader {
             return Err(Stop::Fault(LineFault::WrongCount));
         };
         self.test_slave()?;
-        let index = number(index)?;
-        let start = number(start)?;
-        let length = number(length)?;
-        let control = control_of(kind)?;
-        let index = index_of(index, SYNC_MANAGER_COUNT)?;
-        let record = sync_man_of(start, length, control.bits())?;
-        let setting = Setting::SyncMan(SyncManSetting { index, record });
-        self.last_slave()?.settings.push(setting)?;
+        let setting = sync_man_setting(index, start, length, kind)?;
+        self.last_slave()?.settings.push(Setting::SyncMan(setting))?;
         Ok(())
     }
 
@@ -174,18 +169,8 @@ impl Reader {
             return Err(Stop::Fault(LineFault::WrongCount));
         };
         self.test_slave()?;
-        let index = number(index)?;
-        let logical = number(logical)?;
-        let length = number(length)?;
-        let start = number(start)?;
-        let stop = number(stop)?;
-        let physical = number(physical)?;
-        let bit = number(bit)?;
-        let kind = type_of(kind)?;
-        let index = index_of(index, FMMU_COUNT)?;
-        let record = fmmu_of(logical, length, start, stop, physical, bit, kind.bits())?;
-        let setting = Setting::Fmmu(FmmuSetting { index, record });
-        self.last_slave()?.settings.push(setting)?;
+        let setting = fmmu_setting(index, logical, length, start, stop, physical, bit, kind)?;
+        self.last_slave()?.settings.push(Setting::Fmmu(setting))?;
         Ok(())
     }
 
@@ -234,6 +219,46 @@ impl Reader {
         slave.startup.push(object)?;
         Ok(())
     }
+}
+
+/// The setting of a sync manager of these words.
+fn sync_man_setting(
+    index: &[u8],
+    start: &[u8],
+    length: &[u8],
+    kind: &[u8],
+) -> Result<SyncManSetting, LineFault> {
+    let index = number(index)?;
+    let start = number(start)?;
+    let length = number(length)?;
+    let control = control_of(kind)?;
+    let index = index_of(index, SYNC_MANAGER_COUNT)?;
+    let record = sync_man_of(start, length, control.bits())?;
+    Ok(SyncManSetting { index, record })
+}
+
+/// The setting of an FMMU of these words.
+fn fmmu_setting(
+    index: &[u8],
+    logical: &[u8],
+    length: &[u8],
+    start: &[u8],
+    stop: &[u8],
+    physical: &[u8],
+    bit: &[u8],
+    kind: &[u8],
+) -> Result<FmmuSetting, LineFault> {
+    let index = number(index)?;
+    let logical = number(logical)?;
+    let length = number(length)?;
+    let start = number(start)?;
+    let stop = number(stop)?;
+    let physical = number(physical)?;
+    let bit = number(bit)?;
+    let kind = type_of(kind)?;
+    let index = index_of(index, FMMU_COUNT)?;
+    let record = fmmu_of(logical, length, start, stop, physical, bit, kind.bits())?;
+    Ok(FmmuSetting { index, record })
 }
 
 /// The index, the subindex, the rights and the value of an object of these words.
@@ -347,21 +372,21 @@ fn fmmu_of(
 
 /// What a sync manager of a kind may do.
 pub(crate) fn control_of(kind: &[u8]) -> Result<SyncManControl, LineFault> {
-    match kind {
-        b"mailbox-write" => Ok(SyncManControl::MAILBOX.union(SyncManControl::WRITE)),
-        b"mailbox-read" => Ok(SyncManControl::MAILBOX),
-        b"write" => Ok(SyncManControl::WRITE),
-        b"read" => Ok(SyncManControl::empty()),
+    match text_of(kind) {
+        "mailbox-write" => Ok(SyncManControl::MAILBOX.union(SyncManControl::WRITE)),
+        "mailbox-read" => Ok(SyncManControl::MAILBOX),
+        "write" => Ok(SyncManControl::WRITE),
+        "read" => Ok(SyncManControl::empty()),
         _ => Err(LineFault::BadNumber),
     }
 }
 
 /// What the master does through an FMMU.
 fn type_of(kind: &[u8]) -> Result<FmmuType, LineFault> {
-    match kind {
-        b"read" => Ok(FmmuType::READ),
-        b"write" => Ok(FmmuType::WRITE),
-        b"both" => Ok(FmmuType::READ.union(FmmuType::WRITE)),
+    match text_of(kind) {
+        "read" => Ok(FmmuType::READ),
+        "write" => Ok(FmmuType::WRITE),
+        "both" => Ok(FmmuType::READ.union(FmmuType::WRITE)),
         _ => Err(LineFault::BadNumber),
     }
 }
@@ -379,10 +404,10 @@ fn index_of(number: u64, count: usize) -> Result<usize, LineFault>
 
 /// What the master may do with an object.
 fn rights_of(rights: &[u8]) -> Result<Rights, LineFault> {
-    match rights {
-        b"ro" => Ok(Rights::ReadOnly),
-        b"wo" => Ok(Rights::WriteOnly),
-        b"rw" => Ok(Rights::Both),
+    match text_of(rights) {
+        "ro" => Ok(Rights::ReadOnly),
+        "wo" => Ok(Rights::WriteOnly),
+        "rw" => Ok(Rights::Both),
         _ => Err(LineFault::BadNumber),
     }
 }

@@ -136,26 +136,34 @@ fn the_four_kinds_and_three_types_are_known(rt: HostRuntime) {
 
 #[test]
 fn bytes_that_are_no_text_come_first(rt: HostRuntime) {
-    refused(&rt, b"slave 1\r\n", 1, LineFault::NotText);
-    refused(&rt, b"slave 1\n# \x7f", 2, LineFault::NotText);
-    refused(&rt, b"\tslave", 1, LineFault::NotText);
-    refused(&rt, b"nothing \xc3\xa9", 1, LineFault::NotText);
+    for (text, line) in [
+        ("slave 1\r\n", 1),
+        ("slave 1\n# \x7f", 2),
+        ("\tslave", 1),
+        ("nothing \u{e9}", 1),
+    ] {
+        refused(&rt, text.as_bytes(), line, LineFault::NotText);
+    }
 }
 
 #[test]
 fn unknown_words_are_refused(rt: HostRuntime) {
-    refused(&rt, b"\nslaves 1 2 3", 2, LineFault::UnknownWord);
-    refused(&rt, b"links 0 down", 1, LineFault::UnknownWord);
-    refused(&rt, b"SLAVE 1", 1, LineFault::UnknownWord);
+    for (text, line) in [("\nslaves 1 2 3", 2), ("links 0 down", 1), ("SLAVE 1", 1)] {
+        refused(&rt, text.as_bytes(), line, LineFault::UnknownWord);
+    }
 }
 
 #[test]
 fn words_are_counted_before_they_are_read(rt: HostRuntime) {
-    refused(&rt, b"slave", 1, LineFault::WrongCount);
-    refused(&rt, b"slave x y", 1, LineFault::WrongCount);
-    refused(&rt, b"sm 3", 1, LineFault::WrongCount);
-    refused(&rt, b"fmmu 0 0 1 0 7 0x1000 0", 1, LineFault::WrongCount);
-    refused(&rt, b"mem 0x1000", 1, LineFault::WrongCount);
+    for (text, line) in [
+        ("slave", 1),
+        ("slave x y", 1),
+        ("sm 3", 1),
+        ("fmmu 0 0 1 0 7 0x1000 0", 1),
+        ("mem 0x1000", 1),
+    ] {
+        refused(&rt, text.as_bytes(), line, LineFault::WrongCount);
+    }
     let text =
         b"slave 0x1001\nsm 3 0x1100 1 read\nfmmu 0 0x10000 1 0 7 0x1100 0 read\nmem 0x1100 12\n\
         frame 0d100a0000000100010000000000 00";
@@ -164,76 +172,48 @@ fn words_are_counted_before_they_are_read(rt: HostRuntime) {
 
 #[test]
 fn what_belongs_to_a_slave_needs_one(rt: HostRuntime) {
-    refused(&rt, b"sm x y z kind", 1, LineFault::NoSlave);
-    refused(&rt, b"fmmu 0 0 1 0 7 0x1000 0 read", 1, LineFault::NoSlave);
-    refused(&rt, b"mem 0x1000 00\nslave 1", 1, LineFault::NoSlave);
+    for (text, line) in [
+        ("sm x y z kind", 1),
+        ("fmmu 0 0 1 0 7 0x1000 0 read", 1),
+        ("mem 0x1000 00\nslave 1", 1),
+    ] {
+        refused(&rt, text.as_bytes(), line, LineFault::NoSlave);
+    }
 }
 
 #[test]
 fn numbers_and_names_have_their_form(rt: HostRuntime) {
-    refused(&rt, b"slave 0x", 1, LineFault::BadNumber);
-    refused(&rt, b"slave 0X1", 1, LineFault::BadNumber);
-    refused(&rt, b"slave +1", 1, LineFault::BadNumber);
-    refused(&rt, b"slave 1a", 1, LineFault::BadNumber);
-    refused(
-        &rt,
-        b"slave 99999999999999999999999999x",
-        1,
-        LineFault::BadNumber,
-    );
-    refused(
-        &rt,
-        b"slave 1\nsm 9 0x1100 70000 Read",
-        2,
-        LineFault::BadNumber,
-    );
-    refused(
-        &rt,
-        b"slave 1\nfmmu 9 0 1 0 7 0x1100 0 reads",
-        2,
-        LineFault::BadNumber,
-    );
-    refused(&rt, b"slave 1\nmem 0 123", 2, LineFault::BadNumber);
-    refused(&rt, b"slave 1\nmem 0 1g", 2, LineFault::BadNumber);
-    refused(&rt, b"frame 0", 1, LineFault::BadNumber);
+    for (text, line) in [
+        ("slave 0x", 1),
+        ("slave 0X1", 1),
+        ("slave +1", 1),
+        ("slave 1a", 1),
+        ("slave 99999999999999999999999999x", 1),
+        ("slave 1\nsm 9 0x1100 70000 Read", 2),
+        ("slave 1\nfmmu 9 0 1 0 7 0x1100 0 reads", 2),
+        ("slave 1\nmem 0 123", 2),
+        ("slave 1\nmem 0 1g", 2),
+        ("frame 0", 1),
+    ] {
+        refused(&rt, text.as_bytes(), line, LineFault::BadNumber);
+    }
 }
 
 #[test]
 fn values_lie_in_their_range(rt: HostRuntime) {
-    refused(&rt, b"slave 65536", 1, LineFault::OutOfRange);
-    refused(
-        &rt,
-        b"slave 99999999999999999999999999",
-        1,
-        LineFault::OutOfRange,
-    );
-    refused(
-        &rt,
-        b"slave 1\nsm 8 0x1100 1 read",
-        2,
-        LineFault::OutOfRange,
-    );
-    refused(
-        &rt,
-        b"slave 1\nsm 3 0x1100 65536 read",
-        2,
-        LineFault::OutOfRange,
-    );
-    refused(
-        &rt,
-        b"slave 1\nfmmu 0 0x100000000 1 0 7 0 0 read",
-        2,
-        LineFault::OutOfRange,
-    );
-    refused(
-        &rt,
-        b"slave 1\nfmmu 0 0 1 256 7 0 0 read",
-        2,
-        LineFault::OutOfRange,
-    );
-    refused(&rt, b"slave 1\nmem 0x0fff 00", 2, LineFault::OutOfRange);
-    refused(&rt, b"slave 1\nmem 0x2fff 0000", 2, LineFault::OutOfRange);
-    refused(&rt, b"slave 1\nmem 65536 00", 2, LineFault::OutOfRange);
+    for (text, line) in [
+        ("slave 65536", 1),
+        ("slave 99999999999999999999999999", 1),
+        ("slave 1\nsm 8 0x1100 1 read", 2),
+        ("slave 1\nsm 3 0x1100 65536 read", 2),
+        ("slave 1\nfmmu 0 0x100000000 1 0 7 0 0 read", 2),
+        ("slave 1\nfmmu 0 0 1 256 7 0 0 read", 2),
+        ("slave 1\nmem 0x0fff 00", 2),
+        ("slave 1\nmem 0x2fff 0000", 2),
+        ("slave 1\nmem 65536 00", 2),
+    ] {
+        refused(&rt, text.as_bytes(), line, LineFault::OutOfRange);
+    }
     if let Some(scene) = taken(&rt, b"slave 0xFfFf\nmem 0x2fff 00") {
         assert_eq!(rt; scene.slaves.len(), 1);
         assert_same(&rt, scene.slaves[0].station, 0xffff);

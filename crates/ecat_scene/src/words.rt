@@ -42,3 +42,12 @@ pub(crate) fn words_of<'a>(alloc: Global, line: &'a [u8]) -> Result<Vec<&'a [u8]
     }
     Ok(words)
 }
+
+/// A word as text, to be compared with the words of a scene; where it is no text an empty one, which none of
+/// those is.
+pub(crate) fn text_of(word: &[u8]) -> &str {
+    match str::from_utf8(word) {
+        Ok(text) => text,
+        Err(_) => "",
+    }
+}

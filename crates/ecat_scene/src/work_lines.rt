@@ -4,6 +4,7 @@ use crate::fault::{LineFault, Stop};
 use crate::number::{bytes, double_word, number, test_bytes, word};
 use crate::reader::{NamedLink, Reader};
 use crate::scene::{Action, MAX_ACTIONS, MAX_ITEMS, MAX_WEATHERS, SceneWeather};
+use crate::words::text_of;
 use ec_map::{Item, Kind};
 use ec_wire::{Form, FrameBuf, address_of};
 use std::alloc::Global;
@@ -152,20 +153,20 @@ fn links_of(alloc: Global, list: &[u8]) -> Result<Vec<u64>, Stop> {
 
 /// Which copies are lost: `-`, `a`, `b` or `ab`.
 fn losses_of(lost: &[u8]) -> Result<Losses, LineFault> {
-    match lost {
-        b"-" => Ok(Losses {
+    match text_of(lost) {
+        "-" => Ok(Losses {
             of_a: false,
             of_b: false,
         }),
-        b"a" => Ok(Losses {
+        "a" => Ok(Losses {
             of_a: true,
             of_b: false,
         }),
-        b"b" => Ok(Losses {
+        "b" => Ok(Losses {
             of_a: false,
             of_b: true,
         }),
-        b"ab" => Ok(Losses {
+        "ab" => Ok(Losses {
             of_a: true,
             of_b: true,
         }),
@@ -175,9 +176,9 @@ fn losses_of(lost: &[u8]) -> Result<Losses, LineFault> {
 
 /// Does the copy of port B go first: `a` or `b`?
 fn is_b_first(first: &[u8]) -> Result<bool, LineFault> {
-    match first {
-        b"a" => Ok(false),
-        b"b" => Ok(true),
+    match text_of(first) {
+        "a" => Ok(false),
+        "b" => Ok(true),
         _ => Err(LineFault::BadNumber),
     }
 }

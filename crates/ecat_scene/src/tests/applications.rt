@@ -22,8 +22,12 @@ fn a_slave_is_simple_where_its_line_says_so(rt: HostRuntime) {
         (first.simple, second.simple, third.simple),
         (true, false, true),
     );
-    refused(&rt, b"simple", 1, LineFault::NoSlave);
-    refused(&rt, b"slave 1\nsimple 1", 2, LineFault::WrongCount);
+    for (text, line, fault) in [
+        ("simple", 1, LineFault::NoSlave),
+        ("slave 1\nsimple 1", 2, LineFault::WrongCount),
+    ] {
+        refused(&rt, text.as_bytes(), line, fault);
+    }
 }
 
 #[test]
@@ -44,31 +48,38 @@ fn an_application_does_what_its_lines_say_in_their_order(rt: HostRuntime) {
 
 #[test]
 fn a_sync_manager_has_a_number_below_eight(rt: HostRuntime) {
-    refused(&rt, b"slave 1\nmirror 8 2", 2, LineFault::OutOfRange);
-    refused(&rt, b"slave 1\nmirror 3 8", 2, LineFault::OutOfRange);
-    refused(&rt, b"slave 1\ncount 8", 2, LineFault::OutOfRange);
-    refused(&rt, b"slave 1\nmirror 8 x", 2, LineFault::BadNumber);
-    refused(&rt, b"slave 1\ncount in", 2, LineFault::BadNumber);
+    for (text, line, fault) in [
+        ("slave 1\nmirror 8 2", 2, LineFault::OutOfRange),
+        ("slave 1\nmirror 3 8", 2, LineFault::OutOfRange),
+        ("slave 1\ncount 8", 2, LineFault::OutOfRange),
+        ("slave 1\nmirror 8 x", 2, LineFault::BadNumber),
+        ("slave 1\ncount in", 2, LineFault::BadNumber),
+    ] {
+        refused(&rt, text.as_bytes(), line, fault);
+    }
 }
 
 #[test]
 fn a_line_of_an_application_has_its_words_and_its_slave(rt: HostRuntime) {
-    refused(&rt, b"slave 1\nmirror 3", 2, LineFault::WrongCount);
-    refused(&rt, b"slave 1\nmirror 3 2 1", 2, LineFault::WrongCount);
-    refused(&rt, b"slave 1\ncount", 2, LineFault::WrongCount);
-    refused(&rt, b"mirror x y", 1, LineFault::NoSlave);
-    refused(&rt, b"count 9", 1, LineFault::NoSlave);
+    for (text, line, fault) in [
+        ("slave 1\nmirror 3", 2, LineFault::WrongCount),
+        ("slave 1\nmirror 3 2 1", 2, LineFault::WrongCount),
+        ("slave 1\ncount", 2, LineFault::WrongCount),
+        ("mirror x y", 1, LineFault::NoSlave),
+        ("count 9", 1, LineFault::NoSlave),
+    ] {
+        refused(&rt, text.as_bytes(), line, fault);
+    }
 }
 
 #[test]
 fn inputs_are_put_by_one_line(rt: HostRuntime) {
-    refused(&rt, b"slave 1\nmirror 3 2\nmirror 3 4", 3, LineFault::Twin);
-    refused(&rt, b"slave 1\nmirror 3 2\ncount 3", 3, LineFault::Twin);
-    refused(&rt, b"slave 1\ncount 3\ncount 3", 3, LineFault::Twin);
-    refused(
-        &rt,
-        b"slave 1\ncount 3\nmirror 3 9",
-        3,
-        LineFault::OutOfRange,
-    );
+    for (text, line, fault) in [
+        ("slave 1\nmirror 3 2\nmirror 3 4", 3, LineFault::Twin),
+        ("slave 1\nmirror 3 2\ncount 3", 3, LineFault::Twin),
+        ("slave 1\ncount 3\ncount 3", 3, LineFault::Twin),
+        ("slave 1\ncount 3\nmirror 3 9", 3, LineFault::OutOfRange),
+    ] {
+        refused(&rt, text.as_bytes(), line, fault);
+    }
 }

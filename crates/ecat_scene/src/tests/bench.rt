@@ -117,28 +117,36 @@ fn some_commands_are_one_word(rt: HostRuntime) {
 
 #[test]
 fn a_line_has_text_a_known_word_and_its_words(rt: HostRuntime) {
-    refused(&rt, b"links\x07", LineFault::NotText);
-    refused(&rt, b"links", LineFault::UnknownWord);
-    refused(&rt, b"slave 1", LineFault::UnknownWord);
-    refused(&rt, b"link x", LineFault::WrongCount);
-    refused(&rt, b"mem 0 0x1000", LineFault::WrongCount);
-    refused(&rt, b"state 0", LineFault::WrongCount);
-    refused(&rt, b"lose A", LineFault::WrongCount);
-    refused(&rt, b"unplug A B", LineFault::WrongCount);
-    refused(&rt, b"quit now", LineFault::WrongCount);
+    for (text, fault) in [
+        ("links\x07", LineFault::NotText),
+        ("links", LineFault::UnknownWord),
+        ("slave 1", LineFault::UnknownWord),
+        ("link x", LineFault::WrongCount),
+        ("mem 0 0x1000", LineFault::WrongCount),
+        ("state 0", LineFault::WrongCount),
+        ("lose A", LineFault::WrongCount),
+        ("unplug A B", LineFault::WrongCount),
+        ("quit now", LineFault::WrongCount),
+    ] {
+        refused(&rt, text.as_bytes(), fault);
+    }
 }
 
 #[test]
 fn forms_come_before_ranges(rt: HostRuntime) {
-    refused(&rt, b"link 1 open", LineFault::BadNumber);
-    refused(&rt, b"link -1 up", LineFault::BadNumber);
-    refused(&rt, b"mem 0x10000 0x1000 0", LineFault::BadNumber);
-    refused(&rt, b"state 0x10000 y", LineFault::BadNumber);
-    refused(&rt, b"lose C 4294967296", LineFault::BadNumber);
-    refused(&rt, b"unplug a", LineFault::BadNumber);
-    refused(&rt, b"mem 0x10000 0x1000 00", LineFault::OutOfRange);
-    refused(&rt, b"mem 0 0x0fff 00", LineFault::OutOfRange);
-    refused(&rt, b"mem 0 0x2fff 0000", LineFault::OutOfRange);
-    refused(&rt, b"state 0 3", LineFault::OutOfRange);
-    refused(&rt, b"lose B 4294967296", LineFault::OutOfRange);
+    for (text, fault) in [
+        ("link 1 open", LineFault::BadNumber),
+        ("link -1 up", LineFault::BadNumber),
+        ("mem 0x10000 0x1000 0", LineFault::BadNumber),
+        ("state 0x10000 y", LineFault::BadNumber),
+        ("lose C 4294967296", LineFault::BadNumber),
+        ("unplug a", LineFault::BadNumber),
+        ("mem 0x10000 0x1000 00", LineFault::OutOfRange),
+        ("mem 0 0x0fff 00", LineFault::OutOfRange),
+        ("mem 0 0x2fff 0000", LineFault::OutOfRange),
+        ("state 0 3", LineFault::OutOfRange),
+        ("lose B 4294967296", LineFault::OutOfRange),
+    ] {
+        refused(&rt, text.as_bytes(), fault);
+    }
 }

@@ -56,12 +56,16 @@ fn each_slave_has_its_own_lines(rt: HostRuntime) {
 
 #[test]
 fn states_are_four(rt: HostRuntime) {
-    refused(&rt, b"slave 1\nstate 3", 2, LineFault::OutOfRange);
-    refused(&rt, b"slave 1\nstate 0", 2, LineFault::OutOfRange);
-    refused(&rt, b"slave 1\nstate 258", 2, LineFault::OutOfRange);
-    refused(&rt, b"slave 1\nstate op", 2, LineFault::BadNumber);
-    refused(&rt, b"state 8", 1, LineFault::NoSlave);
-    refused(&rt, b"state", 1, LineFault::WrongCount);
+    for (text, line, fault) in [
+        ("slave 1\nstate 3", 2, LineFault::OutOfRange),
+        ("slave 1\nstate 0", 2, LineFault::OutOfRange),
+        ("slave 1\nstate 258", 2, LineFault::OutOfRange),
+        ("slave 1\nstate op", 2, LineFault::BadNumber),
+        ("state 8", 1, LineFault::NoSlave),
+        ("state", 1, LineFault::WrongCount),
+    ] {
+        refused(&rt, text.as_bytes(), line, fault);
+    }
     if let Some(scene) = taken(&rt, b"slave 1\nstate 1") {
         assert_eq!(rt; scene.slaves.len(), 1);
         assert_same(&rt, scene.slaves[0].state, AlState::Init);
@@ -97,52 +101,25 @@ fn objects_have_sizes_and_rights(rt: HostRuntime) {
 
 #[test]
 fn an_object_fits_its_fields(rt: HostRuntime) {
-    refused(
-        &rt,
-        b"slave 1\nobject 65536 1 1 ro 0",
-        2,
-        LineFault::OutOfRange,
-    );
-    refused(
-        &rt,
-        b"slave 1\nobject 1 256 1 ro 0",
-        2,
-        LineFault::OutOfRange,
-    );
-    refused(&rt, b"slave 1\nobject 1 1 3 ro 0", 2, LineFault::OutOfRange);
-    refused(&rt, b"slave 1\nobject 1 1 0 ro 0", 2, LineFault::OutOfRange);
-    refused(
-        &rt,
-        b"slave 1\nobject 1 1 1 ro 256",
-        2,
-        LineFault::OutOfRange,
-    );
-    refused(
-        &rt,
-        b"slave 1\nobject 1 1 2 ro 65536",
-        2,
-        LineFault::OutOfRange,
-    );
-    refused(
-        &rt,
-        b"slave 1\nobject 1 1 4 ro 0x100000000",
-        2,
-        LineFault::OutOfRange,
-    );
-    refused(
-        &rt,
-        b"slave 1\nobject 65536 1 1 or 0",
-        2,
-        LineFault::BadNumber,
-    );
-    refused(
-        &rt,
-        b"slave 1\nobject 65536 1 1 ro x",
-        2,
-        LineFault::BadNumber,
-    );
-    refused(&rt, b"object 1 1 1 ro", 1, LineFault::WrongCount);
-    refused(&rt, b"object x 1 1 ro 1", 1, LineFault::NoSlave);
+    for (text, line, fault) in [
+        ("slave 1\nobject 65536 1 1 ro 0", 2, LineFault::OutOfRange),
+        ("slave 1\nobject 1 256 1 ro 0", 2, LineFault::OutOfRange),
+        ("slave 1\nobject 1 1 3 ro 0", 2, LineFault::OutOfRange),
+        ("slave 1\nobject 1 1 0 ro 0", 2, LineFault::OutOfRange),
+        ("slave 1\nobject 1 1 1 ro 256", 2, LineFault::OutOfRange),
+        ("slave 1\nobject 1 1 2 ro 65536", 2, LineFault::OutOfRange),
+        (
+            "slave 1\nobject 1 1 4 ro 0x100000000",
+            2,
+            LineFault::OutOfRange,
+        ),
+        ("slave 1\nobject 65536 1 1 or 0", 2, LineFault::BadNumber),
+        ("slave 1\nobject 65536 1 1 ro x", 2, LineFault::BadNumber),
+        ("object 1 1 1 ro", 1, LineFault::WrongCount),
+        ("object x 1 1 ro 1", 1, LineFault::NoSlave),
+    ] {
+        refused(&rt, text.as_bytes(), line, fault);
+    }
 }
 
 #[test]

@@ -32,35 +32,28 @@ fn startup_objects_stand_in_the_order_of_their_lines(rt: HostRuntime) {
 
 #[test]
 fn a_startup_object_has_one_two_or_four_bytes(rt: HostRuntime) {
-    refused(
-        &rt,
-        b"slave 1\nstartup 1 0 010203",
-        2,
-        LineFault::OutOfRange,
-    );
-    refused(
-        &rt,
-        b"slave 1\nstartup 1 0 0102030405",
-        2,
-        LineFault::OutOfRange,
-    );
-    refused(&rt, b"slave 1\nstartup 1 0 0", 2, LineFault::BadNumber);
-    refused(&rt, b"slave 1\nstartup 1 0 0x01", 2, LineFault::BadNumber);
-    refused(
-        &rt,
-        b"slave 1\nstartup 65536 0 01",
-        2,
-        LineFault::OutOfRange,
-    );
-    refused(&rt, b"slave 1\nstartup 1 256 01", 2, LineFault::OutOfRange);
-    refused(&rt, b"slave 1\nstartup 65536 0 0g", 2, LineFault::BadNumber);
+    for (text, line, fault) in [
+        ("slave 1\nstartup 1 0 010203", 2, LineFault::OutOfRange),
+        ("slave 1\nstartup 1 0 0102030405", 2, LineFault::OutOfRange),
+        ("slave 1\nstartup 1 0 0", 2, LineFault::BadNumber),
+        ("slave 1\nstartup 1 0 0x01", 2, LineFault::BadNumber),
+        ("slave 1\nstartup 65536 0 01", 2, LineFault::OutOfRange),
+        ("slave 1\nstartup 1 256 01", 2, LineFault::OutOfRange),
+        ("slave 1\nstartup 65536 0 0g", 2, LineFault::BadNumber),
+    ] {
+        refused(&rt, text.as_bytes(), line, fault);
+    }
 }
 
 #[test]
 fn a_line_of_a_startup_object_has_its_words_and_its_slave(rt: HostRuntime) {
-    refused(&rt, b"slave 1\nstartup 1 0", 2, LineFault::WrongCount);
-    refused(&rt, b"slave 1\nstartup 1 0 1 01", 2, LineFault::WrongCount);
-    refused(&rt, b"startup x y z", 1, LineFault::NoSlave);
+    for (text, line, fault) in [
+        ("slave 1\nstartup 1 0", 2, LineFault::WrongCount),
+        ("slave 1\nstartup 1 0 1 01", 2, LineFault::WrongCount),
+        ("startup x y z", 1, LineFault::NoSlave),
+    ] {
+        refused(&rt, text.as_bytes(), line, fault);
+    }
 }
 
 #[test]

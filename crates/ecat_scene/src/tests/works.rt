@@ -46,17 +46,21 @@ fn items_are_of_six_kinds(rt: HostRuntime) {
 
 #[test]
 fn an_item_lies_in_its_range(rt: HostRuntime) {
-    refused(&rt, b"lrd 0xffffffff 0000", 1, LineFault::OutOfRange);
-    refused(&rt, b"lrd 0x100000000 00", 1, LineFault::OutOfRange);
-    refused(&rt, b"brd 0x0fff 0000", 1, LineFault::OutOfRange);
-    refused(&rt, b"fprd 0x1001 0x2fff 0000", 1, LineFault::OutOfRange);
-    refused(&rt, b"fpwr 0x10000 0x1000 00", 1, LineFault::OutOfRange);
-    refused(&rt, b"fpwr 1 0x10000 00", 1, LineFault::OutOfRange);
-    refused(&rt, b"lwr 0x100000000 0", 1, LineFault::BadNumber);
-    refused(&rt, b"fprd x 0x10000 00", 1, LineFault::BadNumber);
-    refused(&rt, b"lrw 0", 1, LineFault::WrongCount);
-    refused(&rt, b"fprd 1 00", 1, LineFault::WrongCount);
-    refused(&rt, b"lrd 1 2 00", 1, LineFault::WrongCount);
+    for (text, line, fault) in [
+        ("lrd 0xffffffff 0000", 1, LineFault::OutOfRange),
+        ("lrd 0x100000000 00", 1, LineFault::OutOfRange),
+        ("brd 0x0fff 0000", 1, LineFault::OutOfRange),
+        ("fprd 0x1001 0x2fff 0000", 1, LineFault::OutOfRange),
+        ("fpwr 0x10000 0x1000 00", 1, LineFault::OutOfRange),
+        ("fpwr 1 0x10000 00", 1, LineFault::OutOfRange),
+        ("lwr 0x100000000 0", 1, LineFault::BadNumber),
+        ("fprd x 0x10000 00", 1, LineFault::BadNumber),
+        ("lrw 0", 1, LineFault::WrongCount),
+        ("fprd 1 00", 1, LineFault::WrongCount),
+        ("lrd 1 2 00", 1, LineFault::WrongCount),
+    ] {
+        refused(&rt, text.as_bytes(), line, fault);
+    }
 }
 
 #[test]
@@ -100,34 +104,30 @@ fn links_are_judged_when_all_slaves_stand(rt: HostRuntime) {
     ) {
         assert_same(&rt, scene.links_down.as_slice(), [2, 0, 2].as_slice());
     }
-    refused(
-        &rt,
-        b"slave 1\nlink 1 down\nlink 2 down",
-        3,
-        LineFault::OutOfRange,
-    );
-    refused(
-        &rt,
-        b"link 18446744073709551616 down\nlink 5 down",
-        1,
-        LineFault::OutOfRange,
-    );
-    refused(
-        &rt,
-        b"link 9 down\nslave 1\nslaves",
-        3,
-        LineFault::UnknownWord,
-    );
-    refused(&rt, b"link 0 up", 1, LineFault::BadNumber);
-    refused(&rt, b"link -1 down", 1, LineFault::BadNumber);
-    refused(&rt, b"link 0", 1, LineFault::WrongCount);
-    refused(
-        &rt,
-        b"slave 1\nweather 0,1 2 - a\nlink 9 down",
-        2,
-        LineFault::OutOfRange,
-    );
-    refused(&rt, b"slave 1\nweather 2,0 0 - a", 2, LineFault::OutOfRange);
+    for (text, line, fault) in [
+        (
+            "slave 1\nlink 1 down\nlink 2 down",
+            3,
+            LineFault::OutOfRange,
+        ),
+        (
+            "link 18446744073709551616 down\nlink 5 down",
+            1,
+            LineFault::OutOfRange,
+        ),
+        ("link 9 down\nslave 1\nslaves", 3, LineFault::UnknownWord),
+        ("link 0 up", 1, LineFault::BadNumber),
+        ("link -1 down", 1, LineFault::BadNumber),
+        ("link 0", 1, LineFault::WrongCount),
+        (
+            "slave 1\nweather 0,1 2 - a\nlink 9 down",
+            2,
+            LineFault::OutOfRange,
+        ),
+        ("slave 1\nweather 2,0 0 - a", 2, LineFault::OutOfRange),
+    ] {
+        refused(&rt, text.as_bytes(), line, fault);
+    }
 }
 
 /// Whether copy A is lost, whether copy B is, and whether that goes first.
@@ -156,12 +156,16 @@ fn a_weather_says_what_each_copy_meets(rt: HostRuntime) {
 
 #[test]
 fn a_weather_has_its_form(rt: HostRuntime) {
-    refused(&rt, b"weather ,1 - - a", 1, LineFault::BadNumber);
-    refused(&rt, b"weather 1, - - a", 1, LineFault::BadNumber);
-    refused(&rt, b"weather - -- - a", 1, LineFault::BadNumber);
-    refused(&rt, b"weather - - ba a", 1, LineFault::BadNumber);
-    refused(&rt, b"weather - - - -", 1, LineFault::BadNumber);
-    refused(&rt, b"weather - - -", 1, LineFault::WrongCount);
+    for (text, line, fault) in [
+        ("weather ,1 - - a", 1, LineFault::BadNumber),
+        ("weather 1, - - a", 1, LineFault::BadNumber),
+        ("weather - -- - a", 1, LineFault::BadNumber),
+        ("weather - - ba a", 1, LineFault::BadNumber),
+        ("weather - - - -", 1, LineFault::BadNumber),
+        ("weather - - -", 1, LineFault::WrongCount),
+    ] {
+        refused(&rt, text.as_bytes(), line, fault);
+    }
 }
 
 #[test]

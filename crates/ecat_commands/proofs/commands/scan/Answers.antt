@@ -3,4 +3,8 @@ use Rattle.ecat_commands.proofs.CommandLemmas.{AreWords-items}
 use Rattle.ecat_commands.proofs.commands.scan.Goals as goal
 
 pub returns : goal.returns
-returns c = c.command.ensures scan_words (AreWords-items scan_words c.in_ok-words.ensures.items (c.at.ensures, (c.raw.ensures, (c.limit.ensures, tt))))
+returns c =
+    c.command.ensures scan_words (AreWords-items scan_words c.in_ok-words.ensures.items (
+      c.at.ensures,
+      (c.raw.ensures, (c.limit.ensures, tt)),
+    ))

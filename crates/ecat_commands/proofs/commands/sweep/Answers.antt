@@ -3,4 +3,8 @@ use Rattle.ecat_commands.proofs.CommandLemmas.{AreWords-items}
 use Rattle.ecat_commands.proofs.commands.sweep.Goals as goal
 
 pub returns : goal.returns
-returns c = c.command.ensures scene_word (AreWords-items scene_word c.in_ok-words.ensures.items (c.scene.ensures, tt))
+returns c =
+    c.command.ensures scene_word (AreWords-items scene_word c.in_ok-words.ensures.items (
+      c.scene.ensures,
+      tt,
+    ))
