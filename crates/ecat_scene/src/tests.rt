@@ -245,6 +245,10 @@ fn a_frame_line_is_a_frame(rt: HostRuntime) {
     let text =
         b"slave 0x1001\nsm 3 0x1100 1 read\nfmmu 0 0x10000 1 0 7 0x1100 0 read\nmem 0x1100 12\nframe 0d10";
     refused(&rt, text, 5, LineFault::BadFrame);
+}
+
+#[test]
+fn a_frame_ends_where_its_header_says(rt: HostRuntime) {
     if let Some(scene) = taken(&rt, b"frame 0E100701000030010200000000000000ffff") {
         let [Action::Frame(frame)] = scene.actions.as_slice() else {
             panic!(rt; "one frame");

@@ -1,8 +1,15 @@
 //! What is odd in scenes that are accepted.
 
-use crate::odd_lines;
+use crate::{OddLine, odd_lines};
 use std::alloc::Global;
 use std::process::Abort;
+
+/// Asserts that this is the sentence on a line.
+fn assert_told(rt: &impl Abort, alloc: Global, line: &OddLine, wanted: &str) {
+    if let Ok(told) = format!(in alloc; "{line}") {
+        assert!(rt; told.as_str() == wanted, "{told}");
+    }
+}
 
 /// Asserts that these are the sentences on a text, in their order.
 fn assert_odd(rt: &impl Abort, alloc: Global, text: &[u8], wanted: &[&str]) {
@@ -10,11 +17,8 @@ fn assert_odd(rt: &impl Abort, alloc: Global, text: &[u8], wanted: &[&str]) {
         return;
     };
     assert!(rt; found.len() == wanted.len());
-    for (one, sentence) in found.iter().zip(wanted) {
-        let Ok(told) = format!(in alloc; "{one}") else {
-            return;
-        };
-        assert!(rt; told.as_str() == *sentence, "{told}");
+    for (line, sentence) in found.iter().zip(wanted) {
+        assert_told(rt, alloc, line, sentence);
     }
 }
 
