@@ -2,12 +2,13 @@
 
 use super::line::{BYTE, bits, slave};
 use crate::check;
+use ec_app::Slave;
 use ec_regs::{Fmmu, SyncMan};
 use std::test::Fail;
 
 #[test]
 fn a_line_without_slaves_is_fit(rt: HostRuntime) {
-    assert_eq!(rt; check(&[]), Ok(()));
+    assert_eq!(rt; check::<Slave>(&[]), Ok(()));
 }
 
 #[test]

@@ -34,7 +34,7 @@ fn gap(slave: usize, way: Way, bit: u64) -> Option<Gap> {
 
 #[test]
 fn a_line_without_slaves_is_covered(rt: HostRuntime) {
-    assert_eq!(rt; first_uncovered(&[], &[]), None);
+    assert_eq!(rt; first_uncovered::<Slave>(&[], &[]), None);
 }
 
 #[test]
