@@ -1,6 +1,5 @@
 #![tactic(auto)]
-//! A master's cycles over a line of slaves, whole or with a broken cable, and what their working counters
-//! say.
+//! A master's cycles over a line of slaves, whole or broken, and what their working counters say.
 //!
 //! A machine reads its inputs and writes its outputs every cycle, and must know of each cycle whether it did.
 //! One use, which `tests/door.rt` tries: a slave is mapped, the line is checked, a work asks for an exchange,
@@ -20,9 +19,10 @@
 //! let mut ring = Ring::new(line).ok().expect(&rt, "at most 256");
 //! ring.set_link(0, false);
 //! check(ring.slaves())?;
+//! let item = Item::new(Kind::Lrw, 0x0001_0000, &[0xFF])?;
+//! let count = expected(ring.slaves(), &item);
 //! let mut work = Work::new();
-//! work.push(Item::new(Kind::Lrw, 0x0001_0000, &[0xFF])?)?;
-//! let count = expected(ring.slaves(), work.item(0));
+//! work.push(item)?;
 //! let verdict = weather_cycle(&mut ring, &[], &[count], &mut work);
 //! ```
 //!

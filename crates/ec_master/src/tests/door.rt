@@ -22,10 +22,11 @@ fn a_byte_is_exchanged_though_a_cable_is_broken(rt: HostRuntime) -> Result<(), F
     assert_eq!(rt; ring.slaves().len(), 1);
     ring.set_link(0, false);
     check(ring.slaves())?;
+    let item = Item::new(Kind::Lrw, 0x0001_0000, &[0xFF])?;
+    let count = expected(ring.slaves(), &item);
     let mut work = Work::new();
-    work.push(Item::new(Kind::Lrw, 0x0001_0000, &[0xFF])?)?;
+    work.push(item)?;
     assert_eq!(rt; work.len(), 1);
-    let count = expected(ring.slaves(), work.item(0));
     let verdict = weather_cycle(&mut ring, &[], &[count], &mut work);
     assert_eq!(rt; verdict, Verdict::Good);
     assert_eq!(rt; work.len(), 1);
