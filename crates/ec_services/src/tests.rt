@@ -25,3 +25,8 @@ use std::process::Abort;
 fn assert_same<T: PartialEq + Debug + Drop>(rt: &impl Abort, found: T, wanted: T) {
     assert_eq!(rt; found, wanted);
 }
+
+/// Asserts the same of a row of a table.
+fn assert_row<T: PartialEq + Debug + Drop>(rt: &impl Abort, name: &str, found: T, wanted: T) {
+    assert_eq!(rt; found, wanted, "{name}");
+}

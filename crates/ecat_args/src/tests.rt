@@ -17,8 +17,6 @@ enum Refusal {
     Line(ErrorKind),
     BadNumber,
     NoMemory,
-    /// The words gave another command.
-    Other,
 }
 
 /// Asserts that what was found is what was wanted. An assertion that stands in a test is proved again in
@@ -37,27 +35,42 @@ fn read<'a>(alloc: Global, words: &'a [&'a str]) -> Result<Args<'a>, Refusal> {
     }
 }
 
-/// What a line of words gives, as `Debug` writes it; the program's name is put before them.
-fn told(alloc: Global, line: &str) -> Result<String, AllocError> {
+/// The words of a line behind the program's name, with `tried` in the place of a question mark.
+fn words_of<'a>(alloc: Global, line: &'a str, tried: &'a str) -> Result<Vec<&'a str>, AllocError> {
     let mut words = vec![in alloc; "ecat"]?;
     for word in line.split(' ') {
-        if !word.is_empty() {
+        if word == "?" {
+            words.push(tried)?;
+        } else if !word.is_empty() {
             words.push(word)?;
         }
     }
+    Ok(words)
+}
+
+/// What such words give, as `Debug` writes it.
+fn told<'a>(alloc: Global, line: &'a str, tried: &'a str) -> Result<String, AllocError> {
+    let words = words_of(alloc, line, tried)?;
     let answer = read(alloc, words.as_slice());
     format!(in alloc; "{answer:?}")
 }
 
-/// Asserts that a line of words gives this answer.
-fn assert_told(rt: &impl Abort, alloc: Global, line: &str, wanted: &str) {
-    let found = told(alloc, line).expect(rt, "memory");
-    assert!(rt; found.as_str() == wanted, "{line}: {found}");
+/// Asserts of each row, a line of a table, that its words give the answer that stands behind its bar.
+fn assert_rows(rt: &impl Abort, alloc: Global, rows: &str) {
+    for row in rows.split('\n') {
+        let (line, wanted) = row.split_once('|').expect(rt, "a bar");
+        let found = told(alloc, line, "").expect(rt, "memory");
+        assert!(rt; found.as_str() == wanted.trim(), "{row}: {found}");
+    }
 }
 
-/// Asserts of each row that its line gives the answer that stands behind it.
-fn assert_rows(rt: &impl Abort, alloc: Global, rows: &[(&str, &str)]) {
-    for (line, wanted) in rows {
-        assert_told(rt, alloc, line, wanted);
+/// Asserts that each of these words is a bad number where a line has its question mark.
+fn assert_bad_numbers(rt: &impl Abort, alloc: Global, line: &str, tried: &[&str]) {
+    for word in tried {
+        let found = told(alloc, line, word).expect(rt, "memory");
+        assert!(rt;
+            found.as_str() == "Err(BadNumber)",
+            "{line}: \"{word}\": {found}"
+        );
     }
 }

@@ -4,63 +4,19 @@ mod blocks;
 mod classic;
 mod door;
 mod ethernet;
+mod samples;
 mod sources;
 
 use crate::{Capture, CaptureFault, CaptureFaultKind, Packet, Time};
-use ecat_source::{Bytes, Source};
+use ecat_source::{Bytes, Pieces, Source};
+use samples::{front, sample_of};
 use std::alloc::{AllocError, Global};
 use std::fmt::Debug;
 use std::process::Abort;
 
-/// These bytes, one behind the other.
-fn join(alloc: Global, parts: &[&[u8]]) -> Result<Vec<u8>, AllocError> {
-    let mut bytes = Vec::new(alloc);
-    for part in parts {
-        bytes.extend_from_slice(part)?;
-    }
-    Ok(bytes)
-}
-
-/// Replaces the bytes from a place on, as far as they are there.
-fn put(bytes: &mut Vec<u8>, at: usize, with: &[u8]) {
-    for (k, byte) in bytes.iter_mut().enumerate() {
-        if let Some(place) = k.checked_sub(at) {
-            if place < with.len() {
-                *byte = with[place];
-            }
-        }
-    }
-}
-
-/// The first bytes, as far as they are there.
-fn front(bytes: &[u8], count: usize) -> &[u8] {
-    &bytes[..count.min(bytes.len())]
-}
-
 /// Asserts that what was found is what was wanted.
 fn assert_same<T: PartialEq + Debug + Drop>(rt: &impl Abort, found: T, wanted: T) {
     assert_eq!(rt; found, wanted);
-}
-
-/// The next packet has this number, this time and these bytes, which are all of it.
-fn expect_packet<S: Source>(
-    rt: &impl Abort,
-    capture: &mut Capture<S>,
-    number: u64,
-    time: Option<Time>,
-    bytes: &[u8],
-) {
-    match capture.next() {
-        Ok(Some(packet)) => {
-            assert_same(rt, packet.number, number);
-            assert_same(rt, packet.time, time);
-            assert_same(rt, packet.captured as usize, bytes.len());
-            assert_same(rt, packet.original as usize, bytes.len());
-            assert_eq!(rt; capture.bytes(), bytes);
-        }
-        Ok(None) => panic!(rt; "the capture ended"),
-        Err(fault) => panic!(rt; "{fault}"),
-    }
 }
 
 /// There is no next packet.
@@ -68,22 +24,95 @@ fn expect_end(rt: &impl Abort, next: Result<Option<Packet>, CaptureFault>) {
     assert_same(rt, next, Ok(None));
 }
 
-/// The next packet is refused so, at this place, and from then on it is always `Failed`.
-fn expect_fault<S: Source>(
-    rt: &impl Abort,
-    capture: &mut Capture<S>,
-    kind: CaptureFaultKind,
-    at: u64,
-) {
-    assert_same(rt, capture.next(), Err(CaptureFault { kind, at }));
-    match capture.next() {
+/// The next packet is refused, since a fault was found before.
+fn expect_failed(rt: &impl Abort, next: Result<Option<Packet>, CaptureFault>) {
+    match next {
         Ok(_) => panic!(rt; "it goes on behind a fault"),
         Err(fault) => assert_same(rt, fault.kind, CaptureFaultKind::Failed),
     }
 }
 
-/// Of these bytes the first packet is refused so, at this place.
-fn expect_refusal(rt: &impl Abort, alloc: Global, bytes: &[u8], kind: CaptureFaultKind, at: u64) {
-    let mut capture = Capture::new(alloc, Bytes::new(bytes));
-    expect_fault(rt, &mut capture, kind, at);
+/// A packet, as a table writes it: its number and time, its lengths, stored and on the wire, and its bytes.
+fn shown(alloc: Global, packet: Packet, bytes: &[u8]) -> Result<String, AllocError> {
+    let number = packet.number;
+    let captured = packet.captured;
+    let original = packet.original;
+    let Some(time) = packet.time else {
+        return format!(in alloc; "{number}: no time, {captured} of {original} {bytes:?}; ");
+    };
+    let unit = if time.fine { "fine ns" } else { "ns" };
+    let seconds = time.seconds;
+    let fraction = time.nanoseconds;
+    format!(in alloc;
+        "{number}: {seconds} s {fraction} {unit}, {captured} of {original} {bytes:?}; "
+    )
+}
+
+/// What is told of a capture: its packets, up to twelve, and how it ends. Behind its end it ends again, and
+/// behind a fault it has failed.
+fn told<S: Source>(
+    rt: &impl Abort,
+    alloc: Global,
+    capture: &mut Capture<S>,
+) -> Result<String, AllocError> {
+    let mut text = String::new(alloc);
+    for _ in 0..12 {
+        match capture.next() {
+            Ok(Some(packet)) => {
+                let line = shown(alloc, packet, capture.bytes())?;
+                text.push_str(line.as_str())?;
+            }
+            Ok(None) => {
+                expect_end(rt, capture.next());
+                text.push_str("end")?;
+                break;
+            }
+            Err(fault) => {
+                expect_failed(rt, capture.next());
+                let line = format!(in alloc; "{fault}")?;
+                text.push_str(line.as_str())?;
+                break;
+            }
+        }
+    }
+    Ok(text)
+}
+
+/// This is told of a source.
+fn expect_source<S: Source + Drop>(
+    rt: &impl Abort,
+    alloc: Global,
+    source: S,
+    wanted: &str,
+) -> Result<(), AllocError> {
+    let mut capture = Capture::new(alloc, source);
+    let found = told(rt, alloc, &mut capture)?;
+    assert!(rt; found.as_str() == wanted, "{found}, not {wanted}");
+    Ok(())
+}
+
+/// This is told of a file, at once and in pieces.
+fn expect_told(
+    rt: &impl Abort,
+    alloc: Global,
+    file: &[u8],
+    wanted: &str,
+) -> Result<(), AllocError> {
+    expect_source(rt, alloc, Bytes::new(file), wanted)?;
+    for most in [1, 3, 5, 7, 9, 62, 64, 1000] {
+        expect_source(rt, alloc, Pieces::new(file, most), wanted)?;
+    }
+    Ok(())
+}
+
+/// Of each row, a line of a table, what stands behind the bar is told of the file before it.
+fn expect_rows(rt: &impl Abort, alloc: Global, rows: &str) -> Result<(), AllocError> {
+    for row in rows.split('\n') {
+        let (words, wanted) = row.split_once('|').expect(rt, "a bar");
+        let file = sample_of(rt, alloc, words)?;
+        for count in file.first..=file.last {
+            expect_told(rt, alloc, front(&file.bytes, count), wanted.trim())?;
+        }
+    }
+    Ok(())
 }

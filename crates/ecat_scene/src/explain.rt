@@ -123,10 +123,7 @@ pub fn explained<'a>(text: &'a [u8], line: usize, fault: LineFault) -> Option<Ex
         LineFault::BadNumber => misformed(content, first),
         LineFault::OutOfRange => outside(content, first),
         LineFault::TooMany => (first, Reason::Told(most_of(first.text))),
-        LineFault::Twin => (
-            first,
-            Reason::Told("the slave has an object with this index and subindex already"),
-        ),
+        LineFault::Twin => (first, Reason::Told(twin_of(first.text))),
         LineFault::BadFrame => (
             first,
             Reason::Told("the bytes are no EtherCAT frame, from its header to its last counter"),
@@ -243,6 +240,14 @@ fn outside_of(first: &[u8]) -> &'static str {
         "brd" => "a broadcast read has 1 to 1486 bytes, and ends below 0x1000",
         "fprd" | "fpwr" => "an addressed item has 1 to 1486 bytes, and ends at 0x2FFF",
         _ => "a number is out of its range",
+    }
+}
+
+/// What a slave has already that a line says once more.
+fn twin_of(first: &[u8]) -> &'static str {
+    match text_of(first) {
+        "mirror" | "count" => "a line above puts inputs into this sync manager already",
+        _ => "the slave has an object with this index and subindex already",
     }
 }
 

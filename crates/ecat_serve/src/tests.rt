@@ -1,5 +1,16 @@
 //! A line that is served: in memory, where a call may fail, and over real sockets.
 
+/// A packet in memory: the end, who is there by his number, and the name of its bytes.
+macro_rules! packet {
+    ($at:ident $peer:literal $spelling:ident) => {
+        Packet {
+            at: Port::$at,
+            peer: $peer,
+            spelling: Spelling::$spelling,
+        }
+    };
+}
+
 mod applications;
 mod bench;
 mod commands;
@@ -11,4 +22,14 @@ mod memory;
 mod packets;
 mod real;
 mod speaking;
+mod stage;
 mod waiting;
+
+use std::fmt::Debug;
+use std::process::Abort;
+
+/// Asserts that what a row of a table finds is what it wants. An assertion that stands in a test is proved
+/// again in each, which takes longer than all else of it; this one is proved once.
+fn assert_found<T: PartialEq + Debug + Drop>(rt: &impl Abort, row: &str, found: T, wanted: T) {
+    assert_eq!(rt; found, wanted, "{row}");
+}

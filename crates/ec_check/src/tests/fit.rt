@@ -1,175 +1,192 @@
 //! Lines that are accepted.
 
-use super::line::{BYTE, bits, slave};
-use crate::check;
-use ec_app::Slave;
+use super::line::Part::{Inputs, Manager, Maps, Outputs, Reads, Writes};
+use super::line::{BYTE, READING, Row, Stand, WRITING, assert_row};
 use ec_regs::{Fmmu, SyncMan};
 use std::test::Fail;
 
-#[test]
-fn a_line_without_slaves_is_fit(rt: HostRuntime) {
-    assert_eq!(rt; check::<Slave>(&[]), Ok(()));
-}
-
-#[test]
-fn a_slave_may_read_and_write_one_logical_byte(rt: HostRuntime) -> Result<(), Fail> {
-    let one = slave(
-        rt.alloc(),
-        0x1001,
-        &[SyncMan::outputs(0x1000, 1), SyncMan::inputs(0x1100, 1)],
-        &[
-            Fmmu::writing(BYTE, 1, 0x1000),
-            Fmmu::reading(BYTE, 1, 0x1100),
+/// Lines that break no rule.
+const ROWS: [Row; 10] = [
+    Row {
+        name: "a line without slaves is fit",
+        line: &[],
+        verdict: Ok(()),
+    },
+    Row {
+        name: "a slave may read and write one logical byte",
+        line: &[Stand {
+            station: 0x1001,
+            parts: &[
+                Outputs(0x1000, 1),
+                Inputs(0x1100, 1),
+                Writes(BYTE, 1, 0x1000),
+                Reads(BYTE, 1, 0x1100),
+            ],
+        }],
+        verdict: Ok(()),
+    },
+    Row {
+        name: "two slaves with outputs and inputs are fit",
+        line: &[
+            Stand {
+                station: 0x1001,
+                parts: &[
+                    Outputs(0x1000, 1),
+                    Inputs(0x1100, 1),
+                    Writes(BYTE, 1, 0x1000),
+                    Reads(BYTE, 1, 0x1100),
+                ],
+            },
+            Stand {
+                station: 0x1002,
+                parts: &[
+                    Outputs(0x1000, 1),
+                    Inputs(0x1100, 1),
+                    Writes(BYTE + 1, 1, 0x1000),
+                    Reads(BYTE + 1, 1, 0x1100),
+                ],
+            },
         ],
-    )?;
-    assert_eq!(rt; check(&[one]), Ok(()));
-    Ok(())
-}
-
-#[test]
-fn two_slaves_with_outputs_and_inputs_are_fit(rt: HostRuntime) -> Result<(), Fail> {
-    let first = slave(
-        rt.alloc(),
-        0x1001,
-        &[SyncMan::outputs(0x1000, 1), SyncMan::inputs(0x1100, 1)],
-        &[
-            Fmmu::writing(BYTE, 1, 0x1000),
-            Fmmu::reading(BYTE, 1, 0x1100),
+        verdict: Ok(()),
+    },
+    Row {
+        name: "two slaves may share a logical byte bit by bit",
+        line: &[
+            Stand {
+                station: 0x1001,
+                parts: &[Inputs(0x1100, 1), Maps(Fmmu { stop: 3, ..READING })],
+            },
+            Stand {
+                station: 0x1002,
+                parts: &[
+                    Inputs(0x1100, 1),
+                    Maps(Fmmu {
+                        start: 4,
+                        ..READING
+                    }),
+                ],
+            },
         ],
-    )?;
-    let second = slave(
-        rt.alloc(),
-        0x1002,
-        &[SyncMan::outputs(0x1000, 1), SyncMan::inputs(0x1100, 1)],
-        &[
-            Fmmu::writing(BYTE + 1, 1, 0x1000),
-            Fmmu::reading(BYTE + 1, 1, 0x1100),
+        verdict: Ok(()),
+    },
+    Row {
+        name: "two slaves may read and write one byte at odd places",
+        line: &[
+            Stand {
+                station: 0x1001,
+                parts: &[
+                    Inputs(0x1100, 2),
+                    Maps(Fmmu {
+                        length: 2,
+                        start: 6,
+                        stop: 2,
+                        bit: 5,
+                        ..READING
+                    }),
+                ],
+            },
+            Stand {
+                station: 0x1002,
+                parts: &[
+                    Outputs(0x1000, 1),
+                    Maps(Fmmu { stop: 5, ..WRITING }),
+                    Maps(Fmmu {
+                        logical: BYTE + 1,
+                        start: 3,
+                        stop: 4,
+                        bit: 6,
+                        ..WRITING
+                    }),
+                ],
+            },
         ],
-    )?;
-    assert_eq!(rt; check(&[first, second]), Ok(()));
-    Ok(())
-}
-
-#[test]
-fn two_slaves_may_share_a_logical_byte_bit_by_bit(rt: HostRuntime) -> Result<(), Fail> {
-    let low = slave(
-        rt.alloc(),
-        0x1001,
-        &[SyncMan::inputs(0x1100, 1)],
-        &[bits(Fmmu::reading(BYTE, 1, 0x1100), 0, 3, 0)],
-    )?;
-    let high = slave(
-        rt.alloc(),
-        0x1002,
-        &[SyncMan::inputs(0x1100, 1)],
-        &[bits(Fmmu::reading(BYTE, 1, 0x1100), 4, 7, 0)],
-    )?;
-    assert_eq!(rt; check(&[low, high]), Ok(()));
-    Ok(())
-}
-
-#[test]
-fn two_slaves_may_read_and_write_one_byte_at_odd_places(rt: HostRuntime) -> Result<(), Fail> {
-    let reads = slave(
-        rt.alloc(),
-        0x1001,
-        &[SyncMan::inputs(0x1100, 2)],
-        &[bits(Fmmu::reading(BYTE, 2, 0x1100), 6, 2, 5)],
-    )?;
-    let writes = slave(
-        rt.alloc(),
-        0x1002,
-        &[SyncMan::outputs(0x1000, 1)],
-        &[
-            bits(Fmmu::writing(BYTE, 1, 0x1000), 0, 5, 0),
-            bits(Fmmu::writing(BYTE + 1, 1, 0x1000), 3, 4, 6),
+        verdict: Ok(()),
+    },
+    Row {
+        name: "two FMMUs may read one physical bit",
+        line: &[Stand {
+            station: 0x1001,
+            parts: &[
+                Inputs(0x1100, 1),
+                Reads(BYTE, 1, 0x1100),
+                Reads(BYTE + 1, 1, 0x1100),
+            ],
+        }],
+        verdict: Ok(()),
+    },
+    Row {
+        name: "two slaves may take one logical bit",
+        line: &[
+            Stand {
+                station: 0x1001,
+                parts: &[Outputs(0x1000, 1), Writes(BYTE, 1, 0x1000)],
+            },
+            Stand {
+                station: 0x1002,
+                parts: &[Outputs(0x1000, 1), Writes(BYTE, 1, 0x1000)],
+            },
         ],
-    )?;
-    assert_eq!(rt; check(&[reads, writes]), Ok(()));
-    Ok(())
-}
-
-#[test]
-fn two_fmmus_may_read_one_physical_bit(rt: HostRuntime) -> Result<(), Fail> {
-    let one = slave(
-        rt.alloc(),
-        0x1001,
-        &[SyncMan::inputs(0x1100, 1)],
-        &[
-            Fmmu::reading(BYTE, 1, 0x1100),
-            Fmmu::reading(BYTE + 1, 1, 0x1100),
+        verdict: Ok(()),
+    },
+    Row {
+        name: "what is switched off does not count",
+        line: &[Stand {
+            station: 0x1001,
+            parts: &[
+                Manager(SyncMan {
+                    start: 0x1000,
+                    length: 8,
+                    control: 0x04,
+                    status: 0,
+                    activate: 0,
+                    pdi: 0,
+                }),
+                Inputs(0x1004, 8),
+                Maps(Fmmu {
+                    physical: 0x0130,
+                    kind: 3,
+                    start: 9,
+                    activate: 0,
+                    ..READING
+                }),
+                Reads(BYTE, 8, 0x1004),
+            ],
+        }],
+        verdict: Ok(()),
+    },
+    Row {
+        name: "an FMMU may end where the ranges end",
+        line: &[Stand {
+            station: 0x1001,
+            parts: &[Inputs(0x2FFF, 1), Reads(0xFFFF_FFFF, 1, 0x2FFF)],
+        }],
+        verdict: Ok(()),
+    },
+    Row {
+        name: "the byte that tells of mail may be read",
+        line: &[
+            Stand {
+                station: 0x1001,
+                parts: &[Maps(Fmmu {
+                    physical: 0x080D,
+                    stop: 0,
+                    bit: 3,
+                    ..READING
+                })],
+            },
+            Stand {
+                station: 0x1002,
+                parts: &[Reads(BYTE + 1, 1, 0x080D)],
+            },
         ],
-    )?;
-    assert_eq!(rt; check(&[one]), Ok(()));
-    Ok(())
-}
+        verdict: Ok(()),
+    },
+];
 
 #[test]
-fn two_slaves_may_take_one_logical_bit(rt: HostRuntime) -> Result<(), Fail> {
-    let first = slave(
-        rt.alloc(),
-        0x1001,
-        &[SyncMan::outputs(0x1000, 1)],
-        &[Fmmu::writing(BYTE, 1, 0x1000)],
-    )?;
-    let second = slave(
-        rt.alloc(),
-        0x1002,
-        &[SyncMan::outputs(0x1000, 1)],
-        &[Fmmu::writing(BYTE, 1, 0x1000)],
-    )?;
-    assert_eq!(rt; check(&[first, second]), Ok(()));
-    Ok(())
-}
-
-#[test]
-fn what_is_switched_off_does_not_count(rt: HostRuntime) -> Result<(), Fail> {
-    let disabled = SyncMan {
-        activate: 0,
-        ..SyncMan::outputs(0x1000, 8)
-    };
-    let wild = Fmmu {
-        kind: 3,
-        start: 9,
-        activate: 0,
-        ..Fmmu::reading(BYTE, 1, 0x0130)
-    };
-    let one = slave(
-        rt.alloc(),
-        0x1001,
-        &[disabled, SyncMan::inputs(0x1004, 8)],
-        &[wild, Fmmu::reading(BYTE, 8, 0x1004)],
-    )?;
-    assert_eq!(rt; check(&[one]), Ok(()));
-    Ok(())
-}
-
-#[test]
-fn an_fmmu_may_end_where_the_ranges_end(rt: HostRuntime) -> Result<(), Fail> {
-    let one = slave(
-        rt.alloc(),
-        0x1001,
-        &[SyncMan::inputs(0x2FFF, 1)],
-        &[Fmmu::reading(0xFFFF_FFFF, 1, 0x2FFF)],
-    )?;
-    assert_eq!(rt; check(&[one]), Ok(()));
-    Ok(())
-}
-
-#[test]
-fn the_byte_that_tells_of_mail_may_be_read(rt: HostRuntime) -> Result<(), Fail> {
-    let flag = slave(
-        rt.alloc(),
-        0x1001,
-        &[],
-        &[bits(Fmmu::reading(BYTE, 1, 0x080D), 0, 0, 3)],
-    )?;
-    let whole = slave(
-        rt.alloc(),
-        0x1002,
-        &[],
-        &[Fmmu::reading(BYTE + 1, 1, 0x080D)],
-    )?;
-    assert_eq!(rt; check(&[flag, whole]), Ok(()));
+fn lines_that_break_no_rule_are_fit(rt: HostRuntime) -> Result<(), Fail> {
+    for row in &ROWS {
+        assert_row(&rt, rt.alloc(), row)?;
+    }
     Ok(())
 }

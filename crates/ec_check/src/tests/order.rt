@@ -1,288 +1,316 @@
 //! Of several faults the first is named: the earlier rule, and within a rule the smaller numbers.
 
-use super::line::{BYTE, slave};
-use crate::{MapFault, check};
-use ec_regs::{Fmmu, SyncMan};
+use super::line::Part::{Inputs, Maps, Outputs, Reads, Writes};
+use super::line::{BYTE, READING, Row, Stand, assert_row};
+use crate::MapFault;
+use ec_regs::Fmmu;
 use std::test::Fail;
 
-#[test]
-fn twins_before_a_bad_fmmu(rt: HostRuntime) -> Result<(), Fail> {
-    let bad = Fmmu {
-        kind: 3,
-        ..Fmmu::reading(BYTE, 1, 0x1100)
-    };
-    let line = [
-        slave(rt.alloc(), 0x1001, &[], &[bad])?,
-        slave(rt.alloc(), 0x1001, &[], &[])?,
-    ];
-    let fault = MapFault::TwinStation {
-        slave: 0,
-        later_slave: 1,
-    };
-    assert_eq!(rt; check(&line), Err(fault));
-    Ok(())
-}
+/// Lines of several faults, and the one that is named.
+const ROWS: [Row; 13] = [
+    Row {
+        name: "twins before a bad FMMU",
+        line: &[
+            Stand {
+                station: 0x1001,
+                parts: &[Maps(Fmmu { kind: 3, ..READING })],
+            },
+            Stand {
+                station: 0x1001,
+                parts: &[],
+            },
+        ],
+        verdict: Err(MapFault::TwinStation {
+            slave: 0,
+            later_slave: 1,
+        }),
+    },
+    Row {
+        name: "a bad FMMU before areas that meet",
+        line: &[
+            Stand {
+                station: 0x1001,
+                parts: &[Outputs(0x1000, 8), Inputs(0x1004, 8)],
+            },
+            Stand {
+                station: 0x1002,
+                parts: &[Maps(Fmmu { kind: 3, ..READING })],
+            },
+        ],
+        verdict: Err(MapFault::BadFmmu { slave: 1, fmmu: 0 }),
+    },
+    Row {
+        name: "areas that meet before an FMMU outside",
+        line: &[
+            Stand {
+                station: 0x1001,
+                parts: &[Reads(BYTE, 1, 0x1100)],
+            },
+            Stand {
+                station: 0x1002,
+                parts: &[Outputs(0x1000, 8), Inputs(0x1004, 8)],
+            },
+        ],
+        verdict: Err(MapFault::AreasMeet {
+            slave: 1,
+            sync_manager: 2,
+            later_sync_manager: 3,
+            address: 0x1004,
+        }),
+    },
+    Row {
+        name: "an FMMU outside before bits written twice",
+        line: &[
+            Stand {
+                station: 0x1001,
+                parts: &[
+                    Outputs(0x1000, 1),
+                    Inputs(0x1100, 4),
+                    Writes(BYTE, 1, 0x1000),
+                    Writes(BYTE, 1, 0x1000),
+                ],
+            },
+            Stand {
+                station: 0x1002,
+                parts: &[
+                    Outputs(0x1000, 1),
+                    Inputs(0x1100, 4),
+                    Reads(BYTE, 8, 0x1100),
+                ],
+            },
+        ],
+        verdict: Err(MapFault::OutsideArea {
+            slave: 1,
+            fmmu: 0,
+            address: 0x1104,
+        }),
+    },
+    Row {
+        name: "bits written twice before bits read twice",
+        line: &[
+            Stand {
+                station: 0x1001,
+                parts: &[
+                    Outputs(0x1000, 1),
+                    Inputs(0x1100, 1),
+                    Reads(BYTE, 1, 0x1100),
+                    Reads(BYTE, 1, 0x1100),
+                ],
+            },
+            Stand {
+                station: 0x1002,
+                parts: &[
+                    Outputs(0x1000, 1),
+                    Inputs(0x1100, 1),
+                    Writes(BYTE + 1, 1, 0x1000),
+                    Writes(BYTE + 2, 1, 0x1000),
+                ],
+            },
+        ],
+        verdict: Err(MapFault::TwiceWritten {
+            slave: 1,
+            fmmu: 0,
+            later_fmmu: 1,
+            bit: 32_768,
+        }),
+    },
+    Row {
+        name: "bits read twice before bits read and written",
+        line: &[
+            Stand {
+                station: 0x1001,
+                parts: &[
+                    Outputs(0x1000, 1),
+                    Inputs(0x1100, 1),
+                    Writes(BYTE, 1, 0x1000),
+                ],
+            },
+            Stand {
+                station: 0x1002,
+                parts: &[
+                    Outputs(0x1000, 1),
+                    Inputs(0x1100, 1),
+                    Reads(BYTE, 1, 0x1100),
+                ],
+            },
+            Stand {
+                station: 0x1003,
+                parts: &[
+                    Outputs(0x1000, 1),
+                    Inputs(0x1100, 1),
+                    Reads(BYTE, 1, 0x1100),
+                ],
+            },
+        ],
+        verdict: Err(MapFault::TwiceRead {
+            slave: 1,
+            fmmu: 0,
+            later_slave: 2,
+            later_fmmu: 0,
+            bit: 524_288,
+        }),
+    },
+    Row {
+        name: "of two pairs of twins the first slave decides",
+        line: &[
+            Stand {
+                station: 0x1001,
+                parts: &[],
+            },
+            Stand {
+                station: 0x1002,
+                parts: &[],
+            },
+            Stand {
+                station: 0x1002,
+                parts: &[],
+            },
+            Stand {
+                station: 0x1001,
+                parts: &[],
+            },
+        ],
+        verdict: Err(MapFault::TwinStation {
+            slave: 0,
+            later_slave: 3,
+        }),
+    },
+    Row {
+        name: "of two bad FMMUs the smaller number",
+        line: &[
+            Stand {
+                station: 0x1001,
+                parts: &[
+                    Reads(BYTE, 1, 0x1100),
+                    Maps(Fmmu { kind: 3, ..READING }),
+                    Maps(Fmmu { kind: 3, ..READING }),
+                ],
+            },
+            Stand {
+                station: 0x1002,
+                parts: &[Maps(Fmmu { kind: 3, ..READING })],
+            },
+        ],
+        verdict: Err(MapFault::BadFmmu { slave: 0, fmmu: 1 }),
+    },
+    Row {
+        name: "of three areas the first that meets another",
+        line: &[Stand {
+            station: 0x1001,
+            parts: &[Inputs(0x1000, 4), Inputs(0x1010, 8), Inputs(0x1003, 16)],
+        }],
+        verdict: Err(MapFault::AreasMeet {
+            slave: 0,
+            sync_manager: 2,
+            later_sync_manager: 4,
+            address: 0x1003,
+        }),
+    },
+    Row {
+        name: "of two FMMUs outside the smaller number",
+        line: &[Stand {
+            station: 0x1001,
+            parts: &[
+                Inputs(0x1100, 4),
+                Reads(BYTE, 8, 0x1100),
+                Reads(BYTE, 1, 0x1000),
+            ],
+        }],
+        verdict: Err(MapFault::OutsideArea {
+            slave: 0,
+            fmmu: 0,
+            address: 0x1104,
+        }),
+    },
+    Row {
+        name: "of three that write one bit the first two",
+        line: &[Stand {
+            station: 0x1001,
+            parts: &[
+                Outputs(0x1000, 2),
+                Writes(BYTE, 2, 0x1000),
+                Writes(BYTE, 1, 0x1001),
+                Writes(BYTE, 1, 0x1000),
+            ],
+        }],
+        verdict: Err(MapFault::TwiceWritten {
+            slave: 0,
+            fmmu: 0,
+            later_fmmu: 1,
+            bit: 32_776,
+        }),
+    },
+    Row {
+        name: "of three that read one bit the first two",
+        line: &[
+            Stand {
+                station: 0x1001,
+                parts: &[
+                    Inputs(0x1100, 1),
+                    Reads(BYTE + 1, 1, 0x1100),
+                    Reads(BYTE, 1, 0x1100),
+                ],
+            },
+            Stand {
+                station: 0x1002,
+                parts: &[Inputs(0x1100, 1), Reads(BYTE, 1, 0x1100)],
+            },
+            Stand {
+                station: 0x1003,
+                parts: &[Inputs(0x1100, 1), Reads(BYTE + 1, 1, 0x1100)],
+            },
+        ],
+        verdict: Err(MapFault::TwiceRead {
+            slave: 0,
+            fmmu: 0,
+            later_slave: 2,
+            later_fmmu: 0,
+            bit: 524_296,
+        }),
+    },
+    Row {
+        name: "of two writers of a bit that is read the first",
+        line: &[
+            Stand {
+                station: 0x1001,
+                parts: &[
+                    Outputs(0x1000, 2),
+                    Inputs(0x1100, 1),
+                    Writes(BYTE, 1, 0x1001),
+                    Reads(BYTE + 1, 1, 0x1100),
+                ],
+            },
+            Stand {
+                station: 0x1002,
+                parts: &[
+                    Outputs(0x1000, 2),
+                    Inputs(0x1100, 1),
+                    Reads(BYTE, 1, 0x1100),
+                ],
+            },
+            Stand {
+                station: 0x1003,
+                parts: &[
+                    Outputs(0x1000, 2),
+                    Inputs(0x1100, 1),
+                    Writes(BYTE, 2, 0x1000),
+                ],
+            },
+        ],
+        verdict: Err(MapFault::ReadAndWritten {
+            reader: 0,
+            reader_fmmu: 1,
+            writer: 2,
+            writer_fmmu: 0,
+            bit: 524_296,
+        }),
+    },
+];
 
 #[test]
-fn a_bad_fmmu_before_areas_that_meet(rt: HostRuntime) -> Result<(), Fail> {
-    let bad = Fmmu {
-        kind: 3,
-        ..Fmmu::reading(BYTE, 1, 0x1100)
-    };
-    let areas = [SyncMan::outputs(0x1000, 8), SyncMan::inputs(0x1004, 8)];
-    let line = [
-        slave(rt.alloc(), 0x1001, &areas, &[])?,
-        slave(rt.alloc(), 0x1002, &[], &[bad])?,
-    ];
-    let fault = MapFault::BadFmmu { slave: 1, fmmu: 0 };
-    assert_eq!(rt; check(&line), Err(fault));
-    Ok(())
-}
-
-#[test]
-fn areas_that_meet_before_an_fmmu_outside(rt: HostRuntime) -> Result<(), Fail> {
-    let areas = [SyncMan::outputs(0x1000, 8), SyncMan::inputs(0x1004, 8)];
-    let line = [
-        slave(rt.alloc(), 0x1001, &[], &[Fmmu::reading(BYTE, 1, 0x1100)])?,
-        slave(rt.alloc(), 0x1002, &areas, &[])?,
-    ];
-    let fault = MapFault::AreasMeet {
-        slave: 1,
-        sync_manager: 2,
-        later_sync_manager: 3,
-        address: 0x1004,
-    };
-    assert_eq!(rt; check(&line), Err(fault));
-    Ok(())
-}
-
-#[test]
-fn an_fmmu_outside_before_bits_written_twice(rt: HostRuntime) -> Result<(), Fail> {
-    let areas = [SyncMan::outputs(0x1000, 1), SyncMan::inputs(0x1100, 4)];
-    let twice = [
-        Fmmu::writing(BYTE, 1, 0x1000),
-        Fmmu::writing(BYTE, 1, 0x1000),
-    ];
-    let line = [
-        slave(rt.alloc(), 0x1001, &areas, &twice)?,
-        slave(
-            rt.alloc(),
-            0x1002,
-            &areas,
-            &[Fmmu::reading(BYTE, 8, 0x1100)],
-        )?,
-    ];
-    let fault = MapFault::OutsideArea {
-        slave: 1,
-        fmmu: 0,
-        address: 0x1104,
-    };
-    assert_eq!(rt; check(&line), Err(fault));
-    Ok(())
-}
-
-#[test]
-fn bits_written_twice_before_bits_read_twice(rt: HostRuntime) -> Result<(), Fail> {
-    let areas = [SyncMan::outputs(0x1000, 1), SyncMan::inputs(0x1100, 1)];
-    let read = [
-        Fmmu::reading(BYTE, 1, 0x1100),
-        Fmmu::reading(BYTE, 1, 0x1100),
-    ];
-    let written = [
-        Fmmu::writing(BYTE + 1, 1, 0x1000),
-        Fmmu::writing(BYTE + 2, 1, 0x1000),
-    ];
-    let line = [
-        slave(rt.alloc(), 0x1001, &areas, &read)?,
-        slave(rt.alloc(), 0x1002, &areas, &written)?,
-    ];
-    let fault = MapFault::TwiceWritten {
-        slave: 1,
-        fmmu: 0,
-        later_fmmu: 1,
-        bit: 32_768,
-    };
-    assert_eq!(rt; check(&line), Err(fault));
-    Ok(())
-}
-
-#[test]
-fn bits_read_twice_before_bits_read_and_written(rt: HostRuntime) -> Result<(), Fail> {
-    let areas = [SyncMan::outputs(0x1000, 1), SyncMan::inputs(0x1100, 1)];
-    let line = [
-        slave(
-            rt.alloc(),
-            0x1001,
-            &areas,
-            &[Fmmu::writing(BYTE, 1, 0x1000)],
-        )?,
-        slave(
-            rt.alloc(),
-            0x1002,
-            &areas,
-            &[Fmmu::reading(BYTE, 1, 0x1100)],
-        )?,
-        slave(
-            rt.alloc(),
-            0x1003,
-            &areas,
-            &[Fmmu::reading(BYTE, 1, 0x1100)],
-        )?,
-    ];
-    let fault = MapFault::TwiceRead {
-        slave: 1,
-        fmmu: 0,
-        later_slave: 2,
-        later_fmmu: 0,
-        bit: 524_288,
-    };
-    assert_eq!(rt; check(&line), Err(fault));
-    Ok(())
-}
-
-#[test]
-fn of_two_pairs_of_twins_the_first_slave_decides(rt: HostRuntime) -> Result<(), Fail> {
-    let line = [
-        slave(rt.alloc(), 0x1001, &[], &[])?,
-        slave(rt.alloc(), 0x1002, &[], &[])?,
-        slave(rt.alloc(), 0x1002, &[], &[])?,
-        slave(rt.alloc(), 0x1001, &[], &[])?,
-    ];
-    let fault = MapFault::TwinStation {
-        slave: 0,
-        later_slave: 3,
-    };
-    assert_eq!(rt; check(&line), Err(fault));
-    Ok(())
-}
-
-#[test]
-fn of_two_bad_fmmus_the_smaller_number(rt: HostRuntime) -> Result<(), Fail> {
-    let good = Fmmu::reading(BYTE, 1, 0x1100);
-    let bad = Fmmu { kind: 3, ..good };
-    let line = [
-        slave(rt.alloc(), 0x1001, &[], &[good, bad, bad])?,
-        slave(rt.alloc(), 0x1002, &[], &[bad])?,
-    ];
-    let fault = MapFault::BadFmmu { slave: 0, fmmu: 1 };
-    assert_eq!(rt; check(&line), Err(fault));
-    Ok(())
-}
-
-#[test]
-fn of_three_areas_the_first_that_meets_another(rt: HostRuntime) -> Result<(), Fail> {
-    let areas = [
-        SyncMan::inputs(0x1000, 4),
-        SyncMan::inputs(0x1010, 8),
-        SyncMan::inputs(0x1003, 16),
-    ];
-    let line = [slave(rt.alloc(), 0x1001, &areas, &[])?];
-    let fault = MapFault::AreasMeet {
-        slave: 0,
-        sync_manager: 2,
-        later_sync_manager: 4,
-        address: 0x1003,
-    };
-    assert_eq!(rt; check(&line), Err(fault));
-    Ok(())
-}
-
-#[test]
-fn of_two_fmmus_outside_the_smaller_number(rt: HostRuntime) -> Result<(), Fail> {
-    let fmmus = [
-        Fmmu::reading(BYTE, 8, 0x1100),
-        Fmmu::reading(BYTE, 1, 0x1000),
-    ];
-    let line = [slave(rt.alloc(), 0x1001, &[SyncMan::inputs(0x1100, 4)], &fmmus)?];
-    let fault = MapFault::OutsideArea {
-        slave: 0,
-        fmmu: 0,
-        address: 0x1104,
-    };
-    assert_eq!(rt; check(&line), Err(fault));
-    Ok(())
-}
-
-#[test]
-fn of_three_that_write_one_bit_the_first_two(rt: HostRuntime) -> Result<(), Fail> {
-    let fmmus = [
-        Fmmu::writing(BYTE, 2, 0x1000),
-        Fmmu::writing(BYTE, 1, 0x1001),
-        Fmmu::writing(BYTE, 1, 0x1000),
-    ];
-    let line = [slave(rt.alloc(), 0x1001, &[SyncMan::outputs(0x1000, 2)], &fmmus)?];
-    let fault = MapFault::TwiceWritten {
-        slave: 0,
-        fmmu: 0,
-        later_fmmu: 1,
-        bit: 32_776,
-    };
-    assert_eq!(rt; check(&line), Err(fault));
-    Ok(())
-}
-
-#[test]
-fn of_three_that_read_one_bit_the_first_two(rt: HostRuntime) -> Result<(), Fail> {
-    let areas = [SyncMan::inputs(0x1100, 1)];
-    let apart = [
-        Fmmu::reading(BYTE + 1, 1, 0x1100),
-        Fmmu::reading(BYTE, 1, 0x1100),
-    ];
-    let line = [
-        slave(rt.alloc(), 0x1001, &areas, &apart)?,
-        slave(
-            rt.alloc(),
-            0x1002,
-            &areas,
-            &[Fmmu::reading(BYTE, 1, 0x1100)],
-        )?,
-        slave(
-            rt.alloc(),
-            0x1003,
-            &areas,
-            &[Fmmu::reading(BYTE + 1, 1, 0x1100)],
-        )?,
-    ];
-    let fault = MapFault::TwiceRead {
-        slave: 0,
-        fmmu: 0,
-        later_slave: 2,
-        later_fmmu: 0,
-        bit: 524_296,
-    };
-    assert_eq!(rt; check(&line), Err(fault));
-    Ok(())
-}
-
-#[test]
-fn of_two_writers_of_a_bit_that_is_read_the_first(rt: HostRuntime) -> Result<(), Fail> {
-    let areas = [SyncMan::outputs(0x1000, 2), SyncMan::inputs(0x1100, 1)];
-    let both = [
-        Fmmu::writing(BYTE, 1, 0x1001),
-        Fmmu::reading(BYTE + 1, 1, 0x1100),
-    ];
-    let line = [
-        slave(rt.alloc(), 0x1001, &areas, &both)?,
-        slave(
-            rt.alloc(),
-            0x1002,
-            &areas,
-            &[Fmmu::reading(BYTE, 1, 0x1100)],
-        )?,
-        slave(
-            rt.alloc(),
-            0x1003,
-            &areas,
-            &[Fmmu::writing(BYTE, 2, 0x1000)],
-        )?,
-    ];
-    let fault = MapFault::ReadAndWritten {
-        reader: 0,
-        reader_fmmu: 1,
-        writer: 2,
-        writer_fmmu: 0,
-        bit: 524_296,
-    };
-    assert_eq!(rt; check(&line), Err(fault));
+fn of_several_faults_the_first_is_named(rt: HostRuntime) -> Result<(), Fail> {
+    for row in &ROWS {
+        assert_row(&rt, rt.alloc(), row)?;
+    }
     Ok(())
 }

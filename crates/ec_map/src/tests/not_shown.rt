@@ -1,146 +1,206 @@
 //! Which areas of outputs the items do not hand to their applications.
 
-use super::line::{BYTE, exchanging, slave};
-use crate::{Item, Kind, NotShown, WhyNotShown, first_not_shown};
-use ec_app::Slave;
-use ec_regs::{Fmmu, NoMemory, SyncMan};
+use super::line::Part::{Inputs, Maps, Outputs, Reads, Writes};
+use super::line::{Ask, BOTH_WAYS, BYTE, Stand, items_of, line_of};
+use crate::{Kind, NotShown, WhyNotShown, first_not_shown};
+use ec_regs::Fmmu;
 use std::alloc::Global;
+use std::process::Abort;
 use std::test::Fail;
 
 /// A slave with outputs of two bytes, all mapped.
-fn writing_two(alloc: Global, station: u16, logical: u32) -> Result<Slave, NoMemory> {
-    slave(
-        alloc,
-        station,
-        &[SyncMan::outputs(0x1000, 2)],
-        &[Fmmu::writing(logical, 2, 0x1000)],
-    )
+const WRITING_TWO: &[Stand] = &[Stand {
+    station: 0x1001,
+    parts: &[Outputs(0x1000, 2), Writes(BYTE, 2, 0x1000)],
+}];
+
+/// Two of them.
+const TWO_WRITING_TWO: &[Stand] = &[
+    Stand {
+        station: 0x1001,
+        parts: &[Outputs(0x1000, 2), Writes(BYTE, 2, 0x1000)],
+    },
+    Stand {
+        station: 0x1002,
+        parts: &[Outputs(0x1000, 2), Writes(BYTE + 2, 2, 0x1000)],
+    },
+];
+
+/// One of which a byte and bit 0 of the next are mapped.
+const NINE_BITS: &[Stand] = &[Stand {
+    station: 0x1001,
+    parts: &[
+        Outputs(0x1000, 2),
+        Maps(Fmmu {
+            length: 2,
+            stop: 0,
+            kind: 2,
+            ..BOTH_WAYS
+        }),
+    ],
+}];
+
+/// A line, the items of a cycle, and the first area of outputs that they do not show.
+struct Row {
+    name: &'static str,
+    line: &'static [Stand],
+    items: &'static [Ask],
+    not_shown: Option<NotShown>,
 }
 
-/// Sync manager 2 of a slave.
-fn found(slave: usize, why: WhyNotShown) -> Option<NotShown> {
-    Some(NotShown {
-        slave,
-        sync_manager: 2,
-        why,
-    })
-}
+const ROWS: [Row; 14] = [
+    Row {
+        name: "one write of the whole area shows it",
+        line: WRITING_TWO,
+        items: &[Ask(Kind::Lwr, BYTE, 2)],
+        not_shown: None,
+    },
+    Row {
+        name: "one exchange of the whole area shows it",
+        line: WRITING_TWO,
+        items: &[Ask(Kind::Lrw, BYTE, 2)],
+        not_shown: None,
+    },
+    Row {
+        name: "one addressed write of the whole area shows it",
+        line: WRITING_TWO,
+        items: &[Ask(Kind::Fpwr, 0x1000_1001, 2)],
+        not_shown: None,
+    },
+    Row {
+        name: "an area that no item writes is named",
+        line: WRITING_TWO,
+        items: &[],
+        not_shown: Some(NotShown {
+            slave: 0,
+            sync_manager: 2,
+            why: WhyNotShown::NeverCompleted,
+        }),
+    },
+    Row {
+        name: "an area that is only read is named",
+        line: WRITING_TWO,
+        items: &[Ask(Kind::Lrd, BYTE, 2)],
+        not_shown: Some(NotShown {
+            slave: 0,
+            sync_manager: 2,
+            why: WhyNotShown::NeverCompleted,
+        }),
+    },
+    Row {
+        name: "the second of two items leaves the last byte",
+        line: WRITING_TWO,
+        items: &[Ask(Kind::Lwr, BYTE + 1, 1), Ask(Kind::Lwr, BYTE, 1)],
+        not_shown: Some(NotShown {
+            slave: 0,
+            sync_manager: 2,
+            why: WhyNotShown::LeftBy { item: 1 },
+        }),
+    },
+    Row {
+        name: "the first of two items leaves the last byte",
+        line: WRITING_TWO,
+        items: &[Ask(Kind::Lwr, BYTE, 1), Ask(Kind::Lwr, BYTE + 1, 1)],
+        not_shown: Some(NotShown {
+            slave: 0,
+            sync_manager: 2,
+            why: WhyNotShown::LeftBy { item: 0 },
+        }),
+    },
+    Row {
+        name: "an addressed write may leave an area",
+        line: TWO_WRITING_TWO,
+        items: &[
+            Ask(Kind::Lwr, BYTE, 4),
+            Ask(Kind::Fpwr, 0x1001_1001, 1),
+            Ask(Kind::Fpwr, 0x1000_1002, 1),
+        ],
+        not_shown: Some(NotShown {
+            slave: 1,
+            sync_manager: 2,
+            why: WhyNotShown::LeftBy { item: 2 },
+        }),
+    },
+    Row {
+        name: "two slaves in two items are shown",
+        line: TWO_WRITING_TWO,
+        items: &[Ask(Kind::Lwr, BYTE, 2), Ask(Kind::Lwr, BYTE + 2, 2)],
+        not_shown: None,
+    },
+    Row {
+        name: "two items that meet within the second area leave it",
+        line: TWO_WRITING_TWO,
+        items: &[Ask(Kind::Lwr, BYTE, 3), Ask(Kind::Lwr, BYTE + 3, 1)],
+        not_shown: Some(NotShown {
+            slave: 1,
+            sync_manager: 2,
+            why: WhyNotShown::LeftBy { item: 0 },
+        }),
+    },
+    Row {
+        name: "an area whose last byte is not mapped is named",
+        line: &[
+            Stand {
+                station: 0x1001,
+                parts: &[
+                    Outputs(0x1000, 1),
+                    Inputs(0x1100, 1),
+                    Writes(BYTE, 1, 0x1000),
+                    Reads(BYTE, 1, 0x1100),
+                ],
+            },
+            Stand {
+                station: 0x1002,
+                parts: &[Outputs(0x1000, 2), Writes(BYTE + 1, 1, 0x1000)],
+            },
+        ],
+        items: &[Ask(Kind::Lrw, BYTE, 2)],
+        not_shown: Some(NotShown {
+            slave: 1,
+            sync_manager: 2,
+            why: WhyNotShown::LeftBy { item: 0 },
+        }),
+    },
+    Row {
+        name: "an area that nothing maps is not asked about",
+        line: &[Stand {
+            station: 0x1001,
+            parts: &[Outputs(0x1000, 2)],
+        }],
+        items: &[],
+        not_shown: None,
+    },
+    Row {
+        name: "one bit of the last byte is enough",
+        line: NINE_BITS,
+        items: &[Ask(Kind::Lwr, BYTE, 2)],
+        not_shown: None,
+    },
+    Row {
+        name: "no bit of the last byte is not",
+        line: NINE_BITS,
+        items: &[Ask(Kind::Lwr, BYTE, 1)],
+        not_shown: Some(NotShown {
+            slave: 0,
+            sync_manager: 2,
+            why: WhyNotShown::LeftBy { item: 0 },
+        }),
+    },
+];
 
-/// It is left by an item.
-fn left_by(slave: usize, item: usize) -> Option<NotShown> {
-    found(slave, WhyNotShown::LeftBy { item })
-}
-
-#[test]
-fn one_item_for_the_whole_area_shows_it(rt: HostRuntime) -> Result<(), Fail> {
-    let line = [writing_two(rt.alloc(), 0x1001, BYTE)?];
-    let whole = [Item::new(Kind::Lwr, BYTE, &[0; 2])?];
-    assert_eq!(rt; first_not_shown(&line, &whole), None);
-    let exchanged = [Item::new(Kind::Lrw, BYTE, &[0; 2])?];
-    assert_eq!(rt; first_not_shown(&line, &exchanged), None);
-    let named = [Item::new(Kind::Fpwr, 0x1000_1001, &[0; 2])?];
-    assert_eq!(rt; first_not_shown(&line, &named), None);
+/// Asserts one row of the table.
+fn assert_row(rt: &impl Abort, alloc: Global, row: &Row) -> Result<(), Fail> {
+    let line = line_of(rt, alloc, row.line)?;
+    let items = items_of(rt, alloc, row.items)?;
+    let (name, found) = (row.name, first_not_shown(&line, &items));
+    assert!(rt; found == row.not_shown, "{name}: {found:?}");
     Ok(())
 }
 
 #[test]
-fn an_area_that_no_item_writes_is_named(rt: HostRuntime) -> Result<(), Fail> {
-    let line = [writing_two(rt.alloc(), 0x1001, BYTE)?];
-    assert_eq!(rt;
-        first_not_shown(&line, &[]),
-        found(0, WhyNotShown::NeverCompleted)
-    );
-    let reads = [Item::new(Kind::Lrd, BYTE, &[0; 2])?];
-    assert_eq!(rt;
-        first_not_shown(&line, &reads),
-        found(0, WhyNotShown::NeverCompleted)
-    );
-    Ok(())
-}
-
-#[test]
-fn two_items_of_which_one_leaves_the_last_byte(rt: HostRuntime) -> Result<(), Fail> {
-    let line = [writing_two(rt.alloc(), 0x1001, BYTE)?];
-    let last_first = [
-        Item::new(Kind::Lwr, BYTE + 1, &[0])?,
-        Item::new(Kind::Lwr, BYTE, &[0])?,
-    ];
-    assert_eq!(rt; first_not_shown(&line, &last_first), left_by(0, 1));
-    let in_order = [
-        Item::new(Kind::Lwr, BYTE, &[0])?,
-        Item::new(Kind::Lwr, BYTE + 1, &[0])?,
-    ];
-    assert_eq!(rt; first_not_shown(&line, &in_order), left_by(0, 0));
-    Ok(())
-}
-
-#[test]
-fn an_addressed_write_may_leave_an_area(rt: HostRuntime) -> Result<(), Fail> {
-    let line = [
-        writing_two(rt.alloc(), 0x1001, BYTE)?,
-        writing_two(rt.alloc(), 0x1002, BYTE + 2)?,
-    ];
-    let items = [
-        Item::new(Kind::Lwr, BYTE, &[0; 4])?,
-        Item::new(Kind::Fpwr, 0x1001_1001, &[0])?,
-        Item::new(Kind::Fpwr, 0x1000_1002, &[0])?,
-    ];
-    assert_eq!(rt; first_not_shown(&line, &items), left_by(1, 2));
-    Ok(())
-}
-
-#[test]
-fn two_slaves_in_two_items_are_shown(rt: HostRuntime) -> Result<(), Fail> {
-    let line = [
-        writing_two(rt.alloc(), 0x1001, BYTE)?,
-        writing_two(rt.alloc(), 0x1002, BYTE + 2)?,
-    ];
-    let apart = [
-        Item::new(Kind::Lwr, BYTE, &[0; 2])?,
-        Item::new(Kind::Lwr, BYTE + 2, &[0; 2])?,
-    ];
-    assert_eq!(rt; first_not_shown(&line, &apart), None);
-    let across = [
-        Item::new(Kind::Lwr, BYTE, &[0; 3])?,
-        Item::new(Kind::Lwr, BYTE + 3, &[0])?,
-    ];
-    assert_eq!(rt; first_not_shown(&line, &across), left_by(1, 0));
-    Ok(())
-}
-
-#[test]
-fn an_area_whose_last_byte_is_not_mapped_is_named(rt: HostRuntime) -> Result<(), Fail> {
-    let line = [
-        exchanging(rt.alloc(), 0x1001, BYTE)?,
-        slave(
-            rt.alloc(),
-            0x1002,
-            &[SyncMan::outputs(0x1000, 2)],
-            &[Fmmu::writing(BYTE + 1, 1, 0x1000)],
-        )?,
-    ];
-    let items = [Item::new(Kind::Lrw, BYTE, &[0; 2])?];
-    assert_eq!(rt; first_not_shown(&line, &items), left_by(1, 0));
-    Ok(())
-}
-
-#[test]
-fn an_area_that_nothing_maps_is_not_asked_about(rt: HostRuntime) -> Result<(), Fail> {
-    let line = [slave(rt.alloc(), 0x1001, &[SyncMan::outputs(0x1000, 2)], &[])?];
-    assert_eq!(rt; first_not_shown(&line, &[]), None);
-    Ok(())
-}
-
-#[test]
-fn one_bit_of_the_last_byte_is_enough(rt: HostRuntime) -> Result<(), Fail> {
-    let nine = Fmmu {
-        stop: 0,
-        ..Fmmu::writing(BYTE, 2, 0x1000)
-    };
-    let line = [slave(rt.alloc(), 0x1001, &[SyncMan::outputs(0x1000, 2)], &[nine])?];
-    let whole = [Item::new(Kind::Lwr, BYTE, &[0; 2])?];
-    assert_eq!(rt; first_not_shown(&line, &whole), None);
-    let short = [Item::new(Kind::Lwr, BYTE, &[0])?];
-    assert_eq!(rt; first_not_shown(&line, &short), left_by(0, 0));
+fn the_first_area_that_is_not_shown_is_named(rt: HostRuntime) -> Result<(), Fail> {
+    for row in &ROWS {
+        assert_row(&rt, rt.alloc(), row)?;
+    }
     Ok(())
 }

@@ -2,8 +2,8 @@
 
 ghost use Rattle.std.specs.Prelude.{⊤};
 
-use super::assert_same;
 use super::many::{area, byte};
+use super::{assert_row, assert_same};
 use crate::{
     PortFault, Ports, Refusal, RingPorts, Verdict, Work, accept, all_expected, checked_cycle,
     run_cycle,
@@ -64,47 +64,74 @@ fn a_line_is_checked_once(rt: HostRuntime) {
     assert_same(&rt, counters(&rt, &work), (4099, 4097));
 }
 
-#[test]
-fn a_misplaced_fmmu_is_refused(rt: HostRuntime) {
-    let ring = ring(&rt, rt.alloc(), 0x1101);
-    let outside = MapFault::OutsideArea {
-        slave: 0,
-        fmmu: 1,
-        address: 0x1101,
-    };
-    assert_same(
-        &rt,
-        accept(ring.slaves(), &work(&rt, 0x1100)),
-        Err(Refusal::Line(outside)),
-    );
+/// The ring of one slave that puts a byte `from` there, of which one link may be down, and the work that
+/// reads another byte from `read_from`; what a checked cycle comes to, and the counters of the work then.
+struct Row {
+    name: &'static str,
+    from: u16,
+    down: Option<usize>,
+    read_from: u32,
+    end: Result<Verdict, Refusal>,
+    counters: (u16, u16),
+}
+
+const ROWS: [Row; 3] = [
+    Row {
+        name: "a misplaced FMMU is refused",
+        from: 0x1101,
+        down: None,
+        read_from: 0x1100,
+        end: Err(Refusal::Line(MapFault::OutsideArea {
+            slave: 0,
+            fmmu: 1,
+            address: 0x1101,
+        })),
+        counters: (0, 0),
+    },
+    Row {
+        name: "a misplaced item is refused",
+        from: 0x1100,
+        down: None,
+        read_from: 0x1200,
+        end: Err(Refusal::Item(
+            1,
+            PlaceFault::OutsideRead {
+                slave: 0,
+                address: 0x1200,
+            },
+        )),
+        counters: (0, 0),
+    },
+    Row {
+        name: "a checked cycle is good with a cable broken",
+        from: 0x1100,
+        down: Some(1),
+        read_from: 0x1100,
+        end: Ok(Verdict::Good),
+        counters: (3, 1),
+    },
+];
+
+/// Asserts one row of the table.
+fn assert_checked(rt: &impl Abort, alloc: Global, row: &Row) {
+    let mut ring = ring(rt, alloc, row.from);
+    if let Some(link) = row.down {
+        assert!(rt; link <= ring.slaves().len(), "no such link");
+        ring.set_link(link, false);
+    }
+    let mut work = work(rt, row.read_from);
+    let refusal = accept(ring.slaves(), &work).err();
+    assert_row(rt, row.name, refusal, row.end.err());
+    let end = checked_cycle(&mut ring, &[], &mut work);
+    assert_row(rt, row.name, end, row.end);
+    assert_row(rt, row.name, counters(rt, &work), row.counters);
 }
 
 #[test]
-fn a_misplaced_item_is_refused(rt: HostRuntime) {
-    let mut ring = ring(&rt, rt.alloc(), 0x1100);
-    let mut work = work(&rt, 0x1200);
-    let outside = PlaceFault::OutsideRead {
-        slave: 0,
-        address: 0x1200,
-    };
-    let refusal = Refusal::Item(1, outside);
-    assert_same(&rt, accept(ring.slaves(), &work), Err(refusal));
-    assert_same(&rt, checked_cycle(&mut ring, &[], &mut work), Err(refusal));
-    assert_same(&rt, counters(&rt, &work), (0, 0));
-}
-
-#[test]
-fn a_checked_cycle_is_good_with_a_cable_broken(rt: HostRuntime) {
-    let mut ring = ring(&rt, rt.alloc(), 0x1100);
-    assert_eq!(rt; ring.slaves().len(), 1);
-    ring.set_link(1, false);
-    let mut work = work(&rt, 0x1100);
-    assert_same(
-        &rt,
-        checked_cycle(&mut ring, &[], &mut work),
-        Ok(Verdict::Good),
-    );
-    assert_same(&rt, counters(&rt, &work), (3, 1));
+fn a_line_and_a_work_are_checked_before_a_cycle(rt: HostRuntime) {
+    for row in &ROWS {
+        assert_checked(&rt, rt.alloc(), row);
+    }
 }
 
 #[test]
@@ -161,8 +188,12 @@ fn third_verdict(rt: &impl Abort, rounds: [u64; 3]) -> Verdict {
 
 #[test]
 fn a_copy_of_the_cycle_before_is_told_by_its_round(rt: HostRuntime) {
-    assert_same(&rt, third_verdict(&rt, [7, 8, 9]), Verdict::Over(0));
-    assert_same(&rt, third_verdict(&rt, [31, 32, 33]), Verdict::Over(0));
-    // Cycles that all begin the same round take it for their own.
-    assert_same(&rt, third_verdict(&rt, [7, 7, 7]), Verdict::Good);
+    for (rounds, verdict) in [
+        ([7, 8, 9], Verdict::Over(0)),
+        ([31, 32, 33], Verdict::Over(0)),
+        // Cycles that all begin the same round take it for their own.
+        ([7, 7, 7], Verdict::Good),
+    ] {
+        assert_same(&rt, third_verdict(&rt, rounds), verdict);
+    }
 }

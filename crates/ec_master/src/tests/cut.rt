@@ -1,46 +1,85 @@
 //! Works and the frames that they are cut into.
 
-use super::assert_same;
+use super::assert_row;
 use crate::cut::frame_from;
 use crate::work::{Full, Work};
 use ec_map::{Item, Kind};
 use std::process::Abort;
 
-/// A work that asks these bytes, one item after the other.
-fn push(rt: &impl Abort, work: &mut Work, bytes: &[u8]) {
-    let item = Item::new(Kind::Lrd, 0, bytes).expect(rt, "an item");
-    work.push(item).expect(rt, "room");
+/// Items of so many bytes one after the other, and how many of them travel in a frame by its first one.
+struct Row {
+    name: &'static str,
+    lengths: &'static [usize],
+    frames: &'static [Frame],
 }
 
-#[test]
-fn two_items_that_fill_a_frame_travel_in_one(rt: HostRuntime) {
-    let mut work = Work::new();
-    push(&rt, &mut work, &[0; 737]);
-    push(&rt, &mut work, &[0; 737]);
-    assert_eq!(rt; work.len(), 2);
-    assert_same(&rt, frame_from(&work, 0).count(), 2);
+/// A frame of a work.
+struct Frame {
+    first: usize,
+    count: usize,
 }
 
-#[test]
-fn one_byte_more_travels_in_two(rt: HostRuntime) {
-    let mut work = Work::new();
-    push(&rt, &mut work, &[0; 738]);
-    push(&rt, &mut work, &[0; 737]);
-    assert_eq!(rt; work.len(), 2);
-    assert_same(&rt, frame_from(&work, 0).count(), 1);
-    assert_same(&rt, frame_from(&work, 1).count(), 1);
+const ROWS: [Row; 3] = [
+    Row {
+        name: "two items that fill a frame travel in one",
+        lengths: &[737, 737],
+        frames: &[Frame { first: 0, count: 2 }],
+    },
+    Row {
+        name: "one byte more travels in two",
+        lengths: &[738, 737],
+        frames: &[Frame { first: 0, count: 1 }, Frame { first: 1, count: 1 }],
+    },
+    Row {
+        name: "the most items of 35 bytes travel in two",
+        lengths: &[35; 32],
+        frames: &[
+            Frame {
+                first: 0,
+                count: 31,
+            },
+            Frame {
+                first: 31,
+                count: 1,
+            },
+        ],
+    },
+];
+
+/// More bytes of 0 than any item of the table has.
+const ZEROS: [u8; 738] = [0; 738];
+
+/// An item of so many bytes.
+fn item(rt: &impl Abort, length: usize) -> Item {
+    assert!(rt; length <= ZEROS.len(), "too long an item");
+    Item::new(Kind::Lrd, 0, &ZEROS[..length]).expect(rt, "an item")
 }
 
-#[test]
-fn the_most_items_of_35_bytes_travel_in_two(rt: HostRuntime) {
+/// Asserts one row of the table, and that a work of 32 items is full.
+fn assert_cut(rt: &impl Abort, row: &Row) {
     let mut work = Work::new();
-    for _k in 0..32u32 {
-        push(&rt, &mut work, &[0; 35]);
+    for length in row.lengths {
+        work.push(item(rt, *length)).expect(rt, "room");
     }
-    assert_eq!(rt; work.len(), 32);
-    assert_same(&rt, frame_from(&work, 0).count(), 31);
-    assert_same(&rt, frame_from(&work, 31).count(), 1);
-    let item = Item::new(Kind::Lrd, 0, &[0; 35]).expect(&rt, "an item");
-    assert_same(&rt, work.push(item), Err(Full));
-    assert_eq!(rt; work.len(), 32);
+    assert_row(rt, row.name, work.len(), row.lengths.len());
+    for frame in row.frames {
+        assert!(rt; frame.first < work.len(), "no such item");
+        assert_row(
+            rt,
+            row.name,
+            frame_from(&work, frame.first).count(),
+            frame.count,
+        );
+    }
+    if row.lengths.len() == 32 {
+        assert_row(rt, row.name, work.push(item(rt, 35)), Err(Full));
+        assert_row(rt, row.name, work.len(), 32);
+    }
+}
+
+#[test]
+fn a_frame_takes_as_many_items_as_it_holds(rt: HostRuntime) {
+    for row in &ROWS {
+        assert_cut(&rt, row);
+    }
 }

@@ -2,7 +2,7 @@
 
 ghost use Rattle.std.specs.Prelude.{◌≤◌};
 
-use super::assert_same;
+use super::assert_row;
 use crate::{CycleFault, PortFault, Ports, Verdict, Work, run_cycle};
 use ec_map::{Item, Kind};
 use ec_ring::Came;
@@ -106,84 +106,102 @@ impl Ports for Fates {
     }
 }
 
-/// Two items that do not fit into one frame: logical reads of 1,000 bytes each.
-fn two_frames(rt: &impl Abort) -> Work {
+/// What befalls the frames of a cycle, one item each, what the cycle comes to, how many trips were made, how
+/// many of them failed, and what is left then of each item: its first byte and its counter.
+struct Row {
+    name: &'static str,
+    items: usize,
+    fates: [Fate; 3],
+    end: Result<Verdict, CycleFault>,
+    trips: usize,
+    failures: u64,
+    left: (u8, u16),
+}
+
+const ROWS: [Row; 5] = [
+    Row {
+        name: "good answers are taken from either place",
+        items: 2,
+        fates: [Fate::AnsweredA, Fate::AnsweredB, Fate::Fault],
+        end: Ok(Verdict::Good),
+        trips: 2,
+        failures: 0,
+        left: (7, 1),
+    },
+    Row {
+        name: "a lost answer leaves the work",
+        items: 2,
+        fates: [Fate::AnsweredA, Fate::Lost, Fate::Fault],
+        end: Ok(Verdict::Short(1)),
+        trips: 2,
+        failures: 0,
+        left: (0, 0),
+    },
+    Row {
+        name: "a stranger ends the cycle",
+        items: 2,
+        fates: [Fate::AnsweredA, Fate::Stranger, Fate::Fault],
+        end: Err(CycleFault::Stranger),
+        trips: 2,
+        failures: 0,
+        left: (0, 0),
+    },
+    Row {
+        name: "the first fault ends the cycle",
+        items: 2,
+        fates: [Fate::Fault, Fate::Stranger, Fate::Fault],
+        end: Err(CycleFault::Port),
+        trips: 1,
+        failures: 1,
+        left: (0, 0),
+    },
+    Row {
+        name: "a fault at the second trip is the last trip",
+        items: 3,
+        fates: [Fate::AnsweredA, Fate::Fault, Fate::AnsweredA],
+        end: Err(CycleFault::Port),
+        trips: 2,
+        failures: 1,
+        left: (0, 0),
+    },
+];
+
+/// Items of which no two fit into one frame: logical reads of 1,000 bytes each.
+fn work(rt: &impl Abort, items: usize) -> Work {
     let mut work = Work::new();
-    let bytes = [0; 1000];
-    for address in [0, 0x2000] {
-        let item = Item::new(Kind::Lrd, address, &bytes).expect(rt, "an item");
+    for address in [0, 0x2000, 0x4000].iter().take(items) {
+        let item = Item::new(Kind::Lrd, *address, &[0; 1000]).expect(rt, "an item");
         work.push(item).expect(rt, "room");
     }
     work
 }
 
-/// The answer of a cycle of those two items, each of which is expected to count 1, and what is left then: the
-/// first byte and the counter of each item.
-fn cycle(rt: &impl Abort, ports: &mut Fates) -> (Result<Verdict, CycleFault>, [(u8, u16); 2]) {
-    let mut work = two_frames(rt);
-    assert_eq!(rt; work.len(), 2);
-    let verdict = run_cycle(ports, &mut work, &[1, 1]);
-    assert_eq!(rt; work.len(), 2);
-    (verdict, [left(rt, work.item(0)), left(rt, work.item(1))])
-}
-
-/// The first byte and the counter of an item.
-fn left(rt: &impl Abort, item: &Item) -> (u8, u16) {
-    (*item.data().first().expect(rt, "a byte"), item.counter())
-}
-
-#[test]
-fn good_answers_are_taken_from_either_place(rt: HostRuntime) {
-    let mut ports = Fates::new([Fate::AnsweredA, Fate::AnsweredB, Fate::Fault]);
-    let (verdict, left) = cycle(&rt, &mut ports);
-    assert_same(&rt, verdict, Ok(Verdict::Good));
-    assert_same(&rt, left, [(7, 1), (7, 1)]);
-    assert_same(&rt, ports.failures(), 0);
-}
-
-#[test]
-fn a_lost_answer_leaves_the_work(rt: HostRuntime) {
-    let mut ports = Fates::new([Fate::AnsweredA, Fate::Lost, Fate::Fault]);
-    let (verdict, left) = cycle(&rt, &mut ports);
-    assert_same(&rt, verdict, Ok(Verdict::Short(1)));
-    assert_same(&rt, left, [(0, 0), (0, 0)]);
+/// Asserts one row of the table; each item is expected to count 1.
+fn assert_cycle(rt: &impl Abort, row: &Row) {
+    let mut ports = Fates::new(row.fates);
+    let mut work = work(rt, row.items);
+    let expected = [1; 3];
+    assert!(rt; row.items <= 3 && work.len() == row.items, "too many items");
+    let verdict = run_cycle(&mut ports, &mut work, &expected[..row.items]);
+    assert_row(rt, row.name, verdict, row.end);
+    assert_row(rt, row.name, ports.next, row.trips);
+    assert_row(rt, row.name, ports.failures(), row.failures);
+    assert_row(rt, row.name, work.len(), row.items);
+    for k in 0..work.len() {
+        let item = work.item(k);
+        let first = item.data().first().copied();
+        assert_row(
+            rt,
+            row.name,
+            (first, item.counter()),
+            (Some(row.left.0), row.left.1),
+        );
+    }
 }
 
 #[test]
-fn a_stranger_ends_the_cycle(rt: HostRuntime) {
-    let mut ports = Fates::new([Fate::AnsweredA, Fate::Stranger, Fate::Fault]);
-    let (verdict, left) = cycle(&rt, &mut ports);
-    assert_same(&rt, verdict, Err(CycleFault::Stranger));
-    assert_same(&rt, left, [(0, 0), (0, 0)]);
-    assert_same(&rt, ports.failures(), 0);
-}
-
-#[test]
-fn the_first_fault_ends_the_cycle(rt: HostRuntime) {
-    let mut ports = Fates::new([Fate::Fault, Fate::Stranger, Fate::Fault]);
-    let (verdict, left) = cycle(&rt, &mut ports);
-    assert_same(&rt, verdict, Err(CycleFault::Port));
-    assert_same(&rt, left, [(0, 0), (0, 0)]);
-    assert_same(&rt, ports.failures(), 1);
-}
-
-/// Three items of a frame each.
-fn three_frames(rt: &impl Abort) -> Work {
-    let mut work = two_frames(rt);
-    let item = Item::new(Kind::Lrd, 0x4000, &[0; 1000]).expect(rt, "an item");
-    work.push(item).expect(rt, "room");
-    work
-}
-
-#[test]
-fn a_fault_at_the_second_trip_is_the_last_trip(rt: HostRuntime) {
-    let mut ports = Fates::new([Fate::AnsweredA, Fate::Fault, Fate::AnsweredA]);
-    let mut work = three_frames(&rt);
-    assert_eq!(rt; work.len(), 3);
-    let verdict = run_cycle(&mut ports, &mut work, &[1, 1, 1]);
-    assert_same(&rt, verdict, Err(CycleFault::Port));
-    assert_same(&rt, ports.next, 2);
-    assert_same(&rt, ports.failures(), 1);
-    assert_eq!(rt; work.len(), 3);
-    assert_same(&rt, left(&rt, work.item(0)), (0, 0));
+fn answers_are_taken_all_or_none(rt: HostRuntime) {
+    for row in &ROWS {
+        assert_cycle(&rt, row);
+    }
 }

@@ -1,8 +1,6 @@
 //! What is told of cycles whose verdict is not good: the counts of items, and the copies of frames.
 
-ghost use Rattle.std.specs.Prelude.{◌<◌, ◌≤◌};
-
-use super::assert_same;
+use super::assert_row;
 use super::many::slave;
 use crate::{CopiesBack, Report, Reporting, Verdict, WeatherPorts, Work};
 use ec_map::{Item, Kind};
@@ -18,6 +16,8 @@ const BOTH: CopiesBack = CopiesBack { a: true, b: true };
 const ONLY_A: CopiesBack = CopiesBack { a: true, b: false };
 
 const ONLY_B: CopiesBack = CopiesBack { a: false, b: true };
+
+const NEITHER: CopiesBack = CopiesBack { a: false, b: false };
 
 /// A ring of three slaves that exchange a byte each.
 fn ring(rt: &impl Abort, alloc: Global) -> Ring {
@@ -41,117 +41,248 @@ fn work(rt: &impl Abort, image: &[u8]) -> Work {
     work
 }
 
-/// Links of which these two are down.
-fn down(first: usize, second: usize) -> Links
-    requires first { first ≤ 256 }
-    requires second { second ≤ 256 }
-{
+/// What befalls the copies of a frame: the links that are down for each, and whether it is lost.
+struct Sky {
+    down_a: &'static [usize],
+    down_b: &'static [usize],
+    lost_a: bool,
+    lost_b: bool,
+}
+
+/// Nothing.
+const CALM: Sky = Sky {
+    down_a: &[],
+    down_b: &[],
+    lost_a: false,
+    lost_b: false,
+};
+
+/// The verdict of a cycle, and what is told of it.
+struct Told {
+    verdict: Verdict,
+    counts: &'static [u16],
+    copies: &'static [CopiesBack],
+}
+
+/// What is asked in each cycle.
+#[derive(Clone, Copy)]
+enum Asked {
+    /// An exchange of so many bytes of the logical image, and AL status.
+    Image(usize),
+    /// So many reads of 100 bytes from each slave.
+    Reads(usize),
+}
+
+/// Cycles one after the other, whose items are expected to count so. Past the list of skies all is calm.
+struct Row {
+    name: &'static str,
+    skies: &'static [Sky],
+    asked: Asked,
+    expected: &'static [u16],
+    told: &'static [Told],
+}
+
+const ROWS: [Row; 7] = [
+    Row {
+        name: "a whole ring counts all",
+        skies: &[],
+        asked: Asked::Image(3),
+        expected: &EXPECTED,
+        told: &[Told {
+            verdict: Verdict::Good,
+            counts: &[9, 3],
+            copies: &[BOTH],
+        }],
+    },
+    Row {
+        name: "a slave between two broken links is not counted",
+        skies: &[Sky {
+            down_a: &[1, 2],
+            down_b: &[1, 2],
+            lost_a: false,
+            lost_b: false,
+        }],
+        asked: Asked::Image(3),
+        expected: &EXPECTED,
+        told: &[Told {
+            verdict: Verdict::Short(0),
+            counts: &[6, 2],
+            copies: &[BOTH],
+        }],
+    },
+    Row {
+        name: "slaves that a lost copy passed are not counted",
+        skies: &[Sky {
+            down_a: &[2],
+            down_b: &[2],
+            lost_a: true,
+            lost_b: false,
+        }],
+        asked: Asked::Image(3),
+        expected: &EXPECTED,
+        told: &[Told {
+            verdict: Verdict::Short(0),
+            counts: &[3, 1],
+            copies: &[ONLY_B],
+        }],
+    },
+    Row {
+        name: "slaves that both copies passed are counted twice",
+        skies: &[Sky {
+            down_a: &[],
+            down_b: &[0],
+            lost_a: false,
+            lost_b: false,
+        }],
+        asked: Asked::Image(3),
+        expected: &EXPECTED,
+        told: &[Told {
+            verdict: Verdict::Over(0),
+            counts: &[18, 6],
+            copies: &[BOTH],
+        }],
+    },
+    Row {
+        name: "each frame has its own copies",
+        skies: &[
+            Sky {
+                down_a: &[3],
+                down_b: &[3],
+                lost_a: false,
+                lost_b: true,
+            },
+            CALM,
+        ],
+        asked: Asked::Image(1486),
+        expected: &EXPECTED,
+        told: &[Told {
+            verdict: Verdict::Good,
+            counts: &[9, 3],
+            copies: &[ONLY_A, BOTH],
+        }],
+    },
+    Row {
+        name: "a report is that of the last cycle",
+        skies: &[Sky {
+            down_a: &[0, 3],
+            down_b: &[0, 3],
+            lost_a: false,
+            lost_b: false,
+        }],
+        asked: Asked::Image(3),
+        expected: &EXPECTED,
+        told: &[
+            Told {
+                verdict: Verdict::Short(0),
+                counts: &[0, 0],
+                copies: &[NEITHER],
+            },
+            Told {
+                verdict: Verdict::Good,
+                counts: &[9, 3],
+                copies: &[BOTH],
+            },
+        ],
+    },
+    Row {
+        name: "thirty-two items are told frame by frame",
+        skies: &[
+            CALM,
+            Sky {
+                down_a: &[1, 2],
+                down_b: &[1, 2],
+                ..CALM
+            },
+            Sky {
+                down_a: &[3],
+                down_b: &[3],
+                ..CALM
+            },
+        ],
+        asked: Asked::Reads(32),
+        expected: &[3; 32],
+        told: &[Told {
+            verdict: Verdict::Short(13),
+            counts: &[
+                3, 3, 3, 3, 3, 3, 3, 3, 3, 3, 3, 3, 3, 2, 2, 2, 2, 2, 2, 2, 2, 2, 2, 2, 2, 2, 3, 3,
+                3, 3, 3, 3,
+            ],
+            copies: &[BOTH, BOTH, ONLY_A],
+        }],
+    },
+];
+
+/// Links of which these are down.
+fn links(rt: &impl Abort, down: &[usize]) -> Links {
     let mut links = Links::new();
-    links.set(first, false);
-    links.set(second, false);
+    for link in down {
+        assert!(rt; *link <= 256, "no such link");
+        links.set(*link, false);
+    }
     links
 }
 
-/// The verdict of a cycle in these weathers, and what is told of it.
-fn told(
-    rt: &impl Abort,
-    alloc: Global,
-    weathers: &[Weather],
-    image: &[u8],
-) -> (Option<Verdict>, Report) {
-    let mut ports = Reporting::new(WeatherPorts::new(ring(rt, alloc), weathers));
-    let mut work = work(rt, image);
-    assert_eq!(rt; work.len(), 2);
-    let verdict = ports.cycle(&mut work, &EXPECTED).ok();
-    (verdict, ports.into_parts().1)
-}
-
-/// Asserts that a cycle in these weathers has this verdict, and that it is told so of it.
-fn assert_told(
-    rt: &impl Abort,
-    found: (Option<Verdict>, Report),
-    verdict: Verdict,
-    counts: &[u16],
-    copies: &[CopiesBack],
-) {
-    assert_eq!(rt; found.0, Some(verdict));
-    assert_eq!(rt; found.1.counts(), counts);
-    assert_eq!(rt; found.1.copies(), copies);
-}
-
-#[test]
-fn a_whole_ring_counts_all(rt: HostRuntime) {
-    let found = told(&rt, rt.alloc(), &[], &[0xFF; 3]);
-    assert_told(&rt, found, Verdict::Good, &EXPECTED, &[BOTH]);
-}
-
-#[test]
-fn a_slave_between_two_broken_links_is_not_counted(rt: HostRuntime) {
-    let weather = Weather::calm(down(1, 2));
-    let found = told(&rt, rt.alloc(), &[weather], &[0xFF; 3]);
-    assert_told(&rt, found, Verdict::Short(0), &[6, 2], &[BOTH]);
-}
-
-#[test]
-fn slaves_that_a_lost_copy_passed_are_not_counted(rt: HostRuntime) {
-    let mut weather = Weather::calm(down(2, 2));
-    weather.lost_a = true;
-    let found = told(&rt, rt.alloc(), &[weather], &[0xFF; 3]);
-    assert_told(&rt, found, Verdict::Short(0), &[3, 1], &[ONLY_B]);
-}
-
-#[test]
-fn slaves_that_both_copies_passed_are_counted_twice(rt: HostRuntime) {
-    let mut weather = Weather::calm(Links::new());
-    weather.b = down(0, 0);
-    let found = told(&rt, rt.alloc(), &[weather], &[0xFF; 3]);
-    assert_told(&rt, found, Verdict::Over(0), &[18, 6], &[BOTH]);
-}
-
-#[test]
-fn each_frame_has_its_own_copies(rt: HostRuntime) {
-    let whole = Weather::calm(Links::new());
-    let mut broken = Weather::calm(down(3, 3));
-    broken.lost_b = true;
-    let found = told(&rt, rt.alloc(), &[broken, whole], &[0xFF; 1486]);
-    assert_told(&rt, found, Verdict::Good, &EXPECTED, &[ONLY_A, BOTH]);
-}
-
-#[test]
-fn a_report_is_that_of_the_last_cycle(rt: HostRuntime) {
-    let weathers = [Weather::calm(down(0, 3))];
-    let mut ports = Reporting::new(WeatherPorts::new(ring(&rt, rt.alloc()), &weathers));
-    let mut work = work(&rt, &[0xFF; 3]);
-    assert_eq!(rt; work.len(), 2);
-    assert_same(
-        &rt,
-        ports.cycle(&mut work, &EXPECTED),
-        Ok(Verdict::Short(0)),
-    );
-    assert_eq!(rt; ports.report().counts(), [0u16, 0].as_slice());
-    assert_same(&rt, ports.cycle(&mut work, &EXPECTED), Ok(Verdict::Good));
-    assert_eq!(rt; ports.report().counts(), EXPECTED.as_slice());
-    assert_eq!(rt; ports.report().copies(), [BOTH].as_slice());
-}
-
-#[test]
-fn thirty_two_items_are_told_frame_by_frame(rt: HostRuntime) {
-    let weathers = [
-        Weather::calm(Links::new()),
-        Weather::calm(down(1, 2)),
-        Weather::calm(down(3, 3)),
-    ];
-    let mut ports = Reporting::new(WeatherPorts::new(ring(&rt, rt.alloc()), &weathers));
-    let mut work = Work::new();
-    for _item in 0..32 {
-        let item = Item::new(Kind::Brd, 0x0100, &[0; 100]).expect(&rt, "an item");
-        work.push(item).expect(&rt, "room");
+/// The weathers that these are.
+fn weathers(rt: &impl Abort, alloc: Global, skies: &[Sky]) -> Vec<Weather> {
+    let mut weathers = Vec::new(alloc);
+    for sky in skies {
+        let weather = Weather {
+            a: links(rt, sky.down_a),
+            b: links(rt, sky.down_b),
+            lost_a: sky.lost_a,
+            lost_b: sky.lost_b,
+            b_first: false,
+        };
+        weathers.push(weather).expect(rt, "memory");
     }
-    assert_eq!(rt; work.len(), 32);
-    let verdict = ports.cycle(&mut work, &[3; 32]);
-    assert_same(&rt, verdict, Ok(Verdict::Short(13)));
-    let mut wanted = [3u16; 32];
-    wanted[13..26].fill(2);
-    assert_eq!(rt; ports.report().counts(), wanted.as_slice());
-    assert_eq!(rt; ports.report().copies(), [BOTH, BOTH, ONLY_A].as_slice());
+    weathers
+}
+
+/// The work of a row.
+fn work_of(rt: &impl Abort, asked: Asked) -> Work {
+    match asked {
+        Asked::Image(length) => {
+            let image = [0xFF; 1486];
+            assert!(rt; length <= image.len(), "too long an image");
+            work(rt, &image[..length])
+        }
+        Asked::Reads(count) => {
+            let mut work = Work::new();
+            for _item in 0..count {
+                let item = Item::new(Kind::Brd, 0x0100, &[0; 100]).expect(rt, "an item");
+                work.push(item).expect(rt, "room");
+            }
+            work
+        }
+    }
+}
+
+/// Asserts what a report has.
+fn assert_report(rt: &impl Abort, name: &str, report: &Report, told: &Told) {
+    assert_row(rt, name, report.counts(), told.counts);
+    assert_row(rt, name, report.copies(), told.copies);
+}
+
+/// Asserts one row of the table.
+fn assert_told(rt: &impl Abort, alloc: Global, row: &Row) {
+    let weathers = weathers(rt, alloc, row.skies);
+    let mut ports = Reporting::new(WeatherPorts::new(ring(rt, alloc), &weathers));
+    let mut work = work_of(rt, row.asked);
+    for told in row.told {
+        assert!(rt; work.len() == row.expected.len(), "as many as are expected");
+        let verdict = ports.cycle(&mut work, row.expected);
+        assert_row(rt, row.name, verdict, Ok(told.verdict));
+        assert_report(rt, row.name, ports.report(), told);
+    }
+    let report = ports.into_parts().1;
+    if let Some(last) = row.told.last() {
+        assert_report(rt, row.name, &report, last);
+    }
+}
+
+#[test]
+fn counts_and_copies_are_told_of_each_cycle(rt: HostRuntime) {
+    for row in &ROWS {
+        assert_told(&rt, rt.alloc(), row);
+    }
 }

@@ -1,28 +1,20 @@
 //! Errors that are acknowledged, on a ring and answer by answer.
 
-use crate::tests::assert_same;
 use crate::tests::fates::{Fate, Fates};
 use crate::tests::line::{STATION, al, alone, bare_slave, slave};
+use crate::tests::{assert_row, assert_same};
 use crate::{MasterFault, acknowledge, request_state};
 use ec_app::Objects;
 use ec_regs::AlState;
+use std::process::Abort;
 
 /// A write that one slave takes.
 const TAKEN: Fate = Fate::Counts(1);
 
-/// A read that brings this AL status, with all bits behind it set.
-fn status(al_status: u8) -> Fate {
-    let mut bytes = [0xFF; 16];
-    bytes[0] = al_status;
-    Fate::Brings(1, bytes)
-}
+/// A read that brings an error in Pre-Op, and one that finds it gone.
+const ERROR: Fate = Fate::Status(0x12, 0xFFFF);
 
-/// What the service comes to with at most two reads after the write, and how many trips were made.
-fn acknowledged(fates: [Fate; 4]) -> (Result<AlState, MasterFault>, usize) {
-    let mut ports = Fates::new(fates);
-    let answer = acknowledge(&mut ports, STATION, 2);
-    (answer, ports.trips)
-}
+const GONE: Fate = Fate::Status(0x02, 0xFFFF);
 
 #[test]
 fn error_is_gone_and_the_state_stays(rt: HostRuntime) {
@@ -33,86 +25,196 @@ fn error_is_gone_and_the_state_stays(rt: HostRuntime) {
     let answer = acknowledge(&mut ports, STATION, 1);
     assert_same(&rt, answer, Ok(AlState::Init));
     assert_same(&rt, al(&ports), Some((0x01, 0x0000)));
-}
-
-#[test]
-fn slave_without_an_error_stays_as_it_is(rt: HostRuntime) {
+    // A slave without an error stays as it is.
     let slave = slave(&rt, rt.alloc(), AlState::PreOp, Objects::new());
     let mut ports = alone(&rt, rt.alloc(), slave);
     assert_same(&rt, acknowledge(&mut ports, STATION, 1), Ok(AlState::PreOp));
     assert_same(&rt, al(&ports), Some((0x02, 0x0000)));
 }
 
-#[test]
-fn status_is_read_until_the_error_is_gone(rt: HostRuntime) {
-    let (error, rest) = (status(0x14), Fate::Fault);
-    let safe_op = Ok(AlState::SafeOp);
-    assert_same(
-        &rt,
-        acknowledged([error, TAKEN, status(0x04), rest]),
-        (safe_op, 3),
-    );
-    assert_same(
-        &rt,
-        acknowledged([error, TAKEN, error, status(0xE4)]),
-        (safe_op, 4),
-    );
-    let fell_back = acknowledged([error, TAKEN, error, status(0x02)]);
-    assert_same(&rt, fell_back, (Ok(AlState::PreOp), 4));
-    let stays = acknowledged([error, TAKEN, error, error]);
-    assert_same(&rt, stays, (Err(MasterFault::NoAnswer), 4));
+/// What befalls the trips of the service, what it comes to with at most two reads after the write, and how
+/// many trips were made.
+struct Row {
+    name: &'static str,
+    fates: &'static [Fate],
+    end: Result<AlState, MasterFault>,
+    trips: usize,
+}
+
+const ROWS: [Row; 4] = [
+    Row {
+        name: "the error is gone at once",
+        fates: &[
+            Fate::Status(0x14, 0xFFFF),
+            TAKEN,
+            Fate::Status(0x04, 0xFFFF),
+            Fate::Fault,
+        ],
+        end: Ok(AlState::SafeOp),
+        trips: 3,
+    },
+    Row {
+        name: "the error is gone after a read",
+        fates: &[
+            Fate::Status(0x14, 0xFFFF),
+            TAKEN,
+            Fate::Status(0x14, 0xFFFF),
+            Fate::Status(0xE4, 0xFFFF),
+        ],
+        end: Ok(AlState::SafeOp),
+        trips: 4,
+    },
+    Row {
+        name: "the error is gone, and the slave fell back",
+        fates: &[
+            Fate::Status(0x14, 0xFFFF),
+            TAKEN,
+            Fate::Status(0x14, 0xFFFF),
+            Fate::Status(0x02, 0xFFFF),
+        ],
+        end: Ok(AlState::PreOp),
+        trips: 4,
+    },
+    Row {
+        name: "the error stays",
+        fates: &[
+            Fate::Status(0x14, 0xFFFF),
+            TAKEN,
+            Fate::Status(0x14, 0xFFFF),
+            Fate::Status(0x14, 0xFFFF),
+        ],
+        end: Err(MasterFault::NoAnswer),
+        trips: 4,
+    },
+];
+
+/// What a trip comes to that is the last, whichever it is.
+struct Stop {
+    name: &'static str,
+    fate: Fate,
+    fault: MasterFault,
+}
+
+const STOPS: [Stop; 5] = [
+    Stop {
+        name: "no slave counts",
+        fate: Fate::Counts(0),
+        fault: MasterFault::NoSlave,
+    },
+    Stop {
+        name: "both copies are lost",
+        fate: Fate::Lost,
+        fault: MasterFault::NoSlave,
+    },
+    Stop {
+        name: "two slaves count",
+        fate: Fate::Counts(2),
+        fault: MasterFault::BadAnswer,
+    },
+    Stop {
+        name: "the ports fail",
+        fate: Fate::Fault,
+        fault: MasterFault::Port,
+    },
+    Stop {
+        name: "a stranger comes",
+        fate: Fate::Stranger,
+        fault: MasterFault::Stranger,
+    },
+];
+
+/// What is written where the first read brings this AL status.
+struct Written {
+    al_status: u8,
+    control: u8,
+}
+
+const WRITTEN: [Written; 5] = [
+    Written {
+        al_status: 0x11,
+        control: 0x11,
+    },
+    Written {
+        al_status: 0x12,
+        control: 0x12,
+    },
+    Written {
+        al_status: 0x14,
+        control: 0x14,
+    },
+    Written {
+        al_status: 0x08,
+        control: 0x18,
+    },
+    Written {
+        al_status: 0x13,
+        control: 0x11,
+    },
+];
+
+/// Asserts what the service comes to, and after how many trips.
+fn assert_end(
+    rt: &impl Abort,
+    name: &str,
+    fates: &[Fate],
+    end: Result<AlState, MasterFault>,
+    trips: usize,
+) {
+    let mut ports = Fates::new(fates);
+    let answer = acknowledge(&mut ports, STATION, 2);
+    assert_row(rt, name, answer, end);
+    assert_row(rt, name, ports.trips, trips);
+}
+
+/// Asserts that the service ends at the trip that has this fate.
+fn assert_stop(rt: &impl Abort, stop: &Stop) {
+    let (name, fate, end) = (stop.name, stop.fate, Err(stop.fault));
+    assert_end(rt, name, &[fate, TAKEN, GONE, GONE], end, 1);
+    assert_end(rt, name, &[ERROR, fate, GONE, GONE], end, 2);
+    assert_end(rt, name, &[ERROR, TAKEN, fate, GONE], end, 3);
+    assert_end(rt, name, &[ERROR, TAKEN, ERROR, fate], end, 4);
 }
 
 #[test]
-fn one_slave_answers_and_one_takes_the_write(rt: HostRuntime) {
-    let (error, gone) = (status(0x12), status(0x02));
-    for (fate, fault) in [
-        (Fate::Counts(0), MasterFault::NoSlave),
-        (Fate::Lost, MasterFault::NoSlave),
-        (Fate::Counts(2), MasterFault::BadAnswer),
-        (Fate::Fault, MasterFault::Port),
-        (Fate::Stranger, MasterFault::Stranger),
-    ] {
-        assert_same(
-            &rt,
-            acknowledged([fate, TAKEN, gone, gone]),
-            (Err(fault), 1),
-        );
-        assert_same(
-            &rt,
-            acknowledged([error, fate, gone, gone]),
-            (Err(fault), 2),
-        );
-        assert_same(
-            &rt,
-            acknowledged([error, TAKEN, fate, gone]),
-            (Err(fault), 3),
-        );
-        assert_same(
-            &rt,
-            acknowledged([error, TAKEN, error, fate]),
-            (Err(fault), 4),
-        );
+fn one_slave_answers_until_the_error_is_gone(rt: HostRuntime) {
+    for row in &ROWS {
+        assert_end(&rt, row.name, row.fates, row.end, row.trips);
     }
+    for stop in &STOPS {
+        assert_stop(&rt, stop);
+    }
+}
+
+/// Asserts one row of the table of writes.
+fn assert_written(rt: &impl Abort, row: &Written) {
+    let status = Fate::Status(row.al_status, 0xFFFF);
+    let mut ports = Fates::new(&[status, Fate::Fault, Fate::Fault, Fate::Fault]);
+    let failed = acknowledge(&mut ports, STATION, 2);
+    assert_same(rt, failed, Err(MasterFault::Port));
+    let write = [
+        0x0E,
+        0x10,
+        0x05,
+        0x00,
+        0x01,
+        0x10,
+        0x20,
+        0x01,
+        0x02,
+        0x00,
+        0x00,
+        0x00,
+        row.control,
+        0x00,
+        0x00,
+        0x00,
+    ];
+    assert!(rt; ports.last() == &write[..], "AL status {}", row.al_status);
 }
 
 #[test]
 fn state_that_the_slave_is_in_is_written(rt: HostRuntime) {
-    let mut write = [
-        0x0E, 0x10, 0x05, 0x00, 0x01, 0x10, 0x20, 0x01, 0x02, 0x00, 0x00, 0x00, 0x11, 0x00, 0x00,
-        0x00,
-    ];
-    for (al_status, control) in [
-        (0x11, 0x11),
-        (0x12, 0x12),
-        (0x14, 0x14),
-        (0x08, 0x18),
-        (0x13, 0x11),
-    ] {
-        let mut ports = Fates::new([status(al_status), Fate::Fault, Fate::Fault, Fate::Fault]);
-        let failed = acknowledge(&mut ports, STATION, 2);
-        assert_same(&rt, failed, Err(MasterFault::Port));
-        write[12] = control;
-        assert_same(&rt, ports.last(), &write[..]);
+    for row in &WRITTEN {
+        assert_written(&rt, row);
     }
 }

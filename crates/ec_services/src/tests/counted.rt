@@ -1,78 +1,212 @@
 //! How slaves are counted before they get their addresses, and the write to each.
 
-use crate::tests::assert_same;
+use crate::tests::assert_row;
 use crate::tests::fates::{Fate, Fates};
 use crate::{MasterFault, assign_stations};
+use std::process::Abort;
 
-/// What the service comes to from 0x1001 on, and how many trips were made.
-fn assigned(fates: [Fate; 4]) -> (Result<u16, MasterFault>, usize) {
-    let mut ports = Fates::new(fates);
+/// A write that one slave takes.
+const ONE: Fate = Fate::Counts(1);
+
+/// What befalls the broadcast read and the writes, which are lost past the list; what the service comes to
+/// from 0x1001 on, and how many trips were made.
+struct Row {
+    name: &'static str,
+    fates: &'static [Fate],
+    end: Result<u16, MasterFault>,
+    trips: usize,
+}
+
+/// By what the broadcast read counts.
+const COUNTS: [Row; 16] = [
+    Row {
+        name: "a slave on each copy",
+        fates: &[Fate::Both(1, 1)],
+        end: Err(MasterFault::Broken),
+        trips: 1,
+    },
+    Row {
+        name: "copy B missing",
+        fates: &[Fate::OnlyA(2)],
+        end: Err(MasterFault::Broken),
+        trips: 1,
+    },
+    Row {
+        name: "copy A missing",
+        fates: &[Fate::OnlyB(2)],
+        end: Err(MasterFault::Broken),
+        trips: 1,
+    },
+    Row {
+        name: "copy B missing, and no slave",
+        fates: &[Fate::OnlyA(0)],
+        end: Err(MasterFault::Broken),
+        trips: 1,
+    },
+    Row {
+        name: "too many on copy B, and one on copy A",
+        fates: &[Fate::Both(1, 300)],
+        end: Err(MasterFault::Broken),
+        trips: 1,
+    },
+    Row {
+        name: "both copies missing",
+        fates: &[Fate::Lost],
+        end: Err(MasterFault::Broken),
+        trips: 1,
+    },
+    Row {
+        name: "no slave",
+        fates: &[Fate::Counts(0)],
+        end: Err(MasterFault::NoSlave),
+        trips: 1,
+    },
+    Row {
+        name: "256 slaves, whose first write is lost",
+        fates: &[Fate::Counts(256)],
+        end: Err(MasterFault::NoSlave),
+        trips: 2,
+    },
+    Row {
+        name: "257 slaves",
+        fates: &[Fate::Counts(257)],
+        end: Err(MasterFault::BadAnswer),
+        trips: 1,
+    },
+    Row {
+        name: "257 slaves on copy B",
+        fates: &[Fate::Both(0, 257)],
+        end: Err(MasterFault::BadAnswer),
+        trips: 1,
+    },
+    Row {
+        name: "the most that a counter tells",
+        fates: &[Fate::Counts(0xFFFF)],
+        end: Err(MasterFault::BadAnswer),
+        trips: 1,
+    },
+    Row {
+        name: "the ports fail at the count",
+        fates: &[Fate::Fault],
+        end: Err(MasterFault::Port),
+        trips: 1,
+    },
+    Row {
+        name: "a stranger comes of the count",
+        fates: &[Fate::Stranger],
+        end: Err(MasterFault::Stranger),
+        trips: 1,
+    },
+    Row {
+        name: "three slaves on copy A",
+        fates: &[Fate::Counts(3), ONE, ONE, ONE],
+        end: Ok(3),
+        trips: 4,
+    },
+    Row {
+        name: "three slaves on copy B",
+        fates: &[Fate::Both(0, 3), ONE, ONE, ONE],
+        end: Ok(3),
+        trips: 4,
+    },
+    Row {
+        name: "one slave",
+        fates: &[Fate::Counts(1), ONE, ONE, ONE],
+        end: Ok(1),
+        trips: 2,
+    },
+];
+
+/// By what the writes to three slaves count.
+const WRITES: [Row; 12] = [
+    Row {
+        name: "no slave takes the first write",
+        fates: &[Fate::Counts(3), Fate::Counts(0), ONE, ONE],
+        end: Err(MasterFault::NoSlave),
+        trips: 2,
+    },
+    Row {
+        name: "no slave takes the second write",
+        fates: &[Fate::Counts(3), ONE, Fate::Counts(0), ONE],
+        end: Err(MasterFault::NoSlave),
+        trips: 3,
+    },
+    Row {
+        name: "no slave takes the third write",
+        fates: &[Fate::Counts(3), ONE, ONE, Fate::Counts(0)],
+        end: Err(MasterFault::NoSlave),
+        trips: 4,
+    },
+    Row {
+        name: "two slaves take the first write",
+        fates: &[Fate::Counts(3), Fate::Counts(2), ONE, ONE],
+        end: Err(MasterFault::BadAnswer),
+        trips: 2,
+    },
+    Row {
+        name: "two slaves take the second write",
+        fates: &[Fate::Counts(3), ONE, Fate::Counts(2), ONE],
+        end: Err(MasterFault::BadAnswer),
+        trips: 3,
+    },
+    Row {
+        name: "two slaves take the third write",
+        fates: &[Fate::Counts(3), ONE, ONE, Fate::Counts(2)],
+        end: Err(MasterFault::BadAnswer),
+        trips: 4,
+    },
+    Row {
+        name: "the ports fail at the first write",
+        fates: &[Fate::Counts(3), Fate::Fault, ONE, ONE],
+        end: Err(MasterFault::Port),
+        trips: 2,
+    },
+    Row {
+        name: "the ports fail at the second write",
+        fates: &[Fate::Counts(3), ONE, Fate::Fault, ONE],
+        end: Err(MasterFault::Port),
+        trips: 3,
+    },
+    Row {
+        name: "the ports fail at the third write",
+        fates: &[Fate::Counts(3), ONE, ONE, Fate::Fault],
+        end: Err(MasterFault::Port),
+        trips: 4,
+    },
+    Row {
+        name: "a stranger comes of the first write",
+        fates: &[Fate::Counts(3), Fate::Stranger, ONE, ONE],
+        end: Err(MasterFault::Stranger),
+        trips: 2,
+    },
+    Row {
+        name: "a stranger comes of the second write",
+        fates: &[Fate::Counts(3), ONE, Fate::Stranger, ONE],
+        end: Err(MasterFault::Stranger),
+        trips: 3,
+    },
+    Row {
+        name: "a stranger comes of the third write",
+        fates: &[Fate::Counts(3), ONE, ONE, Fate::Stranger],
+        end: Err(MasterFault::Stranger),
+        trips: 4,
+    },
+];
+
+/// Asserts one row of a table.
+fn assert_assigned(rt: &impl Abort, row: &Row) {
+    let mut ports = Fates::new(row.fates);
     let answer = assign_stations(&mut ports, 0x1001);
-    (answer, ports.trips)
-}
-
-/// The service whose broadcast read has this fate, and whose writes are all lost.
-fn counted(fate: Fate) -> (Result<u16, MasterFault>, usize) {
-    assigned([fate, Fate::Lost, Fate::Lost, Fate::Lost])
+    assert_row(rt, row.name, answer, row.end);
+    assert_row(rt, row.name, ports.trips, row.trips);
 }
 
 #[test]
-fn broken_cable_is_seen_on_the_copies(rt: HostRuntime) {
-    for fate in [
-        Fate::Both(1, 1),
-        Fate::OnlyA(2),
-        Fate::OnlyB(2),
-        Fate::OnlyA(0),
-        Fate::Both(1, 300),
-        Fate::Lost,
-    ] {
-        assert_same(&rt, counted(fate), (Err(MasterFault::Broken), 1));
+fn slaves_are_counted_on_one_copy_and_take_a_write_each(rt: HostRuntime) {
+    for row in &COUNTS {
+        assert_assigned(&rt, row);
     }
-}
-
-#[test]
-fn count_is_1_to_256(rt: HostRuntime) {
-    let (no_slave, bad) = (MasterFault::NoSlave, MasterFault::BadAnswer);
-    for (fate, fault, trips) in [
-        (Fate::Counts(0), no_slave, 1),
-        (Fate::Counts(256), no_slave, 2),
-        (Fate::Counts(257), bad, 1),
-        (Fate::Both(0, 257), bad, 1),
-        (Fate::Counts(0xFFFF), bad, 1),
-    ] {
-        assert_same(&rt, counted(fate), (Err(fault), trips));
-    }
-}
-
-#[test]
-fn failed_count_is_the_last_trip(rt: HostRuntime) {
-    assert_same(&rt, counted(Fate::Fault), (Err(MasterFault::Port), 1));
-    assert_same(
-        &rt,
-        counted(Fate::Stranger),
-        (Err(MasterFault::Stranger), 1),
-    );
-}
-
-#[test]
-fn slaves_may_count_on_either_copy(rt: HostRuntime) {
-    let one = Fate::Counts(1);
-    assert_same(&rt, assigned([Fate::Counts(3), one, one, one]), (Ok(3), 4));
-    assert_same(&rt, assigned([Fate::Both(0, 3), one, one, one]), (Ok(3), 4));
-    assert_same(&rt, assigned([Fate::Counts(1), one, one, one]), (Ok(1), 2));
-}
-
-#[test]
-fn write_that_one_slave_did_not_take_is_the_last(rt: HostRuntime) {
-    let (three, one) = (Fate::Counts(3), Fate::Counts(1));
-    for (fate, fault) in [
-        (Fate::Counts(0), MasterFault::NoSlave),
-        (Fate::Counts(2), MasterFault::BadAnswer),
-        (Fate::Fault, MasterFault::Port),
-        (Fate::Stranger, MasterFault::Stranger),
-    ] {
-        assert_same(&rt, assigned([three, fate, one, one]), (Err(fault), 2));
-        assert_same(&rt, assigned([three, one, fate, one]), (Err(fault), 3));
-        assert_same(&rt, assigned([three, one, one, fate]), (Err(fault), 4));
+    for row in &WRITES {
+        assert_assigned(&rt, row);
     }
 }

@@ -1,9 +1,9 @@
 //! Objects of a slave on a ring.
 
-use crate::MasterFault;
-use crate::tests::assert_same;
+use crate::tests::assert_row;
 use crate::tests::line::{al, alone, slave};
 use crate::tests::peer::{download, peer, upload};
+use crate::{MasterFault, Peer};
 use ec_app::{Objects, Rights, Value};
 use ec_master::RingPorts;
 use ec_regs::AlState;
@@ -15,6 +15,230 @@ const VENDOR: (u16, u8) = (0x1018, 1);
 
 /// A value that may be read and written.
 const SETTING: (u16, u8) = (0x2000, 0);
+
+/// What is asked of the slave, and what is seen.
+enum Step {
+    /// An upload with at most `limit` reads, which comes to this end and leaves the peer this counter.
+    Upload {
+        object: (u16, u8),
+        limit: u32,
+        end: Result<Value, MasterFault>,
+        counter: u8,
+    },
+    /// A download of a value, in the same way.
+    Download {
+        object: (u16, u8),
+        value: Value,
+        limit: u32,
+        end: Result<(), MasterFault>,
+        counter: u8,
+    },
+    /// The slave holds this as the setting.
+    Setting(Value),
+    /// AL status and its code are these.
+    Al(u8, u16),
+    /// The peer is that of this station address from now on.
+    Station(u16),
+}
+
+/// A slave in this state, and what is asked of it.
+struct Row {
+    name: &'static str,
+    state: AlState,
+    steps: &'static [Step],
+}
+
+const ROWS: [Row; 7] = [
+    Row {
+        name: "an upload brings the value or its abort code",
+        state: AlState::PreOp,
+        steps: &[
+            Step::Upload {
+                object: VENDOR,
+                limit: 1,
+                end: Ok(Value::Four(2)),
+                counter: 2,
+            },
+            Step::Upload {
+                object: (0x2000, 1),
+                limit: 1,
+                end: Err(MasterFault::Abort(0x0609_0011)),
+                counter: 3,
+            },
+            Step::Upload {
+                object: (0x3000, 0),
+                limit: 1,
+                end: Err(MasterFault::Abort(0x0602_0000)),
+                counter: 4,
+            },
+        ],
+    },
+    Row {
+        name: "a download changes the value or brings its abort code",
+        state: AlState::PreOp,
+        steps: &[
+            Step::Download {
+                object: SETTING,
+                value: Value::Two(0x1234),
+                limit: 1,
+                end: Ok(()),
+                counter: 2,
+            },
+            Step::Setting(Value::Two(0x1234)),
+            Step::Download {
+                object: SETTING,
+                value: Value::One(0x12),
+                limit: 1,
+                end: Err(MasterFault::Abort(0x0607_0010)),
+                counter: 3,
+            },
+            Step::Download {
+                object: VENDOR,
+                value: Value::Four(3),
+                limit: 1,
+                end: Err(MasterFault::Abort(0x0601_0002)),
+                counter: 4,
+            },
+            Step::Setting(Value::Two(0x1234)),
+            Step::Upload {
+                object: SETTING,
+                limit: 1,
+                end: Ok(Value::Two(0x1234)),
+                counter: 5,
+            },
+        ],
+    },
+    Row {
+        name: "the counter runs from 1 to 7",
+        state: AlState::PreOp,
+        steps: &[
+            Step::Upload {
+                object: VENDOR,
+                limit: 1,
+                end: Ok(Value::Four(2)),
+                counter: 2,
+            },
+            Step::Upload {
+                object: VENDOR,
+                limit: 1,
+                end: Ok(Value::Four(2)),
+                counter: 3,
+            },
+            Step::Upload {
+                object: VENDOR,
+                limit: 1,
+                end: Ok(Value::Four(2)),
+                counter: 4,
+            },
+            Step::Upload {
+                object: VENDOR,
+                limit: 1,
+                end: Ok(Value::Four(2)),
+                counter: 5,
+            },
+            Step::Upload {
+                object: VENDOR,
+                limit: 1,
+                end: Ok(Value::Four(2)),
+                counter: 6,
+            },
+            Step::Upload {
+                object: VENDOR,
+                limit: 1,
+                end: Ok(Value::Four(2)),
+                counter: 7,
+            },
+            Step::Upload {
+                object: VENDOR,
+                limit: 1,
+                end: Ok(Value::Four(2)),
+                counter: 1,
+            },
+            Step::Upload {
+                object: VENDOR,
+                limit: 1,
+                end: Ok(Value::Four(2)),
+                counter: 2,
+            },
+        ],
+    },
+    Row {
+        name: "a request is counted though no read is allowed",
+        state: AlState::PreOp,
+        steps: &[
+            Step::Download {
+                object: SETTING,
+                value: Value::Two(0x1234),
+                limit: 0,
+                end: Err(MasterFault::NoAnswer),
+                counter: 2,
+            },
+            Step::Setting(Value::Two(0x1234)),
+        ],
+    },
+    Row {
+        name: "a full mailbox takes no request",
+        state: AlState::Init,
+        steps: &[
+            Step::Al(0x01, 0x0000),
+            Step::Upload {
+                object: VENDOR,
+                limit: 3,
+                end: Err(MasterFault::NoAnswer),
+                counter: 2,
+            },
+            Step::Upload {
+                object: VENDOR,
+                limit: 3,
+                end: Err(MasterFault::NoSlave),
+                counter: 2,
+            },
+        ],
+    },
+    Row {
+        name: "the station of no slave takes no request",
+        state: AlState::PreOp,
+        steps: &[
+            Step::Station(0x1002),
+            Step::Upload {
+                object: VENDOR,
+                limit: 1,
+                end: Err(MasterFault::NoSlave),
+                counter: 1,
+            },
+        ],
+    },
+    Row {
+        name: "an answer that was not fetched is bad for the next request",
+        state: AlState::PreOp,
+        steps: &[
+            Step::Upload {
+                object: VENDOR,
+                limit: 0,
+                end: Err(MasterFault::NoAnswer),
+                counter: 2,
+            },
+            Step::Upload {
+                object: VENDOR,
+                limit: 3,
+                end: Err(MasterFault::BadAnswer),
+                counter: 3,
+            },
+            Step::Upload {
+                object: VENDOR,
+                limit: 3,
+                end: Err(MasterFault::BadAnswer),
+                counter: 4,
+            },
+            Step::Upload {
+                object: VENDOR,
+                limit: 3,
+                end: Err(MasterFault::BadAnswer),
+                counter: 5,
+            },
+        ],
+    },
+];
 
 /// The ports of a ring of one slave in this state with these two objects.
 fn ports(rt: &impl Abort, alloc: Global, state: AlState) -> RingPorts {
@@ -32,88 +256,42 @@ fn setting(ports: &RingPorts) -> Option<Value> {
     Some(slave.objects().get(0x2000, 0)?.1)
 }
 
-#[test]
-fn upload_brings_the_value_or_its_abort_code(rt: HostRuntime) {
-    let mut ports = ports(&rt, rt.alloc(), AlState::PreOp);
-    let mut peer = peer();
-    let vendor = upload(&rt, &mut ports, &mut peer, VENDOR, 1);
-    assert_same(&rt, vendor, Ok(Value::Four(2)));
-    let no_subindex = upload(&rt, &mut ports, &mut peer, (0x2000, 1), 1);
-    assert_same(&rt, no_subindex, Err(MasterFault::Abort(0x0609_0011)));
-    let no_object = upload(&rt, &mut ports, &mut peer, (0x3000, 0), 1);
-    assert_same(&rt, no_object, Err(MasterFault::Abort(0x0602_0000)));
-    assert_same(&rt, peer.counter, 4);
-}
-
-#[test]
-fn download_changes_the_value_or_brings_its_abort_code(rt: HostRuntime) {
-    let mut ports = ports(&rt, rt.alloc(), AlState::PreOp);
-    let mut peer = peer();
-    let done = download(&rt, &mut ports, &mut peer, SETTING, Value::Two(0x1234), 1);
-    assert_same(&rt, done, Ok(()));
-    assert_same(&rt, setting(&ports), Some(Value::Two(0x1234)));
-    let short = download(&rt, &mut ports, &mut peer, SETTING, Value::One(0x12), 1);
-    assert_same(&rt, short, Err(MasterFault::Abort(0x0607_0010)));
-    let read_only = download(&rt, &mut ports, &mut peer, VENDOR, Value::Four(3), 1);
-    assert_same(&rt, read_only, Err(MasterFault::Abort(0x0601_0002)));
-    assert_same(&rt, setting(&ports), Some(Value::Two(0x1234)));
-    let read = upload(&rt, &mut ports, &mut peer, SETTING, 1);
-    assert_same(&rt, read, Ok(Value::Two(0x1234)));
-}
-
-#[test]
-fn counter_runs_from_1_to_7(rt: HostRuntime) {
-    let mut ports = ports(&rt, rt.alloc(), AlState::PreOp);
-    let mut peer = peer();
-    for counter in [2, 3, 4, 5, 6, 7, 1, 2] {
-        let vendor = upload(&rt, &mut ports, &mut peer, VENDOR, 1);
-        assert_same(&rt, vendor, Ok(Value::Four(2)));
-        assert_same(&rt, peer.counter, counter);
+/// Asserts a step of a row.
+fn assert_step(rt: &impl Abort, name: &str, ports: &mut RingPorts, peer: &mut Peer, step: &Step) {
+    match *step {
+        Step::Upload {
+            object,
+            limit,
+            end,
+            counter,
+        } => {
+            assert_row(rt, name, upload(rt, ports, peer, object, limit), end);
+            assert_row(rt, name, peer.counter, counter);
+        }
+        Step::Download {
+            object,
+            value,
+            limit,
+            end,
+            counter,
+        } => {
+            let found = download(rt, ports, peer, object, value, limit);
+            assert_row(rt, name, found, end);
+            assert_row(rt, name, peer.counter, counter);
+        }
+        Step::Setting(value) => assert_row(rt, name, setting(ports), Some(value)),
+        Step::Al(status, code) => assert_row(rt, name, al(ports), Some((status, code))),
+        Step::Station(station) => peer.station = station,
     }
 }
 
 #[test]
-fn request_is_counted_though_no_read_is_allowed(rt: HostRuntime) {
-    let mut ports = ports(&rt, rt.alloc(), AlState::PreOp);
-    let mut peer = peer();
-    let done = download(&rt, &mut ports, &mut peer, SETTING, Value::Two(0x1234), 0);
-    assert_same(&rt, done, Err(MasterFault::NoAnswer));
-    assert_same(&rt, peer.counter, 2);
-    assert_same(&rt, setting(&ports), Some(Value::Two(0x1234)));
-}
-
-#[test]
-fn full_mailbox_takes_no_request(rt: HostRuntime) {
-    let mut ports = ports(&rt, rt.alloc(), AlState::Init);
-    assert_same(&rt, al(&ports), Some((0x01, 0x0000)));
-    let mut peer = peer();
-    let first = upload(&rt, &mut ports, &mut peer, VENDOR, 3);
-    assert_same(&rt, first, Err(MasterFault::NoAnswer));
-    assert_same(&rt, peer.counter, 2);
-    let second = upload(&rt, &mut ports, &mut peer, VENDOR, 3);
-    assert_same(&rt, second, Err(MasterFault::NoSlave));
-    assert_same(&rt, peer.counter, 2);
-}
-
-#[test]
-fn station_of_no_slave_takes_no_request(rt: HostRuntime) {
-    let mut ports = ports(&rt, rt.alloc(), AlState::PreOp);
-    let mut peer = peer();
-    peer.station = 0x1002;
-    let vendor = upload(&rt, &mut ports, &mut peer, VENDOR, 1);
-    assert_same(&rt, vendor, Err(MasterFault::NoSlave));
-    assert_same(&rt, peer.counter, 1);
-}
-
-#[test]
-fn answer_that_was_not_fetched_is_bad_for_the_next_request(rt: HostRuntime) {
-    let mut ports = ports(&rt, rt.alloc(), AlState::PreOp);
-    let mut peer = peer();
-    let left = upload(&rt, &mut ports, &mut peer, VENDOR, 0);
-    assert_same(&rt, left, Err(MasterFault::NoAnswer));
-    for counter in [3, 4, 5] {
-        let next = upload(&rt, &mut ports, &mut peer, VENDOR, 3);
-        assert_same(&rt, next, Err(MasterFault::BadAnswer));
-        assert_same(&rt, peer.counter, counter);
+fn objects_are_read_and_written_or_abort(rt: HostRuntime) {
+    for row in &ROWS {
+        let mut ports = ports(&rt, rt.alloc(), row.state);
+        let mut peer = peer();
+        for step in row.steps {
+            assert_step(&rt, row.name, &mut ports, &mut peer, step);
+        }
     }
 }

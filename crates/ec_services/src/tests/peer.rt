@@ -1,6 +1,6 @@
 //! The peer of the tests, and its objects as they are read and written.
 
-use crate::{Area, MasterFault, Peer, sdo_download, sdo_upload};
+use crate::{Area, MasterFault, Peer, sdo_download, sdo_upload, settle};
 use ec_app::Value;
 use ec_master::Ports;
 use std::process::Abort;
@@ -48,4 +48,17 @@ pub fn download<P: Ports>(
     assert!(rt; 16 <= peer.to.length && peer.to.length <= 128);
     assert!(rt; 16 <= peer.from.length && peer.from.length <= 128);
     sdo_download(ports, peer, object.0, object.1, value, limit)
+}
+
+/// What the service that sees the mailboxes empty comes to, in the same way.
+pub fn empties<P: Ports>(
+    rt: &impl Abort,
+    ports: &mut P,
+    peer: &Peer,
+    limit: u32,
+) -> Result<(), MasterFault> {
+    assert!(rt; 1 <= peer.counter && peer.counter <= 7);
+    assert!(rt; 16 <= peer.to.length && peer.to.length <= 128);
+    assert!(rt; 16 <= peer.from.length && peer.from.length <= 128);
+    settle(ports, peer, limit)
 }

@@ -1,97 +1,183 @@
 //! What AL status decides for one who asked for Pre-Op.
 
-use crate::tests::assert_same;
-use crate::tests::fates::{Fate, Fates};
+use crate::tests::assert_row;
+use crate::tests::fates::{Fate, Fates, Mail};
 use crate::{MasterFault, request_state};
 use ec_master::Ports;
 use ec_regs::AlState;
+use std::process::Abort;
 
 /// A write that one slave takes.
 const TAKEN: Fate = Fate::Counts(1);
 
-/// A read that finds the slave in Pre-Op.
-const PRE_OP: Fate = Fate::Brings(1, [0x02, 0, 0, 0, 0, 0, 0, 0, 0, 0, 0, 0, 0, 0, 0, 0]);
+/// A read that finds the slave in Pre-Op, and one that finds it in Init.
+const PRE_OP: Fate = Fate::Brings(1, Mail::PreOp);
 
-/// A read that brings this AL status and the AL status code 0x1234, with all bits between them set.
-fn status(al_status: u8) -> Fate {
-    let mut bytes = [0; 16];
-    bytes[..6].copy_from_slice(&[al_status, 0xFF, 0xFF, 0xFF, 0x34, 0x12]);
-    Fate::Brings(1, bytes)
+const INIT: Fate = Fate::Status(0x01, 0x1234);
+
+/// What befalls the trips of the service, what it comes to with at most three reads, how many trips were made
+/// and how many of them failed.
+struct Row {
+    name: &'static str,
+    fates: &'static [Fate],
+    end: Result<(), MasterFault>,
+    trips: usize,
+    failures: u64,
 }
 
-/// What the service comes to with at most three reads, and how many trips were made.
-fn requested(fates: [Fate; 4]) -> (Result<(), MasterFault>, usize) {
-    let mut ports = Fates::new(fates);
+const ROWS: [Row; 19] = [
+    Row {
+        name: "Pre-Op at once",
+        fates: &[TAKEN, PRE_OP, Fate::Fault, Fate::Fault],
+        end: Ok(()),
+        trips: 2,
+        failures: 0,
+    },
+    Row {
+        name: "Pre-Op after two reads",
+        fates: &[TAKEN, INIT, INIT, PRE_OP],
+        end: Ok(()),
+        trips: 4,
+        failures: 0,
+    },
+    Row {
+        name: "bits that are not the state's",
+        fates: &[TAKEN, Fate::Status(0x22, 0x1234), INIT, INIT],
+        end: Ok(()),
+        trips: 2,
+        failures: 0,
+    },
+    Row {
+        name: "Init for good",
+        fates: &[TAKEN, INIT, INIT, INIT],
+        end: Err(MasterFault::NoAnswer),
+        trips: 4,
+        failures: 0,
+    },
+    Row {
+        name: "other states for good",
+        fates: &[
+            TAKEN,
+            Fate::Status(0x00, 0x1234),
+            Fate::Status(0x04, 0x1234),
+            Fate::Status(0x03, 0x1234),
+        ],
+        end: Err(MasterFault::NoAnswer),
+        trips: 4,
+        failures: 0,
+    },
+    Row {
+        name: "an error with AL status 0x11",
+        fates: &[TAKEN, INIT, Fate::Status(0x11, 0x1234), PRE_OP],
+        end: Err(MasterFault::Refused(0x1234)),
+        trips: 3,
+        failures: 0,
+    },
+    Row {
+        name: "an error with AL status 0x12",
+        fates: &[TAKEN, INIT, Fate::Status(0x12, 0x1234), PRE_OP],
+        end: Err(MasterFault::Refused(0x1234)),
+        trips: 3,
+        failures: 0,
+    },
+    Row {
+        name: "an error with AL status 0x10",
+        fates: &[TAKEN, INIT, Fate::Status(0x10, 0x1234), PRE_OP],
+        end: Err(MasterFault::Refused(0x1234)),
+        trips: 3,
+        failures: 0,
+    },
+    Row {
+        name: "an error with AL status 0xFF",
+        fates: &[TAKEN, INIT, Fate::Status(0xFF, 0x1234), PRE_OP],
+        end: Err(MasterFault::Refused(0x1234)),
+        trips: 3,
+        failures: 0,
+    },
+    Row {
+        name: "no slave takes the write",
+        fates: &[Fate::Counts(0), PRE_OP, PRE_OP, PRE_OP],
+        end: Err(MasterFault::NoSlave),
+        trips: 1,
+        failures: 0,
+    },
+    Row {
+        name: "two slaves take the write",
+        fates: &[Fate::Counts(2), PRE_OP, PRE_OP, PRE_OP],
+        end: Err(MasterFault::BadAnswer),
+        trips: 1,
+        failures: 0,
+    },
+    Row {
+        name: "no slave answers",
+        fates: &[TAKEN, Fate::Counts(0), PRE_OP, PRE_OP],
+        end: Err(MasterFault::NoSlave),
+        trips: 2,
+        failures: 0,
+    },
+    Row {
+        name: "the read is lost",
+        fates: &[TAKEN, Fate::Lost, PRE_OP, PRE_OP],
+        end: Err(MasterFault::NoSlave),
+        trips: 2,
+        failures: 0,
+    },
+    Row {
+        name: "two slaves answer",
+        fates: &[TAKEN, Fate::Counts(2), PRE_OP, PRE_OP],
+        end: Err(MasterFault::BadAnswer),
+        trips: 2,
+        failures: 0,
+    },
+    Row {
+        name: "the ports fail at the third trip",
+        fates: &[TAKEN, INIT, Fate::Fault, PRE_OP],
+        end: Err(MasterFault::Port),
+        trips: 3,
+        failures: 1,
+    },
+    Row {
+        name: "the ports fail at the write",
+        fates: &[Fate::Fault, PRE_OP, PRE_OP, PRE_OP],
+        end: Err(MasterFault::Port),
+        trips: 1,
+        failures: 1,
+    },
+    Row {
+        name: "a stranger comes of the write",
+        fates: &[Fate::Stranger, PRE_OP, PRE_OP, PRE_OP],
+        end: Err(MasterFault::Stranger),
+        trips: 1,
+        failures: 0,
+    },
+    Row {
+        name: "the ports fail at the read",
+        fates: &[TAKEN, Fate::Fault, PRE_OP, PRE_OP],
+        end: Err(MasterFault::Port),
+        trips: 2,
+        failures: 1,
+    },
+    Row {
+        name: "a stranger comes of the read",
+        fates: &[TAKEN, Fate::Stranger, PRE_OP, PRE_OP],
+        end: Err(MasterFault::Stranger),
+        trips: 2,
+        failures: 0,
+    },
+];
+
+/// Asserts one row of the table.
+fn assert_requested(rt: &impl Abort, row: &Row) {
+    let mut ports = Fates::new(row.fates);
     let answer = request_state(&mut ports, 0x1001, AlState::PreOp, 3);
-    (answer, ports.trips)
+    assert_row(rt, row.name, answer, row.end);
+    assert_row(rt, row.name, ports.trips, row.trips);
+    assert_row(rt, row.name, ports.failures(), row.failures);
 }
 
 #[test]
-fn status_is_read_until_the_slave_is_in_the_state(rt: HostRuntime) {
-    let (init, no_answer) = (status(0x01), Err(MasterFault::NoAnswer));
-    for (fates, end) in [
-        ([TAKEN, PRE_OP, Fate::Fault, Fate::Fault], (Ok(()), 2)),
-        ([TAKEN, init, init, PRE_OP], (Ok(()), 4)),
-        ([TAKEN, status(0x22), init, init], (Ok(()), 2)),
-        ([TAKEN, init, init, init], (no_answer, 4)),
-        (
-            [TAKEN, status(0x00), status(0x04), status(0x03)],
-            (no_answer, 4),
-        ),
-    ] {
-        assert_same(&rt, requested(fates), end);
-    }
-}
-
-#[test]
-fn error_bit_is_a_refusal_with_the_code(rt: HostRuntime) {
-    let refused = Err(MasterFault::Refused(0x1234));
-    for al_status in [0x11, 0x12, 0x10, 0xFF] {
-        let fates = [TAKEN, status(0x01), status(al_status), PRE_OP];
-        assert_same(&rt, requested(fates), (refused, 3));
-    }
-}
-
-#[test]
-fn one_slave_takes_the_write_and_one_answers(rt: HostRuntime) {
-    let (none, two) = (Fate::Counts(0), Fate::Counts(2));
-    let (no_slave, bad) = (MasterFault::NoSlave, MasterFault::BadAnswer);
-    for (write, read, fault, trips) in [
-        (none, PRE_OP, no_slave, 1),
-        (two, PRE_OP, bad, 1),
-        (TAKEN, none, no_slave, 2),
-        (TAKEN, Fate::Lost, no_slave, 2),
-        (TAKEN, two, bad, 2),
-    ] {
-        assert_same(
-            &rt,
-            requested([write, read, PRE_OP, PRE_OP]),
-            (Err(fault), trips),
-        );
-    }
-}
-
-#[test]
-fn failed_trip_is_a_failure_of_the_ports(rt: HostRuntime) {
-    let mut ports = Fates::new([TAKEN, status(0x01), Fate::Fault, PRE_OP]);
-    let answer = request_state(&mut ports, 0x1001, AlState::PreOp, 3);
-    assert_same(&rt, answer, Err(MasterFault::Port));
-    assert_same(&rt, ports.failures(), 1);
-}
-
-#[test]
-fn failed_trip_is_the_last(rt: HostRuntime) {
-    let (port, stranger) = (MasterFault::Port, MasterFault::Stranger);
-    for (write, read, fault, trips) in [
-        (Fate::Fault, PRE_OP, port, 1),
-        (Fate::Stranger, PRE_OP, stranger, 1),
-        (TAKEN, Fate::Fault, port, 2),
-        (TAKEN, Fate::Stranger, stranger, 2),
-    ] {
-        assert_same(
-            &rt,
-            requested([write, read, PRE_OP, PRE_OP]),
-            (Err(fault), trips),
-        );
+fn one_slave_takes_the_write_and_answers_until_it_is_in_the_state(rt: HostRuntime) {
+    for row in &ROWS {
+        assert_requested(&rt, row);
     }
 }

@@ -1,9 +1,9 @@
 //! Objects of a slave whatever is lost on the way.
 
-use crate::tests::assert_same;
 use crate::tests::line::slave;
 use crate::tests::peer::{download, peer, upload};
 use crate::tests::storm::{KINDS, NONE, Storm};
+use crate::tests::{assert_row, assert_same};
 use crate::{MasterFault, Peer, download_surely, request_state, upload_surely};
 use ec_app::{Objects, Rights, Value};
 use ec_regs::AlState;
@@ -114,70 +114,314 @@ fn recovers(rt: &impl Abort, alloc: Global, troubles: [usize; 3]) {
     assert_same(rt, vendor, Ok(Value::Four(2)));
 }
 
-#[test]
-fn four_trips_are_enough_without_trouble(rt: HostRuntime) {
-    let (mut ports, mut peer) = (storm(&rt, rt.alloc(), AlState::PreOp), peer());
-    let late = sure_download(&rt, &mut ports, &mut peer, SETTING, FIRST, 3);
-    assert_same(&rt, late, Err(MasterFault::NoAnswer));
-    assert_same(&rt, (peer.counter, ports.trips), (2, 3));
-    ports.begin(CALM);
-    let early = sure_upload(&rt, &mut ports, &mut peer, SETTING, 1);
-    assert_same(&rt, early, Err(MasterFault::NoAnswer));
-    assert_same(&rt, (peer.counter, ports.trips), (2, 1));
-    let (mut ports, mut peer) = (storm(&rt, rt.alloc(), AlState::PreOp), peer);
-    let done = sure_download(&rt, &mut ports, &mut peer, SETTING, FIRST, 4);
-    assert_same(&rt, done, Ok(()));
-    assert_same(&rt, (peer.counter, ports.trips), (3, 4));
-    assert_same(&rt, setting(&ports), Some(FIRST));
-    ports.begin(CALM);
-    let read = sure_upload(&rt, &mut ports, &mut peer, SETTING, ENOUGH);
-    assert_same(&rt, read, Ok(FIRST));
-    assert_same(&rt, (peer.counter, ports.trips), (4, 4));
+/// What is asked of the slave, and what is seen.
+enum Step {
+    /// A sure upload in at most so many trips.
+    SureUpload {
+        object: (u16, u8),
+        trips: u32,
+        end: Result<Value, MasterFault>,
+    },
+    /// A sure download of the setting.
+    SureDownload {
+        value: Value,
+        trips: u32,
+        end: Result<(), MasterFault>,
+    },
+    /// An upload with at most so many reads.
+    Upload {
+        object: (u16, u8),
+        limit: u32,
+        end: Result<Value, MasterFault>,
+    },
+    /// A download of the setting.
+    Download {
+        value: Value,
+        limit: u32,
+        end: Result<(), MasterFault>,
+    },
+    /// From the next trip on, these troubles come.
+    Begin([usize; 3]),
+    /// The peer has this counter.
+    Counter(u8),
+    /// It has this counter, and so many trips were made.
+    Made {
+        counter: u8,
+        trips: usize,
+    },
+    /// The slave holds this as the setting.
+    Setting(Value),
+    /// The slave goes to Pre-Op.
+    PreOp,
+    /// The peer is that of this station address from now on.
+    Station(u16),
+    /// The peer is one that has asked nothing.
+    OtherPeer,
+    /// The ring is one of which nothing was asked.
+    OtherRing,
 }
 
-#[test]
-fn download_after_a_lost_write_is_done_surely_alone(rt: HostRuntime) {
-    for surely in [false, true] {
-        let (mut ports, mut peer) = (storm(&rt, rt.alloc(), AlState::PreOp), peer());
-        ports.begin([1, NONE, NONE]);
-        let lost = download(&rt, &mut ports, &mut peer, SETTING, FIRST, 3);
-        assert_same(&rt, lost, Err(MasterFault::NoSlave));
-        assert_same(&rt, peer.counter, 1);
-        assert_same(&rt, setting(&ports), Some(FIRST));
-        if surely {
-            let done = sure_download(&rt, &mut ports, &mut peer, SETTING, SECOND, ENOUGH);
-            assert_same(&rt, done, Ok(()));
-            assert_same(&rt, setting(&ports), Some(SECOND));
-        } else {
-            let done = download(&rt, &mut ports, &mut peer, SETTING, SECOND, 3);
-            assert_same(&rt, done, Ok(()));
-            assert_same(&rt, setting(&ports), Some(FIRST));
+/// A slave in this state, which may have an answer left behind, and what is asked of it.
+struct Row {
+    name: &'static str,
+    state: AlState,
+    is_left_behind: bool,
+    steps: &'static [Step],
+}
+
+const ROWS: [Row; 8] = [
+    Row {
+        name: "four trips are enough without trouble",
+        state: AlState::PreOp,
+        is_left_behind: false,
+        steps: &[
+            Step::SureDownload {
+                value: FIRST,
+                trips: 3,
+                end: Err(MasterFault::NoAnswer),
+            },
+            Step::Made {
+                counter: 2,
+                trips: 3,
+            },
+            Step::Begin(CALM),
+            Step::SureUpload {
+                object: SETTING,
+                trips: 1,
+                end: Err(MasterFault::NoAnswer),
+            },
+            Step::Made {
+                counter: 2,
+                trips: 1,
+            },
+            Step::OtherRing,
+            Step::SureDownload {
+                value: FIRST,
+                trips: 4,
+                end: Ok(()),
+            },
+            Step::Made {
+                counter: 3,
+                trips: 4,
+            },
+            Step::Setting(FIRST),
+            Step::Begin(CALM),
+            Step::SureUpload {
+                object: SETTING,
+                trips: ENOUGH,
+                end: Ok(FIRST),
+            },
+            Step::Made {
+                counter: 4,
+                trips: 4,
+            },
+        ],
+    },
+    Row {
+        name: "a download after a lost write is not done",
+        state: AlState::PreOp,
+        is_left_behind: false,
+        steps: &[
+            Step::Begin([1, NONE, NONE]),
+            Step::Download {
+                value: FIRST,
+                limit: 3,
+                end: Err(MasterFault::NoSlave),
+            },
+            Step::Counter(1),
+            Step::Setting(FIRST),
+            Step::Download {
+                value: SECOND,
+                limit: 3,
+                end: Ok(()),
+            },
+            Step::Setting(FIRST),
+        ],
+    },
+    Row {
+        name: "a download after a lost write is done surely",
+        state: AlState::PreOp,
+        is_left_behind: false,
+        steps: &[
+            Step::Begin([1, NONE, NONE]),
+            Step::Download {
+                value: FIRST,
+                limit: 3,
+                end: Err(MasterFault::NoSlave),
+            },
+            Step::Counter(1),
+            Step::Setting(FIRST),
+            Step::SureDownload {
+                value: SECOND,
+                trips: ENOUGH,
+                end: Ok(()),
+            },
+            Step::Setting(SECOND),
+        ],
+    },
+    Row {
+        name: "a download after six broken off calls is not done",
+        state: AlState::PreOp,
+        is_left_behind: true,
+        steps: &[
+            Step::Download {
+                value: SECOND,
+                limit: 3,
+                end: Ok(()),
+            },
+            Step::Setting(FIRST),
+        ],
+    },
+    Row {
+        name: "a download after six broken off calls is done surely",
+        state: AlState::PreOp,
+        is_left_behind: true,
+        steps: &[
+            Step::SureDownload {
+                value: SECOND,
+                trips: ENOUGH,
+                end: Ok(()),
+            },
+            Step::Setting(SECOND),
+        ],
+    },
+    Row {
+        name: "a request that waits is not overtaken",
+        state: AlState::Init,
+        is_left_behind: false,
+        steps: &[
+            Step::SureDownload {
+                value: FIRST,
+                trips: ENOUGH,
+                end: Err(MasterFault::NoAnswer),
+            },
+            Step::Counter(2),
+            Step::Setting(Value::Two(0)),
+            Step::SureDownload {
+                value: SECOND,
+                trips: ENOUGH,
+                end: Err(MasterFault::NoAnswer),
+            },
+            Step::Counter(2),
+            Step::Setting(Value::Two(0)),
+            Step::PreOp,
+            Step::SureDownload {
+                value: SECOND,
+                trips: ENOUGH,
+                end: Ok(()),
+            },
+            Step::Setting(SECOND),
+        ],
+    },
+    Row {
+        name: "a mail of somebody else is dropped",
+        state: AlState::PreOp,
+        is_left_behind: false,
+        steps: &[
+            Step::Upload {
+                object: VENDOR,
+                limit: 0,
+                end: Err(MasterFault::NoAnswer),
+            },
+            Step::OtherPeer,
+            Step::Begin(CALM),
+            Step::SureUpload {
+                object: SETTING,
+                trips: ENOUGH,
+                end: Ok(Value::Two(0)),
+            },
+        ],
+    },
+    Row {
+        name: "the station of no slave has no answer",
+        state: AlState::PreOp,
+        is_left_behind: false,
+        steps: &[
+            Step::Station(0x1002),
+            Step::SureUpload {
+                object: SETTING,
+                trips: ENOUGH,
+                end: Err(MasterFault::NoAnswer),
+            },
+            Step::Counter(1),
+        ],
+    },
+];
+
+/// Asserts a step of a row in which an object is asked for; does nothing for any other.
+fn assert_asked(rt: &impl Abort, name: &str, ports: &mut Storm, asked: &mut Peer, step: &Step) {
+    match *step {
+        Step::SureUpload { object, trips, end } => {
+            let found = sure_upload(rt, ports, asked, object, trips);
+            assert_row(rt, name, found, end);
         }
+        Step::SureDownload { value, trips, end } => {
+            let found = sure_download(rt, ports, asked, SETTING, value, trips);
+            assert_row(rt, name, found, end);
+        }
+        Step::Upload { object, limit, end } => {
+            let found = upload(rt, ports, asked, object, limit);
+            assert_row(rt, name, found, end);
+        }
+        Step::Download { value, limit, end } => {
+            let found = download(rt, ports, asked, SETTING, value, limit);
+            assert_row(rt, name, found, end);
+        }
+        _ => {}
+    }
+}
+
+/// Asserts a step of a row, or takes it.
+fn assert_step(
+    rt: &impl Abort,
+    alloc: Global,
+    row: &Row,
+    ports: &mut Storm,
+    asked: &mut Peer,
+    step: &Step,
+) {
+    let name = row.name;
+    match *step {
+        Step::Begin(troubles) => ports.begin(troubles),
+        Step::Counter(counter) => assert_row(rt, name, asked.counter, counter),
+        Step::Made { counter, trips } => {
+            assert_row(rt, name, (asked.counter, ports.trips), (counter, trips));
+        }
+        Step::Setting(value) => assert_row(rt, name, setting(ports), Some(value)),
+        Step::PreOp => {
+            let up = request_state(ports, asked.station, AlState::PreOp, 3);
+            assert_row(rt, name, up, Ok(()));
+        }
+        Step::Station(station) => asked.station = station,
+        Step::OtherPeer => *asked = peer(),
+        Step::OtherRing => *ports = storm(rt, alloc, row.state),
+        _ => assert_asked(rt, name, ports, asked, step),
+    }
+}
+
+/// Asserts one row of the table.
+fn assert_course(rt: &impl Abort, alloc: Global, row: &Row) {
+    let (mut ports, mut asked) = if row.is_left_behind {
+        left_behind(rt, alloc)
+    } else {
+        (storm(rt, alloc, row.state), peer())
+    };
+    for step in row.steps {
+        assert_step(rt, alloc, row, &mut ports, &mut asked, step);
     }
 }
 
 #[test]
-fn download_after_six_broken_off_calls_is_done_surely_alone(rt: HostRuntime) {
-    let (mut ports, mut peer) = left_behind(&rt, rt.alloc());
-    let done = download(&rt, &mut ports, &mut peer, SETTING, SECOND, 3);
-    assert_same(&rt, done, Ok(()));
-    assert_same(&rt, setting(&ports), Some(FIRST));
-    let (mut ports, mut peer) = left_behind(&rt, rt.alloc());
-    let done = sure_download(&rt, &mut ports, &mut peer, SETTING, SECOND, ENOUGH);
-    assert_same(&rt, done, Ok(()));
-    assert_same(&rt, setting(&ports), Some(SECOND));
+fn what_other_calls_left_does_no_harm_to_sure_ones(rt: HostRuntime) {
+    for row in &ROWS {
+        assert_course(&rt, rt.alloc(), row);
+    }
 }
 
 #[test]
-fn one_trouble_is_recovered_from(rt: HostRuntime) {
+fn up_to_two_troubles_are_recovered_from(rt: HostRuntime) {
     for one in 0..TROUBLES {
         recovers(&rt, rt.alloc(), [one, NONE, NONE]);
-    }
-}
-
-#[test]
-fn two_troubles_are_recovered_from(rt: HostRuntime) {
-    for one in 0..TROUBLES {
         for two in 0..one {
             recovers(&rt, rt.alloc(), [one, two, NONE]);
         }
@@ -195,60 +439,21 @@ fn three_troubles_are_recovered_from(rt: HostRuntime) {
     }
 }
 
+/// A call with one trouble is broken off after so many trips, and the next call is right.
+fn goes_on(rt: &impl Abort, alloc: Global, one: usize, trips: u32) {
+    let (mut ports, mut peer) = left_behind(rt, alloc);
+    ports.begin([one, NONE, NONE]);
+    let _broken_off = sure_download(rt, &mut ports, &mut peer, SETTING, FIRST, trips);
+    let done = sure_download(rt, &mut ports, &mut peer, SETTING, SECOND, ENOUGH);
+    assert_same(rt, done, Ok(()));
+    assert_same(rt, setting(&ports), Some(SECOND));
+}
+
 #[test]
 fn broken_off_anywhere_the_next_call_is_right(rt: HostRuntime) {
     for trips in 0..7 {
         for one in 0..TROUBLES {
-            let (mut ports, mut peer) = left_behind(&rt, rt.alloc());
-            ports.begin([one, NONE, NONE]);
-            let _broken_off = sure_download(&rt, &mut ports, &mut peer, SETTING, FIRST, trips);
-            let done = sure_download(&rt, &mut ports, &mut peer, SETTING, SECOND, ENOUGH);
-            assert_same(&rt, done, Ok(()));
-            assert_same(&rt, setting(&ports), Some(SECOND));
+            goes_on(&rt, rt.alloc(), one, trips);
         }
     }
-}
-
-#[test]
-fn request_that_waits_is_not_overtaken(rt: HostRuntime) {
-    let (mut ports, mut peer) = (storm(&rt, rt.alloc(), AlState::Init), peer());
-    let waits = sure_download(&rt, &mut ports, &mut peer, SETTING, FIRST, ENOUGH);
-    assert_same(&rt, waits, Err(MasterFault::NoAnswer));
-    assert_same(
-        &rt,
-        (peer.counter, setting(&ports)),
-        (2, Some(Value::Two(0))),
-    );
-    let waits = sure_download(&rt, &mut ports, &mut peer, SETTING, SECOND, ENOUGH);
-    assert_same(&rt, waits, Err(MasterFault::NoAnswer));
-    assert_same(
-        &rt,
-        (peer.counter, setting(&ports)),
-        (2, Some(Value::Two(0))),
-    );
-    let up = request_state(&mut ports, peer.station, AlState::PreOp, 3);
-    assert_same(&rt, up, Ok(()));
-    let done = sure_download(&rt, &mut ports, &mut peer, SETTING, SECOND, ENOUGH);
-    assert_same(&rt, done, Ok(()));
-    assert_same(&rt, setting(&ports), Some(SECOND));
-}
-
-#[test]
-fn mail_of_somebody_else_is_dropped(rt: HostRuntime) {
-    let (mut ports, mut other) = (storm(&rt, rt.alloc(), AlState::PreOp), peer());
-    let left = upload(&rt, &mut ports, &mut other, VENDOR, 0);
-    assert_same(&rt, left, Err(MasterFault::NoAnswer));
-    let mut peer = peer();
-    ports.begin(CALM);
-    let read = sure_upload(&rt, &mut ports, &mut peer, SETTING, ENOUGH);
-    assert_same(&rt, read, Ok(Value::Two(0)));
-}
-
-#[test]
-fn station_of_no_slave_has_no_answer(rt: HostRuntime) {
-    let (mut ports, mut peer) = (storm(&rt, rt.alloc(), AlState::PreOp), peer());
-    peer.station = 0x1002;
-    let read = sure_upload(&rt, &mut ports, &mut peer, SETTING, ENOUGH);
-    assert_same(&rt, read, Err(MasterFault::NoAnswer));
-    assert_same(&rt, peer.counter, 1);
 }

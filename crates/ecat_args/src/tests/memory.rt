@@ -1,5 +1,5 @@
 //! Want of memory. Where memory lasts, these lines give what they say. Where an allocation is
-//! refused they give `NoMemory`, and never another answer: run these tests with one allocation
+//! refused they give `NoMemory`, and never another answer: run this test with one allocation
 //! after another refused.
 use super::{Refusal, read};
 use crate::Args;
@@ -11,32 +11,28 @@ use std::process::Abort;
 fn assert_refused(rt: &impl Abort, alloc: Global, words: &[&str], wanted: Refusal) {
     let refusal = read(alloc, words).err();
     let is_so = refusal == Some(wanted) || refusal == Some(Refusal::NoMemory);
-    assert!(rt; is_so, "{refusal:?}");
+    assert!(rt; is_so, "{wanted:?}: {refusal:?}");
 }
 
 #[test]
-fn a_command_is_read_or_memory_ran_out(rt: HostRuntime) {
+fn a_line_gives_its_answer_or_memory_ran_out(rt: HostRuntime) {
     match read(rt.alloc(), &["ecat", "check", "a.scene"]) {
         Ok(Args::Check { scene }) => assert!(rt; scene == "a.scene"),
         Err(Refusal::NoMemory) => {}
         _ => panic!(rt; "another answer"),
     }
-}
-
-#[test]
-fn a_bad_number_is_found_or_memory_ran_out(rt: HostRuntime) {
-    let words = ["ecat", "udp", "a.scene", "--port", "1"];
-    assert_refused(&rt, rt.alloc(), &words, Refusal::BadNumber);
-}
-
-#[test]
-fn an_unknown_command_is_refused_or_memory_ran_out(rt: HostRuntime) {
-    let wanted = Refusal::Line(ErrorKind::InvalidSubcommand);
-    assert_refused(&rt, rt.alloc(), &["ecat", "probe"], wanted);
-}
-
-#[test]
-fn help_is_given_or_memory_ran_out(rt: HostRuntime) {
-    let wanted = Refusal::Line(ErrorKind::DisplayHelp);
-    assert_refused(&rt, rt.alloc(), &["ecat", "--help"], wanted);
+    let rows: [(&[&str], Refusal); 3] = [
+        (
+            &["ecat", "udp", "a.scene", "--port", "1"],
+            Refusal::BadNumber,
+        ),
+        (
+            &["ecat", "probe"],
+            Refusal::Line(ErrorKind::InvalidSubcommand),
+        ),
+        (&["ecat", "--help"], Refusal::Line(ErrorKind::DisplayHelp)),
+    ];
+    for (words, wanted) in rows {
+        assert_refused(&rt, rt.alloc(), words, wanted);
+    }
 }

@@ -1,183 +1,92 @@
 //! Classic captures in both orders, with micro- and nanoseconds (the savefile format of libpcap).
-use super::{expect_end, expect_fault, expect_packet, expect_refusal, front, join, put};
-use crate::{Capture, CaptureFaultKind, Time};
+use super::samples::{put, sample_of};
+use super::{assert_same, expect_rows, expect_source, told};
+use crate::Capture;
 use ecat_source::{Bytes, FailsAt, Pieces};
-use std::alloc::{AllocError, Global};
-use std::process::Abort;
 use std::test::Fail;
 
-/// The header of a little-endian capture with microseconds.
-static LITTLE: [u8; 24] = [
-    0xd4, 0xc3, 0xb2, 0xa1, 2, 0, 4, 0, 0, 0, 0, 0, 0, 0, 0, 0, 0, 0, 4, 0, 1, 0, 0, 0,
-];
+/// The four kinds, each with its record twice, and a time past a second, which is carried.
+const READ: &str = "\
+little little-record little-record 0=d4c3b2a1 | \
+    1: 16909060 s 658188000 ns, 3 of 3 [170, 187, 204]; 2: 16909060 s 658188000 ns, 3 of 3 [170, 187, 204]; \
+    end
+little little-record little-record 0=4d3cb2a1 | \
+    1: 16909060 s 658188 fine ns, 3 of 3 [170, 187, 204]; \
+    2: 16909060 s 658188 fine ns, 3 of 3 [170, 187, 204]; end
+big big-record big-record 0=a1b2c3d4 | \
+    1: 16909060 s 658188000 ns, 3 of 3 [170, 187, 204]; 2: 16909060 s 658188000 ns, 3 of 3 [170, 187, 204]; \
+    end
+big big-record big-record 0=a1b23c4d | \
+    1: 16909060 s 658188 fine ns, 3 of 3 [170, 187, 204]; \
+    2: 16909060 s 658188 fine ns, 3 of 3 [170, 187, 204]; end
+little little-record little-record 28=ffffffff | \
+    1: 16913354 s 967295000 ns, 3 of 3 [170, 187, 204]; 2: 16909060 s 658188000 ns, 3 of 3 [170, 187, 204]; \
+    end";
 
-/// The header of a big-endian capture with microseconds.
-static BIG: [u8; 24] = [
-    0xa1, 0xb2, 0xc3, 0xd4, 0, 2, 0, 4, 0, 0, 0, 0, 0, 0, 0, 0, 0, 4, 0, 0, 0, 0, 0, 1,
-];
+/// Every cut is short at its record.
+const CUT: &str = "\
+little little-record little-record <0-23 | Short at 0
+little little-record little-record <24 | end
+little little-record little-record <25-42 | Short at 24
+little little-record little-record <43 | 1: 16909060 s 658188000 ns, 3 of 3 [170, 187, 204]; end
+little little-record little-record <44-61 | 1: 16909060 s 658188000 ns, 3 of 3 [170, 187, 204]; Short at 43";
 
-/// A record of a packet of three bytes, at 0x01020304 s and 0x000a0b0c units, little endian.
-static LITTLE_RECORD: [u8; 19] = [
-    4, 3, 2, 1, 0x0c, 0x0b, 0x0a, 0, 3, 0, 0, 0, 3, 0, 0, 0, 0xaa, 0xbb, 0xcc,
-];
+/// Faults of a header come in their order.
+const REFUSED: &str = "\
+little 20=71 | LinkType at 0
+little 20=71 4=01 | Version at 0
+little 20=71 4=01 0=d5 | NotCapture at 0
++504b030420616e64206d6f7265 | NotCapture at 0
+| Short at 0";
 
-/// That record, big endian.
-static BIG_RECORD: [u8; 19] = [
-    1, 2, 3, 4, 0, 0x0a, 0x0b, 0x0c, 0, 0, 0, 3, 0, 0, 0, 3, 0xaa, 0xbb, 0xcc,
-];
-
-/// The time of that record where its units are microseconds: 0x000a0b0c is 658,188.
-const MICRO: Time = Time {
-    seconds: 16_909_060,
-    nanoseconds: 658_188_000,
-    fine: false,
-};
-
-/// The time of that record where its units are nanoseconds.
-const NANO: Time = Time {
-    seconds: 16_909_060,
-    nanoseconds: 658_188,
-    fine: true,
-};
-
-/// A file of this kind has the record twice, at this time.
-fn expect_kind(
-    rt: &impl Abort,
-    alloc: Global,
-    magic: [u8; 4],
-    header: &[u8],
-    record: &[u8],
-    time: Time,
-) -> Result<(), AllocError> {
-    let mut file = join(alloc, &[header, record, record])?;
-    put(&mut file, 0, &magic);
-    for most in [1, 3, 7, 62] {
-        let mut capture = Capture::new(alloc, Pieces::new(&file, most));
-        expect_packet(rt, &mut capture, 1, Some(time), &[0xaa, 0xbb, 0xcc]);
-        expect_packet(rt, &mut capture, 2, Some(time), &[0xaa, 0xbb, 0xcc]);
-        expect_end(rt, capture.next());
-        expect_end(rt, capture.next());
+#[test]
+fn records_are_read_or_refused(rt: HostRuntime) -> Result<(), Fail> {
+    for rows in [READ, CUT, REFUSED] {
+        expect_rows(&rt, rt.alloc(), rows)?;
     }
-    Ok(())
-}
-
-#[test]
-fn four_kinds_are_read(rt: HostRuntime) -> Result<(), Fail> {
-    let alloc = rt.alloc();
-    let micro_little = [0xd4, 0xc3, 0xb2, 0xa1];
-    let nano_little = [0x4d, 0x3c, 0xb2, 0xa1];
-    expect_kind(&rt, alloc, micro_little, &LITTLE, &LITTLE_RECORD, MICRO)?;
-    expect_kind(&rt, alloc, nano_little, &LITTLE, &LITTLE_RECORD, NANO)?;
-    expect_kind(
-        &rt,
-        alloc,
-        [0xa1, 0xb2, 0xc3, 0xd4],
-        &BIG,
-        &BIG_RECORD,
-        MICRO,
-    )?;
-    expect_kind(
-        &rt,
-        alloc,
-        [0xa1, 0xb2, 0x3c, 0x4d],
-        &BIG,
-        &BIG_RECORD,
-        NANO,
-    )?;
-    Ok(())
-}
-
-#[test]
-fn every_cut_is_short_at_its_record(rt: HostRuntime) -> Result<(), Fail> {
-    let file = join(rt.alloc(), &[&LITTLE, &LITTLE_RECORD, &LITTLE_RECORD])?;
-    for length in 0..62 {
-        let mut capture = Capture::new(rt.alloc(), Pieces::new(front(&file, length), 5));
-        if length < 24 {
-            expect_fault(&rt, &mut capture, CaptureFaultKind::Short, 0);
-        } else if length == 24 {
-            expect_end(&rt, capture.next());
-        } else if length < 43 {
-            expect_fault(&rt, &mut capture, CaptureFaultKind::Short, 24);
-        } else {
-            expect_packet(&rt, &mut capture, 1, Some(MICRO), &[0xaa, 0xbb, 0xcc]);
-            if length == 43 {
-                expect_end(&rt, capture.next());
-            } else {
-                expect_fault(&rt, &mut capture, CaptureFaultKind::Short, 43);
-            }
-        }
-    }
-    Ok(())
-}
-
-#[test]
-fn header_faults_come_in_order(rt: HostRuntime) -> Result<(), Fail> {
-    let mut file = join(rt.alloc(), &[&LITTLE])?;
-    put(&mut file, 20, &[113]);
-    expect_refusal(&rt, rt.alloc(), &file, CaptureFaultKind::LinkType, 0);
-    put(&mut file, 4, &[1]);
-    expect_refusal(&rt, rt.alloc(), &file, CaptureFaultKind::Version, 0);
-    put(&mut file, 0, &[0xd5]);
-    expect_refusal(&rt, rt.alloc(), &file, CaptureFaultKind::NotCapture, 0);
-    expect_refusal(
-        &rt,
-        rt.alloc(),
-        b"PK\x03\x04 and more",
-        CaptureFaultKind::NotCapture,
-        0,
-    );
-    expect_refusal(&rt, rt.alloc(), b"", CaptureFaultKind::Short, 0);
-    Ok(())
-}
-
-#[test]
-fn times_past_a_second_are_carried(rt: HostRuntime) -> Result<(), Fail> {
-    let mut file = join(rt.alloc(), &[&LITTLE, &LITTLE_RECORD, &LITTLE_RECORD])?;
-    put(&mut file, 28, &[0xff; 4]);
-    let mut capture = Capture::new(rt.alloc(), Bytes::new(&file));
-    let time = Time {
-        seconds: 16_909_060 + 4294,
-        nanoseconds: 967_295_000,
-        fine: false,
-    };
-    expect_packet(&rt, &mut capture, 1, Some(time), &[0xaa, 0xbb, 0xcc]);
     Ok(())
 }
 
 #[test]
 fn longest_packet_is_cut_and_one_byte_more_refused(rt: HostRuntime) -> Result<(), Fail> {
-    let mut file = Vec::from_slice(rt.alloc(), &LITTLE)?;
-    file.extend_from_slice(&[0; 8])?;
-    file.extend_from_slice(&[0, 0, 4, 0, 0, 0, 4, 0])?;
+    let mut file = sample_of(
+        &rt,
+        rt.alloc(),
+        "little +0000000000000000 +0000040000000400",
+    )?
+    .bytes;
     for k in 0..262_144_u32 {
         file.push((k % 251) as u8)?;
     }
-    file.extend_from_slice(&LITTLE_RECORD)?;
+    let record = sample_of(&rt, rt.alloc(), "little-record")?.bytes;
+    file.extend_from_slice(&record)?;
     let mut capture = Capture::new(rt.alloc(), Pieces::new(&file, 40_000));
     match capture.next() {
         Ok(Some(packet)) => {
-            assert_eq!(rt; packet.captured, 262_144);
-            assert_eq!(rt; capture.bytes().len(), 65_536);
-            assert_eq!(rt; capture.bytes().last(), Some(&24));
+            assert_same(&rt, packet.captured, 262_144);
+            assert_same(&rt, capture.bytes().len(), 65_536);
+            assert_same(&rt, capture.bytes().last(), Some(&24));
         }
         Ok(None) => panic!(rt; "the capture ended"),
         Err(fault) => panic!(rt; "{fault}"),
     }
-    expect_packet(&rt, &mut capture, 2, Some(MICRO), &[0xaa, 0xbb, 0xcc]);
+    let rest = told(&rt, rt.alloc(), &mut capture)?;
+    let wanted = "2: 16909060 s 658188000 ns, 3 of 3 [170, 187, 204]; end";
+    assert!(&rt; rest.as_str() == wanted, "{rest}");
     drop(capture);
     put(&mut file, 32, &[1]);
-    expect_refusal(&rt, rt.alloc(), &file, CaptureFaultKind::TooLong, 24);
+    expect_source(&rt, rt.alloc(), Bytes::new(&file), "TooLong at 24")?;
     Ok(())
 }
 
 #[test]
 fn failing_read_is_read_and_then_failed(rt: HostRuntime) -> Result<(), Fail> {
-    let file = join(rt.alloc(), &[&LITTLE, &LITTLE_RECORD, &LITTLE_RECORD])?;
-    for reads_before in 0..2 {
+    let file = sample_of(&rt, rt.alloc(), "little little-record little-record")?.bytes;
+    for (reads_before, wanted) in [(0, "Read at 0"), (1, "Read at 24")] {
         let mut capture = Capture::new(rt.alloc(), FailsAt::new(&file, 24, reads_before));
-        let at = if reads_before == 0 { 0 } else { 24 };
-        expect_fault(&rt, &mut capture, CaptureFaultKind::Read, at);
-        assert_eq!(rt; capture.failures(), 1);
+        let found = told(&rt, rt.alloc(), &mut capture)?;
+        assert!(&rt; found.as_str() == wanted, "{found}, not {wanted}");
+        assert_same(&rt, capture.failures(), 1);
     }
     Ok(())
 }

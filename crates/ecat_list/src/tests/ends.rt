@@ -1,10 +1,9 @@
 //! Outputs and sources that fail.
-use super::{APRD, HEADER, ROOM, asked, record};
+use super::samples::{Sample, file_of};
+use super::{ROOM, asked};
 use crate::{Form, Listed, list};
 use ecat_source::{Bytes, FailsAt};
-use std::alloc::{AllocError, Global};
 use std::io::{self, Cursor, ErrorKind, Write};
-use std::test::Fail;
 
 /// An output that fails so.
 #[derive(Drop)]
@@ -22,41 +21,29 @@ impl Write for Fails {
     }
 }
 
-/// A capture of one packet.
-fn one(alloc: Global) -> Result<Vec<u8>, AllocError> {
-    let mut file = Vec::from_slice(alloc, &HEADER)?;
-    record(&mut file, [0, 0], &APRD)?;
-    Ok(file)
-}
-
 #[test]
-fn a_closed_pipe_is_told_from_a_failed_write(rt: HostRuntime) -> Result<(), Fail> {
-    let file = one(rt.alloc())?;
+fn a_closed_pipe_is_told_from_a_failed_write_and_a_failing_source(rt: HostRuntime) {
+    let Ok(file) = file_of(rt.alloc(), Sample::One) else {
+        return;
+    };
+    let mut err = Cursor::new([0u8; ROOM]);
     for (kind, wanted) in [
         (ErrorKind::BrokenPipe, Listed::Closed),
         (ErrorKind::StorageFull, Listed::OutputFailed),
     ] {
         let mut out = Fails { kind };
-        let mut err = Cursor::new([0u8; ROOM]);
-        let listed = list(
-            rt.alloc(),
-            Bytes::new(&file),
-            asked(Form::Lines),
-            &mut out,
-            &mut err,
+        let source = Bytes::new(&file);
+        let listed = list(rt.alloc(), source, asked(Form::Lines), &mut out, &mut err);
+        assert!(&rt;
+            listed == wanted || listed == Listed::NoMemory,
+            "{kind:?}: {listed:?}"
         );
-        assert!(&rt; listed == wanted || listed == Listed::NoMemory);
     }
-    Ok(())
-}
-
-#[test]
-fn a_failing_source_is_told(rt: HostRuntime) -> Result<(), Fail> {
-    let file = one(rt.alloc())?;
     let mut out = Cursor::new([0u8; ROOM]);
-    let mut err = Cursor::new([0u8; ROOM]);
     let source = FailsAt::new(&file, 30, 1);
     let listed = list(rt.alloc(), source, asked(Form::Lines), &mut out, &mut err);
-    assert!(&rt; listed == Listed::SourceFailed || listed == Listed::NoMemory);
-    Ok(())
+    assert!(&rt;
+        listed == Listed::SourceFailed || listed == Listed::NoMemory,
+        "{listed:?}"
+    );
 }

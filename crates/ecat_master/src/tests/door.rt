@@ -1,6 +1,6 @@
 //! The use on the crate's page.
 
-use super::assert_same;
+use super::assert_found;
 use super::line::{EXPECTED, ring, wanted, work};
 use super::stage::{Count, Event, ROOM, Stage, written};
 use crate::{Outputs, Plan, master};
@@ -45,10 +45,11 @@ fn a_line_is_brought_up_and_a_link_breaks_while_it_cycles(rt: HostRuntime) {
         &mut err,
         &mut log,
     );
-    assert_same(&rt, status, 0);
-    assert_same(&rt, written(&out), TOLD);
-    assert_same(
+    assert_found(&rt, "the status", status, 0);
+    assert_found(&rt, "what is told", written(&out), TOLD);
+    assert_found(
         &rt,
+        "what is logged",
         written(&log),
         "cycle 0 good counts 9\ncycle 1 good counts 9\ncycle 2 good counts 9\n\
         cycle 3 good counts 9\ncycle 4 good counts 9\n",

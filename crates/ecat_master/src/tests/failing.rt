@@ -1,10 +1,8 @@
 //! An output that fails, each of its writes in turn.
 
-use super::assert_same;
-use super::line::{EXPECTED, ring, wanted, work};
-use super::stage::{Count, PLAN, ROOM, Stage};
-use crate::master;
-use std::io::{self, Cursor, Write};
+use super::stage::{PLAN, Stage, Told, assert_runs, ring_with, wanted_with};
+use std::io::{self, Write};
+use std::process::Abort;
 
 /// An output whose write after so many fails.
 #[derive(Drop)]
@@ -26,31 +24,23 @@ impl Write for Stops {
     }
 }
 
-/// Seven lines of start-up, that of the sums, and that of the item.
-const WRITES: usize = 9;
+/// The writes, each of which fails in turn: seven lines of start-up, that of the sums, and that of the item.
+static WRITES: [&str; 9] = [
+    "slaves", "ring", "stations", "Init", "Pre-Op", "Safe-Op", "Op", "the sums", "the item",
+];
+
+/// Asserts the status of a run whose write after so many fails.
+fn assert_status(rt: &(impl AllocGlobal + Abort), row: &str, left: usize, status: u8) {
+    let line = wanted_with(rt, Told::Same);
+    let ports = Stage::new(ring_with(rt, 3, &[]), &[]);
+    let out = &mut Stops { left };
+    assert_runs(rt, row, ports, line.as_slice(), &PLAN, 3, out, status);
+}
 
 #[test]
 fn each_write_of_the_output_fails_in_turn(rt: HostRuntime) {
-    for left in 0..WRITES + 1 {
-        let line = wanted(&rt, rt.alloc());
-        let work = work(&rt);
-        let ports = Stage::new(ring(&rt, rt.alloc(), 3), &[]);
-        let mut err = Cursor::new([0u8; ROOM]);
-        let mut log = Cursor::new([0u8; ROOM]);
-        if work.len() != EXPECTED.len() {
-            return;
-        }
-        let status = master(
-            ports,
-            line.as_slice(),
-            work,
-            &EXPECTED,
-            &PLAN,
-            &mut Count { left: 3 },
-            &mut Stops { left },
-            &mut err,
-            &mut log,
-        );
-        assert_same(&rt, status, if left < WRITES { 3 } else { 0 });
+    for (left, row) in WRITES.iter().enumerate() {
+        assert_status(&rt, row, left, 3);
     }
+    assert_status(&rt, "no write fails", WRITES.len(), 0);
 }

@@ -1,101 +1,101 @@
 //! Startup objects, which are written in Pre-Op.
 
-use super::assert_same;
-use super::line::{held, ring, shown, wanted};
-use super::stage::{Event, PLAN, ROOM, Stage, runs_on, written};
-use crate::{Lines, StartupObject, Wanted, Watched, start};
+use super::assert_found;
+use super::line::{held, shown};
+use super::stage::{Event, ROOM, Row, Stage, Told, assert_rows, ring_with, wanted_with, written};
+use crate::{Lines, StartupObject, Watched, start};
 use ec_app::Value;
 use ec_regs::AlState;
 use std::io::Cursor;
-use std::process::Abort;
-
-/// What three slaves are to be told, of which the one at a place has these startup objects.
-fn wanted_with(
-    rt: &(impl AllocGlobal + Abort),
-    place: usize,
-    objects: &[StartupObject],
-) -> Vec<Wanted> {
-    let mut line = wanted(rt, rt.alloc());
-    for (at, wanted) in line.iter_mut().enumerate() {
-        if at == place {
-            for (slot, object) in wanted.startup.iter_mut().zip(objects) {
-                *slot = Some(*object);
-            }
-        }
-    }
-    line
-}
 
 /// The object that slaves have, with a value of two bytes.
-fn written_as(value: u16) -> StartupObject {
-    StartupObject {
-        index: 0x8000,
-        sub: 1,
-        value: Value::Two(value),
-    }
-}
+const SEVEN: StartupObject = StartupObject {
+    index: 0x8000,
+    sub: 1,
+    value: Value::Two(7),
+};
+
+/// The same with the next value.
+const EIGHT: StartupObject = StartupObject {
+    index: 0x8000,
+    sub: 1,
+    value: Value::Two(8),
+};
+
+/// And with the one behind that.
+const NINE: StartupObject = StartupObject {
+    index: 0x8000,
+    sub: 1,
+    value: Value::Two(9),
+};
+
+/// An object that no slave has.
+const MISSING: StartupObject = StartupObject {
+    index: 0x8001,
+    sub: 2,
+    value: Value::One(1),
+};
 
 #[test]
 fn startup_objects_are_written_in_their_order(rt: HostRuntime) {
-    let line = wanted_with(&rt, 1, &[written_as(7), written_as(8), written_as(9)]);
+    let row = "three values of one object";
+    let line = wanted_with(&rt, Told::Startup(1, &[SEVEN, EIGHT, NINE]));
     let mut out = Cursor::new([0u8; ROOM]);
-    let mut ports = Watched::new(Stage::new(ring(&rt, rt.alloc(), 3), &[]));
+    let mut ports = Watched::new(Stage::new(ring_with(&rt, 3, &[]), &[]));
     let started = start(&mut ports, line.as_slice(), &mut Lines::new(&mut out));
-    assert!(rt; started.is_ok());
-    assert_same(
+    assert_found(&rt, row, started.is_ok(), true);
+    assert_found(
         &rt,
+        row,
         written(&out),
         "slaves 3\nring whole\nstations given\nall in Init\nall in Pre-Op\nstartup objects written\n\
         all in Safe-Op\nall in Op\n",
     );
     let ports = ports.into_ports();
-    assert_same(&rt, held(ports.ring(), 0), Some(Value::Two(0)));
-    assert_same(&rt, held(ports.ring(), 1), Some(Value::Two(9)));
-    assert_same(&rt, held(ports.ring(), 2), Some(Value::Two(0)));
-    assert_same(&rt, shown(ports.ring(), 1), Some((AlState::Op, 0x1002)));
+    for (place, value) in [0, 9, 0].iter().enumerate() {
+        let wanted = Some(Value::Two(*value));
+        assert_found(&rt, row, held(ports.ring(), place), wanted);
+    }
+    let in_op = Some((AlState::Op, 0x1002));
+    assert_found(&rt, row, shown(ports.ring(), 1), in_op);
 }
 
-/// Asserts what is said of a startup object of slave 1 that cannot be written.
-fn refuses(rt: &(impl AllocGlobal + Abort), line: &[Wanted], told: &str) {
-    let ports = Stage::new(ring(rt, rt.alloc(), 3), &[]);
-    runs_on(rt, ports, line, &PLAN, 2, 1, told);
-}
+/// Objects that cannot be written, and those of slaves that leave Op.
+static ROWS: [Row; 2] = [
+    Row {
+        name: "an abort is told with its object and its name",
+        slaves: 3,
+        down: &[],
+        told: Told::Startup(1, &[SEVEN, MISSING]),
+        events: &[],
+        stop: false,
+        cycles: 2,
+        status: 1,
+        text: "slaves 3\nring whole\nstations given\nall in Init\nall in Pre-Op\n\
+            fault: slave 1 (0x1002): startup object 0x8001:2: abort 0x06020000 object does not exist in the \
+            object dictionary\n",
+    },
+    Row {
+        name: "slaves with startup objects are recovered",
+        slaves: 3,
+        down: &[],
+        told: Told::Startup(0, &[SEVEN]),
+        events: &[
+            (3, Event::Falls(0, AlState::Init)),
+            (17, Event::Falls(1, AlState::PreOp)),
+        ],
+        stop: false,
+        cycles: 40,
+        status: 0,
+        text: "slaves 3\nring whole\nstations given\nall in Init\nall in Pre-Op\n\
+            startup objects written\nall in Safe-Op\nall in Op\n\
+            cycle 15: slave 0 (0x1001) was in Init, brought to Op\n\
+            cycle 31: slave 1 (0x1002) was in Pre-Op, brought to Op\n\
+            cycles 40 good 40 short 0 over 0 fault 0\nitem 0 LRW data a0a1a2 wkc 9 of 9\n",
+    },
+];
 
 #[test]
-fn an_abort_is_told_with_its_object_and_its_name(rt: HostRuntime) {
-    let missing = StartupObject {
-        index: 0x8001,
-        sub: 2,
-        value: Value::One(1),
-    };
-    let line = wanted_with(&rt, 1, &[written_as(7), missing]);
-    refuses(
-        &rt,
-        line.as_slice(),
-        "slaves 3\nring whole\nstations given\nall in Init\nall in Pre-Op\n\
-        fault: slave 1 (0x1002): startup object 0x8001:2: abort 0x06020000 object does not exist in the \
-        object dictionary\n",
-    );
-}
-
-#[test]
-fn slaves_with_startup_objects_are_recovered(rt: HostRuntime) {
-    let line = wanted_with(&rt, 0, &[written_as(7)]);
-    let events = [
-        (3, Event::Falls(0, AlState::Init)),
-        (17, Event::Falls(1, AlState::PreOp)),
-    ];
-    let ports = Stage::new(ring(&rt, rt.alloc(), 3), &events);
-    runs_on(
-        &rt,
-        ports,
-        line.as_slice(),
-        &PLAN,
-        40,
-        0,
-        "slaves 3\nring whole\nstations given\nall in Init\nall in Pre-Op\nstartup objects written\n\
-        all in Safe-Op\nall in Op\ncycle 15: slave 0 (0x1001) was in Init, brought to Op\n\
-        cycle 31: slave 1 (0x1002) was in Pre-Op, brought to Op\n\
-        cycles 40 good 40 short 0 over 0 fault 0\nitem 0 LRW data a0a1a2 wkc 9 of 9\n",
-    );
+fn startup_objects_are_aborted_and_written_again(rt: HostRuntime) {
+    assert_rows(&rt, &ROWS);
 }

@@ -3,12 +3,13 @@
 ghost use Rattle.std.specs.Prelude.{⊤};
 ghost use Rattle.ecat_master.specs.Cycles.{AddUp};
 
-use super::assert_same;
+use super::assert_found;
 use super::line::{EXPECTED, work};
 use crate::{Cycles, Outputs};
 use ec_master::{CycleFault, PortFault, Ports, Verdict};
 use ec_ring::Came;
 use ec_wire::FrameBuf;
+use std::process::Abort;
 
 /// Ports at which copy A comes back as if it had been counted so often, and which keep what was sent.
 #[derive(Drop)]
@@ -52,6 +53,30 @@ fn makes(ports: &mut Counting, cycles: &mut Cycles, gains: u16) -> Result<Verdic
     cycles.cycle(ports, Outputs::Count, &EXPECTED)
 }
 
+/// Asserts what the ports were sent last.
+fn assert_sent(rt: &impl Abort, ports: &Counting, wanted: &[u8]) {
+    let sent = match &ports.sent {
+        Some(frame) => frame.bytes(),
+        None => &[],
+    };
+    assert_found(rt, "what is sent", sent, wanted);
+}
+
+/// Asserts what the image holds.
+fn assert_image(rt: &impl Abort, cycles: &Cycles, wanted: &[u8]) {
+    let image = match &cycles.image {
+        Some(image) if image.len() > 0 => image.item(0).data(),
+        _ => &[],
+    };
+    assert_found(rt, "the image", image, wanted);
+}
+
+/// The number 2 in three bytes, and the counter 2 * 2048.
+static SENT: [u8; 17] = [
+    0x0F, 0x10, 0x0C, 0x00, 0x00, 0x00, 0x01, 0x00, 0x03, 0x00, 0x00, 0x00, 0x02, 0x00, 0x00, 0x00,
+    0x10,
+];
+
 #[test]
 fn a_cycle_sends_its_number_in_its_round_and_the_image_is_that_of_a_good_one(rt: HostRuntime) {
     let mut cycles = Cycles::new(work(&rt));
@@ -59,27 +84,14 @@ fn a_cycle_sends_its_number_in_its_round_and_the_image_is_that_of_a_good_one(rt:
         gains: 0,
         sent: None,
     };
-    assert_same(&rt, makes(&mut ports, &mut cycles, 9), Ok(Verdict::Good));
-    assert_same(&rt, makes(&mut ports, &mut cycles, 9), Ok(Verdict::Good));
-    assert_same(
-        &rt,
-        makes(&mut ports, &mut cycles, 8),
-        Ok(Verdict::Short(0)),
-    );
-    // The number 2 in three bytes, and the counter 2 * 2048.
-    let wanted = [
-        0x0F, 0x10, 0x0C, 0x00, 0x00, 0x00, 0x01, 0x00, 0x03, 0x00, 0x00, 0x00, 0x02, 0x00, 0x00,
-        0x00, 0x10,
-    ];
-    let sent = match &ports.sent {
-        Some(frame) => frame.bytes(),
-        None => &[],
-    };
-    assert_same(&rt, sent, wanted.as_slice());
-    let image = match &cycles.image {
-        Some(image) if image.len() > 0 => image.item(0).data(),
-        _ => &[],
-    };
-    assert_same(&rt, image, [0x01, 0x00, 0x00].as_slice());
-    assert_same(&rt, (cycles.counts.good, cycles.counts.short), (2, 1));
+    let first = makes(&mut ports, &mut cycles, 9);
+    let second = makes(&mut ports, &mut cycles, 9);
+    let third = makes(&mut ports, &mut cycles, 8);
+    let good = Ok(Verdict::Good);
+    let wanted = [good, good, Ok(Verdict::Short(0))];
+    assert_found(&rt, "the verdicts", [first, second, third], wanted);
+    assert_sent(&rt, &ports, &SENT);
+    assert_image(&rt, &cycles, &[0x01, 0x00, 0x00]);
+    let counts = (cycles.counts.good, cycles.counts.short);
+    assert_found(&rt, "good and short", counts, (2, 1));
 }

@@ -2,15 +2,15 @@
 
 ghost use Rattle.std.specs.Prelude.{⊤};
 
-use super::assert_same;
-use super::line::{EXPECTED, wanted, work};
+use super::assert_found;
+use super::line::{EXPECTED, ring, wanted, work};
 use crate::ask::request;
-use crate::{Outputs, Pace, Plan, Wanted, master};
+use crate::{Outputs, Pace, Plan, StartupObject, Wanted, master};
 use ec_master::PortFault;
 use ec_regs::{AlState, AlStatus};
 use ec_ring::{Arrivals, HeardPorts, Ring, Travel, Weather};
 use ec_wire::{Command, FrameBuf, address_of};
-use std::io::Cursor;
+use std::io::{Cursor, Write};
 use std::process::Abort;
 
 /// What happens before the frame of a cycle.
@@ -187,43 +187,125 @@ pub const PLAN: Plan<'static> = Plan {
     log: false,
 };
 
-/// Runs a master on three slaves behind these ports for so many cycles, and asserts its status and what it
-/// prints.
-pub fn runs<P: HeardPorts + Drop>(
-    rt: &(impl AllocGlobal + Abort),
-    ports: P,
-    plan: &Plan<'_>,
-    cycles: u64,
-    status: u8,
-    text: &str,
-) {
-    let line = wanted(rt, rt.alloc());
-    runs_on(rt, ports, line.as_slice(), plan, cycles, status, text);
+/// A change of what the three slaves are to be told.
+#[derive(Clone, Copy)]
+pub enum Told {
+    /// None.
+    Same,
+    /// The outputs of the slave at place 1 have two bytes.
+    LongOutputs,
+    /// The slave at a place has startup objects.
+    Startup(usize, &'static [StartupObject]),
 }
 
-/// Runs a master on slaves behind these ports that are to be told this, and asserts its status and what it
-/// prints.
-pub fn runs_on<P: HeardPorts + Drop>(
+/// A run of a master on a line, and what it prints.
+pub struct Row {
+    /// What it shows.
+    pub name: &'static str,
+    /// How many slaves the ring has, at most three.
+    pub slaves: u16,
+    /// The links that are down from the start.
+    pub down: &'static [usize],
+    /// What the slaves are to be told.
+    pub told: Told,
+    /// What happens before the cycles with these numbers.
+    pub events: &'static [(u64, Event)],
+    /// Whether the first cycle that is not good is the last.
+    pub stop: bool,
+    /// How many cycles are to come.
+    pub cycles: u64,
+    /// The exit status.
+    pub status: u8,
+    /// What is printed.
+    pub text: &'static str,
+}
+
+/// A ring of so many slaves, at most three, of whose links these are down.
+pub fn ring_with(rt: &(impl AllocGlobal + Abort), slaves: u16, down: &[usize]) -> Ring {
+    assert!(rt; slaves <= 3);
+    let mut open = ring(rt, rt.alloc(), slaves);
+    for link in down {
+        if *link <= open.slaves().len() {
+            open.set_link(*link, false);
+        }
+    }
+    open
+}
+
+/// What three slaves are to be told.
+pub fn wanted_with(rt: &(impl AllocGlobal + Abort), told: Told) -> Vec<Wanted> {
+    let mut line = wanted(rt, rt.alloc());
+    for (place, wanted) in line.iter_mut().enumerate() {
+        match told {
+            Told::Same => {}
+            Told::LongOutputs => {
+                if place == 1 {
+                    wanted.managers[2].length = 2;
+                }
+            }
+            Told::Startup(at, objects) => {
+                if place == at {
+                    put_startup(wanted, objects);
+                }
+            }
+        }
+    }
+    line
+}
+
+/// Gives a slave startup objects.
+fn put_startup(wanted: &mut Wanted, objects: &[StartupObject]) {
+    for (slot, object) in wanted.startup.iter_mut().zip(objects) {
+        *slot = Some(*object);
+    }
+}
+
+/// Runs a master on slaves behind these ports that are to be told this, with what it prints, and asserts its
+/// status. Nothing is run where the exchange is none of one item.
+pub fn assert_runs<W: Write>(
     rt: &impl Abort,
-    ports: P,
+    row: &str,
+    ports: Stage<'_>,
     line: &[Wanted],
     plan: &Plan<'_>,
     cycles: u64,
+    out: &mut W,
     status: u8,
-    text: &str,
 ) {
     let work = work(rt);
-    let mut out = Cursor::new([0u8; ROOM]);
     let mut err = Cursor::new([0u8; ROOM]);
     let mut log = Cursor::new([0u8; ROOM]);
     let mut pace = Count { left: cycles };
-    let expected = &EXPECTED[..work.len().min(1)];
-    if work.len() != expected.len() {
-        return;
-    }
+    assert!(rt; work.len() == EXPECTED.len());
     let ended = master(
-        ports, line, work, expected, plan, &mut pace, &mut out, &mut err, &mut log,
+        ports, line, work, &EXPECTED, plan, &mut pace, out, &mut err, &mut log,
     );
-    assert_same(rt, written(&out), text);
-    assert_same(rt, ended, status);
+    assert_found(rt, row, ended, status);
+}
+
+/// Asserts the status of a run and what it prints.
+fn assert_row(rt: &(impl AllocGlobal + Abort), row: &Row) {
+    let line = wanted_with(rt, row.told);
+    let ports = Stage::new(ring_with(rt, row.slaves, row.down), row.events);
+    let mut plan = PLAN;
+    plan.stop = row.stop;
+    let mut out = Cursor::new([0u8; ROOM]);
+    assert_runs(
+        rt,
+        row.name,
+        ports,
+        line.as_slice(),
+        &plan,
+        row.cycles,
+        &mut out,
+        row.status,
+    );
+    assert_found(rt, row.name, written(&out), row.text);
+}
+
+/// Asserts this of each run.
+pub fn assert_rows(rt: &(impl AllocGlobal + Abort), rows: &[Row]) {
+    for row in rows {
+        assert_row(rt, row);
+    }
 }

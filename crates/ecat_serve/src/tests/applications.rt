@@ -1,8 +1,9 @@
 //! Applications that act behind each packet that comes to a line.
 
 use crate::Served;
-use crate::tests::line::{ASKED, RUBBISH, ring};
-use crate::tests::memory::{MemoryEnds, Packet};
+use crate::tests::assert_found;
+use crate::tests::line::{Spelling, ring};
+use crate::tests::memory::{Packet, Service, assert_served};
 use ec_process::{Application, Applications, Behaviour};
 use ec_regs::SyncMan;
 use ec_ring::Port;
@@ -18,19 +19,30 @@ const INPUTS: SyncMan = SyncMan {
     pdi: 0,
 };
 
-/// Somebody at end A.
-fn packet(bytes: [u8; 16]) -> Option<Packet> {
-    Some(Packet {
-        at: Port::A,
-        peer: 1,
-        bytes,
-    })
-}
+/// Two packets, of which one is dropped.
+const FIRST: Service = Service {
+    coming: &[packet!(A 1 Asked), packet!(A 1 Rubbish), packet!(A 1 Asked)],
+    most: 2,
+    failing: 0,
+    counts: Some((1, 1)),
+    sent: &[packet!(A 1 ByBoth)],
+    calls: 3,
+};
+
+/// One packet more.
+const SECOND: Service = Service {
+    coming: &[packet!(A 1 Asked)],
+    most: 1,
+    failing: 0,
+    counts: Some((1, 0)),
+    sent: &[packet!(A 1 ByBoth)],
+    calls: 2,
+};
 
 /// Asserts what the inputs of a slave are.
-fn assert_inputs(rt: &impl Abort, served: &Served, place: usize, wanted: &[u8]) {
+fn assert_inputs(rt: &impl Abort, served: &Served, row: &str, place: usize, wanted: &[u8]) {
     let slave = served.ring().slaves().get(place).expect(rt, "a slave");
-    assert_eq!(rt; slave.controller().bytes(0x1100, 2), wanted);
+    assert_found(rt, row, slave.controller().bytes(0x1100, 2), wanted);
 }
 
 #[test]
@@ -45,12 +57,10 @@ fn a_counter_counts_each_packet_also_one_that_is_dropped(rt: HostRuntime) {
     let mut ring = ring(&rt, rt.alloc(), [true; 3]);
     ring.slave_mut(1).controller_mut().set_syncman(3, &INPUTS);
     let mut served = Served::acting(ring, Applications::new(all));
-    let coming = [packet(ASKED), packet(RUBBISH), packet(ASKED), None];
-    let mut ends = MemoryEnds::new(coming, 0);
-    assert_inputs(&rt, &served, 1, &[0, 0]);
-    assert!(&rt; served.serve(&mut ends, 2).is_ok());
-    assert_inputs(&rt, &served, 1, &[2, 0]);
-    assert!(&rt; served.serve(&mut ends, 1).is_ok());
-    assert_inputs(&rt, &served, 1, &[3, 0]);
-    assert_inputs(&rt, &served, 0, &[0, 0]);
+    assert_inputs(&rt, &served, "before", 1, &[0, 0]);
+    assert_served(&rt, &mut served, "two packets", &FIRST);
+    assert_inputs(&rt, &served, "behind two packets", 1, &[2, 0]);
+    assert_served(&rt, &mut served, "a packet more", &SECOND);
+    assert_inputs(&rt, &served, "behind three packets", 1, &[3, 0]);
+    assert_inputs(&rt, &served, "another slave", 0, &[0, 0]);
 }

@@ -2,8 +2,9 @@
 
 ghost use Rattle.ecat_serve.specs.Ends.{any_receive, any_send};
 
-use crate::tests::line::{ASKED, BY_BOTH, BY_FIRST, served};
-use crate::tests::memory::{MemoryEnds, Packet};
+use crate::tests::assert_found;
+use crate::tests::line::{Spelling, served};
+use crate::tests::memory::{MemoryEnds, Packet, assert_counts};
 use crate::{Arrived, Console, Counts, Desk, Ends, InputLine, LINE_ROOM, Served, Unwatched};
 use ec_ring::{Port, PortFault};
 use ec_wire::PACKET_ROOM;
@@ -22,7 +23,7 @@ enum Next {
 #[derive(Drop)]
 struct Talk {
     ends: MemoryEnds,
-    order: [Next; 6],
+    order: &'static [Next],
     at: usize,
 }
 
@@ -90,94 +91,175 @@ impl Desk for Hand {
     }
 }
 
-/// Somebody at end A.
-fn packet(bytes: [u8; 16]) -> Option<Packet> {
-    Some(Packet {
-        at: Port::A,
-        peer: 1,
-        bytes,
-    })
+/// What comes to a line in its order, and what becomes of it.
+struct Row {
+    name: &'static str,
+    order: &'static [Next],
+    /// The number of the call that fails, none where it is 0.
+    failing: usize,
+    /// How many packets are served at most, one service after the other.
+    most: &'static [u64],
+    /// How many frames came in each, none where a call failed.
+    frames: &'static [Option<u64>],
+    sent: &'static [Packet],
+    calls: usize,
+    /// How much of the order came.
+    at: usize,
+    /// How many packets had come at the last line.
+    came: u64,
+    /// Whether a line was too long.
+    long: bool,
 }
 
-/// Ends to which frames come and lines in this order; the call of this number fails, none where it is 0.
-fn spoken(order: [Next; 6], failing: usize) -> Talk {
-    Talk {
-        ends: MemoryEnds::new([packet(ASKED); 4], failing),
-        order,
-        at: 0,
-    }
-}
+/// Four packets of one master.
+const FOUR: [Packet; 4] = [packet!(A 1 Asked); 4];
 
-/// Nobody has given a line yet.
-const fn nobody() -> Hand {
-    Hand {
+/// The order in which calls fail.
+const FAILING: &[Next] = &[
+    Next::Packet,
+    Next::Line(b'd'),
+    Next::Packet,
+    Next::Line(b'u'),
+];
+
+/// Lines between packets, and calls that fail behind them.
+static ROWS: [Row; 7] = [
+    Row {
+        name: "a cable breaks between two packets",
+        order: &[
+            Next::Packet,
+            Next::Line(b'd'),
+            Next::Line(0),
+            Next::Packet,
+            Next::Line(b'u'),
+            Next::Packet,
+        ],
+        failing: 0,
+        most: &[9],
+        frames: &[Some(3)],
+        sent: &[
+            packet!(A 1 ByBoth),
+            packet!(A 1 ByFirst),
+            packet!(A 1 ByBoth),
+        ],
+        calls: 6,
+        at: 6,
+        came: 2,
+        long: true,
+    },
+    Row {
+        name: "a line ends the service and so do packets",
+        order: &[
+            Next::Packet,
+            Next::Line(b'q'),
+            Next::Packet,
+            Next::Packet,
+            Next::Line(b'd'),
+            Next::Packet,
+        ],
+        failing: 0,
+        most: &[9, 2],
+        frames: &[Some(1), Some(2)],
+        sent: &[
+            packet!(A 1 ByBoth),
+            packet!(A 1 ByBoth),
+            packet!(A 1 ByBoth),
+        ],
+        calls: 6,
+        at: 4,
+        came: 1,
+        long: false,
+    },
+    Row {
+        name: "call 1 fails",
+        order: FAILING,
+        failing: 1,
+        most: &[9],
+        frames: &[None],
+        sent: &[],
+        calls: 1,
+        at: 1,
         came: 0,
         long: false,
+    },
+    Row {
+        name: "call 2 fails",
+        order: FAILING,
+        failing: 2,
+        most: &[9],
+        frames: &[None],
+        sent: &[],
+        calls: 2,
+        at: 1,
+        came: 0,
+        long: false,
+    },
+    Row {
+        name: "call 3 fails",
+        order: FAILING,
+        failing: 3,
+        most: &[9],
+        frames: &[None],
+        sent: &[packet!(A 1 ByBoth)],
+        calls: 3,
+        at: 3,
+        came: 1,
+        long: false,
+    },
+    Row {
+        name: "call 4 fails",
+        order: FAILING,
+        failing: 4,
+        most: &[9],
+        frames: &[None],
+        sent: &[packet!(A 1 ByBoth)],
+        calls: 4,
+        at: 3,
+        came: 1,
+        long: false,
+    },
+    Row {
+        name: "call 5 would fail, which is not made",
+        order: FAILING,
+        failing: 5,
+        most: &[9],
+        frames: &[Some(2)],
+        sent: &[packet!(A 1 ByBoth), packet!(A 1 ByFirst)],
+        calls: 4,
+        at: 4,
+        came: 2,
+        long: false,
+    },
+];
+
+/// Asserts what becomes of what comes to a line.
+fn assert_row(rt: &impl Abort, served: &mut Served, row: &Row) {
+    let mut talk = Talk {
+        ends: MemoryEnds::new(&FOUR, row.failing),
+        order: row.order,
+        at: 0,
+    };
+    let mut desk = Hand {
+        came: 0,
+        long: false,
+    };
+    for (most, frames) in row.most.iter().zip(row.frames) {
+        let counts = served.serve_commanded(&mut talk, *most, &mut Unwatched, &mut desk);
+        let wanted = match frames {
+            Some(frames) => Some((*frames, 0)),
+            None => None,
+        };
+        assert_counts(rt, row.name, counts, wanted);
     }
-}
-
-/// So many frames, and no packets that were dropped.
-fn assert_frames(rt: &impl Abort, counts: Result<Counts, PortFault>, frames: u64) {
-    assert_eq!(rt; counts, Ok(Counts { frames, dropped: 0 }));
-}
-
-#[test]
-fn a_cable_breaks_between_two_packets(rt: HostRuntime) {
-    let order = [
-        Next::Packet,
-        Next::Line(b'd'),
-        Next::Line(0),
-        Next::Packet,
-        Next::Line(b'u'),
-        Next::Packet,
-    ];
-    let (mut talk, mut desk) = (spoken(order, 0), nobody());
-    let mut served = served(&rt, rt.alloc(), [true; 3]);
-    let counts = served.serve_commanded(&mut talk, 9, &mut Unwatched, &mut desk);
-    assert_frames(&rt, counts, 3);
-    let answers = [packet(BY_BOTH), packet(BY_FIRST), packet(BY_BOTH), None];
-    assert_eq!(rt; talk.ends.sent(), answers);
-    assert_eq!(rt; (desk.came, desk.long), (2, true));
+    talk.ends.assert_sent(rt, row.name, row.sent, row.calls);
+    let seen = (talk.at, desk.came, desk.long);
+    assert_found(rt, row.name, seen, (row.at, row.came, row.long));
 }
 
 #[test]
-fn a_line_ends_the_service_and_so_do_packets(rt: HostRuntime) {
-    let order = [
-        Next::Packet,
-        Next::Line(b'q'),
-        Next::Packet,
-        Next::Packet,
-        Next::Line(b'd'),
-        Next::Packet,
-    ];
-    let (mut talk, mut desk) = (spoken(order, 0), nobody());
-    let mut served = served(&rt, rt.alloc(), [true; 3]);
-    let first = served.serve_commanded(&mut talk, 9, &mut Unwatched, &mut desk);
-    assert_frames(&rt, first, 1);
-    let second = served.serve_commanded(&mut talk, 2, &mut Unwatched, &mut desk);
-    assert_frames(&rt, second, 2);
-    assert_eq!(rt; (desk.came, talk.at), (1, 4));
-}
-
-#[test]
-fn the_first_call_that_fails_ends_a_service_with_commands(rt: HostRuntime) {
-    let order = [
-        Next::Packet,
-        Next::Line(b'd'),
-        Next::Packet,
-        Next::Line(b'u'),
-        Next::Nothing,
-        Next::Nothing,
-    ];
-    for failing in 1..5usize {
-        let (mut talk, mut desk) = (spoken(order, failing), nobody());
+fn lines_come_between_packets(rt: HostRuntime) {
+    for row in &ROWS {
         let mut served = served(&rt, rt.alloc(), [true; 3]);
-        let counts = served.serve_commanded(&mut talk, 9, &mut Unwatched, &mut desk);
-        assert_eq!(rt; counts, Err(PortFault));
-        assert_eq!(rt; talk.ends.calls(), failing);
+        assert_row(&rt, &mut served, row);
     }
-    let (mut talk, mut desk) = (spoken(order, 5), nobody());
-    let mut served = served(&rt, rt.alloc(), [true; 3]);
-    let counts = served.serve_commanded(&mut talk, 9, &mut Unwatched, &mut desk);
-    assert_frames(&rt, counts, 2);
 }

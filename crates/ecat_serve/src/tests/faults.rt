@@ -1,39 +1,39 @@
 //! Each call that a service makes fails in turn.
 
-use crate::tests::line::{ASKED, BY_BOTH, RUBBISH, served};
-use crate::tests::memory::{MemoryEnds, Packet};
-use ec_ring::{Port, PortFault};
+use crate::tests::line::{Spelling, served};
+use crate::tests::memory::{Packet, Service, assert_served};
+use ec_ring::Port;
 
-/// Somebody at end A.
-const MASTER: Packet = Packet {
-    at: Port::A,
-    peer: 1,
-    bytes: ASKED,
+/// A frame, a packet that is dropped, and again a frame, the first call of which fails.
+const FIRST: Service = Service {
+    coming: &[packet!(A 1 Asked), packet!(A 1 Rubbish), packet!(A 1 Asked)],
+    most: 3,
+    failing: 1,
+    counts: None,
+    sent: &[],
+    calls: 1,
 };
 
-/// The same with a packet that is no frame.
-const NOISE: Packet = Packet {
-    at: Port::A,
-    peer: 1,
-    bytes: RUBBISH,
-};
-
-/// What the master gets back.
-const ANSWER: Packet = Packet {
-    at: Port::A,
-    peer: 1,
-    bytes: BY_BOTH,
-};
+/// The calls, each of which fails in turn: a receive and a send, a receive of a packet that is dropped, and
+/// again a receive and a send.
+static CALLS: [&str; 5] = [
+    "call 1 fails",
+    "call 2 fails",
+    "call 3 fails",
+    "call 4 fails",
+    "call 5 fails",
+];
 
 #[test]
 fn the_first_call_that_fails_ends_the_service(rt: HostRuntime) {
-    // A receive and a send, a receive of a packet that is dropped, and again a receive and a send.
-    for failing in 1..6usize {
+    for (before, row) in CALLS.iter().enumerate() {
+        let mut service = FIRST;
+        service.failing = before.wrapping_add(1);
+        service.calls = service.failing;
+        if service.failing > 2 {
+            service.sent = &[packet!(A 1 ByBoth)];
+        }
         let mut served = served(&rt, rt.alloc(), [true; 3]);
-        let mut ends = MemoryEnds::new([Some(MASTER), Some(NOISE), Some(MASTER), None], failing);
-        assert_eq!(rt; served.serve(&mut ends, 3), Err(PortFault));
-        assert_eq!(rt; ends.calls(), failing);
-        let answered = if failing > 2 { Some(ANSWER) } else { None };
-        assert_eq!(rt; ends.sent(), [answered, None, None, None]);
+        assert_served(&rt, &mut served, row, &service);
     }
 }

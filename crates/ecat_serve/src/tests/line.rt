@@ -31,6 +31,34 @@ pub const BY_SECOND: [u8; 16] = [
 /// A packet that is no frame.
 pub const RUBBISH: [u8; 16] = [0xFF; 16];
 
+/// A packet, by the name of its bytes.
+#[derive(Clone, Copy, PartialEq, Eq, Debug)]
+pub enum Spelling {
+    /// The frame as a master sends it.
+    Asked,
+    /// Both slaves have put in their stations.
+    ByBoth,
+    /// The first one alone has.
+    ByFirst,
+    /// The second one alone has.
+    BySecond,
+    /// No frame.
+    Rubbish,
+}
+
+impl Spelling {
+    /// The bytes.
+    pub fn bytes(self) -> [u8; 16] {
+        match self {
+            Spelling::Asked => ASKED,
+            Spelling::ByBoth => BY_BOTH,
+            Spelling::ByFirst => BY_FIRST,
+            Spelling::BySecond => BY_SECOND,
+            Spelling::Rubbish => RUBBISH,
+        }
+    }
+}
+
 /// A slave in Init that has nothing but its station address.
 fn slave(rt: &impl Abort, alloc: Global, station: u16) -> Slave {
     Slave::new(alloc, station, Objects::new(), 1, 1).expect(rt, "memory")

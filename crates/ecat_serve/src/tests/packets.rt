@@ -1,142 +1,134 @@
 //! What packets get back, and from which end.
 
-use crate::Counts;
-use crate::tests::line::{ASKED, BY_BOTH, BY_FIRST, BY_SECOND, RUBBISH, served};
-use crate::tests::memory::{MemoryEnds, Packet};
+use crate::tests::line::{Spelling, served};
+use crate::tests::memory::{Packet, Service, assert_served};
 use ec_ring::Port;
-use std::alloc::Global;
-use std::process::Abort;
 
-/// Somebody at an end.
-fn packet(at: Port, peer: u16, bytes: [u8; 16]) -> Option<Packet> {
-    Some(Packet { at, peer, bytes })
-}
-
-/// What is sent of these packets over a line, and how many were frames and were dropped.
-fn sent(
-    rt: &impl Abort,
-    alloc: Global,
+/// A line, and how it serves what comes.
+struct Row {
+    name: &'static str,
+    /// Of its links 0 to 2 these are up.
     up: [bool; 3],
-    coming: [Option<Packet>; 4],
-) -> ([Option<Packet>; 4], u64, u64) {
-    let mut served = served(rt, alloc, up);
-    let mut ends = MemoryEnds::new(coming, 0);
-    let counts = served.serve(&mut ends, 4).expect(rt, "no call fails");
-    (ends.sent(), counts.frames, counts.dropped)
+    service: Service,
 }
 
-#[test]
-fn a_master_with_one_port_gets_its_answer_at_end_a(rt: HostRuntime) {
-    let coming = [packet(Port::A, 1, ASKED), None, None, None];
-    let answers = [packet(Port::A, 1, BY_BOTH), None, None, None];
-    assert_eq!(rt; sent(&rt, rt.alloc(), [true; 3], coming), (answers, 1, 0));
-}
-
-#[test]
-fn a_whole_line_answers_at_the_other_end_once_somebody_spoke_there(rt: HostRuntime) {
-    let coming = [
-        packet(Port::B, 2, ASKED),
-        packet(Port::A, 1, ASKED),
-        packet(Port::B, 2, ASKED),
-        None,
-    ];
+/// What is sent back over whole lines and broken ones.
+static ROWS: [Row; 8] = [
+    Row {
+        name: "a master with one port gets its answer at end A",
+        up: [true; 3],
+        service: Service {
+            coming: &[packet!(A 1 Asked)],
+            most: 4,
+            failing: 0,
+            counts: Some((1, 0)),
+            sent: &[packet!(A 1 ByBoth)],
+            calls: 3,
+        },
+    },
     // The first copy arrives at end A, to which nobody has spoken by then.
-    let answers = [
-        packet(Port::B, 2, BY_BOTH),
-        packet(Port::A, 1, ASKED),
-        None,
-        None,
-    ];
-    assert_eq!(rt; sent(&rt, rt.alloc(), [true; 3], coming), (answers, 3, 0));
-}
+    Row {
+        name: "a whole line answers at the other end once somebody spoke there",
+        up: [true; 3],
+        service: Service {
+            coming: &[packet!(B 2 Asked), packet!(A 1 Asked), packet!(B 2 Asked)],
+            most: 4,
+            failing: 0,
+            counts: Some((3, 0)),
+            sent: &[packet!(B 2 ByBoth), packet!(A 1 Asked)],
+            calls: 6,
+        },
+    },
+    Row {
+        name: "at a break each answer leaves where its frame came in",
+        up: [true, false, true],
+        service: Service {
+            coming: &[packet!(A 1 Asked), packet!(B 2 Asked), packet!(A 3 Asked)],
+            most: 4,
+            failing: 0,
+            counts: Some((3, 0)),
+            sent: &[
+                packet!(A 1 ByFirst),
+                packet!(B 2 BySecond),
+                packet!(A 3 ByFirst),
+            ],
+            calls: 7,
+        },
+    },
+    Row {
+        name: "an answer goes to whoever spoke last at its end",
+        up: [true; 3],
+        service: Service {
+            coming: &[packet!(A 1 Asked), packet!(A 3 Asked), packet!(B 2 Asked)],
+            most: 4,
+            failing: 0,
+            counts: Some((3, 0)),
+            sent: &[packet!(A 1 ByBoth), packet!(A 3 ByBoth), packet!(A 3 Asked)],
+            calls: 7,
+        },
+    },
+    Row {
+        name: "a copy that is lost is answered by nothing",
+        up: [false, true, true],
+        service: Service {
+            coming: &[packet!(A 1 Asked), packet!(A 1 Asked)],
+            most: 4,
+            failing: 0,
+            counts: Some((2, 0)),
+            sent: &[],
+            calls: 3,
+        },
+    },
+    Row {
+        name: "a packet that is no frame is dropped and its sender has not spoken",
+        up: [true; 3],
+        service: Service {
+            coming: &[
+                packet!(A 1 Asked),
+                packet!(A 3 Rubbish),
+                packet!(B 2 Rubbish),
+                packet!(A 1 Asked),
+            ],
+            most: 4,
+            failing: 0,
+            counts: Some((2, 2)),
+            sent: &[packet!(A 1 ByBoth), packet!(A 1 ByBoth)],
+            calls: 6,
+        },
+    },
+    Row {
+        name: "no packet is served where none is asked for",
+        up: [true; 3],
+        service: Service {
+            coming: &FOUR,
+            most: 0,
+            failing: 0,
+            counts: Some((0, 0)),
+            sent: &[],
+            calls: 0,
+        },
+    },
+    Row {
+        name: "no more packets are served than asked for",
+        up: [true; 3],
+        service: Service {
+            coming: &FOUR,
+            most: 1,
+            failing: 0,
+            counts: Some((1, 0)),
+            sent: &[packet!(A 1 ByBoth)],
+            calls: 2,
+        },
+    },
+];
+
+/// Four packets of one master.
+const FOUR: [Packet; 4] = [packet!(A 1 Asked); 4];
 
 #[test]
-fn at_a_break_each_answer_leaves_where_its_frame_came_in(rt: HostRuntime) {
-    let coming = [
-        packet(Port::A, 1, ASKED),
-        packet(Port::B, 2, ASKED),
-        packet(Port::A, 3, ASKED),
-        None,
-    ];
-    let answers = [
-        packet(Port::A, 1, BY_FIRST),
-        packet(Port::B, 2, BY_SECOND),
-        packet(Port::A, 3, BY_FIRST),
-        None,
-    ];
-    assert_eq!(rt;
-        sent(&rt, rt.alloc(), [true, false, true], coming),
-        (answers, 3, 0)
-    );
-}
-
-#[test]
-fn an_answer_goes_to_whoever_spoke_last_at_its_end(rt: HostRuntime) {
-    let coming = [
-        packet(Port::A, 1, ASKED),
-        packet(Port::A, 3, ASKED),
-        packet(Port::B, 2, ASKED),
-        None,
-    ];
-    let answers = [
-        packet(Port::A, 1, BY_BOTH),
-        packet(Port::A, 3, BY_BOTH),
-        packet(Port::A, 3, ASKED),
-        None,
-    ];
-    assert_eq!(rt; sent(&rt, rt.alloc(), [true; 3], coming), (answers, 3, 0));
-}
-
-#[test]
-fn a_copy_that_is_lost_is_answered_by_nothing(rt: HostRuntime) {
-    let coming = [
-        packet(Port::A, 1, ASKED),
-        packet(Port::A, 1, ASKED),
-        None,
-        None,
-    ];
-    assert_eq!(rt;
-        sent(&rt, rt.alloc(), [false, true, true], coming),
-        ([None; 4], 2, 0)
-    );
-}
-
-#[test]
-fn a_packet_that_is_no_frame_is_dropped_and_its_sender_has_not_spoken(rt: HostRuntime) {
-    let coming = [
-        packet(Port::A, 1, ASKED),
-        packet(Port::A, 3, RUBBISH),
-        packet(Port::B, 2, RUBBISH),
-        packet(Port::A, 1, ASKED),
-    ];
-    let answers = [
-        packet(Port::A, 1, BY_BOTH),
-        packet(Port::A, 1, BY_BOTH),
-        None,
-        None,
-    ];
-    assert_eq!(rt; sent(&rt, rt.alloc(), [true; 3], coming), (answers, 2, 2));
-}
-
-#[test]
-fn no_more_packets_are_served_than_asked_for(rt: HostRuntime) {
-    let coming = [packet(Port::A, 1, ASKED); 4];
-    let mut served = served(&rt, rt.alloc(), [true; 3]);
-    let mut ends = MemoryEnds::new(coming, 0);
-    assert_eq!(rt;
-        served.serve(&mut ends, 0),
-        Ok(Counts {
-            frames: 0,
-            dropped: 0
-        })
-    );
-    assert_eq!(rt; ends.calls(), 0);
-    assert_eq!(rt;
-        served.serve(&mut ends, 1),
-        Ok(Counts {
-            frames: 1,
-            dropped: 0
-        })
-    );
-    assert_eq!(rt; ends.calls(), 2);
+fn packets_get_back_what_the_line_answers(rt: HostRuntime) {
+    for row in &ROWS {
+        let mut served = served(&rt, rt.alloc(), row.up);
+        assert_served(&rt, &mut served, row.name, &row.service);
+    }
 }
