@@ -1,23 +1,12 @@
--- Why a command ends where its source could not be read to its end, or its sockets could not be opened, and
--- its exit status where its words are refused.
+-- Why a command ends where its sockets could not be opened, and its exit status where its words are refused.
 use Rattle.std.specs.Prelude.{ℕ}
 use Rattle.ecat_args.specs.declared.args.ArgsFault.{ArgsFault}
 use Rattle.ecat_args.specs.declared.args.ArgsFault.TheVariants.{Line, BadNumber, NoMemory as NoMemoryForWords}
-use Rattle.ecat.specs.declared.act.Failure.{Failure}
-use Rattle.ecat.specs.declared.act.Failure.TheVariants.{Read, NoMemory, Scene, Bind, NoMemoryForSockets}
-use Rattle.ecat_scene.specs.declared.fault.SceneFault.TheVariants.{TooLong as TextTooLong}
+use Rattle.ecat.specs.declared.failure.Failure.{Failure}
+use Rattle.ecat.specs.declared.failure.Failure.TheVariants.{Bind, NoMemoryForSockets}
 use Rattle.ecat_serve.specs.declared.sockets.BindFault.{BindFault}
 use Rattle.ecat_serve.specs.declared.sockets.BindFault.TheVariants.{NoSuchPort, NoSocket}
 use Rattle.ecat_serve.specs.declared.sockets.BindFault.TheVariants.{NoMemory as NoMemoryToWait}
-use Rattle.ecat_source.specs.declared.whole.ReadAllFault.{ReadAllFault}
-use Rattle.ecat_source.specs.declared.whole.ReadAllFault.TheVariants.{TooLong, Read as ReadFailed}
-use Rattle.ecat_source.specs.declared.whole.ReadAllFault.TheVariants.{NoMemory as NoMoreMemory}
-
--- a text that is too long is no scene; a read that failed and want of memory are told apart
-abbrev pub unread : ReadAllFault → Failure
-unread TooLong = Scene TextTooLong
-unread ReadFailed = Read
-unread NoMoreMemory = NoMemory
 
 -- want of memory for sockets is told apart from all else that keeps them shut
 abbrev pub unbound : BindFault → Failure

@@ -1,10 +1,4 @@
 pub mod Commands
-pub mod Controls
-pub mod Covers
 pub mod Failures
 pub mod Raw
-pub mod Rows
-pub mod Services
-pub mod SteppingTrips
-pub mod Sweeps
 pub mod Values

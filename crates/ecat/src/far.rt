@@ -2,14 +2,13 @@
 
 ghost use Rattle.std.specs.Prelude.{◌≡◌, length};
 
-use crate::act::{Failure, report};
-use crate::cycle::work_of;
-use crate::line::{ring_of, scene_for_packets};
+use crate::failure::{Failure, report, status_of};
 use arrayvec::ArrayVec;
 use ec_master::{MAX_ITEMS, Ports, Work, all_expected};
 use ec_ring::HeardPorts;
 use ec_wire::{Command, Datagram, FrameBuf};
 use ecat_far::{FarPorts, OpenFault, UdpCarrier, ends_of};
+use ecat_line::{LineFailure, ring_of, scene_for_packets, work_of};
 use ecat_master::{
     MAX_STARTUP, Pace, Plan, ScanEnd, StartupObject, Wanted, Watched, image_length, master, scan,
     wanted_of,
@@ -64,7 +63,7 @@ impl From<OpenFault> for Failure {
 impl From<ScanEnd> for Failure {
     fn from(end: ScanEnd) -> Failure {
         match end {
-            ScanEnd::Output => Failure::Output,
+            ScanEnd::Output => Failure::Line(LineFailure::Output),
             ScanEnd::Ask(fault) => Failure::Asked(fault),
         }
     }
@@ -147,7 +146,7 @@ where
     match checked_course(alloc, source, out) {
         Ok(Some(course)) => Ok(course),
         Ok(None) => Err(REFUSED),
-        Err(failure) => Err(report(&failure, out, err)),
+        Err(failure) => Err(report(&Failure::Line(failure), out, err)),
     }
 }
 
@@ -157,7 +156,7 @@ fn checked_course<S: Source, W: Write>(
     alloc: Global,
     source: &mut S,
     out: &mut W,
-) -> Result<Option<Course>, Failure> {
+) -> Result<Option<Course>, LineFailure> {
     let scene = scene_for_packets(alloc, source)?;
     let startups = startups_of(alloc, scene.slaves.as_slice())?;
     let ring = ring_of(alloc, scene.slaves, &[])?;
@@ -173,7 +172,7 @@ fn checked_course<S: Source, W: Write>(
     let work = work_of(scene.items)?;
     let expected = all_expected(ring.slaves(), &work);
     let Ok(mut line) = wanted_of(alloc, ring.slaves()) else {
-        return Err(Failure::NoMemory);
+        return Err(LineFailure::NoMemory);
     };
     for (wanted, startup) in line.iter_mut().zip(startups.iter()) {
         wanted.startup = *startup;
@@ -186,11 +185,11 @@ fn checked_course<S: Source, W: Write>(
 }
 
 /// The startup objects of the slaves that a scene describes, by their places.
-fn startups_of(alloc: Global, described: &[SceneSlave]) -> Result<Vec<Startup>, Failure> {
+fn startups_of(alloc: Global, described: &[SceneSlave]) -> Result<Vec<Startup>, LineFailure> {
     let mut startups = Vec::new(alloc);
     for slave in described {
         if startups.push(startup_of(slave)).is_err() {
-            return Err(Failure::NoMemory);
+            return Err(LineFailure::NoMemory);
         }
     }
     Ok(startups)
@@ -254,10 +253,7 @@ where
     W: Write,
     V: Write,
 {
-    match scanned(ports, out) {
-        Ok(status) => status,
-        Err(failure) => report(&failure, out, err),
-    }
+    status_of(scanned(ports, out), out, err)
 }
 
 /// Prints what slaves stand on a line; the status says whether all could be read.

@@ -1,8 +1,6 @@
 //! What helps a person where something was refused: lines on standard error behind those that are fixed. What
 //! was refused is looked at once more, so that no command knows of it; what fails on the way is passed over.
 
-use crate::line::ring_of;
-use crate::where_broken::where_broken;
 use arrayvec::ArrayVec;
 use ec_app::Slave;
 use ec_app::roles::{ANSWER_MAILBOX, REQUEST_MAILBOX, is_answer_mailbox, is_request_mailbox};
@@ -10,7 +8,9 @@ use ec_map::{MapFault, check as check_line, check_item};
 use ec_regs::{LONGEST_MAILBOX, SHORTEST_MAILBOX, SyncMan};
 use ec_ring::{Links, MAX_LINKS, Ring, Travel};
 use ecat_args::Args;
+use ecat_line::ring_of;
 use ecat_scene::{Scene, SceneFault, explained, odd_lines};
+use ecat_simulation::where_broken;
 use ecat_source::{Bytes, Source, SourceFault};
 use ecat_text::REFUSED;
 use std::alloc::Global;

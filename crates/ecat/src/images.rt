@@ -1,6 +1,7 @@
 //! The file of a master's outputs: a line for each cycle.
 
-use crate::act::{Failure, report};
+use crate::failure::{Failure, report};
+use ecat_line::LineFailure;
 use ecat_master::{Image, ImageFault, ImagesFault, MAX_IMAGES_TEXT, read_images};
 use ecat_source::{Counted, ReadAllFault, Source, read_all};
 use std::alloc::Global;
@@ -49,7 +50,7 @@ fn images_in<S: Source>(
     let text = match read_all(alloc, source, MAX_IMAGES_TEXT) {
         Ok(text) => text,
         Err(ReadAllFault::TooLong) => return Err(Failure::Images(ImagesFault::TooLong)),
-        Err(ReadAllFault::Read) => return Err(Failure::Read),
+        Err(ReadAllFault::Read) => return Err(Failure::Line(LineFailure::Read)),
         Err(ReadAllFault::NoMemory) => return Err(Failure::Images(ImagesFault::NoMemory)),
     };
     match read_images(alloc, text.as_slice(), length) {

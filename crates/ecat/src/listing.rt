@@ -1,6 +1,7 @@
 //! `ecat list`: the datagrams of a capture, a line each.
 
-use crate::act::{Failure, report};
+use crate::failure::{Failure, report};
+use ecat_line::LineFailure;
 use ecat_list::{Asked, Form, Listed, list};
 use ecat_source::Source;
 use ecat_text::{FAILED, GOOD, REFUSED};
@@ -61,8 +62,8 @@ where
             let _ = writeln!(err, "capture: {fault}");
             REFUSED
         }
-        Listed::SourceFailed => report(&Failure::Read, out, err),
-        Listed::OutputFailed => report(&Failure::Output, out, err),
+        Listed::SourceFailed => report(&Failure::Line(LineFailure::Read), out, err),
+        Listed::OutputFailed => report(&Failure::Line(LineFailure::Output), out, err),
         Listed::NoMemory => {
             let _ = err.write_all(b"capture: NoMemory\n");
             FAILED

@@ -2,46 +2,28 @@
 #![tactic(auto)]
 
 mod act;
-mod carry;
-mod check;
-mod control;
-mod cover;
-mod cycle;
-mod cycle_rows;
+mod asked;
+mod failure;
 mod far;
-mod frame_rows;
 mod hints;
 mod images;
-mod judge;
-mod line;
-mod lint;
 mod listing;
 mod over_sockets;
 mod raw;
-mod run;
-mod scene_rows;
-mod sdo;
-mod serve;
 mod show;
-mod slave_lines;
-mod slave_rows;
-mod stepping_ports;
-mod sweep;
 mod tape;
 mod udp;
-mod vectors;
-mod where_broken;
 
 ghost use Rattle.std.specs.Prelude.{◌≡◌};
 ghost use Rattle.ecat.specs.Failures.{refusal_status};
 
-use act::{Failure, report};
 use ecat_args::{Args, ArgsFault, bad_word};
+use ecat_line::{LineFailure, unread};
 use ecat_scene::MAX_TEXT;
 use ecat_source::{Bytes, Counted, Source, read_all};
 use ecat_text::{BAD_ARGUMENTS, FAILED, GOOD};
+use failure::{Failure, report};
 use hints::{Fronted, hint_capture, hint_odd_lines, hint_scene};
-use line::unread;
 use listing::{Wanted, act_list};
 use over_sockets::{Console, over_sockets};
 use show::act_show;
@@ -132,7 +114,7 @@ where
 {
     match write!(out, "{text}") {
         Ok(()) => GOOD,
-        Err(_) => report(&Failure::Output, out, err),
+        Err(_) => report(&Failure::Line(LineFailure::Output), out, err),
     }
 }
 
@@ -213,7 +195,7 @@ where
 {
     let text = match read_all(rt.alloc(), file, MAX_TEXT) {
         Ok(text) => text,
-        Err(fault) => return report(&unread(fault), out, err),
+        Err(fault) => return report(&Failure::Line(unread(fault)), out, err),
     };
     if matches!(args, Args::Run { .. } | Args::Serve { .. }) {
         hint_odd_lines(rt.alloc(), path, text.as_slice(), err);

@@ -1,20 +1,19 @@
 //! The commands that open sockets, a clock or a file of their own.
 
-use crate::act::{Failure, act, report};
-use crate::control::act_control;
+use crate::act::act;
+use crate::asked::asked_of;
+use crate::failure::{Failure, report, status_of, unbound};
 use crate::far::{Course, Reach, act_master, act_scan, course_of, far_ports, raw_ports};
 use crate::images::images_at;
-use crate::run::run;
-use crate::sdo::{Asked, sdo_far};
-use crate::serve::{Service, act_serve, line_to_serve, unbound};
 use crate::tape::{Pcap, end, make};
 use crate::udp::{Prepared, Wanted, act_udp, prepare_udp};
-use crate::where_broken::where_far;
 use ecat_args::Args;
 use ecat_master::{Image, Outputs, Plan};
 use ecat_pace::{Beat, Ending};
 use ecat_raw::{Descriptors, RawEnds, descriptors_of};
 use ecat_serve::{Served, UdpEnds};
+use ecat_service::{Service, control, line_to_serve, serve};
+use ecat_simulation::{run, sdo_far, where_far};
 use ecat_source::Source;
 use ecat_tape::{Counter, Moments, Recorder, TapedEnds, TapedLine, WallClock, unrecorded};
 use ecat_udp::UdpLine;
@@ -163,11 +162,14 @@ where
             Err(failure) => report(&failure, out, err),
         },
         Args::Where { at: Some(at), .. } => {
-            let done = match far_ports(rt, at, None) {
-                Ok(mut ports) => where_far(rt.alloc(), &mut ports, source, out),
-                Err(failure) => Err(failure),
-            };
-            status_of(done, out, err)
+            match far_ports(rt, at, None) {
+                Ok(mut ports) => status_of(
+                    where_far(rt.alloc(), &mut ports, source, out),
+                    out,
+                    err,
+                ),
+                Err(failure) => report(&failure, out, err),
+            }
         }
         Args::Sdo {
             station,
@@ -178,12 +180,15 @@ where
             at: Some(at),
             ..
         } => {
-            let asked = Asked::of(*station, *index, *sub, *value, *surely);
-            let done = match far_ports(rt, at, None) {
-                Ok(mut ports) => sdo_far(rt.alloc(), &asked, &mut ports, source, out),
-                Err(failure) => Err(failure),
-            };
-            status_of(done, out, err)
+            let asked = asked_of(*station, *index, *sub, *value, *surely);
+            match far_ports(rt, at, None) {
+                Ok(mut ports) => status_of(
+                    sdo_far(rt.alloc(), &asked, &mut ports, source, out),
+                    out,
+                    err,
+                ),
+                Err(failure) => report(&failure, out, err),
+            }
         }
         // A listing takes its source whole (`open_listing`), and has none here.
         Args::List { .. } => report(&Failure::Open, out, err),
@@ -244,18 +249,6 @@ where
     match word {
         Some(path) if path != "count" => images_at(rt, path, length, out, err),
         _ => Ok(Vec::new(rt.alloc())),
-    }
-}
-
-/// The exit status of what was done; reports why where it was not.
-fn status_of<W, V>(done: Result<u8, Failure>, out: &mut W, err: &mut V) -> u8
-where
-    W: io::Write,
-    V: io::Write,
-{
-    match done {
-        Ok(status) => status,
-        Err(failure) => report(&failure, out, err),
     }
 }
 
@@ -461,9 +454,9 @@ where
     W: io::Write,
     V: io::Write,
 {
-    let served = match line_to_serve(rt.alloc(), source, out, err) {
+    let served = match line_to_serve(rt.alloc(), source) {
         Ok(served) => served,
-        Err(status) => return status,
+        Err(failure) => return report(&Failure::Line(failure), out, err),
     };
     let Some(pcap) = pcap else {
         return serve_taped(rt, service, input, served, &mut unrecorded(), out, err);
@@ -521,10 +514,11 @@ where
     if service.control {
         ends.keep_lines();
         let mut ends = TapedEnds::new(&mut ends, recorder);
-        act_control(rt.alloc(), served, service, &mut ends, out, err)
+        let done = control(rt.alloc(), served, service, &mut ends, out, err);
+        status_of(done, out, err)
     } else {
         let mut ends = TapedEnds::new(&mut ends, recorder);
-        act_serve(served, service, &mut ends, out, err)
+        status_of(serve(served, service, &mut ends, out, err), out, err)
     }
 }
 
@@ -553,9 +547,10 @@ where
     if service.control {
         ends.keep_lines();
         let mut ends = TapedEnds::new(&mut ends, recorder);
-        act_control(rt.alloc(), served, service, &mut ends, out, err)
+        let done = control(rt.alloc(), served, service, &mut ends, out, err);
+        status_of(done, out, err)
     } else {
         let mut ends = TapedEnds::new(&mut ends, recorder);
-        act_serve(served, service, &mut ends, out, err)
+        status_of(serve(served, service, &mut ends, out, err), out, err)
     }
 }

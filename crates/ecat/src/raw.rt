@@ -1,9 +1,9 @@
-//! Lines at network interfaces, by packet sockets that the program was started with.
+//! Why the packet sockets that the program was started with are of no use.
 
 ghost use Rattle.std.specs.Prelude.{Some};
-ghost use Rattle.ecat.specs.Raw.{raw_fault_words, raw_where_words};
+ghost use Rattle.ecat.specs.Raw.{raw_fault_words};
 
-use ecat_raw::{Descriptors, RawFault};
+use ecat_raw::RawFault;
 use ecat_text::PortText;
 use std::fmt;
 
@@ -31,22 +31,6 @@ impl fmt::Display for RawFaultText {
             RawFault::Twice => write!(f, "both ends have one descriptor"),
             RawFault::NotWatched => write!(f, "no wait for packets"),
             RawFault::NoMemory => write!(f, "NoMemory"),
-        }
-    }
-}
-
-/// At which descriptors a line is served, as it is printed.
-#[derive(Drop)]
-pub struct RawWhereText(pub Descriptors);
-
-impl fmt::Display for RawWhereText {
-    ghost output = { λ text. Some (raw_where_words text.0) };
-
-    fn fmt<W: fmt::Write>(&self, f: &mut fmt::Formatter<W>) -> fmt::Result {
-        let a = self.0.a;
-        match self.0.b {
-            Some(b) => write!(f, "serving A descriptor {a} B descriptor {b}"),
-            None => write!(f, "serving A descriptor {a}"),
         }
     }
 }

@@ -1,6 +1,7 @@
 //! `ecat show`: the frames of a capture.
 
-use crate::act::{Failure, report};
+use crate::failure::{Failure, status_of};
+use ecat_line::LineFailure;
 use ecat_list::Shown;
 use ecat_source::Source;
 use ecat_text::{GOOD, REFUSED};
@@ -21,14 +22,11 @@ where
     W: Write,
     V: Write,
 {
-    match show(alloc, is_followed, source, out) {
-        Ok(status) => status,
-        Err(failure) => report(&failure, out, err),
-    }
+    status_of(show(alloc, is_followed, source, out), out, err)
 }
 
 /// Shows each packet of the capture that the source holds.
-pub fn show<S: Source, W: Write>(
+fn show<S: Source, W: Write>(
     alloc: Global,
     is_followed: bool,
     source: &mut S,
@@ -38,6 +36,6 @@ pub fn show<S: Source, W: Write>(
         Shown::Whole { faulty: false } => Ok(GOOD),
         Shown::Whole { faulty: true } => Ok(REFUSED),
         Shown::Stopped(fault) => Err(Failure::Capture(fault)),
-        Shown::OutputFailed => Err(Failure::Output),
+        Shown::OutputFailed => Err(Failure::Line(LineFailure::Output)),
     }
 }

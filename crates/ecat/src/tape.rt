@@ -1,6 +1,6 @@
 //! `--pcap FILE`: a capture of each copy, as it leaves the master and as it arrives there.
 
-use crate::act::Failure;
+use crate::failure::Failure;
 use ecat_tape::{Moments, Recorder};
 use ecat_text::FAILED;
 use std::fs::{self, File};

@@ -4,26 +4,15 @@
 ghost use Rattle.std.specs.Prelude.{◌≡◌, false};
 ghost use Rattle.ecat.specs.Commands.{has_a_way_of_its_own};
 
-mod cables;
-mod checking;
-mod controlling;
-mod covers;
-mod cycles;
+mod commands;
 mod failing;
-mod judging;
-mod objects;
 mod packets;
-mod rings;
-mod running;
-mod serving;
 mod showing;
-mod sweeps;
-mod worked;
 
 use crate::act::act;
 use ecat_args::Args;
 use ecat_source::{Bytes, Source};
-use std::io::{Cursor, Write};
+use std::io::Cursor;
 use std::process::Abort;
 
 /// Room for what a command of a test prints.
@@ -61,23 +50,6 @@ fn answers<S: Source>(
     assert_eq!(rt; answer, status);
 }
 
-/// `run` over a text.
-fn runs(rt: &(impl AllocGlobal + Abort), scene: &[u8], status: u8, out: &[u8]) {
-    answers(
-        rt,
-        &Args::Run {
-            scene: "s",
-            judge: false,
-            pcap: None,
-            force: false,
-        },
-        &mut Bytes::new(scene),
-        status,
-        out,
-        b"",
-    );
-}
-
 /// `show` over a capture.
 fn shows(rt: &(impl AllocGlobal + Abort), capture: &[u8], status: u8, out: &[u8]) {
     answers(
@@ -88,23 +60,4 @@ fn shows(rt: &(impl AllocGlobal + Abort), capture: &[u8], status: u8, out: &[u8]
         out,
         b"",
     );
-}
-
-/// An output with no room.
-struct NoRoom;
-
-impl Drop for NoRoom {
-    fn drop(self) {
-        let NoRoom = self;
-    }
-}
-
-impl Write for NoRoom {
-    fn write(&mut self, _bytes: &[u8]) -> std::io::Result<usize> {
-        Ok(0)
-    }
-
-    fn flush(&mut self) -> std::io::Result<()> {
-        Ok(())
-    }
 }

@@ -2,28 +2,18 @@
 
 ghost use Rattle.std.specs.Prelude.{◌≡◌, length};
 
-use crate::act::{Failure, report};
-use crate::cycle::work_of;
-use crate::judge::{judged_cycle, print_cable};
-use crate::line::{applications_of, ring_of, scene_for_packets};
+use crate::failure::{Failure, report, status_of};
 use ec_map::Item;
-use ec_master::{CycleFault, Reporting, Work, all_expected, run_cycle};
+use ec_master::{Reporting, Work, all_expected, run_cycle};
 use ec_process::Applications;
 use ec_ring::Ring;
+use ecat_line::{LineFailure, applications_of, ring_of, scene_for_packets, work_of};
+use ecat_simulation::{judged_cycle, print_cable};
 use ecat_source::Source;
-use ecat_text::{GOOD, Lines, REFUSED, print_areas, print_items, print_verdict, refuse, status_of};
+use ecat_text::{GOOD, Lines, REFUSED, print_areas, print_items, print_verdict, refuse};
 use ecat_udp::{PacketLine, UdpPorts};
 use std::alloc::Global;
 use std::io::Write;
-
-impl From<CycleFault> for Failure {
-    fn from(fault: CycleFault) -> Failure {
-        match fault {
-            CycleFault::Port => Failure::Port,
-            CycleFault::Stranger => Failure::Stranger,
-        }
-    }
-}
 
 /// What the words of `udp` say of its cycle.
 #[derive(Clone, Copy)]
@@ -59,7 +49,7 @@ where
     match checked(alloc, source, out) {
         Ok(Some(prepared)) => Ok(prepared),
         Ok(None) => Err(REFUSED),
-        Err(failure) => Err(report(&failure, out, err)),
+        Err(failure) => Err(report(&Failure::Line(failure), out, err)),
     }
 }
 
@@ -69,7 +59,7 @@ fn checked<S: Source, W: Write>(
     alloc: Global,
     source: &mut S,
     out: &mut W,
-) -> Result<Option<Prepared>, Failure> {
+) -> Result<Option<Prepared>, LineFailure> {
     let scene = scene_for_packets(alloc, source)?;
     let applications = applications_of(alloc, scene.slaves.as_slice())?;
     let ring = ring_of(alloc, scene.slaves, scene.links_down.as_slice())?;
@@ -91,15 +81,12 @@ where
     W: Write,
     V: Write,
 {
-    match udp(prepared, judge, line, out) {
-        Ok(status) => status,
-        Err(failure) => report(&failure, out, err),
-    }
+    status_of(udp(prepared, judge, line, out), out, err)
 }
 
 /// If there are items, one cycle of them over the packets, behind which applications act; then a line for
 /// each active buffered area that the master writes.
-fn udp<L, W>(prepared: Prepared, judge: bool, line: L, out: &mut W) -> Result<u8, Failure>
+fn udp<L, W>(prepared: Prepared, judge: bool, line: L, out: &mut W) -> Result<u8, LineFailure>
 where
     L: PacketLine + Drop,
     W: Write,
@@ -133,7 +120,7 @@ fn judged<L: PacketLine + Drop, W: Write>(
     mut applications: Applications,
     work: &mut Work,
     lines: &mut Lines<'_, W>,
-) -> Result<u8, Failure> {
+) -> Result<u8, LineFailure> {
     let expected = all_expected(ports.ring().slaves(), work);
     let count = work.len();
     let mut ports = Reporting::new(ports);
@@ -144,7 +131,7 @@ fn judged<L: PacketLine + Drop, W: Write>(
     print_cable(verdict, &report, &mut ring, &[], lines)?;
     print_items(work, &expected, lines)?;
     print_areas(ring.slaves(), lines)?;
-    Ok(status_of(verdict))
+    Ok(ecat_text::status_of(verdict))
 }
 
 /// Does one cycle, and prints its verdict and a line for each item.
@@ -152,7 +139,7 @@ fn cycle<L: PacketLine + Drop, W: Write>(
     ports: &mut UdpPorts<L>,
     work: &mut Work,
     lines: &mut Lines<'_, W>,
-) -> Result<u8, Failure> {
+) -> Result<u8, LineFailure> {
     let expected = all_expected(ports.ring().slaves(), work);
     let count = work.len();
     let verdict = run_cycle(ports, work, &expected[..count])?;

@@ -1,19 +1,18 @@
-//! Reads and writes that fail, each in turn.
+//! Writes that fail, each in turn, and what is told of each failure.
 
-ghost use Rattle.std.specs.Prelude.{◌≡◌, None, false};
-ghost use Rattle.ecat.specs.Commands.{has_a_way_of_its_own};
+ghost use Rattle.std.specs.Prelude.{◌≡◌, None};
 
 use super::{ROOM, written};
-use crate::act::{Failure, act, report};
+use crate::failure::{Failure, report, unbound};
 use crate::udp::{act_udp, prepare_udp};
 use ec_master::PortFault;
 use ec_wire::PACKET_ROOM;
-use ecat_args::Args;
+use ecat_line::LineFailure;
 use ecat_master::{ImageFault, ImagesFault};
 use ecat_scene::{LineFault, SceneFault};
-use ecat_source::{Bytes, FailsAt, PcapFault};
+use ecat_serve::BindFault;
+use ecat_source::{Bytes, PcapFault};
 use ecat_udp::{PacketLine, Socket};
-use std::alloc::Global;
 use std::io::{self, Cursor, Write};
 use std::process::Abort;
 
@@ -21,26 +20,6 @@ use std::process::Abort;
 const EXAMPLE: &[u8] = b"slave 0x1001\nstate 8\nsm 2 0x1000 1 write\nsm 3 0x1100 1 read\n\
     fmmu 0 0x10000 1 0 7 0x1000 0 write\nfmmu 1 0x10000 1 0 7 0x1100 0 read\nmem 0x1100 12\n\
     slave 0x1002\nstate 4\nlink 1 down\nlrw 0x10000 ff\nbrd 0x0130 0000\n";
-
-const RUN: Args<'static> = Args::Run {
-    scene: "s",
-    judge: false,
-    pcap: None,
-    force: false,
-};
-
-const SDO: Args<'static> = Args::Sdo {
-    scene: "s",
-    station: 0x1001,
-    index: 0x1018,
-    sub: 1,
-    value: None,
-    surely: false,
-    at: None,
-};
-
-/// How many bytes a read gives.
-const PIECE: usize = 50;
 
 /// An output whose write after so many fails.
 #[derive(Drop)]
@@ -88,59 +67,6 @@ impl PacketLine for Silent {
     }
 }
 
-/// The status of a command whose write after so many fails.
-fn status_after_writes(alloc: Global, args: &Args<'_>, writes: usize) -> u8
-    requires { has_a_way_of_its_own args.now ≡ false }
-{
-    let mut err = Cursor::new([0u8; ROOM]);
-    let mut out = Stops { left: writes };
-    act(alloc, args, &mut Bytes::new(EXAMPLE), &mut out, &mut err)
-}
-
-/// The status of a command whose read after so many fails.
-fn status_after_reads(alloc: Global, args: &Args<'_>, reads: u64) -> u8
-    requires { has_a_way_of_its_own args.now ≡ false }
-{
-    let mut out = Cursor::new([0u8; ROOM]);
-    let mut err = Cursor::new([0u8; ROOM]);
-    let mut source = FailsAt::new(EXAMPLE, PIECE, reads);
-    act(alloc, args, &mut source, &mut out, &mut err)
-}
-
-#[test]
-fn each_write_that_fails_ends_a_run(rt: HostRuntime) {
-    for writes in 0..3usize {
-        assert_eq!(rt;
-            status_after_writes(rt.alloc(), &RUN, writes),
-            3,
-            "write {writes}"
-        );
-    }
-}
-
-#[test]
-fn a_write_that_fails_ends_a_transfer_and_the_worked_rows(rt: HostRuntime) {
-    assert_eq!(rt; status_after_writes(rt.alloc(), &SDO, 0), 3);
-    assert_eq!(rt; status_after_writes(rt.alloc(), &Args::Vectors, 0), 3);
-    assert_eq!(rt; status_after_writes(rt.alloc(), &Args::Vectors, 25), 3);
-}
-
-#[test]
-fn each_read_that_fails_ends_a_command(rt: HostRuntime) {
-    for reads in 1..6u64 {
-        assert_eq!(rt;
-            status_after_reads(rt.alloc(), &RUN, reads),
-            3,
-            "read {reads}"
-        );
-        assert_eq!(rt;
-            status_after_reads(rt.alloc(), &SDO, reads),
-            3,
-            "read {reads}"
-        );
-    }
-}
-
 #[test]
 fn each_write_that_fails_ends_a_cycle_over_packets(rt: HostRuntime) {
     for writes in 0..4usize {
@@ -181,11 +107,15 @@ fn refuses(rt: &impl Abort, failure: Failure, line: &[u8]) {
 fn what_fails_is_told_to_standard_error(rt: HostRuntime) {
     fails(&rt, Failure::NoMemoryForWords, b"arguments: NoMemory\n");
     fails(&rt, Failure::Open, b"file: Open\n");
-    fails(&rt, Failure::Read, b"file: Read\n");
-    fails(&rt, Failure::NoMemory, b"scene: NoMemory\n");
+    fails(&rt, Failure::Line(LineFailure::Read), b"file: Read\n");
     fails(
         &rt,
-        Failure::Scene(SceneFault::NoMemory),
+        Failure::Line(LineFailure::NoMemory),
+        b"scene: NoMemory\n",
+    );
+    fails(
+        &rt,
+        Failure::Line(LineFailure::Scene(SceneFault::NoMemory)),
         b"scene: NoMemory\n",
     );
     fails(&rt, Failure::Capture(PcapFault::Read), b"capture: Read\n");
@@ -194,16 +124,17 @@ fn what_fails_is_told_to_standard_error(rt: HostRuntime) {
         Failure::Capture(PcapFault::NoMemory),
         b"capture: NoMemory\n",
     );
-    fails(&rt, Failure::Output, b"output: Write\n");
+    fails(&rt, Failure::Line(LineFailure::Output), b"output: Write\n");
     fails(&rt, Failure::Outputs, b"outputs: Open\n");
     fails(
         &rt,
         Failure::Images(ImagesFault::NoMemory),
         b"outputs: NoMemory\n",
     );
-    fails(&rt, Failure::Bind, b"socket: Bind\n");
-    fails(&rt, Failure::NoMemoryForSockets, b"socket: NoMemory\n");
-    fails(&rt, Failure::Port, b"cycle: Port\n");
+    fails(&rt, unbound(BindFault::NoSocket), b"socket: Bind\n");
+    fails(&rt, unbound(BindFault::NoSuchPort), b"socket: Bind\n");
+    fails(&rt, unbound(BindFault::NoMemory), b"socket: NoMemory\n");
+    fails(&rt, Failure::Line(LineFailure::Port), b"cycle: Port\n");
 }
 
 #[test]
@@ -212,12 +143,16 @@ fn what_is_refused_is_told_to_standard_output(rt: HostRuntime) {
         line: 7,
         fault: LineFault::Twin,
     };
-    refuses(&rt, Failure::Scene(fault), b"scene: line 7: Twin\n");
+    refuses(
+        &rt,
+        Failure::Line(LineFailure::Scene(fault)),
+        b"scene: line 7: Twin\n",
+    );
     let fault = ImagesFault::Line(3, ImageFault::Length(2));
     refuses(&rt, Failure::Images(fault), b"outputs: line 3: Length\n");
     refuses(
         &rt,
-        Failure::Scene(SceneFault::TooLong),
+        Failure::Line(LineFailure::Scene(SceneFault::TooLong)),
         b"scene: TooLong\n",
     );
     refuses(
@@ -225,7 +160,19 @@ fn what_is_refused_is_told_to_standard_output(rt: HostRuntime) {
         Failure::Capture(PcapFault::Failed),
         b"capture: Failed\n",
     );
-    refuses(&rt, Failure::TooMany, b"scene: TooMany\n");
-    refuses(&rt, Failure::Stranger, b"cycle: Stranger\n");
-    refuses(&rt, Failure::Actions, b"scene: actions\n");
+    refuses(
+        &rt,
+        Failure::Line(LineFailure::TooMany),
+        b"scene: TooMany\n",
+    );
+    refuses(
+        &rt,
+        Failure::Line(LineFailure::Stranger),
+        b"cycle: Stranger\n",
+    );
+    refuses(
+        &rt,
+        Failure::Line(LineFailure::Actions),
+        b"scene: actions\n",
+    );
 }

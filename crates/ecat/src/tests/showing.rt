@@ -177,28 +177,64 @@ fn all_commands_have_their_names(rt: HostRuntime) {
     }
 }
 
+/// A payload that is no frame, and its fault with the place.
+struct Fault {
+    payload: &'static [u8],
+    told: &'static [u8],
+}
+
+/// Each fault.
+const FAULTS: [Fault; 9] = [
+    Fault {
+        payload: &[0x0e],
+        told: b"packet 0 fault Short at 1\n",
+    },
+    Fault {
+        payload: &[0x0e, 0x40],
+        told: b"packet 0 fault BadType at 1\n",
+    },
+    Fault {
+        payload: &[0x0e, 0x18],
+        told: b"packet 0 fault Reserved at 1\n",
+    },
+    Fault {
+        payload: &[0x00, 0x10],
+        told: b"packet 0 fault Empty at 0\n",
+    },
+    Fault {
+        payload: &[0xdb, 0x15],
+        told: b"packet 0 fault TooLong at 0\n",
+    },
+    Fault {
+        payload: &[0x01, 0x10, 0x00],
+        told: b"packet 0 fault LeftOver at 2\n",
+    },
+    Fault {
+        payload: &[
+            0x0e, 0x10, 0x0f, 0x01, 0x00, 0x00, 0x30, 0x01, 0x02, 0x00, 0x00, 0x00, 0x00, 0x00,
+            0x00, 0x00,
+        ],
+        told: b"packet 0 fault BadCommand at 2\n",
+    },
+    Fault {
+        payload: &[
+            0x0e, 0x10, 0x07, 0x01, 0x00, 0x00, 0x30, 0x01, 0x02, 0x80, 0x00, 0x00, 0x00, 0x00,
+            0x00, 0x00,
+        ],
+        told: b"packet 0 fault MoreAtEnd at 9\n",
+    },
+    Fault {
+        payload: &[
+            0x0e, 0x10, 0x07, 0x01, 0x00, 0x00, 0x30, 0x01, 0x03, 0x00, 0x00, 0x00, 0x00, 0x00,
+            0x00, 0x00,
+        ],
+        told: b"packet 0 fault Overrun at 8\n",
+    },
+];
+
 #[test]
 fn each_fault_is_named_with_its_place(rt: HostRuntime) {
-    payload_shows(&rt, &[0x0e], 1, b"packet 0 fault Short at 1\n");
-    payload_shows(&rt, &[0x0e, 0x40], 1, b"packet 0 fault BadType at 1\n");
-    payload_shows(&rt, &[0x0e, 0x18], 1, b"packet 0 fault Reserved at 1\n");
-    payload_shows(&rt, &[0x00, 0x10], 1, b"packet 0 fault Empty at 0\n");
-    payload_shows(&rt, &[0xdb, 0x15], 1, b"packet 0 fault TooLong at 0\n");
-    payload_shows(
-        &rt,
-        &[0x01, 0x10, 0x00],
-        1,
-        b"packet 0 fault LeftOver at 2\n",
-    );
-    let mut payload = [
-        0x0e, 0x10, 0x0f, 0x01, 0x00, 0x00, 0x30, 0x01, 0x02, 0x00, 0x00, 0x00, 0x00, 0x00, 0x00,
-        0x00,
-    ];
-    payload_shows(&rt, &payload, 1, b"packet 0 fault BadCommand at 2\n");
-    payload[2] = 0x07;
-    payload[9] = 0x80;
-    payload_shows(&rt, &payload, 1, b"packet 0 fault MoreAtEnd at 9\n");
-    payload[9] = 0x00;
-    payload[8] = 0x03;
-    payload_shows(&rt, &payload, 1, b"packet 0 fault Overrun at 8\n");
+    for fault in &FAULTS {
+        payload_shows(&rt, fault.payload, 1, fault.told);
+    }
 }

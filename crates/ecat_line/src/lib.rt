@@ -1,0 +1,30 @@
+#![tactic(auto)]
+//! The line of slaves that a scene describes: its ring, its applications, the weathers of its frames and the
+//! work of its items; and why a command on it ends before its output does.
+//!
+//! One use:
+//!
+//! ```text
+//! let scene = scene_of(alloc, &mut source)?;
+//! let weathers = weathers_of(alloc, scene.weathers.as_slice())?;
+//! let ring = ring_of(alloc, scene.slaves, scene.links_down.as_slice())?;
+//! let work = work_of(scene.items)?;
+//! ```
+//!
+//! What is promised: as what a source counts that could not be read to its end (`unread`). That a line is the
+//! one that its scene describes is tested, here and by the scenes and cases of the program.
+
+mod failure;
+mod line;
+mod reading;
+mod weathers;
+mod work;
+
+pub use failure::LineFailure;
+pub use line::{applications_of, put, ring_of, slaves_of};
+pub use reading::{scene_for_packets, scene_of, unread};
+pub use weathers::weathers_of;
+pub use work::work_of;
+
+#[cfg(test)]
+mod tests;

@@ -1,0 +1,191 @@
+//! A line that is served: where it lies, and what came.
+
+ghost use Rattle.std.specs.Prelude.{◌≡◌, Some};
+ghost use Rattle.ecat_service.specs.Services.{address_words, counts_words, most_packets, where_of};
+ghost use Rattle.ecat_service.specs.Services.{where_words};
+
+use crate::raw::RawWhereText;
+use crate::service::Service;
+use ec_ring::Ring;
+use ecat_line::{LineFailure, applications_of, ring_of, scene_for_packets};
+use ecat_log::Log;
+use ecat_serve::{Counts, Ends, Served, Unwatched, Watch};
+use ecat_source::Source;
+use ecat_text::{GOOD, Lines, print_areas};
+use std::alloc::Global;
+use std::fmt;
+use std::io::{self, Write};
+use std::net::Ipv4Addr;
+
+/// An end at an address and a port, as it is printed.
+#[derive(Drop)]
+struct Address {
+    address: Ipv4Addr,
+    port: u32,
+}
+
+impl fmt::Display for Address {
+    ghost output = { λ end. Some (address_words end.address end.port) };
+
+    #[tactic(auto, unfolding(crate::specs::Services::address_words))]
+    fn fmt<W: fmt::Write>(&self, f: &mut fmt::Formatter<W>) -> fmt::Result {
+        let address = self.address;
+        let port = self.port;
+        write!(f, "{address}:{port}")
+    }
+}
+
+/// Where the ends of a line lie, as it is printed.
+#[derive(Drop)]
+struct WhereText {
+    address: Ipv4Addr,
+    port_a: u32,
+    port_b: u32,
+}
+
+impl fmt::Display for WhereText {
+    ghost output = { λ text. Some (where_words text) };
+
+    fn fmt<W: fmt::Write>(&self, f: &mut fmt::Formatter<W>) -> fmt::Result {
+        let end_a = Address {
+            address: self.address,
+            port: self.port_a,
+        };
+        let end_b = Address {
+            address: self.address,
+            port: self.port_b,
+        };
+        write!(f, "serving A {end_a} B {end_b}")
+    }
+}
+
+/// Where the ends of a line at this address and port lie.
+fn where_of(address: Ipv4Addr, port: u16) -> WhereText
+    ensures { result ≡ where_of address port }
+{
+    WhereText {
+        address,
+        port_a: u32::from(port),
+        port_b: u32::from(port) + 1,
+    }
+}
+
+/// How many packets have come in, as it is printed.
+#[derive(Drop)]
+struct CountsText {
+    packets: u64,
+    frames: u64,
+    dropped: u64,
+}
+
+impl fmt::Display for CountsText {
+    ghost output = { λ counts. Some (counts_words counts) };
+
+    fn fmt<W: fmt::Write>(&self, f: &mut fmt::Formatter<W>) -> fmt::Result {
+        let packets = self.packets;
+        let frames = self.frames;
+        let dropped = self.dropped;
+        write!(f, "packets {packets} frames {frames} dropped {dropped}")
+    }
+}
+
+/// The line of the scene that the source holds, which has no actions and no weathers, as it is served; its
+/// items are a master's, and are passed over.
+pub fn line_to_serve<S: Source>(alloc: Global, source: &mut S) -> Result<Served, LineFailure> {
+    let scene = scene_for_packets(alloc, source)?;
+    let applications = applications_of(alloc, scene.slaves.as_slice())?;
+    let ring = ring_of(alloc, scene.slaves, scene.links_down.as_slice())?;
+    Ok(Served::acting(ring, applications))
+}
+
+/// Serves a line that has these ends, and answers the exit status. It prints where the line is served, and at
+/// the end how many packets came and a line for each active buffered area that the master writes; `err` is
+/// told of each packet where the service logs, and that it ended with its input where that would have been
+/// left alone by other words. It takes no memory.
+pub fn serve<E, W, V>(
+    served: Served,
+    service: Service,
+    ends: &mut E,
+    out: &mut W,
+    err: &mut V,
+) -> Result<u8, LineFailure>
+where
+    E: Ends,
+    W: Write,
+    V: Write,
+{
+    let done = if service.log {
+        serve_watched(served, service, ends, &mut Log::new(err), out)
+    } else {
+        serve_watched(served, service, ends, &mut Unwatched, out)
+    };
+    tell_end(service, &done, err);
+    done
+}
+
+/// Serves a line; somebody is told of each packet.
+fn serve_watched<E, V, W>(
+    mut served: Served,
+    service: Service,
+    ends: &mut E,
+    watch: &mut V,
+    out: &mut W,
+) -> Result<u8, LineFailure>
+where
+    E: Ends,
+    V: Watch,
+    W: Write,
+{
+    let mut lines = Lines::new(out);
+    print_where(service, &mut lines)?;
+    let counts = served.serve_watched(ends, most_packets(service.packets), watch)?;
+    print_end(counts, served.ring(), &mut lines)?;
+    Ok(GOOD)
+}
+
+/// Tells `err` that a service ended since its input did, and what has it go on. A fault of `err` is passed
+/// over.
+fn tell_end<V: Write>(service: Service, done: &Result<u8, LineFailure>, err: &mut V) {
+    if done.is_ok() && service.awaits_input() {
+        let _ = err.write_all(b"input: ended; with --forever or --packets N it is left alone\n");
+    }
+}
+
+/// Prints where a line is served.
+pub fn print_where<W: Write>(service: Service, lines: &mut Lines<'_, W>) -> io::Result<()> {
+    match service.raw {
+        Some(descriptors) => lines.text(RawWhereText(descriptors))?,
+        None => lines.text(where_of(service.address, service.port))?,
+    }
+    lines.end()
+}
+
+/// Prints how many packets came.
+pub fn print_counts<W: Write>(counts: Counts, lines: &mut Lines<'_, W>) -> io::Result<()> {
+    lines.text(CountsText {
+        packets: counts.packets(),
+        frames: counts.frames,
+        dropped: counts.dropped,
+    })?;
+    lines.end()
+}
+
+/// Prints how many packets came, and the areas that the master writes as they are at the end.
+pub fn print_end<W: Write>(
+    counts: Counts,
+    ring: &Ring,
+    lines: &mut Lines<'_, W>,
+) -> io::Result<()> {
+    print_counts(counts, lines)?;
+    print_areas(ring.slaves(), lines)
+}
+
+/// After how many packets a service ends; without a number after as many as can be counted.
+pub fn most_packets(packets: Option<u32>) -> u64
+    ensures { result ≡ most_packets packets }
+{
+    match packets {
+        Some(count) => u64::from(count),
+        None => u64::MAX,
+    }
+}

@@ -1,0 +1,71 @@
+//! What `--judge` prints of a cycle: which items are short, whose copies are lost, where the cable is broken.
+
+ghost use Rattle.std.specs.Prelude.{◌≡◌, length};
+
+use ec_diag::{Located, probe};
+use ec_master::{Ports, Report, Reporting, Verdict, Work, run_cycle};
+use ec_ring::{Ring, Travel, Weather};
+use ecat_line::LineFailure;
+use ecat_text::{Lines, print_break, print_counts, print_losses, print_verdict};
+use std::io::{self, Write};
+
+/// Does one cycle over ports and prints its verdict. Where it is not good, prints a line for each item that
+/// did not count as wanted, and one for each frame whose copies did not both come back.
+pub fn judged_cycle<P: Ports, W: Write>(
+    ports: &mut Reporting<P>,
+    work: &mut Work,
+    expected: &[u16],
+    lines: &mut Lines<'_, W>,
+) -> Result<Verdict, LineFailure>
+    requires { length expected.now ≡ length work.old }
+{
+    let verdict = run_cycle(ports, work, expected)?;
+    print_verdict(verdict, lines)?;
+    if verdict != Verdict::Good {
+        print_counts(ports.report(), expected, lines)?;
+        print_losses(ports.report(), lines)?;
+    }
+    Ok(verdict)
+}
+
+/// Prints where the cable is broken that a cycle with this report went over, by one more frame in the weather
+/// of the first one whose copies did not both come back, or of the first of all. Where the verdict was good
+/// nothing is printed of a whole cable, and of a broken one that the redundancy is lost.
+pub fn print_cable<W: Write>(
+    verdict: Verdict,
+    report: &Report,
+    ring: &mut Ring,
+    weathers: &[Weather],
+    lines: &mut Lines<'_, W>,
+) -> io::Result<()> {
+    let weather = match weathers.get(first_loss(report)) {
+        Some(weather) => *weather,
+        None => Weather::calm(ring.links()),
+    };
+    let located = located_in(ring, &weather);
+    if verdict == Verdict::Good {
+        if located == Located::Whole {
+            return Ok(());
+        }
+        lines.text("redundancy lost: ")?;
+    }
+    print_break(located, ring.slaves(), lines)?;
+    Ok(())
+}
+
+/// The number of the first frame whose copies did not both come back, or 0.
+fn first_loss(report: &Report) -> usize {
+    for (frame, copies) in report.copies().iter().enumerate() {
+        if !copies.a || !copies.b {
+            return frame;
+        }
+    }
+    0
+}
+
+/// Where the cable is broken, by one frame that travels in this weather.
+fn located_in(ring: &mut Ring, weather: &Weather) -> Located {
+    let sent = probe();
+    let came = ring.arrivals(&sent, weather);
+    Located::Unknown.and_arrivals(ring.slaves().len(), &sent, &came)
+}

@@ -1,0 +1,39 @@
+#![tactic(auto)]
+//! The commands over a ring of simulated slaves: each reads the scene of a source, prints what comes of it,
+//! and answers the exit status.
+//!
+//! One use:
+//!
+//! ```text
+//! let status = check(alloc, &mut source, &mut out)?;
+//! ```
+//!
+//! What is promised: the words of what is printed here alone (`specs/Covers`, `specs/Sweeps`), and the trips
+//! of a transfer that is done surely (`SteppingTrips`). What a command does in their order is tested, here and
+//! by the scenes and cases of the program.
+
+mod cables;
+mod carry;
+mod checks;
+mod covers;
+mod cycles;
+mod judge;
+mod lints;
+mod objects;
+mod runs;
+mod stepping_ports;
+mod sweeps;
+
+pub use cables::{where_broken, where_far};
+pub use checks::check;
+pub use covers::cover;
+pub use cycles::cycle;
+pub use judge::{judged_cycle, print_cable};
+pub use lints::lint;
+pub use objects::{Asked, sdo, sdo_far};
+pub use runs::run;
+pub use stepping_ports::SteppingPorts;
+pub use sweeps::sweep;
+
+#[cfg(test)]
+mod tests;
