@@ -54,7 +54,11 @@ fn a_write_that_fails_ends_the_rows(rt: HostRuntime) {
         let done = vectors(rt.alloc(), &mut Stops { left });
         let failed = match &done {
             Ok(_) => false,
-            Err(failure) => matches!(failure, LineFailure::Output | LineFailure::NoMemory),
+            // (the rows' scenes are good, so that a scene is refused for want of memory alone)
+            Err(failure) => matches!(
+                failure,
+                LineFailure::Output | LineFailure::NoMemory | LineFailure::Scene(_)
+            ),
         };
         assert!(rt; failed, "write {left}");
     }
