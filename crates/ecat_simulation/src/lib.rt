@@ -9,8 +9,8 @@
 //! ```
 //!
 //! What is promised: the words of what is printed here alone (`specs/Covers`, `specs/Sweeps`), and the trips
-//! of a transfer that is done surely (`SteppingTrips`). What a command does in their order is tested, here and
-//! by the scenes and cases of the program.
+//! of a transfer that is done surely (`SteppingTrips`). What a command does in their order is tested, here
+//! and by the scenes and cases of the program.
 
 mod cables;
 mod carry;

@@ -1,4 +1,5 @@
-//! Each command that reads a scene: that it is the one that is done, and what it tells of a text that is none.
+//! Each command that reads a scene: that it is the one that is done, and what it tells of a text that is
+//! none.
 
 ghost use Rattle.std.specs.Prelude.{◌≡◌, false};
 ghost use Rattle.ecat.specs.Commands.{has_a_way_of_its_own};
