@@ -8,3 +8,5 @@ pub mod CableLemmas
 pub mod TurnLemmas
 pub mod RecordsLemmas
 pub mod ReadBackLemmas
+pub mod RoomLemmas
+pub mod SpellLemmas

@@ -1,6 +1,6 @@
 -- What is known of a master's items on a line before its first cycle: where each may go, by how much its
 -- counter moves, and whether they ask for all that is mapped.
-use Rattle.std.specs.Prelude.{◌≡◌, ◌<◌, ◌⊎◌, ℕ, Option, None, Some, List, replicate, slice_get}
+use Rattle.std.specs.Prelude.{◌≡◌, ◌<◌, ℕ, Option, None, Some, List, replicate, slice_get}
 use Rattle.std.specs.Option.{option_map}
 use Rattle.ec_check.specs.Order.{IsBefore}
 use Rattle.ec_wire.specs.declared.kind.Kind.{Kind}
@@ -11,7 +11,6 @@ use Rattle.ec_map.specs.Share.{expected_of}
 use Rattle.ec_map.specs.declared.covered.Gap.{Gap}
 use Rattle.ec_map.specs.declared.kind.ItemFault.{ItemFault}
 use Rattle.ec_map.specs.declared.kind.ItemFault.TheVariants as faults
-use Rattle.ec_map.specs.declared.place.PlaceFault.{PlaceFault}
 use Rattle.ec_map.specs.declared.place.PlaceFault.TheVariants as places
 use Rattle.rummymaple.specs.Items.{kind_of, kind_named}
 use Rattle.rummymaple.specs.Mapping.{line_of}

@@ -2,6 +2,8 @@ pub mod Numbers
 pub mod Copies
 pub mod Join
 pub mod Items
+pub mod Cut
+pub mod Room
 pub mod Frame
 pub mod Answers
 pub mod Judge

@@ -1,5 +1,5 @@
 -- How the check of a line by its records ends.
-use Rattle.std.specs.Prelude.{◌≡◌, ◌⊎◌, ℕ, List, Option, None, Some}
+use Rattle.std.specs.Prelude.{List, Option, None, Some}
 use Rattle.ec_check.specs.Fit.{IsFit, IsFirstFault}
 use Rattle.ec_check.specs.Line.{controllers_by}
 use Rattle.ec_check.specs.declared.fault.MapFault.{MapFault}

@@ -1,7 +1,7 @@
 -- A slave by its station address and its records alone, as a master writes them or reads them back (IEC
 -- 61158-4-12, FMMU and sync manager): it is mapped as the controller that has them, all other bytes of which
 -- are 0.
-use Rattle.std.specs.Prelude.{ℕ, ◌-◌, ◌/◌, ◌%◌, ◌+◌, false, List, [], ◌∷◌, ◌++◌, length, replicate}
+use Rattle.std.specs.Prelude.{ℕ, ◌-◌, ◌/◌, ◌%◌, false, List, ◌∷◌, ◌++◌, replicate}
 use Rattle.ec_regs.specs.declared.registers.TheConstants.{STATION_ADDRESS, FMMU_BASE, SYNC_MANAGER_BASE}
 use Rattle.ec_regs.specs.declared.registers.TheConstants.{MEMORY_SIZE, PROCESS_MEMORY_SIZE}
 use Rattle.ec_esc.specs.State.{ControllerState}

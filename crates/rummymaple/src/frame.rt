@@ -1,7 +1,6 @@
 //! The frames in which items go out.
 
-ghost use Rattle.std.specs.Prelude.{◌≡◌, ◌<◌, ◌≤◌, ◌∷◌, [], map, length, slice_get, Some};
-ghost use Rattle.ec_map.specs.Item.{datagram_of};
+ghost use Rattle.std.specs.Prelude.{◌≡◌, ◌<◌, ◌≤◌, map, length};
 ghost use Rattle.ec_line.specs.Answered.{sent_of};
 ghost use Rattle.ec_master.specs.Cut.{frame_at};
 ghost use Rattle.rummymaple.specs.Items.{asked, AreTaken};
@@ -9,11 +8,11 @@ ghost use Rattle.rummymaple.specs.Frame.{IsFrame, IsPutFrame, frame_answer};
 ghost use Rattle.rummymaple.specs.declared.frame.FrameEnd.{FrameEnd};
 ghost use Rattle.rummymaple.specs.declared.item.Item.{Item};
 
+use crate::cut::carried_from;
 use crate::item::{Item, MAX_ITEMS, first_refused};
+use crate::layout::HEADER;
 use crate::numbers::Code;
-use crate::packet::put_frame;
-use arrayvec::ArrayVec;
-use ec_wire::{Command, Datagram, FrameBuf};
+use crate::spell::put_items;
 
 /// How the making of a frame ended.
 #[derive(Clone, Copy, PartialEq, Eq, Debug)]
@@ -49,26 +48,7 @@ pub struct FrameAnswer {
     pub code: u32,
 }
 
-/// Puts as many of the items behind the one at `first` onto its frame as fit, each with its number as index.
-fn fill(frame: &mut FrameBuf, datagram: &mut Datagram, items: &[Item], image: &[u8], first: usize)
-    requires inside { first < length items.now }
-    requires numbers { length items.now ≤ MAX_ITEMS }
-    requires taken { AreTaken (length image.now) items.now }
-    requires begun { (i : Item) → slice_get items.now first ≡ Some i
-        → frame.old ≡ datagram_of (asked image.now i) first ∷ [] }
-    ensures { frame.new ≡ sent_of (frame_at first (map (asked image.now) items.now)) }
-{
-    for k in first + 1..items.len() {
-        items[k].ask(image, k, datagram);
-        match frame.push(datagram) {
-            Ok(()) => {}
-            Err(_) => return,
-        }
-    }
-}
-
-/// Makes the frame that begins with the item at `first`. It is made in place, by one datagram after the
-/// other in one place, so that a call stays small on its caller's stack.
+/// Makes the frame that begins with the item at `first`, in the room: no byte of it stands anywhere before.
 fn make_frame(items: &[Item], image: &[u8], first: usize, room: &mut [u8]) -> FrameEnd
     requires inside { first < length items.now }
     requires numbers { length items.now ≤ MAX_ITEMS }
@@ -76,24 +56,15 @@ fn make_frame(items: &[Item], image: &[u8], first: usize, room: &mut [u8]) -> Fr
     ensures { IsPutFrame (sent_of (frame_at first (map (asked image.now) items.now)))
         room.old result room.new }
 {
-    let mut datagram = Datagram {
-        command: Command::Nop,
-        index: 0,
-        address: 0,
-        circulating: false,
-        irq: 0,
-        payload: ArrayVec::new(),
-        counter: 0,
-    };
-    items[first].ask(image, first, &mut datagram);
-    let mut frame = FrameBuf::of(&datagram);
-    fill(&mut frame, &mut datagram, items, image, first);
-    match put_frame(&frame, room) {
-        Some(bytes) => FrameEnd::Made {
-            items: frame.count(),
-            bytes,
-        },
-        None => FrameEnd::NoRoom,
+    let carried = carried_from(items, first);
+    let bytes = HEADER + carried.bytes;
+    if room.len() < bytes {
+        return FrameEnd::NoRoom;
+    }
+    put_items(items, image, first, &carried, room);
+    FrameEnd::Made {
+        items: carried.items,
+        bytes,
     }
 }
 

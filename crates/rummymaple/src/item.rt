@@ -9,9 +9,8 @@ ghost use Rattle.ec_wire.specs.Kind.{command_of};
 ghost use Rattle.rummymaple.specs.Items.{kind_of, kind_named, refusal, asked, AreTaken, IsFirstRefused};
 
 use crate::numbers::Code;
-use arrayvec::ArrayVec;
 use ec_regs::registers::{LOGICAL_BYTES, MEMORY_SIZE, PROCESS_MEMORY};
-use ec_wire::{Datagram, Kind, MAX_DATA, address_of, ado_of};
+use ec_wire::{Kind, MAX_DATA, address_of, ado_of};
 
 /// The most items of a master: as many as a datagram's index has values.
 pub const MAX_ITEMS: usize = 256;
@@ -118,7 +117,7 @@ impl Item {
     }
 
     /// The address in its datagram: a broadcast read begins with ADP 0.
-    fn wire_address(&self) -> u32
+    pub(crate) fn wire_address(&self) -> u32
         requires { is_broadcast (kind_named self.now.kind) ≡ true → self.now.address < 65536 }
         ensures { (image : List ℕ) → result ≡ wire_address (asked image self.now) }
     {
@@ -130,7 +129,7 @@ impl Item {
     }
 
     /// Its data in the image.
-    fn data<'a>(&self, image: &'a [u8]) -> &'a [u8]
+    pub(crate) fn data<'a>(&self, image: &'a [u8]) -> &'a [u8]
         requires { self.now.offset + self.now.length ≤ length image.now }
         ensures value { result.now
             ≡ slice_range image.now self.now.offset (self.now.offset + self.now.length) }
@@ -138,25 +137,6 @@ impl Item {
     {
         let (begin, end) = self.place();
         &image[begin..end]
-    }
-
-    /// Makes a datagram that asks it, with `k` as index, of one that is there: so there is one on the stack.
-    pub(crate) fn ask(&self, image: &[u8], k: usize, datagram: &mut Datagram)
-        requires taken { refusal (length image.now) self.now ≡ None }
-        requires number { k < MAX_ITEMS }
-        ensures { record_of datagram.new ≡ datagram_of (asked image.now self.now) k }
-    {
-        datagram.payload.clear();
-        datagram
-            .payload
-            .try_extend_from_slice(self.data(image))
-            .unwrap();
-        datagram.command = self.kind().command();
-        datagram.index = k as u8;
-        datagram.address = self.wire_address();
-        datagram.circulating = false;
-        datagram.irq = 0;
-        datagram.counter = self.sent;
     }
 }
 

@@ -6,18 +6,10 @@ ghost use Rattle.rummymaple.specs.Numbers.{form_of};
 ghost use Rattle.rummymaple.specs.Read.{place_of, places_from, IsReadFrame, IsRead, read_answer};
 ghost use Rattle.rummymaple.specs.declared.read.ReadEnd.{ReadEnd};
 
+use crate::layout::{HEAD, HEADER, OVERHEAD};
 use crate::numbers::{Code, fault_code, form_of};
 use crate::packet::blank;
 use ec_wire::{Form, FrameBuf, WireFault};
-
-/// The bytes of a frame's header; the first datagram follows it.
-const HEADER: usize = 2;
-
-/// The bytes of a datagram before its data.
-const HEAD: usize = 10;
-
-/// What a datagram takes beside its data.
-const OVERHEAD: usize = 12;
 
 /// A datagram of a frame, and where its data lie: `struct rmp_datagram` of the header.
 #[repr(C)]
