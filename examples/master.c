@@ -28,7 +28,7 @@ static struct rmp_item items[ITEMS] = {
 
 /* The AL status of all slaves: the copies of this read alone in its frame tell where the cable is broken. */
 static uint8_t status[2];
-static const struct rmp_item probe = {.kind = RMP_BRD, .address = 0x0130, .length = 2, .expected = SLAVES};
+static struct rmp_item probe = {.kind = RMP_BRD, .address = 0x0130, .length = 2, .expected = SLAVES};
 
 /* The frame that is out, what came at each port, and what both are joined to. */
 static uint8_t sent[RMP_FRAME_SIZE], joined[RMP_FRAME_SIZE];
@@ -74,6 +74,7 @@ static void travel(const int ports[2], size_t size) {
 
 /* Where the cable is broken, in words. */
 static void find_break(const int ports[2], char *told, size_t room) {
+    probe.sent += 2048; /* as the items' counters step */
     struct rmp_framed made = rmp_frame(&probe, 1, status, sizeof status, 0, sent, sizeof sent);
     travel(ports, made.bytes);
     struct rmp_located place = rmp_where(RMP_UDP, sent, made.bytes, came[0].bytes, came[0].size,

@@ -1,18 +1,21 @@
 /*
  * rummymaple.h: the proved core of an EtherCAT master, for masters in C (C11) and C++ (C++17).
  *
- * Four calls, in the order of a cycle, a reader, a call that says where the cable is broken, and four that
- * check the slaves' records and the items before the first cycle. Between the calls of a cycle the master
- * does what it likes: it sends each frame both ways round the ring, works, and receives.
+ * Four calls, in the order of a cycle, a reader, a call that says where the cable is broken, three that are a
+ * cycle by turns, and four that check the slaves' records and the items before the first cycle. Between the
+ * calls of a cycle the master does what it likes: it sends each frame both ways round the ring, works, and
+ * receives. With one array for the joined bytes of each frame k:
  *
- *     for (first = 0; first < n; first += made.items) {
+ *     for (k = 0, first = 0; first < n; first += made.items, k++) {
  *         made = rmp_frame(items, n, image, sizeof image, first, sent, sizeof sent);
+ *         ... where made.code is not RMP_GOOD, give up: made.items is 0 ...
  *         ... send sent[0 .. made.bytes] from both ports, and receive the packets a and b ...
- *         came = rmp_join(RMP_UDP, sent, made.bytes, a, a_size, b, b_size, joined, sizeof joined);
- *         verdict = rmp_judge(items, n, first, joined, came.bytes);
+ *         came = rmp_join(RMP_UDP, sent, made.bytes, a, a_size, b, b_size, joined[k], sizeof joined[k]);
+ *         verdict = rmp_judge(items, n, first, joined[k], came.bytes);
+ *         ... keep first and came.bytes of this frame, as first_of[k] and bytes_of[k] ...
  *     }
- *     ... and where each frame's verdict is RMP_GOOD, of each frame:
- *     rmp_store(items, n, first, joined, came.bytes, image, sizeof image);
+ *     ... and where each frame's verdict is RMP_GOOD, of each frame k:
+ *     rmp_store(items, n, first_of[k], joined[k], bytes_of[k], image, sizeof image);
  *
  * The library has no state, takes no memory and calls nothing but memcpy, memmove and memset. Each call ends,
  * whatever the bytes and numbers are, and answers by a code. All numbers are the host's own; bytes of frames
@@ -51,7 +54,8 @@ enum rmp_code {
     RMP_OVER = 2,       /* the counter of item `at` moved by more */
     RMP_STRANGER_A = 3, /* packet a is a frame, but not of the sent one: datagram `at` differs first */
     RMP_STRANGER_B = 4, /* packet b is, and packet a is not a stranger */
-    RMP_NO_ROOM = 5,    /* the frame does not fit the room for it */
+    RMP_NO_ROOM = 5,    /* the frame does not fit the room for it; of rmp_cycle_came also: `waiting` is not of
+                           the image's size */
     RMP_BAD_FORM = 6,   /* there is no such form */
     RMP_NOT_SENT = 7,   /* what is said to be sent is no frame: byte `at` is the first at fault */
     RMP_NOT_JOINED = 8, /* what is said to be joined is no frame: byte `at` is the first at fault */
@@ -84,7 +88,8 @@ enum rmp_code {
 enum rmp_kind {
     RMP_FPRD = 4, /* reads the slave with a station address */
     RMP_FPWR = 5, /* writes it */
-    RMP_BRD = 7,  /* reads a register of all slaves; its data come back or-ed */
+    RMP_BRD = 7,  /* reads a register of all slaves; its data come back or-ed, with those that were sent too:
+                     zero them in the image before each frame */
     RMP_LRD = 10, /* reads what FMMUs map to logical addresses */
     RMP_LWR = 11, /* writes it */
     RMP_LRW = 12  /* does both */
@@ -125,9 +130,10 @@ struct rmp_item {
     uint16_t kind;     /* of enum rmp_kind */
     uint16_t expected; /* by how much its working counter has to move; of LRW a slave adds 1 for reading and 2
                           for writing, else 1 */
-    uint16_t sent;     /* the working counter with which it goes out; another one in each cycle tells late
-                          frames from those of this cycle */
-    uint16_t came;     /* written by rmp_judge: the working counter with which it came back */
+    uint16_t sent;     /* the working counter with which it goes out: (uint16_t)(2048 * k) in cycle k, so that
+                          a late copy shows. With small steps it may make up for a slave that was missed */
+    uint16_t came;     /* written by rmp_judge: the working counter with which it came back; it has moved by
+                          (uint16_t)(came - sent) */
     uint16_t passed;   /* written by rmp_judge: of BRD how many slaves it passed, else 0 */
 };
 
@@ -144,8 +150,8 @@ struct rmp_joined {
     size_t bytes;    /* how many bytes of the joined frame were written */
     size_t at;       /* the first datagram that differs, or the byte at fault */
     uint32_t code;   /* RMP_GOOD, RMP_STRANGER_A, RMP_STRANGER_B, RMP_NO_ROOM, RMP_BAD_FORM or RMP_NOT_SENT */
-    uint32_t copy_a; /* of enum rmp_copy: what came of copy a */
-    uint32_t copy_b; /* and of copy b */
+    uint32_t copy_a; /* of enum rmp_copy: what packet a is, at whichever port its copy went out */
+    uint32_t copy_b; /* and packet b */
 };
 
 /* What rmp_judge and rmp_store answer. */
@@ -184,7 +190,16 @@ struct rmp_located {
     uint32_t copy_b; /* and at port B */
 };
 
-/* What a slave is mapped by: its registers as a master writes them or reads them back. */
+/*
+ * What a slave is mapped by: its registers as a master writes them or reads them back (IEC 61158-4-12, FMMU
+ * and sync manager attributes), numbers in them with the low byte first.
+ *
+ * FMMU: bytes 0 to 3 the logical address, 4 and 5 the length in bytes, 6 and 7 the first bit of the first and
+ * the last bit of the last of them, 8 and 9 the physical address, 10 its bit, 11 the type (1: the master
+ * reads, 2: it writes), 12 bit 0: it is active. Sync manager: bytes 0 and 1 the address, 2 and 3 the length,
+ * 4 the control (bits 0 and 1: 0 buffered, 2 mailbox; bits 2 and 3: 0 the master reads, 1 it writes), 5 the
+ * status, 6 bit 0: it is active.
+ */
 struct rmp_records {
     uint16_t station;             /* the station address, which the slave has at 0x0010 */
     uint8_t fmmus[8][16];         /* its FMMU records, which it has from 0x0600 on */
@@ -195,9 +210,11 @@ struct rmp_records {
 enum rmp_rule {
     RMP_FIT = 0,             /* none is broken */
     RMP_TWIN_STATION = 1,    /* two slaves have one station address */
-    RMP_BAD_FMMU = 2,        /* an FMMU does not read or write, does both, or maps bits that are not there */
+    RMP_BAD_FMMU = 2,        /* an FMMU does not read or write, does both, maps no bit, or maps bits that are
+                                not there: past logical 2^32, past the memory, or of a number above 7 */
     RMP_AREAS_MEET = 3,      /* two areas of a slave share the byte at address `place` */
-    RMP_OUTSIDE_AREA = 4,    /* an FMMU is at address `place` outside each buffered area of its direction */
+    RMP_OUTSIDE_AREA = 4,    /* an FMMU is at address `place` outside each buffered area of its direction; one
+                                that reads may read 0x080D alone instead, which tells of waiting mail */
     RMP_TWICE_WRITTEN = 5,   /* two FMMUs of a slave write its memory's bit `place` */
     RMP_TWICE_READ = 6,      /* two FMMUs of the line read logical bit `place` */
     RMP_READ_AND_WRITTEN = 7 /* logical bit `place` is read from one slave and written to another */
@@ -216,7 +233,8 @@ struct rmp_mapping {
 
 /* What rmp_expected answers. */
 struct rmp_expectation {
-    uint32_t counter; /* by how much the counter moves, modulo 65,536; 0 where there is no such item */
+    uint32_t counter; /* by how much the counter moves, modulo 65,536; 0 where there is no such item, and
+                         where no slave takes part (RMP_GOOD): then two lost copies are good */
     uint32_t code;    /* RMP_GOOD, RMP_BAD_KIND, RMP_BAD_LENGTH or RMP_BAD_RANGE */
 };
 
@@ -247,8 +265,8 @@ struct rmp_cycle {
 struct rmp_turn {
     size_t at;       /* the item, the datagram or the byte that `code` is about */
     uint32_t code;   /* of enum rmp_code */
-    uint32_t copy_a; /* of enum rmp_copy: what came of copy a */
-    uint32_t copy_b; /* and of copy b */
+    uint32_t copy_a; /* of enum rmp_copy: what packet a is, at whichever port its copy went out */
+    uint32_t copy_b; /* and packet b */
 };
 
 /*
@@ -264,7 +282,9 @@ struct rmp_framed rmp_frame(const struct rmp_item *items, size_t n, const uint8_
 
 /*
  * Joins the packets `a` and `b` that came back of the frame `sent`, and puts the joined frame at the front of
- * `room`. A packet of length 0 is a lost copy; one that is no frame counts as lost, and is told so.
+ * `room`. A packet of length 0 is a lost copy; one that is no frame counts as lost, and is told so. Where
+ * both are lost, the joined frame is the sent one, and rmp_judge says short. A copy that comes a cycle late
+ * is no stranger: empty both ports before a frame is sent, and step `sent` of the items.
  *
  * Proved: each data bit, event request and circulating bit differs from the sent one exactly if it does in a
  * copy; each working counter, and the ADP where slaves count it up, has moved as far as in both copies
@@ -314,6 +334,8 @@ struct rmp_reading rmp_read(uint32_t form, const uint8_t *bytes, size_t size, st
  *         ... where made.code is not RMP_GOOD, give up; send sent[0 .. made.bytes], receive a and b ...
  *         turn = rmp_cycle_came(&cycle, items, n, sent, made.bytes, a, a_size, b, b_size, waiting, size,
  *                               image, size);
+ *         ... of RMP_STRANGER_A (_B) receive another a (b), and call rmp_cycle_came again: do not send again;
+ *             of another code above RMP_OVER give up: what is wrong stays ...
  *     }
  */
 struct rmp_cycle rmp_cycle_begin(uint32_t form);
@@ -329,8 +351,8 @@ struct rmp_framed rmp_cycle_next(const struct rmp_cycle *cycle, const struct rmp
 
 /*
  * Takes the packets `a` and `b` that came back of the frame `sent`, which rmp_cycle_next made last. `waiting`
- * is an array of the master's, as large as the image, where the data of a cycle wait until all its frames are
- * good: give the same one in each call of a cycle, and do not write it.
+ * is an array of the master's, of the image's very size, where the data of a cycle wait until all its frames
+ * are good: give the same one in each call of a cycle, and do not write it.
  *
  * Proved: the packets are joined as by rmp_join, and judged as by rmp_judge, `came` and `passed` included.
  * RMP_GOOD: the frame's data wait, and the cycle goes on behind its items; behind the last item the data of
@@ -338,7 +360,7 @@ struct rmp_framed rmp_cycle_next(const struct rmp_cycle *cycle, const struct rmp
  * RMP_SHORT, RMP_OVER: the cycle is ended, and the image is as it was. Any other code leaves the cycle, the
  * items, `waiting` and the image as they are, so that a stranger may be dropped and the next packets taken:
  * those of rmp_join but RMP_NO_ROOM; RMP_OTHER_ITEM; RMP_BAD_.. of an item; RMP_NO_ROOM where `waiting` is
- * not as large as the image; RMP_NOT_UNDER_WAY. A cycle that is done is a good cycle, as that of the four
+ * not of the image's size; RMP_NOT_UNDER_WAY. A cycle that is done is a good cycle, as that of the four
  * calls is, where the master leaves the image alone meanwhile.
  */
 struct rmp_turn rmp_cycle_came(struct rmp_cycle *cycle, struct rmp_item *items, size_t n,
@@ -348,14 +370,19 @@ struct rmp_turn rmp_cycle_came(struct rmp_cycle *cycle, struct rmp_item *items, 
 
 /*
  * Says where the cable of a line of so many slaves is broken, by a frame `sent` that went out at both ports
- * and begins with a BRD: `a` is the packet that port A received, at the first slave's end of the line, and
+ * and begins with a BRD, as rmp_frame makes it of one item:
+ *
+ *     struct rmp_item states = {.address = 0x0130, .length = 2, .kind = RMP_BRD, .sent = ..};
+ *     made = rmp_frame(&states, 1, two_zeros, 2, 0, sent, sizeof sent);
+ *
+ * `a` is the packet that port A received, at the first slave's end of the line, and
  * `b` the one that port B received. A packet of length 0 tells nothing, nor does one that is no frame, or
  * whose first datagram is not that BRD by command, index, register and length.
  *
- * Proved: the answer says of the links exactly that the packets can arrive so, each by how many slaves its
- * BRD was counted up, and by whether it turned round. And it is so, over any line of up to 256 slaves, where
- * the BRD is the only datagram of the frame, all that it reads lies below 0x1000, the packets are copies of
- * this frame as they arrived, and both travelled under the same links.
+ * Proved: the answer says of the links exactly that the packets can arrive so, each by how far the working
+ * counter of its BRD moved, and by whether it turned round. And it is so, over any line of up to 256 slaves,
+ * where the BRD is the only datagram of the frame, all that it reads lies below 0x1000, the packets are
+ * copies of this frame as they arrived, and both travelled under the same links.
  */
 struct rmp_located rmp_where(uint32_t form, const uint8_t *sent, size_t sent_size, const uint8_t *a,
                              size_t a_size, const uint8_t *b, size_t b_size, size_t slaves);
@@ -367,6 +394,10 @@ struct rmp_located rmp_where(uint32_t form, const uint8_t *sent, size_t sent_siz
  * Proved: the answer is RMP_FIT exactly where no rule is broken, and else the first rule that is, with the
  * smallest numbers from left to right and the lowest address or bit. Of fit lines alone the promises about
  * cycles hold.
+ *
+ * Not looked at: whether an area is written to its last byte (where it is not, a slave counts, and its
+ * application is never shown these outputs), and the two further buffers that a controller keeps behind a
+ * buffered area.
  */
 struct rmp_mapping rmp_check(const struct rmp_records *line, size_t slaves);
 

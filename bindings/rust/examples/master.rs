@@ -73,10 +73,12 @@ fn cycle(
     Ok(Ok(verdict))
 }
 
-/// Where the cable is broken: by the copies of a broadcast read of AL status that is alone in its frame.
-fn find_break(ports: &Ports) -> Result<std::result::Result<Cable, Fault>> {
+/// Where the cable is broken: by the copies of a broadcast read of AL status that is alone in its frame, and
+/// goes out with the counter of the cycle.
+fn find_break(ports: &Ports, counter: u16) -> Result<std::result::Result<Cable, Fault>> {
     let (mut sent, mut came) = ([0; ROOM], [[0; ROOM]; 2]);
-    let probe = [Item::new(Kind::Brd, 0x0130, 0, 2, SLAVES as u16)];
+    let mut probe = [Item::new(Kind::Brd, 0x0130, 0, 2, SLAVES as u16)];
+    probe[0].sent = counter;
     let made = match frame(&probe, &[0; 2], 0, &mut sent) {
         Ok(made) => made,
         Err(fault) => return Ok(Err(fault)),
@@ -114,12 +116,13 @@ fn main() -> Result<()> {
             commands.flush()?;
             sleep(Duration::from_millis(100));
         }
+        let counter = (2048 * k % 65536) as u16; // a late frame of another cycle shows in its counters
         for item in &mut items {
-            item.sent = (2048 * k % 65536) as u16; // a late frame of another cycle shows in its counters
+            item.sent = counter;
         }
         image[..SLAVES].fill(k as u8);
         let verdict = cycle(&ports, &mut items, &mut waiting, &mut image)?;
-        let told = (verdict, find_break(&ports)?);
+        let told = (verdict, find_break(&ports, counter)?);
         if before != Some(told) {
             println!("cycle {k}: {:?}, {:?}", told.0, told.1);
         }

@@ -50,7 +50,8 @@ pub enum Kind {
     Fprd = 4,
     /// Writes it.
     Fpwr = 5,
-    /// Reads a register of all slaves.
+    /// Reads a register of all slaves; its data come back or-ed, with those that were sent too: zero them in
+    /// the image before each frame.
     Brd = 7,
     /// Reads what FMMUs map to logical addresses.
     Lrd = 10,
@@ -80,9 +81,10 @@ pub struct Item {
     kind: u16,
     /// By how much its working counter has to move.
     pub expected: u16,
-    /// The working counter with which it goes out.
+    /// The working counter with which it goes out: 2,048 times the number of the cycle, modulo 65,536, so
+    /// that a late copy shows.
     pub sent: u16,
-    /// The working counter with which it came back.
+    /// The working counter with which it came back; it has moved by `came.wrapping_sub(sent)`.
     pub came: u16,
     /// How many slaves a broadcast read passed; of other kinds 0.
     pub passed: u16,
