@@ -78,8 +78,9 @@ Example:
 pub(crate) const LINT: &str = "\
 Names what a scene says that is accepted and yet seldom meant, a line each: the
 line of the scene, the slave, and what is odd; as a sync manager that is set
-twice, a mailbox that is never active, or items that lie outside of all that is
-mapped. Prints nothing and has the status 0 where there is none, else 1.
+twice, a mailbox that is never active, or a startup object that the slave does
+not have. Of a scene without items it says why its line is refused, if it is.
+Prints nothing and has the status 0 where there is none, else 1.
 
 Example:
   ecat lint scenes/check/accepted.scene";
