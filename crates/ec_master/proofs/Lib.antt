@@ -26,3 +26,4 @@ pub mod CoveredLemmas
 pub mod CoveredLineLemmas
 pub mod ShownLineLemmas
 pub mod CoveredGoodLemmas
+pub mod Laws

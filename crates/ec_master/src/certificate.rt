@@ -13,7 +13,7 @@ ghost use Rattle.ec_line.specs.After.{Entry, after_frame};
 ghost use Rattle.ec_line.specs.Request.{OnWay};
 ghost use Rattle.ec_line.specs.Trip.{Trip, passed};
 ghost use Rattle.ec_ring.specs.Travel.{as_trip};
-ghost use Rattle.ec_master.specs.Rounds.{round_counter, AreOfRound};
+ghost use Rattle.ec_master.specs.Rounds.{round_counter, AreRecent, AreOfRound};
 ghost use Rattle.ec_line.specs.Shown.{ShowsLast, NoAreaTwice};
 ghost use Rattle.ec_map.specs.Item.{ItemRecord, IsItem};
 ghost use Rattle.ec_ring.specs.Ring.{RingState, line_of};
@@ -127,12 +127,21 @@ pub fn of_round()
 /// Of ports only what came back of each frame counts. Where it is what a ring's trips give, the copies in
 /// either place, the cycle ends in no fault; its verdict is that by counts; on a good one the items have the
 /// answers of the unordered cycle of the ring's slaves, which have its memories and shown bytes (these where
-/// in each frame the last item that shows a byte is the last that writes it); on another they are as before.
+/// in each frame the last item that shows a byte is the last that writes it); on another they are as before
+/// (`says`). Where the items went out with the counter of round `k` and every copy is of that round or of one
+/// of the fifteen before it, a good verdict rests on copies of round `k` alone (`this_round`).
 pub fn frames_suffice()
-    ensures { (items : List ItemRecord) (expected : List ℕ) (came : AllThatCame)
+    ensures says { (items : List ItemRecord) (expected : List ℕ) (came : AllThatCame)
         (result : Result Verdict CycleFault) (items_later : List ItemRecord) → AllByRecursion IsItem items
         → IsPortCycle in_turn came items expected result items_later []
         → SaysOfEach items expected came result items_later }
+    ensures this_round { (k : ℕ) (items : List ItemRecord) (expected : List ℕ) (came : AllThatCame)
+        (items_later : List ItemRecord)
+        → AllByRecursion (λ (r : ItemRecord). r.counter ≡ round_counter k) items
+        → length expected ≡ length items → AllByRecursion (λ (e : ℕ). e < 4096) expected
+        → AllByRecursion (AreRecent k) came
+        → IsPortCycle in_turn came items expected (Ok Good) items_later []
+        → AllByRecursion (AreOfRound k) came }
 {}
 
 /// What comes back over `WeatherPorts` is what the trips of its ring give, so what is said of ports by what

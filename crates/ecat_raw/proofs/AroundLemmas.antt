@@ -6,30 +6,14 @@ use Rattle.std.specs.Int.{w16, from_be_bytes, to_le_bytes}
 use Rattle.std.proofs.Math.Seq.{take-append_seam, drop-append_seam}
 use Rattle.std.proofs.lemmas.Bool.Decides.{nat_tests}
 use Rattle.std.proofs.lemmas.List.{append_assoc, length-append}
-use Rattle.std.proofs.lemmas.List.Sums.{sum_by-cons}
 use Rattle.std.proofs.lemmas.Nat.{from_le_bytes-to_le_bytes_2}
-use Rattle.ec_wire.specs.Datagram.{DatagramRecord, datagram_length}
+use Rattle.ec_wire.specs.Datagram.{DatagramRecord}
 use Rattle.ec_wire.specs.Fault.{frame_end}
-use Rattle.ec_wire.specs.Spelling.{datagram, is_nil, body, body_length, spelling, IsFrameValue}
+use Rattle.ec_wire.specs.Spelling.{body, body_length, spelling, IsFrameValue}
+use Rattle.ec_wire.proofs.Laws.{length-body}
 use Rattle.ecat_raw.specs.Ethernet.{broadcast, header_of, packet_of, typed, type_of, untagged, cut, frame_in}
 
 -- ---- where a frame ends by its header
-
--- a datagram's bytes are its length
-length-datagram : (more : Bool) (r : DatagramRecord) → length (datagram more r) ≡ datagram_length r
-unfolding datagram
-length-datagram more r =
-    let behind : length (r.payload ++ to_le_bytes w16 r.counter) ≡ length r.payload + 2 =
-    length-append r.payload (to_le_bytes w16 r.counter) in
-    omega arith
-
--- and those of all datagrams
-length-body : (rs : List DatagramRecord) → length (body rs) ≡ body_length rs
-length-body [] = refl
-length-body (r ∷ rs) =
-    length-append (datagram (not (is_nil rs)) r) (body rs)
-    ∙ ap (λ n. n + length (body rs)) (length-datagram _ r) ∙ ap (λ n. datagram_length r + n) (length-body rs)
-    ∙ sym (sum_by-cons datagram_length r rs)
 
 -- a frame ends where its header says
 pub ends : (rs : List DatagramRecord) → IsFrameValue rs → frame_end (spelling rs) ≡ length (spelling rs)

@@ -1,66 +1,26 @@
 -- Frames that fill up with the datagrams of items, one after the other.
-use Rattle.std.proofs.Common.{◌≡◌, ℕ, suc, ◌+◌, ◌-◌, ◌<◌, ◌≤◌, true, false, sym, ap, refl, ◌∙◌, arith}
+use Rattle.std.proofs.Common.{◌≡◌, ℕ, suc, ◌+◌, ◌-◌, ◌<◌, ◌≤◌, sym, ap, refl, ◌∙◌, arith}
 use Rattle.std.proofs.Common.{List, [], ◌∷◌, ◌++◌, length, map, take, drop, get_or, None, drop-cons, subst}
 use Rattle.std.proofs.Math.Nat.{add-zero}
 use Rattle.std.specs.Prelude.{slice_range}
 use Rattle.ec_line.specs.After.{Entry}
 use Rattle.ec_line.specs.Answered.{sent_of}
-use Rattle.ec_wire.specs.Datagram.{DatagramRecord, datagram_length}
+use Rattle.ec_wire.specs.Datagram.{datagram_length}
 use Rattle.ec_wire.specs.Spelling.{body_length}
-use Rattle.std.proofs.lemmas.Bool.{le-leb, lt-leb}
 use Rattle.std.proofs.lemmas.List.{get_or-map, length-map, length-take-le, length-drop, take_more, drop_all}
 use Rattle.std.proofs.lemmas.List.{get_or-drop}
-use Rattle.std.proofs.lemmas.List.Sums.{sum_by-append, sum_by-cons}
+use Rattle.std.proofs.lemmas.List.Sums.{sum_by-cons}
 use Rattle.std.proofs.lemmas.Option.{slice_get-get_or}
 use Rattle.ec_map.specs.Item.{ItemRecord}
-use Rattle.ec_master.specs.Cut.{entry_of, entries_from, fits_frame, filled, frame_at}
+use Rattle.ec_master.specs.Cut.{entry_of, entries_from, filled, frame_at}
+use Rattle.ec_master.proofs.Laws.{entries-cons, body_length-more, fits-more, fits-no_more}
+use Rattle.ec_master.proofs.Laws.{filled-more, filled-full, filled-none}
 use Rattle.rummymaple.specs.Cut.{between, IsCarried}
 use Rattle.rummymaple.specs.Items.{asked, refusal, AreTaken}
 use Rattle.rummymaple.specs.declared.item.Item.{Item}
 use Rattle.rummymaple.proofs.ItemLemmas.{taken}
 
--- ---- a frame with one more datagram
-
-sent_of-more : (es : List Entry) (e : Entry) → sent_of (es ++ e ∷ []) ≡ sent_of es ++ e.sent ∷ []
-sent_of-more [] e = refl
-sent_of-more (x ∷ xs) e = ap (λ (ds : List DatagramRecord). x.sent ∷ ds) (sent_of-more xs e)
-
-pub body_length-more : (es : List Entry) (e : Entry)
-    → body_length (sent_of (es ++ e ∷ [])) ≡ body_length (sent_of es) + datagram_length e.sent
-body_length-more es e =
-    ap body_length (sent_of-more es e) ∙ sum_by-append datagram_length (sent_of es) (e.sent ∷ [])
-    ∙ ap (λ n. body_length (sent_of es) + n) (omega arith)
-
-fits-more : (es : List Entry) (e : Entry) → body_length (sent_of es) + datagram_length e.sent ≤ 1498
-    → fits_frame (es ++ e ∷ []) ≡ true
-fits-more es e room = le-leb _ _ (omega (arith, room, body_length-more es e))
-
-fits-no_more : (es : List Entry) (e : Entry) → 1498 < body_length (sent_of es) + datagram_length e.sent
-    → fits_frame (es ++ e ∷ []) ≡ false
-fits-no_more es e full = lt-leb _ _ (omega (arith, full, body_length-more es e))
-
-filled-more : (frame es : List Entry) (e : Entry) → fits_frame (frame ++ e ∷ []) ≡ true
-    → filled frame (e ∷ es) ≡ filled (frame ++ e ∷ []) es
-unfolding filled
-filled-more frame es e fits = rw fits refl
-
-filled-full : (frame es : List Entry) (e : Entry) → fits_frame (frame ++ e ∷ []) ≡ false
-    → filled frame (e ∷ es) ≡ frame
-unfolding filled
-filled-full frame es e fits = rw fits refl
-
-filled-none : (frame : List Entry) → filled frame [] ≡ frame
-unfolding filled
-filled-none frame = refl
-
 -- ---- numbered items
-
--- the first of those that are left
-pub entries-cons : (k : ℕ) (items : List ItemRecord) (e : ItemRecord) → k < length items
-    → entries_from k (drop k items) ≡ entry_of (get_or items k e) k
-    ∷ entries_from (suc k) (drop (suc k) items)
-unfolding entries_from
-entries-cons k items e h = ap (entries_from k) (drop-cons items k e h)
 
 -- none is left
 entries-none : (k : ℕ) (items : List ItemRecord) → length items ≤ k → entries_from k (drop k items) ≡ []

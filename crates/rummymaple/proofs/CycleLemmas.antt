@@ -3,6 +3,7 @@
 use Rattle.std.proofs.Common.{◌≡◌, ℕ, suc, ◌+◌, ◌<◌, Bool, true, false, cond, if◌then◌else◌, sym, ap}
 use Rattle.std.proofs.Common.{refl, ◌∙◌, arith, eqb, List, [], ◌∷◌, ◌++◌, length, map, drop, get_or, Ok, subst}
 use Rattle.std.proofs.Common.{append_assoc, suc-add, add-suc, add-zero, ltb}
+use Rattle.std.specs.List.{AllByRecursion}
 use Rattle.std.proofs.lemmas.List.{length-map, drop_all, drop-drop}
 use Rattle.ec_wire.specs.Datagram.{DatagramRecord}
 use Rattle.ec_merge.specs.Frames.{joined_frame}
@@ -22,7 +23,13 @@ use Rattle.rummymaple.specs.Cycle.{AreCalls, AreGood, as_ports_give}
 use Rattle.rummymaple.specs.Items.{asked}
 use Rattle.rummymaple.specs.declared.item.Item.{Item}
 use Rattle.rummymaple.proofs.AnswerLemmas.{verdict-end}
-use Rattle.rummymaple.proofs.CutLemmas.{entries-cons}
+use Rattle.ec_master.proofs.Laws.{entries-cons}
+
+-- what holds of what is made of each holds of all that is made
+pub each-of_map : {S T : Type 0} (P : T → Type 0) (f : S → T) (xs : List S)
+    → AllByRecursion (λ (x : S). P (f x)) xs → AllByRecursion P (map f xs)
+each-of_map P f [] all = tt
+each-of_map P f (x ∷ xs) all = (all.0, each-of_map P f xs all.1)
 
 -- ---- the first frame of entries and what is left of them
 

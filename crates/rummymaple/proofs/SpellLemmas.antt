@@ -1,6 +1,6 @@
 -- The datagrams of items that are put into a room one behind the other.
 use Rattle.std.proofs.Common.{◌≡◌, ℕ, suc, ◌+◌, ◌<◌, ◌≤◌, Bool, true, false, not, List, [], ◌∷◌, ◌++◌}
-use Rattle.std.proofs.Common.{length, map, drop, get_or, subst, sym, ap, refl, ◌∙◌, arith, inl, inr}
+use Rattle.std.proofs.Common.{length, map, drop, get_or, subst, sym, ap, ◌∙◌, arith, inl, inr}
 use Rattle.std.specs.Int.{w16, w32, to_le_bytes}
 use Rattle.std.proofs.lemmas.Bool.{cases_lt}
 use Rattle.std.proofs.lemmas.List.{append_assoc, append-nil, length-append}
@@ -16,26 +16,6 @@ use Rattle.rummymaple.specs.Join.{IsPut}
 use Rattle.rummymaple.specs.Room.{IsWritten}
 use Rattle.rummymaple.specs.declared.item.Item.{Item}
 use Rattle.rummymaple.proofs.CutLemmas.{no_item, entry_at, bytes_at, between-cons, between-none}
-
--- ---- how long it is
-
-length-datagram : (more : Bool) (r : DatagramRecord) → length (datagram more r) ≡ datagram_length r
-unfolding datagram
-length-datagram more r =
-    let two : length (r.payload ++ to_le_bytes w16 r.counter) ≡ length r.payload + 2 =
-    length-append r.payload (to_le_bytes w16 r.counter) in
-    omega arith
-
-length-body : (rs : List DatagramRecord) → length (body rs) ≡ body_length rs
-length-body [] = refl
-length-body (r ∷ rs) =
-    length-append (datagram (not (is_nil rs)) r) (body rs)
-    ∙ ap (λ n. n + length (body rs)) (length-datagram _ r) ∙ ap (λ n. datagram_length r + n) (length-body rs)
-    ∙ sym (sum_by-cons datagram_length r rs)
-
-pub length-spelling : (rs : List DatagramRecord) → length (spelling rs) ≡ 2 + body_length rs
-unfolding spelling
-length-spelling rs = let long = length-body rs in omega arith
 
 -- ---- one datagram
 

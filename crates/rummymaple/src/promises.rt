@@ -1,6 +1,6 @@
 //! What the calls in their order come to, each promise the contract of a function that does nothing.
 
-ghost use Rattle.std.specs.Prelude.{◌≡◌, ◌≤◌, ℕ, List, [], ◌∷◌, map, length, Ok};
+ghost use Rattle.std.specs.Prelude.{◌≡◌, ◌≤◌, ◌<◌, ℕ, List, [], ◌∷◌, map, length, Ok};
 ghost use Rattle.std.specs.List.{AllByRecursion};
 ghost use Rattle.ec_wire.specs.Datagram.{DatagramRecord};
 ghost use Rattle.ec_wire.specs.declared.fault.Form.{Form};
@@ -17,6 +17,7 @@ ghost use Rattle.ec_diag.specs.Heard.{IsProbe};
 ghost use Rattle.ec_diag.specs.Located.{Tells};
 ghost use Rattle.ec_master.specs.Cut.{concat};
 ghost use Rattle.ec_master.specs.Ports.{IsPortCycle};
+ghost use Rattle.ec_master.specs.Rounds.{round_counter, AreRecent, AreOfRound};
 ghost use Rattle.ec_master.specs.Suffice.{in_turn, SaysOfEach};
 ghost use Rattle.ec_master.specs.Work.{with_answers};
 ghost use Rattle.ec_master.specs.declared.verdict.Verdict.TheVariants.{Good};
@@ -37,7 +38,9 @@ use ec_master::certificate::frames_suffice;
 /// Calls in their order are a cycle over ports that give what came: where each frame is made behind the one
 /// before it, what came back of it is joined, and the verdict on each is good, so is that of `run_cycle`
 /// (`cycle`). So all that a good cycle says of a ring holds of each ring that would have given what came
-/// (`says`).
+/// (`says`). Where each item went out with the counter of round `k`, that is with `sent` at 2,048 times `k`
+/// modulo 65,536, and is expected to gain less than 4,096, and every copy is of that round or of one of the
+/// fifteen before it, the good cycle rests on no copy of an earlier one (`this_round`).
 pub fn calls_are_a_cycle()
     ensures cycle { (items : List Item) (image : List ℕ) (came : List Came)
         (joined : List (List DatagramRecord))
@@ -50,6 +53,13 @@ pub fn calls_are_a_cycle()
         → AreCalls (map (asked image) items) 0 came joined → AreGood items 0 joined
         → SaysOfEach (map (asked image) items) (map (λ i. i.expected) items) (as_ports_give came)
         (Ok Good) (with_answers (map (asked image) items) (concat joined)) }
+    ensures this_round { (k : ℕ) (items : List Item) (image : List ℕ) (came : List Came)
+        (joined : List (List DatagramRecord))
+        → AreCalls (map (asked image) items) 0 came joined → AreGood items 0 joined
+        → AllByRecursion (λ (i : Item). i.sent ≡ round_counter k) items
+        → AllByRecursion (λ (i : Item). i.expected < 4096) items
+        → AllByRecursion (AreRecent k) (as_ports_give came)
+        → AllByRecursion (AreOfRound k) (as_ports_give came) }
 {
     frames_suffice();
 }

@@ -4,7 +4,7 @@ use Rattle.ec_line.specs.Answered.{sent_of}
 use Rattle.ec_master.specs.Cut.{frame_at}
 use Rattle.rummymaple.specs.Items.{asked}
 use Rattle.rummymaple.proofs.CutLemmas.{between-count}
-use Rattle.rummymaple.proofs.SpellLemmas.{length-spelling}
+use Rattle.ec_wire.proofs.Laws.{length-spelling}
 use Rattle.rummymaple.proofs.frame.make_frame.Goals as goal
 
 pub overflow_add-bytes : goal.overflow_add-bytes
