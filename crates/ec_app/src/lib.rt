@@ -3,8 +3,8 @@
 //! refuses, and answers the master's mails (IEC 61158-6-12).
 //!
 //! A controller alone only moves bytes; a master that brings up a line needs somebody behind it who answers.
-//! One use, which `tests/door.rt` tries: frames pass the controller, `step` does what they asked for, and the
-//! next frames read the answers.
+//! One use, which `app/door.rt` of `ec_ring_tests` tries: frames pass the controller, `step` does what they
+//! asked for, and the next frames read the answers.
 //!
 //! ```text
 //! // A write of 8, Op, to AL control of the slave 0x1001.
@@ -52,6 +52,3 @@ pub use objects::{Entry, ObjectFault, Objects};
 pub use sdo::Sdo;
 pub use slave::Slave;
 pub use value::{Rights, Value};
-
-#[cfg(test)]
-mod tests;

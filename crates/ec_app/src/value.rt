@@ -81,15 +81,3 @@ impl Rights {
         }
     }
 }
-
-#[cfg(test)]
-mod tests {
-    use super::*;
-
-    #[test]
-    fn value_has_one_two_or_four_bytes(rt: HostRuntime) {
-        for (value, size) in [(Value::One(0), 1), (Value::Two(0), 2), (Value::Four(0), 4)] {
-            assert_eq!(rt; value.size(), size);
-        }
-    }
-}

@@ -3,8 +3,9 @@
 //! image from one place, and writes it without reading it elsewhere (IEC 61158-4-12, FMMU and sync manager)?
 //!
 //! The promises about cycles hold of such lines, and whether a line is one can be told before the first
-//! cycle. One use, which `tests/door.rt` tries; `outputs` and `writer` of `tests/line.rt` fill in the records
-//! of an area that the master writes, by start and length, and of an FMMU:
+//! cycle. One use, which `check/door.rt` of `ec_master_tests` tries; `outputs` and `writer` of
+//! `check/line.rt` fill in the records of an area that the master writes, by start and length, and of an
+//! FMMU:
 //!
 //! ```text
 //! let mut slave = Slave::new(rt.alloc(), 0x1001, Objects::new(), 2, 0)?;
@@ -44,8 +45,6 @@ mod mapped;
 mod outside;
 mod runs;
 mod stations;
-#[cfg(test)]
-mod tests;
 mod twice_read;
 mod twice_written;
 

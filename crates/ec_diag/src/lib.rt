@@ -4,8 +4,8 @@
 //! With one link down a ring still answers every frame, so nobody sees that it is down until a second one
 //! breaks and slaves are cut off. But a copy that comes back says more than its data: the port where it
 //! arrived, how far its broadcast read was counted up, and whether its circulating bit came back set
-//! (IEC 61158-4-12, the ports of a slave and the circulating bit). One use, which `tests/door.rt` tries, on a
-//! ring of three simulated slaves:
+//! (IEC 61158-4-12, the ports of a slave and the circulating bit). One use, which `diag/door.rt` of
+//! `ec_ring_tests` tries, on a ring of three simulated slaves:
 //!
 //! ```text
 //! ring.set_link(1, false);
@@ -49,6 +49,3 @@ pub use diagnosis::{locate, locate_ring, probe};
 pub use heard::Heard;
 pub use located::Located;
 pub use told::Told;
-
-#[cfg(test)]
-mod tests;

@@ -4,9 +4,9 @@
 //!
 //! A `Controller` is its memory, the bytes that its application is shown, and a mark that AL control was
 //! written. It keeps the FMMUs and sync managers of the memory decoded (`planned`), so that no datagram
-//! decodes them; and its AL status always names a state. One use, which `tests/door.rt` tries; `INPUTS` and
-//! `READ` of `tests.rt` are the records of an area of one byte and of an FMMU that maps it, and `sent` is an
-//! LRD of that byte:
+//! decodes them; and its AL status always names a state. One use, which `esc/door.rt` of
+//! `ec_controller_tests` tries; `INPUTS` and `READ` of `esc.rt` are the records of an area of one byte and of
+//! an FMMU that maps it, and `sent` is an LRD of that byte:
 //!
 //! ```text
 //! let mut slave = Controller::new(rt.alloc(), 0x1001)?;
@@ -44,8 +44,6 @@ mod planned;
 mod process;
 mod reading;
 mod showing;
-#[cfg(test)]
-mod tests;
 mod writing;
 
 pub use application::{AreaFault, LONGEST_MAIL};

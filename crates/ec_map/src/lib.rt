@@ -3,8 +3,8 @@
 //! 61158-4-12).
 //!
 //! A working counter tells something only to who knows what it should be: this crate says which requests may
-//! be made of a line and what each adds to its counter. One use, which `tests/door.rt` tries; `exchanging` of
-//! `tests/line.rt` makes a slave that reads and writes one logical byte:
+//! be made of a line and what each adds to its counter. One use, which `map/door.rt` of `ec_master_tests`
+//! tries; `exchanging` of `map/line.rt` makes a slave that reads and writes one logical byte:
 //!
 //! ```text
 //! let first = exchanging(rt.alloc(), 0x1001, BYTE)?;
@@ -41,8 +41,6 @@ mod not_shown;
 mod place;
 mod promises;
 mod shares;
-#[cfg(test)]
-mod tests;
 mod written;
 
 pub use asking::Asking;

@@ -9,7 +9,7 @@ use ec_wire::FrameBuf;
 
 /// The frame that begins with the item at `first`: as many of the items from there on as fit, each with its
 /// number as index.
-pub(crate) fn frame_from(work: &Work, first: usize) -> FrameBuf
+pub fn frame_from(work: &Work, first: usize) -> FrameBuf
     requires { first < length work.now }
     ensures { result ≡ sent_of (frame_at first work.now) }
 {

@@ -2,9 +2,9 @@
 //! A master's cycles over a line of slaves, whole or broken, and what their working counters say.
 //!
 //! A machine reads its inputs and writes its outputs every cycle, and must know of each cycle whether it did.
-//! One use, which `tests/door.rt` tries: a slave is mapped, the line is checked, a work asks for an exchange,
-//! and the verdict says whether its bytes are to be trusted. `area` and `byte` of `tests/many.rt` fill in the
-//! records of a sync manager and of an FMMU of one byte:
+//! One use, which `master/door.rt` of `ec_master_tests` tries: a slave is mapped, the line is checked, a work
+//! asks for an exchange, and the verdict says whether its bytes are to be trusted. `area` and `byte` of
+//! `master/many.rt` fill in the records of a sync manager and of an FMMU of one byte:
 //!
 //! ```text
 //! let mut slave = Slave::new(rt.alloc(), 0x1001, Objects::new(), 1, 1)?;
@@ -67,6 +67,7 @@ mod weather_ports;
 mod work;
 
 pub use acceptance::{Refusal, accept, all_expected, checked_cycle};
+pub use cut::frame_from;
 pub use cycle::{CycleFault, run_cycle};
 pub use ec_ring::PortFault;
 pub use ports::Ports;
@@ -77,6 +78,3 @@ pub use verdict::Verdict;
 pub use weather::weather_cycle;
 pub use weather_ports::WeatherPorts;
 pub use work::{Full, MAX_ITEMS, Work};
-
-#[cfg(test)]
-mod tests;

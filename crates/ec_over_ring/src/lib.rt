@@ -45,5 +45,3 @@
 pub mod promises;
 pub mod recovery;
 pub mod stations;
-#[cfg(test)]
-mod tests;

@@ -2,7 +2,7 @@
 //! The registers of an EtherCAT slave controller (IEC 61158-4-12).
 //!
 //! Master and slave speak of a slave's memory by these records and addresses, and nothing but this crate
-//! knows how they are spelt. One use, which `tests/door.rt` tries:
+//! knows how they are spelt. One use, which `regs/door.rt` of `ec_controller_tests` tries:
 //!
 //! ```text
 //! let fmmu = Fmmu {
@@ -62,6 +62,3 @@ pub use plan::{Fmmus, Plan, PlannedFmmu};
 pub use sync_man::{
     LONGEST_MAILBOX, MAILBOX_FULL, SHORTEST_MAILBOX, SyncMan, SyncManControl, status_address,
 };
-
-#[cfg(test)]
-mod tests;

@@ -3,9 +3,9 @@
 //! their objects, over any two ports (IEC 61158-6-12, AL management and SDO services).
 //!
 //! Before a line cycles, its slaves have no addresses and stand in Init; these calls do what is done once,
-//! with no memory taken. One use, which `tests/door.rt` tries; `slave` and `alone` of `tests/line.rt` make a
-//! slave with two mailboxes, and a ring of it as ports, and `peer` of `tests/peer.rt` says where the
-//! mailboxes are:
+//! with no memory taken. One use, which `services/door.rt` of `ec_master_tests` tries; `slave` and `alone` of
+//! `services/line.rt` make a slave with two mailboxes, and a ring of it as ports, and `peer` of
+//! `services/peer.rt` says where the mailboxes are:
 //!
 //! ```text
 //! let mut objects = Objects::new();
@@ -57,6 +57,3 @@ pub use states::request_state;
 pub use stations::assign_stations;
 pub use surely::{download_surely, upload_surely};
 pub use transfer::{sdo_download, sdo_upload};
-
-#[cfg(test)]
-mod tests;

@@ -25,16 +25,3 @@ pub fn ado_of(address: u32) -> u16
 {
     (address / HALF) as u16
 }
-
-#[cfg(test)]
-mod tests {
-    use super::*;
-
-    #[test]
-    fn an_address_is_put_together_and_split(rt: HostRuntime) {
-        let address = address_of(0x1001, 0x0130);
-        assert_eq!(rt; address, 0x0130_1001);
-        assert_eq!(rt; adp_of(address), 0x1001);
-        assert_eq!(rt; ado_of(address), 0x0130);
-    }
-}

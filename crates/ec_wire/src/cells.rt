@@ -72,26 +72,3 @@ impl<const N: usize> Cells<N> {
         Cells { bytes: self.bytes }
     }
 }
-
-#[cfg(test)]
-mod tests {
-    use super::*;
-
-    #[test]
-    fn a_run_is_written_between_its_ends_alone(rt: HostRuntime) {
-        let mut cells = Cells::<6>::new();
-        cells.put(0, &[1, 2, 3, 4, 5, 6]);
-        let run = cells.run_mut(2, 4);
-        assert_eq!(rt; run.len(), 2);
-        run[1] = 9;
-        assert_eq!(rt; cells.as_slice(), [1, 2, 3, 9, 5, 6].as_slice());
-    }
-
-    #[test]
-    fn a_run_may_be_empty_or_all(rt: HostRuntime) {
-        let mut cells = Cells::<3>::new();
-        assert!(rt; cells.run_mut(3, 3).is_empty());
-        cells.run_mut(0, 3).fill(7);
-        assert_eq!(rt; cells.as_slice(), [7, 7, 7].as_slice());
-    }
-}

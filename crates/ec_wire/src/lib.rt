@@ -1,10 +1,10 @@
 #![tactic(auto)]
-//! EtherCAT frames (IEC 61158-4-12, the frame and datagram structures): reading, editing and writing
-//! them in place, with no allocation. A master, a slave and a tool that shows captures need the same bytes
-//! read in the same way, so nothing but this crate knows where a field lies.
+//! EtherCAT frames (IEC 61158-4-12, the frame and datagram structures): reading, editing and writing them in
+//! place, with no allocation. A master, a slave and a tool that shows captures need the same bytes read in
+//! the same way, so nothing but this crate knows where a field lies.
 //!
 //! A [`FrameBuf`] is at most 1,500 bytes that are always the spelling of a frame; contracts see it as the
-//! list of its datagrams' records. One use, which `tests/door.rt` tries:
+//! list of its datagrams' records. One use, which `wire/door.rt` of `ec_frame_tests` tries:
 //!
 //! ```text
 //! let mut payload = ArrayVec::new();
@@ -50,6 +50,3 @@ pub use frame::{FrameBuf, MAX_DATAGRAMS, MAX_FRAME, PACKET_ROOM};
 pub use kind::Kind;
 pub use read::one_spelling;
 pub use write::Full;
-
-#[cfg(test)]
-mod tests;

@@ -1,32 +1,19 @@
 //! `ecat`: EtherCAT frames, scenes and captures from the command line.
 #![tactic(auto)]
 
-mod act;
-mod asked;
-mod failure;
-mod far;
-mod hints;
-mod images;
-mod listing;
-mod over_sockets;
-mod raw;
-mod show;
-mod tape;
-mod udp;
-
 ghost use Rattle.std.specs.Prelude.{◌≡◌};
-ghost use Rattle.ecat.specs.Failures.{refusal_status};
+ghost use Rattle.ecat_acts.specs.Failures.{refusal_status};
 
+use ecat_acts::failure::{Failure, report};
+use ecat_acts::hints::{Fronted, hint_capture, hint_odd_lines, hint_scene};
+use ecat_acts::listing::{Wanted, act_list};
+use ecat_acts::over_sockets::{Console, over_sockets};
+use ecat_acts::show::act_show;
 use ecat_args::{Args, ArgsFault, bad_word};
 use ecat_line::{LineFailure, unread};
 use ecat_scene::MAX_TEXT;
 use ecat_source::{Bytes, Counted, Source, read_all};
 use ecat_text::{BAD_ARGUMENTS, FAILED, GOOD};
-use failure::{Failure, report};
-use hints::{Fronted, hint_capture, hint_odd_lines, hint_scene};
-use listing::{Wanted, act_list};
-use over_sockets::{Console, over_sockets};
-use show::act_show;
 use std::fmt::Display;
 use std::fs::OpenFile;
 use std::io::IsTerminal;
@@ -269,6 +256,3 @@ where
         Err(error) => report_unopened(file, &error, out, err),
     }
 }
-
-#[cfg(test)]
-mod tests;

@@ -52,6 +52,3 @@ mod number;
 pub use args::{Args, ArgsFault};
 pub use explain::{BadWord, bad_word};
 pub use number::Value;
-
-#[cfg(test)]
-mod tests;

@@ -2,7 +2,7 @@
 //! The packets of captures as users have them, and what of a packet is EtherCAT.
 //!
 //! A user has whatever his tool saved: classic pcap in either byte order, with micro- or nanoseconds, or
-//! pcapng, which Wireshark saves by default. One use, which `tests/door.rt` tries:
+//! pcapng, which Wireshark saves by default. One use, which `capture/door.rt` of `ecat_capture_tests` tries:
 //!
 //! ```text
 //! let mut capture = Capture::new(rt.alloc(), Bytes::new(&FILE));
@@ -47,6 +47,3 @@ pub use ethernet::{Payload, frame_type, payload_of};
 pub use fault::{CaptureFault, CaptureFaultKind};
 pub use packet::{Packet, Time};
 pub use promises::{one_reading, whole_file};
-
-#[cfg(test)]
-mod tests;

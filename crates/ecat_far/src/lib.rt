@@ -32,6 +32,3 @@ pub use address::{FarEnds, ends_of};
 pub use carrier::Carrier;
 pub use ports::FarPorts;
 pub use sockets::{OpenFault, UdpCarrier};
-
-#[cfg(test)]
-mod tests;

@@ -25,6 +25,3 @@ pub use line::{applications_of, put, ring_of, slaves_of};
 pub use reading::{scene_for_packets, scene_of, unread};
 pub use weathers::weathers_of;
 pub use work::work_of;
-
-#[cfg(test)]
-mod tests;

@@ -3,7 +3,7 @@
 //! each datagram went by.
 //!
 //! Whoever looks for the one wrong working counter among a million has grep, awk and a spreadsheet; they want
-//! columns. One use, which `tests/lines.rt` tries:
+//! columns. One use, which `list/lines.rt` of `ecat_capture_tests` tries:
 //!
 //! ```text
 //! let asked = Asked {
@@ -36,6 +36,3 @@ mod text;
 
 pub use listing::{Asked, Form, Listed, list};
 pub use shown::{Shown, show};
-
-#[cfg(test)]
-mod tests;

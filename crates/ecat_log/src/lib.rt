@@ -30,6 +30,3 @@ pub mod texts;
 
 pub use hint::Hint;
 pub use log::Log;
-
-#[cfg(test)]
-mod tests;

@@ -5,10 +5,10 @@
 //! A master's calls leave to their caller in which order they are made, and what is done when one fails. Here
 //! is a program's part of it, with no socket and no clock of its own: the ports are any that tell where
 //! copies arrive ([`ec_ring::HeardPorts`]), the time is a [`Pace`], and what is told goes to writers. One
-//! use, which `tests/door.rt` tries; `wanted`, `ring` and `work` of `tests/line.rt` make three slaves as a
-//! scene has them, a ring of slaves that were told nothing, and an exchange of three bytes; `Stage` and
-//! `Count` of `tests/stage.rt` are ports to that ring, whose link 2 breaks before cycle 3, and so many
-//! cycles:
+//! use, which `master/door.rt` of `ecat_master_tests` tries; `wanted`, `ring` and `work` of `master/line.rt`
+//! make three slaves as a scene has them, a ring of slaves that were told nothing, and an exchange of three
+//! bytes; `Stage` and `Count` of `master/stage.rt` are ports to that ring, whose link 2 breaks before cycle
+//! 3, and so many cycles:
 //!
 //! ```text
 //! let line = wanted(&rt, rt.alloc());
@@ -99,6 +99,3 @@ pub use startup::{StartEnd, StartFault, put_start_fault, start};
 pub use step::Step;
 pub use wanted::{MAX_STARTUP, StartupObject, Wanted, wanted_of};
 pub use watched::{Signs, Watched, Ways};
-
-#[cfg(test)]
-mod tests;

@@ -12,6 +12,3 @@ mod input;
 
 pub use beat::Beat;
 pub use input::Ending;
-
-#[cfg(test)]
-mod tests;

@@ -17,6 +17,3 @@ mod scene_rows;
 mod slave_rows;
 
 pub use rows::vectors;
-
-#[cfg(test)]
-mod tests;

@@ -60,6 +60,3 @@ pub use served::{Counts, Round, Served};
 pub use sockets::{BindFault, UdpEnds};
 pub use waiting::{EndSockets, WaitFault, Waiting, may_try_again};
 pub use watch::{Leaving, Unwatched, Watch};
-
-#[cfg(test)]
-mod tests;

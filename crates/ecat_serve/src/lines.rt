@@ -29,7 +29,7 @@ pub enum InputLine {
 /// What came of an input and was not taken yet. Contracts see the bytes, whether the front of the first
 /// line was passed over since it is too long, and whether the input has ended.
 #[derive(Drop)]
-pub(crate) struct InputLines {
+pub struct InputLines {
     held: ArrayVec<u8, HELD_ROOM>,
     long: bool,
     ended: bool,
@@ -45,7 +45,7 @@ impl Model for InputLines {
 
 impl InputLines {
     /// Nothing yet.
-    pub(crate) fn new() -> InputLines
+    pub fn new() -> InputLines
         ensures { result ≡ record { held = []; long = false; ended = false } }
     {
         InputLines {
@@ -56,14 +56,14 @@ impl InputLines {
     }
 
     /// How many bytes can be put behind what is held.
-    pub(crate) fn room(&self) -> usize
+    pub fn room(&self) -> usize
         ensures { result ≡ HELD_ROOM - length self.now.held }
     {
         HELD_ROOM - self.held.len()
     }
 
     /// Puts a piece behind what is held. What is too long for a line, and has no end yet, is passed over.
-    pub(crate) fn put(&mut self, piece: &[u8])
+    pub fn put(&mut self, piece: &[u8])
         ensures { length self.old.held + length piece.now ≤ HELD_ROOM
             → self.new ≡ settled (record self.old { held = self.old.held ++ piece.now }) }
     {
@@ -82,28 +82,28 @@ impl InputLines {
     }
 
     /// The input has ended.
-    pub(crate) fn end(&mut self)
+    pub fn end(&mut self)
         ensures { self.new ≡ record self.old { ended = true } }
     {
         self.ended = true;
     }
 
     /// Has the input ended?
-    pub(crate) fn has_ended(&self) -> bool
+    pub fn has_ended(&self) -> bool
         ensures { result ≡ self.now.ended }
     {
         self.ended
     }
 
     /// Is there a line to be taken?
-    pub(crate) fn holds_line(&self) -> bool
+    pub fn holds_line(&self) -> bool
         ensures { result ≡ is_held self.now }
     {
         self.first_end().is_some() || self.is_last()
     }
 
     /// Takes the first line, if it came to its end, or if the input has.
-    pub(crate) fn take(&mut self, into: &mut [u8; LINE_ROOM]) -> Option<InputLine>
+    pub fn take(&mut self, into: &mut [u8; LINE_ROOM]) -> Option<InputLine>
         ensures line { IsTaken result into.new (taken self.old).line }
         ensures room { IfSome result (λ line. IsInRoom line) }
         ensures later { self.new ≡ (taken self.old).later }

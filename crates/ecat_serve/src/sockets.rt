@@ -112,7 +112,8 @@ impl EndSockets for UdpSockets {
 /// packet waits, and after 32 packets in a row. Each error of the system but "try again" is a fault.
 #[derive(Drop)]
 pub struct UdpEnds<I: Read + AsRawFd + Drop> {
-    pub(crate) waiting: Waiting<I>,
+    /// What a receive waits with: the two sockets and the input.
+    pub waiting: Waiting<I>,
     sockets: UdpSockets,
 }
 

@@ -148,7 +148,7 @@ impl<I: Read + AsRawFd + Drop> Waiting<I> {
     }
 
     /// Has the input ended?
-    pub(crate) fn has_ended(&self) -> bool {
+    pub fn has_ended(&self) -> bool {
         self.lines.has_ended() || !(self.waits || self.keeps_lines)
     }
 
@@ -189,7 +189,7 @@ impl<I: Read + AsRawFd + Drop> Waiting<I> {
 
     /// Waits until something comes at an end or from the input, so long at most where there is a limit.
     /// The answer is whether anything came.
-    pub(crate) fn wait(&mut self, limit: Option<Duration>) -> Result<bool, PortFault> {
+    pub fn wait(&mut self, limit: Option<Duration>) -> Result<bool, PortFault> {
         if !self.waits && !self.has_ended() {
             self.read_input()?;
             return Ok(true);

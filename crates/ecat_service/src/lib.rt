@@ -21,6 +21,3 @@ mod slave_lines;
 pub use commands::control;
 pub use service::Service;
 pub use serving::{line_to_serve, serve};
-
-#[cfg(test)]
-mod tests;

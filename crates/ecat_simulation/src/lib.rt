@@ -34,6 +34,3 @@ pub use objects::{Asked, sdo, sdo_far};
 pub use runs::run;
 pub use stepping_ports::SteppingPorts;
 pub use sweeps::sweep;
-
-#[cfg(test)]
-mod tests;

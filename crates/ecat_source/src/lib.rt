@@ -3,7 +3,8 @@
 //!
 //! A file may fail at any read, and a capture may be cut anywhere, made by another system, or no capture at
 //! all; what a program says of it must not hang on how many bytes a read brings. One use, which
-//! `tests/captures.rt` tries in `want_of_memory_is_told`; `CAPTURE` is a capture of one packet:
+//! `source/captures.rt` of `ecat_capture_tests` tries in `want_of_memory_is_told`; `CAPTURE` is a capture of
+//! one packet:
 //!
 //! ```text
 //! let mut pcap = Pcap::new(rt.alloc(), Bytes::new(&CAPTURE));
@@ -41,6 +42,3 @@ pub use capture::{Packet, Pcap, PcapFault};
 pub use fakes::{FailsAt, Pieces};
 pub use sources::{Bytes, Counted, Source, SourceFault};
 pub use whole::{ReadAllFault, read_all};
-
-#[cfg(test)]
-mod tests;

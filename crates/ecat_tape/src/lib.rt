@@ -2,7 +2,7 @@
 //! Captures that are written: classic pcap over any writer, and the copies of EtherCAT frames in them.
 //!
 //! What a simulated line does, a user wants to see in Wireshark beside what a real one did. One use, which
-//! `copies_tell_their_port_and_way` in `tests.rt` tries:
+//! `copies_tell_their_port_and_way` in `tape.rt` of `ecat_capture_tests` tries:
 //!
 //! ```text
 //! let mut recorder = Recorder::new(&mut out, Counter::new());
@@ -47,6 +47,3 @@ pub use moments::{Counter, Moments, WallClock};
 pub use promises::reads_back;
 pub use rings::{TapedPorts, TapedRing};
 pub use tape::{MOST_PACKET, Tape, TapeFault};
-
-#[cfg(test)]
-mod tests;

@@ -29,6 +29,3 @@ pub use lines::Lines;
 pub use object::{FaultText, TripsText, print_line, print_read, print_written};
 pub use refusal::refuse;
 pub use status::{BAD_ARGUMENTS, FAILED, GOOD, REFUSED};
-
-#[cfg(test)]
-mod tests;

@@ -20,8 +20,9 @@
 //! A packet that does not come, or is no frame in the UDP form, is a lost copy. The first call that fails
 //! ends the trip.
 //!
-//! One use, which `tests/real.rt` tries in `a_cycle_goes_over_real_sockets`: `UdpLine::bind(&rt, 34980)`
-//! opens the sockets, where that port is free; then a ring stands behind them, and a cycle runs.
+//! One use, which `udp/real.rt` of `ecat_socket_tests` tries in `a_cycle_goes_over_real_sockets`:
+//! `UdpLine::bind(&rt, 34980)` opens the sockets, where that port is free; then a ring stands behind them,
+//! and a cycle runs.
 //!
 //! ```text
 //! let mut ports = UdpPorts::new(ring(&rt, rt.alloc()), line);
@@ -52,6 +53,3 @@ pub mod sockets;
 pub use line::{PacketLine, Socket};
 pub use ports::UdpPorts;
 pub use sockets::{BindFault, UdpLine};
-
-#[cfg(test)]
-mod tests;

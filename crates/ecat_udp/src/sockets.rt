@@ -113,7 +113,7 @@ impl UdpLine {
     }
 
     /// What the system knows of the socket of this name.
-    pub(crate) fn socket(&self, name: Socket) -> &UdpSocket {
+    pub fn socket(&self, name: Socket) -> &UdpSocket {
         &self.end(name).socket
     }
 

@@ -1,0 +1,14 @@
+#![tactic(auto)]
+//! Tests of slaves, of the way of frames over a line of them and of what tells where it is broken, by public
+//! calls alone: `app` of `ec_app`, `ring` of `ec_ring`, `process` of `ec_process`, `diag` of `ec_diag`.
+
+#[cfg(test)]
+mod app;
+#[cfg(test)]
+mod asserts;
+#[cfg(test)]
+mod diag;
+#[cfg(test)]
+mod process;
+#[cfg(test)]
+mod ring;

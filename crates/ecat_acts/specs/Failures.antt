@@ -1,0 +1,21 @@
+-- Why a command ends where its sockets could not be opened, and its exit status where its words are refused.
+use Rattle.std.specs.Prelude.{ℕ}
+use Rattle.ecat_args.specs.declared.args.ArgsFault.{ArgsFault}
+use Rattle.ecat_args.specs.declared.args.ArgsFault.TheVariants.{Line, BadNumber, NoMemory as NoMemoryForWords}
+use Rattle.ecat_acts.specs.declared.failure.Failure.{Failure}
+use Rattle.ecat_acts.specs.declared.failure.Failure.TheVariants.{Bind, NoMemoryForSockets}
+use Rattle.ecat_serve.specs.declared.sockets.BindFault.{BindFault}
+use Rattle.ecat_serve.specs.declared.sockets.BindFault.TheVariants.{NoSuchPort, NoSocket}
+use Rattle.ecat_serve.specs.declared.sockets.BindFault.TheVariants.{NoMemory as NoMemoryToWait}
+
+-- want of memory for sockets is told apart from all else that keeps them shut
+abbrev pub unbound : BindFault → Failure
+unbound NoSuchPort = Bind
+unbound NoSocket = Bind
+unbound NoMemoryToWait = NoMemoryForSockets
+
+-- words that are no command are told apart from want of memory
+abbrev pub refusal_status : ArgsFault → ℕ
+refusal_status (Line error) = 2
+refusal_status BadNumber = 2
+refusal_status NoMemoryForWords = 3

@@ -1,0 +1,170 @@
+//! Why a command ends before its output does, and how that is told.
+
+ghost use Rattle.std.specs.Prelude.{◌≡◌};
+ghost use Rattle.ecat_acts.specs.Failures.{unbound};
+
+use crate::raw::RawFaultText;
+use ec_services::MasterFault;
+use ecat_far::OpenFault;
+use ecat_line::LineFailure;
+use ecat_master::ImagesFault;
+use ecat_raw::RawFault;
+use ecat_scene::SceneFault;
+use ecat_serve::BindFault;
+use ecat_source::PcapFault;
+use ecat_text::{BAD_ARGUMENTS, FAILED, FaultText, PortText, REFUSED};
+use std::io::{self, Write};
+
+/// Why a command ends before its output does.
+#[derive(Drop)]
+pub enum Failure {
+    /// Memory ran out for the words of the command line.
+    NoMemoryForWords,
+    /// The file could not be opened.
+    Open,
+    /// A command on the line of a scene ended.
+    Line(LineFailure),
+    /// The capture is damaged, or its source or memory failed.
+    Capture(PcapFault),
+    /// A socket could not be opened.
+    Bind,
+    /// Memory ran out for the sockets.
+    NoMemoryForSockets,
+    /// A line somewhere else could not be spoken to.
+    Far(OpenFault),
+    /// What was asked of a line somewhere else has no answer.
+    Asked(MasterFault),
+    /// The file of a log could not be made.
+    Log,
+    /// The file of a capture could not be made.
+    PcapOpen,
+    /// The file of a capture is there, and was not to be overwritten.
+    PcapExists,
+    /// The file of a master's outputs could not be opened.
+    Outputs,
+    /// The file of a master's outputs has none.
+    Images(ImagesFault),
+    /// It is not said where a line lies that is somewhere else, or it is said twice.
+    Reach,
+    /// The descriptors of packet sockets are no numbers.
+    Descriptors,
+    /// The packet sockets are of no use.
+    Raw(RawFault),
+    /// The clock of a master, or the wait for its input, could not be had.
+    Clock,
+}
+
+impl From<LineFailure> for Failure {
+    fn from(failure: LineFailure) -> Failure {
+        Failure::Line(failure)
+    }
+}
+
+impl From<io::Error> for Failure {
+    fn from(_error: io::Error) -> Failure {
+        Failure::Line(LineFailure::Output)
+    }
+}
+
+/// Why a line could not be served.
+pub fn unbound(fault: BindFault) -> Failure
+    ensures { result ≡ unbound fault }
+{
+    match fault {
+        BindFault::NoMemory => Failure::NoMemoryForSockets,
+        BindFault::NoSuchPort | BindFault::NoSocket => Failure::Bind,
+    }
+}
+
+/// Writes the line of a failure, to the output where the content was refused and to `err` else, and
+/// answers the exit status.
+pub fn report<W: Write, V: Write>(failure: &Failure, out: &mut W, err: &mut V) -> u8 {
+    match failure {
+        Failure::Line(failure) => report_line(failure, out, err),
+        Failure::NoMemoryForWords => failed(err, b"arguments: NoMemory\n"),
+        Failure::Open => failed(err, b"file: Open\n"),
+        Failure::Bind => failed(err, b"socket: Bind\n"),
+        Failure::NoMemoryForSockets => failed(err, b"socket: NoMemory\n"),
+        Failure::Log => failed(err, b"log: Open\n"),
+        Failure::PcapOpen => failed(err, b"pcap: Open\n"),
+        Failure::PcapExists => failed(err, b"pcap: Exists\n"),
+        Failure::Clock => failed(err, b"clock: Open\n"),
+        Failure::Outputs => failed(err, b"outputs: Open\n"),
+        Failure::Images(ImagesFault::NoMemory) => failed(err, b"outputs: NoMemory\n"),
+        Failure::Images(fault) => refused(writeln!(out, "outputs: {fault}"), err),
+        Failure::Reach => bad_argument(err, b"argument: --at or --raw is wanted, one of them\n"),
+        Failure::Descriptors => bad_argument(
+            err,
+            b"argument: --raw wants numbers, as 10 or 10,11\n",
+        ),
+        Failure::Raw(fault) => {
+            let fault = RawFaultText(*fault);
+            let _ = writeln!(err, "raw: {fault}");
+            FAILED
+        }
+        Failure::Far(fault) => {
+            let end = PortText(fault.end);
+            let error = &fault.error;
+            let _ = writeln!(err, "end {end}: {error}");
+            FAILED
+        }
+        Failure::Asked(MasterFault::Port) => failed(err, b"cycle: Port\n"),
+        Failure::Asked(fault) => {
+            let fault = FaultText(*fault);
+            refused(writeln!(out, "{fault}"), err)
+        }
+        Failure::Capture(PcapFault::Read) => failed(err, b"capture: Read\n"),
+        Failure::Capture(PcapFault::NoMemory) => failed(err, b"capture: NoMemory\n"),
+        Failure::Capture(fault) => refused(writeln!(out, "capture: {fault}"), err),
+    }
+}
+
+/// Writes the line of a command that ended on the line of a scene, as `report` does.
+fn report_line<W: Write, V: Write>(failure: &LineFailure, out: &mut W, err: &mut V) -> u8 {
+    match failure {
+        LineFailure::Scene(SceneFault::NoMemory) | LineFailure::NoMemory => failed(
+            err,
+            b"scene: NoMemory\n",
+        ),
+        LineFailure::Read => failed(err, b"file: Read\n"),
+        LineFailure::Output => failed(err, b"output: Write\n"),
+        LineFailure::Port => failed(err, b"cycle: Port\n"),
+        LineFailure::Scene(fault) => refused(writeln!(out, "scene: {fault}"), err),
+        LineFailure::TooMany => refused(writeln!(out, "scene: TooMany"), err),
+        LineFailure::Actions => refused(writeln!(out, "scene: actions"), err),
+        LineFailure::Stranger => refused(writeln!(out, "cycle: Stranger"), err),
+    }
+}
+
+/// The exit status of what was done; reports why where it was not.
+pub fn status_of<E, W, V>(done: Result<u8, E>, out: &mut W, err: &mut V) -> u8
+where
+    Failure: From<E>,
+    W: Write,
+    V: Write,
+{
+    match done {
+        Ok(status) => status,
+        Err(failure) => report(&Failure::from(failure), out, err),
+    }
+}
+
+/// Writes a line to `err` that says what is wrong with the words of the command line.
+fn bad_argument<V: Write>(err: &mut V, line: &[u8]) -> u8 {
+    let _ = err.write_all(line);
+    BAD_ARGUMENTS
+}
+
+/// Writes a line to `err`; a fault of that is passed over.
+fn failed<V: Write>(err: &mut V, line: &[u8]) -> u8 {
+    let _ = err.write_all(line);
+    FAILED
+}
+
+/// The status once the line of a refusal was written.
+fn refused<V: Write>(written: io::Result<()>, err: &mut V) -> u8 {
+    match written {
+        Ok(()) => REFUSED,
+        Err(_) => failed(err, b"output: Write\n"),
+    }
+}

@@ -1,0 +1,57 @@
+//! The use on the crate's page.
+
+use super::line::{EXPECTED, ring, wanted, work};
+use super::stage::{Count, Event, ROOM, Stage, written};
+use crate::asserts::assert_found;
+use ecat_master::{Outputs, Plan, master};
+use std::io::Cursor;
+
+/// What is printed of it.
+const TOLD: &str =
+    "slaves 3\nring whole\nstations given\nall in Init\nall in Pre-Op\nall in Safe-Op\n\
+    all in Op\n\
+    cycle 3: redundancy lost: link 2 down: between slave 1 (0x1002) and slave 2 (0x1003)\n\
+    cycles 5 good 5 short 0 over 0 fault 0\n\
+    item 0 LRW data a0a1a2 wkc 9 of 9\n";
+
+#[test]
+fn a_line_is_brought_up_and_a_link_breaks_while_it_cycles(rt: HostRuntime) {
+    let line = wanted(&rt, rt.alloc());
+    let events = [(3, Event::Link(2, false))];
+    let ports = Stage::new(ring(&rt, rt.alloc(), 3), &events);
+    let plan = Plan {
+        outputs: Outputs::Count,
+        stop: false,
+        recover: true,
+        progress: true,
+        log: true,
+    };
+    let mut pace = Count { left: 5 };
+    let mut out = Cursor::new([0u8; ROOM]);
+    let mut err = Cursor::new([0u8; ROOM]);
+    let mut log = Cursor::new([0u8; ROOM]);
+    let work = work(&rt);
+    if work.len() != EXPECTED.len() {
+        return;
+    }
+    let status = master(
+        ports,
+        line.as_slice(),
+        work,
+        &EXPECTED,
+        &plan,
+        &mut pace,
+        &mut out,
+        &mut err,
+        &mut log,
+    );
+    assert_found(&rt, "the status", status, 0);
+    assert_found(&rt, "what is told", written(&out), TOLD);
+    assert_found(
+        &rt,
+        "what is logged",
+        written(&log),
+        "cycle 0 good counts 9\ncycle 1 good counts 9\ncycle 2 good counts 9\n\
+        cycle 3 good counts 9\ncycle 4 good counts 9\n",
+    );
+}

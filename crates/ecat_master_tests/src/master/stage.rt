@@ -1,0 +1,322 @@
+//! Ports in memory to a ring, at which things happen before the frame of a cycle.
+
+ghost use Rattle.std.specs.Prelude.{⊤};
+
+use super::line::{EXPECTED, ring, wanted, work};
+use crate::asserts::assert_found;
+use arrayvec::ArrayVec;
+use ec_master::PortFault;
+use ec_regs::{AlState, AlStatus};
+use ec_ring::{Arrivals, HeardPorts, Ring, Travel, Weather};
+use ec_wire::{Command, Datagram, FrameBuf, address_of};
+use ecat_master::{Outputs, Pace, Plan, StartupObject, Wanted, master};
+use std::io::{Cursor, Write};
+use std::process::Abort;
+
+/// What happens before the frame of a cycle.
+#[derive(Clone, Copy, PartialEq, Eq, Debug)]
+pub enum Event {
+    /// The link with this number is mended, or breaks.
+    Link(usize, bool),
+    /// The copy from port A is lost, of this frame alone.
+    LoseA,
+    /// The slave at this place falls into this state with an error.
+    Error(usize, AlState),
+    /// The slave at this place falls into this state without one.
+    Falls(usize, AlState),
+    /// The slave at this place loses its station address.
+    Forgets(usize),
+    /// The ports fail for this frame.
+    Fault,
+}
+
+/// Ports to a ring whose slaves take a step after each frame.
+#[derive(Drop)]
+pub struct Stage<'a> {
+    ring: Ring,
+    events: &'a [(u64, Event)],
+    cycles: u64,
+    failed: u64,
+}
+
+impl<'a> Stage<'a> {
+    /// Ports to this ring, at which each of these happens before the frame of the cycle with its number.
+    pub fn new(ring: Ring, events: &'a [(u64, Event)]) -> Stage<'a> {
+        Stage {
+            ring,
+            events,
+            cycles: 0,
+            failed: 0,
+        }
+    }
+
+    /// The ring.
+    pub fn ring(&self) -> &Ring {
+        &self.ring
+    }
+
+    /// Lets an event happen, and answers whether copy A is lost and whether the ports fail.
+    fn happens(&mut self, event: Event) -> (bool, bool) {
+        match event {
+            Event::Link(number, up) => self.sets_link(number, up),
+            Event::LoseA => return (true, false),
+            Event::Error(place, state) => self.falls(place, state, true),
+            Event::Falls(place, state) => self.falls(place, state, false),
+            Event::Forgets(place) => self.forgets(place),
+            Event::Fault => return (false, true),
+        }
+        (false, false)
+    }
+
+    /// Mends or breaks a link, where there is one.
+    fn sets_link(&mut self, number: usize, up: bool) {
+        if number <= self.ring.slaves().len() {
+            self.ring.set_link(number, up);
+        }
+    }
+
+    /// Lets a slave fall into a state.
+    fn falls(&mut self, place: usize, state: AlState, error: bool) {
+        if place < self.ring.slaves().len() {
+            let status = AlStatus { state, error };
+            self.ring
+                .slave_mut(place)
+                .controller_mut()
+                .set_al(status, 0x001B);
+        }
+    }
+}
+
+impl<'a> Stage<'a> {
+    /// Lets a slave lose its station address, where the cable is whole.
+    fn forgets(&mut self, place: usize) {
+        let adp = ((place % 256) as u16).wrapping_neg();
+        let mut payload = ArrayVec::new();
+        payload.push(0);
+        payload.push(0);
+        let sent = Datagram {
+            command: Command::Apwr,
+            index: 0,
+            address: address_of(adp, 0x0010),
+            circulating: false,
+            irq: 0,
+            payload,
+            counter: 0,
+        };
+        let weather = Weather::calm(self.ring.links());
+        let _ = self.ring.arrivals(&FrameBuf::of(&sent), &weather);
+    }
+
+    /// Lets happen what happens before the frame of the next cycle.
+    fn begin_cycle(&mut self) -> (bool, bool) {
+        let mut lost = false;
+        let mut fails = false;
+        let events = self.events;
+        for k in 0..events.len() {
+            let (cycle, event) = events[k];
+            if cycle == self.cycles {
+                let (loses, faults) = self.happens(event);
+                lost = lost || loses;
+                fails = fails || faults;
+            }
+        }
+        self.cycles = self.cycles.saturating_add(1);
+        (lost, fails)
+    }
+
+    /// Does the next frame belong to a cycle, and what happens before it?
+    fn before(&mut self, sent: &FrameBuf) -> (bool, bool) {
+        if sent.count() > 0 && sent.command(0) == Command::Lrw {
+            self.begin_cycle()
+        } else {
+            (false, false)
+        }
+    }
+}
+
+impl<'a> HeardPorts for Stage<'a> {
+    ghost trips = { λ before sent came later. ⊤ };
+
+    ghost failed = { λ ports. ports.failed };
+
+    fn trip_heard(&mut self, sent: &FrameBuf) -> Result<Arrivals, PortFault> {
+        let before = self.failed;
+        let (lost, fails) = self.before(sent);
+        self.failed = before;
+        if fails && before < u64::MAX {
+            self.failed = before + 1;
+            return Err(PortFault);
+        }
+        let mut weather = Weather::calm(self.ring.links());
+        weather.lost_a = lost;
+        let came = self.ring.arrivals(sent, &weather);
+        self.ring.step_all();
+        Ok(came)
+    }
+
+    fn failures(&self) -> u64 {
+        self.failed
+    }
+}
+
+/// So many cycles, back to back.
+#[derive(Drop)]
+pub struct Count {
+    /// How many are to come.
+    pub left: u64,
+}
+
+impl Pace for Count {
+    fn next(&mut self) -> bool {
+        if self.left == 0 {
+            return false;
+        }
+        self.left -= 1;
+        true
+    }
+
+    fn now(&mut self) -> u64 {
+        0
+    }
+}
+
+/// Room for what a run prints.
+pub const ROOM: usize = 2048;
+
+/// What was written to a cursor over an array.
+pub fn written(cursor: &Cursor<[u8; ROOM]>) -> &str {
+    let count = cursor.position().min(ROOM as u64) as usize;
+    std::str::from_utf8(&cursor.get_ref()[..count]).unwrap_or("no text")
+}
+
+/// How the runs of the tests go: the outputs are kept, slaves are recovered, nothing is logged.
+pub const PLAN: Plan<'static> = Plan {
+    outputs: Outputs::Kept,
+    stop: false,
+    recover: true,
+    progress: false,
+    log: false,
+};
+
+/// A change of what the three slaves are to be told.
+#[derive(Clone, Copy)]
+pub enum Told {
+    /// None.
+    Same,
+    /// The outputs of the slave at place 1 have two bytes.
+    LongOutputs,
+    /// The slave at a place has startup objects.
+    Startup(usize, &'static [StartupObject]),
+}
+
+/// A run of a master on a line, and what it prints.
+pub struct Row {
+    /// What it shows.
+    pub name: &'static str,
+    /// How many slaves the ring has, at most three.
+    pub slaves: u16,
+    /// The links that are down from the start.
+    pub down: &'static [usize],
+    /// What the slaves are to be told.
+    pub told: Told,
+    /// What happens before the cycles with these numbers.
+    pub events: &'static [(u64, Event)],
+    /// Whether the first cycle that is not good is the last.
+    pub stop: bool,
+    /// How many cycles are to come.
+    pub cycles: u64,
+    /// The exit status.
+    pub status: u8,
+    /// What is printed.
+    pub text: &'static str,
+}
+
+/// A ring of so many slaves, at most three, of whose links these are down.
+pub fn ring_with(rt: &(impl AllocGlobal + Abort), slaves: u16, down: &[usize]) -> Ring {
+    assert!(rt; slaves <= 3);
+    let mut open = ring(rt, rt.alloc(), slaves);
+    for link in down {
+        if *link <= open.slaves().len() {
+            open.set_link(*link, false);
+        }
+    }
+    open
+}
+
+/// What three slaves are to be told.
+pub fn wanted_with(rt: &(impl AllocGlobal + Abort), told: Told) -> Vec<Wanted> {
+    let mut line = wanted(rt, rt.alloc());
+    for (place, wanted) in line.iter_mut().enumerate() {
+        match told {
+            Told::Same => {}
+            Told::LongOutputs => {
+                if place == 1 {
+                    wanted.managers[2].length = 2;
+                }
+            }
+            Told::Startup(at, objects) => {
+                if place == at {
+                    put_startup(wanted, objects);
+                }
+            }
+        }
+    }
+    line
+}
+
+/// Gives a slave startup objects.
+fn put_startup(wanted: &mut Wanted, objects: &[StartupObject]) {
+    for (slot, object) in wanted.startup.iter_mut().zip(objects) {
+        *slot = Some(*object);
+    }
+}
+
+/// Runs a master on slaves behind these ports that are to be told this, with what it prints, and asserts its
+/// status. Nothing is run where the exchange is none of one item.
+pub fn assert_runs<W: Write>(
+    rt: &impl Abort,
+    row: &str,
+    ports: Stage<'_>,
+    line: &[Wanted],
+    plan: &Plan<'_>,
+    cycles: u64,
+    out: &mut W,
+    status: u8,
+) {
+    let work = work(rt);
+    let mut err = Cursor::new([0u8; ROOM]);
+    let mut log = Cursor::new([0u8; ROOM]);
+    let mut pace = Count { left: cycles };
+    assert!(rt; work.len() == EXPECTED.len());
+    let ended = master(
+        ports, line, work, &EXPECTED, plan, &mut pace, out, &mut err, &mut log,
+    );
+    assert_found(rt, row, ended, status);
+}
+
+/// Asserts the status of a run and what it prints.
+fn assert_row(rt: &(impl AllocGlobal + Abort), row: &Row) {
+    let line = wanted_with(rt, row.told);
+    let ports = Stage::new(ring_with(rt, row.slaves, row.down), row.events);
+    let mut plan = PLAN;
+    plan.stop = row.stop;
+    let mut out = Cursor::new([0u8; ROOM]);
+    assert_runs(
+        rt,
+        row.name,
+        ports,
+        line.as_slice(),
+        &plan,
+        row.cycles,
+        &mut out,
+        row.status,
+    );
+    assert_found(rt, row.name, written(&out), row.text);
+}
+
+/// Asserts this of each run.
+pub fn assert_rows(rt: &(impl AllocGlobal + Abort), rows: &[Row]) {
+    for row in rows {
+        assert_row(rt, row);
+    }
+}

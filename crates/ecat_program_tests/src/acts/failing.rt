@@ -1,0 +1,178 @@
+//! Writes that fail, each in turn, and what is told of each failure.
+
+ghost use Rattle.std.specs.Prelude.{◌≡◌, None};
+
+use super::{ROOM, written};
+use ec_master::PortFault;
+use ec_wire::PACKET_ROOM;
+use ecat_acts::failure::{Failure, report, unbound};
+use ecat_acts::udp::{act_udp, prepare_udp};
+use ecat_line::LineFailure;
+use ecat_master::{ImageFault, ImagesFault};
+use ecat_scene::{LineFault, SceneFault};
+use ecat_serve::BindFault;
+use ecat_source::{Bytes, PcapFault};
+use ecat_udp::{PacketLine, Socket};
+use std::io::{self, Cursor, Write};
+use std::process::Abort;
+
+/// Two slaves with a broken cable between them; what `run` prints of them is three lines.
+const EXAMPLE: &[u8] = b"slave 0x1001\nstate 8\nsm 2 0x1000 1 write\nsm 3 0x1100 1 read\n\
+    fmmu 0 0x10000 1 0 7 0x1000 0 write\nfmmu 1 0x10000 1 0 7 0x1100 0 read\nmem 0x1100 12\n\
+    slave 0x1002\nstate 4\nlink 1 down\nlrw 0x10000 ff\nbrd 0x0130 0000\n";
+
+/// An output whose write after so many fails.
+#[derive(Drop)]
+struct Stops {
+    left: usize,
+}
+
+impl Write for Stops {
+    fn write(&mut self, bytes: &[u8]) -> io::Result<usize> {
+        if self.left == 0 {
+            return Err(io::Error::from(io::ErrorKind::BrokenPipe));
+        }
+        self.left -= 1;
+        Ok(bytes.len())
+    }
+
+    fn flush(&mut self) -> io::Result<()> {
+        Ok(())
+    }
+}
+
+/// A line over which no packet comes.
+#[derive(Drop)]
+struct Silent;
+
+impl PacketLine for Silent {
+    ghost failed = { λ line. 0 };
+
+    ghost gives = { λ before at packet later. packet ≡ None };
+
+    fn send(&mut self, _from: Socket, _to: Socket, _bytes: &[u8]) -> Result<(), PortFault> {
+        Ok(())
+    }
+
+    fn receive(
+        &mut self,
+        _at: Socket,
+        _into: &mut [u8; PACKET_ROOM],
+    ) -> Result<Option<usize>, PortFault> {
+        Ok(None)
+    }
+
+    fn failures(&self) -> u64 {
+        0
+    }
+}
+
+#[test]
+fn each_write_that_fails_ends_a_cycle_over_packets(rt: HostRuntime) {
+    for writes in 0..4usize {
+        let mut err = Cursor::new([0u8; ROOM]);
+        let mut out = Stops { left: writes };
+        let mut source = Bytes::new(EXAMPLE);
+        let answer = match prepare_udp(rt.alloc(), &mut source, &mut out, &mut err) {
+            Ok(prepared) => act_udp(prepared, false, Silent, &mut out, &mut err),
+            Err(status) => status,
+        };
+        assert_eq!(rt; answer, 3, "write {writes}");
+        assert!(rt; !written(&err).is_empty());
+    }
+}
+
+/// Asserts that a failure is told by this line of standard error, and that the status is 3.
+fn fails(rt: &impl Abort, failure: Failure, line: &[u8]) {
+    let mut out = Cursor::new([0u8; ROOM]);
+    let mut err = Cursor::new([0u8; ROOM]);
+    assert_eq!(rt; report(&failure, &mut out, &mut err), 3);
+    assert_eq!(rt; written(&err), line);
+    assert!(rt; written(&out).is_empty());
+}
+
+/// Asserts that a refusal is told by this line of standard output, and that the status is 1; and where the
+/// output takes nothing that this is told, with the status 3.
+fn refuses(rt: &impl Abort, failure: Failure, line: &[u8]) {
+    let mut out = Cursor::new([0u8; ROOM]);
+    let mut err = Cursor::new([0u8; ROOM]);
+    assert_eq!(rt; report(&failure, &mut out, &mut err), 1);
+    assert_eq!(rt; written(&out), line);
+    assert!(rt; written(&err).is_empty());
+    assert_eq!(rt; report(&failure, &mut Stops { left: 0 }, &mut err), 3);
+    assert_eq!(rt; written(&err), b"output: Write\n".as_slice());
+}
+
+#[test]
+fn what_fails_is_told_to_standard_error(rt: HostRuntime) {
+    fails(&rt, Failure::NoMemoryForWords, b"arguments: NoMemory\n");
+    fails(&rt, Failure::Open, b"file: Open\n");
+    fails(&rt, Failure::Line(LineFailure::Read), b"file: Read\n");
+    fails(
+        &rt,
+        Failure::Line(LineFailure::NoMemory),
+        b"scene: NoMemory\n",
+    );
+    fails(
+        &rt,
+        Failure::Line(LineFailure::Scene(SceneFault::NoMemory)),
+        b"scene: NoMemory\n",
+    );
+    fails(&rt, Failure::Capture(PcapFault::Read), b"capture: Read\n");
+    fails(
+        &rt,
+        Failure::Capture(PcapFault::NoMemory),
+        b"capture: NoMemory\n",
+    );
+    fails(&rt, Failure::Line(LineFailure::Output), b"output: Write\n");
+    fails(&rt, Failure::Outputs, b"outputs: Open\n");
+    fails(
+        &rt,
+        Failure::Images(ImagesFault::NoMemory),
+        b"outputs: NoMemory\n",
+    );
+    fails(&rt, unbound(BindFault::NoSocket), b"socket: Bind\n");
+    fails(&rt, unbound(BindFault::NoSuchPort), b"socket: Bind\n");
+    fails(&rt, unbound(BindFault::NoMemory), b"socket: NoMemory\n");
+    fails(&rt, Failure::Line(LineFailure::Port), b"cycle: Port\n");
+}
+
+#[test]
+fn what_is_refused_is_told_to_standard_output(rt: HostRuntime) {
+    let fault = SceneFault::Line {
+        line: 7,
+        fault: LineFault::Twin,
+    };
+    refuses(
+        &rt,
+        Failure::Line(LineFailure::Scene(fault)),
+        b"scene: line 7: Twin\n",
+    );
+    let fault = ImagesFault::Line(3, ImageFault::Length(2));
+    refuses(&rt, Failure::Images(fault), b"outputs: line 3: Length\n");
+    refuses(
+        &rt,
+        Failure::Line(LineFailure::Scene(SceneFault::TooLong)),
+        b"scene: TooLong\n",
+    );
+    refuses(
+        &rt,
+        Failure::Capture(PcapFault::Failed),
+        b"capture: Failed\n",
+    );
+    refuses(
+        &rt,
+        Failure::Line(LineFailure::TooMany),
+        b"scene: TooMany\n",
+    );
+    refuses(
+        &rt,
+        Failure::Line(LineFailure::Stranger),
+        b"cycle: Stranger\n",
+    );
+    refuses(
+        &rt,
+        Failure::Line(LineFailure::Actions),
+        b"scene: actions\n",
+    );
+}

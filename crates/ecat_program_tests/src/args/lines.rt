@@ -1,0 +1,140 @@
+//! The commands, and lines that are none of them.
+use super::{Refusal, assert_rows, read};
+use crate::asserts::assert_same;
+use clap::error::ErrorKind;
+
+/// The commands that do no cycle by sockets: with their words, and with what may be asked beside them.
+const COMMANDS: &str = "\
+show a.pcap | Ok(Show { file: \"a.pcap\" })
+check a.scene | Ok(Check { scene: \"a.scene\" })
+lint a.scene | Ok(Lint { scene: \"a.scene\" })
+run a.scene | Ok(Run { scene: \"a.scene\", judge: false, pcap: None, force: false })
+cover a.scene | Ok(Cover { scene: \"a.scene\" })
+where a.scene | Ok(Where { scene: \"a.scene\", at: None })
+sweep a.scene | Ok(Sweep { scene: \"a.scene\" })
+vectors | Ok(Vectors)
+show -- --help | Ok(Show { file: \"--help\" })
+list - --faults | Ok(List { file: \"-\", csv: false, faults: true, stats: false })
+list --csv a.pcap --stats | Ok(List { file: \"a.pcap\", csv: true, faults: false, stats: true })
+where a.scene --at a:1,b:2 | Ok(Where { scene: \"a.scene\", at: Some(\"a:1,b:2\") })
+scan --at=a:1,b:2 --limit 50 | Ok(Scan { at: Some(\"a:1,b:2\"), raw: None, limit: Some(50) })
+scan --raw 10,11 | Ok(Scan { at: None, raw: Some(\"10,11\"), limit: None })
+master a.scene --at a:1 | \
+    Ok(Master { scene: \"a.scene\", at: Some(\"a:1\"), raw: None, cycles: None, every: None, limit: None, \
+    outputs: None, log: None, stop: false, recover: false })
+master a.scene --raw 10 --cycles 7 --every 1000 --limit 2000 --outputs count --log f --stop --recover | \
+    Ok(Master { scene: \"a.scene\", at: None, raw: Some(\"10\"), cycles: Some(7), every: Some(1000), \
+    limit: Some(2000), outputs: Some(\"count\"), log: Some(\"f\"), stop: true, recover: true })
+sdo a.scene 0x1001 0x1018 1 | \
+    Ok(Sdo { scene: \"a.scene\", station: 4097, index: 4120, sub: 1, value: None, surely: false, at: None })
+sdo a.scene 1 2 3 0x0405 | \
+    Ok(Sdo { scene: \"a.scene\", station: 1, index: 2, sub: 3, value: Some(Two(1029)), surely: false, \
+    at: None })
+sdo a.scene 1 2 3 --surely | \
+    Ok(Sdo { scene: \"a.scene\", station: 1, index: 2, sub: 3, value: None, surely: true, at: None })
+sdo --surely a.scene 1 2 3 | \
+    Ok(Sdo { scene: \"a.scene\", station: 1, index: 2, sub: 3, value: None, surely: true, at: None })
+sdo a.scene 1 2 3 --surely 0x04 | \
+    Ok(Sdo { scene: \"a.scene\", station: 1, index: 2, sub: 3, value: Some(One(4)), surely: true, \
+    at: None })";
+
+/// Cycles: judged, with their copies kept, and by the port that is given or by 34980.
+const CYCLES: &str = "\
+udp a.scene | Ok(Udp { scene: \"a.scene\", port: 34980, judge: false, pcap: None, force: false })
+udp a.scene --port 4000 | Ok(Udp { scene: \"a.scene\", port: 4000, judge: false, pcap: None, force: false })
+udp --port=4000 a.scene | Ok(Udp { scene: \"a.scene\", port: 4000, judge: false, pcap: None, force: false })
+run a.scene --judge | Ok(Run { scene: \"a.scene\", judge: true, pcap: None, force: false })
+run --judge a.scene | Ok(Run { scene: \"a.scene\", judge: true, pcap: None, force: false })
+udp --judge --port 4000 a.scene | \
+    Ok(Udp { scene: \"a.scene\", port: 4000, judge: true, pcap: None, force: false })
+run -- --judge | Ok(Run { scene: \"--judge\", judge: false, pcap: None, force: false })
+run a.scene --pcap a.pcap | \
+    Ok(Run { scene: \"a.scene\", judge: false, pcap: Some(\"a.pcap\"), force: false })
+udp a.scene --force --pcap=a.pcap | \
+    Ok(Udp { scene: \"a.scene\", port: 34980, judge: false, pcap: Some(\"a.pcap\"), force: true })";
+
+/// A line that is served: by the port that is given or by 34980, at this machine's address or another, until
+/// so many packets or the end of the input.
+const SERVED: &str = "\
+serve a.scene | \
+    Ok(Serve { scene: \"a.scene\", port: 34980, packets: None, address: 127.0.0.1, forever: false, \
+    control: false, log: false, raw: None, pcap: None, force: false })
+serve a.scene --port 4000 | \
+    Ok(Serve { scene: \"a.scene\", port: 4000, packets: None, address: 127.0.0.1, forever: false, \
+    control: false, log: false, raw: None, pcap: None, force: false })
+serve --port=4000 a.scene | \
+    Ok(Serve { scene: \"a.scene\", port: 4000, packets: None, address: 127.0.0.1, forever: false, \
+    control: false, log: false, raw: None, pcap: None, force: false })
+serve a.scene --packets 100 | \
+    Ok(Serve { scene: \"a.scene\", port: 34980, packets: Some(100), address: 127.0.0.1, forever: false, \
+    control: false, log: false, raw: None, pcap: None, force: false })
+serve --packets=0x64 a.scene --port 4000 | \
+    Ok(Serve { scene: \"a.scene\", port: 4000, packets: Some(100), address: 127.0.0.1, forever: false, \
+    control: false, log: false, raw: None, pcap: None, force: false })
+serve --port 4000 --packets 100 a.scene | \
+    Ok(Serve { scene: \"a.scene\", port: 4000, packets: Some(100), address: 127.0.0.1, forever: false, \
+    control: false, log: false, raw: None, pcap: None, force: false })
+serve a.scene --control | \
+    Ok(Serve { scene: \"a.scene\", port: 34980, packets: None, address: 127.0.0.1, forever: false, \
+    control: true, log: false, raw: None, pcap: None, force: false })
+serve --control --packets=100 --port 4000 a.scene | \
+    Ok(Serve { scene: \"a.scene\", port: 4000, packets: Some(100), address: 127.0.0.1, forever: false, \
+    control: true, log: false, raw: None, pcap: None, force: false })
+serve --log a.scene --bind 192.168.0.7 --forever | \
+    Ok(Serve { scene: \"a.scene\", port: 34980, packets: None, address: 192.168.0.7, forever: true, \
+    control: false, log: true, raw: None, pcap: None, force: false })
+serve --forever --bind=192.168.0.7 --log a.scene | \
+    Ok(Serve { scene: \"a.scene\", port: 34980, packets: None, address: 192.168.0.7, forever: true, \
+    control: false, log: true, raw: None, pcap: None, force: false })
+serve a.scene --pcap a.pcap --force | \
+    Ok(Serve { scene: \"a.scene\", port: 34980, packets: None, address: 127.0.0.1, forever: false, \
+    control: false, log: false, raw: None, pcap: Some(\"a.pcap\"), force: true })";
+
+/// A flag has no value, is given once and to some commands alone; an option has a value.
+const FLAGS: &str = "\
+run a.scene --judge=true | Err(Line(TooManyValues))
+run a.scene --judge --judge | Err(Line(ArgumentConflict))
+sweep a.scene --judge | Err(Line(UnknownArgument))
+sdo a.scene 1 2 3 --surely=0x04 | Err(Line(TooManyValues))
+serve a.scene --control --control | Err(Line(ArgumentConflict))
+udp a.scene --surely | Err(Line(UnknownArgument))
+run a.scene --pcap | Err(Line(InvalidValue))
+sweep a.scene --force | Err(Line(UnknownArgument))";
+
+/// No command, commands that there are not, and calls for help.
+const CALLS: &str = "\
+| Err(Line(MissingSubcommand))
+probe | Err(Line(InvalidSubcommand))
+Show a.pcap | Err(Line(InvalidSubcommand))
+--help | Err(Line(DisplayHelp))
+-h | Err(Line(DisplayHelp))
+help | Err(Line(DisplayHelp))
+sdo --help | Err(Line(DisplayHelp))
+help serve | Err(Line(DisplayHelp))";
+
+/// A word too few, and a word too many.
+const COUNTS: &str = "\
+show | Err(Line(MissingRequiredArgument))
+check | Err(Line(MissingRequiredArgument))
+run | Err(Line(MissingRequiredArgument))
+sdo a.scene 1 2 | Err(Line(MissingRequiredArgument))
+udp --port 4000 | Err(Line(MissingRequiredArgument))
+serve --packets 1 | Err(Line(MissingRequiredArgument))
+udp a.scene --port | Err(Line(InvalidValue))
+serve a.scene --packets | Err(Line(InvalidValue))
+show a.pcap b.pcap | Err(Line(UnknownArgument))
+vectors a.scene | Err(Line(UnknownArgument))
+sdo s 1 2 3 0x04 5 | Err(Line(UnknownArgument))
+run a.scene --port 4000 | Err(Line(UnknownArgument))
+udp a.scene --packets 1 | Err(Line(UnknownArgument))
+udp s --port 4000 --port 4001 | Err(Line(ArgumentConflict))
+serve s --packets 1 --packets 2 | Err(Line(ArgumentConflict))";
+
+#[test]
+fn each_line_gives_its_answer(rt: HostRuntime) {
+    let missing = Some(Refusal::Line(ErrorKind::MissingSubcommand));
+    assert_same(&rt, read(rt.alloc(), &[]).err(), missing);
+    for rows in [COMMANDS, CYCLES, SERVED, FLAGS, CALLS, COUNTS] {
+        assert_rows(&rt, rt.alloc(), rows);
+    }
+}

@@ -1,0 +1,59 @@
+//! Trips to a line that lies somewhere else: packets in memory, and over real sockets.
+
+ghost use Rattle.std.specs.Prelude.{◌<◌};
+
+mod passing;
+mod script;
+mod sockets;
+
+use crate::asserts::assert_same;
+use ec_master::Ports;
+use ec_wire::{Form, FrameBuf};
+use ecat_far::{FarEnds, FarPorts, ends_of};
+use script::Script;
+use std::process::Abort;
+
+/// An LRW of one byte at 0x00010000 with the index 0 and the counter 0, as the standard spells it over UDP.
+const SENT: [u8; 15] = [
+    0x0D, 0x10, 0x0C, 0, 0, 0, 0x01, 0, 0x01, 0, 0, 0, 0x55, 0, 0,
+];
+
+/// What was sent, with this byte in its place.
+fn with(at: usize, byte: u8) -> [u8; 15]
+    requires { at < 15 }
+{
+    let mut packet = SENT;
+    packet[at] = byte;
+    packet
+}
+
+/// The last byte of data and the counter of the copies that come, at port A and at port B.
+fn trip(rt: &impl Abort, ports: &mut FarPorts<Script>) -> [Option<(u8, u16)>; 2] {
+    let sent = FrameBuf::read(&SENT, Form::Udp).ok().expect(rt, "a frame");
+    let came = ports.trip(&sent).ok().expect(rt, "no fault");
+    [told(&came.a), told(&came.b)]
+}
+
+/// The first byte of data and the counter of a copy.
+fn told(copy: &Option<FrameBuf>) -> Option<(u8, u16)> {
+    match copy {
+        Some(copy) if copy.count() > 0 => {
+            Some((copy.data(0).first().copied().unwrap_or(0), copy.counter(0)))
+        }
+        _ => None,
+    }
+}
+
+#[test]
+fn a_text_names_one_end_or_two(rt: HostRuntime) {
+    let one = FarEnds {
+        a: "10.0.0.1:34980",
+        b: None,
+    };
+    let two = FarEnds {
+        a: "a:1",
+        b: Some("b:2"),
+    };
+    assert_same(&rt, ends_of("10.0.0.1:34980"), one);
+    assert_same(&rt, ends_of("a:1,b:2"), two);
+}
