@@ -50,7 +50,7 @@ const ETHERNET: u16 = 1;
 const VERSION: u16 = 1;
 
 /// An interface, as a block describes it.
-#[derive(Clone, Copy, Debug, PartialEq, Eq)]
+#[derive(Clone, Copy)]
 pub(crate) struct Interface {
     /// What its packets are: 1 for Ethernet frames.
     pub link_type: u16,
@@ -61,7 +61,7 @@ pub(crate) struct Interface {
 }
 
 /// What the fields of a packet's block say.
-#[derive(Clone, Copy, Debug, PartialEq, Eq)]
+#[derive(Clone, Copy)]
 pub(crate) struct Fields {
     /// The number of the interface in its section, from 0.
     pub interface: u32,
@@ -76,7 +76,7 @@ pub(crate) struct Fields {
 }
 
 /// What a block says.
-#[derive(Clone, Copy, Debug, PartialEq, Eq)]
+#[derive(Clone, Copy)]
 pub(crate) enum Body {
     /// A section begins, whose numbers have this order.
     Section(Order),
@@ -89,7 +89,7 @@ pub(crate) enum Body {
 }
 
 /// What comes next among the options of a block.
-#[derive(Clone, Copy, Debug, PartialEq, Eq)]
+#[derive(Clone, Copy)]
 pub(crate) enum NextOption {
     /// Nothing more, or an option that does not end.
     End,

@@ -20,7 +20,7 @@ const VERSION: (u16, u16) = (2, 4);
 const ETHERNET: u32 = 1;
 
 /// A kind of classic capture.
-#[derive(Clone, Copy, Debug, PartialEq, Eq)]
+#[derive(Clone, Copy)]
 pub(crate) struct Format {
     /// The order of its numbers.
     pub order: Order,

@@ -5,7 +5,7 @@ ghost use Rattle.ecat_capture.specs.Numbers.{half, word};
 use byteorder::{BigEndian, ByteOrder, LittleEndian};
 
 /// In which order the bytes of a number lie.
-#[derive(Clone, Copy, Debug, PartialEq, Eq)]
+#[derive(Clone, Copy)]
 pub(crate) enum Order {
     /// The lowest byte first.
     Little,

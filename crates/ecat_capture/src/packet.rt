@@ -64,7 +64,7 @@ pub struct Packet {
 }
 
 /// A packet in its record or block.
-#[derive(Clone, Copy, Debug, PartialEq, Eq)]
+#[derive(Clone, Copy)]
 pub(crate) struct Found {
     /// When it was captured.
     pub time: Option<Time>,

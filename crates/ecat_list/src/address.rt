@@ -5,7 +5,7 @@ use ec_wire::{Command, ado_of, adp_of};
 use std::alloc::AllocError;
 
 /// How a command's address is read.
-#[derive(Clone, Copy, Debug, PartialEq, Eq)]
+#[derive(Clone, Copy)]
 enum Kind {
     /// One number of 32 bits.
     Logical,

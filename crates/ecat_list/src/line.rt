@@ -9,7 +9,7 @@ use ec_wire::{Command, Datagram, FaultKind, FrameBuf, WireFault};
 use std::alloc::AllocError;
 
 /// What all lines of a packet begin with.
-#[derive(Clone, Copy, Debug, PartialEq, Eq)]
+#[derive(Clone, Copy)]
 pub(crate) struct Head {
     /// The packet's number.
     pub number: u64,
@@ -20,7 +20,7 @@ pub(crate) struct Head {
 }
 
 /// A time since the first packet.
-#[derive(Clone, Copy, Debug, PartialEq, Eq)]
+#[derive(Clone, Copy)]
 pub(crate) struct Since {
     /// Was it before the first packet?
     pub before: bool,
@@ -44,7 +44,7 @@ pub(crate) fn any_frame() -> FrameBuf {
 }
 
 /// What a packet is that has no datagrams to show.
-#[derive(Clone, Copy, Debug, PartialEq, Eq)]
+#[derive(Clone, Copy)]
 pub(crate) enum Note {
     /// A frame of another type: 4 network variables, 5 the mailbox gateway.
     Type(u8),
@@ -69,7 +69,7 @@ impl Note {
 }
 
 /// How the columns of a line are parted.
-#[derive(Clone, Copy, Debug, PartialEq, Eq)]
+#[derive(Clone, Copy, PartialEq, Eq)]
 pub(crate) enum Style {
     /// By one space each, for grep and awk.
     Words,

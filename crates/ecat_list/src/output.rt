@@ -7,7 +7,7 @@ use std::io::{self, ErrorKind, Write};
 const PIECE: usize = 65536;
 
 /// Why a listing stops before its end.
-#[derive(Clone, Copy, Debug, PartialEq, Eq)]
+#[derive(Clone, Copy)]
 pub(crate) enum Stop {
     /// The reader of the output has gone.
     Closed,

@@ -140,7 +140,7 @@ fn put_datagram(text: &mut Vec<u8>, frame: &FrameBuf, k: usize) -> Result<(), Al
 }
 
 /// The line of a datagram, as far as its data.
-#[derive(Clone, Copy, Debug, PartialEq, Eq)]
+#[derive(Clone, Copy)]
 struct DatagramHead {
     command: Command,
     index: u8,

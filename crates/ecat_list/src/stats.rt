@@ -19,7 +19,7 @@ use std::alloc::{AllocError, Global};
 const MAX_GROUPS: usize = 4096;
 
 /// What datagrams of one group have in common.
-#[derive(Clone, Copy, Debug, PartialEq, Eq, Hash)]
+#[derive(Clone, Copy, PartialEq, Eq, Hash)]
 pub(crate) struct Key {
     /// The code of the command.
     pub code: u8,
@@ -32,7 +32,7 @@ pub(crate) struct Key {
 }
 
 /// A datagram that went by.
-#[derive(Clone, Copy, Debug, PartialEq, Eq)]
+#[derive(Clone, Copy)]
 pub(crate) struct Passed {
     /// What it has in common with others.
     pub key: Key,
@@ -47,7 +47,7 @@ pub(crate) struct Passed {
 }
 
 /// The least and the greatest time between two datagrams of a group.
-#[derive(Clone, Copy, Debug, PartialEq, Eq)]
+#[derive(Clone, Copy)]
 struct Gaps {
     least: u64,
     greatest: u64,

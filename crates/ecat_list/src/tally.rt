@@ -12,7 +12,7 @@ use std::marker::Model;
 const MAX_COUNTERS: usize = 8;
 
 /// How a datagram of a group came.
-#[derive(Clone, Copy, Debug, PartialEq, Eq)]
+#[derive(Clone, Copy)]
 pub(crate) struct Came {
     /// Its working counter.
     pub counter: u16,
@@ -21,7 +21,7 @@ pub(crate) struct Came {
 }
 
 /// A working counter that datagrams of a group came with.
-#[derive(Clone, Copy, Debug, Default, PartialEq, Eq)]
+#[derive(Clone, Copy, Default)]
 pub(crate) struct Count {
     /// The counter.
     pub counter: u16,

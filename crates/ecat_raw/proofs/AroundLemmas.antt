@@ -1,15 +1,15 @@
 -- What is put around a frame is taken out again.
-use Rattle.std.proofs.Common.{arith, ◌≡◌, ◌+◌, ◌-◌, ◌%◌, ◌==◌, ◌||◌, ◌∙◌, ℕ, Bool, false, not, nat_lt}
+use Rattle.std.proofs.Common.{arith, ◌≡◌, ◌+◌, ◌-◌, ◌%◌, ◌==◌, ◌||◌, ◌∙◌, ℕ, false, nat_lt}
 use Rattle.std.proofs.Common.{List, [], ◌∷◌, ◌++◌, length, take, drop, replicate, Some, None}
-use Rattle.std.proofs.Common.{if◌then◌else◌, refl, sym, ap}
-use Rattle.std.specs.Int.{w16, from_be_bytes, to_le_bytes}
+use Rattle.std.proofs.Common.{if◌then◌else◌, sym, ap}
+use Rattle.std.specs.Int.{w16, from_be_bytes}
 use Rattle.std.proofs.Math.Seq.{take-append_seam, drop-append_seam}
 use Rattle.std.proofs.lemmas.Bool.Decides.{nat_tests}
 use Rattle.std.proofs.lemmas.List.{append_assoc, length-append}
 use Rattle.std.proofs.lemmas.Nat.{from_le_bytes-to_le_bytes_2}
 use Rattle.ec_wire.specs.Datagram.{DatagramRecord}
 use Rattle.ec_wire.specs.Fault.{frame_end}
-use Rattle.ec_wire.specs.Spelling.{body, body_length, spelling, IsFrameValue}
+use Rattle.ec_wire.specs.Spelling.{body_length, spelling, IsFrameValue}
 use Rattle.ec_wire.proofs.Laws.{length-body}
 use Rattle.ecat_raw.specs.Ethernet.{broadcast, header_of, packet_of, typed, type_of, untagged, cut, frame_in}
 

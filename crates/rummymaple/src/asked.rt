@@ -16,7 +16,7 @@ use ec_map::{ItemFault, PlaceFault, check_item, expected};
 use ec_wire::{Kind, MAX_DATA};
 
 /// How the check of an item ended.
-#[derive(Clone, Copy, PartialEq, Eq, Debug)]
+#[derive(Clone, Copy)]
 pub enum PlaceEnd {
     /// It goes where a cycle may.
     Placed,
@@ -28,7 +28,7 @@ pub enum PlaceEnd {
 
 /// By how much a working counter moves: `struct rmp_expectation` of the header.
 #[repr(C)]
-#[derive(Clone, Copy, PartialEq, Eq, Debug)]
+#[derive(Clone, Copy)]
 pub struct Expectation {
     /// By how much, modulo 65,536.
     pub counter: u32,

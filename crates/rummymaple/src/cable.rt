@@ -14,7 +14,7 @@ use ec_ring::Port;
 use ec_wire::{Form, FrameBuf, WireFault};
 
 /// How the search for a broken link ended.
-#[derive(Clone, Copy, PartialEq, Eq, Debug)]
+#[derive(Clone, Copy)]
 pub enum CableEnd {
     /// This is known of the links.
     Told(Located),
@@ -25,7 +25,7 @@ pub enum CableEnd {
 }
 
 /// What two packets tell of the cable.
-#[derive(Clone, Copy, PartialEq, Eq, Debug)]
+#[derive(Clone, Copy)]
 pub struct Cable {
     /// How the search ended.
     pub end: CableEnd,
@@ -37,7 +37,7 @@ pub struct Cable {
 
 /// What is known of the links of a line, in numbers. Links are numbered from 0, before the first slave, to
 /// the number of slaves, behind the last one.
-#[derive(Clone, Copy, PartialEq, Eq, Debug)]
+#[derive(Clone, Copy)]
 pub struct CablePlace {
     /// What is known: 0 nothing, 1 all links are up, 2 one link is down, 3 two and perhaps some between them,
     /// 4 one and perhaps some behind it, 5 one and perhaps some before it, 6 the packets contradict.
@@ -50,7 +50,7 @@ pub struct CablePlace {
 
 /// What two packets tell of the cable, in numbers: `struct rmp_located` of the header.
 #[repr(C)]
-#[derive(Clone, Copy, PartialEq, Eq, Debug)]
+#[derive(Clone, Copy)]
 pub struct CableAnswer {
     /// The first link that is down, where it is known, else 0.
     pub first: usize,

@@ -13,7 +13,7 @@ use ec_map::{Asking, Gap, Way, first_gap};
 use ec_wire::{Kind, MAX_DATA};
 
 /// How the search for a bit that no item asks for ended.
-#[derive(Clone, Copy, PartialEq, Eq, Debug)]
+#[derive(Clone, Copy)]
 pub enum GapEnd {
     /// Each bit that is mapped is asked for.
     Covered,
@@ -25,7 +25,7 @@ pub enum GapEnd {
 
 /// The first bit that is mapped and that no item asks for, in numbers: `struct rmp_gap` of the header.
 #[repr(C)]
-#[derive(Clone, Copy, PartialEq, Eq, Debug)]
+#[derive(Clone, Copy)]
 pub struct GapAnswer {
     /// The slave of the FMMU, or the item that is none.
     pub at: usize,

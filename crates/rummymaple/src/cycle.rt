@@ -33,7 +33,7 @@ pub const ENDED: u32 = 2;
 
 /// A cycle, in the caller's memory: `struct rmp_cycle` of the header.
 #[repr(C)]
-#[derive(Clone, Copy, PartialEq, Eq, Debug)]
+#[derive(Clone, Copy)]
 pub struct Cycle {
     /// The first item that has no good answer yet.
     pub first: usize,
@@ -44,7 +44,7 @@ pub struct Cycle {
 }
 
 /// How the taking of what came back of a frame ended.
-#[derive(Clone, Copy, PartialEq, Eq, Debug)]
+#[derive(Clone, Copy)]
 pub enum TurnEnd {
     /// The counters of the joined frame are judged.
     Judged(Verdict),
@@ -65,7 +65,7 @@ pub enum TurnEnd {
 }
 
 /// What became of two packets.
-#[derive(Clone, Copy, PartialEq, Eq, Debug)]
+#[derive(Clone, Copy)]
 pub struct Turn {
     /// How it ended.
     pub end: TurnEnd,
@@ -77,7 +77,7 @@ pub struct Turn {
 
 /// What became of two packets, in numbers: `struct rmp_turn` of the header.
 #[repr(C)]
-#[derive(Clone, Copy, PartialEq, Eq, Debug)]
+#[derive(Clone, Copy)]
 pub struct TurnAnswer {
     /// The item, the datagram or the byte that the code is about.
     pub at: usize,

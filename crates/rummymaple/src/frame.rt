@@ -15,7 +15,7 @@ use crate::numbers::Code;
 use crate::spell::put_items;
 
 /// How the making of a frame ended.
-#[derive(Clone, Copy, PartialEq, Eq, Debug)]
+#[derive(Clone, Copy)]
 pub enum FrameEnd {
     /// The frame is made.
     Made {
@@ -36,7 +36,7 @@ pub enum FrameEnd {
 
 /// How the making of a frame ended, in numbers: `struct rmp_framed` of the header.
 #[repr(C)]
-#[derive(Clone, Copy, PartialEq, Eq, Debug)]
+#[derive(Clone, Copy)]
 pub struct FrameAnswer {
     /// How many bytes of the frame were written.
     pub bytes: usize,

@@ -20,7 +20,7 @@ pub(crate) const BROADCAST_READ: u16 = 7;
 
 /// One thing that is asked in each cycle: `struct rmp_item` of the header.
 #[repr(C)]
-#[derive(Clone, Copy, PartialEq, Eq, Debug)]
+#[derive(Clone, Copy)]
 pub struct Item {
     /// The logical address; of a broadcast read the ADO; of a read or write of one slave its station plus
     /// 65,536 times the ADO.

@@ -16,7 +16,7 @@ use ec_merge::JoinFault;
 use ec_wire::{Form, FrameBuf, WireFault};
 
 /// How a join ended.
-#[derive(Clone, Copy, PartialEq, Eq, Debug)]
+#[derive(Clone, Copy)]
 pub enum JoinEnd {
     /// The copies are joined, and the answer has so many bytes.
     Joined(usize),
@@ -31,7 +31,7 @@ pub enum JoinEnd {
 }
 
 /// What came of two packets.
-#[derive(Clone, Copy, PartialEq, Eq, Debug)]
+#[derive(Clone, Copy)]
 pub struct Join {
     /// How it ended.
     pub end: JoinEnd,
@@ -43,7 +43,7 @@ pub struct Join {
 
 /// What came of two packets, in numbers: `struct rmp_joined` of the header.
 #[repr(C)]
-#[derive(Clone, Copy, PartialEq, Eq, Debug)]
+#[derive(Clone, Copy)]
 pub struct JoinAnswer {
     /// How many bytes of the joined frame were written.
     pub bytes: usize,

@@ -12,7 +12,7 @@ use ec_master::Verdict;
 use ec_wire::{Form, FrameBuf, WireFault};
 
 /// How the judging of a joined frame ended.
-#[derive(Clone, Copy, PartialEq, Eq, Debug)]
+#[derive(Clone, Copy)]
 pub enum JudgeEnd {
     /// The counters are judged.
     Judged(Verdict),
@@ -24,7 +24,7 @@ pub enum JudgeEnd {
 
 /// How the judging or the storing of a joined frame ended, in numbers: `struct rmp_answer` of the header.
 #[repr(C)]
-#[derive(Clone, Copy, PartialEq, Eq, Debug)]
+#[derive(Clone, Copy)]
 pub struct ItemAnswer {
     /// The number of an item, the datagram that answers none, or the byte at fault.
     pub at: usize,

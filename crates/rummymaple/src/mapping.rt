@@ -10,7 +10,7 @@ use ec_map::{MapFault, check};
 /// What the check of a line found, in numbers: `struct rmp_mapping` of the header. Slaves, FMMUs and sync
 /// managers are numbered from 0; what a rule does not name is 0, or that of the first party.
 #[repr(C)]
-#[derive(Clone, Copy, PartialEq, Eq, Debug)]
+#[derive(Clone, Copy)]
 pub struct MapAnswer {
     /// The first party's slave.
     pub slave: usize,

@@ -6,7 +6,7 @@ ghost use Rattle.rummymaple.specs.Numbers.{number_of, fault_code, form_of, copy_
 use ec_wire::{FaultKind, Form};
 
 /// How a call ended. C sees the number: 0 for the first name, and one more for each that follows.
-#[derive(Clone, Copy, PartialEq, Eq, Debug)]
+#[derive(Clone, Copy)]
 pub enum Code {
     /// It did what was asked; of a verdict: each counter moved by what is expected.
     Good,
@@ -110,7 +110,7 @@ pub fn form_of(number: u32) -> Option<Form>
 }
 
 /// What came back of one copy of a frame.
-#[derive(Clone, Copy, PartialEq, Eq, Debug)]
+#[derive(Clone, Copy)]
 pub enum Copy {
     /// Nothing came.
     Lost,

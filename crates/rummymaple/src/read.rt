@@ -13,7 +13,7 @@ use ec_wire::{Form, FrameBuf, WireFault};
 
 /// A datagram of a frame, and where its data lie: `struct rmp_datagram` of the header.
 #[repr(C)]
-#[derive(Clone, Copy, PartialEq, Eq, Debug)]
+#[derive(Clone, Copy)]
 pub struct DatagramPlace {
     /// Where its data begin in the frame.
     pub data: usize,
@@ -34,7 +34,7 @@ pub struct DatagramPlace {
 }
 
 /// How a reading ended.
-#[derive(Clone, Copy, PartialEq, Eq, Debug)]
+#[derive(Clone, Copy)]
 pub enum ReadEnd {
     /// The frame has so many datagrams, and their places stand in the room.
     Read(usize),
@@ -48,7 +48,7 @@ pub enum ReadEnd {
 
 /// How a reading ended, in numbers: `struct rmp_reading` of the header.
 #[repr(C)]
-#[derive(Clone, Copy, PartialEq, Eq, Debug)]
+#[derive(Clone, Copy)]
 pub struct ReadAnswer {
     /// How many datagrams the frame has.
     pub count: usize,

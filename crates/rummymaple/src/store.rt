@@ -12,7 +12,7 @@ use crate::packet::blank;
 use ec_wire::{Form, FrameBuf, WireFault};
 
 /// How the storing of a joined frame ended.
-#[derive(Clone, Copy, PartialEq, Eq, Debug)]
+#[derive(Clone, Copy)]
 pub enum StoreEnd {
     /// The data of the items that read stand in the image.
     Stored,

@@ -1,6 +1,7 @@
 //! The calls of a cycle, its turns, the search for a broken link and the check of a mapping, with the bytes
 //! written out by hand.
 
+mod asserts;
 mod cable;
 mod door;
 mod mapping;

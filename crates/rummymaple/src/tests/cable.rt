@@ -1,5 +1,6 @@
 //! Where the cable of three slaves is broken, by the copies of a broadcast read of AL status.
 
+use super::asserts::assert_same;
 use crate::{CableAnswer, rmp_where};
 use std::mem::size_of;
 use std::process::Abort;
@@ -41,8 +42,8 @@ fn copy(count: u8, turned: bool) -> [u8; 16] {
 /// These packets tell this of the cable: its kind, and the first and the last link that is down.
 fn told(rt: &impl Abort, a: &[u8], b: &[u8], cable: (u32, usize, usize)) {
     let answer = rmp_where(UDP, &SENT, a, b, SLAVES);
-    assert_eq!(rt; answer.code, 0);
-    assert_eq!(rt; (answer.cable, answer.first, answer.last), cable);
+    assert_same(rt, answer.code, 0);
+    assert_same(rt, (answer.cable, answer.first, answer.last), cable);
 }
 
 #[test]
@@ -86,5 +87,5 @@ fn what_is_no_answer_tells_nothing(rt: HostRuntime) {
 
 #[test]
 fn the_header_states_the_size_of_the_answer(rt: HostRuntime) {
-    assert_eq!(rt; size_of::<CableAnswer>(), 40);
+    assert_same(&rt, size_of::<CableAnswer>(), 40);
 }

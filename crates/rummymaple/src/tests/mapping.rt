@@ -1,6 +1,7 @@
 //! A line by its records: one slave with a byte of outputs at 0x1000, and one of inputs at 0x1100, both
 //! mapped to the logical byte 0x00010000.
 
+use super::asserts::assert_same;
 use crate::{Item, Records, rmp_check, rmp_check_item, rmp_covered, rmp_expected};
 use std::process::Abort;
 
@@ -38,19 +39,17 @@ fn logical(kind: u16) -> Item {
 
 #[test]
 fn a_line_of_records_is_checked(rt: HostRuntime) {
-    assert_eq!(rt; rmp_check(&[slave(0x1001)]).rule, 0);
+    assert_same(&rt, rmp_check(&[slave(0x1001)]).rule, 0);
     let twins = rmp_check(&[slave(0x1001), slave(0x1001)]);
-    assert_eq!(rt; (twins.rule, twins.slave, twins.other_slave), (1, 0, 1));
+    assert_same(&rt, (twins.rule, twins.slave, twins.other_slave), (1, 0, 1));
     let crossed = rmp_check(&[slave(0x1001), slave(0x1002)]);
-    assert_eq!(rt; (crossed.rule, crossed.place), (6, 524288));
+    assert_same(&rt, (crossed.rule, crossed.place), (6, 524288));
 }
 
 /// An item of this kind counts so much there.
 fn counts(rt: &impl Abort, kind: u16, counter: u32) {
-    assert_eq!(rt;
-        rmp_expected(&[slave(0x1001)], &logical(kind)).counter,
-        counter
-    );
+    let found = rmp_expected(&[slave(0x1001)], &logical(kind)).counter;
+    assert_same(rt, found, counter);
 }
 
 #[test]
@@ -63,7 +62,7 @@ fn an_exchange_counts_three(rt: HostRuntime) {
 #[test]
 fn what_is_written_alone_is_not_covered(rt: HostRuntime) {
     let gap = rmp_covered(&[slave(0x1001)], &[logical(11)]);
-    assert_eq!(rt; (gap.code, gap.fmmu, gap.way), (29, 1, 0));
-    assert_eq!(rt; rmp_covered(&[slave(0x1001)], &[logical(12)]).code, 0);
-    assert_eq!(rt; rmp_check_item(&[slave(0x1001)], &logical(12)).code, 0);
+    assert_same(&rt, (gap.code, gap.fmmu, gap.way), (29, 1, 0));
+    assert_same(&rt, rmp_covered(&[slave(0x1001)], &[logical(12)]).code, 0);
+    assert_same(&rt, rmp_check_item(&[slave(0x1001)], &logical(12)).code, 0);
 }

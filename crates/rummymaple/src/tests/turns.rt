@@ -1,5 +1,6 @@
 //! A cycle as a state machine, over the frame and the copies of `door`.
 
+use super::asserts::assert_same;
 use super::door::{FROM_A, FROM_B, SENT, UDP, asked};
 use crate::{Cycle, TurnAnswer, rmp_cycle_begin, rmp_cycle_came, rmp_cycle_next};
 use std::mem::size_of;
@@ -26,9 +27,9 @@ fn turned(rt: &impl Abort, a: &[u8], b: &[u8], told: (u32, usize), state: u32, a
         &mut waiting,
         &mut image,
     );
-    assert_eq!(rt; (turn.code, turn.at), told);
-    assert_eq!(rt; cycle.state, state);
-    assert_eq!(rt; image, after);
+    assert_same(rt, (turn.code, turn.at), told);
+    assert_same(rt, cycle.state, state);
+    assert_same(rt, image, after);
 }
 
 #[test]
@@ -36,8 +37,8 @@ fn the_next_frame_of_a_cycle_is_its_first(rt: HostRuntime) {
     let mut room = [0; 30];
     let cycle = rmp_cycle_begin(UDP);
     let made = rmp_cycle_next(&cycle, &asked(), &BEFORE, &mut room);
-    assert_eq!(rt; (made.code, made.items, made.bytes), (0, 2, 30));
-    assert_eq!(rt; room, SENT);
+    assert_same(&rt, (made.code, made.items, made.bytes), (0, 2, 30));
+    assert_same(&rt, room, SENT);
 }
 
 #[test]
@@ -59,6 +60,6 @@ fn a_stranger_leaves_the_cycle_as_it_is(rt: HostRuntime) {
 
 #[test]
 fn the_header_states_the_sizes_of_a_cycle(rt: HostRuntime) {
-    assert_eq!(rt; size_of::<Cycle>(), 16);
-    assert_eq!(rt; size_of::<TurnAnswer>(), 24);
+    assert_same(&rt, size_of::<Cycle>(), 16);
+    assert_same(&rt, size_of::<TurnAnswer>(), 24);
 }
