@@ -7,7 +7,7 @@ ghost use Rattle.ecat_scene.specs.Text.{tested};
 ghost use Rattle.ecat_scene.specs.Order.{CountsWords};
 
 use crate::fault::{LineFault, Stop};
-use crate::number::{double_word, number, word};
+use crate::numbers::{double_word, number, word};
 use crate::scene::Load;
 use crate::slave_lines::{load_of, state_of};
 use crate::words::{test_text, text_of, words_of};

@@ -58,7 +58,7 @@ pub enum SceneFault {
 
 /// Why the reading of one line stops.
 #[derive(Clone, Copy)]
-pub(crate) enum Stop {
+pub enum Stop {
     /// The line is at fault.
     Fault(LineFault),
     /// Memory ran out.

@@ -26,14 +26,13 @@
 //! - `scene`: what a scene is; `fault`: what can be wrong with its text.
 //! - `reader`: the lines in their order; `slave_lines`, `work_lines`: what each of them says.
 //! - `bench`: the commands by which a line is worked on while it is served, a line of text each.
-//! - `words`, `number`: the words of a line, and the numbers and rows of bytes among them.
+//! - `words`, `numbers`: the words of a line, and the numbers and rows of bytes among them.
+//!
+//! What helps a person with the text of a scene is `ecat_lint`, which reads lines by the same words.
 
 mod bench;
-mod explain;
 mod fault;
-mod forms;
-mod lint;
-mod number;
+mod numbers;
 mod reader;
 mod scene;
 mod slave_lines;
@@ -41,10 +40,11 @@ mod words;
 mod work_lines;
 
 pub use bench::{BenchCommand, CommandFault, SlaveName};
-pub use explain::{Explanation, explained};
-pub use fault::{LineFault, SceneFault};
-pub use lint::{OddLine, odd_lines};
+pub use fault::{LineFault, SceneFault, Stop};
+pub use numbers::{number, test_bytes};
 pub use scene::{
     Action, FmmuSetting, Load, MAX_ACTIONS, MAX_ITEMS, MAX_SLAVES, MAX_STARTUP, MAX_TEXT,
     MAX_WEATHERS, Scene, SceneSlave, SceneWeather, Setting, StartupObject, SyncManSetting,
 };
+pub use slave_lines::{control_of, object_of, startup_of, sync_man_of};
+pub use words::{is_text, text_of, words_of};

@@ -5,7 +5,7 @@ ghost use Rattle.ecat_scene.specs.Fields.{active_fmmu, enabled_sync_man, fitting
 ghost use Rattle.ecat_scene.specs.Order.{MissesSlave};
 
 use crate::fault::{LineFault, Stop};
-use crate::number::{byte, bytes, double_word, number, test_bytes, word};
+use crate::numbers::{byte, bytes, double_word, number, test_bytes, word};
 use crate::reader::Reader;
 use crate::scene::{
     FmmuSetting, Load, MAX_SLAVES, MAX_STARTUP, SceneSlave, Setting, StartupObject, SyncManSetting,
@@ -262,7 +262,7 @@ fn fmmu_setting(
 }
 
 /// The index, the subindex, the rights and the value of an object of these words.
-pub(crate) fn object_of(
+pub fn object_of(
     index: &[u8],
     sub: &[u8],
     size: &[u8],
@@ -278,7 +278,7 @@ pub(crate) fn object_of(
 }
 
 /// The object that a master writes when it starts a slave, with the bytes of a row as they lie on the wire.
-pub(crate) fn startup_of(
+pub fn startup_of(
     alloc: Global,
     index: &[u8],
     sub: &[u8],
@@ -328,7 +328,7 @@ pub(crate) fn load_of(alloc: Global, address: &[u8], row: &[u8]) -> Result<Load,
 }
 
 /// The record of an enabled sync manager of these numbers.
-pub(crate) fn sync_man_of(start: u64, length: u64, control: u8) -> Result<SyncMan, LineFault>
+pub fn sync_man_of(start: u64, length: u64, control: u8) -> Result<SyncMan, LineFault>
     ensures numbers { IfOk result (λ made. made ≡ enabled_sync_man start length control) }
     ensures fits { start < 2 ^ 16 → length < 2 ^ 16 → IsOk result }
 {
@@ -371,7 +371,7 @@ fn fmmu_of(
 }
 
 /// What a sync manager of a kind may do.
-pub(crate) fn control_of(kind: &[u8]) -> Result<SyncManControl, LineFault> {
+pub fn control_of(kind: &[u8]) -> Result<SyncManControl, LineFault> {
     match text_of(kind) {
         "mailbox-write" => Ok(SyncManControl::MAILBOX.union(SyncManControl::WRITE)),
         "mailbox-read" => Ok(SyncManControl::MAILBOX),

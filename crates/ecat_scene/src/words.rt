@@ -8,7 +8,7 @@ use crate::fault::LineFault;
 use std::alloc::{AllocError, Global};
 
 /// Is the byte a character of ASCII text?
-pub(crate) fn is_text(byte: u8) -> bool
+pub fn is_text(byte: u8) -> bool
     ensures { result ≡ is_text byte }
 {
     matches!(byte, 0x20..=0x7e)
@@ -33,7 +33,7 @@ fn is_all_text(line: &[u8]) -> bool
 }
 
 /// The words of a line, which spaces separate.
-pub(crate) fn words_of<'a>(alloc: Global, line: &'a [u8]) -> Result<Vec<&'a [u8]>, AllocError> {
+pub fn words_of<'a>(alloc: Global, line: &'a [u8]) -> Result<Vec<&'a [u8]>, AllocError> {
     let mut words = Vec::new(alloc);
     for word in line.split(|byte| *byte == b' ') {
         if !word.is_empty() {
@@ -45,7 +45,7 @@ pub(crate) fn words_of<'a>(alloc: Global, line: &'a [u8]) -> Result<Vec<&'a [u8]
 
 /// A word as text, to be compared with the words of a scene; where it is no text an empty one, which none of
 /// those is.
-pub(crate) fn text_of(word: &[u8]) -> &str {
+pub fn text_of(word: &[u8]) -> &str {
     match str::from_utf8(word) {
         Ok(text) => text,
         Err(_) => "",

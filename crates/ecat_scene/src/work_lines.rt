@@ -1,7 +1,7 @@
 //! The lines that say what is done with the slaves: links, frames, steps, items and weathers.
 
 use crate::fault::{LineFault, Stop};
-use crate::number::{bytes, double_word, number, test_bytes, word};
+use crate::numbers::{bytes, double_word, number, test_bytes, word};
 use crate::reader::{NamedLink, Reader};
 use crate::scene::{Action, MAX_ACTIONS, MAX_ITEMS, MAX_WEATHERS, SceneWeather};
 use crate::words::text_of;

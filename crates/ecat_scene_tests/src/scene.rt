@@ -9,11 +9,9 @@ use std::process::Abort;
 
 mod bench;
 mod door;
-mod explains;
 mod limits;
-mod lints;
 mod refusals;
-mod shown;
+pub(crate) mod shown;
 mod takes;
 
 /// The scene of a text, unless memory ran out.
@@ -28,13 +26,13 @@ fn taken(rt: &(impl AllocGlobal + Abort), text: &[u8]) -> Option<Scene> {
 }
 
 /// The two sides of a row, a line of a table: a text, up to a blank and a bar, and what is wanted of it.
-fn sides<'a>(rt: &impl Abort, row: &'a str) -> (&'a str, &'a str) {
+pub(crate) fn sides<'a>(rt: &impl Abort, row: &'a str) -> (&'a str, &'a str) {
     let (text, wanted) = row.split_once('|').expect(rt, "a bar");
     (text.strip_suffix(" ").unwrap_or(text), wanted.trim())
 }
 
 /// The bytes of a text of a row, in which `/` ends a line.
-fn lines_of(alloc: Global, text: &str) -> Result<Vec<u8>, AllocError> {
+pub(crate) fn lines_of(alloc: Global, text: &str) -> Result<Vec<u8>, AllocError> {
     let mut bytes = Vec::new(alloc);
     for byte in text.as_bytes() {
         bytes.push(if *byte == b'/' { b'\n' } else { *byte })?;

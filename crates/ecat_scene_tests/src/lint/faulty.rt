@@ -1,7 +1,8 @@
 //! What a person is told of a faulty line: each fault with its column, its word and what is wanted.
 
-use super::{lines_of, sides};
-use ecat_scene::{LineFault, explained};
+use crate::scene::{lines_of, sides};
+use ecat_lint::explained;
+use ecat_scene::LineFault;
 use std::alloc::Global;
 use std::process::Abort;
 

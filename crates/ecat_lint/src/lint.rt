@@ -1,10 +1,5 @@
 //! What a scene says that is accepted and yet seldom meant.
 
-use crate::fault::Stop;
-use crate::number::number;
-use crate::scene::StartupObject;
-use crate::slave_lines::{control_of, object_of, startup_of, sync_man_of};
-use crate::words::{text_of, words_of};
 use bitflags::Flags;
 use ec_app::Objects;
 use ec_app::roles::{
@@ -13,6 +8,9 @@ use ec_app::roles::{
 };
 use ec_regs::SyncMan;
 use ec_regs::registers::{FMMU_COUNT, SYNC_MANAGER_COUNT};
+use ecat_scene::{
+    StartupObject, Stop, control_of, number, object_of, startup_of, sync_man_of, text_of, words_of,
+};
 use std::alloc::{AllocError, Global};
 use std::fmt;
 

@@ -1,8 +1,8 @@
 //! What is odd in scenes that are accepted.
 
-use super::shown::put;
-use super::{lines_of, sides};
-use ecat_scene::odd_lines;
+use crate::scene::shown::put;
+use crate::scene::{lines_of, sides};
+use ecat_lint::odd_lines;
 use std::alloc::{AllocError, Global};
 
 /// Scenes in which records are set twice, mailboxes too short, lengths of no area, objects without mailboxes,

@@ -1,8 +1,7 @@
 //! What the words behind the first one of a scene's line have to be: their forms, their ranges, and both in
 //! words for a person.
 
-use crate::number::{number, test_bytes};
-use crate::words::text_of;
+use ecat_scene::{number, test_bytes, text_of};
 
 /// What a word behind the first one of a line has to be.
 #[derive(Clone, Copy)]

@@ -1,8 +1,7 @@
 //! What is wrong with a faulty line of a scene, for a person: the column, the word, and what is wanted there.
 
-use crate::fault::LineFault;
 use crate::forms::{Form, forms_of};
-use crate::words::{is_text, text_of};
+use ecat_scene::{LineFault, is_text, text_of};
 use std::fmt;
 
 /// A word of a line, and the column of its first byte, from 1.

@@ -38,7 +38,7 @@ fn digits(row: &[u8], base: u8) -> Result<u64, LineFault> {
 }
 
 /// A number: decimal digits, or `0x` and hexadecimal digits. One past 64 bits is the greatest.
-pub(crate) fn number(word: &[u8]) -> Result<u64, LineFault> {
+pub fn number(word: &[u8]) -> Result<u64, LineFault> {
     match word {
         [b'0', b'x', row @ ..] => digits(row, 16),
         row => digits(row, 10),
@@ -79,7 +79,7 @@ pub(crate) fn double_word(number: u64) -> Result<u32, LineFault>
 }
 
 /// Tests that a word is an even, non-zero number of hexadecimal digits.
-pub(crate) fn test_bytes(word: &[u8]) -> Result<(), LineFault> {
+pub fn test_bytes(word: &[u8]) -> Result<(), LineFault> {
     let whole = !word.is_empty() && word.len() % 2 == 0;
     if whole && word.iter().all(|digit| hex_digit(*digit).is_some()) {
         Ok(())
