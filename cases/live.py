@@ -757,7 +757,8 @@ def a_master_names_what_is_in_its_way(stage):
     yield "outputs", "outputs: Open\ncounts: ", told_file[:22]
     told_name = stage.ends("master", "m", "--at", "127.0.0.1:9,no end")
     yield "a name", "end B: \n3\n", told_name[:7] + told_name[-3:]
-    yield "a log", "log: Open\n3\n", stage.ends(*words, "--log", "no/log")
+    why = "log: Open\nno/log: No such file or directory (os error 2)\n3\n"
+    yield "a log", why, stage.ends(*words, "--log", "no/log")
 
 
 @case
@@ -857,6 +858,12 @@ def a_line_elsewhere_is_asked(stage):
             for k in range(3)
         )
         yield "scan", "slaves 3\nring whole\n" + slaves + "0\n", stage.ends("scan", *at, *PATIENCE)
+        command(line, "link 0 down")
+        command(line, "link 3 down")
+        nothing = "slaves 0\nno copy came back: nothing known\n1\n"
+        yield "scan of nothing", nothing, stage.ends("scan", *at)
+        command(line, "link 0 up")
+        command(line, "link 3 up")
         line.process.stdin.write(b"state 1 2\n")
         line.line()
         words = ("sdo", "m", "0x1002", "0x1018", "2", *at)

@@ -4,7 +4,7 @@
 ghost use Rattle.std.specs.Prelude.{◌≡◌};
 ghost use Rattle.ecat_acts.specs.Failures.{refusal_status};
 
-use ecat_acts::failure::{Failure, report};
+use ecat_acts::failure::{Failure, report, report_file};
 use ecat_acts::hints::{Fronted, hint_capture, hint_odd_lines, hint_scene};
 use ecat_acts::listing::{Wanted, act_list};
 use ecat_acts::over_sockets::{Console, over_sockets};
@@ -160,7 +160,7 @@ where
     };
     match fs::open(rt, path) {
         Ok(file) => over_scene(rt, args, path, console, &mut Counted::new(file), out, err),
-        Err(error) => report_unopened(path, &error, out, err),
+        Err(error) => report_file(&Failure::Open, path, &error, out, err),
     }
 }
 
@@ -210,7 +210,7 @@ where
             hint_capture(path, &source, status, err);
             status
         }
-        Err(error) => report_unopened(path, &error, out, err),
+        Err(error) => report_file(&Failure::Open, path, &error, out, err),
     }
 }
 
@@ -220,18 +220,6 @@ fn is_plain<F: OpenFile>(file: &F) -> bool {
         Ok(known) => known.is_file(),
         Err(_) => false,
     }
-}
-
-/// Reports that a file could not be opened, and what the system says of it.
-fn report_unopened<W: io::Write, V: io::Write>(
-    path: &str,
-    error: &io::Error,
-    out: &mut W,
-    err: &mut V,
-) -> u8 {
-    let status = report(&Failure::Open, out, err);
-    let _ = writeln!(err, "{path}: {error}");
-    status
 }
 
 /// Opens the capture of a listing, standard input where it is `-`, and lists it.
@@ -253,6 +241,6 @@ where
     }
     match fs::open(rt, file) {
         Ok(file) => act_list(rt.alloc(), wanted, Counted::new(file), out, err),
-        Err(error) => report_unopened(file, &error, out, err),
+        Err(error) => report_file(&Failure::Open, file, &error, out, err),
     }
 }

@@ -4,10 +4,10 @@ ghost use Rattle.std.specs.Prelude.{◌≡◌};
 ghost use Rattle.ecat_acts.specs.Failures.{unbound};
 
 use crate::raw::RawFaultText;
+use ec_run::ImagesFault;
 use ec_services::MasterFault;
 use ecat_far::OpenFault;
 use ecat_line::LineFailure;
-use ecat_master::ImagesFault;
 use ecat_raw::RawFault;
 use ecat_scene::SceneFault;
 use ecat_serve::BindFault;
@@ -97,11 +97,7 @@ pub fn report<W: Write, V: Write>(failure: &Failure, out: &mut W, err: &mut V) -
             err,
             b"argument: --raw wants numbers, as 10 or 10,11\n",
         ),
-        Failure::Raw(fault) => {
-            let fault = RawFaultText(*fault);
-            let _ = writeln!(err, "raw: {fault}");
-            FAILED
-        }
+        Failure::Raw(fault) => report_raw(*fault, err),
         Failure::Far(fault) => {
             let end = PortText(fault.end);
             let error = &fault.error;
@@ -117,6 +113,32 @@ pub fn report<W: Write, V: Write>(failure: &Failure, out: &mut W, err: &mut V) -
         Failure::Capture(PcapFault::NoMemory) => failed(err, b"capture: NoMemory\n"),
         Failure::Capture(fault) => refused(writeln!(out, "capture: {fault}"), err),
     }
+}
+
+/// Writes the line of packet sockets that are of no use, and who would have opened those that are missing.
+fn report_raw<V: Write>(fault: RawFault, err: &mut V) -> u8 {
+    let text = RawFaultText(fault);
+    let _ = writeln!(err, "raw: {text}");
+    match fault {
+        RawFault::NotOpen(_) | RawFault::NoPacketSocket(_) | RawFault::NotBound(_) => failed(
+            err,
+            b"tools/raw A [B] -- COMMAND.. opens them at interfaces, as descriptors 10 and 11\n",
+        ),
+        RawFault::Twice | RawFault::NotWatched | RawFault::NoMemory => FAILED,
+    }
+}
+
+/// Reports what became of a file, and what the system says of it.
+pub fn report_file<W: Write, V: Write>(
+    failure: &Failure,
+    path: &str,
+    error: &io::Error,
+    out: &mut W,
+    err: &mut V,
+) -> u8 {
+    let status = report(failure, out, err);
+    let _ = writeln!(err, "{path}: {error}");
+    status
 }
 
 /// Writes the line of a command that ended on the line of a scene, as `report` does.

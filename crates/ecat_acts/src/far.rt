@@ -6,13 +6,11 @@ use crate::failure::{Failure, report, status_of};
 use arrayvec::ArrayVec;
 use ec_master::{MAX_ITEMS, Ports, Work, all_expected};
 use ec_ring::HeardPorts;
+use ec_run::{MAX_STARTUP, StartupObject, Wanted, Watched, image_length, wanted_of};
 use ec_wire::{Command, Datagram, FrameBuf};
 use ecat_far::{FarPorts, OpenFault, UdpCarrier, ends_of};
 use ecat_line::{LineFailure, ring_of, scene_for_packets, work_of};
-use ecat_master::{
-    MAX_STARTUP, Pace, Plan, ScanEnd, StartupObject, Wanted, Watched, image_length, master, scan,
-    wanted_of,
-};
+use ecat_master::{Pace, Plan, ScanEnd, master, scan};
 use ecat_raw::{Descriptors, RawCarrier, descriptors_of};
 use ecat_scene::SceneSlave;
 use ecat_source::Source;
@@ -258,7 +256,7 @@ where
 
 /// Prints what slaves stand on a line; the status says whether all could be read.
 fn scanned<P: HeardPorts + Drop, W: Write>(ports: P, out: &mut W) -> Result<u8, Failure> {
-    let mut lines = ecat_master::Lines::new(out);
+    let mut lines = Lines::new(out);
     if scan(&mut Watched::new(ports), &mut lines)? {
         Ok(GOOD)
     } else {

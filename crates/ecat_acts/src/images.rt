@@ -1,8 +1,8 @@
 //! The file of a master's outputs: a line for each cycle.
 
-use crate::failure::{Failure, report};
+use crate::failure::{Failure, report, report_file};
+use ec_run::{Image, ImageFault, ImagesFault, MAX_IMAGES_TEXT, read_images};
 use ecat_line::LineFailure;
-use ecat_master::{Image, ImageFault, ImagesFault, MAX_IMAGES_TEXT, read_images};
 use ecat_source::{Counted, ReadAllFault, Source, read_all};
 use std::alloc::Global;
 use std::fs;
@@ -25,11 +25,7 @@ where
 {
     let file = match fs::open(rt, path) {
         Ok(file) => file,
-        Err(error) => {
-            let status = report(&Failure::Outputs, out, err);
-            let _ = writeln!(err, "{path}: {error}");
-            return Err(status);
-        }
+        Err(error) => return Err(report_file(&Failure::Outputs, path, &error, out, err)),
     };
     match images_in(rt.alloc(), &mut Counted::new(file), length) {
         Ok(images) => Ok(images),

@@ -2,13 +2,14 @@
 
 use crate::act::act;
 use crate::asked::asked_of;
-use crate::failure::{Failure, report, status_of, unbound};
+use crate::failure::{Failure, report, report_file, status_of, unbound};
 use crate::far::{Course, Reach, act_master, act_scan, course_of, far_ports, raw_ports};
 use crate::images::images_at;
 use crate::tape::{Pcap, end, make};
 use crate::udp::{Prepared, Wanted, act_udp, prepare_udp};
+use ec_run::{Image, Outputs};
 use ecat_args::Args;
-use ecat_master::{Image, Outputs, Plan};
+use ecat_master::Plan;
 use ecat_pace::{Beat, Ending};
 use ecat_raw::{Descriptors, RawEnds, descriptors_of};
 use ecat_serve::{Served, UdpEnds};
@@ -281,7 +282,7 @@ where
         None => run_master(rt, course, running, &plan, input, out, err, &mut io::sink()),
         Some(path) => match fs::create(rt, path) {
             Ok(mut log) => run_master(rt, course, running, &plan, input, out, err, &mut log),
-            Err(_) => report(&Failure::Log, out, err),
+            Err(error) => report_file(&Failure::Log, path, &error, out, err),
         },
     }
 }
@@ -356,13 +357,13 @@ where
     let Some(pcap) = pcap else {
         return udp_taped(rt, prepared, wanted, &mut unrecorded(), out, err);
     };
-    match make(rt, pcap) {
+    match make(rt, pcap, out, err) {
         Ok(file) => {
             let mut recorder = Recorder::new(file, Counter::new());
             let status = udp_taped(rt, prepared, wanted, &mut recorder, out, err);
             end(&mut recorder, status, err)
         }
-        Err(failure) => report(&failure, out, err),
+        Err(status) => status,
     }
 }
 
@@ -426,14 +427,14 @@ where
     W: io::Write,
     V: io::Write,
 {
-    match make(rt, pcap) {
+    match make(rt, pcap, out, err) {
         Ok(file) => {
             let mut recorder = Recorder::new(file, Counter::new());
             let done = run(rt.alloc(), judge, &mut recorder, source, out);
             let status = status_of(done, out, err);
             end(&mut recorder, status, err)
         }
-        Err(failure) => report(&failure, out, err),
+        Err(status) => status,
     }
 }
 
@@ -461,13 +462,13 @@ where
     let Some(pcap) = pcap else {
         return serve_taped(rt, service, input, served, &mut unrecorded(), out, err);
     };
-    match make(rt, pcap) {
+    match make(rt, pcap, out, err) {
         Ok(file) => {
             let mut recorder = Recorder::new(file, WallClock::new(rt));
             let status = serve_taped(rt, service, input, served, &mut recorder, out, err);
             end(&mut recorder, status, err)
         }
-        Err(failure) => report(&failure, out, err),
+        Err(status) => status,
     }
 }
 

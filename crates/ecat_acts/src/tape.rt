@@ -1,6 +1,6 @@
 //! `--pcap FILE`: a capture of each copy, as it leaves the master and as it arrives there.
 
-use crate::failure::Failure;
+use crate::failure::{Failure, report, report_file};
 use ecat_tape::{Moments, Recorder};
 use ecat_text::FAILED;
 use std::fs::{self, File};
@@ -26,8 +26,13 @@ impl<'a> Pcap<'a> {
     }
 }
 
-/// Makes the file of a capture.
-pub fn make<R: Files>(rt: &R, pcap: Pcap<'_>) -> Result<R::File, Failure> {
+/// Makes the file of a capture. Where it cannot be made it is told why, and the exit status is the answer.
+pub fn make<R, W, V>(rt: &R, pcap: Pcap<'_>, out: &mut W, err: &mut V) -> Result<R::File, u8>
+where
+    R: Files,
+    W: Write,
+    V: Write,
+{
     let made = if pcap.force {
         fs::create(rt, pcap.path)
     } else {
@@ -35,17 +40,23 @@ pub fn make<R: Files>(rt: &R, pcap: Pcap<'_>) -> Result<R::File, Failure> {
     };
     match made {
         Ok(file) => Ok(file),
-        Err(error) => Err(unmade(&error)),
+        Err(error) => Err(report_unmade(pcap.path, &error, out, err)),
     }
 }
 
-/// Why a file could not be made.
-fn unmade(error: &io::Error) -> Failure {
-    if error.kind() == ErrorKind::AlreadyExists {
-        Failure::PcapExists
-    } else {
-        Failure::PcapOpen
+/// Reports that the file of a capture could not be made, and what helps.
+fn report_unmade<W: Write, V: Write>(
+    path: &str,
+    error: &io::Error,
+    out: &mut W,
+    err: &mut V,
+) -> u8 {
+    if error.kind() != ErrorKind::AlreadyExists {
+        return report_file(&Failure::PcapOpen, path, error, out, err);
     }
+    let status = report(&Failure::PcapExists, out, err);
+    let _ = writeln!(err, "{path}: it is kept; --force overwrites it");
+    status
 }
 
 /// Ends a capture behind a command with this exit status: tells `err` where a write of it has failed, and

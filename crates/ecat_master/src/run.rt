@@ -1,25 +1,22 @@
 //! A master that runs: the start-up of a line, and then cycle after cycle.
 
 ghost use Rattle.std.specs.Prelude.{◌≡◌, length};
-ghost use Rattle.ecat_master.specs.Cycles.{AddUp, IsRun};
-ghost use Rattle.ecat_master.specs.Watched.{WatchedTrips};
+ghost use Rattle.ec_run.specs.Cycles.{AddUp, IsRun};
+ghost use Rattle.ec_run.specs.Watched.{WatchedTrips};
 
-use crate::counts::Counts;
-use crate::cycles::{Cycles, MOST_CYCLES};
-use crate::outputs::Outputs;
 use crate::pace::Pace;
-use crate::phase::StepFault;
-use crate::print::Lines;
-use crate::recovery::{Outcome, Seen, recover, tells_places};
 use crate::startup::{StartEnd, StartFault, put_start_fault, start};
-use crate::telling::{Told, log_cycle, put_counts, tell_image};
-use crate::wanted::Wanted;
-use crate::watched::Watched;
-use crate::words::{put_slave, put_step_fault, state_name};
+use crate::telling::{Told, log_cycle, put_counts, put_cycle, tell_image};
+use crate::words::{put_step_fault, state_name};
 use ec_diag::Located;
 use ec_master::{CycleFault, Verdict, Work};
 use ec_ring::{HeardPorts, MAX_SLAVES};
+use ec_run::{
+    Counts, Cycles, MOST_CYCLES, Outcome, Outputs, Seen, StepFault, Wanted, Watched, recover,
+    tells_places,
+};
 use ec_services::MasterFault;
+use ecat_text::{End, Lines};
 use std::io::{self, Write};
 
 /// The exit status where all went well.
@@ -53,7 +50,7 @@ pub struct Plan<'a> {
 }
 
 /// How long cycles took, in microseconds.
-#[derive(Clone, Copy, PartialEq, Eq, Debug)]
+#[derive(Clone, Copy)]
 struct Times {
     least: u64,
     greatest: u64,
@@ -205,11 +202,13 @@ fn put_progress<W: Write>(
     times: Times,
     lines: &mut Lines<'_, W>,
 ) -> io::Result<()> {
+    let least = times.least.min(times.greatest);
+    let mean = times.mean();
+    let greatest = times.greatest;
     put_counts(counts, lines)?;
-    lines.named(", cycle time least ", times.least.min(times.greatest))?;
-    lines.named(" mean ", times.mean())?;
-    lines.named(" greatest ", times.greatest)?;
-    lines.text(" microseconds")?;
+    lines.text(format_args!(
+        ", cycle time least {least} mean {mean} greatest {greatest} microseconds"
+    ))?;
     lines.end()
 }
 
@@ -221,18 +220,17 @@ fn put_recovered<W: Write>(
     seen: Seen,
     lines: &mut Lines<'_, W>,
 ) -> io::Result<()> {
-    lines.named("cycle ", cycle)?;
-    lines.text(": ")?;
-    put_slave(u64::from(place), station, lines)?;
+    put_cycle(cycle, lines)?;
+    lines.text(End::AtSlave(usize::from(place), station))?;
     match seen {
         Seen::Nobody => lines.text(" had lost its station")?,
         Seen::In(state) => {
-            lines.text(" was in ")?;
-            lines.text(state_name(state))?;
+            let state = state_name(state);
+            lines.text(format_args!(" was in {state}"))?;
         }
         Seen::Error(state) => {
-            lines.text(" had an error in ")?;
-            lines.text(state_name(state))?;
+            let state = state_name(state);
+            lines.text(format_args!(" had an error in {state}"))?;
         }
         Seen::Several => {}
     }
@@ -247,8 +245,7 @@ fn put_unrecovered<W: Write>(
     wanted: &Wanted,
     lines: &mut Lines<'_, W>,
 ) -> io::Result<()> {
-    lines.named("cycle ", cycle)?;
-    lines.text(": ")?;
+    put_cycle(cycle, lines)?;
     put_step_fault(fault, wanted, lines)?;
     lines.end()
 }

@@ -4,12 +4,7 @@ ghost use Rattle.std.specs.Prelude.{◌≡◌, ◌≤◌, ◌<◌, IfSome, IfOk,
 ghost use Rattle.ec_services.specs.Mailbox.{IsPeer};
 ghost use Rattle.ec_wire.specs.Datagram.{nth};
 
-use crate::ask::{one_counted, put, request};
-use crate::counting::count_slaves;
-use crate::objects::peer_between;
-use crate::print::Lines;
 use crate::startup::look_surely;
-use crate::watched::Watched;
 use crate::words::{put_cable, put_code, put_fault, state_name};
 use ec_app::Value;
 use ec_app::roles::{ANSWER_MAILBOX, REQUEST_MAILBOX};
@@ -20,8 +15,10 @@ use ec_regs::registers::{
 };
 use ec_regs::{AlState, AlStatus, Fmmu, SyncMan};
 use ec_ring::{HeardPorts, MAX_SLAVES};
+use ec_run::{Watched, count_slaves, one_counted, peer_between, put, request};
 use ec_services::{MasterFault, Peer, upload_surely};
 use ec_wire::{Command, FrameBuf, address_of};
+use ecat_text::Lines;
 use std::io::{self, Write};
 
 /// The object that says who a slave is (IEC 61158-6-12, object dictionary): vendor, product.
@@ -73,14 +70,14 @@ struct Shown {
 /// Writes a line for each slave that is counted: its place, its station address, its AL state and error, its
 /// active sync managers and FMMUs, and who it is where it has mailboxes; before them how many there are and
 /// where the cable is broken. Behind a broken link with slaves on both sides a slave is read by its place
-/// only where no other answers with it; the line of another one says `BadAnswer`. It answers whether
-/// all could be read.
+/// only where no other answers with it; the line of another one says `BadAnswer`. It answers whether any
+/// copy came back that looked at the cable, and all slaves could be read.
 pub fn scan<P: HeardPorts, W: Write>(
     ports: &mut Watched<P>,
     lines: &mut Lines<'_, W>,
 ) -> Result<bool, ScanEnd> {
     let count = count_slaves(ports)?;
-    lines.named("slaves ", u64::from(count))?;
+    lines.text(format_args!("slaves {count}"))?;
     lines.end()?;
     let located = match look_surely(ports, usize::from(count)) {
         Some(located) => located,
@@ -88,7 +85,7 @@ pub fn scan<P: HeardPorts, W: Write>(
     };
     put_links(located, lines)?;
     lines.end()?;
-    let mut all = true;
+    let mut all = located != Located::Unknown;
     for place in 0..count {
         all = scan_slave(ports, place, located, lines)? && all;
     }
@@ -98,10 +95,7 @@ pub fn scan<P: HeardPorts, W: Write>(
 /// Puts where the cable is broken, with no name of a slave.
 fn put_links<W: Write>(located: Located, lines: &mut Lines<'_, W>) -> io::Result<()> {
     match located {
-        Located::One(link) => {
-            lines.named("link ", link as u64)?;
-            lines.text(" down")
-        }
+        Located::One(link) => lines.text(format_args!("link {link} down")),
         _ => put_cable(located, &[], lines),
     }
 }
@@ -113,7 +107,7 @@ fn scan_slave<P: HeardPorts, W: Write>(
     located: Located,
     lines: &mut Lines<'_, W>,
 ) -> Result<bool, ScanEnd> {
-    lines.named("slave ", u64::from(place))?;
+    lines.text(format_args!("slave {place}"))?;
     let read = match look(ports, way_to(place, located)) {
         Err(MasterFault::Port) => return Err(ScanEnd::Ask(MasterFault::Port)),
         Err(fault) => {
@@ -230,10 +224,9 @@ fn fmmus_in(bytes: &[u8]) -> [Fmmu; FMMU_COUNT]
 
 /// Puts what a slave shows of itself.
 fn put_shown<W: Write>(shown: &Shown, lines: &mut Lines<'_, W>) -> io::Result<()> {
-    lines.text(" station ")?;
-    lines.word(shown.station)?;
-    lines.text(" state ")?;
-    lines.text(state_name(shown.status.state))?;
+    let station = shown.station;
+    let state = state_name(shown.status.state);
+    lines.text(format_args!(" station 0x{station:04x} state {state}"))?;
     if shown.status.error {
         lines.text(" error ")?;
         put_code(shown.code, lines)?;
@@ -257,10 +250,9 @@ fn put_manager<W: Write>(
     manager: &SyncMan,
     lines: &mut Lines<'_, W>,
 ) -> io::Result<()> {
-    lines.named(" sm ", number as u64)?;
-    lines.text(" ")?;
-    lines.word(manager.start)?;
-    lines.named(" ", u64::from(manager.length))?;
+    let start = manager.start;
+    let length = manager.length;
+    lines.text(format_args!(" sm {number} 0x{start:04x} {length}"))?;
     lines.text(match (manager.is_mailbox(), manager.master_writes()) {
         (true, true) => " mailbox-write",
         (true, false) => " mailbox-read",
@@ -271,15 +263,18 @@ fn put_manager<W: Write>(
 
 /// Puts an FMMU that is switched on in the words of a scene.
 fn put_fmmu<W: Write>(number: usize, fmmu: &Fmmu, lines: &mut Lines<'_, W>) -> io::Result<()> {
-    lines.named(" fmmu ", number as u64)?;
-    lines.text(" ")?;
-    lines.long(fmmu.logical)?;
-    lines.named(" ", u64::from(fmmu.length))?;
-    lines.named(" ", u64::from(fmmu.start))?;
-    lines.named(" ", u64::from(fmmu.stop))?;
-    lines.text(" ")?;
-    lines.word(fmmu.physical)?;
-    lines.named(" ", u64::from(fmmu.bit))?;
+    let Fmmu {
+        logical,
+        length,
+        start,
+        stop,
+        physical,
+        bit,
+        ..
+    } = *fmmu;
+    lines.text(format_args!(
+        " fmmu {number} 0x{logical:08x} {length} {start} {stop} 0x{physical:04x} {bit}"
+    ))?;
     lines.text(match (fmmu.reads(), fmmu.writes()) {
         (true, true) => " both",
         (true, false) => " read",
@@ -323,12 +318,11 @@ fn put_object<P: Ports, W: Write>(
     requires { IsPeer peer.old }
     ensures { IsPeer peer.new }
 {
-    lines.named(" 0x1018:", u64::from(sub))?;
-    lines.text(" ")?;
+    lines.text(format_args!(" 0x1018:{sub} "))?;
     match upload_surely(ports, peer, IDENTITY, sub, TRIPS) {
-        Ok(Value::One(value)) => lines.number(u64::from(value)),
-        Ok(Value::Two(value)) => lines.word(value),
-        Ok(Value::Four(value)) => lines.long(value),
+        Ok(Value::One(value)) => lines.text(format_args!("{value}")),
+        Ok(Value::Two(value)) => lines.text(format_args!("0x{value:04x}")),
+        Ok(Value::Four(value)) => lines.text(format_args!("0x{value:08x}")),
         Err(fault) => put_fault(fault, lines),
     }
 }

@@ -2,16 +2,12 @@
 
 ghost use Rattle.std.specs.Prelude.{◌≤◌, length};
 
-use crate::counting::count_slaves;
-use crate::phase::{PHASES, Phase, StepFault, bring, bring_line};
-use crate::print::Lines;
-use crate::step::Step;
-use crate::wanted::Wanted;
-use crate::watched::Watched;
 use crate::words::{put_cable, put_fault, put_step_fault, state_name};
 use ec_diag::{CutOff, Located};
 use ec_ring::{HeardPorts, MAX_SLAVES};
+use ec_run::{PHASES, Phase, Step, StepFault, Wanted, Watched, bring, bring_line, count_slaves};
 use ec_services::MasterFault;
+use ecat_text::Lines;
 use std::io::{self, Write};
 
 /// How often the slaves are counted, and the cable is looked at, where that did not come out as it should.
@@ -109,9 +105,9 @@ fn count<P: HeardPorts, W: Write>(
             break;
         }
     }
-    lines.named("slaves ", u64::from(found))?;
+    lines.text(format_args!("slaves {found}"))?;
     if usize::from(found) != wanted {
-        lines.named(", wanted ", wanted as u64)?;
+        lines.text(format_args!(", wanted {wanted}"))?;
     }
     lines.end()?;
     Ok(found)

@@ -2,20 +2,17 @@
 
 ghost use Rattle.std.specs.Prelude.{◌≡◌, ◌≤◌, length};
 
-use crate::counts::Counts;
-use crate::print::Lines;
 use crate::startup::look_surely;
-use crate::wanted::Wanted;
-use crate::watched::{Signs, Watched, Ways};
 use crate::words::put_cable;
 use ec_diag::Located;
-use ec_map::{Item, Kind};
 use ec_master::{CycleFault, Verdict, Work};
 use ec_ring::HeardPorts;
+use ec_run::{Counts, Signs, Wanted, Watched, Ways};
+use ecat_text::{CountText, Lines, VerdictText, print_item};
 use std::io::{self, Write};
 
 /// What a cycle showed. Of two cycles that showed the same only the first is told.
-#[derive(Clone, Copy, PartialEq, Eq, Debug)]
+#[derive(Clone, Copy, PartialEq, Eq)]
 struct Showing {
     /// How it ended.
     ended: Result<Verdict, CycleFault>,
@@ -26,7 +23,7 @@ struct Showing {
 }
 
 /// What was told of the cycles so far.
-#[derive(Clone, Copy, PartialEq, Eq, Debug)]
+#[derive(Clone, Copy)]
 pub struct Told {
     /// What the last cycle showed.
     last: Showing,
@@ -131,9 +128,8 @@ fn came_of(ended: Result<Verdict, CycleFault>, counts: &[u16]) -> u16 {
 }
 
 /// Puts the number of a cycle.
-fn put_cycle<W: Write>(cycle: u64, lines: &mut Lines<'_, W>) -> io::Result<()> {
-    lines.named("cycle ", cycle)?;
-    lines.text(": ")
+pub fn put_cycle<W: Write>(cycle: u64, lines: &mut Lines<'_, W>) -> io::Result<()> {
+    lines.text(format_args!("cycle {cycle}: "))
 }
 
 /// Tells that what was not good has ended, after so many cycles.
@@ -145,12 +141,10 @@ fn tell_end<W: Write>(
 ) -> io::Result<()> {
     put_cycle(cycle, lines)?;
     if ended == Ok(Verdict::Good) {
-        lines.text("good again after ")?;
+        lines.text(format_args!("good again after {lasted} cycles"))?;
     } else {
-        lines.text("other than before, which lasted ")?;
+        lines.text(format_args!("other than before, which lasted {lasted} cycles"))?;
     }
-    lines.number(lasted)?;
-    lines.text(" cycles")?;
     lines.end()
 }
 
@@ -213,23 +207,31 @@ fn put_count<W: Write>(
     expected: &[u16],
     lines: &mut Lines<'_, W>,
 ) -> io::Result<()> {
-    lines.named("item ", item as u64)?;
-    lines.named(": came ", u64::from(came))?;
-    lines.text(" of ")?;
-    let wanted = match expected.get(item) {
+    lines.text(CountText {
+        item,
+        came,
+        wanted: wanted_of(expected, item),
+    })
+}
+
+/// What the counter of an item is to gain.
+fn wanted_of(expected: &[u16], item: usize) -> u16 {
+    match expected.get(item) {
         Some(wanted) => *wanted,
         None => 0,
-    };
-    lines.number(u64::from(wanted))
+    }
 }
 
 /// Puts how many cycles there were, by their ends.
 pub fn put_counts<W: Write>(counts: Counts, lines: &mut Lines<'_, W>) -> io::Result<()> {
-    lines.named("cycles ", counts.cycles)?;
-    lines.named(" good ", counts.good)?;
-    lines.named(" short ", counts.short)?;
-    lines.named(" over ", counts.over)?;
-    lines.named(" fault ", counts.fault)
+    let Counts {
+        cycles,
+        good,
+        short,
+        over,
+        fault,
+    } = counts;
+    lines.text(format_args!("cycles {cycles} good {good} short {short} over {over} fault {fault}"))
 }
 
 /// Writes a line for a cycle that was made: its number, its end, and how far each counter moved.
@@ -239,11 +241,11 @@ pub fn log_cycle<W: Write>(
     counts: &[u16],
     lines: &mut Lines<'_, W>,
 ) -> io::Result<()> {
-    lines.named("cycle ", cycle)?;
+    lines.text(format_args!("cycle {cycle} "))?;
     put_end(ended, lines)?;
     lines.text(" counts")?;
     for count in counts {
-        lines.named(" ", u64::from(*count))?;
+        lines.text(format_args!(" {count}"))?;
     }
     lines.end()
 }
@@ -254,11 +256,9 @@ fn put_end<W: Write>(
     lines: &mut Lines<'_, W>,
 ) -> io::Result<()> {
     match ended {
-        Ok(Verdict::Good) => lines.text(" good"),
-        Ok(Verdict::Short(item)) => lines.named(" short ", item as u64),
-        Ok(Verdict::Over(item)) => lines.named(" over ", item as u64),
-        Err(CycleFault::Port) => lines.text(" fault Port"),
-        Err(CycleFault::Stranger) => lines.text(" fault Stranger"),
+        Ok(verdict) => lines.text(VerdictText(verdict)),
+        Err(CycleFault::Port) => lines.text("fault Port"),
+        Err(CycleFault::Stranger) => lines.text("fault Stranger"),
     }
 }
 
@@ -272,32 +272,9 @@ pub fn tell_image<W: Write>(
     lines: &mut Lines<'_, W>,
 ) -> io::Result<()> {
     for k in 0..image.len() {
-        tell_item(k, image.item(k), expected, lines)?;
+        let item = image.item(k);
+        let counter = item.counter() % ROUND;
+        print_item(k, item, counter, wanted_of(expected, k), lines)?;
     }
     Ok(())
-}
-
-/// Writes the line of one item.
-fn tell_item<W: Write>(
-    number: usize,
-    item: &Item,
-    expected: &[u16],
-    lines: &mut Lines<'_, W>,
-) -> io::Result<()> {
-    lines.named("item ", number as u64)?;
-    lines.text(" ")?;
-    lines.text(item.kind().command().name())?;
-    lines.text(" data ")?;
-    lines.hex(item.data())?;
-    lines.named(" wkc ", u64::from(item.counter() % ROUND))?;
-    lines.text(" of ")?;
-    let wanted = match expected.get(number) {
-        Some(wanted) => *wanted,
-        None => 0,
-    };
-    lines.number(u64::from(wanted))?;
-    if item.kind() == Kind::Brd {
-        lines.named(" adp ", u64::from(item.adp()))?;
-    }
-    lines.end()
 }

@@ -8,9 +8,8 @@
 //! let status = check(alloc, &mut source, &mut out)?;
 //! ```
 //!
-//! What is promised: the words of what is printed here alone (`specs/Covers`, `specs/Sweeps`), and the trips
-//! of a transfer that is done surely (`SteppingTrips`). What a command does in their order is tested, here
-//! and by the scenes and cases of the program.
+//! What is promised: the words of what is printed here alone (`specs/Covers`, `specs/Sweeps`). What a command
+//! does is tested, here and by the scenes and cases of the program.
 
 mod cables;
 mod carry;
@@ -21,7 +20,6 @@ mod judge;
 mod lints;
 mod objects;
 mod runs;
-mod stepping_ports;
 mod sweeps;
 
 pub use cables::{where_broken, where_far};
@@ -32,5 +30,4 @@ pub use judge::{judged_cycle, print_cable};
 pub use lints::lint;
 pub use objects::{Asked, sdo, sdo_far};
 pub use runs::run;
-pub use stepping_ports::SteppingPorts;
 pub use sweeps::sweep;

@@ -1,7 +1,8 @@
 //! `ecat lint`: what a scene says that is accepted and yet seldom meant.
 
 use ecat_line::{LineFailure, slaves_of, unread};
-use ecat_scene::{MAX_TEXT, Scene, odd_lines};
+use ecat_lint::odd_lines;
+use ecat_scene::{MAX_TEXT, Scene};
 use ecat_source::{Source, read_all};
 use ecat_text::{GOOD, Lines, REFUSED, refuse};
 use std::alloc::Global;

@@ -3,15 +3,12 @@
 ghost use Rattle.std.specs.Prelude.{◌≡◌, IfSome};
 ghost use Rattle.ec_services.specs.Mailbox.{IsPeer};
 
-use crate::stepping_ports::SteppingPorts;
-use ec_app::roles::{ANSWER_MAILBOX, REQUEST_MAILBOX, is_answer_mailbox, is_request_mailbox};
+use ec_app::roles::{ANSWER_MAILBOX, REQUEST_MAILBOX};
 use ec_app::{Slave, Value};
 use ec_master::{Ports, RingPorts};
-use ec_regs::SyncMan;
-use ec_services::{
-    Area, MasterFault, Peer, download_surely, sdo_download, sdo_upload, upload_surely,
-};
-use ecat_line::{LineFailure, ring_of, scene_of, slaves_of, weathers_of};
+use ec_run::peer_between;
+use ec_services::{MasterFault, Peer, download_surely, sdo_download, sdo_upload, upload_surely};
+use ecat_line::{LineFailure, SteppingPorts, ring_of, scene_of, slaves_of, weathers_of};
 use ecat_scene::Scene;
 use ecat_source::Source;
 use ecat_text::{FaultText, Lines, REFUSED, TripsText, print_line, print_read, print_written};
@@ -110,32 +107,13 @@ fn sdo_surely<W: Write, V: Write>(
     Ok(status)
 }
 
-/// The area of a mailbox.
-fn area_of(manager: &SyncMan) -> Area
-    ensures length { result.length ≡ manager.now.length }
-{
-    Area {
-        start: manager.start,
-        length: manager.length,
-    }
-}
-
 /// A slave as one with which mails are exchanged, if it has both mailboxes.
-#[tactic(auto, unfolding(ec_regs::specs::SyncMan::is_active))]
 fn peer_of(slave: &Slave, station: u16) -> Option<Peer>
     ensures { IfSome result IsPeer }
 {
     let requests = slave.controller().syncman(REQUEST_MAILBOX);
     let answers = slave.controller().syncman(ANSWER_MAILBOX);
-    if !is_request_mailbox(&requests) || !is_answer_mailbox(&answers) {
-        return None;
-    }
-    Some(Peer {
-        station,
-        to: area_of(&requests),
-        from: area_of(&answers),
-        counter: 1,
-    })
+    peer_between(station, &requests, &answers, 1)
 }
 
 /// The first slave with a station address, if it has both mailboxes.

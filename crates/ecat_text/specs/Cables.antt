@@ -4,14 +4,11 @@ use Rattle.std.specs.Prelude.{ℕ, ◌++◌, ◌-◌, ◌==◌, zero, suc, List,
 use Rattle.std.specs.Prelude.{if◌then◌else◌, slice_get}
 use Rattle.std.specs.Fmt.{decimal}
 use Rattle.std.specs.Option.{option_map_or}
-use Rattle.ec_app.specs.State.{SlaveState}
 use Rattle.ec_diag.specs.declared.cut_off.CutOff.{CutOff}
 use Rattle.ec_diag.specs.declared.cut_off.CutOff.TheVariants as cut
 use Rattle.ec_diag.specs.declared.heard.Heard.{Heard}
 use Rattle.ec_diag.specs.declared.located.Located.{Located}
 use Rattle.ec_diag.specs.declared.located.Located.TheVariants as located
-use Rattle.ec_esc.specs.State.{word_at}
-use Rattle.ec_regs.specs.declared.registers.TheConstants.{STATION_ADDRESS}
 use Rattle.ec_ring.specs.declared.port.Port.{Port}
 use Rattle.ec_ring.specs.declared.port.Port.TheVariants.{A, B}
 use Rattle.ecat_text.specs.Words.{hexadecimal}
@@ -85,25 +82,24 @@ break_words Changed =
     codes "no one set of links gives these copies: the links changed between them"
 
 -- the end of a link where the slave at a place is, or a port where the line has no such slave
-abbrev pub end_at : Port → List SlaveState → ℕ → End
-end_at port line place = option_map_or
-    (λ (slave : SlaveState). AtSlave place (word_at slave.controller.memory STATION_ADDRESS))
-    (slice_get line place) (AtPort port)
+abbrev pub end_at : {S : Type 0} → (S → ℕ) → Port → List S → ℕ → End
+end_at {S} station port line place = option_map_or
+    (λ (slave : S). AtSlave place (station slave)) (slice_get line place) (AtPort port)
 
 -- the end of link k that is nearer to port A: slave k - 1, or the port itself
-abbrev pub end_before : List SlaveState → ℕ → End
-end_before line zero = AtPort A
-end_before line (suc place) = end_at B line place
+abbrev pub end_before : {S : Type 0} → (S → ℕ) → List S → ℕ → End
+end_before station line zero = AtPort A
+end_before station line (suc place) = end_at station B line place
 
 -- what is known of the links of a line, with the ends of a link that is down
-abbrev pub break_of : List SlaveState → Located → BreakText
-break_of line located.Unknown = Unknown
-break_of line located.Whole = Whole
-break_of line (located.One k) = One k (end_before line k) (end_at B line k)
-break_of line (located.Between p q) = Two p q (record { first = p; last = q - 1 })
-break_of line (located.First k) = First k
-break_of line (located.Last k) = Last k
-break_of line located.Changed = Changed
+abbrev pub break_of : {S : Type 0} → (S → ℕ) → List S → Located → BreakText
+break_of station line located.Unknown = Unknown
+break_of station line located.Whole = Whole
+break_of station line (located.One k) = One k (end_before station line k) (end_at station B line k)
+break_of station line (located.Between p q) = Two p q (record { first = p; last = q - 1 })
+break_of station line (located.First k) = First k
+break_of station line (located.Last k) = Last k
+break_of station line located.Changed = Changed
 
 -- the exit status: 0 where the whole cable is found whole
 abbrev pub break_status : Located → ℕ

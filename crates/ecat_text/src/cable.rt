@@ -1,6 +1,8 @@
 //! What is printed of a cable: the copies of a frame that came back, which links are down, who is missing.
 
-ghost use Rattle.std.specs.Prelude.{◌≡◌, Some};
+ghost use Rattle.std.specs.Prelude.{◌≡◌, Some, ℕ};
+ghost use Rattle.ec_esc.specs.State.{word_at};
+ghost use Rattle.ec_regs.specs.declared.registers.TheConstants.{STATION_ADDRESS};
 ghost use Rattle.ecat_text.specs.Cables.{arrived_words, break_of, break_status, break_words, copy_words};
 ghost use Rattle.ecat_text.specs.Cables.{end_at, end_before};
 ghost use Rattle.ecat_text.specs.Cables.{end_words, missing_of, missing_words, places_words, port_words};
@@ -11,12 +13,39 @@ use crate::status::{GOOD, REFUSED};
 use ec_app::Slave;
 use ec_diag::{CutOff, Heard, Located};
 use ec_ring::{Arrival, Arrivals, Port};
+use ec_run::Wanted;
 use ec_wire::FrameBuf;
 use std::fmt;
 use std::io::{self, Write};
 
 /// How many stations are named of those that are cut off.
 const MOST_STATIONS: usize = 8;
+
+/// What has a station address, by which a person knows it (IEC 61158-4-12, configured station address).
+pub trait Stationed {
+    /// Its station address.
+    ghost station: { Self → ℕ };
+
+    /// Its station address.
+    fn station(&self) -> u16
+        ensures { result ≡ station self.now };
+}
+
+impl Stationed for Slave {
+    ghost station = { λ slave. word_at slave.controller.memory STATION_ADDRESS };
+
+    fn station(&self) -> u16 {
+        self.controller().station()
+    }
+}
+
+impl Stationed for Wanted {
+    ghost station = { λ wanted. wanted.station };
+
+    fn station(&self) -> u16 {
+        self.station
+    }
+}
 
 /// A port of the master, as it is printed.
 #[derive(Drop)]
@@ -92,9 +121,9 @@ impl fmt::Display for Station {
     }
 }
 
-/// An end of a link.
+/// An end of a link, as it is printed.
 #[derive(Clone, Copy)]
-enum End {
+pub enum End {
     /// A port of the master.
     AtPort(Port),
     /// The slave at this place of the line, with its station address.
@@ -276,19 +305,31 @@ pub fn print_break<W: Write>(
     line: &[Slave],
     lines: &mut Lines<'_, W>,
 ) -> io::Result<u8> {
-    lines.text(break_of(line, located))?;
-    if let CutOff::Places(first, last) = located.cut_off() {
-        lines.text(" (")?;
-        print_stations(line, Places { first, last }, lines)?;
-        lines.text(")")?;
-    }
+    put_break(located, line, lines)?;
     lines.end()?;
     Ok(break_status(located))
 }
 
-/// Prints the station addresses of these slaves, of the first `MOST_STATIONS` if there are more.
-fn print_stations<W: Write>(
-    line: &[Slave],
+/// Puts where the cable of a line is broken and who is cut off.
+pub fn put_break<S: Stationed, W: Write>(
+    located: Located,
+    line: &[S],
+    lines: &mut Lines<'_, W>,
+) -> io::Result<()> {
+    lines.text(break_of(line, located))?;
+    match located.cut_off() {
+        CutOff::Places(first, last) => {
+            lines.text(" (")?;
+            put_stations(line, Places { first, last }, lines)?;
+            lines.text(")")
+        }
+        _ => Ok(()),
+    }
+}
+
+/// Puts the station addresses of these slaves, of the first `MOST_STATIONS` if there are more.
+fn put_stations<S: Stationed, W: Write>(
+    line: &[S],
     places: Places,
     lines: &mut Lines<'_, W>,
 ) -> io::Result<()> {
@@ -302,14 +343,14 @@ fn print_stations<W: Write>(
         if place - places.first == MOST_STATIONS {
             return lines.text("..");
         }
-        lines.text(Station(slave.controller().station()))?;
+        lines.text(Station(slave.station()))?;
     }
     Ok(())
 }
 
 /// What is known of the links of a line, with the ends of a link that is down.
-fn break_of(line: &[Slave], located: Located) -> BreakText
-    ensures { result ≡ break_of line.now located }
+fn break_of<S: Stationed>(line: &[S], located: Located) -> BreakText
+    ensures { result ≡ break_of S.station line.now located }
 {
     match located {
         Located::Unknown => BreakText::Unknown,
@@ -342,8 +383,8 @@ fn break_status(located: Located) -> u8
 }
 
 /// The end of a link that is nearer to port A.
-fn end_before(line: &[Slave], link: usize) -> End
-    ensures { result ≡ end_before line.now link }
+fn end_before<S: Stationed>(line: &[S], link: usize) -> End
+    ensures { result ≡ end_before S.station line.now link }
 {
     if link == 0 {
         End::AtPort(Port::A)
@@ -353,11 +394,11 @@ fn end_before(line: &[Slave], link: usize) -> End
 }
 
 /// The end of a link at the slave of this place, or at a port where the line has no such slave.
-fn end_at(port: Port, line: &[Slave], place: usize) -> End
-    ensures { result ≡ end_at port line.now place }
+fn end_at<S: Stationed>(port: Port, line: &[S], place: usize) -> End
+    ensures { result ≡ end_at S.station port line.now place }
 {
     match line.get(place) {
-        Some(slave) => End::AtSlave(place, slave.controller().station()),
+        Some(slave) => End::AtSlave(place, slave.station()),
         None => End::AtPort(port),
     }
 }

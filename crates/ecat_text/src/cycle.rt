@@ -89,15 +89,17 @@ pub fn print_items<W: Write>(
     lines: &mut Lines<'_, W>,
 ) -> io::Result<()> {
     for k in 0..work.len() {
-        print_item(k, work.item(k), expected[k], lines)?;
+        let item = work.item(k);
+        print_item(k, item, item.counter(), expected[k], lines)?;
     }
     Ok(())
 }
 
-/// Prints the line of one item.
-fn print_item<W: Write>(
+/// Prints the line of one item, which was counted so often.
+pub fn print_item<W: Write>(
     number: usize,
     item: &Item,
+    counter: u16,
     expected: u16,
     lines: &mut Lines<'_, W>,
 ) -> io::Result<()> {
@@ -108,7 +110,7 @@ fn print_item<W: Write>(
     })?;
     lines.hex(item.data())?;
     lines.text(ItemTail {
-        counter: item.counter(),
+        counter,
         expected,
         adp: if kind == Kind::Brd {
             Some(item.adp())

@@ -10,10 +10,13 @@ use std::io::{self, Write};
 
 /// How often an item was counted, as it is printed.
 #[derive(Drop)]
-struct CountText {
-    item: usize,
-    came: u16,
-    wanted: u16,
+pub struct CountText {
+    /// The number of the item.
+    pub item: usize,
+    /// How often it was counted.
+    pub came: u16,
+    /// How often it was to be counted.
+    pub wanted: u16,
 }
 
 impl fmt::Display for CountText {

@@ -22,9 +22,12 @@ mod refusal;
 mod status;
 
 pub use areas::print_areas;
-pub use cable::{Missing, Places, PortText, missing_of, print_arrived, print_break, print_copies};
-pub use cycle::{VerdictText, print_items, print_verdict, status_of};
-pub use judgement::{print_counts, print_losses};
+pub use cable::{
+    End, Missing, Places, PortText, Stationed, missing_of, print_arrived, print_break,
+    print_copies, put_break,
+};
+pub use cycle::{VerdictText, print_item, print_items, print_verdict, status_of};
+pub use judgement::{CountText, print_counts, print_losses};
 pub use lines::Lines;
 pub use object::{FaultText, TripsText, print_line, print_read, print_written};
 pub use refusal::refuse;

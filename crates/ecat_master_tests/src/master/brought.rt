@@ -4,7 +4,9 @@ use super::line::shown;
 use super::stage::{ROOM, Row, Stage, Told, assert_rows, ring_with, wanted_with};
 use crate::asserts::assert_found;
 use ec_regs::AlState;
-use ecat_master::{Lines, Watched, start};
+use ec_run::Watched;
+use ecat_master::start;
+use ecat_text::Lines;
 use std::io::Cursor;
 use std::process::Abort;
 

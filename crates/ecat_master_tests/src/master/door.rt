@@ -3,7 +3,8 @@
 use super::line::{EXPECTED, ring, wanted, work};
 use super::stage::{Count, Event, ROOM, Stage, written};
 use crate::asserts::assert_found;
-use ecat_master::{Outputs, Plan, master};
+use ec_run::Outputs;
+use ecat_master::{Plan, master};
 use std::io::Cursor;
 
 /// What is printed of it.

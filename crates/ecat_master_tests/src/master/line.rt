@@ -7,7 +7,7 @@ use ec_map::{Item, Kind};
 use ec_master::Work;
 use ec_regs::{AlState, Fmmu, SyncMan};
 use ec_ring::Ring;
-use ecat_master::{Wanted, wanted_of};
+use ec_run::{Wanted, wanted_of};
 use std::alloc::Global;
 use std::process::Abort;
 

@@ -5,7 +5,9 @@ use super::stage::{Event, ROOM, Row, Stage, Told, assert_rows, ring_with, wanted
 use crate::asserts::assert_found;
 use ec_app::Value;
 use ec_regs::AlState;
-use ecat_master::{Lines, StartupObject, Watched, start};
+use ec_run::{StartupObject, Watched};
+use ecat_master::start;
+use ecat_text::Lines;
 use std::io::Cursor;
 
 /// The object that slaves have, with a value of two bytes.

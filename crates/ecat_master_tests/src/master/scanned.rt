@@ -2,7 +2,9 @@
 
 use super::stage::{ROOM, Stage, Told, ring_with, wanted_with, written};
 use crate::asserts::assert_found;
-use ecat_master::{Lines, Watched, scan, start};
+use ec_run::Watched;
+use ecat_master::{scan, start};
+use ecat_text::Lines;
 use std::io::Cursor;
 use std::process::Abort;
 
@@ -15,13 +17,13 @@ struct Row {
     down: &'static [usize],
     /// Whether the slaves were brought up before.
     starts: bool,
-    /// Whether all of them could be read.
+    /// Whether a copy came back and all of them could be read.
     all: bool,
     text: &'static str,
 }
 
 /// Lines that are whole or broken, brought up or not.
-static ROWS: [Row; 3] = [
+static ROWS: [Row; 4] = [
     Row {
         name: "a line that was brought up is scanned",
         slaves: 3,
@@ -58,6 +60,14 @@ static ROWS: [Row; 3] = [
         all: false,
         text: "slaves 3\nlink 1 down\nslave 0 station 0x0000 state Init\nslave 1 BadAnswer\n\
             slave 2 station 0x0000 state Init\n",
+    },
+    Row {
+        name: "nothing is known where no copy comes back",
+        slaves: 3,
+        down: &[0, 3],
+        starts: false,
+        all: false,
+        text: "slaves 0\nno copy came back: nothing known\n",
     },
 ];
 

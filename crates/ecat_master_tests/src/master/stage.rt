@@ -8,8 +8,9 @@ use arrayvec::ArrayVec;
 use ec_master::PortFault;
 use ec_regs::{AlState, AlStatus};
 use ec_ring::{Arrivals, HeardPorts, Ring, Travel, Weather};
+use ec_run::{Outputs, StartupObject, Wanted};
 use ec_wire::{Command, Datagram, FrameBuf, address_of};
-use ecat_master::{Outputs, Pace, Plan, StartupObject, Wanted, master};
+use ecat_master::{Pace, Plan, master};
 use std::io::{Cursor, Write};
 use std::process::Abort;
 

@@ -4,11 +4,11 @@ ghost use Rattle.std.specs.Prelude.{◌≡◌, None};
 
 use super::{ROOM, written};
 use ec_master::PortFault;
+use ec_run::{ImageFault, ImagesFault};
 use ec_wire::PACKET_ROOM;
 use ecat_acts::failure::{Failure, report, unbound};
 use ecat_acts::udp::{act_udp, prepare_udp};
 use ecat_line::LineFailure;
-use ecat_master::{ImageFault, ImagesFault};
 use ecat_scene::{LineFault, SceneFault};
 use ecat_serve::BindFault;
 use ecat_source::{Bytes, PcapFault};

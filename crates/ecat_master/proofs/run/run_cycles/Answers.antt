@@ -1,5 +1,5 @@
-use Rattle.ecat_master.specs.Watched.{WatchedTrips}
-use Rattle.ecat_master.proofs.CycleLemmas.{run_starts, run_goes_on, is_run}
+use Rattle.ec_run.specs.Watched.{WatchedTrips}
+use Rattle.ec_run.proofs.Laws.{run_starts, run_goes_on, is_run}
 use Rattle.ecat_master.proofs.run.run_cycles.Goals as goal
 
 pub loop-cycles-init : goal.loop-cycles-init

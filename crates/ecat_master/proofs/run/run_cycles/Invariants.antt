@@ -1,6 +1,6 @@
 use Rattle.std.proofs.Common.{◌-◌, ◌^◌}
-use Rattle.ecat_master.specs.Watched.{WatchedTrips}
-use Rattle.ecat_master.proofs.CycleLemmas.{RunSoFar}
+use Rattle.ec_run.specs.Watched.{WatchedTrips}
+use Rattle.ec_run.proofs.Laws.{RunSoFar}
 use Rattle.ecat_master.proofs.run.run_cycles.Given as goal
 
 abbrev pub invariant-loop-cycles : goal.invariant-loop-cycles

@@ -1,0 +1,4 @@
+mod AskLemmas
+mod StepLemmas
+mod OutputLemmas
+pub mod Laws

@@ -1,0 +1,108 @@
+//! One question to the slaves: a datagram that goes out alone in a frame, and what its copies join to.
+
+ghost use Rattle.std.specs.Prelude.{◌≡◌, ◌≤◌, ◌<◌, IfOk, Err, length};
+ghost use Rattle.ec_wire.specs.Datagram.{nth, record_of};
+ghost use Rattle.ec_services.specs.Ask.{request};
+ghost use Rattle.ec_services.specs.declared.fault.MasterFault.TheVariants.{Port};
+ghost use Rattle.ec_run.specs.Ask.{IsPut, one_counted, one_or_two, held_by};
+
+use arrayvec::ArrayVec;
+use ec_master::Ports;
+use ec_merge::join_frames;
+use ec_services::MasterFault;
+use ec_wire::{Command, Datagram, FrameBuf, MAX_DATA};
+
+/// A datagram with these data, its index and its working counter 0.
+pub fn request(command: Command, address: u32, payload: &[u8]) -> Datagram
+    requires { length payload.now ≤ MAX_DATA }
+    ensures { record_of result ≡ request command address payload.now }
+{
+    let mut bytes = ArrayVec::new();
+    bytes.try_extend_from_slice(payload).unwrap();
+    Datagram {
+        command,
+        index: 0,
+        address,
+        circulating: false,
+        irq: 0,
+        payload: bytes,
+        counter: 0,
+    }
+}
+
+/// Sends a datagram alone in a frame, and answers what its copies join to: a frame of one datagram of its
+/// size.
+pub fn put<P: Ports>(ports: &mut P, sent: &Datagram) -> Result<FrameBuf, MasterFault>
+    ensures put { IsPut P.trips ports.old (record_of sent.now) result ports.new }
+    ensures one { IfOk result (λ joined. length joined ≡ 1) }
+    ensures size { IfOk result
+        (λ joined. length (nth joined 0).payload ≡ length sent.now.payload.items) }
+    ensures counted { result ≡ Err Port → P.failed ports.old < P.failed ports.new }
+    ensures never_lower { P.failed ports.old ≤ P.failed ports.new }
+{
+    let frame = FrameBuf::of(sent);
+    let came = match ports.trip(&frame) {
+        Ok(came) => came,
+        Err(_) => return Err(MasterFault::Port),
+    };
+    match join_frames(&frame, came.a.as_ref(), came.b.as_ref()) {
+        Ok(joined) => Ok(joined),
+        Err(_) => Err(MasterFault::Stranger),
+    }
+}
+
+/// Did exactly one slave count on an answer?
+pub fn one_counted(answer: &Result<FrameBuf, MasterFault>) -> Result<(), MasterFault>
+    requires { IfOk answer.now (λ joined. length joined ≡ 1) }
+    ensures { result ≡ one_counted answer.now }
+{
+    let joined = match answer {
+        Ok(joined) => joined,
+        Err(fault) => return Err(*fault),
+    };
+    match joined.counter(0) {
+        0 => Err(MasterFault::NoSlave),
+        1 => Ok(()),
+        _ => Err(MasterFault::BadAnswer),
+    }
+}
+
+/// Did one slave count on an answer, or two?
+pub(crate) fn one_or_two(answer: &Result<FrameBuf, MasterFault>) -> Result<(), MasterFault>
+    requires { IfOk answer.now (λ joined. length joined ≡ 1) }
+    ensures { result ≡ one_or_two answer.now }
+{
+    let joined = match answer {
+        Ok(joined) => joined,
+        Err(fault) => return Err(*fault),
+    };
+    match joined.counter(0) {
+        0 => Err(MasterFault::NoSlave),
+        1 | 2 => Ok(()),
+        _ => Err(MasterFault::BadAnswer),
+    }
+}
+
+/// Did exactly one slave count on an answer, and has it these bytes?
+pub(crate) fn held_by(
+    bytes: &[u8],
+    answer: &Result<FrameBuf, MasterFault>,
+) -> Result<(), MasterFault>
+    requires { IfOk answer.now (λ joined. length joined ≡ 1) }
+    ensures { result ≡ held_by bytes.now answer.now }
+{
+    let joined = match answer {
+        Ok(joined) => joined,
+        Err(fault) => return Err(*fault),
+    };
+    match joined.counter(0) {
+        0 => return Err(MasterFault::NoSlave),
+        1 => {}
+        _ => return Err(MasterFault::BadAnswer),
+    }
+    if joined.data(0) == bytes {
+        Ok(())
+    } else {
+        Err(MasterFault::BadAnswer)
+    }
+}

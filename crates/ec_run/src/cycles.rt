@@ -1,0 +1,71 @@
+//! Cycles over two ports, one after the other.
+
+ghost use Rattle.std.specs.Prelude.{◌≡◌, ◌≤◌, ◌<◌, ◌^◌, ◌-◌, length, Err};
+ghost use Rattle.ec_master.specs.declared.cycle.CycleFault.TheVariants.{Port};
+ghost use Rattle.ec_run.specs.Cycles.{AddUp, IsCycle, begun_with, image_after};
+
+use crate::counts::Counts;
+use crate::outputs::Outputs;
+use ec_master::{CycleFault, Ports, Verdict, Work, run_cycle};
+
+/// The most cycles: a count of 64 bits has no room for another one.
+pub const MOST_CYCLES: u64 = u64::MAX;
+
+/// A work that is done again and again.
+#[derive(Drop)]
+pub struct Cycles {
+    /// What is asked, with the outputs that the items were made with.
+    pub asked: Work,
+    /// What the items brought back in the last good cycle, if there was one.
+    pub image: Option<Work>,
+    /// How many cycles there were, by their ends.
+    pub counts: Counts,
+}
+
+impl Cycles {
+    /// A work of which no cycle was made.
+    pub fn new(work: Work) -> Cycles
+        ensures begun { result ≡ begun_with work }
+        ensures adds_up { AddUp result.counts }
+    {
+        Cycles {
+            asked: work,
+            image: None,
+            counts: Counts::none(),
+        }
+    }
+
+    /// Makes one cycle: its outputs are put into the items, which begin the round of its number, and go out
+    /// over the ports (`run_cycle`). On a good verdict, and only then, the image is what they bring back.
+    pub fn cycle<P: Ports>(
+        &mut self,
+        ports: &mut P,
+        outputs: Outputs<'_>,
+        expected: &[u16],
+    ) -> Result<Verdict, CycleFault>
+        requires items { length expected.now ≡ length self.old.asked }
+        requires room { self.old.counts.cycles < 2 ^ 64 - 1 }
+        requires sum { AddUp self.old.counts }
+        ensures cycle { IsCycle P.trips ports.old outputs.entry expected.now self.old result self.new
+            ports.new }
+        ensures adds_up { AddUp self.new.counts }
+        ensures counted { result ≡ Err Port → P.failed ports.old < P.failed ports.new }
+        ensures never_lower { P.failed ports.old ≤ P.failed ports.new }
+    {
+        let mut work = outputs.of(self.counts.cycles, &self.asked);
+        work.begin_round(self.counts.cycles);
+        let ended = run_cycle(ports, &mut work, expected);
+        self.counts = self.counts.with(ended);
+        self.take(ended, work);
+        ended
+    }
+
+    /// Takes the image of a good cycle.
+    fn take(&mut self, ended: Result<Verdict, CycleFault>, work: Work)
+        ensures { self.new ≡ record self.old { image = image_after ended self.old.image work } }
+    {
+        if ended == Ok(Verdict::Good) {
+            self.image = Some(work);
+        }
+    }
+}

@@ -1,0 +1,61 @@
+#![tactic(auto)]
+//! What a master does that runs, over any two ports, and nothing of what it tells: it brings slaves up step
+//! by step, makes cycle after cycle, and looks after slaves that have left Op (IEC 61158-6-12, AL management;
+//! IEC 61158-4-12, working counter). No socket, no clock and no text is in it, but for images of outputs,
+//! which are read from one.
+//!
+//! A master's calls leave to their caller in which order they are made, and what is done when one fails. That
+//! order is here, in parts from which a program is put together, as `ecat_master` does. One part, as
+//! `run/sent.rt` of `ecat_master_tests` tries it:
+//!
+//! ```text
+//! let mut cycles = Cycles::new(work);
+//! let ended = cycles.cycle(&mut ports, Outputs::Count, &EXPECTED);
+//! ```
+//!
+//! - [`Wanted`] is what a slave is to be told; [`wanted_of`] reads it off the slaves of a scene, and its
+//!   startup objects are put beside.
+//! - [`bring_line`] brings all slaves through one of the [`PHASES`], each a list of steps ([`Step`]);
+//!   [`count_slaves`] counts them before, and [`bring`] gives stations.
+//! - [`Cycles`] is a work that is done again and again: [`Cycles::cycle`] makes one. Its [`Outputs`] may be
+//!   images of a text, a line for each cycle ([`read_images`]).
+//! - [`recover`] looks at a slave and brings it up again; [`Seen::remedy`] is the table of what is done.
+//! - [`Watched`] are ports that keep where copies arrived.
+//!
+//! What is promised:
+//!
+//! - [`bring_line`] (`brings`): over any two ports the steps of a phase are done in their order with each
+//!   slave in its order, each by the datagrams that its definition has, until one fails, which is named.
+//! - [`Cycles::cycle`] (`cycle`): the items go out with their outputs at the start of the round of the
+//!   cycle's number, the cycle is `ec_master::run_cycle`, its end is counted, and the image is what a good
+//!   cycle brought and nothing else. `adds_up`: good, short, over and fault are all cycles together.
+//!
+//! What the contracts speak of stands in specs/: `Step`, `Phase` and `StartupObjects` (start-up), `Cycles`
+//! and `Outputs`, `Recovery`, `Watched` (ports that tell where copies arrive, as ports of a master), `Ask`
+//! and `Counting` (one question).
+
+mod ask;
+mod counting;
+mod counts;
+mod cycles;
+mod images;
+mod objects;
+mod outputs;
+mod phase;
+mod recovery;
+mod step;
+mod wanted;
+mod watched;
+
+pub use ask::{one_counted, put, request};
+pub use counting::count_slaves;
+pub use counts::Counts;
+pub use cycles::{Cycles, MOST_CYCLES};
+pub use images::{Image, ImageFault, ImagesFault, MAX_IMAGES_TEXT, image_length, read_images};
+pub use objects::peer_between;
+pub use outputs::Outputs;
+pub use phase::{PHASES, Phase, StepFault, bring, bring_line};
+pub use recovery::{Outcome, Remedy, Seen, look_at, recover, tells_places};
+pub use step::{Step, startup_number};
+pub use wanted::{MAX_STARTUP, StartupObject, Wanted, wanted_of};
+pub use watched::{Signs, Watched, Ways};

@@ -1,4 +1,0 @@
-mod AskLemmas
-mod StepLemmas
-mod OutputLemmas
-mod CycleLemmas

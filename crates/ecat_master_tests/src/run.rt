@@ -1,0 +1,4 @@
+//! Cycles one after the other, and the outputs that they send.
+
+mod images;
+mod sent;
