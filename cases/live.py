@@ -718,25 +718,35 @@ def a_master_sees_cables_break_and_heal(stage):
             for wanted in STARTED.splitlines(True):
                 yield "start", wanted, master.line()
 
-            def broken(*commands):
-                for command in commands:
-                    line.process.stdin.write(command.encode() + b"\n")
-                    line.line()
-                return told(master.line())
+            def tells(words):
+                """Reads on to a line with these words. A cycle that met a change between its two copies may have
+                another counter: its line tells of the cable too, and the next one that it is good again."""
+                seen = told(master.line())
+                while words not in seen and re.search("came|good again|other than before", seen):
+                    seen = told(master.line())
+                if "came" in seen and "came" not in words:
+                    master.line()
+                return words if words in seen else seen
 
-            lost = "cycle N: redundancy lost: link 1 down: between slave 0 (0x1001) and slave 1 (0x1002)\n"
-            yield "one break", lost, broken("link 1 down")
-            yield "none", "cycle N: ring whole again\n", broken("link 1 up")
-            yield "one break", lost, broken("link 1 down")
-            short = "cycle N: item 0: came 6 of 9; links 1 and 2 down: slave 1 cut off (0x1002)\n"
-            yield "two breaks", short, broken("link 2 down")
-            yield "one break", "cycle N: good again after M cycles\n", broken("link 2 up")
-            yield "which one", lost, told(master.line())
+            def after(command, words):
+                line.process.stdin.write(command.encode() + b"\n")
+                line.line()
+                return tells(words)
+
+            lost = "link 1 down: between slave 0 (0x1001) and slave 1 (0x1002)\n"
+            yield "one break", lost, after("link 1 down", lost)
+            yield "none", "ring whole", after("link 1 up", "ring whole")
+            yield "one break", lost, after("link 1 down", lost)
+            short = "came 6 of 9; links 1 and 2 down: slave 1 cut off (0x1002)\n"
+            yield "two breaks", short, after("link 2 down", short)
+            again = "good again after M cycles\n"
+            yield "one break", again, after("link 2 up", again)
+            yield "which one", lost, tells(lost)
             master.process.stdin.close()
             master.process.stdin = None
             end = master.end()
             cycles, good, short, over, fault = (int(n) for n in re.findall(r"\d+", last_lines(end, 4))[:5])
-            yield "sums", f"{cycles} 0 0", f"{good + short} {over} {fault}"
+            yield "sums", f"{cycles} 0", f"{good + short + over} {fault}"
             yield "items", ITEMS + "0\n", last_lines(end, 3)
 
 
