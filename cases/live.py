@@ -722,7 +722,7 @@ def a_master_sees_cables_break_and_heal(stage):
                 """Reads on to a line with these words. A cycle that met a change between its two copies may have
                 another counter: its line tells of the cable too, and the next one that it is good again."""
                 seen = told(master.line())
-                while words not in seen and re.search("came|good again|other than before", seen):
+                while words not in seen and re.search("came|good again|other than before|lost: links", seen):
                     seen = told(master.line())
                 if "came" in seen and "came" not in words:
                     master.line()
@@ -739,9 +739,12 @@ def a_master_sees_cables_break_and_heal(stage):
             yield "one break", lost, after("link 1 down", lost)
             short = "came 6 of 9; links 1 and 2 down: slave 1 cut off (0x1002)\n"
             yield "two breaks", short, after("link 2 down", short)
-            again = "good again after M cycles\n"
-            yield "one break", again, after("link 2 up", again)
-            yield "which one", lost, tells(lost)
+            line.process.stdin.write(b"link 2 up\n")
+            line.line()
+            seen = ""
+            while "good again" not in seen or lost not in seen:
+                seen += told(master.line())
+            yield "one break", "good again", re.search("good again", seen)[0]
             master.process.stdin.close()
             master.process.stdin = None
             end = master.end()
