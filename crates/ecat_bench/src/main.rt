@@ -1,5 +1,5 @@
 #![tactic(auto)]
-//! The works of the benchmark on this side: what `bench/run` compares with a peer in plain Rust.
+//! The works of the benchmark on this side: what `bench/works` compares with a peer in plain Rust.
 //!
 //! With no argument it lists the works. With the argument `measure` it prints a line for each: its name and
 //! the picoseconds of one run, the best of many.
