@@ -1,6 +1,6 @@
 //! What a master asks in each cycle.
 
-ghost use Rattle.std.specs.Prelude.{◌≡◌, ◌==◌, ◌<◌, ◌*◌, IfOk, length};
+ghost use Rattle.std.specs.Prelude.{◌≡◌, ◌==◌, ◌<◌, ◌≤◌, ◌*◌, ◌++◌, IfOk, length, take, drop};
 ghost use Rattle.std.specs.Result.{result_err};
 ghost use Rattle.ec_regs.specs.Bits.{bit};
 ghost use Rattle.ec_map.specs.Item.{item_fault, new_item};
@@ -44,6 +44,32 @@ fn bit(bytes: &[u8], at: usize) -> bool
     ensures { result ≡ (bit bytes.now at == 1) }
 {
     bytes[at / 8] >> (at % 8) & 1 == 1
+}
+
+/// Gives a list of bytes those of another.
+fn assign_bytes(bytes: &mut ArrayVec<u8, MAX_DATA>, other: &[u8])
+    requires { length other.now ≤ MAX_DATA }
+    ensures { bytes.new.items ≡ other.now }
+{
+    if bytes.len() != other.len() {
+        bytes.clear();
+        bytes.try_extend_from_slice(other).unwrap();
+    } else {
+        bytes.as_mut_slice().copy_from_slice(other);
+    }
+}
+
+/// Puts bytes in front of others, of which as many give way.
+fn put_before(others: &mut [u8], bytes: &[u8])
+    ensures value { others.new
+        ≡ take (length others.old) bytes.now ++ drop (length bytes.now) others.old }
+    ensures size { length others.new ≡ length others.old }
+{
+    if bytes.len() < others.len() {
+        others[..bytes.len()].copy_from_slice(bytes);
+    } else {
+        others.copy_from_slice(&bytes[..others.len()]);
+    }
 }
 
 impl Default for Item {
@@ -107,6 +133,18 @@ impl Item {
         }
     }
 
+    /// Becomes a second item with the same fields as another. Where both have as many data, nothing but these
+    /// is copied.
+    pub fn assign(&mut self, other: &Item)
+        ensures { self.new ≡ other.now }
+    {
+        assign_bytes(&mut self.payload, other.payload.as_slice());
+        self.kind = other.kind;
+        self.address = other.address;
+        self.counter = other.counter;
+        self.adp = other.adp;
+    }
+
     /// What it asks.
     pub fn kind(&self) -> Kind
         ensures { result ≡ self.now.kind }
@@ -160,6 +198,15 @@ impl Item {
         ensures { self.new ≡ record self.old { payload = bytes.now } }
     {
         self.payload.as_mut_slice().copy_from_slice(bytes);
+    }
+
+    /// Puts bytes in front of its data, of which as many give way; all else stays.
+    pub fn put_front(&mut self, bytes: &[u8])
+        ensures { self.new ≡ record self.old {
+          payload = take (length self.old.payload) bytes.now ++ drop (length bytes.now) self.old.payload;
+        } }
+    {
+        put_before(self.payload.as_mut_slice(), bytes);
     }
 
     /// Sets its working counter; all else stays.

@@ -5,7 +5,6 @@ use Rattle.std.proofs.Common.{List, [], ◌∷◌, ◌++◌, length, map, take, 
 use Rattle.std.proofs.lemmas.List.{get_or-take, length-take-le}
 use Rattle.std.proofs.lemmas.Option.{slice_get-get_or}
 use Rattle.std.specs.List.{slice_get}
-use Rattle.std.specs.Prelude.{◌↔◌, OnOk, IsErr, Result, Ok, Err}
 use Rattle.ec_wire.specs.Datagram.{DatagramRecord, nth}
 use Rattle.ec_map.specs.Item.{ItemRecord}
 use Rattle.ec_master.specs.Work.{with_answer, with_answers, with_answers_at}
@@ -103,14 +102,36 @@ length-changed f (suc k) [] = refl
 length-changed f zero (r ∷ rs) = refl
 length-changed f (suc k) (r ∷ rs) = ap suc (length-changed f k rs)
 
--- ---- pushing and copying
+-- ---- filling with the items of another work
 
--- where there is room an item is pushed
-pub pushed : {E : Type 0} (result : Result (Unit {0}) E) (old later : List ItemRecord) (r : ItemRecord)
-    → OnOk result (later ≡ old ++ r ∷ [])
-    → (IsErr result ↔ (length old ≡ 32)) → length old < 32 → later ≡ old ++ r ∷ []
-pushed (Ok u) old later r done full room = done
-pushed (Err e) old later r done full room = absurd (omega (arith, room, full.0 refl))
+pub set-taken : (k : ℕ) (rs os : List ItemRecord) (e : ItemRecord) → k < length os → length rs ≡ length os
+    → set (take k os ++ drop k rs) k (get_or os k e) ≡ take (suc k) os ++ drop (suc k) rs
+set-taken k rs [] e h same = absurd (omega (arith, h))
+set-taken k [] (o ∷ os) e h same = absurd (omega (arith, same))
+set-taken zero (r ∷ rs) (o ∷ os) e h same = refl
+set-taken (suc k) (r ∷ rs) (o ∷ os) e h same =
+    ap (λ (xs : List ItemRecord). o ∷ xs) (set-taken k rs os e (omega (arith, h)) (omega (arith, same)))
+
+pub length-taken : (k : ℕ) (rs os : List ItemRecord) → length rs ≡ length os
+    → length (take k os ++ drop k rs) ≡ length os
+length-taken zero rs os same = same
+length-taken (suc k) [] [] same = refl
+length-taken (suc k) [] (o ∷ os) same = absurd (omega (arith, same))
+length-taken (suc k) (r ∷ rs) [] same = absurd (omega (arith, same))
+length-taken (suc k) (r ∷ rs) (o ∷ os) same = ap suc (length-taken k rs os (omega (arith, same)))
+
+pub taken-all : (k : ℕ) (rs os : List ItemRecord) → length rs ≡ length os → length os ≤ k
+    → take k os ++ drop k rs ≡ os
+taken-all zero [] [] same h = refl
+taken-all zero rs (o ∷ os) same h = absurd (omega (arith, h))
+taken-all zero (r ∷ rs) [] same h = absurd (omega (arith, same))
+taken-all (suc k) [] [] same h = refl
+taken-all (suc k) [] (o ∷ os) same h = absurd (omega (arith, same))
+taken-all (suc k) (r ∷ rs) [] same h = absurd (omega (arith, same))
+taken-all (suc k) (r ∷ rs) (o ∷ os) same h =
+    ap (λ (xs : List ItemRecord). o ∷ xs) (taken-all k rs os (omega (arith, same)) (omega (arith, h)))
+
+-- ---- one item more
 
 pub take-one_more : (k : ℕ) (rs : List ItemRecord) (e : ItemRecord) → k < length rs
     → take k rs ++ get_or rs k e ∷ [] ≡ take (k + 1) rs

@@ -1,6 +1,6 @@
 //! A master's cycle over any two ports.
 
-ghost use Rattle.std.specs.Prelude.{◌≡◌, ◌≤◌, ◌<◌, Err, IfOk, IfErr, length, map};
+ghost use Rattle.std.specs.Prelude.{◌≡◌, ◌≤◌, ◌<◌, Err, OnOk, IfErr, length, map};
 ghost use Rattle.ec_line.specs.Answered.{sent_of};
 ghost use Rattle.ec_master.specs.Cut.{frames_of};
 ghost use Rattle.ec_master.specs.declared.cycle.CycleFault.TheVariants.{Port};
@@ -37,23 +37,48 @@ fn carry<P: Ports>(ports: &mut P, sent: &FrameBuf) -> Result<FrameBuf, CycleFaul
     }
 }
 
-/// Sends the frames of a work one after the other and joins the copies of each. What the work is with these
-/// answers is returned.
-fn carry_all<P: Ports>(ports: &mut P, work: &Work) -> Result<Work, CycleFault>
-    ensures answers { IfOk result (λ taken. IsAnswered P.trips ports.old work.now taken ports.new) }
+/// Sends the frames of a work one after the other and joins the copies of each. Another work with the same
+/// items takes the answers.
+fn carry_all<P: Ports>(ports: &mut P, work: &Work, taken: &mut Work) -> Result<(), CycleFault>
+    requires { taken.old ≡ work.now }
+    ensures answers { OnOk result (IsAnswered P.trips ports.old work.now taken.new ports.new) }
     ensures fault { IfErr result (λ fault.
         Sends P.trips ports.old (map sent_of (frames_of work.now)) (Err fault) ports.new) }
     ensures counted { IfErr result (λ fault. fault ≡ Port → P.failed ports.old < P.failed ports.new) }
     ensures never_lower { P.failed ports.old ≤ P.failed ports.new }
 {
-    let mut taken = work.copy();
     let mut first = 0;
     while first < work.len() {
         let joined = carry(ports, &frame_from(work, first))?;
         taken.take_answers(first, &joined);
         first += joined.count();
     }
-    Ok(taken)
+    Ok(())
+}
+
+/// A cycle over ports as `run_cycle` makes it, with a second work as room for what was sent: nothing but the
+/// items is copied. What the second work holds before and after does not matter.
+pub fn run_cycle_in<P: Ports>(
+    ports: &mut P,
+    work: &mut Work,
+    expected: &[u16],
+    sent: &mut Work,
+) -> Result<Verdict, CycleFault>
+    requires { length expected.now ≡ length work.old }
+    ensures cycle { IsPortCycle P.trips ports.old work.old expected.now result work.new ports.new }
+    ensures frames_suffice { FramesSuffice P.trips ports.old work.old expected.now result work.new ports.new }
+    ensures counted { result ≡ Err Port → P.failed ports.old < P.failed ports.new }
+    ensures never_lower { P.failed ports.old ≤ P.failed ports.new }
+{
+    work.are_items();
+    sent.assign(work);
+    match carry_all(ports, sent, work) {
+        Ok(()) => Ok(conclude(work, sent, expected)),
+        Err(fault) => {
+            work.assign(sent);
+            Err(fault)
+        }
+    }
 }
 
 /// A cycle over ports: the work's frames go out one after the other, the copies of each are joined, and
@@ -76,7 +101,5 @@ pub fn run_cycle<P: Ports>(
     ensures counted { result ≡ Err Port → P.failed ports.old < P.failed ports.new }
     ensures never_lower { P.failed ports.old ≤ P.failed ports.new }
 {
-    work.are_items();
-    let taken = carry_all(ports, work)?;
-    Ok(conclude(work, taken, expected))
+    run_cycle_in(ports, work, expected, &mut Work::new())
 }

@@ -68,13 +68,13 @@ mod work;
 
 pub use acceptance::{Refusal, accept, all_expected, checked_cycle};
 pub use cut::frame_from;
-pub use cycle::{CycleFault, run_cycle};
+pub use cycle::{CycleFault, run_cycle, run_cycle_in};
 pub use ec_ring::PortFault;
 pub use ports::Ports;
 pub use report::{CopiesBack, Report, Reporting};
 pub use ring::ring_cycle;
 pub use ring_ports::RingPorts;
 pub use verdict::Verdict;
-pub use weather::weather_cycle;
+pub use weather::{weather_cycle, weather_cycle_in};
 pub use weather_ports::WeatherPorts;
 pub use work::{Full, MAX_ITEMS, Work};

@@ -40,18 +40,19 @@ pub(crate) fn judge(work: &Work, taken: &Work, expected: &[u16]) -> Verdict
     Verdict::Good
 }
 
-/// The verdict on a work and the answers that it would take: on a good one, and only then, it takes them.
-pub(crate) fn conclude(work: &mut Work, taken: Work, expected: &[u16]) -> Verdict
-    requires taken { length taken ≡ length work.old }
-    requires expected { length expected.now ≡ length work.old }
-    ensures judged { (answers : List DatagramRecord) → length answers ≡ length work.old
-        → taken ≡ with_answers work.old answers → result ≡ verdict work.old answers expected.now }
-    ensures taken { (answers : List DatagramRecord) → taken ≡ with_answers work.old answers
-        → work.new ≡ taken_on result work.old answers }
+/// The verdict on a work that has taken answers, and on what was sent: where it is not good, the work is again
+/// what was sent.
+pub(crate) fn conclude(work: &mut Work, sent: &Work, expected: &[u16]) -> Verdict
+    requires taken { length work.old ≡ length sent.now }
+    requires expected { length expected.now ≡ length sent.now }
+    ensures judged { (answers : List DatagramRecord) → length answers ≡ length sent.now
+        → work.old ≡ with_answers sent.now answers → result ≡ verdict sent.now answers expected.now }
+    ensures taken { (answers : List DatagramRecord) → work.old ≡ with_answers sent.now answers
+        → work.new ≡ taken_on result sent.now answers }
 {
-    let verdict = judge(work, &taken, expected);
-    if verdict == Verdict::Good {
-        *work = taken;
+    let verdict = judge(sent, work, expected);
+    if verdict != Verdict::Good {
+        work.assign(sent);
     }
     verdict
 }

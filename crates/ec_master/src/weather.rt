@@ -1,6 +1,6 @@
 //! A master's cycle whatever befalls its frames.
 
-ghost use Rattle.std.specs.Prelude.{◌≡◌, ◌≢◌, ◌+◌, ◌<◌, ℕ, Some, List, length, map, slice_get};
+ghost use Rattle.std.specs.Prelude.{◌≡◌, ◌≢◌, ◌+◌, ◌<◌, ◌≤◌, ℕ, Some, List, length, map, slice_get};
 ghost use Rattle.std.specs.List.{AllByRecursion};
 ghost use Rattle.std.specs.Option.{option_map};
 ghost use Rattle.ec_regs.specs.declared.registers.TheConstants.{PROCESS_MEMORY, PROCESS_MEMORY_SIZE};
@@ -13,6 +13,7 @@ ghost use Rattle.ec_map.specs.Item.{ItemRecord, IsItem};
 ghost use Rattle.ec_map.specs.NotShown.{AreShown};
 ghost use Rattle.ec_map.specs.Share.{expected_of};
 ghost use Rattle.ec_ring.specs.Ring.{line_of};
+ghost use Rattle.ec_ring.specs.declared.links.TheConstants.{MAX_SLAVES};
 ghost use Rattle.ec_master.specs.Certificate.{verdict_under, verdict_by_counts, entries_at, IsOneDown};
 ghost use Rattle.ec_master.specs.Certificate.{memory_at, application_at, shown_at};
 ghost use Rattle.ec_master.specs.Covered.{InputsStand, OutputsAreShown};
@@ -115,7 +116,35 @@ pub fn weather_cycle<T: Travel>(
 {
     work.are_items();
     fit_line();
-    let mut taken = work.copy();
-    travel(ring, weather, &mut taken);
-    conclude(work, taken, expected)
+    weather_cycle_in(ring, weather, expected, work, &mut Work::new())
+}
+
+/// A cycle as `weather_cycle` makes it, with a second work as room for what was sent: nothing but the items is
+/// copied. What the second work holds before and after does not matter. All that is known of such a cycle
+/// follows from its verdict, which is that on the answers that the frames' trips bring (`judged`), and from
+/// what the work (`taken`) and the ring (`frames`) are then. A line is checked once, as there.
+pub fn weather_cycle_in<T: Travel>(
+    ring: &mut T,
+    weather: &[Weather],
+    expected: &[u16],
+    work: &mut Work,
+    sent: &mut Work,
+) -> Verdict
+    requires { expected.now ≡ map (expected_of (line_of (T.ring ring.old))) work.old }
+    ensures judged { result ≡ verdict_under weather.now (T.ring ring.old) work.old }
+    ensures taken { work.new
+        ≡ taken_on result work.old (answers_under weather.now (T.ring ring.old) work.old) }
+    ensures frames { T.ring ring.new ≡ ring_under weather.now (T.ring ring.old) work.old }
+    ensures limit { length (T.ring ring.old).slaves ≤ MAX_SLAVES }
+    ensures asks_the_same { IsAccepted (T.ring ring.old).slaves work.old → AskTheSame work.old work.new }
+    ensures again { (others : List ItemRecord) → IsAccepted (T.ring ring.old).slaves work.old
+        → AskTheSame work.old others → IsAccepted (T.ring ring.new).slaves others }
+    ensures still_expected { (others : List ItemRecord) → IsAccepted (T.ring ring.old).slaves work.old
+        → AllByRecursion IsItem others → AskTheSame work.old others
+        → map (expected_of (line_of (T.ring ring.new))) others ≡ expected.now }
+{
+    work.are_items();
+    sent.assign(work);
+    travel(ring, weather, work);
+    conclude(work, sent, expected)
 }

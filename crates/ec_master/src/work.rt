@@ -74,15 +74,31 @@ impl Work {
         Ok(())
     }
 
-    /// A second work with the same items.
-    pub(crate) fn copy(&self) -> Work
-        ensures { result ≡ self.now }
+    /// Becomes a second work with the same items as another. Nothing but these is copied, and of items that
+    /// have as many data as those that stood here before, nothing but the data.
+    pub fn assign(&mut self, other: &Work)
+        ensures { self.new ≡ other.now }
     {
-        let mut copy = Work::new();
-        for k in 0..self.len() {
-            let _ = copy.push(self.item(k).copy());
+        self.resize(other.len());
+        self.fill(other);
+    }
+
+    /// Has so many items, whichever.
+    fn resize(&mut self, count: usize)
+        requires { count ≤ MAX_ITEMS }
+        ensures { length self.new ≡ count }
+    {
+        self.count = count;
+    }
+
+    /// Takes the items of another work that has as many.
+    fn fill(&mut self, other: &Work)
+        requires { length self.old ≡ length other.now }
+        ensures { self.new ≡ other.now }
+    {
+        for k in 0..other.len() {
+            self.item_mut(k).assign(other.item(k));
         }
-        copy
     }
 
     /// The number of items, at most `MAX_ITEMS`.

@@ -1,7 +1,6 @@
--- Items that are pushed, and what an image leaves.
-use Rattle.std.proofs.Common.{◌≡◌, ◌<◌, ◌≤◌, ◌+◌, ℕ, List, [], ◌∷◌, ◌++◌, length, refl, arith, Result, Ok}
-use Rattle.std.proofs.Common.{suc, Err, ap, sym, ◌∙◌, drop, get_or}
-use Rattle.std.specs.Prelude.{OnOk, IsErr, ◌↔◌}
+-- Items that are made one after the other, and what an image leaves.
+use Rattle.std.proofs.Common.{◌≡◌, ◌<◌, ◌≤◌, ◌+◌, ℕ, List, [], ◌∷◌, ◌++◌, length, refl, arith}
+use Rattle.std.proofs.Common.{zero, suc, suc-add, ap, sym, ◌∙◌, take, drop, get_or, set}
 use Rattle.std.proofs.lemmas.List.{append_assoc, append-nil, length-map}
 use Rattle.ec_map.specs.Item.{ItemRecord}
 use Rattle.ec_run.specs.Outputs.{filled, filled_item, image_of, left_by, numbered, outputs_at}
@@ -9,11 +8,36 @@ use Rattle.ec_run.specs.declared.outputs.Outputs.{Outputs}
 use Rattle.ec_run.specs.declared.outputs.Outputs.TheVariants.{Kept, Count, Images}
 use Rattle.ec_run.proofs.StepLemmas.{left_is, left_none}
 
-pub pushed : {E : Type 0} (result : Result (Unit {0}) E) (old later : List ItemRecord) (r : ItemRecord)
-    → OnOk result (later ≡ old ++ r ∷ [])
-    → (IsErr result ↔ (length old ≡ 32)) → length old < 32 → later ≡ old ++ r ∷ []
-pushed (Ok u) old later r done full room = done
-pushed (Err e) old later r done full room = absurd (omega (arith, room, full.0 refl))
+-- ---- items that are made one after the other
+
+pub get-others : (k : ℕ) (xs ys : List ItemRecord) (d : ItemRecord) → k < length xs → k < length ys
+    → drop k xs ≡ drop k ys → get_or xs k d ≡ get_or ys k d
+get-others k [] ys d h i same = absurd (omega (arith, h))
+get-others k (x ∷ xs) [] d h i same = absurd (omega (arith, i))
+get-others zero (x ∷ xs) (y ∷ ys) d h i same = ap (λ (zs : List ItemRecord). get_or zs 0 d) same
+get-others (suc k) (x ∷ xs) (y ∷ ys) d h i same =
+    get-others k xs ys d (omega (arith, h)) (omega (arith, i)) same
+
+pub take-made : (k : ℕ) (xs : List ItemRecord) (x : ItemRecord) → k < length xs
+    → take (k + 1) (set xs k x) ≡ take k xs ++ x ∷ []
+take-made k [] x h = absurd (omega (arith, h))
+take-made zero (y ∷ ys) x h = refl
+take-made (suc k) (y ∷ ys) x h =
+    rw (suc-add k 1) (ap (λ (zs : List ItemRecord). y ∷ zs) (take-made k ys x (omega (arith, h))))
+
+pub drop-made : (k : ℕ) (xs ys : List ItemRecord) (x : ItemRecord) → k < length xs → k < length ys
+    → drop k xs ≡ drop k ys → drop (k + 1) (set xs k x) ≡ drop (k + 1) ys
+drop-made k [] ys x h i same = absurd (omega (arith, h))
+drop-made k (z ∷ xs) [] x h i same = absurd (omega (arith, i))
+drop-made zero (z ∷ xs) (y ∷ ys) x h i same = ap (λ (zs : List ItemRecord). drop 1 zs) same
+drop-made (suc k) (z ∷ xs) (y ∷ ys) x h i same =
+    rw (suc-add k 1) (drop-made k xs ys x (omega (arith, h)) (omega (arith, i)) same)
+
+pub take-past : (k : ℕ) (xs : List ItemRecord) → length xs ≤ k → take k xs ≡ xs
+take-past zero [] h = refl
+take-past zero (x ∷ xs) h = absurd (omega (arith, h))
+take-past (suc k) [] h = refl
+take-past (suc k) (x ∷ xs) h = ap (λ (zs : List ItemRecord). x ∷ zs) (take-past k xs (omega (arith, h)))
 
 -- ---- images
 

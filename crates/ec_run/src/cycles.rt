@@ -1,15 +1,32 @@
 //! Cycles over two ports, one after the other.
 
-ghost use Rattle.std.specs.Prelude.{◌≡◌, ◌≤◌, ◌<◌, ◌^◌, ◌-◌, length, Err};
+ghost use Rattle.std.specs.Prelude.{◌≡◌, ◌≤◌, ◌<◌, ◌^◌, ◌-◌, length, Err, Some};
 ghost use Rattle.ec_master.specs.declared.cycle.CycleFault.TheVariants.{Port};
 ghost use Rattle.ec_run.specs.Cycles.{AddUp, IsCycle, begun_with, image_after};
 
 use crate::counts::Counts;
 use crate::outputs::Outputs;
-use ec_master::{CycleFault, Ports, Verdict, Work, run_cycle};
+use ec_master::{CycleFault, Ports, Verdict, Work, run_cycle_in};
 
 /// The most cycles: a count of 64 bits has no room for another one.
 pub const MOST_CYCLES: u64 = u64::MAX;
+
+/// Room for the works of cycles: what a cycle sends and takes. What it holds between cycles does not matter.
+#[derive(Drop)]
+pub struct Rooms {
+    work: Work,
+    sent: Work,
+}
+
+impl Rooms {
+    /// Room for the works of cycles.
+    pub fn new() -> Rooms {
+        Rooms {
+            work: Work::new(),
+            sent: Work::new(),
+        }
+    }
+}
 
 /// A work that is done again and again.
 #[derive(Drop)]
@@ -52,20 +69,59 @@ impl Cycles {
         ensures counted { result ≡ Err Port → P.failed ports.old < P.failed ports.new }
         ensures never_lower { P.failed ports.old ≤ P.failed ports.new }
     {
-        let mut work = outputs.of(self.counts.cycles, &self.asked);
-        work.begin_round(self.counts.cycles);
-        let ended = run_cycle(ports, &mut work, expected);
+        self.cycle_in(ports, outputs, expected, &mut Rooms::new())
+    }
+
+    /// Makes one cycle as `cycle` does, in rooms that many cycles share: nothing but the items is copied.
+    pub fn cycle_in<P: Ports>(
+        &mut self,
+        ports: &mut P,
+        outputs: Outputs<'_>,
+        expected: &[u16],
+        rooms: &mut Rooms,
+    ) -> Result<Verdict, CycleFault>
+        requires items { length expected.now ≡ length self.old.asked }
+        requires room { self.old.counts.cycles < 2 ^ 64 - 1 }
+        requires sum { AddUp self.old.counts }
+        ensures cycle { IsCycle P.trips ports.old outputs.entry expected.now self.old result self.new
+            ports.new }
+        ensures adds_up { AddUp self.new.counts }
+        ensures counted { result ≡ Err Port → P.failed ports.old < P.failed ports.new }
+        ensures never_lower { P.failed ports.old ≤ P.failed ports.new }
+    {
+        outputs.put(self.counts.cycles, &self.asked, &mut rooms.work);
+        rooms.work.begin_round(self.counts.cycles);
+        let ended = run_cycle_in(ports, &mut rooms.work, expected, &mut rooms.sent);
         self.counts = self.counts.with(ended);
-        self.take(ended, work);
+        self.take(ended, &rooms.work);
         ended
     }
 
     /// Takes the image of a good cycle.
-    fn take(&mut self, ended: Result<Verdict, CycleFault>, work: Work)
-        ensures { self.new ≡ record self.old { image = image_after ended self.old.image work } }
+    fn take(&mut self, ended: Result<Verdict, CycleFault>, work: &Work)
+        ensures { self.new ≡ record self.old { image = image_after ended self.old.image work.now } }
     {
         if ended == Ok(Verdict::Good) {
-            self.image = Some(work);
+            put_image(&mut self.image, work);
         }
     }
+}
+
+/// Makes an image the items of a work.
+fn put_image(image: &mut Option<Work>, work: &Work)
+    ensures { image.new ≡ Some work.now }
+{
+    match image {
+        Some(image) => image.assign(work),
+        None => *image = Some(copy_of(work)),
+    }
+}
+
+/// A second work with the same items.
+fn copy_of(work: &Work) -> Work
+    ensures { result ≡ work.now }
+{
+    let mut copy = Work::new();
+    copy.assign(work);
+    copy
 }

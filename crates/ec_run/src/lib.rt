@@ -50,7 +50,7 @@ mod watched;
 pub use ask::{one_counted, put, request};
 pub use counting::count_slaves;
 pub use counts::Counts;
-pub use cycles::{Cycles, MOST_CYCLES};
+pub use cycles::{Cycles, MOST_CYCLES, Rooms};
 pub use images::{Image, ImageFault, ImagesFault, MAX_IMAGES_TEXT, image_length, read_images};
 pub use objects::peer_between;
 pub use outputs::Outputs;

@@ -1,13 +1,12 @@
 //! The outputs of a cycle.
 
 ghost use Rattle.std.specs.Prelude.{◌≡◌, ◌<◌, Some, drop, length, map, slice_get};
-ghost use Rattle.ec_run.specs.Outputs.{filled, filled_item, image_of, in_front, left_by, numbered};
+ghost use Rattle.ec_run.specs.Outputs.{filled, filled_item, image_of, left_by, numbered};
 ghost use Rattle.ec_run.specs.Outputs.{outputs_at};
 
 use crate::images::Image;
 use ec_map::Item;
 use ec_master::Work;
-use ec_wire::MAX_DATA;
 
 /// What the items of a cycle send.
 #[derive(Clone, Copy)]
@@ -27,45 +26,40 @@ impl Outputs<'_> {
     pub fn of(self, cycle: u64, asked: &Work) -> Work
         ensures { result ≡ outputs_at self.entry cycle asked.now }
     {
+        let mut work = Work::new();
+        self.put(cycle, asked, &mut work);
+        work
+    }
+
+    /// Makes a work the items of another one with the outputs of the cycle with this number, whatever it held.
+    pub fn put(self, cycle: u64, asked: &Work, work: &mut Work)
+        ensures { work.new ≡ outputs_at self.entry cycle asked.now }
+    {
+        work.assign(asked);
         match self {
-            Outputs::Kept => all_kept(asked),
-            Outputs::Count => all_numbered(cycle, asked),
-            Outputs::Images(images) => filled(image_of(images, cycle), asked),
+            Outputs::Kept => {}
+            Outputs::Count => number_all(cycle, work),
+            Outputs::Images(images) => fill_all(image_of(images, cycle), work),
         }
     }
 }
 
-/// The items of a work with the data that they were made with.
-fn all_kept(asked: &Work) -> Work
-    ensures { result ≡ asked.now }
+/// Puts a number into the first bytes of the items of a work that write.
+fn number_all(number: u64, work: &mut Work)
+    ensures { work.new ≡ map (numbered number) work.old }
 {
-    let mut work = Work::new();
-    for k in 0..asked.len() {
-        let _ = work.push(asked.item(k).copy());
+    for k in 0..work.len() {
+        number_item(number, work.item_mut(k));
     }
-    work
 }
 
-/// The items of a work, with a number in the first bytes of those that write.
-fn all_numbered(number: u64, asked: &Work) -> Work
-    ensures { result ≡ map (numbered number) asked.now }
+/// Puts a number into the first bytes of an item if it writes.
+fn number_item(number: u64, item: &mut Item)
+    ensures { item.new ≡ numbered number item.old }
 {
-    let mut work = Work::new();
-    for k in 0..asked.len() {
-        let _ = work.push(numbered(number, asked.item(k)));
-    }
-    work
-}
-
-/// An item, with a number in its first bytes if it writes.
-fn numbered(number: u64, asked: &Item) -> Item
-    ensures { result ≡ numbered number asked.now }
-{
-    let mut item = asked.copy();
     if item.kind().command().writes() {
-        put_in_front(&number.to_le_bytes(), &mut item);
+        item.put_front(&number.to_le_bytes());
     }
-    item
 }
 
 /// The image of the cycle with a number; nothing where there is none.
@@ -87,29 +81,25 @@ fn image_at(images: &[Image], place: usize) -> &Image
     &images[place]
 }
 
-/// The items of a work, of which those that write have their data from an image, one after the other.
-fn filled(image: &[u8], asked: &Work) -> Work
-    ensures { result ≡ filled image.now asked.now }
+/// Gives the items of a work that write their data from an image, one after the other.
+fn fill_all(image: &[u8], work: &mut Work)
+    ensures { work.new ≡ filled image.now work.old }
 {
-    let mut work = Work::new();
     let mut rest = image;
-    for k in 0..asked.len() {
-        let item = asked.item(k);
-        let _ = work.push(filled_item(rest, item));
-        rest = left_by(rest, item);
+    for k in 0..work.len() {
+        let behind = left_by(rest, work.item(k));
+        fill_item(rest, work.item_mut(k));
+        rest = behind;
     }
-    work
 }
 
-/// An item, with its data from the front of an image if it writes.
-fn filled_item(image: &[u8], asked: &Item) -> Item
-    ensures { result ≡ filled_item image.now asked.now }
+/// Gives an item its data from the front of an image if it writes.
+fn fill_item(image: &[u8], item: &mut Item)
+    ensures { item.new ≡ filled_item image.now item.old }
 {
-    let mut item = asked.copy();
     if item.kind().command().writes() {
-        put_in_front(image, &mut item);
+        item.put_front(image);
     }
-    item
 }
 
 /// What an item leaves of an image for those behind it.
@@ -132,16 +122,4 @@ fn behind(bytes: &[u8], count: usize) -> &[u8]
     } else {
         &[]
     }
-}
-
-/// Puts bytes in front of an item's data, of which as many give way.
-fn put_in_front(bytes: &[u8], item: &mut Item)
-    ensures { item.new ≡ record item.old { payload = in_front bytes.now item.old.payload } }
-{
-    let length = item.len();
-    let count = length.min(bytes.len());
-    let mut room = [0; MAX_DATA];
-    room[..length].copy_from_slice(item.data());
-    room[..count].copy_from_slice(&bytes[..count]);
-    item.set_data(&room[..length]);
 }

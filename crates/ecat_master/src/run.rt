@@ -12,8 +12,8 @@ use ec_diag::Located;
 use ec_master::{CycleFault, Verdict, Work};
 use ec_ring::{HeardPorts, MAX_SLAVES};
 use ec_run::{
-    Counts, Cycles, MOST_CYCLES, Outcome, Outputs, Seen, StepFault, Wanted, Watched, recover,
-    tells_places,
+    Counts, Cycles, MOST_CYCLES, Outcome, Outputs, Rooms, Seen, StepFault, Wanted, Watched,
+    recover, tells_places,
 };
 use ec_services::MasterFault;
 use ecat_text::{End, Lines};
@@ -275,10 +275,11 @@ where
     ensures cycles { IsRun (WatchedTrips P.trips) plan.now.outputs expected.now cycles.old cycles.new }
 {
     let mut last = None;
+    let mut rooms = Rooms::new();
     while cycles.counts.cycles < MOST_CYCLES && pace.next() {
         let began = pace.now();
         ports.clear();
-        let ended = cycles.cycle(ports, plan.outputs, expected);
+        let ended = cycles.cycle_in(ports, plan.outputs, expected, &mut rooms);
         last = Some(ended);
         let counts = cycles.counts;
         teller.take_time(counts, began, pace.now(), plan.progress);

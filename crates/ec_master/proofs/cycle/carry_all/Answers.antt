@@ -16,7 +16,7 @@ pub loop-first-init : goal.loop-first-init
 unfolding after_joined
 loop-first-init g c = record {
   joined = [];
-  taken = c.copy-taken.ensures ∙ sym (with_answers-none c.args.work.now);
+  taken = c.requires ∙ sym (with_answers-none c.args.work.now);
   count = omega arith;
   inside = omega arith;
   counted = omega arith;

@@ -11,35 +11,35 @@ loop-cycles-init g c =
 pub loop-cycles-preserved-then-is_look_due : goal.loop-cycles-preserved-then-is_look_due
 loop-cycles-preserved-then-is_look_due g c =
     run_goes_on (WatchedTrips g.P.HeardPorts.trips) c.args.plan.now.outputs c.args.expected.now
-    c.args.cycles.now c.loop-cycles.cycles c.cycle-ended.new.self _ _ _ c.loop-cycles.invariant
-    c.cycle-ended.ensures.cycle c.cycle-ended.ensures.adds_up
+    c.args.cycles.now c.loop-cycles.cycles c.cycle_in-ended.new.self _ _ _ c.loop-cycles.invariant
+    c.cycle_in-ended.ensures.cycle c.cycle_in-ended.ensures.adds_up
 
 pub loop-cycles-preserved : goal.loop-cycles-preserved
 loop-cycles-preserved g c =
     run_goes_on (WatchedTrips g.P.HeardPorts.trips) c.args.plan.now.outputs c.args.expected.now
-    c.args.cycles.now c.loop-cycles.cycles c.cycle-ended.new.self _ _ _ c.loop-cycles.invariant
-    c.cycle-ended.ensures.cycle c.cycle-ended.ensures.adds_up
+    c.args.cycles.now c.loop-cycles.cycles c.cycle_in-ended.new.self _ _ _ c.loop-cycles.invariant
+    c.cycle_in-ended.ensures.cycle c.cycle_in-ended.ensures.adds_up
 
 pub returns-in_err-tell-clause-cycles : goal.returns-in_err-tell-clause-cycles
 returns-in_err-tell-clause-cycles g c =
     is_run (WatchedTrips g.P.HeardPorts.trips) c.args.plan.now.outputs c.args.expected.now c.args.cycles.now
-    c.cycle-ended.new.self
+    c.cycle_in-ended.new.self
     (run_goes_on (WatchedTrips g.P.HeardPorts.trips) c.args.plan.now.outputs c.args.expected.now
-    c.args.cycles.now c.loop-cycles.cycles c.cycle-ended.new.self _ _ _ c.loop-cycles.invariant
-    c.cycle-ended.ensures.cycle c.cycle-ended.ensures.adds_up)
+    c.args.cycles.now c.loop-cycles.cycles c.cycle_in-ended.new.self _ _ _ c.loop-cycles.invariant
+    c.cycle_in-ended.ensures.cycle c.cycle_in-ended.ensures.adds_up)
 
 pub returns-in_err-recover_next-clause-cycles : goal.returns-in_err-recover_next-clause-cycles
 returns-in_err-recover_next-clause-cycles g c =
     is_run (WatchedTrips g.P.HeardPorts.trips) c.args.plan.now.outputs c.args.expected.now c.args.cycles.now
-    c.cycle-ended.new.self
+    c.cycle_in-ended.new.self
     (run_goes_on (WatchedTrips g.P.HeardPorts.trips) c.args.plan.now.outputs c.args.expected.now
-    c.args.cycles.now c.loop-cycles.cycles c.cycle-ended.new.self _ _ _ c.loop-cycles.invariant
-    c.cycle-ended.ensures.cycle c.cycle-ended.ensures.adds_up)
+    c.args.cycles.now c.loop-cycles.cycles c.cycle_in-ended.new.self _ _ _ c.loop-cycles.invariant
+    c.cycle_in-ended.ensures.cycle c.cycle_in-ended.ensures.adds_up)
 
 pub returns-then-ne-clause-cycles : goal.returns-then-ne-clause-cycles
 returns-then-ne-clause-cycles g c =
     is_run (WatchedTrips g.P.HeardPorts.trips) c.args.plan.now.outputs c.args.expected.now c.args.cycles.now
-    c.cycle-ended.new.self
+    c.cycle_in-ended.new.self
     (run_goes_on (WatchedTrips g.P.HeardPorts.trips) c.args.plan.now.outputs c.args.expected.now
-    c.args.cycles.now c.loop-cycles.cycles c.cycle-ended.new.self _ _ _ c.loop-cycles.invariant
-    c.cycle-ended.ensures.cycle c.cycle-ended.ensures.adds_up)
+    c.args.cycles.now c.loop-cycles.cycles c.cycle_in-ended.new.self _ _ _ c.loop-cycles.invariant
+    c.cycle_in-ended.ensures.cycle c.cycle_in-ended.ensures.adds_up)
