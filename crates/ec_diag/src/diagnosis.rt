@@ -1,21 +1,21 @@
 //! One frame, and what its copies tell of the cable.
 
-ghost use Rattle.std.specs.Prelude.{◌≡◌, ◌≤◌, ◌<◌, ◌↔◌, ℕ, true, false, [], ◌∷◌, IsErr, Ok, length};
+ghost use Rattle.std.specs.Prelude.{◌≡◌, ◌+◌, ◌≤◌, ◌<◌, ◌↔◌, ℕ, true, false, [], ◌∷◌, IsErr, Ok, Some, length};
 ghost use Rattle.ec_wire.specs.Datagram.{record_of};
-ghost use Rattle.ec_ring.specs.Links.{is_up, AreUp, IsOnlyDown};
+ghost use Rattle.ec_ring.specs.Links.{is_up, last_down, AreUp, IsOnlyDown};
 ghost use Rattle.ec_ring.specs.Ring.{line_of, with_line};
 ghost use Rattle.ec_ring.specs.Travel.{travelled};
 ghost use Rattle.ec_ring.specs.Weather.{calm};
 ghost use Rattle.ec_ring.specs.declared.links.Links.{Links};
 ghost use Rattle.ec_diag.specs.Arrivals.{heard_arrival, with_arrivals, probe, located_of, IsLocated};
 ghost use Rattle.ec_diag.specs.Join.{CanCome};
-ghost use Rattle.ec_diag.specs.Located.{Tells, seen};
+ghost use Rattle.ec_diag.specs.Located.{Tells, seen, seen_of};
 
 use crate::heard::Heard;
-use crate::located::Located;
+use crate::located::{Located, between};
 use arrayvec::ArrayVec;
 use ec_regs::registers::AL_STATUS;
-use ec_ring::{Arrival, Arrivals, HeardPorts, PortFault, Ring};
+use ec_ring::{Arrival, Arrivals, HeardPorts, Links, MAX_LINKS, PortFault, Ring};
 use ec_wire::{Command, Datagram, FrameBuf, address_of};
 
 impl Located {
@@ -97,5 +97,40 @@ pub fn locate_ring(ring: &mut Ring) -> Located
     match locate(ring, slaves) {
         Ok(located) => located,
         Err(_) => Located::Unknown,
+    }
+}
+
+/// What both copies of a frame tell of the cable that travels under these links over a line of so many
+/// slaves: the answer of `locate_ring`, for which no frame is sent.
+pub fn seen(links: &Links, slaves: usize) -> Located
+    requires { slaves < MAX_LINKS }
+    ensures { result ≡ seen links.now slaves }
+{
+    match links.first_down(slaves + 1) {
+        Some(first) => seen_from(links, slaves, first),
+        None => Located::Whole,
+    }
+}
+
+/// What they tell where this is the first link that is down.
+fn seen_from(links: &Links, slaves: usize, first: usize) -> Located
+    requires { slaves < MAX_LINKS }
+    ensures { result ≡ seen_of slaves (Some first) (last_down links.now (slaves + 1)) }
+{
+    match links.last_down(slaves + 1) {
+        Some(last) => seen_between(slaves, first, last),
+        None => Located::Whole,
+    }
+}
+
+/// What they tell where these are the first and the last link that is down.
+fn seen_between(slaves: usize, first: usize, last: usize) -> Located
+    ensures { result ≡ seen_of slaves (Some first) (Some last) }
+{
+    match (first == 0, last == slaves) {
+        (true, true) => Located::Unknown,
+        (true, false) => Located::Unknown.and_last(last),
+        (false, true) => Located::Unknown.and_first(slaves, first),
+        (false, false) => between(first, last),
     }
 }

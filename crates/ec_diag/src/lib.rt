@@ -45,7 +45,7 @@ pub mod promises;
 pub mod told;
 
 pub use cut_off::CutOff;
-pub use diagnosis::{locate, locate_ring, probe};
+pub use diagnosis::{locate, locate_ring, probe, seen};
 pub use heard::Heard;
 pub use located::Located;
 pub use told::Told;

@@ -84,7 +84,7 @@ impl Located {
     }
 
     /// What is known where the first link that is down is `k` besides.
-    fn and_first(self, slaves: usize, k: usize) -> Located
+    pub(crate) fn and_first(self, slaves: usize, k: usize) -> Located
         ensures { result ≡ with_first slaves k self }
     {
         match self {
@@ -99,7 +99,7 @@ impl Located {
     }
 
     /// What is known where the last link that is down is `k` besides.
-    fn and_last(self, k: usize) -> Located
+    pub(crate) fn and_last(self, k: usize) -> Located
         ensures { result ≡ with_last k self }
     {
         match self {
@@ -115,7 +115,7 @@ impl Located {
 }
 
 /// What is known where the first link that is down is `p`, and the last one `q`.
-fn between(p: usize, q: usize) -> Located
+pub(crate) fn between(p: usize, q: usize) -> Located
     ensures { result ≡ between p q }
 {
     if p == q {

@@ -5,6 +5,7 @@ pub mod Travelled
 pub mod Unordered
 pub mod Verdict
 pub mod Certificate
+pub mod Checked
 pub mod Ports
 pub mod Suffice
 pub mod RingTrips

@@ -52,6 +52,7 @@
 mod acceptance;
 pub mod between;
 pub mod certificate;
+mod checked;
 pub mod covered;
 mod cut;
 mod cycle;
@@ -67,6 +68,7 @@ mod weather_ports;
 mod work;
 
 pub use acceptance::{Refusal, accept, all_expected, checked_cycle};
+pub use checked::CheckedRing;
 pub use cut::frame_from;
 pub use cycle::{CycleFault, run_cycle, run_cycle_in};
 pub use ec_ring::PortFault;

@@ -47,7 +47,7 @@ impl Links {
     }
 
     /// The first link that is down of those numbered below `count`.
-    fn first_down(&self, count: usize) -> Option<usize>
+    pub fn first_down(&self, count: usize) -> Option<usize>
         requires { count ≤ MAX_LINKS }
         ensures { result ≡ first_down self.now count }
     {
@@ -59,8 +59,8 @@ impl Links {
         None
     }
 
-    /// The last of them.
-    fn last_down(&self, count: usize) -> Option<usize>
+    /// The last link that is down of those numbered below `count`.
+    pub fn last_down(&self, count: usize) -> Option<usize>
         requires { count ≤ MAX_LINKS }
         ensures { result ≡ last_down self.now count }
     {

@@ -4,10 +4,9 @@ ghost use Rattle.std.specs.Prelude.{Some};
 ghost use Rattle.ecat_simulation.specs.Sweeps.{case_words, sums_words, swept_words};
 
 use crate::carry::carry;
-use ec_diag::locate_ring;
-use ec_master::{MAX_ITEMS, Verdict, Work, all_expected, weather_cycle};
-use ec_ring::{Came, Links, Port, Ring, Travel, Weather};
-use ec_wire::FrameBuf;
+use ec_diag::seen;
+use ec_master::{CheckedRing, MAX_ITEMS, Verdict, Work, frame_from};
+use ec_ring::{Links, Port, Ring, Travel, Weather};
 use ecat_line::{LineFailure, put, ring_of, scene_of, work_of};
 use ecat_scene::{Action, Scene};
 use ecat_source::Source;
@@ -109,26 +108,6 @@ impl Sums {
     }
 }
 
-/// A ring that counts the frames that travel over it.
-#[derive(Drop)]
-struct CountedRing {
-    ring: Ring,
-    frames: usize,
-}
-
-impl Travel for CountedRing {
-    ghost ring = { λ r. r.ring };
-
-    fn links(&self) -> Links {
-        self.ring.links()
-    }
-
-    fn trip(&mut self, sent: &FrameBuf, weather: &Weather) -> Came {
-        self.frames = self.frames.saturating_add(1);
-        self.ring.trip(sent, weather)
-    }
-}
-
 /// Checks the line and the items of the scene that the source holds, and does its cycle once for each case:
 /// the whole ring, each link down, each two links down, each copy of each frame lost. Prints a line for each,
 /// and then how many were good, short and over. The status is 0 where the whole ring and each single break
@@ -162,9 +141,12 @@ pub fn sweep<S: Source, W: Write>(
     for link in &links_down {
         put(&mut ring, *link as usize, true);
     }
+    let cycles = match CheckedRing::of(ring, work_of(items)?) {
+        Ok(cycles) => cycles,
+        Err(_) => return Ok(REFUSED),
+    };
     let mut sweeper = Sweeper {
-        ring: CountedRing { ring, frames: 0 },
-        work: work_of(items)?,
+        cycles,
         lines,
         sums: Sums::new(),
     };
@@ -187,8 +169,7 @@ fn do_action(ring: &mut Ring, action: &Action) -> Result<(), LineFailure> {
 /// A sweep on its way: its ring, whose links are all up between its cycles, and its work.
 #[derive(Drop)]
 struct Sweeper<'a, W> {
-    ring: CountedRing,
-    work: Work,
+    cycles: CheckedRing,
     lines: Lines<'a, W>,
     sums: Sums,
 }
@@ -197,12 +178,11 @@ impl<'a, W: Write> Sweeper<'a, W> {
     /// Does all cycles, and answers the status.
     fn all(&mut self) -> io::Result<u8> {
         let whole = self.cycle(Case::Whole, &[])?;
-        let frames = self.ring.frames;
         let singles = self.single_breaks()?;
         for first in 0..=self.last_link() {
             self.breaks_with(first)?;
         }
-        for frame in 0..frames {
+        for frame in 0..frames_of(self.cycles.work()) {
             self.losses(frame)?;
         }
         self.lines.text(self.sums)?;
@@ -218,9 +198,9 @@ impl<'a, W: Write> Sweeper<'a, W> {
     fn single_breaks(&mut self) -> io::Result<bool> {
         let mut good = true;
         for link in 0..=self.last_link() {
-            put(&mut self.ring.ring, link, false);
+            self.put(link, false);
             let verdict = self.cycle(Case::Link(link), &[])?;
-            put(&mut self.ring.ring, link, true);
+            self.put(link, true);
             good = good && verdict == Verdict::Good;
         }
         Ok(good)
@@ -228,13 +208,13 @@ impl<'a, W: Write> Sweeper<'a, W> {
 
     /// This link down, and each behind it in turn.
     fn breaks_with(&mut self, first: usize) -> io::Result<()> {
-        put(&mut self.ring.ring, first, false);
+        self.put(first, false);
         for second in first.saturating_add(1)..=self.last_link() {
-            put(&mut self.ring.ring, second, false);
+            self.put(second, false);
             self.cycle(Case::Links(first, second), &[])?;
-            put(&mut self.ring.ring, second, true);
+            self.put(second, true);
         }
-        put(&mut self.ring.ring, first, true);
+        self.put(first, true);
         Ok(())
     }
 
@@ -253,14 +233,25 @@ impl<'a, W: Write> Sweeper<'a, W> {
 
     /// The number of the last link.
     fn last_link(&self) -> usize {
-        self.ring.ring.slaves().len()
+        self.cycles.ring().slaves().len()
     }
 
-    /// Does the cycle once, prints its line and counts it.
+    /// Puts a link up or down, if the ring has it.
+    fn put(&mut self, link: usize, up: bool) {
+        let last = self.cycles.ring().slaves().len();
+        if link <= last {
+            self.cycles.set_link(link, up);
+        }
+    }
+
+    /// Does the cycle once, prints its line and counts it. Where the cable is broken is what a frame would
+    /// tell that is sent under these links (`seen`).
     fn cycle(&mut self, case: Case, weathers: &[Weather]) -> io::Result<Verdict> {
-        let verdict = cycle(&mut self.ring, weathers, &mut self.work);
-        let cut_off = locate_ring(&mut self.ring.ring).cut_off();
-        let missing = missing_of(self.last_link(), cut_off);
+        let verdict = self.cycles.cycle(weathers);
+        self.cycles.rewind();
+        let ring = self.cycles.ring();
+        let slaves = ring.slaves().len();
+        let missing = missing_of(slaves, seen(&ring.links(), slaves).cut_off());
         self.sums.count(verdict);
         self.lines.text(SweptText {
             case,
@@ -272,11 +263,15 @@ impl<'a, W: Write> Sweeper<'a, W> {
     }
 }
 
-/// Does the cycle once, and sets its counters back.
-fn cycle(ring: &mut CountedRing, weathers: &[Weather], work: &mut Work) -> Verdict {
-    let expected = all_expected(ring.ring.slaves(), work);
-    let count = work.len();
-    let verdict = weather_cycle(ring, weathers, &expected[..count], work);
-    work.rewind();
-    verdict
+/// How many frames a work goes out in: at most as many as it has items.
+fn frames_of(work: &Work) -> usize {
+    let mut frames = 0usize;
+    let mut first = 0usize;
+    for _ in 0..work.len() {
+        if first < work.len() {
+            first = first.saturating_add(frame_from(work, first).count());
+            frames = frames.saturating_add(1);
+        }
+    }
+    frames
 }
