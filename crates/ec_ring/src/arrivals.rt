@@ -144,7 +144,8 @@ impl Ring {
         ensures ring { self.new
             ≡ with_line self.old (walked from links.now sent.now (line_of self.old)).line }
     {
-        let (frame, at) = self.walk(from, sent.copy(), links)?;
+        let mut frame = sent.copy();
+        let at = self.walk_in(from, &mut frame, links)?;
         if lost {
             None
         } else {

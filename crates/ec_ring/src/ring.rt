@@ -3,6 +3,7 @@
 ghost use Rattle.std.specs.Prelude.{◌≡◌, ◌≢◌, ℕ, ◌<◌, ◌≤◌, ◌↔◌, true, length, map, slice_get, Some};
 ghost use Rattle.std.specs.Prelude.{IfOk, IfErr, IsErr};
 ghost use Rattle.std.specs.Borrow.{sem};
+ghost use Rattle.std.specs.Option.{option_map};
 ghost use Rattle.ec_app.specs.Lending.{with_controller};
 ghost use Rattle.ec_app.specs.Slave.{step};
 ghost use Rattle.ec_esc.specs.Pass.{frame_pass};
@@ -116,6 +117,22 @@ impl Ring {
         ensures arrived { result ≡ (walked from links.now frame (line_of self.old)).arrived }
         ensures ring { self.new ≡ with_line self.old (walked from links.now frame (line_of self.old)).line }
     {
+        let mut frame = frame;
+        let port = self.walk_in(from, &mut frame, links)?;
+        Some((frame, port))
+    }
+
+    /// Takes one copy of a frame over the line as `walk` does, in place, and says where it arrives, if it does.
+    pub(crate) fn walk_in(
+        &mut self,
+        from: Port,
+        frame: &mut FrameBuf,
+        links: &Links,
+    ) -> Option<Port>
+        ensures arrived { option_map (λ port. (frame.new, port)) result
+            ≡ (walked from links.now frame.old (line_of self.old)).arrived }
+        ensures ring { self.new ≡ with_line self.old (walked from links.now frame.old (line_of self.old)).line }
+    {
         match from {
             Port::A => self.walk_from_a(frame, links),
             Port::B => self.walk_from_b(frame, links),
@@ -123,31 +140,31 @@ impl Ring {
     }
 
     /// The way of copy A.
-    fn walk_from_a(&mut self, mut frame: FrameBuf, links: &Links) -> Option<(FrameBuf, Port)>
-        ensures arrived { result ≡ (walked_from_a links.now frame (line_of self.old)).arrived }
-        ensures ring { self.new ≡ with_line self.old (walked_from_a links.now frame (line_of self.old)).line }
+    fn walk_from_a(&mut self, frame: &mut FrameBuf, links: &Links) -> Option<Port>
+        ensures arrived { option_map (λ port. (frame.new, port)) result
+            ≡ (walked_from_a links.now frame.old (line_of self.old)).arrived }
+        ensures ring { self.new ≡ with_line self.old (walked_from_a links.now frame.old (line_of self.old)).line }
     {
         let count = self.count();
-        self.pass(&mut frame, 0, links.front(count));
-        let port = links.arrival_a(count)?;
-        Some((frame, port))
+        self.pass(frame, 0, links.front(count));
+        links.arrival_a(count)
     }
 
     /// The way of copy B.
-    fn walk_from_b(&mut self, mut frame: FrameBuf, links: &Links) -> Option<(FrameBuf, Port)>
-        ensures arrived { result ≡ (walked_from_b links.now frame (line_of self.old)).arrived }
-        ensures ring { self.new ≡ with_line self.old (walked_from_b links.now frame (line_of self.old)).line }
+    fn walk_from_b(&mut self, frame: &mut FrameBuf, links: &Links) -> Option<Port>
+        ensures arrived { option_map (λ port. (frame.new, port)) result
+            ≡ (walked_from_b links.now frame.old (line_of self.old)).arrived }
+        ensures ring { self.new ≡ with_line self.old (walked_from_b links.now frame.old (line_of self.old)).line }
     {
         let count = self.count();
         if links.turns(count) {
-            if is_circulating(&frame) {
+            if is_circulating(frame) {
                 return None;
             }
-            circulate(&mut frame);
+            circulate(frame);
         }
-        self.pass(&mut frame, links.back(count), count);
-        let port = links.arrival_b(count)?;
-        Some((frame, port))
+        self.pass(frame, links.back(count), count);
+        links.arrival_b(count)
     }
 
     /// How many slaves there are.

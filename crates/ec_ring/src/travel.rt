@@ -61,7 +61,8 @@ impl Ring {
     {
         // For the prover: a ring that is counted has at most `MAX_SLAVES` slaves.
         let _count = self.count();
-        let (frame, _) = self.walk(from, sent.copy(), links)?;
+        let mut frame = sent.copy();
+        self.walk_in(from, &mut frame, links)?;
         if lost { None } else { Some(frame) }
     }
 }

@@ -1,6 +1,6 @@
 -- The pass is that of the last piece, by the frame as it turned round or came, and the arrival that of
 -- copy B.
-use Rattle.std.proofs.Common.{◌≡◌, ap, sym, ◌∙◌, None, Some, refl}
+use Rattle.std.proofs.Common.{◌≡◌, ap, sym, ◌∙◌, None, refl}
 use Rattle.ec_ring.specs.Reach.{turns, arrival_b}
 use Rattle.ec_ring.specs.Ring.{line_of, with_line}
 use Rattle.ec_ring.specs.Walk.{Walked, piece_pass, walked_from_b}
@@ -11,41 +11,26 @@ use Rattle.ec_ring.proofs.ring.Ring.walk_from_b.Goals as goal
 use Rattle.ec_ring.proofs.ring.Ring.walk_from_b.Goals.{then-turns+else-is_circulating, else-turns}
 
 destroyed : (c : goal.Then-is_circulating)
-    → walked_from_b c.args.links.now c.args.frame (line_of c.args.self.now)
+    → walked_from_b c.args.links.now c.args.frame.now (line_of c.args.self.now)
     ≡ record { arrived = None; line = line_of c.args.self.now }
 destroyed c =
-    destroyed_b c.args.links.now c.count-count.result c.args.self.now.slaves c.args.frame
+    destroyed_b c.args.links.now c.count-count.result c.args.self.now.slaves c.args.frame.now
     c.count-count.ensures.count
     (sym c.turns.ensures ∙ c.if-turns.true) (sym c.is_circulating.ensures ∙ c.if-is_circulating.true)
 
-lost : (c : goal.After-from_residual) → walked_from_b c.args.links.now c.args.frame (line_of c.args.self.now)
-    ≡ way (piece_pass c.back.result c.count-count.result (line_of c.args.self.now) c.if-turns.frame)
-    (arrival_b c.args.links.now c.count-count.result)
-lost c =
-    let start : IsStart (turns c.args.links.now c.count-count.result) c.args.frame c.if-turns.frame =
-    elim c.if-turns.branch [
-      | then-turns+else-is_circulating w ↦
-          start-turned _ c.args.frame c.if-turns.frame (sym c.turns.ensures ∙ w.if-turns.true)
-          (sym w.is_circulating.ensures ∙ w.if-is_circulating.false) (w.frame-is ∙ w.circulate.ensures)
-      | else-turns w ↦
-          start-through _ c.args.frame c.if-turns.frame (sym c.turns.ensures ∙ w.if-turns.false) w.frame-is
-    ] in
-    way_b c.args.links.now c.count-count.result c.back.result c.args.self.now.slaves c.args.frame
-    c.if-turns.frame c.count-count.ensures.count c.back.ensures.value start
-
-came : (c : goal.In_ok-port) → walked_from_b c.args.links.now c.args.frame (line_of c.args.self.now)
+came : (c : goal.After-arrival_b) → walked_from_b c.args.links.now c.args.frame.now (line_of c.args.self.now)
     ≡ way (piece_pass c.back.result c.count-count.result (line_of c.args.self.now) c.if-turns.frame)
     (arrival_b c.args.links.now c.count-count.result)
 came c =
-    let start : IsStart (turns c.args.links.now c.count-count.result) c.args.frame c.if-turns.frame =
+    let start : IsStart (turns c.args.links.now c.count-count.result) c.args.frame.now c.if-turns.frame =
     elim c.if-turns.branch [
       | then-turns+else-is_circulating w ↦
-          start-turned _ c.args.frame c.if-turns.frame (sym c.turns.ensures ∙ w.if-turns.true)
+          start-turned _ c.args.frame.now c.if-turns.frame (sym c.turns.ensures ∙ w.if-turns.true)
           (sym w.is_circulating.ensures ∙ w.if-is_circulating.false) (w.frame-is ∙ w.circulate.ensures)
       | else-turns w ↦
-          start-through _ c.args.frame c.if-turns.frame (sym c.turns.ensures ∙ w.if-turns.false) w.frame-is
+          start-through _ c.args.frame.now c.if-turns.frame (sym c.turns.ensures ∙ w.if-turns.false) w.frame-is
     ] in
-    way_b c.args.links.now c.count-count.result c.back.result c.args.self.now.slaves c.args.frame
+    way_b c.args.links.now c.count-count.result c.back.result c.args.self.now.slaves c.args.frame.now
     c.if-turns.frame c.count-count.ensures.count c.back.ensures.value start
 
 pub returns-then-is_circulating-clause-arrived : goal.returns-then-is_circulating-clause-arrived
@@ -55,20 +40,9 @@ pub returns-then-is_circulating-clause-ring : goal.returns-then-is_circulating-c
 returns-then-is_circulating-clause-ring c =
     rw (destroyed c, with_controllers-controllers c.args.self.now.slaves) refl
 
-pub returns-in_err-port-clause-arrived : goal.returns-in_err-port-clause-arrived
-returns-in_err-port-clause-arrived c =
-    let nowhere = sym c.in_err-port.was ∙ c.arrival_b.ensures in
-    c.from_residual.ensures
-    ∙ arrived-way _ _ _ None c.pass.new.frame (lost c) c.pass.ensures.frame nowhere
-
-pub returns-in_err-port-clause-ring : goal.returns-in_err-port-clause-ring
-returns-in_err-port-clause-ring c =
-    c.pass.ensures.ring ∙ ap (λ (w : Walked). with_line c.args.self.now w.line) (sym (lost c))
-
 pub returns-clause-arrived : goal.returns-clause-arrived
 returns-clause-arrived c =
-    let port = sym c.in_ok-port.was ∙ c.arrival_b.ensures in
-    arrived-way _ _ _ (Some c.in_ok-port.port) c.pass.new.frame (came c) c.pass.ensures.frame port
+    arrived-way _ _ _ c.arrival_b.result c.pass.new.frame (came c) c.pass.ensures.frame c.arrival_b.ensures
 
 pub returns-clause-ring : goal.returns-clause-ring
 returns-clause-ring c =
