@@ -1,6 +1,6 @@
 -- What ranges meet: registers meet no area, and a range within a buffered area meets no mailbox alone.
 use Rattle.std.proofs.Common.{◌≡◌, ◌≢◌, ℕ, ◌+◌, ◌-◌, ◌/◌, ◌%◌, ◌<◌, ◌≤◌, Bool, true, false, ◌&&◌, ◌||◌, eqb}
-use Rattle.std.proofs.Common.{leb, ltb, List}
+use Rattle.std.proofs.Common.{leb, ltb, List, [], ◌∷◌}
 use Rattle.std.proofs.Common.{length, get_or, Option, None, Some, sym, ◌∙◌, ap, refl, arith, ⊎_elim}
 use Rattle.std.specs.Prelude.{not}
 use Rattle.std.specs.List.{Any, filter}
@@ -69,19 +69,43 @@ meets_registers s from n inside =
     (λ (inactive : is_active s ≡ false). rw inactive refl)
     (cases_Bool (is_active s))
 
--- so no mailbox is read out there
+-- so none that is kept from reads
+pub hidden_registers : (managers : List SyncMan) (from n : ℕ) → from + n ≤ PROCESS_MEMORY
+    → meets_hidden managers from n ≡ false
+hidden_registers managers from n inside =
+    let test : SyncMan → Bool = λ s. meets s from n && (is_mailbox s || master_writes s) in
+    list_any_none test managers (λ k d below. rw (meets_registers (get_or managers k d) from n inside) refl)
+
+-- and none that is kept from writes
+pub locked_registers : (managers : List SyncMan) (from n : ℕ) → from + n ≤ PROCESS_MEMORY
+    → meets_locked managers from n ≡ false
+locked_registers managers from n inside =
+    let test : SyncMan → Bool = λ s. meets s from n && (is_mailbox s || master_reads s) in
+    list_any_none test managers (λ k d below. rw (meets_registers (get_or managers k d) from n inside) refl)
+
+-- nor one alone
+alone_registers : (managers : List SyncMan) (from n : ℕ) → from + n ≤ PROCESS_MEMORY
+    → length (filter (λ s. meets s from n) managers) ≡ 0
+alone_registers [] from n inside = refl
+alone_registers (s ∷ ss) from n inside =
+    rw (meets_registers s from n inside) (alone_registers ss from n inside)
+
+-- so a read empties no mailbox there
+pub emptied_before : (managers : List SyncMan) (from n : ℕ) → from + n ≤ PROCESS_MEMORY
+    → emptied_by managers from n ≡ None
+unfolding emptied_by
+emptied_before managers from n inside = rw (alone_registers managers from n inside) refl
+
+-- and a write fills none
+pub filled_before : (managers : List SyncMan) (from n : ℕ) → from + n ≤ PROCESS_MEMORY
+    → filled_by managers from n ≡ None
+unfolding filled_by
+filled_before managers from n inside = rw (alone_registers managers from n inside) refl
+
+-- nor does one that is served
 pub emptied_registers : (managers : List SyncMan) (from n : ℕ) → 1 ≤ n → from + n ≤ PROCESS_MEMORY
     → emptied_by managers from n ≡ None
-emptied_registers managers from n some inside =
-    let P : Option ℕ → Type 0 = λ o. emptied_by managers from n ≡ o → o ≡ None in
-    elim (emptied_by managers from n) as P [
-      | None ↦ λ _. refl
-      | Some i ↦ λ e.
-          let facts = emptied_facts managers from n i e in
-          let s = get_or managers i no_manager in
-          let yes : meets s from n ≡ true = area_meets s from n some facts.area in
-          absurd (let no : true ≡ false = sym yes ∙ meets_registers s from n inside in cc)
-    ] refl
+emptied_registers managers from n some inside = emptied_before managers from n inside
 
 -- and a read is served
 pub reads_registers : (managers : List SyncMan) (from n : ℕ) → 1 ≤ n → from + n ≤ PROCESS_MEMORY
@@ -90,11 +114,7 @@ reads_registers managers from n some inside =
     let first : leb 1 n ≡ true = grind (arith, nat_tests) in
     let room : from + n ≤ MEMORY_SIZE = omega arith in
     let last : leb (from + n) MEMORY_SIZE ≡ true = grind (arith, nat_tests) in
-    let test : SyncMan → Bool = λ s. meets s from n && (is_mailbox s || master_writes s) in
-    let open_ : meets_hidden managers from n ≡ false =
-    list_any_none test managers (λ k d below. rw (meets_registers
-    (get_or managers k d) from n inside) refl) in
-    rw (first, last, open_) refl
+    rw (first, last, hidden_registers managers from n inside) refl
 
 -- ---- a range within a buffered area
 

@@ -16,6 +16,7 @@ use Rattle.ec_areas.specs.Ranges.{takes_writes, serves_physical_write}
 use Rattle.ec_areas.specs.Logical.{names, IsReadable, read_map, NamesPairs, IsWritable, write_map, target_map}
 use Rattle.ec_areas.specs.Logical.{reads_some, writes_some, IsPairWithin}
 use Rattle.ec_areas.specs.Apart.{are_apart}
+use Rattle.ec_areas.specs.Hull.{hull_of, misses}
 use Rattle.ec_areas.proofs.RangeLemmas as ranges
 use Rattle.ec_areas.proofs.RecordLemmas as records
 use Rattle.ec_areas.proofs.AreasMetLemmas as met
@@ -25,6 +26,7 @@ use Rattle.ec_areas.proofs.LogicalLemmas as reading
 use Rattle.ec_areas.proofs.WriteLemmas as writing
 use Rattle.ec_areas.proofs.ApartLemmas as apart
 use Rattle.ec_areas.proofs.NamedLemmas as named
+use Rattle.ec_areas.proofs.HullLemmas as hulls
 
 -- ---- the records in a memory
 
@@ -199,3 +201,13 @@ write_map_register = writing.write_map_register
 pub unwritten : (managers : List SyncMan) (fmmus : List Fmmu) (l p from n : ℕ) → are_apart fmmus ≡ true
     → read_map managers fmmus l ≡ Some p → write_map managers fmmus from n p ≡ None
 unwritten = apart.unwritten
+
+-- no read of bits outside of the hull of some FMMUs is served
+pub reads_none : (managers : List SyncMan) (fmmus : List Fmmu) (from n : ℕ)
+    → misses (hull_of fmmus) from n ≡ true → reads_some managers fmmus from n ≡ false
+reads_none = hulls.reads_none
+
+-- and no write
+pub writes_none : (managers : List SyncMan) (fmmus : List Fmmu) (from n : ℕ)
+    → misses (hull_of fmmus) from n ≡ true → writes_some managers fmmus from n ≡ false
+writes_none = hulls.writes_none

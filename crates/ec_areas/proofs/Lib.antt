@@ -12,4 +12,5 @@ pub mod ShowingLemmas
 pub mod ReachLemmas
 pub mod NamedLemmas
 pub mod ApartLemmas
+pub mod HullLemmas
 pub mod Laws

@@ -197,7 +197,7 @@ names_no_target managers fmmus k from n past =
 -- ---- all FMMUs: the sets and the maps
 
 -- where a bit goes is a writable pair of some FMMU
-IsWritable-target_map : (managers : List SyncMan) (fmmus : List Fmmu) (l p : ℕ)
+pub IsWritable-target_map : (managers : List SyncMan) (fmmus : List Fmmu) (l p : ℕ)
     → target_map managers fmmus l ≡ Some p
     → IsWritable managers fmmus l p
 unfolding target_map

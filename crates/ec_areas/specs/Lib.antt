@@ -5,3 +5,4 @@ pub mod Logical
 pub mod Showing
 pub mod Met
 pub mod Apart
+pub mod Hull

@@ -23,6 +23,8 @@
 //!   (clauses `bits`, `served`; `pair`, `target`, `source`);
 //! - [`reads_some`], [`writes_some`]: whether such a read or write would move a bit (`served`, `pair`);
 //! - [`are_apart`]: whether FMMUs for reading and for writing share no bit of the memory;
+//! - [`hull_of`]: logical bits outside of which FMMUs map none; a datagram that misses all of them
+//!   ([`LogicalHull::misses`]) is not served (laws `reads_none`, `writes_none`);
 //! - [`serves_physical_read`], [`serves_physical_write`]: which ranges a physical command may read and write;
 //!   [`emptied_by`], [`filled_by`]: which mailbox that empties and fills;
 //! - [`last_bytes_written`]: of which active areas a logical write reaches the last byte; [`told_of_each`]:
@@ -36,6 +38,7 @@
 
 mod apart;
 mod areas;
+mod hull;
 mod logical;
 mod logical_write;
 mod met;
@@ -48,6 +51,7 @@ mod showing;
 
 pub use apart::are_apart;
 pub use areas::{is_readable, is_writable};
+pub use hull::{LogicalHull, hull_of};
 pub use logical::read_mapped;
 pub use logical_write::write_mapped;
 pub use named::{reads_some, writes_some};

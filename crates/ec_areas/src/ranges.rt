@@ -2,8 +2,9 @@
 //! write (IEC 61158-4-12, physical memory access, sync manager and mailbox).
 
 ghost use Rattle.std.specs.Prelude.{◌≡◌, ◌+◌, ◌≤◌, ◌<◌, ◌&&◌, ◌||◌, not, ℕ, List, IsTrue, count_by, position};
+ghost use Rattle.std.specs.Prelude.{if◌then◌else◌};
 ghost use Rattle.std.specs.Option.{IfSome};
-ghost use Rattle.ec_regs.specs.declared.registers.TheConstants.{MEMORY_SIZE};
+ghost use Rattle.ec_regs.specs.declared.registers.TheConstants.{MEMORY_SIZE, PROCESS_MEMORY};
 ghost use Rattle.ec_areas.specs.Records.{sync_managers_of};
 ghost use Rattle.std.specs.List.{list_any};
 ghost use Rattle.ec_regs.specs.AddressRange.{within};
@@ -65,6 +66,14 @@ fn is_range(range: AddressRange) -> bool
     range.count >= 1 && u32::from(range.first) + u32::from(range.count) <= u32::from(MEMORY_SIZE)
 }
 
+/// Does the range end before process memory? Then it meets no area, since they all lie there: a command that
+/// reaches registers, as most do, need ask no sync manager.
+fn ends_before_areas(range: AddressRange) -> bool
+    ensures { IsTrue result → range.first + range.count ≤ PROCESS_MEMORY }
+{
+    u32::from(range.first) + u32::from(range.count) <= u32::from(PROCESS_MEMORY)
+}
+
 /// Does the range share a byte with the area that the sync manager's record tells?
 fn overlaps(manager: &PlannedSyncMan, range: AddressRange) -> bool
     ensures { result ≡ overlaps manager.now range.first range.count }
@@ -104,6 +113,9 @@ fn meets_kept_from_writes(manager: &PlannedSyncMan, range: AddressRange) -> bool
 pub(crate) fn meets_hidden(managers: &[PlannedSyncMan], range: AddressRange) -> bool
     ensures { result ≡ meets_hidden managers.now range.first range.count }
 {
+    if ends_before_areas(range) {
+        return false;
+    }
     managers
         .iter()
         .any(|manager| meets_kept_from_reads(manager, range))
@@ -113,6 +125,9 @@ pub(crate) fn meets_hidden(managers: &[PlannedSyncMan], range: AddressRange) -> 
 pub(crate) fn meets_locked(managers: &[PlannedSyncMan], range: AddressRange) -> bool
     ensures { result ≡ meets_locked managers.now range.first range.count }
 {
+    if ends_before_areas(range) {
+        return false;
+    }
     managers
         .iter()
         .any(|manager| meets_kept_from_writes(manager, range))
@@ -178,16 +193,31 @@ fn first_taker(managers: &[PlannedSyncMan], range: AddressRange) -> Option<usize
         .position(|manager| takes_mail(manager, range))
 }
 
+/// The number of a sync manager whose area is the range, where the range meets that area alone. Few ranges
+/// are an area, so those that they meet are counted last.
+fn if_alone(
+    managers: &[PlannedSyncMan],
+    range: AddressRange,
+    number: Option<usize>,
+) -> Option<usize>
+    ensures { result ≡ (if meets_one managers.now range.first range.count then number else None) }
+{
+    if number.is_some() && meets_one(managers, range) {
+        number
+    } else {
+        None
+    }
+}
+
 /// The number of the sync manager whose mailbox a read of the range empties.
 #[tactic(auto, unfolding(crate::specs::Ranges::emptied_by))]
 pub fn emptied_by(managers: &[PlannedSyncMan], range: AddressRange) -> Option<usize>
     ensures { result ≡ emptied_by managers.now range.first range.count }
 {
-    if meets_one(managers, range) {
-        first_giver(managers, range)
-    } else {
-        None
+    if ends_before_areas(range) {
+        return None;
     }
+    if_alone(managers, range, first_giver(managers, range))
 }
 
 /// The number of the sync manager whose mailbox a write of the range fills.
@@ -195,11 +225,10 @@ pub fn emptied_by(managers: &[PlannedSyncMan], range: AddressRange) -> Option<us
 pub fn filled_by(managers: &[PlannedSyncMan], range: AddressRange) -> Option<usize>
     ensures { result ≡ filled_by managers.now range.first range.count }
 {
-    if meets_one(managers, range) {
-        first_taker(managers, range)
-    } else {
-        None
+    if ends_before_areas(range) {
+        return None;
     }
+    if_alone(managers, range, first_taker(managers, range))
 }
 
 /// Is a read of the range served: of bytes that no area keeps from reads, or of a whole mailbox?

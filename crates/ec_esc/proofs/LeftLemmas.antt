@@ -1,8 +1,8 @@
 -- What stays of a memory in which a run of bytes is replaced, and a controller that puts inputs stays one.
 use Rattle.std.proofs.Common.{◌≡◌, ◌⊎◌, ⊎_elim, inl, inr, refl, ℕ, ◌+◌, ◌-◌, ◌<◌, ◌≤◌, Bool, true, false, ◌&&◌, eqb, cond, List}
-use Rattle.std.proofs.Common.{length, get_or, Option, None, Some, ◌∙◌, ap, subst, sym, arith}
+use Rattle.std.proofs.Common.{length, get_or, None, Some, ◌∙◌, ap, subst, sym, arith}
 use Rattle.std.specs.Prelude.{not}
-use Rattle.std.proofs.lemmas.Bool.{cases_Bool, cases_lt, eqb-true}
+use Rattle.std.proofs.lemmas.Bool.{cases_lt, eqb-true}
 use Rattle.ec_regs.specs.Bits.{AreBytes}
 use Rattle.ec_regs.specs.SyncMan.{is_active, is_buffered, master_reads}
 use Rattle.ec_regs.specs.declared.registers.TheConstants.{PROCESS_MEMORY, MEMORY_SIZE}

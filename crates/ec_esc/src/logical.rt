@@ -1,12 +1,14 @@
-//! The logical commands: LRD, LWR and LRW (IEC 61158-4-12, FMMU).
-ghost use Rattle.std.specs.Prelude.{◌≡◌, ◌+◌, ◌<◌, ℕ, length, true, if◌then◌else◌};
+//! The logical commands: LRD, LWR and LRW (IEC 61158-4-12, FMMU). Most slaves on a line map nothing of such a
+//! datagram, and a look at the hull of their FMMUs tells that.
+
+ghost use Rattle.std.specs.Prelude.{◌≡◌, ◌+◌, ◌<◌, ℕ, length, true, false, if◌then◌else◌, IsTrue};
 ghost use Rattle.ec_regs.specs.Bits.{AreBytes};
 ghost use Rattle.ec_wire.specs.Datagram.{nth};
 ghost use Rattle.ec_areas.specs.Records.{fmmus_of, sync_managers_of};
 ghost use Rattle.ec_areas.specs.Apart.{are_apart};
 ghost use Rattle.ec_esc.specs.Pass.{read_sources, serves_write, mapped_write};
 ghost use Rattle.ec_esc.specs.Pass.{only_reads, only_writes, written_by, Arrives, IsServed};
-ghost use Rattle.ec_esc.specs.Place.{address_at, payload_at, serves_read_at, mapped_read_at};
+ghost use Rattle.ec_esc.specs.Place.{address_at, payload_at, size_at, serves_read_at, mapped_read_at};
 ghost use Rattle.ec_esc.specs.Place.{mapped_write_at, mapped_exchange_at, filled_at};
 
 use crate::controller::Controller;
@@ -16,6 +18,14 @@ use arrayvec::ArrayVec;
 use ec_areas::{are_apart, last_bytes_written, read_mapped};
 use ec_regs::SyncManagers;
 use ec_wire::{FrameBuf, MAX_DATA};
+
+/// How many bytes of data the datagram at `k` has.
+fn size(frame: &FrameBuf, k: usize) -> u16
+    requires { k < length frame.now }
+    ensures { result ≡ size_at frame.now k }
+{
+    frame.data(k).len() as u16
+}
 
 /// What the working counter of an LRW gains, by whether its read and its write are served.
 fn exchange_gain(is_read: bool, is_written: bool) -> u16
@@ -27,6 +37,17 @@ fn exchange_gain(is_read: bool, is_written: bool) -> u16
 }
 
 impl Controller {
+    /// Do all FMMUs map bits elsewhere than in the data of the datagram at `k`? Then neither a read nor a write
+    /// of the data is served.
+    fn maps_elsewhere(&self, frame: &FrameBuf, k: usize) -> bool
+        requires { k < length frame.now }
+        ensures reads { IsTrue result → serves_read_at self.now frame.now k ≡ false }
+        ensures writes { IsTrue result
+            → serves_write self.now (address_at frame.now k) (size_at frame.now k) ≡ false }
+    {
+        self.memory.maps_elsewhere(frame.address(k), size(frame, k))
+    }
+
     /// LRD: a read of the datagram at `k` through FMMUs; all others stay.
     pub(crate) fn logical_read(&self, frame: &mut FrameBuf, k: usize)
         requires inside { k < length frame.old }
@@ -34,6 +55,9 @@ impl Controller {
         ensures { IsServed (only_reads (mapped_read_at self.now frame.old k))
             k frame.old self.now frame.new self.now }
     {
+        if self.maps_elsewhere(frame, k) {
+            return;
+        }
         if self.fill_data(frame, k) {
             add_to_counter(frame, k, READ_GAIN);
         }
@@ -61,6 +85,9 @@ impl Controller {
         ensures { IsServed (only_writes (mapped_write_at 1 self.old frame.old k))
             k frame.old self.old frame.new self.new }
     {
+        if self.maps_elsewhere(frame, k) {
+            return;
+        }
         if self.write_data(frame.address(k), frame.data(k)) {
             add_to_counter(frame, k, LONE_WRITE_GAIN);
         }
@@ -73,6 +100,9 @@ impl Controller {
         requires arrives { Arrives self.old (nth frame.old k) }
         ensures { IsServed (mapped_exchange_at self.old frame.old k) k frame.old self.old frame.new self.new }
     {
+        if self.maps_elsewhere(frame, k) {
+            return;
+        }
         let gain = self.exchange_data(frame, k);
         add_to_counter(frame, k, gain);
     }

@@ -1,18 +1,21 @@
 //! A controller's memory with the records in it decoded (IEC 61158-4-12, register layout). Each datagram asks
-//! for FMMUs and sync managers, so a record is decoded once: when a byte of it changes. AL status is written
-//! as a status alone, so it always names a state.
+//! for FMMUs and sync managers, so a record is decoded once: when a byte of it changes. The hull of what the
+//! FMMUs map is found then too. AL status is written as a status alone, so it always names a state.
 
 ghost use Rattle.std.specs.Prelude.{◌≡◌, ◌≢◌, ◌==◌, ◌+◌, ◌*◌, ◌%◌, ◌<◌, ◌≤◌, ◌&&◌, nat_lt, ℕ, List, [], ◌∷◌};
 ghost use Rattle.std.specs.Prelude.{IfOk, Some, if◌then◌else◌, length, slice_index, slice_set};
 ghost use Rattle.ec_regs.specs.Al.{state_of, status_byte, status_of};
 ghost use Rattle.ec_regs.specs.Bits.{AreBytes, with_bits};
 ghost use Rattle.ec_regs.specs.declared.registers.TheConstants.{AL_STATUS, MEMORY_SIZE};
+ghost use Rattle.ec_areas.specs.Hull.{hull_of, misses};
 ghost use Rattle.ec_areas.specs.Logical.{write_map, target_places, names};
 ghost use Rattle.ec_areas.specs.Records.{fmmus_of, sync_managers_of};
 ghost use Rattle.ec_esc.specs.Planned.{ChangesWithin};
 ghost use Rattle.ec_esc.specs.State.{with_run};
 
-use ec_areas::{fmmu_at, fmmus_of, sync_manager_at, sync_managers_of, write_mapped};
+use ec_areas::{
+    LogicalHull, fmmu_at, fmmus_of, hull_of, sync_manager_at, sync_managers_of, write_mapped,
+};
 use ec_regs::registers::{
     AL_STATUS, FMMU_BASE, FMMU_COUNT, FMMU_SIZE, SYNC_MANAGER_BASE, SYNC_MANAGER_COUNT,
     SYNC_MANAGER_SIZE,
@@ -29,6 +32,7 @@ use std::marker::Model;
 pub(crate) struct PlannedMemory {
     memory: Memory,
     fmmus: Fmmus,
+    hull: LogicalHull,
     managers: SyncManagers,
 }
 
@@ -40,7 +44,7 @@ impl Model for PlannedMemory {
 
     ghost view = { λ m. m.memory };
 
-    ghost invariant = { λ m. IsPlanned m.memory m.fmmus m.managers };
+    ghost invariant = { λ m. IsPlanned m.memory m.fmmus m.hull m.managers };
 }
 
 /// The records of all FMMUs.
@@ -78,11 +82,13 @@ fn sync_manager_record(number: usize) -> AddressRange
     }
 }
 
-/// Decodes each FMMU of whose record a byte lies in the range that was written; the others stay.
-fn renew_fmmus(fmmus: &mut Fmmus, memory: &[u8], written: AddressRange)
+/// Decodes each FMMU of whose record a byte lies in the range that was written; the others stay. The hull of
+/// them all is found anew where there is such a byte.
+fn renew_fmmus(fmmus: &mut Fmmus, hull: &mut LogicalHull, memory: &[u8], written: AddressRange)
     requires { length memory.now ≡ MEMORY_SIZE }
-    ensures { (before : List ℕ) → fmmus.old ≡ fmmus_of before
+    ensures fmmus { (before : List ℕ) → fmmus.old ≡ fmmus_of before
         → ChangesWithin written.first written.count before memory.now → fmmus.new ≡ fmmus_of memory.now }
+    ensures hull { hull.old ≡ hull_of fmmus.old → hull.new ≡ hull_of fmmus.new }
 {
     if !FMMU_RECORDS.meets(&written) {
         return;
@@ -92,6 +98,7 @@ fn renew_fmmus(fmmus: &mut Fmmus, memory: &[u8], written: AddressRange)
             fmmus[number] = PlannedFmmu::new(fmmu_at(memory, number));
         }
     }
+    *hull = hull_of(fmmus);
 }
 
 /// Decodes each sync manager of whose record a byte lies in the range that was written; the others stay.
@@ -122,10 +129,12 @@ impl PlannedMemory {
         let mut memory = Memory::new(alloc)?;
         memory.set_byte(AL_STATUS, AlState::Init.code());
         let fmmus = fmmus_of(memory.bytes());
+        let hull = hull_of(&fmmus);
         let managers = sync_managers_of(memory.bytes());
         Ok(PlannedMemory {
             memory,
             fmmus,
+            hull,
             managers,
         })
     }
@@ -151,6 +160,13 @@ impl PlannedMemory {
         ensures { result.now ≡ fmmus_of self.now }
     {
         &self.fmmus
+    }
+
+    /// Do all FMMUs map bits elsewhere than in the `count` bytes from the logical byte `address` on?
+    pub(crate) fn maps_elsewhere(&self, address: u32, count: u16) -> bool
+        ensures { result ≡ misses (hull_of (fmmus_of self.now)) (8 * address) (8 * count) }
+    {
+        self.hull.misses(address, count)
     }
 
     /// All sync managers, by number.
@@ -190,7 +206,7 @@ impl PlannedMemory {
             count: 1,
         };
         let bytes = self.memory.bytes();
-        renew_fmmus(&mut self.fmmus, bytes, written);
+        renew_fmmus(&mut self.fmmus, &mut self.hull, bytes, written);
         renew_managers(&mut self.managers, bytes, written);
     }
 
@@ -207,7 +223,7 @@ impl PlannedMemory {
             count: bytes.len() as u16,
         };
         let bytes = self.memory.bytes();
-        renew_fmmus(&mut self.fmmus, bytes, written);
+        renew_fmmus(&mut self.fmmus, &mut self.hull, bytes, written);
         renew_managers(&mut self.managers, bytes, written);
     }
 

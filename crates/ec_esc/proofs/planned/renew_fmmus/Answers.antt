@@ -9,8 +9,8 @@ use Rattle.ec_esc.proofs.PlannedLemmas.{fmmus_stay}
 use Rattle.ec_esc.proofs.planned.renew_fmmus.Goals as goal
 use Rattle.ec_esc.proofs.planned.renew_fmmus.Goals.{then-meets, else-meets}
 
-pub returns-then-not-meets : goal.returns-then-not-meets
-returns-then-not-meets c before old_is changes =
+pub returns-then-not-meets-clause-fmmus : goal.returns-then-not-meets-clause-fmmus
+returns-then-not-meets-clause-fmmus c before old_is changes =
     let length_is = changes.size in
     old_is ∙ fmmus_stay before c.args.memory.now c.args.written.first c.args.written.count changes (omega (arith, c.requires))
     (sym c.meets.ensures ∙ c.if-not-meets.true)
@@ -50,8 +50,8 @@ loop-number-preserved c =
       }
     ]
 
-pub returns : goal.returns
-returns c before old_is changes =
+pub returns-clause-fmmus : goal.returns-clause-fmmus
+returns-clause-fmmus c before old_is changes =
     let all : c.loop-number.number ≡ FMMU_COUNT = omega arith in
     fmmus_renewed c.args.fmmus.now c.loop-number.fmmus c.args.memory.now
     (rw (sym all) (c.loop-number.invariant.renewed before old_is changes)) c.loop-number.invariant.size

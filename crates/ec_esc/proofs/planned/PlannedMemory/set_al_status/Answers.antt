@@ -25,6 +25,7 @@ invariant_of-self c =
       fmmus_are =
           c.self.invariant.fmmus_are
           ∙ fmmus_stay memory c.load.new.self AL_STATUS 2 changes size refl;
+      hull_is = c.self.invariant.hull_is;
       managers_are =
           c.self.invariant.managers_are
           ∙ managers_stay memory c.load.new.self AL_STATUS 2 changes size refl;

@@ -1,0 +1,64 @@
+//! The logical bits among which all those lie that some FMMUs map (IEC 61158-4-12, FMMU). A slave may map
+//! nothing of most datagrams on a line: a look at the hull tells that, and no FMMU need be asked.
+
+ghost use Rattle.std.specs.Prelude.{◌≡◌, ◌*◌};
+ghost use Rattle.ec_areas.specs.Hull.{nowhere, widened, hull_of, misses};
+
+use ec_regs::PlannedFmmu;
+use ec_regs::registers::LOGICAL_BITS;
+
+/// How many bits a byte has.
+const BYTE: u64 = 8;
+
+/// The logical bits from `first` up to, but not with, `end`.
+#[derive(Clone, Copy, PartialEq, Eq, Debug)]
+pub struct LogicalHull {
+    /// The first bit.
+    pub first: u64,
+    /// The bit behind the last one.
+    pub end: u64,
+}
+
+/// The hull of no bits: it begins behind the last bit and ends before the first.
+fn nowhere() -> LogicalHull
+    ensures { result ≡ nowhere }
+{
+    LogicalHull {
+        first: LOGICAL_BITS,
+        end: 0,
+    }
+}
+
+/// The least hull that holds a hull and the bits that the FMMU maps.
+fn widened(hull: LogicalHull, fmmu: &PlannedFmmu) -> LogicalHull
+    ensures { result ≡ widened hull fmmu.now }
+{
+    let bits = u64::from(fmmu.mapped_bits());
+    if bits == 0 {
+        return hull;
+    }
+    let first = fmmu.first_logical();
+    LogicalHull {
+        first: hull.first.min(first),
+        end: hull.end.max(first + bits),
+    }
+}
+
+/// The least hull that holds all bits that the FMMUs map.
+#[tactic(auto, unfolding(crate::specs::Hull::hull_of))]
+pub fn hull_of(fmmus: &[PlannedFmmu]) -> LogicalHull
+    ensures { result ≡ hull_of fmmus.now }
+{
+    fmmus.iter().fold(nowhere(), widened)
+}
+
+impl LogicalHull {
+    /// Do the bits of `bytes` bytes from the logical byte `address` on all lie outside of the hull? Then no
+    /// read and no write of them is served.
+    pub fn misses(&self, address: u32, bytes: u16) -> bool
+        ensures { result ≡ misses self.now (8 * address) (8 * bytes) }
+    {
+        let from = BYTE * u64::from(address);
+        self.end <= from || from + BYTE * u64::from(bytes) <= self.first
+    }
+}
