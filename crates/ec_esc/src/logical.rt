@@ -15,7 +15,7 @@ use crate::controller::Controller;
 use crate::counting::{LONE_WRITE_GAIN, READ_GAIN, WRITE_GAIN, add_to_counter};
 use crate::process::are_bytes;
 use arrayvec::ArrayVec;
-use ec_areas::{are_apart, last_bytes_written, read_mapped};
+use ec_areas::{last_bytes_written, read_mapped};
 use ec_regs::SyncManagers;
 use ec_wire::{FrameBuf, MAX_DATA};
 
@@ -119,7 +119,7 @@ impl Controller {
             ≡ (mapped_read_at self.old frame.old k).gain
             + (mapped_write_at 2 self.old frame.old k).gain }
     {
-        if are_apart(self.memory.fmmus()) {
+        if self.memory.is_apart() {
             self.write_then_read(frame, k)
         } else {
             self.read_then_write(frame, k)

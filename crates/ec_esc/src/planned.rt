@@ -7,6 +7,7 @@ ghost use Rattle.std.specs.Prelude.{IfOk, Some, if◌then◌else◌, length, sli
 ghost use Rattle.ec_regs.specs.Al.{state_of, status_byte, status_of};
 ghost use Rattle.ec_regs.specs.Bits.{AreBytes, with_bits};
 ghost use Rattle.ec_regs.specs.declared.registers.TheConstants.{AL_STATUS, MEMORY_SIZE};
+ghost use Rattle.ec_areas.specs.Apart.{are_apart};
 ghost use Rattle.ec_areas.specs.Hull.{hull_of, misses};
 ghost use Rattle.ec_areas.specs.Logical.{write_map, target_places, names};
 ghost use Rattle.ec_areas.specs.Records.{fmmus_of, sync_managers_of};
@@ -14,7 +15,8 @@ ghost use Rattle.ec_esc.specs.Planned.{ChangesWithin};
 ghost use Rattle.ec_esc.specs.State.{with_run};
 
 use ec_areas::{
-    LogicalHull, fmmu_at, fmmus_of, hull_of, sync_manager_at, sync_managers_of, write_mapped,
+    LogicalHull, are_apart, fmmu_at, fmmus_of, hull_of, sync_manager_at, sync_managers_of,
+    write_mapped,
 };
 use ec_regs::registers::{
     AL_STATUS, FMMU_BASE, FMMU_COUNT, FMMU_SIZE, SYNC_MANAGER_BASE, SYNC_MANAGER_COUNT,
@@ -33,6 +35,7 @@ pub(crate) struct PlannedMemory {
     memory: Memory,
     fmmus: Fmmus,
     hull: LogicalHull,
+    apart: bool,
     managers: SyncManagers,
 }
 
@@ -44,7 +47,7 @@ impl Model for PlannedMemory {
 
     ghost view = { λ m. m.memory };
 
-    ghost invariant = { λ m. IsPlanned m.memory m.fmmus m.hull m.managers };
+    ghost invariant = { λ m. IsPlanned m.memory m.fmmus m.hull m.apart m.managers };
 }
 
 /// The records of all FMMUs.
@@ -83,12 +86,20 @@ fn sync_manager_record(number: usize) -> AddressRange
 }
 
 /// Decodes each FMMU of whose record a byte lies in the range that was written; the others stay. The hull of
-/// them all is found anew where there is such a byte.
-fn renew_fmmus(fmmus: &mut Fmmus, hull: &mut LogicalHull, memory: &[u8], written: AddressRange)
+/// them all, and whether what they read is apart from what they write, is found anew where there is such a
+/// byte.
+fn renew_fmmus(
+    fmmus: &mut Fmmus,
+    hull: &mut LogicalHull,
+    apart: &mut bool,
+    memory: &[u8],
+    written: AddressRange,
+)
     requires { length memory.now ≡ MEMORY_SIZE }
     ensures fmmus { (before : List ℕ) → fmmus.old ≡ fmmus_of before
         → ChangesWithin written.first written.count before memory.now → fmmus.new ≡ fmmus_of memory.now }
     ensures hull { hull.old ≡ hull_of fmmus.old → hull.new ≡ hull_of fmmus.new }
+    ensures apart { apart.old ≡ are_apart fmmus.old → apart.new ≡ are_apart fmmus.new }
 {
     if !FMMU_RECORDS.meets(&written) {
         return;
@@ -99,6 +110,7 @@ fn renew_fmmus(fmmus: &mut Fmmus, hull: &mut LogicalHull, memory: &[u8], written
         }
     }
     *hull = hull_of(fmmus);
+    *apart = are_apart(fmmus);
 }
 
 /// Decodes each sync manager of whose record a byte lies in the range that was written; the others stay.
@@ -130,11 +142,13 @@ impl PlannedMemory {
         memory.set_byte(AL_STATUS, AlState::Init.code());
         let fmmus = fmmus_of(memory.bytes());
         let hull = hull_of(&fmmus);
+        let apart = are_apart(&fmmus);
         let managers = sync_managers_of(memory.bytes());
         Ok(PlannedMemory {
             memory,
             fmmus,
             hull,
+            apart,
             managers,
         })
     }
@@ -167,6 +181,13 @@ impl PlannedMemory {
         ensures { result ≡ misses (hull_of (fmmus_of self.now)) (8 * address) (8 * count) }
     {
         self.hull.misses(address, count)
+    }
+
+    /// Has no FMMU for reading a physical bit in common with one for writing?
+    pub(crate) fn is_apart(&self) -> bool
+        ensures { result ≡ are_apart (fmmus_of self.now) }
+    {
+        self.apart
     }
 
     /// All sync managers, by number.
@@ -206,7 +227,13 @@ impl PlannedMemory {
             count: 1,
         };
         let bytes = self.memory.bytes();
-        renew_fmmus(&mut self.fmmus, &mut self.hull, bytes, written);
+        renew_fmmus(
+            &mut self.fmmus,
+            &mut self.hull,
+            &mut self.apart,
+            bytes,
+            written,
+        );
         renew_managers(&mut self.managers, bytes, written);
     }
 
@@ -223,7 +250,13 @@ impl PlannedMemory {
             count: bytes.len() as u16,
         };
         let bytes = self.memory.bytes();
-        renew_fmmus(&mut self.fmmus, &mut self.hull, bytes, written);
+        renew_fmmus(
+            &mut self.fmmus,
+            &mut self.hull,
+            &mut self.apart,
+            bytes,
+            written,
+        );
         renew_managers(&mut self.managers, bytes, written);
     }
 

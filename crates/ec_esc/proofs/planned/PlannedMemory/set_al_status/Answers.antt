@@ -26,6 +26,7 @@ invariant_of-self c =
           c.self.invariant.fmmus_are
           ∙ fmmus_stay memory c.load.new.self AL_STATUS 2 changes size refl;
       hull_is = c.self.invariant.hull_is;
+      apart_is = c.self.invariant.apart_is;
       managers_are =
           c.self.invariant.managers_are
           ∙ managers_stay memory c.load.new.self AL_STATUS 2 changes size refl;

@@ -23,6 +23,7 @@ invariant_of-self c =
       fmmus_are = c.self.invariant.fmmus_are ∙ sym (ap fmmus_of c.write_mapped.ensures.bits
           ∙ fmmus_same memory _ same);
       hull_is = c.self.invariant.hull_is;
+      apart_is = c.self.invariant.apart_is;
       managers_are =
           c.self.invariant.managers_are
           ∙ sym (ap sync_managers_of c.write_mapped.ensures.bits ∙ sync_managers_same memory _ same);
