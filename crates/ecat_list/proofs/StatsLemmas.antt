@@ -1,14 +1,17 @@
 -- What is told of some datagrams becomes what is told of one more once this is taken.
-use Rattle.std.proofs.Common.{◌≡◌, ℕ, ◌+◌, ◌<◌, ◌≤◌, Bool, true, false, cond, not, ◌&&◌, eqb, filter, is_none}
+use Rattle.std.proofs.Common.{◌≡◌, ℕ, ◌+◌, ◌<◌, ◌≤◌, Bool, true, false, cond, ◌&&◌, eqb, filter, is_none}
 use Rattle.std.proofs.Common.{List, [], ◌∷◌, ◌++◌, map, count_by, Option, Some, None}
 use Rattle.std.proofs.Common.{refl, sym, ap, subst, ◌∙◌, arith}
 use Rattle.std.specs.Io.Iter.{u64_saturate}
+use Rattle.std.specs.List.{slice_get}
+use Rattle.std.specs.Cmp.{IsEquivalence}
 use Rattle.std.proofs.lemmas.Bool.{and_parts}
 use Rattle.std.proofs.lemmas.Bool.Decides.{nat_tests}
 use Rattle.std.proofs.lemmas.List.{append-nil, map-append}
 use Rattle.std.proofs.lemmas.List.Elements.{filter-append}
-use Rattle.indexmap.specs.IndexMap.{index_map_len}
-use Rattle.ecat_list.specs.Stats.{IsTold, datagrams_of, group_of, is_left_out, same_key}
+use Rattle.std.proofs.lemmas.Map.Made.{lookup_key_passes}
+use Rattle.indexmap.specs.IndexMap.{get_key_by, index_map_len}
+use Rattle.ecat_list.specs.Stats.{IsAt, IsTold, datagrams_of, group_of, is_left_out, same_key}
 use Rattle.ecat_list.specs.Tally.{IsTally}
 use Rattle.ecat_list.specs.declared.stats.TheConstants.{MAX_GROUPS}
 use Rattle.ecat_list.specs.declared.stats.Group.{Group}
@@ -47,6 +50,25 @@ key_itself a =
   where
     itself : (n : ℕ) → eqb n n ≡ true
     itself n = grind (arith, nat_tests)
+
+-- to be the same key is an equivalence
+pub key_laws : IsEquivalence same_key
+key_laws = record {
+  refl = key_itself;
+  symm = turned;
+  congr = λ x y z e. ap (λ k. same_key k z) (key_is x y e);
+}
+  where
+    of_equal : (x y : Key) → x ≡ y → same_key x y ≡ same_key y x
+    of_equal x y p = ap (λ k. same_key k y) p ∙ ap (λ k. same_key y k) (sym p)
+
+    turned : (x y : Key) → same_key x y ≡ same_key y x
+    turned x y = by (same_key x y) refl (same_key y x) refl
+      where
+        by : (b : Bool) → same_key x y ≡ b → (d : Bool) → same_key y x ≡ d → same_key x y ≡ same_key y x
+        by true e d f = of_equal x y (key_is x y e)
+        by false e true f = of_equal x y (sym (key_is y x f))
+        by false e false f = e ∙ sym f
 
 -- ---- the datagrams of a key
 
@@ -207,3 +229,34 @@ told_left_out all p s h absent full =
         let wrong : None ≡ Some g = sym absent ∙ ap (group_of s) (key_is p.key key e) ∙ is in
         absurd (cc)
     by key g is false e = subst (λ xs. IsTally xs g.tally) (sym (datagrams_same all p key e)) (h.groups key g is)
+
+-- ---- a place
+
+abbrev group_or : Group → Option (Key × Group) → Group
+group_or d None = d
+group_or d (Some entry) = entry.1
+
+-- entries that are one have one group
+pub same_group : (k q : Key) (g h : Group)
+    → ◌≡◌ {A = Option (Key × Group)} (Some (k, g)) (Some (q, h)) → g ≡ h
+same_group k q g h e = ap (group_or g) e
+
+-- what stands at a place has this key, where its own key is the same
+pub is_at : (s : Stats) (place : ℕ) (k key : Key) (g : Group) → slice_get s.groups.entries place ≡ Some (k, g)
+    → group_of s k ≡ Some g → same_key k key ≡ true → IsAt s place key
+is_at s place k key g stands has same =
+    let e : k ≡ key = key_is k key same in
+    record {
+      group = g;
+      stands = stands ∙ ap {B = Option (Key × Group)} (λ (x : Key). Some (x, g)) e;
+      has = ap (group_of s) (sym e) ∙ has;
+    }
+
+-- so does what is found by its key
+pub found_at : (s : Stats) (place : ℕ) (k key : Key) (g : Group)
+    → slice_get s.groups.entries place ≡ Some (k, g) → group_of s key ≡ Some g
+    → get_key_by (same_key key) s.groups ≡ Some k → IsAt s place key
+found_at s place k key g stands has own =
+    let e : key ≡ k = key_is key k (lookup_key_passes (same_key key) s.groups.entries k own) in
+    is_at s place k key g stands (ap (group_of s) (sym e) ∙ has)
+    (ap (λ x. same_key x key) (sym e) ∙ key_itself key)

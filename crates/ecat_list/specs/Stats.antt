@@ -1,7 +1,7 @@
 -- What is told of all datagrams that went by: a tally of each group of them, and how many were of further
 -- groups than are told apart.
-use Rattle.std.specs.Prelude.{◌≡◌, ℕ, ◌<◌, ◌≤◌, Bool, ◌==◌, ◌&&◌, Option, Some, List, map, filter, count_by}
-use Rattle.std.specs.Prelude.{is_none}
+use Rattle.std.specs.Prelude.{◌≡◌, ℕ, ◌<◌, Bool, ◌==◌, ◌&&◌, Option, Some, List, map, filter, count_by}
+use Rattle.std.specs.Prelude.{is_none, slice_get}
 use Rattle.std.specs.Io.Iter.{u64_saturate}
 use Rattle.indexmap.specs.IndexMap.{get, index_map_len}
 use Rattle.ecat_list.specs.Tally.{IsTally}
@@ -35,3 +35,9 @@ pub record IsTold (all : List Passed) (s : Stats) : Type 0 where
   pub groups : (key : Key) (g : Group) → group_of s key ≡ Some g → IsTally (datagrams_of key all) g.tally
   pub left_out : s.left_out ≡ u64_saturate (count_by (is_left_out s) all)
   pub all_told : index_map_len s.groups < MAX_GROUPS → count_by (is_left_out s) all ≡ 0
+
+-- is the group of this key the one at this place, in the order of their first datagrams
+pub record IsAt (s : Stats) (place : ℕ) (key : Key) : Type 0 where
+  pub group : Group
+  pub stands : slice_get s.groups.entries place ≡ Some (key, group)
+  pub has : group_of s key ≡ Some group

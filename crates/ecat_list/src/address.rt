@@ -1,6 +1,8 @@
 //! The address of a datagram as text.
+ghost use Rattle.std.specs.Prelude.{◌≡◌, ◌≤◌, ◌+◌};
 
-use crate::text::{put_byte, put_decimal, put_hex};
+use crate::row::Row;
+use crate::text::four_digits;
 use ec_wire::{Command, ado_of, adp_of};
 use std::alloc::AllocError;
 
@@ -26,41 +28,60 @@ fn kind_of(command: Command) -> Kind {
 }
 
 /// Puts a datagram's address: `0x00010000` of a logical command, `-2:0x0130` by a place on the line, and
-/// `0x1001:0x0130` by a station's address; a broadcast has there how many slaves it has passed.
+/// `0x1001:0x0130` by a station's address; a broadcast has there how many slaves it has passed. It is written
+/// in a row, which loses what it had.
 pub(crate) fn put_address(
     text: &mut Vec<u8>,
+    row: &mut Row,
     command: Command,
     address: u32,
 ) -> Result<(), AllocError> {
+    row.clear();
+    lead_address(row, command, address);
+    text.extend_from_slice(row.as_slice())
+}
+
+/// Puts a datagram's address in front of a row.
+pub(crate) fn lead_address(row: &mut Row, command: Command, address: u32)
+    requires { 28 ≤ row.old.from }
+    ensures { row.old.from ≤ row.new.from + 28 }
+{
     match kind_of(command) {
         Kind::Logical => {
-            text.extend_from_slice(b"0x")?;
-            put_hex(text, &address.to_be_bytes())
+            row.lead_bytes(&four_digits((address % 65536) as u16));
+            row.lead_bytes(&four_digits((address / 65536) as u16));
+            row.lead_bytes(b"0x");
         }
         Kind::Place => {
-            put_place(text, adp_of(address))?;
-            put_register(text, address)
+            lead_register(row, address);
+            lead_place(row, adp_of(address));
         }
         Kind::Station => {
-            text.extend_from_slice(b"0x")?;
-            put_hex(text, &adp_of(address).to_be_bytes())?;
-            put_register(text, address)
+            lead_register(row, address);
+            row.lead_bytes(&four_digits(adp_of(address)));
+            row.lead_bytes(b"0x");
         }
     }
 }
 
-/// Puts a place on the line, as a signed number.
-fn put_place(text: &mut Vec<u8>, adp: u16) -> Result<(), AllocError> {
+/// Puts a place on the line in front, as a signed number.
+fn lead_place(row: &mut Row, adp: u16)
+    requires { 21 ≤ row.old.from }
+    ensures { row.old.from ≤ row.new.from + 21 }
+{
     if adp < 0x8000 {
-        put_decimal(text, u64::from(adp))
+        row.lead_decimal(u64::from(adp));
     } else {
-        put_byte(text, b'-')?;
-        put_decimal(text, 0x1_0000 - u64::from(adp))
+        row.lead_decimal(0x1_0000 - u64::from(adp));
+        row.lead_byte(b'-');
     }
 }
 
-/// Puts a register's address behind a colon.
-fn put_register(text: &mut Vec<u8>, address: u32) -> Result<(), AllocError> {
-    text.extend_from_slice(b":0x")?;
-    put_hex(text, &ado_of(address).to_be_bytes())
+/// Puts a register's address in front, behind a colon.
+fn lead_register(row: &mut Row, address: u32)
+    requires { 7 ≤ row.old.from }
+    ensures { row.new.from + 7 ≡ row.old.from }
+{
+    row.lead_bytes(&four_digits(ado_of(address)));
+    row.lead_bytes(b":0x");
 }

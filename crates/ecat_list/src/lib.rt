@@ -19,16 +19,18 @@
 //! 2 0.001000 02:01:05:10:00:00 - fault Short at 12
 //! ```
 //!
-//! What is promised: what a byte and a decimal number put at the end of a text (`put_byte`, `put_decimal`);
-//! what `Stats` counts, of each group of datagrams its working counters, how often each came and in which
-//! packet first, and how many datagrams are of further groups than are told apart (`specs/Stats.antt`); and
-//! that no bytes, times or counters make any of this crate fail but for memory and the output. The order of
-//! the columns, the times between datagrams and how a listing ends are tried by tests alone.
+//! What is promised: what a byte and a decimal number put at the end of a text (`put_byte`, `put_decimal`),
+//! or in front of the line under way (`Row`); what `Stats` counts, of each group of datagrams its working
+//! counters, how often each came and in which packet first, and how many datagrams are of further groups
+//! than are told apart (`specs/Stats.antt`); and that no bytes, times or counters make any of this crate fail
+//! but for memory and the output. The order of the columns, the times between datagrams and how a listing
+//! ends are tried by tests alone.
 
 mod address;
 mod line;
 mod listing;
 mod output;
+mod row;
 mod shown;
 mod stats;
 mod tally;

@@ -1,9 +1,11 @@
 //! The line of a datagram, and of a packet that has none.
-ghost use Rattle.std.specs.Prelude.{◌≡◌, ◌<◌, length};
+ghost use Rattle.std.specs.Prelude.{◌≡◌, ◌<◌, ◌≤◌, ◌+◌, ◌*◌, length};
+ghost use Rattle.ecat_list.specs.declared.row.TheConstants.{ROOM};
 ghost use Rattle.ecat_list.specs.Shown.{kind_words};
 
-use crate::address::put_address;
-use crate::text::{put_byte, put_decimal, put_hex, put_seconds};
+use crate::address::lead_address;
+use crate::row::Row;
+use crate::text::{digit_of, put_byte, put_decimal};
 use arrayvec::ArrayVec;
 use ec_wire::{Command, Datagram, FaultKind, FrameBuf, WireFault};
 use std::alloc::AllocError;
@@ -91,45 +93,64 @@ impl Style {
 pub(crate) const CSV_HEAD: &[u8] =
     b"packet,seconds,source,datagram,command,address,length,wkc,data\n";
 
-/// Puts the packet's number, its time and its source address, each with what stands behind a column.
-fn put_head(text: &mut Vec<u8>, style: Style, head: &Head) -> Result<(), AllocError> {
+/// Makes a row of a packet's number, its time and its source address, each with what stands behind a column.
+fn lead_head(row: &mut Row, style: Style, head: &Head)
+    ensures { ROOM ≤ row.new.from + 81 }
+{
     let separator = style.separator();
-    put_decimal(text, head.number)?;
-    put_byte(text, separator)?;
-    put_since(text, style, head.since)?;
-    put_byte(text, separator)?;
-    put_source(text, style, head.source)?;
-    put_byte(text, separator)
+    row.clear();
+    row.lead_byte(separator);
+    lead_source(row, style, head.source);
+    row.lead_byte(separator);
+    lead_since(row, style, head.since);
+    row.lead_byte(separator);
+    row.lead_decimal(head.number);
 }
 
-/// Puts the time since the first packet.
-fn put_since(text: &mut Vec<u8>, style: Style, since: Option<Since>) -> Result<(), AllocError> {
+/// Puts the time since the first packet in front.
+fn lead_since(row: &mut Row, style: Style, since: Option<Since>)
+    requires { 41 ≤ row.old.from }
+    ensures { row.old.from ≤ row.new.from + 41 }
+{
     let Some(since) = since else {
-        return put_nothing(text, style);
+        return lead_nothing(row, style);
     };
+    row.lead_seconds(since.nanoseconds, since.fine);
     if since.before {
-        put_byte(text, b'-')?;
+        row.lead_byte(b'-');
     }
-    put_seconds(text, since.nanoseconds, since.fine)
 }
 
-/// Puts a source address, its bytes parted by colons.
-fn put_source(text: &mut Vec<u8>, style: Style, source: Option<[u8; 6]>) -> Result<(), AllocError> {
+/// Puts a source address in front, its bytes parted by colons.
+fn lead_source(row: &mut Row, style: Style, source: Option<[u8; 6]>)
+    requires { 17 ≤ row.old.from }
+    ensures { row.old.from ≤ row.new.from + 17 }
+{
     match source {
-        Some(address) => put_parted(text, address),
-        None => put_nothing(text, style),
+        Some(address) => row.lead_bytes(&parted(address)),
+        None => lead_nothing(row, style),
     }
 }
 
-/// Puts the bytes of an address, parted by colons.
-fn put_parted(text: &mut Vec<u8>, address: [u8; 6]) -> Result<(), AllocError> {
-    for (k, byte) in address.iter().enumerate() {
-        if k > 0 {
-            put_byte(text, b':')?;
-        }
-        put_hex(text, &[*byte])?;
+/// The bytes of an address, parted by colons.
+fn parted(address: [u8; 6]) -> [u8; 17] {
+    let mut digits = [b':'; 17];
+    for k in 0..6usize {
+        digits[3 * k] = digit_of(address[k] / 16);
+        digits[3 * k + 1] = digit_of(address[k] % 16);
     }
-    Ok(())
+    digits
+}
+
+/// Puts what stands in a column that says nothing in front: a hyphen, or nothing.
+fn lead_nothing(row: &mut Row, style: Style)
+    requires { 1 ≤ row.old.from }
+    ensures { row.old.from ≤ row.new.from + 1 }
+{
+    match style {
+        Style::Words => row.lead_byte(b'-'),
+        Style::Csv => {}
+    }
 }
 
 /// Puts what stands in a column that says nothing: a hyphen, or nothing.
@@ -140,71 +161,89 @@ fn put_nothing(text: &mut Vec<u8>, style: Style) -> Result<(), AllocError> {
     }
 }
 
-/// Puts a line for each datagram of a frame.
+/// Puts a line for each datagram of a frame, written in the second row. What all of them begin with is
+/// written once, in the first.
 pub(crate) fn put_datagrams(
     text: &mut Vec<u8>,
+    first: &mut Row,
+    row: &mut Row,
     style: Style,
     head: &Head,
     frame: &FrameBuf,
 ) -> Result<(), AllocError> {
+    lead_head(first, style, head);
     for k in 0..frame.count() {
-        put_datagram(text, style, head, frame, k)?;
+        lead_line(row, style, first, frame, k);
+        text.extend_from_slice(row.as_slice())?;
     }
     Ok(())
 }
 
-/// Puts the line of datagram `k` of a frame.
-fn put_datagram(
-    text: &mut Vec<u8>,
-    style: Style,
-    head: &Head,
-    frame: &FrameBuf,
-    k: usize,
-) -> Result<(), AllocError>
-    requires { k < length frame.now }
+/// Makes a row of the line of datagram `k` of a frame, which begins with the bytes of the first row.
+fn lead_line(row: &mut Row, style: Style, first: &Row, frame: &FrameBuf, k: usize)
+    requires there { k < length frame.now }
+    requires short { ROOM ≤ first.now.from + 81 }
+{
+    row.clear();
+    row.lead_byte(b'\n');
+    lead_data(row, style, frame.data(k));
+    lead_columns(row, style, frame, k);
+    row.lead_bytes(first.as_slice());
+}
+
+/// Puts the columns of datagram `k` in front, from its number to its counter, with what stands behind them.
+fn lead_columns(row: &mut Row, style: Style, frame: &FrameBuf, k: usize)
+    requires there { k < length frame.now }
+    requires room { 102 ≤ row.old.from }
+    ensures { row.old.from ≤ row.new.from + 102 }
 {
     let separator = style.separator();
-    let data = frame.data(k);
-    put_head(text, style, head)?;
-    put_decimal(text, k as u64)?;
-    put_byte(text, separator)?;
-    text.extend_from_slice(frame.command(k).name().as_bytes())?;
-    put_byte(text, separator)?;
-    put_address(text, frame.command(k), frame.address(k))?;
-    put_byte(text, separator)?;
-    put_decimal(text, data.len() as u64)?;
-    put_byte(text, separator)?;
-    put_counter(text, style, frame.counter(k))?;
-    put_byte(text, separator)?;
-    put_data(text, style, data)?;
-    put_byte(text, b'\n')
+    let command = frame.command(k);
+    row.lead_byte(separator);
+    lead_counter(row, style, frame.counter(k));
+    row.lead_byte(separator);
+    row.lead_decimal(frame.data(k).len() as u64);
+    row.lead_byte(separator);
+    lead_address(row, command, frame.address(k));
+    row.lead_byte(separator);
+    row.lead_bytes(command.name().as_bytes());
+    row.lead_byte(separator);
+    row.lead_decimal(k as u64);
 }
 
-/// Puts a working counter, in words behind `wkc`.
-fn put_counter(text: &mut Vec<u8>, style: Style, counter: u16) -> Result<(), AllocError> {
+/// Puts a working counter in front, in words behind `wkc`.
+fn lead_counter(row: &mut Row, style: Style, counter: u16)
+    requires { 24 ≤ row.old.from }
+    ensures { row.old.from ≤ row.new.from + 24 }
+{
+    row.lead_decimal(u64::from(counter));
     if style == Style::Words {
-        text.extend_from_slice(b"wkc ")?;
+        row.lead_bytes(b"wkc ");
     }
-    put_decimal(text, u64::from(counter))
 }
 
-/// Puts a datagram's data.
-fn put_data(text: &mut Vec<u8>, style: Style, data: &[u8]) -> Result<(), AllocError> {
+/// Puts a datagram's data in front.
+fn lead_data(row: &mut Row, style: Style, data: &[u8])
+    requires { 2 * length «data».now + 1 ≤ row.old.from }
+    ensures { row.old.from ≤ row.new.from + (2 * length «data».now + 1) }
+{
     if data.is_empty() {
-        put_nothing(text, style)
+        lead_nothing(row, style);
     } else {
-        put_hex(text, data)
+        row.lead_hex(data);
     }
 }
 
-/// Puts the line of a packet that has no datagrams to show.
+/// Puts the line of a packet that has no datagrams to show; a row serves for its beginning.
 pub(crate) fn put_note(
     text: &mut Vec<u8>,
+    row: &mut Row,
     style: Style,
     head: &Head,
     note: Note,
 ) -> Result<(), AllocError> {
-    put_head(text, style, head)?;
+    lead_head(row, style, head);
+    text.extend_from_slice(row.as_slice())?;
     put_nothing(text, style)?;
     put_byte(text, style.separator())?;
     put_words(text, note)?;

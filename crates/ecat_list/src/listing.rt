@@ -3,6 +3,7 @@ ghost use Rattle.std.specs.Prelude.{◌<◌, length};
 
 use crate::line::{CSV_HEAD, Head, Note, Since, Style, any_frame, put_datagrams, put_note};
 use crate::output::{Output, Stop};
+use crate::row::Row;
 use crate::stats::{Key, Passed, Stats};
 use crate::tally::Came;
 use ec_wire::{Form as Carrier, FrameBuf};
@@ -120,6 +121,10 @@ struct Listing<'a, W> {
     frame: FrameBuf,
     stats: Option<Stats>,
     first: Option<u64>,
+    /// What the lines of a packet begin with.
+    head: Row,
+    /// A line.
+    row: Row,
 }
 
 impl<'a, W: Write> Listing<'a, W> {
@@ -140,6 +145,8 @@ impl<'a, W: Write> Listing<'a, W> {
             frame: any_frame(),
             stats,
             first: None,
+            head: Row::new(),
+            row: Row::new(),
         })
     }
 
@@ -243,7 +250,15 @@ impl<'a, W: Write> Listing<'a, W> {
 
     /// Puts a line for each datagram.
     fn datagram_lines(&mut self, style: Style, head: &Head) -> Result<(), Stop> {
-        put_datagrams(&mut self.output.text, style, head, &self.frame)?;
+        let text = &mut self.output.text;
+        put_datagrams(
+            text,
+            &mut self.head,
+            &mut self.row,
+            style,
+            head,
+            &self.frame,
+        )?;
         Ok(())
     }
 
@@ -261,11 +276,23 @@ impl<'a, W: Write> Listing<'a, W> {
     /// Takes a packet that has no datagrams to show.
     fn note(&mut self, head: &Head, note: Note) -> Result<(), Stop> {
         match self.asked.form {
-            Form::Lines => put_note(&mut self.output.text, Style::Words, head, note)?,
-            Form::Csv => put_note(&mut self.output.text, Style::Csv, head, note)?,
+            Form::Lines => put_note(
+                &mut self.output.text,
+                &mut self.row,
+                Style::Words,
+                head,
+                note,
+            )?,
+            Form::Csv => put_note(&mut self.output.text, &mut self.row, Style::Csv, head, note)?,
             Form::Faults => {
                 if note.is_fault() {
-                    put_note(&mut self.output.text, Style::Words, head, note)?;
+                    put_note(
+                        &mut self.output.text,
+                        &mut self.row,
+                        Style::Words,
+                        head,
+                        note,
+                    )?;
                 }
             }
             Form::Stats => {}
@@ -277,7 +304,7 @@ impl<'a, W: Write> Listing<'a, W> {
     fn finish(&mut self) -> Result<(), Stop> {
         if let Some(stats) = &self.stats {
             for place in 0..stats.count() {
-                stats.put(&mut self.output.text, place)?;
+                stats.put(&mut self.output.text, &mut self.row, place)?;
                 self.output.settle()?;
             }
             stats.put_left_out(&mut self.output.text)?;

@@ -1,14 +1,15 @@
 //! How often each datagram went by, with which counters and how far apart.
 
-ghost use Rattle.std.specs.Prelude.{◌≡◌, ◌<◌, [], ◌∷◌, ◌++◌, List, None, OnOk};
+ghost use Rattle.std.specs.Prelude.{◌≡◌, ◌<◌, [], ◌∷◌, ◌++◌, List, None, OnOk, IfSome, IsTrue};
 ghost use Rattle.indexmap.specs.IndexMap.{index_map_len};
 ghost use Rattle.ecat_list.specs.declared.stats.Passed.{Passed};
 ghost use Rattle.ecat_list.specs.declared.stats.TheConstants.{MAX_GROUPS};
 ghost use Rattle.ecat_list.specs.declared.tally.Came.{Came};
-ghost use Rattle.ecat_list.specs.Stats.{IsTold, group_of};
+ghost use Rattle.ecat_list.specs.Stats.{IsAt, IsTold, group_of};
 ghost use Rattle.ecat_list.specs.Tally.{IsTally};
 
 use crate::address::put_address;
+use crate::row::Row;
 use crate::tally::{Came, Count, Tally};
 use crate::text::{put_byte, put_decimal, put_seconds};
 use ec_wire::Command;
@@ -69,6 +70,10 @@ struct Group {
 pub(crate) struct Stats {
     groups: IndexMap<Key, Group>,
     left_out: u64,
+    /// The place of the group that the last datagram is of.
+    last: usize,
+    /// The place of the group that was found by its key the last time.
+    found: usize,
 }
 
 impl Group {
@@ -98,30 +103,30 @@ impl Group {
         self.fine = passed.fine;
     }
 
-    /// Puts the line of this group.
-    fn put(&self, text: &mut Vec<u8>, key: &Key) -> Result<(), AllocError> {
+    /// Puts the line of this group; a row serves for its columns.
+    fn put(&self, text: &mut Vec<u8>, row: &mut Row, key: &Key) -> Result<(), AllocError> {
         text.extend_from_slice(self.command.name().as_bytes())?;
         put_byte(text, b' ')?;
-        put_address(text, self.command, key.address)?;
+        put_address(text, row, self.command, key.address)?;
         put_byte(text, b' ')?;
         put_decimal(text, u64::from(key.length))?;
         text.extend_from_slice(b" bytes: ")?;
         put_counts(text, &self.tally)?;
         text.extend_from_slice(b", index ")?;
         put_decimal(text, u64::from(key.index))?;
-        self.put_gaps(text)?;
+        self.put_gaps(text, row)?;
         put_byte(text, b'\n')
     }
 
     /// Puts the least and the greatest time between two.
-    fn put_gaps(&self, text: &mut Vec<u8>) -> Result<(), AllocError> {
+    fn put_gaps(&self, text: &mut Vec<u8>, row: &mut Row) -> Result<(), AllocError> {
         let Some(gaps) = self.gaps else {
             return Ok(());
         };
         text.extend_from_slice(b", ")?;
-        put_seconds(text, gaps.least, self.fine)?;
+        put_seconds(text, row, gaps.least, self.fine)?;
         text.extend_from_slice(b" to ")?;
-        put_seconds(text, gaps.greatest, self.fine)?;
+        put_seconds(text, row, gaps.greatest, self.fine)?;
         text.extend_from_slice(b" s apart")
     }
 }
@@ -196,18 +201,84 @@ impl Stats {
         Stats {
             groups: IndexMap::new(alloc),
             left_out: 0,
+            last: 0,
+            found: 0,
         }
     }
 
-    /// Takes a datagram, or counts it as left out where it is of a group past the 4,096th.
+    /// Takes a datagram, or counts it as left out where it is of a group past the 4,096th. Those of a cycle
+    /// come in one order again and again: so its group is looked for by its key only where it stands at
+    /// neither place where it likely is.
     pub(crate) fn take(&mut self, passed: &Passed) -> Result<(), AllocError>
         ensures { OnOk result ((all : List Passed) → IsTold all self.old
             → IsTold (all ++ passed.now ∷ []) self.new) }
     {
-        if let Some(known) = self.groups.get_mut(&passed.key) {
-            known.take(passed);
-            return Ok(());
+        match self.likely_place(&passed.key) {
+            Some(place) => {
+                self.take_at(place, passed);
+                Ok(())
+            }
+            None => self.take_by_key(passed),
         }
+    }
+
+    /// The place of the group of a key, if it is the one behind the last datagram's, or the one that was
+    /// found by its key the last time, as the first group of a cycle is.
+    fn likely_place(&self, key: &Key) -> Option<usize>
+        ensures { IfSome result (λ place. IsAt self.now place key.now) }
+    {
+        let next = self.last.saturating_add(1);
+        if self.is_at(next, key) {
+            return Some(next);
+        }
+        if self.is_at(self.found, key) {
+            return Some(self.found);
+        }
+        None
+    }
+
+    /// Is the group of this key the one at this place?
+    fn is_at(&self, place: usize, key: &Key) -> bool
+        ensures { IsTrue result → IsAt self.now place key.now }
+    {
+        match self.groups.get_index(place) {
+            Some((here, _)) => *here == *key,
+            None => false,
+        }
+    }
+
+    /// Takes a datagram of the group at a place.
+    fn take_at(&mut self, place: usize, passed: &Passed)
+        requires { IsAt self.old place passed.now.key }
+        ensures { (all : List Passed) → IsTold all self.old
+            → IsTold (all ++ passed.now ∷ []) self.new }
+    {
+        let (_, known) = self.groups.pair_mut(place);
+        known.take(passed);
+        self.last = place;
+    }
+
+    /// Takes a datagram whose group is looked for by its key.
+    fn take_by_key(&mut self, passed: &Passed) -> Result<(), AllocError>
+        ensures { OnOk result ((all : List Passed) → IsTold all self.old
+            → IsTold (all ++ passed.now ∷ []) self.new) }
+    {
+        match self.groups.get_full(&passed.key) {
+            Some((place, _, _)) => {
+                self.found = place;
+                self.take_at(place, passed);
+                Ok(())
+            }
+            None => self.take_new(passed),
+        }
+    }
+
+    /// Takes a datagram that is of no group yet.
+    fn take_new(&mut self, passed: &Passed) -> Result<(), AllocError>
+        requires { group_of self.old passed.now.key ≡ None }
+        ensures { OnOk result ((all : List Passed) → IsTold all self.old
+            → IsTold (all ++ passed.now ∷ []) self.new) }
+    {
         if self.groups.len() < MAX_GROUPS {
             return self.add(passed);
         }
@@ -224,6 +295,7 @@ impl Stats {
     {
         let mut group = Group::new(passed.command);
         group.take(passed);
+        self.last = self.groups.len();
         match self.groups.insert(passed.key, group) {
             Ok(_) => Ok(()),
             Err(_) => Err(AllocError),
@@ -235,10 +307,15 @@ impl Stats {
         self.groups.len()
     }
 
-    /// Puts the line of a group.
-    pub(crate) fn put(&self, text: &mut Vec<u8>, place: usize) -> Result<(), AllocError> {
+    /// Puts the line of a group; a row serves for its columns.
+    pub(crate) fn put(
+        &self,
+        text: &mut Vec<u8>,
+        row: &mut Row,
+        place: usize,
+    ) -> Result<(), AllocError> {
         match self.groups.get_index(place) {
-            Some((key, group)) => group.put(text, key),
+            Some((key, group)) => group.put(text, row, key),
             None => Ok(()),
         }
     }

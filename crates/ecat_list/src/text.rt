@@ -1,7 +1,8 @@
 //! Numbers as text, put at the end of a text.
-ghost use Rattle.std.specs.Prelude.{◌≡◌, ◌<◌, ◌≤◌, ◌++◌, ◌∷◌, [], OnOk, decimal};
+ghost use Rattle.std.specs.Prelude.{◌≡◌, ◌<◌, ◌≤◌, ◌*◌, ◌++◌, ◌∷◌, [], OnOk, decimal, length};
 ghost use Rattle.ecat_list.specs.Digits.{digit, eight_digits, four_digits};
 
+use crate::row::Row;
 use itoa::Buffer;
 use std::alloc::AllocError;
 
@@ -26,19 +27,6 @@ pub(crate) fn put_decimal(text: &mut Vec<u8>, number: u64) -> Result<(), AllocEr
     text.extend_from_slice(buffer.format(number).as_bytes())
 }
 
-/// Puts the last digits of a number, so many as the width, with zeros before them.
-pub(crate) fn put_digits(text: &mut Vec<u8>, number: u64, width: usize) -> Result<(), AllocError>
-    requires { width ≤ 9 }
-{
-    let mut digits = [b'0'; 9];
-    let mut rest = number;
-    for place in 0..width {
-        digits[width - 1 - place] = DIGITS[(rest % 10) as usize];
-        rest /= 10;
-    }
-    text.extend_from_slice(&digits[..width])
-}
-
 /// Puts four hexadecimal digits of a number.
 pub(crate) fn put_four_digits(text: &mut Vec<u8>, number: u16) -> Result<(), AllocError>
     ensures { OnOk result (text.new.items ≡ text.old.items ++ four_digits number) }
@@ -55,7 +43,7 @@ pub(crate) fn put_eight_digits(text: &mut Vec<u8>, number: u32) -> Result<(), Al
 }
 
 /// The four hexadecimal digits of a number.
-fn four_digits(number: u16) -> [u8; 4]
+pub(crate) fn four_digits(number: u16) -> [u8; 4]
     ensures { result ≡ four_digits number }
 {
     [
@@ -79,27 +67,42 @@ pub(crate) fn put_hex(text: &mut Vec<u8>, bytes: &[u8]) -> Result<(), AllocError
     let mut digits = [0; 2 * PIECE];
     for piece in bytes.chunks(PIECE) {
         let count = piece.len().min(PIECE);
-        for k in 0..count {
-            digits[2 * k] = DIGITS[(piece[k] / 16) as usize];
-            digits[2 * k + 1] = DIGITS[(piece[k] % 16) as usize];
-        }
+        spell(&piece[..count], &mut digits);
         text.extend_from_slice(&digits[..2 * count])?;
     }
     Ok(())
 }
 
-/// Puts a time in seconds from nanoseconds, to the microsecond, or to the nanosecond.
+/// Spells bytes by two hexadecimal digits each. No digit is looked up, so that many are spelt at once.
+pub(crate) fn spell(bytes: &[u8], digits: &mut [u8])
+    requires { 2 * length bytes.now ≤ length digits.old }
+{
+    for k in 0..bytes.len() {
+        digits[2 * k] = digit_of(bytes[k] / 16);
+        digits[2 * k + 1] = digit_of(bytes[k] % 16);
+    }
+}
+
+/// The hexadecimal digit of a number below 16, by arithmetic.
+pub(crate) fn digit_of(number: u8) -> u8
+    requires { number < 16 }
+{
+    if number < 10 {
+        b'0' + number
+    } else {
+        b'a' - 10 + number
+    }
+}
+
+/// Puts a time in seconds from nanoseconds, to the microsecond, or to the nanosecond. It is written in a row,
+/// which loses what it had.
 pub(crate) fn put_seconds(
     text: &mut Vec<u8>,
+    row: &mut Row,
     nanoseconds: u64,
     fine: bool,
 ) -> Result<(), AllocError> {
-    put_decimal(text, nanoseconds / 1_000_000_000)?;
-    put_byte(text, b'.')?;
-    let behind = nanoseconds % 1_000_000_000;
-    if fine {
-        put_digits(text, behind, 9)
-    } else {
-        put_digits(text, behind / 1000, 6)
-    }
+    row.clear();
+    row.lead_seconds(nanoseconds, fine);
+    text.extend_from_slice(row.as_slice())
 }
