@@ -26,6 +26,46 @@ impl Time {
         requires most { per_second ≤ 2 ^ 34 }
         ensures { result ≡ time_of per_second ticks }
     {
+        if per_second == MICROSECONDS {
+            Time::of_microseconds(ticks)
+        } else if per_second == NANOSECONDS {
+            Time::of_nanoseconds(ticks)
+        } else {
+            Time::of_any(per_second, ticks)
+        }
+    }
+
+    /// The time of so many microseconds. It stands by itself, so that the compiler, which would else share one
+    /// division with `of_any`, turns the division by a constant into a multiplication.
+    #[inline(never)]
+    fn of_microseconds(ticks: u64) -> Time
+        ensures { result ≡ time_of 1000000 ticks }
+    {
+        Time {
+            seconds: ticks / MICROSECONDS,
+            nanoseconds: ticks % MICROSECONDS * (NANOSECONDS / MICROSECONDS),
+            fine: false,
+        }
+    }
+
+    /// The time of so many nanoseconds, by itself as `of_microseconds` is.
+    #[inline(never)]
+    fn of_nanoseconds(ticks: u64) -> Time
+        ensures { result ≡ time_of 1000000000 ticks }
+    {
+        Time {
+            seconds: ticks / NANOSECONDS,
+            nanoseconds: ticks % NANOSECONDS,
+            fine: true,
+        }
+    }
+
+    /// The time of so many ticks, by two divisions.
+    fn of_any(per_second: u64, ticks: u64) -> Time
+        requires some { 0 < per_second }
+        requires most { per_second ≤ 2 ^ 34 }
+        ensures { result ≡ time_of per_second ticks }
+    {
         Time {
             seconds: ticks / per_second,
             nanoseconds: ticks % per_second * NANOSECONDS / per_second,
