@@ -30,7 +30,7 @@ impl<'a, W: Write> Lines<'a, W> {
     /// Writes what was gathered.
     pub fn flush(&mut self) -> io::Result<()> {
         self.out.write_all(self.gathered.as_slice())?;
-        self.gathered = ArrayVec::new();
+        self.gathered.clear();
         Ok(())
     }
 
