@@ -1,5 +1,5 @@
--- The logical bits that some FMMUs map lie in a hull, and a datagram whose bits lie outside of it reaches none
--- of them (IEC 61158-4-12, FMMU).
+-- The logical bits that some FMMUs map lie in a hull, and a datagram whose bits lie outside of it reaches
+-- none of them (IEC 61158-4-12, FMMU).
 use Rattle.std.specs.Prelude.{◌==◌, ◌||◌, ◌+◌, ℕ, Bool, nat_le, min, max, if◌then◌else◌, List, fold}
 use Rattle.ec_regs.specs.Pairs.{first_logical, pair_count}
 use Rattle.ec_regs.specs.declared.fmmu.Fmmu.{Fmmu}

@@ -73,6 +73,21 @@ fn is_last_written(
     area.guards_outputs() && is_reached(fmmus, address, count, last) && is_writable(managers, last)
 }
 
+/// Does the sync manager guard outputs, and does a write of `count` bytes at the logical byte `address` reach
+/// the last of their bytes? Then they are handed over to the application.
+pub fn writes_outputs(
+    managers: &[PlannedSyncMan],
+    fmmus: &[PlannedFmmu],
+    address: u32,
+    count: usize,
+    area: &PlannedSyncMan,
+) -> bool
+    ensures { result ≡ (guards_outputs area.now && names (λ b. write_map managers.now fmmus.now
+        (8 * address) (8 * count) (8 * last_byte area.now + b)) 8) }
+{
+    is_last_written(managers, fmmus, address, count, area)
+}
+
 /// Of which active areas a write of `count` bytes at the logical byte `address` reaches the last byte, by
 /// number.
 pub fn last_bytes_written(

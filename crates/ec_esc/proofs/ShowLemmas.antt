@@ -11,7 +11,7 @@ use Rattle.std.proofs.lemmas.List.FromFn.{length-map-range_with_len, get_or-map-
 use Rattle.std.proofs.lemmas.Option.{slice_get-get_or, get_or_from_slice_get}
 use Rattle.ec_regs.specs.declared.sync_man.SyncMan.{SyncMan}
 use Rattle.ec_regs.specs.declared.registers.TheConstants.{PROCESS_MEMORY, PROCESS_MEMORY_SIZE, MEMORY_SIZE}
-use Rattle.ec_regs.specs.SyncMan.{is_active, is_buffered, master_writes}
+use Rattle.ec_regs.specs.SyncMan.{is_active, is_buffered, guards_outputs, master_writes}
 use Rattle.ec_areas.specs.Areas.{guards}
 use Rattle.ec_esc.specs.State.{with_run, with_area_shown}
 use Rattle.ec_areas.specs.Showing.{last_byte, SaysOfLastBytes}
@@ -250,3 +250,17 @@ shown_after_done is_written befores afters memory shown i past =
     (length-shown_after is_written [] (drop i afters) memory shown)
     (λ k inside. get_or-shown_after is_written [] (drop i afters) memory shown k (omega
     (arith, length-shown_after is_written [] (drop i afters) memory shown))))
+
+-- ---- an area of outputs
+
+-- four conditions, of which the first may be left out behind itself
+held_over : (a b c d : Bool) → (a && (not a || (b && c && d))) ≡ (a && b && c && d)
+held_over false b c d = refl
+held_over true false c d = refl
+held_over true true c d = refl
+
+-- an area that was active before is handed over where it guards outputs and its last byte was written
+pub hands_over_outputs : (is_written : ℕ → Bool) (s : SyncMan)
+    → hands_over is_written s s ≡ (guards_outputs s && is_written (last_byte s))
+hands_over_outputs is_written s =
+    held_over (is_active s) (is_buffered s) (master_writes s) (is_written (last_byte s))

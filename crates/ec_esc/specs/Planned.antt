@@ -10,8 +10,8 @@ use Rattle.ec_areas.specs.Hull.{hull_of}
 use Rattle.ec_areas.specs.Records.{fmmus_of, sync_managers_of}
 use Rattle.ec_esc.specs.State.{NamesState}
 
--- these FMMUs and sync managers are those whose records stand in the memory, the hull is that of the FMMUs, it
--- is kept whether what they read is apart from what they write, and AL status names a state
+-- these FMMUs and sync managers are those whose records stand in the memory, the hull is that of the FMMUs,
+-- it is kept whether what they read is apart from what they write, and AL status names a state
 pub record IsPlanned
     (memory : List ℕ) (fmmus : List Fmmu) (hull : LogicalHull) (apart : Bool) (managers : List SyncMan)
     : Type 0 where

@@ -1,14 +1,15 @@
 -- What a write leaves beside the bytes that it wrote: the status of sync managers that it switched on or
 -- off, and what the application is shown (IEC 61158-4-12, sync manager, buffered mode).
-use Rattle.std.specs.Prelude.{ℕ, ◌+◌, ◌-◌, Bool, false, ◌==◌, ◌&&◌, ◌||◌, not, if◌then◌else◌, Option, None}
-use Rattle.std.specs.Prelude.{Some, List, ◌∷◌, length, map}
+use Rattle.std.specs.Prelude.{ℕ, ◌+◌, ◌-◌, ◌*◌, Bool, false, ◌==◌, ◌&&◌, ◌||◌, not, if◌then◌else◌}
+use Rattle.std.specs.Prelude.{Option, None, Some, List, ◌∷◌, length, map}
 use Rattle.std.specs.Prelude.{slice_index, slice_set, bit_and, bit_or}
 use Rattle.std.specs.List.{range_with_len}
 use Rattle.ec_regs.specs.declared.sync_man.SyncMan.{SyncMan}
 use Rattle.ec_regs.specs.declared.registers.TheConstants.{PROCESS_MEMORY}
 use Rattle.ec_regs.specs.SyncMan.{is_active, is_buffered, master_writes}
 use Rattle.ec_areas.specs.Areas.{guards}
-use Rattle.ec_areas.specs.Records.{sync_manager_at}
+use Rattle.ec_areas.specs.Logical.{names, write_map}
+use Rattle.ec_areas.specs.Records.{fmmus_of, sync_manager_at, sync_managers_of}
 use Rattle.ec_areas.specs.Ranges.{is_in_sync_manager, sync_manager_number, sync_manager_offset}
 use Rattle.ec_regs.specs.SyncMan.{status_address}
 use Rattle.ec_regs.specs.declared.registers.TheConstants.{SYNC_MANAGER_STATUS}
@@ -55,6 +56,11 @@ hands_over is_written before after =
     is_active after
     && (not (is_active before)
     || (is_buffered after && master_writes after && is_written (after.start + after.length - 1)))
+
+-- does a write of n bytes at a logical byte reach the byte at an address, through the FMMUs of a memory
+abbrev pub reaches_byte : List ℕ → ℕ → ℕ → ℕ → Bool
+reaches_byte memory logical n byte =
+    names (λ b. write_map (sync_managers_of memory) (fmmus_of memory) (8 * logical) (8 * n) (8 * byte + b)) 8
 
 -- does the byte at an address lie in such an area; the sync managers as they were, and as they are now
 unfoldable pub is_shown_anew : (ℕ → Bool) → List SyncMan → List SyncMan → ℕ → Bool

@@ -2,7 +2,6 @@
 //! datagram, and a look at the hull of their FMMUs tells that.
 
 ghost use Rattle.std.specs.Prelude.{◌≡◌, ◌+◌, ◌<◌, ℕ, length, true, false, if◌then◌else◌, IsTrue};
-ghost use Rattle.ec_regs.specs.Bits.{AreBytes};
 ghost use Rattle.ec_wire.specs.Datagram.{nth};
 ghost use Rattle.ec_areas.specs.Records.{fmmus_of, sync_managers_of};
 ghost use Rattle.ec_areas.specs.Apart.{are_apart};
@@ -10,13 +9,14 @@ ghost use Rattle.ec_esc.specs.Pass.{read_sources, serves_write, mapped_write};
 ghost use Rattle.ec_esc.specs.Pass.{only_reads, only_writes, written_by, Arrives, IsServed};
 ghost use Rattle.ec_esc.specs.Place.{address_at, payload_at, size_at, serves_read_at, mapped_read_at};
 ghost use Rattle.ec_esc.specs.Place.{mapped_write_at, mapped_exchange_at, filled_at};
+ghost use Rattle.ec_esc.specs.Writing.{reaches_byte, shown_after};
 
 use crate::controller::Controller;
 use crate::counting::{LONE_WRITE_GAIN, READ_GAIN, WRITE_GAIN, add_to_counter};
 use crate::process::are_bytes;
 use arrayvec::ArrayVec;
-use ec_areas::{last_bytes_written, read_mapped};
-use ec_regs::SyncManagers;
+use ec_areas::read_mapped;
+use ec_regs::registers::SYNC_MANAGER_COUNT;
 use ec_wire::{FrameBuf, MAX_DATA};
 
 /// How many bytes of data the datagram at `k` has.
@@ -37,8 +37,8 @@ fn exchange_gain(is_read: bool, is_written: bool) -> u16
 }
 
 impl Controller {
-    /// Do all FMMUs map bits elsewhere than in the data of the datagram at `k`? Then neither a read nor a write
-    /// of the data is served.
+    /// Do all FMMUs map bits elsewhere than in the data of the datagram at `k`? Then neither a read nor a
+    /// write of the data is served.
     fn maps_elsewhere(&self, frame: &FrameBuf, k: usize) -> bool
         requires { k < length frame.now }
         ensures reads { IsTrue result → serves_read_at self.now frame.now k ≡ false }
@@ -173,20 +173,28 @@ impl Controller {
             ≡ written_by (mapped_write n self.old address (length payload.now)) payload.now self.old }
         ensures served { result ≡ serves_write self.old address (length payload.now) }
     {
-        let managers = self.sync_managers();
-        let fmmus = self.memory.fmmus();
-        let last_written = last_bytes_written(&managers, fmmus, address, payload.len());
+        are_bytes(self.memory.bytes());
         let served = self.memory.write_mapped(address, payload);
-        self.show_written(&managers, &managers, &last_written);
+        self.show_outputs(address, payload.len());
         served
     }
 
-    /// All sync managers, by number.
-    fn sync_managers(&self) -> SyncManagers
-        ensures value { result ≡ sync_managers_of self.now.memory }
-        ensures bytes { AreBytes self.now.memory }
+    /// Shows the outputs of which a write of `count` bytes at the logical byte `address` reaches the last
+    /// byte, as they stand in the memory; all else stays.
+    fn show_outputs(&mut self, address: u32, count: usize)
+        ensures { self.new ≡ record self.old {
+          shown = shown_after (reaches_byte self.old.memory address count)
+              (sync_managers_of self.old.memory) (sync_managers_of self.old.memory)
+              self.old.memory self.old.shown;
+        } }
     {
-        are_bytes(self.memory.bytes());
-        *self.memory.managers()
+        // The sizes of memory and shown bytes are known of a controller of which a field is read.
+        let _memory = &self.memory;
+        for number in 0..SYNC_MANAGER_COUNT {
+            if self.memory.hands_over(number, address, count) {
+                let area = self.syncman(number);
+                self.show_area(&area);
+            }
+        }
     }
 }

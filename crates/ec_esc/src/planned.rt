@@ -3,20 +3,24 @@
 //! FMMUs map is found then too. AL status is written as a status alone, so it always names a state.
 
 ghost use Rattle.std.specs.Prelude.{◌≡◌, ◌≢◌, ◌==◌, ◌+◌, ◌*◌, ◌%◌, ◌<◌, ◌≤◌, ◌&&◌, nat_lt, ℕ, List, [], ◌∷◌};
-ghost use Rattle.std.specs.Prelude.{IfOk, Some, if◌then◌else◌, length, slice_index, slice_set};
+ghost use Rattle.std.specs.Prelude.{IfOk, IsTrue, Some, if◌then◌else◌, length, slice_index, slice_set};
 ghost use Rattle.ec_regs.specs.Al.{state_of, status_byte, status_of};
 ghost use Rattle.ec_regs.specs.Bits.{AreBytes, with_bits};
 ghost use Rattle.ec_regs.specs.declared.registers.TheConstants.{AL_STATUS, MEMORY_SIZE};
+ghost use Rattle.ec_regs.specs.declared.registers.TheConstants.{PROCESS_MEMORY, SYNC_MANAGER_COUNT};
+ghost use Rattle.ec_regs.specs.SyncMan.{guards_outputs};
 ghost use Rattle.ec_areas.specs.Apart.{are_apart};
 ghost use Rattle.ec_areas.specs.Hull.{hull_of, misses};
 ghost use Rattle.ec_areas.specs.Logical.{write_map, target_places, names};
-ghost use Rattle.ec_areas.specs.Records.{fmmus_of, sync_managers_of};
+ghost use Rattle.ec_areas.specs.Records.{fmmus_of, sync_manager_at, sync_managers_of};
+ghost use Rattle.ec_areas.specs.Showing.{last_byte};
 ghost use Rattle.ec_esc.specs.Planned.{ChangesWithin};
 ghost use Rattle.ec_esc.specs.State.{with_run};
+ghost use Rattle.ec_esc.specs.Writing.{reaches_byte};
 
 use ec_areas::{
     LogicalHull, are_apart, fmmu_at, fmmus_of, hull_of, sync_manager_at, sync_managers_of,
-    write_mapped,
+    write_mapped, writes_outputs,
 };
 use ec_regs::registers::{
     AL_STATUS, FMMU_BASE, FMMU_COUNT, FMMU_SIZE, SYNC_MANAGER_BASE, SYNC_MANAGER_COUNT,
@@ -181,6 +185,20 @@ impl PlannedMemory {
         ensures { result ≡ misses (hull_of (fmmus_of self.now)) (8 * address) (8 * count) }
     {
         self.hull.misses(address, count)
+    }
+
+    /// Does the sync manager with a number guard outputs, and does a write of `count` bytes at the logical
+    /// byte `address` reach the last of their bytes? Then they are handed over to the application.
+    pub(crate) fn hands_over(&self, number: usize, address: u32, count: usize) -> bool
+        requires { number < SYNC_MANAGER_COUNT }
+        ensures value { result ≡ (guards_outputs (sync_manager_at self.now number)
+            && reaches_byte self.now address count (last_byte (sync_manager_at self.now number))) }
+        ensures from { IsTrue result → PROCESS_MEMORY ≤ (sync_manager_at self.now number).start }
+        ensures to { IsTrue result → (sync_manager_at self.now number).start
+            + (sync_manager_at self.now number).length ≤ MEMORY_SIZE }
+    {
+        let managers = &self.managers[..];
+        writes_outputs(managers, &self.fmmus, address, count, &managers[number])
     }
 
     /// Has no FMMU for reading a physical bit in common with one for writing?

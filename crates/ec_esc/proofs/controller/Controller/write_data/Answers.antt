@@ -5,9 +5,11 @@ use Rattle.ec_regs.specs.declared.sync_man.SyncMan.{SyncMan}
 use Rattle.ec_regs.proofs.Laws.{length-with_bits}
 use Rattle.ec_areas.specs.Logical.{write_map, names}
 use Rattle.ec_areas.specs.Records.{fmmus_of, sync_managers_of}
+use Rattle.ec_areas.proofs.Laws.{fmmus_same, sync_managers_same}
 use Rattle.ec_esc.specs.Pass.{mapped_write, written_by}
 use Rattle.ec_esc.specs.State.{ControllerState}
 use Rattle.ec_esc.specs.Writing.{shown_after}
+use Rattle.ec_esc.proofs.PlannedLemmas.{registers_stay}
 use Rattle.ec_esc.proofs.ServedLemmas.{written_mapped}
 use Rattle.ec_esc.proofs.controller.Controller.write_data.Goals as goal
 
@@ -19,8 +21,8 @@ invariant_of-self c = (
 )
 
 -- a controller with a memory, once those areas are shown whose last byte these FMMUs reached
-abbrev with_shown : ControllerState → ℕ → ℕ → List SyncMan → List Fmmu → List ℕ → ControllerState
-with_shown s address count managers fmmus memory = record s {
+abbrev with_shown : ControllerState → ℕ → ℕ → List ℕ → List SyncMan → List Fmmu → ControllerState
+with_shown s address count memory managers fmmus = record s {
   memory = memory;
   shown = shown_after (λ byte. names (λ b. write_map managers fmmus (8 * address)
       (8 * count) (8 * byte + b)) 8) managers managers memory s.shown;
@@ -35,27 +37,19 @@ returns-clause-state c n =
     } in
     let address = c.args.address in
     let payload : List ℕ = c.args.payload.now in
-    let managers = c.sync_managers-managers.result in
-    let fmmus = c.fmmus-fmmus.result.now in
-    let managers_are : managers ≡ sync_managers_of came.memory =
-    c.sync_managers-managers.ensures.value ∙ ap (λ (s : ControllerState). sync_managers_of s.memory)
-    (sym c.self.view_is) in
-    let bytes : AreBytes came.memory = subst (λ (s : ControllerState). AreBytes s.memory)
-    (sym c.self.view_is) c.sync_managers-managers.ensures.bytes in
-    let written : List SyncMan → List Fmmu → List ℕ =
-    λ ms fs. with_bits came.memory payload (write_map ms fs (8 * address) (8 * length payload)) in
-    let all : List SyncMan → List Fmmu → ControllerState =
-    λ ms fs. with_shown came address (length payload) ms fs (written ms fs) in
-    let bits_are : c.write_mapped-served.new.self ≡ written managers fmmus =
-    c.write_mapped-served.ensures.bits
-    ∙ ap (λ (ms : List SyncMan). written ms (fmmus_of came.memory)) (sym managers_are)
-    ∙ ap (λ (fs : List Fmmu). written managers fs) (sym c.fmmus-fmmus.ensures) in
-    c.show_written.ensures
-    (λ byte. names (λ b. write_map managers fmmus (8 * address) (8 * length payload) (8 * byte + b)) 8)
-    c.last_bytes_written-last_written.ensures
-    ∙ ap (with_shown came address (length payload) managers fmmus) bits_are
-    ∙ ap (λ (ms : List SyncMan). all ms fmmus) managers_are
-    ∙ ap (λ (fs : List Fmmu). all (sync_managers_of came.memory) fs) c.fmmus-fmmus.ensures
+    let memory : List ℕ = came.memory in
+    let managers : List SyncMan = sync_managers_of memory in
+    let fmmus : List Fmmu = fmmus_of memory in
+    let bytes : AreBytes memory = subst AreBytes c.bytes.ensures.value c.are_bytes.ensures in
+    let written : List ℕ =
+    with_bits memory payload (write_map managers fmmus (8 * address) (8 * length payload)) in
+    let same = registers_stay memory payload managers fmmus (8 * address) (8 * length payload)
+    c.self.invariant.0 bytes in
+    let shown : List ℕ → List SyncMan → List Fmmu → ControllerState = with_shown came address (length payload) in
+    c.show_outputs.ensures
+    ∙ ap (λ (m : List ℕ). shown m (sync_managers_of m) (fmmus_of m)) c.write_mapped-served.ensures.bits
+    ∙ ap (λ (ms : List SyncMan). shown written ms (fmmus_of written)) (sync_managers_same memory written same)
+    ∙ ap (λ (fs : List Fmmu). shown written managers fs) (fmmus_same memory written same)
     ∙ written_mapped came address payload n bytes c.self.invariant.0
     ∙ ap (λ (s : ControllerState). written_by (mapped_write n s address (length payload)) payload s)
     c.self.view_is
