@@ -1,24 +1,30 @@
 -- The laws that crates above cite: on the controllers of slaves, what a fit line gives a cycle, and what is
 -- the same of lines with one mapping.
-use Rattle.std.proofs.Common.{◌≡◌, ℕ, ◌<◌, None, List, length, get_or}
+use Rattle.std.proofs.Common.{◌≡◌, ℕ, ◌<◌, ◌≤◌, ◌+◌, ◌*◌, ◌++◌, None, List, length, get_or, take, drop}
 use Rattle.std.specs.List.{AllByRecursion}
 use Rattle.std.specs.List.Sorted.{IsPermutation}
-use Rattle.ec_regs.specs.SyncMan.{is_active}
+use Rattle.ec_regs.specs.Bits.{AreBytes}
+use Rattle.ec_regs.specs.Fmmu.{fmmu_of}
+use Rattle.ec_regs.specs.SyncMan.{is_active, sync_man_of}
+use Rattle.ec_regs.specs.declared.registers.TheConstants.{STATION_ADDRESS}
 use Rattle.ec_regs.specs.declared.sync_man.SyncMan.{SyncMan}
-use Rattle.ec_areas.specs.Records.{sync_manager_at}
+use Rattle.ec_areas.specs.Records.{fmmu_at, sync_manager_at}
 use Rattle.ec_esc.specs.Application.{put_inputs_fault, with_inputs}
-use Rattle.ec_esc.specs.State.{ControllerState, IsController}
+use Rattle.ec_esc.specs.State.{ControllerState, IsController, word_at}
 use Rattle.ec_line.specs.Fit.{IsFitLine}
 use Rattle.ec_app.specs.Slave.{step}
 use Rattle.ec_app.specs.State.{SlaveState}
 use Rattle.ec_check.specs.Line.{controllers, controllers_by, controller_of, station_of}
 use Rattle.ec_check.specs.Mapping.{without_status, mapping_of, mapping}
 use Rattle.ec_check.specs.Fit.{IsFit}
+use Rattle.ec_check.specs.Records.{controller_with, memory_of}
+use Rattle.ec_check.specs.declared.records.Records.{Records}
 use Rattle.ec_check.proofs.LineLemmas as lines
 use Rattle.ec_check.proofs.FactLemmas as facts
 use Rattle.ec_check.proofs.MappingLemmas as mappings
 use Rattle.ec_check.proofs.LastsLemmas as lasts
 use Rattle.ec_check.proofs.PlacesLemmas as places
+use Rattle.ec_check.proofs.RecordsLemmas as by_records
 
 -- the controller under a number is that of what stands under it
 pub controller_of-controllers_by : {S : Type 0} (controller : S → ControllerState) (line : List S) (i : ℕ)
@@ -93,3 +99,32 @@ fit_in_any_order = places.fit_in_any_order
 pub stood_before : {X : Type 0} (xs ys : List X) (k : ℕ) (d : X) → IsPermutation xs ys → k < length ys
     → (j : ℕ) × (j < length xs) × (get_or ys k d ≡ get_or xs j d)
 stood_before = places.stood_before
+
+-- ---- a slave by its records alone
+
+-- records of their sizes, whose elements are bytes, are those of a controller
+pub IsController-records : (r : Records) → r.station < 65536 → length r.fmmus ≡ 128 → AreBytes r.fmmus
+    → length r.sync_managers ≡ 64 → AreBytes r.sync_managers
+    → IsController (controller_with r)
+IsController-records = by_records.IsController-records
+
+-- the station address stands in its memory
+pub station-records : (r : Records) → word_at (memory_of r) STATION_ADDRESS ≡ r.station
+station-records = by_records.station-records
+
+-- an FMMU's record does
+pub fmmu-records : (r : Records) (i : ℕ) → i < 8 → length r.fmmus ≡ 128
+    → fmmu_at (memory_of r) i ≡ fmmu_of (take 16 (drop (16 * i) r.fmmus))
+fmmu-records = by_records.fmmu-records
+
+-- and a sync manager's
+pub sync_manager-records : (r : Records) (i : ℕ) → i < 8 → length r.fmmus ≡ 128
+    → length r.sync_managers ≡ 64
+    → sync_manager_at (memory_of r) i ≡ sync_man_of (take 8 (drop (8 * i) r.sync_managers))
+sync_manager-records = by_records.sync_manager-records
+
+-- a run of the middle one of three lists is a run of them all, so many elements further on
+pub run_of_middle : (front middle back : List ℕ) (base from count : ℕ) → length front ≡ base
+    → from + count ≤ length middle
+    → take count (drop (base + from) (front ++ (middle ++ back))) ≡ take count (drop from middle)
+run_of_middle = by_records.run_of_middle

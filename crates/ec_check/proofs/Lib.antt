@@ -14,4 +14,5 @@ pub mod FactLemmas
 pub mod MappingLemmas
 pub mod LastsLemmas
 pub mod PlacesLemmas
+pub mod RecordsLemmas
 pub mod Laws

@@ -6,3 +6,4 @@ pub mod Fit
 pub mod Search
 pub mod Facts
 pub mod Mapping
+pub mod Records

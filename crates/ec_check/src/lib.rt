@@ -27,12 +27,13 @@
 //! - `fault`: why a line is refused.
 //! - `stations`, `fmmus`, `areas`, `outside`, `twice_written`, `twice_read`, `crossed`: the rules, in this
 //!   order.
-//! - `mapped`: what the rules must know of a slave, so that they judge records alone as well; `line`: the
-//!   records that stand on the line; `runs`: the lowest number that two runs share.
+//! - `mapped`: what the rules must know of a slave, so that they judge records alone as well; [`Records`]: a
+//!   slave by those alone, mapped as the controller that has them, in 194 bytes; `line`: the records that
+//!   stand on the line; `runs`: the lowest number that two runs share.
 //!
 //! What the contracts speak of stands in specs/: the records of a line (`Line`), the rules as what breaks
 //! them (`Rules`), a line's faults and their order (`Fit`, `Order`), what a part of the checker answers
-//! (`Search`), and what follows for a cycle (`Facts`).
+//! (`Search`), what follows for a cycle (`Facts`), and the controller of a slave's records (`Records`).
 
 mod areas;
 mod checker;
@@ -43,6 +44,7 @@ mod fmmus;
 mod line;
 mod mapped;
 mod outside;
+mod records;
 mod runs;
 mod stations;
 mod twice_read;
@@ -52,3 +54,4 @@ pub use checker::{are_controllers, check};
 pub use facts::{fit_by_mapping, fit_in_any_order, fit_line, mapping_lasts};
 pub use fault::MapFault;
 pub use mapped::Mapped;
+pub use records::{FMMU_BYTES, Records, SYNC_MANAGER_BYTES};

@@ -14,11 +14,13 @@
 //! What is promised: as what a source counts that could not be read to its end (`unread`), and the trips of a
 //! service over the line ([`SteppingPorts`]): each under the next weather, and then every slave takes its
 //! step. That a line is the one that its scene describes is tested, here and by the scenes and cases of the
-//! program.
+//! program; so is that the records alone ([`records_of`]), by which a line is checked, are mapped as its
+//! slaves.
 
 mod failure;
 mod line;
 mod reading;
+mod records;
 mod stepping_ports;
 mod weathers;
 mod work;
@@ -26,6 +28,7 @@ mod work;
 pub use failure::LineFailure;
 pub use line::{applications_of, put, ring_of, slaves_of};
 pub use reading::{scene_for_packets, scene_of, unread};
+pub use records::records_of;
 pub use stepping_ports::SteppingPorts;
 pub use weathers::weathers_of;
 pub use work::work_of;

@@ -1,8 +1,8 @@
 //! `ecat check`: is the line of a scene mapped as a cycle needs it?
 
-use ecat_line::{LineFailure, scene_of, slaves_of};
+use ecat_line::{LineFailure, records_of, scene_of};
 use ecat_source::Source;
-use ecat_text::{GOOD, Lines, REFUSED, refuse};
+use ecat_text::{GOOD, Lines, REFUSED, refuse_mapped};
 use std::alloc::Global;
 use std::io::Write;
 
@@ -14,9 +14,9 @@ pub fn check<S: Source, W: Write>(
     out: &mut W,
 ) -> Result<u8, LineFailure> {
     let scene = scene_of(alloc, source)?;
-    let slaves = slaves_of(alloc, scene.slaves)?;
+    let slaves = records_of(alloc, scene.slaves.as_slice())?;
     let mut lines = Lines::new(out);
-    if refuse(slaves.as_slice(), scene.items.as_slice(), &mut lines)? {
+    if refuse_mapped(slaves.as_slice(), scene.items.as_slice(), &mut lines)? {
         return Ok(REFUSED);
     }
     lines.text("accepted")?;

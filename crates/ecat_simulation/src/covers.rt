@@ -3,11 +3,10 @@
 ghost use Rattle.std.specs.Prelude.{Some};
 ghost use Rattle.ecat_simulation.specs.Covers.{gap_words, not_shown_words, place_words};
 
-use ec_app::Slave;
-use ec_map::{Gap, Item, NotShown, Way, WhyNotShown, first_not_shown, first_uncovered};
-use ecat_line::{LineFailure, scene_of, slaves_of};
+use ec_map::{Gap, Item, Mapped, NotShown, Way, WhyNotShown, first_not_shown, first_uncovered};
+use ecat_line::{LineFailure, records_of, scene_of};
 use ecat_source::Source;
-use ecat_text::{GOOD, Lines, REFUSED, refuse};
+use ecat_text::{GOOD, Lines, REFUSED, refuse_mapped};
 use std::alloc::Global;
 use std::fmt;
 use std::io::{self, Write};
@@ -77,17 +76,17 @@ pub fn cover<S: Source, W: Write>(
     out: &mut W,
 ) -> Result<u8, LineFailure> {
     let scene = scene_of(alloc, source)?;
-    let slaves = slaves_of(alloc, scene.slaves)?;
+    let slaves = records_of(alloc, scene.slaves.as_slice())?;
     let mut lines = Lines::new(out);
-    if refuse(slaves.as_slice(), scene.items.as_slice(), &mut lines)? {
+    if refuse_mapped(slaves.as_slice(), scene.items.as_slice(), &mut lines)? {
         return Ok(REFUSED);
     }
     Ok(print_cover(slaves.as_slice(), scene.items.as_slice(), &mut lines)?)
 }
 
 /// Prints what the items of a fit line leave out first, or that it is covered, and answers the status.
-fn print_cover<W: Write>(
-    line: &[Slave],
+fn print_cover<S: Mapped, W: Write>(
+    line: &[S],
     items: &[Item],
     lines: &mut Lines<'_, W>,
 ) -> io::Result<u8> {

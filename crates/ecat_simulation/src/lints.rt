@@ -1,10 +1,10 @@
 //! `ecat lint`: what a scene says that is accepted and yet seldom meant.
 
-use ecat_line::{LineFailure, slaves_of, unread};
+use ecat_line::{LineFailure, records_of, unread};
 use ecat_lint::odd_lines;
 use ecat_scene::{MAX_TEXT, Scene};
 use ecat_source::{Source, read_all};
-use ecat_text::{GOOD, Lines, REFUSED, refuse};
+use ecat_text::{GOOD, Lines, REFUSED, refuse_mapped};
 use std::alloc::Global;
 use std::io::Write;
 
@@ -34,8 +34,8 @@ pub fn lint<S: Source, W: Write>(
         status = REFUSED;
     }
     if scene.items.is_empty() {
-        let slaves = slaves_of(alloc, scene.slaves)?;
-        if refuse(slaves.as_slice(), &[], &mut lines)? {
+        let slaves = records_of(alloc, scene.slaves.as_slice())?;
+        if refuse_mapped(slaves.as_slice(), &[], &mut lines)? {
             status = REFUSED;
         }
     }

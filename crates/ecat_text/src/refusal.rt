@@ -5,7 +5,7 @@ ghost use Rattle.ecat_text.specs.Refusals.{address_words, item_refusal_words, li
 
 use crate::lines::Lines;
 use ec_app::Slave;
-use ec_map::{Item, MapFault, PlaceFault, check as check_line, check_item};
+use ec_map::{Item, MapFault, Mapped, PlaceFault, check as check_line, check_item};
 use std::fmt;
 use std::io::{self, Write};
 
@@ -122,6 +122,15 @@ impl fmt::Display for ItemRefusal {
 /// Is the line or an item refused? If so, prints why.
 pub fn refuse<W: Write>(
     line: &[Slave],
+    items: &[Item],
+    lines: &mut Lines<'_, W>,
+) -> io::Result<bool> {
+    refuse_mapped(line, items, lines)
+}
+
+/// Checks a line and items as `refuse` does, whatever it is that tells how each slave is mapped.
+pub fn refuse_mapped<S: Mapped, W: Write>(
+    line: &[S],
     items: &[Item],
     lines: &mut Lines<'_, W>,
 ) -> io::Result<bool> {

@@ -6,7 +6,6 @@ pub mod ItemLemmas
 pub mod JoinLemmas
 pub mod CableLemmas
 pub mod TurnLemmas
-pub mod RecordsLemmas
 pub mod ReadBackLemmas
 pub mod RoomLemmas
 pub mod SpellLemmas

@@ -11,12 +11,12 @@ use Rattle.ec_areas.specs.Records.{fmmu_at, fmmus_of, sync_manager_at, sync_mana
 use Rattle.ec_esc.specs.State.{ControllerState, word_at}
 use Rattle.ec_check.specs.Fit.{IsFit}
 use Rattle.ec_check.specs.Mapping.{Mapping, mapping, mapping_of, without_status}
-use Rattle.ec_check.proofs.Laws.{fit_by_mapping}
+use Rattle.ec_check.proofs.Laws.{fit_by_mapping, fmmu-records, run_of_middle, station-records}
+use Rattle.ec_check.proofs.Laws.{sync_manager-records}
 use Rattle.rummymaple.specs.Mapping.{line_of}
 use Rattle.rummymaple.specs.ReadBack.{AreOf, AreOfLine}
-use Rattle.rummymaple.specs.Records.{controller_with, memory_of}
-use Rattle.rummymaple.specs.declared.records.Records.{Records}
-use Rattle.rummymaple.proofs.RecordsLemmas.{run_of_middle, station-records, fmmu-records, sync_manager-records}
+use Rattle.ec_check.specs.Records.{controller_with, memory_of}
+use Rattle.ec_check.specs.declared.records.Records.{Records}
 
 -- a run of a part of a list is a run of the list, so many elements further on
 run_of_part : (m : List ℕ) (base size from count : ℕ) → base + size ≤ length m → from + count ≤ size

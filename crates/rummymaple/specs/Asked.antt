@@ -25,7 +25,7 @@ use Rattle.rummymaple.specs.declared.item.Item.{Item}
 use Rattle.rummymaple.specs.declared.judge.ItemAnswer.{ItemAnswer}
 use Rattle.rummymaple.specs.declared.numbers.Code.{Code}
 use Rattle.rummymaple.specs.declared.numbers.Code.TheVariants as codes
-use Rattle.rummymaple.specs.declared.records.Records.{Records}
+use Rattle.ec_check.specs.declared.records.Records.{Records}
 
 -- what an item asks, whatever its data
 abbrev pub request : Item → ItemRecord

@@ -12,7 +12,6 @@ pub mod Read
 pub mod Cable
 pub mod Turn
 pub mod Turns
-pub mod Records
 pub mod Mapping
 pub mod Asked
 pub mod ReadBack

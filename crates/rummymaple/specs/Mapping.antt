@@ -6,9 +6,9 @@ use Rattle.ec_check.specs.declared.fault.MapFault.{MapFault}
 use Rattle.ec_check.specs.declared.fault.MapFault.TheVariants.{TwinStation, BadFmmu, AreasMeet, OutsideArea}
 use Rattle.ec_check.specs.declared.fault.MapFault.TheVariants.{TwiceWritten, TwiceRead, ReadAndWritten}
 use Rattle.ec_esc.specs.State.{ControllerState}
-use Rattle.rummymaple.specs.Records.{controller_with}
+use Rattle.ec_check.specs.Records.{controller_with}
 use Rattle.rummymaple.specs.declared.mapping.MapAnswer.{MapAnswer}
-use Rattle.rummymaple.specs.declared.records.Records.{Records}
+use Rattle.ec_check.specs.declared.records.Records.{Records}
 
 -- the controllers of a line, by their records
 abbrev pub line_of : List Records → List ControllerState

@@ -2,7 +2,7 @@
 use Rattle.std.specs.Prelude.{◌≡◌, ⊤, List, [], ◌∷◌, take, drop}
 use Rattle.ec_regs.specs.declared.registers.TheConstants.{STATION_ADDRESS, FMMU_BASE, SYNC_MANAGER_BASE}
 use Rattle.ec_esc.specs.State.{ControllerState, IsController, word_at}
-use Rattle.rummymaple.specs.declared.records.Records.{Records}
+use Rattle.ec_check.specs.declared.records.Records.{Records}
 
 -- they are the bytes of a controller's registers
 pub record AreOf (r : Records) (c : ControllerState) : Type 0 where

@@ -11,7 +11,7 @@ ghost use Rattle.rummymaple.specs.declared.asked.PlaceEnd.{PlaceEnd};
 use crate::item::{Item, kind_of};
 use crate::judge::ItemAnswer;
 use crate::numbers::Code;
-use crate::records::Records;
+use ec_check::Records;
 use ec_map::{ItemFault, PlaceFault, check_item, expected};
 use ec_wire::{Kind, MAX_DATA};
 

@@ -8,7 +8,7 @@ ghost use Rattle.rummymaple.specs.declared.covered.GapEnd.{GapEnd};
 
 use crate::item::{Item, Refused, is_in_range, kind_of};
 use crate::numbers::Code;
-use crate::records::Records;
+use ec_check::Records;
 use ec_map::{Asking, Gap, Way, first_gap};
 use ec_wire::{Kind, MAX_DATA};
 

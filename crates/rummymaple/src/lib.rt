@@ -38,10 +38,9 @@
 //!
 //! Each export answers by a struct of numbers, and its contract says of which end they are the numbers
 //! (`Join`, `Frame`, `Judge`, `Read`, `Cable`, `Turn`, `Mapping` and `Asked` of specs/). What an item is
-//! stands in `Items`, the controller of a slave's records in `Records`, what a joined frame gives an item in
-//! `Answers`, the calls in their order in `Cycle`, and turns in `Turns`. A call
-//! needs less than 8 KB of stack: nothing that has the size of a frame is moved or made twice where it can
-//! stay in its place.
+//! stands in `Items`, the controller of a slave's records in `ec_check` (`Records`), what a joined frame gives
+//! an item in `Answers`, the calls in their order in `Cycle`, and turns in `Turns`. A call needs less than
+//! 8 KB of stack: nothing that has the size of a frame is moved or made twice where it can stay in its place.
 
 mod answered;
 mod asked;
@@ -60,7 +59,6 @@ mod numbers;
 mod packet;
 mod promises;
 mod read;
-mod records;
 mod room;
 mod spell;
 mod store;
@@ -72,6 +70,7 @@ pub use cycle::{
     Cycle, DONE, ENDED, Turn, TurnAnswer, TurnEnd, UNDER_WAY, rmp_cycle_begin, rmp_cycle_came,
     rmp_cycle_next,
 };
+pub use ec_check::{FMMU_BYTES, Records, SYNC_MANAGER_BYTES};
 pub use frame::{FrameAnswer, FrameEnd, rmp_frame};
 pub use item::{Item, MAX_ITEMS};
 pub use join::{Join, JoinAnswer, JoinEnd, rmp_join};
@@ -82,7 +81,6 @@ pub use promises::{
     calls_are_a_cycle, records_are_the_line, turns_are_a_cycle, what_is_told_is_so,
 };
 pub use read::{DatagramPlace, ReadAnswer, ReadEnd, rmp_read};
-pub use records::{FMMU_BYTES, Records, SYNC_MANAGER_BYTES};
 pub use store::{StoreEnd, rmp_store};
 
 #[cfg(test)]

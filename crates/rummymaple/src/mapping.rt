@@ -4,7 +4,7 @@ ghost use Rattle.std.specs.Prelude.{◌≡◌, Option};
 ghost use Rattle.ec_check.specs.declared.fault.MapFault.{MapFault};
 ghost use Rattle.rummymaple.specs.Mapping.{IsChecked, map_answer};
 
-use crate::records::Records;
+use ec_check::Records;
 use ec_map::{MapFault, check};
 
 /// What the check of a line found, in numbers: `struct rmp_mapping` of the header. Slaves, FMMUs and sync

@@ -30,7 +30,7 @@ ghost use Rattle.rummymaple.specs.Mapping.{line_of};
 ghost use Rattle.rummymaple.specs.ReadBack.{AreOfLine};
 ghost use Rattle.rummymaple.specs.declared.cable.Cable.{Cable};
 ghost use Rattle.rummymaple.specs.declared.item.Item.{Item};
-ghost use Rattle.rummymaple.specs.declared.records.Records.{Records};
+ghost use Rattle.ec_check.specs.declared.records.Records.{Records};
 
 use ec_diag::promises::trips_are_heard;
 use ec_master::certificate::frames_suffice;

@@ -5,7 +5,7 @@ use Rattle.std.specs.Prelude.{ℕ, ◌-◌, ◌/◌, ◌%◌, false, List, ◌�
 use Rattle.ec_regs.specs.declared.registers.TheConstants.{STATION_ADDRESS, FMMU_BASE, SYNC_MANAGER_BASE}
 use Rattle.ec_regs.specs.declared.registers.TheConstants.{MEMORY_SIZE, PROCESS_MEMORY_SIZE}
 use Rattle.ec_esc.specs.State.{ControllerState}
-use Rattle.rummymaple.specs.declared.records.Records.{Records}
+use Rattle.ec_check.specs.declared.records.Records.{Records}
 
 -- the bytes below the FMMUs: those of the station address, its low byte first, and else 0
 abbrev pub station_bytes : ℕ → List ℕ

@@ -1,6 +1,6 @@
 use Rattle.std.proofs.Common.{sym, ◌∙◌}
-use Rattle.rummymaple.proofs.RecordsLemmas.{fmmu-records}
-use Rattle.rummymaple.proofs.records.Records.fmmu_numbered.Goals as goal
+use Rattle.ec_check.proofs.RecordsLemmas.{fmmu-records}
+use Rattle.ec_check.proofs.records.Records.fmmu_numbered.Goals as goal
 
 pub returns : goal.returns
 returns c =

@@ -1,6 +1,6 @@
 use Rattle.std.proofs.Common.{sym}
-use Rattle.rummymaple.proofs.RecordsLemmas.{station-records, IsController-records}
-use Rattle.rummymaple.proofs.records.Records.named.Goals as goal
+use Rattle.ec_check.proofs.RecordsLemmas.{station-records, IsController-records}
+use Rattle.ec_check.proofs.records.Records.named.Goals as goal
 
 pub returns-clause-value : goal.returns-clause-value
 returns-clause-value c = sym (station-records c.args.self.now)

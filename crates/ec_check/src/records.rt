@@ -1,19 +1,19 @@
 //! A slave by its station address and its records alone.
 
-ghost use Rattle.std.specs.Prelude.{◌≡◌, ◌==◌, ◌<◌, ◌≤◌, ◌*◌, if◌then◌else◌, length, take, drop};
+ghost use Rattle.std.specs.Prelude.{◌≡◌, ◌==◌, ◌<◌, ◌≤◌, ◌+◌, ◌*◌, if◌then◌else◌, length, take, drop};
 ghost use Rattle.ec_regs.specs.Bits.{AreBytes};
-ghost use Rattle.ec_regs.specs.Fmmu.{fmmu_of};
-ghost use Rattle.ec_regs.specs.SyncMan.{sync_man_of};
+ghost use Rattle.ec_regs.specs.Fmmu.{fmmu_bytes, fmmu_of};
+ghost use Rattle.ec_regs.specs.SyncMan.{sync_man_bytes, sync_man_of};
 ghost use Rattle.ec_regs.specs.declared.registers.TheConstants.{FMMU_COUNT, SYNC_MANAGER_COUNT};
 ghost use Rattle.ec_regs.specs.declared.registers.TheConstants.{STATION_ADDRESS};
 ghost use Rattle.ec_wire.specs.Datagram.{ado_of, adp_of};
 ghost use Rattle.ec_areas.specs.Records.{fmmu_at, fmmus_of, sync_manager_at, sync_managers_of};
 ghost use Rattle.ec_esc.specs.Pass.{serves_read, serves_write, serves_range_read, serves_range_write};
-ghost use Rattle.ec_esc.specs.State.{IsController, word_at};
-ghost use Rattle.rummymaple.specs.Records.{controller_with, memory_of};
+ghost use Rattle.ec_esc.specs.State.{IsController, with_run, word_at};
+ghost use Rattle.ec_check.specs.Records.{controller_with, memory_of};
 
+use crate::mapped::Mapped;
 use ec_areas::{reads_some, serves_physical_read, serves_physical_write, writes_some};
-use ec_map::Mapped;
 use ec_regs::registers::{FMMU_SIZE, SYNC_MANAGER_SIZE};
 use ec_regs::{AddressRange, Fmmu, Fmmus, PlannedFmmu, PlannedSyncMan, SyncMan, SyncManagers};
 use ec_wire::{Kind, ado_of, adp_of};
@@ -79,6 +79,14 @@ fn sync_manager_in(bytes: &[u8; SYNC_MANAGER_BYTES], number: usize) -> SyncMan
     )
 }
 
+/// Writes a run to some bytes from a place on; all others stay.
+fn put(bytes: &mut [u8], at: usize, run: &[u8])
+    requires { at + length run.now ≤ length bytes.old }
+    ensures { bytes.new ≡ with_run bytes.old at run.now }
+{
+    bytes[at..at + run.len()].copy_from_slice(run);
+}
+
 /// A gain where something is served, else 0.
 fn counted(served: bool, gain: u16) -> u16
     ensures value { result ≡ (if served then gain else 0) }
@@ -88,6 +96,49 @@ fn counted(served: bool, gain: u16) -> u16
 }
 
 impl Records {
+    ghost use Rattle.std.specs.Prelude.{replicate};
+
+    /// The records of a slave with this station address that maps nothing.
+    pub fn of_station(station: u16) -> Records
+        ensures { result ≡ record {
+          station = station;
+          fmmus = replicate 128 0;
+          sync_managers = replicate 64 0;
+        } }
+    {
+        Records {
+            station,
+            fmmus: [0; FMMU_BYTES],
+            sync_managers: [0; SYNC_MANAGER_BYTES],
+        }
+    }
+
+    /// Sets the record of an FMMU, and leaves all else.
+    pub fn set_fmmu(&mut self, number: usize, fmmu: &Fmmu)
+        requires { number < FMMU_COUNT }
+        ensures { self.new ≡ record self.old {
+          fmmus = with_run self.old.fmmus (16 * number) (fmmu_bytes fmmu.now);
+        } }
+    {
+        put(&mut self.fmmus, FMMU_SIZE as usize * number, &fmmu.write());
+    }
+
+    /// Sets the record of a sync manager with status 0, and leaves all else.
+    pub fn set_syncman(&mut self, number: usize, manager: &SyncMan)
+        requires { number < SYNC_MANAGER_COUNT }
+        ensures { self.new ≡ record self.old {
+          sync_managers = with_run self.old.sync_managers (8 * number)
+              (sync_man_bytes (record manager.now { status = 0 }));
+        } }
+    {
+        let empty = SyncMan {
+            status: 0,
+            ..*manager
+        };
+        let at = SYNC_MANAGER_SIZE as usize * number;
+        put(&mut self.sync_managers, at, &empty.write());
+    }
+
     /// The station address, and that the records are those of a controller.
     fn named(&self) -> u16
         ensures value { result ≡ word_at (memory_of self.now) STATION_ADDRESS }

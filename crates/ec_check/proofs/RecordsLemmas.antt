@@ -13,8 +13,8 @@ use Rattle.ec_regs.specs.SyncMan.{sync_man_of}
 use Rattle.ec_regs.specs.declared.registers.TheConstants.{STATION_ADDRESS, FMMU_BASE}
 use Rattle.ec_areas.specs.Records.{fmmu_at, sync_manager_at}
 use Rattle.ec_esc.specs.State.{IsController, word_at}
-use Rattle.rummymaple.specs.Records.{station_bytes, memory_of, controller_with}
-use Rattle.rummymaple.specs.declared.records.Records.{Records}
+use Rattle.ec_check.specs.Records.{station_bytes, memory_of, controller_with}
+use Rattle.ec_check.specs.declared.records.Records.{Records}
 
 -- ---- one part of a list between two others
 
