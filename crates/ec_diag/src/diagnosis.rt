@@ -1,6 +1,7 @@
 //! One frame, and what its copies tell of the cable.
 
-ghost use Rattle.std.specs.Prelude.{◌≡◌, ◌+◌, ◌≤◌, ◌<◌, ◌↔◌, ℕ, true, false, [], ◌∷◌, IsErr, Ok, Some, length};
+ghost use Rattle.std.specs.Prelude.{◌≡◌, ◌+◌, ◌≤◌, ◌<◌, ◌↔◌, ℕ, true, false, [], ◌∷◌, IsErr, Ok, Some};
+ghost use Rattle.std.specs.Prelude.{length};
 ghost use Rattle.ec_wire.specs.Datagram.{record_of};
 ghost use Rattle.ec_ring.specs.Links.{is_up, last_down, AreUp, IsOnlyDown};
 ghost use Rattle.ec_ring.specs.Ring.{line_of, with_line};

@@ -40,8 +40,8 @@ pub(crate) fn judge(work: &Work, taken: &Work, expected: &[u16]) -> Verdict
     Verdict::Good
 }
 
-/// The verdict on a work that has taken answers, and on what was sent: where it is not good, the work is again
-/// what was sent.
+/// The verdict on a work that has taken answers, and on what was sent: where it is not good, the work is
+/// again what was sent.
 pub(crate) fn conclude(work: &mut Work, sent: &Work, expected: &[u16]) -> Verdict
     requires taken { length work.old ≡ length sent.now }
     requires expected { length expected.now ≡ length sent.now }

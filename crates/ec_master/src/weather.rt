@@ -119,8 +119,8 @@ pub fn weather_cycle<T: Travel>(
     weather_cycle_in(ring, weather, expected, work, &mut Work::new())
 }
 
-/// A cycle as `weather_cycle` makes it, with a second work as room for what was sent: nothing but the items is
-/// copied. What the second work holds before and after does not matter. All that is known of such a cycle
+/// A cycle as `weather_cycle` makes it, with a second work as room for what was sent: nothing but the items
+/// is copied. What the second work holds before and after does not matter. All that is known of such a cycle
 /// follows from its verdict, which is that on the answers that the frames' trips bring (`judged`), and from
 /// what the work (`taken`) and the ring (`frames`) are then. A line is checked once, as there.
 pub fn weather_cycle_in<T: Travel>(

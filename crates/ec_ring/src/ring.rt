@@ -122,7 +122,8 @@ impl Ring {
         Some((frame, port))
     }
 
-    /// Takes one copy of a frame over the line as `walk` does, in place, and says where it arrives, if it does.
+    /// Takes one copy of a frame over the line as `walk` does, in place, and says where it arrives, if it
+    /// does.
     pub(crate) fn walk_in(
         &mut self,
         from: Port,
@@ -131,7 +132,8 @@ impl Ring {
     ) -> Option<Port>
         ensures arrived { option_map (λ port. (frame.new, port)) result
             ≡ (walked from links.now frame.old (line_of self.old)).arrived }
-        ensures ring { self.new ≡ with_line self.old (walked from links.now frame.old (line_of self.old)).line }
+        ensures ring { self.new
+            ≡ with_line self.old (walked from links.now frame.old (line_of self.old)).line }
     {
         match from {
             Port::A => self.walk_from_a(frame, links),
@@ -143,7 +145,8 @@ impl Ring {
     fn walk_from_a(&mut self, frame: &mut FrameBuf, links: &Links) -> Option<Port>
         ensures arrived { option_map (λ port. (frame.new, port)) result
             ≡ (walked_from_a links.now frame.old (line_of self.old)).arrived }
-        ensures ring { self.new ≡ with_line self.old (walked_from_a links.now frame.old (line_of self.old)).line }
+        ensures ring { self.new
+            ≡ with_line self.old (walked_from_a links.now frame.old (line_of self.old)).line }
     {
         let count = self.count();
         self.pass(frame, 0, links.front(count));
@@ -154,7 +157,8 @@ impl Ring {
     fn walk_from_b(&mut self, frame: &mut FrameBuf, links: &Links) -> Option<Port>
         ensures arrived { option_map (λ port. (frame.new, port)) result
             ≡ (walked_from_b links.now frame.old (line_of self.old)).arrived }
-        ensures ring { self.new ≡ with_line self.old (walked_from_b links.now frame.old (line_of self.old)).line }
+        ensures ring { self.new
+            ≡ with_line self.old (walked_from_b links.now frame.old (line_of self.old)).line }
     {
         let count = self.count();
         if links.turns(count) {

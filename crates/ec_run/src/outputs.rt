@@ -31,7 +31,8 @@ impl Outputs<'_> {
         work
     }
 
-    /// Makes a work the items of another one with the outputs of the cycle with this number, whatever it held.
+    /// Makes a work the items of another one with the outputs of the cycle with this number, whatever it
+    /// held.
     pub fn put(self, cycle: u64, asked: &Work, work: &mut Work)
         ensures { work.new ≡ outputs_at self.entry cycle asked.now }
     {

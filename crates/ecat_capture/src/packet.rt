@@ -35,8 +35,8 @@ impl Time {
         }
     }
 
-    /// The time of so many microseconds. It stands by itself, so that the compiler, which would else share one
-    /// division with `of_any`, turns the division by a constant into a multiplication.
+    /// The time of so many microseconds. It stands by itself, so that the compiler, which would else share
+    /// one division with `of_any`, turns the division by a constant into a multiplication.
     #[inline(never)]
     fn of_microseconds(ticks: u64) -> Time
         ensures { result ≡ time_of 1000000 ticks }
