@@ -1,6 +1,6 @@
 -- The laws that crates above cite: on the records in a memory, the areas of sync managers, ranges and
 -- mailboxes, and where logical reads and writes go.
-use Rattle.std.proofs.Common.{◌≡◌, ◌↔◌, ℕ, ◌+◌, ◌/◌, ◌<◌, true, false, List, length, get_or, refl, arith, ◌≤◌}
+use Rattle.std.proofs.Common.{◌≡◌, ◌↔◌, ℕ, ◌+◌, ◌*◌, ◌/◌, ◌<◌, true, false, List, length, take, get_or, refl, arith, ◌≤◌}
 use Rattle.std.proofs.Common.{Option, None, Some}
 use Rattle.std.specs.List.{Any}
 use Rattle.std.specs.Option.{IsSome}
@@ -16,7 +16,8 @@ use Rattle.ec_areas.specs.Ranges.{takes_writes, serves_physical_write}
 use Rattle.ec_areas.specs.Logical.{names, IsReadable, read_map, NamesPairs, IsWritable, write_map, target_map}
 use Rattle.ec_areas.specs.Logical.{reads_some, writes_some, IsPairWithin}
 use Rattle.ec_areas.specs.Apart.{are_apart}
-use Rattle.ec_areas.specs.Hull.{hull_of, misses}
+use Rattle.ec_areas.specs.Extent.{maps_some, mapped_count}
+use Rattle.ec_areas.specs.Hull.{read_hull_of, write_hull_of, misses}
 use Rattle.ec_areas.proofs.RangeLemmas as ranges
 use Rattle.ec_areas.proofs.RecordLemmas as records
 use Rattle.ec_areas.proofs.AreasMetLemmas as met
@@ -27,6 +28,7 @@ use Rattle.ec_areas.proofs.WriteLemmas as writing
 use Rattle.ec_areas.proofs.ApartLemmas as apart
 use Rattle.ec_areas.proofs.NamedLemmas as named
 use Rattle.ec_areas.proofs.HullLemmas as hulls
+use Rattle.ec_areas.proofs.ExtentLemmas as extents
 
 -- ---- the records in a memory
 
@@ -204,10 +206,42 @@ unwritten = apart.unwritten
 
 -- no read of bits outside of the hull of some FMMUs is served
 pub reads_none : (managers : List SyncMan) (fmmus : List Fmmu) (from n : ℕ)
-    → misses (hull_of fmmus) from n ≡ true → reads_some managers fmmus from n ≡ false
+    → misses (read_hull_of fmmus) from n ≡ true → reads_some managers fmmus from n ≡ false
 reads_none = hulls.reads_none
 
 -- and no write
 pub writes_none : (managers : List SyncMan) (fmmus : List Fmmu) (from n : ℕ)
-    → misses (hull_of fmmus) from n ≡ true → writes_some managers fmmus from n ≡ false
+    → misses (write_hull_of fmmus) from n ≡ true → writes_some managers fmmus from n ≡ false
 writes_none = hulls.writes_none
+
+-- ---- FMMUs up to the last that maps a bit
+
+-- there are no more of them than FMMUs
+pub mapped_count-le : (fmmus : List Fmmu) → mapped_count fmmus ≤ length fmmus
+mapped_count-le fmmus = extents.count_to_last-le maps_some fmmus
+
+-- with them alone a bit is read from the same place
+pub read_map_mapped : (managers : List SyncMan) (fmmus : List Fmmu) (l : ℕ)
+    → read_map managers (take (mapped_count fmmus) fmmus) l ≡ read_map managers fmmus l
+read_map_mapped = extents.read_map_mapped
+
+-- a physical bit takes the same
+pub write_map_mapped : (managers : List SyncMan) (fmmus : List Fmmu) (from n p : ℕ)
+    → write_map managers (take (mapped_count fmmus) fmmus) from n p ≡ write_map managers fmmus from n p
+write_map_mapped = extents.write_map_mapped
+
+-- a read is served alike
+pub reads_some_mapped : (managers : List SyncMan) (fmmus : List Fmmu) (from n : ℕ)
+    → reads_some managers (take (mapped_count fmmus) fmmus) from n ≡ reads_some managers fmmus from n
+reads_some_mapped = extents.reads_some_mapped
+
+-- a write is served alike
+pub writes_some_mapped : (managers : List SyncMan) (fmmus : List Fmmu) (from n : ℕ)
+    → writes_some managers (take (mapped_count fmmus) fmmus) from n ≡ writes_some managers fmmus from n
+writes_some_mapped = extents.writes_some_mapped
+
+-- and a byte is written alike
+pub written_byte_mapped : (managers : List SyncMan) (fmmus : List Fmmu) (from n byte : ℕ)
+    → names (λ b. write_map managers (take (mapped_count fmmus) fmmus) from n (8 * byte + b)) 8
+    ≡ names (λ b. write_map managers fmmus from n (8 * byte + b)) 8
+written_byte_mapped = extents.written_byte_mapped

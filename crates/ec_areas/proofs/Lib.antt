@@ -13,4 +13,5 @@ pub mod ReachLemmas
 pub mod NamedLemmas
 pub mod ApartLemmas
 pub mod HullLemmas
+pub mod ExtentLemmas
 pub mod Laws

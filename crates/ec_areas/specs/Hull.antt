@@ -1,7 +1,7 @@
--- The logical bits that some FMMUs map lie in a hull, and a datagram whose bits lie outside of it reaches
--- none of them (IEC 61158-4-12, FMMU).
+-- The logical bits that the master reads, or writes, through some FMMUs lie in a hull, and a datagram whose
+-- bits lie outside of it reaches none of them (IEC 61158-4-12, FMMU).
 use Rattle.std.specs.Prelude.{◌==◌, ◌||◌, ◌+◌, ℕ, Bool, nat_le, min, max, if◌then◌else◌, List, fold}
-use Rattle.ec_regs.specs.Pairs.{first_logical, pair_count}
+use Rattle.ec_regs.specs.Pairs.{first_logical, pair_count, reads, writes}
 use Rattle.ec_regs.specs.declared.fmmu.Fmmu.{Fmmu}
 use Rattle.ec_regs.specs.declared.registers.TheConstants.{LOGICAL_BITS}
 use Rattle.ec_areas.specs.declared.hull.LogicalHull.{LogicalHull}
@@ -18,9 +18,21 @@ widened hull f =
       end = max hull.end (first_logical f + pair_count f);
     }
 
--- the least hull that holds all bits that the FMMUs map
-unfoldable pub hull_of : List Fmmu → LogicalHull
-hull_of fmmus = fold widened nowhere fmmus
+-- a hull and the bits that the master reads through an FMMU
+abbrev pub widened_by_reader : LogicalHull → Fmmu → LogicalHull
+widened_by_reader hull f = if reads f then widened hull f else hull
+
+-- a hull and the bits that the master writes through an FMMU
+abbrev pub widened_by_writer : LogicalHull → Fmmu → LogicalHull
+widened_by_writer hull f = if writes f then widened hull f else hull
+
+-- the least hull that holds all bits that the master reads through the FMMUs
+unfoldable pub read_hull_of : List Fmmu → LogicalHull
+read_hull_of fmmus = fold widened_by_reader nowhere fmmus
+
+-- and the least that holds all that it writes
+unfoldable pub write_hull_of : List Fmmu → LogicalHull
+write_hull_of fmmus = fold widened_by_writer nowhere fmmus
 
 -- do the n bits from logical bit `from` on lie outside of the hull
 abbrev pub misses : LogicalHull → ℕ → ℕ → Bool

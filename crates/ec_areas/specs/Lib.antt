@@ -6,3 +6,4 @@ pub mod Showing
 pub mod Met
 pub mod Apart
 pub mod Hull
+pub mod Extent

@@ -1,8 +1,10 @@
-//! The logical bits among which all those lie that some FMMUs map (IEC 61158-4-12, FMMU). A slave may map
-//! nothing of most datagrams on a line: a look at the hull tells that, and no FMMU need be asked.
+//! The logical bits among which all those lie that some FMMUs let the master read, or write (IEC 61158-4-12,
+//! FMMU). A slave maps nothing of most datagrams on a line: a look at the hull tells that, and no FMMU need
+//! be asked.
 
 ghost use Rattle.std.specs.Prelude.{◌≡◌, ◌*◌};
-ghost use Rattle.ec_areas.specs.Hull.{nowhere, widened, hull_of, misses};
+ghost use Rattle.ec_areas.specs.Hull.{nowhere, widened, widened_by_reader, widened_by_writer};
+ghost use Rattle.ec_areas.specs.Hull.{read_hull_of, write_hull_of, misses};
 
 use ec_regs::PlannedFmmu;
 use ec_regs::registers::LOGICAL_BITS;
@@ -44,21 +46,51 @@ fn widened(hull: LogicalHull, fmmu: &PlannedFmmu) -> LogicalHull
     }
 }
 
-/// The least hull that holds all bits that the FMMUs map.
-#[tactic(auto, unfolding(crate::specs::Hull::hull_of))]
-pub fn hull_of(fmmus: &[PlannedFmmu]) -> LogicalHull
-    ensures { result ≡ hull_of fmmus.now }
+/// The least hull that holds a hull and the bits that the master reads through the FMMU.
+fn widened_by_reader(hull: LogicalHull, fmmu: &PlannedFmmu) -> LogicalHull
+    ensures { result ≡ widened_by_reader hull fmmu.now }
 {
-    fmmus.iter().fold(nowhere(), widened)
+    if fmmu.reads() {
+        widened(hull, fmmu)
+    } else {
+        hull
+    }
+}
+
+/// The least hull that holds a hull and the bits that the master writes through the FMMU.
+fn widened_by_writer(hull: LogicalHull, fmmu: &PlannedFmmu) -> LogicalHull
+    ensures { result ≡ widened_by_writer hull fmmu.now }
+{
+    if fmmu.writes() {
+        widened(hull, fmmu)
+    } else {
+        hull
+    }
+}
+
+/// The least hull that holds all bits that the master reads through the FMMUs.
+#[tactic(auto, unfolding(crate::specs::Hull::read_hull_of))]
+pub fn read_hull_of(fmmus: &[PlannedFmmu]) -> LogicalHull
+    ensures { result ≡ read_hull_of fmmus.now }
+{
+    fmmus.iter().fold(nowhere(), widened_by_reader)
+}
+
+/// The least hull that holds all bits that the master writes through the FMMUs.
+#[tactic(auto, unfolding(crate::specs::Hull::write_hull_of))]
+pub fn write_hull_of(fmmus: &[PlannedFmmu]) -> LogicalHull
+    ensures { result ≡ write_hull_of fmmus.now }
+{
+    fmmus.iter().fold(nowhere(), widened_by_writer)
 }
 
 impl LogicalHull {
-    /// Do the bits of `bytes` bytes from the logical byte `address` on all lie outside of the hull? Then no
-    /// read and no write of them is served.
-    pub fn misses(&self, address: u32, bytes: u16) -> bool
+    /// Do the bits of `bytes` bytes from the logical byte `address` on all lie outside of the hull? Then
+    /// none of them is served through the FMMUs whose hull it is.
+    pub fn misses(&self, address: u32, bytes: usize) -> bool
         ensures { result ≡ misses self.now (8 * address) (8 * bytes) }
     {
         let from = BYTE * u64::from(address);
-        self.end <= from || from + BYTE * u64::from(bytes) <= self.first
+        self.end <= from || from <= self.first && bytes as u64 <= (self.first - from) / BYTE
     }
 }

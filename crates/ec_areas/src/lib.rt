@@ -23,8 +23,10 @@
 //!   (clauses `bits`, `served`; `pair`, `target`, `source`);
 //! - [`reads_some`], [`writes_some`]: whether such a read or write would move a bit (`served`, `pair`);
 //! - [`are_apart`]: whether FMMUs for reading and for writing share no bit of the memory;
-//! - [`hull_of`]: logical bits outside of which FMMUs map none; a datagram that misses all of them
-//!   ([`LogicalHull::misses`]) is not served (laws `reads_none`, `writes_none`);
+//! - [`extent_of`]: what FMMUs reach all together: the hulls of the logical bits that the master reads and
+//!   writes ([`read_hull_of`], [`write_hull_of`]), outside of which none is served (laws `reads_none`,
+//!   `writes_none`); and how many there are up to the last that maps a bit, without the others of which reads
+//!   and writes move the same bits (laws `read_map_mapped`, `write_map_mapped`);
 //! - [`serves_physical_read`], [`serves_physical_write`]: which ranges a physical command may read and write;
 //!   [`emptied_by`], [`filled_by`]: which mailbox that empties and fills;
 //! - [`writes_outputs`]: does a logical write reach the last byte of outputs; [`last_bytes_written`]: of
@@ -38,6 +40,7 @@
 
 mod apart;
 mod areas;
+mod extent;
 mod hull;
 mod logical;
 mod logical_write;
@@ -51,7 +54,8 @@ mod showing;
 
 pub use apart::are_apart;
 pub use areas::{is_readable, is_writable};
-pub use hull::{LogicalHull, hull_of};
+pub use extent::{Extent, extent_of};
+pub use hull::{LogicalHull, read_hull_of, write_hull_of};
 pub use logical::read_mapped;
 pub use logical_write::write_mapped;
 pub use named::{reads_some, writes_some};

@@ -18,13 +18,15 @@ use Rattle.ec_regs.specs.declared.registers.TheConstants.{AL_STATUS, MEMORY_SIZE
 use Rattle.ec_regs.specs.declared.sync_man.SyncMan.{SyncMan}
 use Rattle.ec_regs.proofs.Laws.{length-with_bits, state_of-status_byte, get_or-run}
 use Rattle.ec_regs.proofs.Laws.{get_or-with_bits_kept}
+use Rattle.ec_areas.specs.declared.extent.Extent.{Extent}
+use Rattle.ec_areas.specs.Extent.{mapped_count}
 use Rattle.ec_areas.specs.Logical.{write_map}
 use Rattle.ec_areas.specs.Ranges.{takes_writes}
 use Rattle.ec_areas.specs.Records.{fmmu_at, fmmus_of, sync_manager_at, sync_managers_of}
 use Rattle.ec_areas.specs.Records.{SameRegisters}
 use Rattle.ec_areas.proofs.Laws.{get_or-sync_managers_of, write_map_register, get_or-fmmus_of}
-use Rattle.ec_areas.proofs.Laws.{length-fmmus_of, length-sync_managers_of}
-use Rattle.ec_esc.specs.Planned.{ChangesWithin}
+use Rattle.ec_areas.proofs.Laws.{length-fmmus_of, length-sync_managers_of, mapped_count-le}
+use Rattle.ec_esc.specs.Planned.{ChangesWithin, IsPlanned}
 use Rattle.ec_esc.specs.State.{NamesState, with_run}
 use Rattle.ec_esc.proofs.ApplicationLemmas.{length-with_run, get_or-with_run_before, get_or-with_run_behind}
 use Rattle.ec_esc.proofs.ApplicationLemmas.{get_or-with_run_inside}
@@ -216,3 +218,21 @@ run_changes memory after bytes address inside after_is =
       front = λ a before. get_or-with_run_before memory bytes address a before (omega arith);
       behind = λ a reaches. get_or-with_run_behind memory bytes address a reaches inside;
     }
+
+-- ---- FMMUs up to the last that maps a bit
+
+-- there are no more than eight
+pub used_fmmus_fit : (memory : List ℕ) (fmmus : List Fmmu) (extent : Extent) (managers : List SyncMan)
+    → IsPlanned memory fmmus extent managers → extent.count ≤ 8
+used_fmmus_fit memory fmmus extent managers is =
+    let count : extent.count ≡ mapped_count fmmus = ap (λ (e : Extent). e.count) is.extent_is in
+    let all : length fmmus ≡ 8 = ap length is.fmmus_are ∙ length-fmmus_of memory in
+    omega (arith, count, all, mapped_count-le fmmus)
+
+-- they are those of the memory
+pub used_fmmus_are : (memory : List ℕ) (fmmus : List Fmmu) (extent : Extent) (managers : List SyncMan)
+    → IsPlanned memory fmmus extent managers
+    → take extent.count fmmus ≡ take (mapped_count (fmmus_of memory)) (fmmus_of memory)
+used_fmmus_are memory fmmus extent managers is =
+    ap (λ (e : Extent). take e.count fmmus) is.extent_is
+    ∙ ap (λ (fs : List Fmmu). take (mapped_count fs) fs) is.fmmus_are

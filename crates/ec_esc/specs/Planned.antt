@@ -1,24 +1,22 @@
 -- A controller keeps the records of its memory decoded (IEC 61158-4-12, register layout), and its AL status
 -- names a state (IEC 61158-6-12, AL status); and where a write changes the memory.
-use Rattle.std.specs.Prelude.{◌≡◌, ℕ, Bool, ◌+◌, ◌<◌, ◌≤◌, List, length, slice_index}
+use Rattle.std.specs.Prelude.{◌≡◌, ℕ, ◌+◌, ◌<◌, ◌≤◌, List, length, slice_index}
 use Rattle.ec_regs.specs.declared.fmmu.Fmmu.{Fmmu}
 use Rattle.ec_regs.specs.declared.registers.TheConstants.{MEMORY_SIZE}
 use Rattle.ec_regs.specs.declared.sync_man.SyncMan.{SyncMan}
-use Rattle.ec_areas.specs.declared.hull.LogicalHull.{LogicalHull}
-use Rattle.ec_areas.specs.Apart.{are_apart}
-use Rattle.ec_areas.specs.Hull.{hull_of}
+use Rattle.ec_areas.specs.declared.extent.Extent.{Extent}
+use Rattle.ec_areas.specs.Extent.{extent_of}
 use Rattle.ec_areas.specs.Records.{fmmus_of, sync_managers_of}
 use Rattle.ec_esc.specs.State.{NamesState}
 
--- these FMMUs and sync managers are those whose records stand in the memory, the hull is that of the FMMUs,
--- it is kept whether what they read is apart from what they write, and AL status names a state
+-- these FMMUs and sync managers are those whose records stand in the memory, it is kept what the FMMUs reach
+-- all together, and AL status names a state
 pub record IsPlanned
-    (memory : List ℕ) (fmmus : List Fmmu) (hull : LogicalHull) (apart : Bool) (managers : List SyncMan)
+    (memory : List ℕ) (fmmus : List Fmmu) (extent : Extent) (managers : List SyncMan)
     : Type 0 where
   pub size : length memory ≡ MEMORY_SIZE
   pub fmmus_are : fmmus ≡ fmmus_of memory
-  pub hull_is : hull ≡ hull_of fmmus
-  pub apart_is : apart ≡ are_apart fmmus
+  pub extent_is : extent ≡ extent_of fmmus
   pub managers_are : managers ≡ sync_managers_of memory
   pub status : NamesState memory
 

@@ -1,5 +1,5 @@
 //! The logical commands: LRD, LWR and LRW (IEC 61158-4-12, FMMU). Most slaves on a line map nothing of such a
-//! datagram, and a look at the hull of their FMMUs tells that.
+//! datagram, and a look at the hulls of what their FMMUs read and write tells that.
 
 ghost use Rattle.std.specs.Prelude.{◌≡◌, ◌+◌, ◌<◌, ℕ, length, true, false, if◌then◌else◌, IsTrue};
 ghost use Rattle.ec_wire.specs.Datagram.{nth};
@@ -15,17 +15,8 @@ use crate::controller::Controller;
 use crate::counting::{LONE_WRITE_GAIN, READ_GAIN, WRITE_GAIN, add_to_counter};
 use crate::process::are_bytes;
 use arrayvec::ArrayVec;
-use ec_areas::read_mapped;
 use ec_regs::registers::SYNC_MANAGER_COUNT;
 use ec_wire::{FrameBuf, MAX_DATA};
-
-/// How many bytes of data the datagram at `k` has.
-fn size(frame: &FrameBuf, k: usize) -> u16
-    requires { k < length frame.now }
-    ensures { result ≡ size_at frame.now k }
-{
-    frame.data(k).len() as u16
-}
 
 /// What the working counter of an LRW gains, by whether its read and its write are served.
 fn exchange_gain(is_read: bool, is_written: bool) -> u16
@@ -37,17 +28,6 @@ fn exchange_gain(is_read: bool, is_written: bool) -> u16
 }
 
 impl Controller {
-    /// Do all FMMUs map bits elsewhere than in the data of the datagram at `k`? Then neither a read nor a
-    /// write of the data is served.
-    fn maps_elsewhere(&self, frame: &FrameBuf, k: usize) -> bool
-        requires { k < length frame.now }
-        ensures reads { IsTrue result → serves_read_at self.now frame.now k ≡ false }
-        ensures writes { IsTrue result
-            → serves_write self.now (address_at frame.now k) (size_at frame.now k) ≡ false }
-    {
-        self.memory.maps_elsewhere(frame.address(k), size(frame, k))
-    }
-
     /// LRD: a read of the datagram at `k` through FMMUs; all others stay.
     pub(crate) fn logical_read(&self, frame: &mut FrameBuf, k: usize)
         requires inside { k < length frame.old }
@@ -55,9 +35,6 @@ impl Controller {
         ensures { IsServed (only_reads (mapped_read_at self.now frame.old k))
             k frame.old self.now frame.new self.now }
     {
-        if self.maps_elsewhere(frame, k) {
-            return;
-        }
         if self.fill_data(frame, k) {
             add_to_counter(frame, k, READ_GAIN);
         }
@@ -71,11 +48,8 @@ impl Controller {
             ≡ filled_at frame.old k self.now.memory (read_sources self.now (address_at frame.old k)) }
         ensures served { result ≡ serves_read_at self.now frame.old k }
     {
-        let managers = self.memory.managers();
-        let fmmus = self.memory.fmmus();
-        let memory = self.memory.bytes();
         let address = frame.address(k);
-        read_mapped(managers, fmmus, memory, address, frame.data_mut(k))
+        self.memory.read_mapped(address, frame.data_mut(k))
     }
 
     /// LWR: a write of the datagram at `k` through FMMUs; all others stay.
@@ -85,9 +59,6 @@ impl Controller {
         ensures { IsServed (only_writes (mapped_write_at 1 self.old frame.old k))
             k frame.old self.old frame.new self.new }
     {
-        if self.maps_elsewhere(frame, k) {
-            return;
-        }
         if self.write_data(frame.address(k), frame.data(k)) {
             add_to_counter(frame, k, LONE_WRITE_GAIN);
         }
@@ -100,9 +71,6 @@ impl Controller {
         requires arrives { Arrives self.old (nth frame.old k) }
         ensures { IsServed (mapped_exchange_at self.old frame.old k) k frame.old self.old frame.new self.new }
     {
-        if self.maps_elsewhere(frame, k) {
-            return;
-        }
         let gain = self.exchange_data(frame, k);
         add_to_counter(frame, k, gain);
     }
@@ -174,6 +142,9 @@ impl Controller {
         ensures served { result ≡ serves_write self.old address (length payload.now) }
     {
         are_bytes(self.memory.bytes());
+        if self.memory.writes_elsewhere(address, payload.len()) {
+            return false;
+        }
         let served = self.memory.write_mapped(address, payload);
         self.show_outputs(address, payload.len());
         served

@@ -1,16 +1,18 @@
 //! A controller's memory with the records in it decoded (IEC 61158-4-12, register layout). Each datagram asks
-//! for FMMUs and sync managers, so a record is decoded once: when a byte of it changes. The hull of what the
-//! FMMUs map is found then too. AL status is written as a status alone, so it always names a state.
+//! for FMMUs and sync managers, so a record is decoded once: when a byte of it changes. What the FMMUs reach
+//! all together is found then too. AL status is written as a status alone, so it always names a state.
 
 ghost use Rattle.std.specs.Prelude.{◌≡◌, ◌≢◌, ◌==◌, ◌+◌, ◌*◌, ◌%◌, ◌<◌, ◌≤◌, ◌&&◌, nat_lt, ℕ, List, [], ◌∷◌};
-ghost use Rattle.std.specs.Prelude.{IfOk, IsTrue, Some, if◌then◌else◌, length, slice_index, slice_set};
+ghost use Rattle.std.specs.Prelude.{IfOk, IsTrue, Some, false, if◌then◌else◌, length, take};
+ghost use Rattle.std.specs.Prelude.{slice_index, slice_set};
 ghost use Rattle.ec_regs.specs.Al.{state_of, status_byte, status_of};
 ghost use Rattle.ec_regs.specs.Bits.{AreBytes, with_bits};
 ghost use Rattle.ec_regs.specs.declared.registers.TheConstants.{AL_STATUS, MEMORY_SIZE};
 ghost use Rattle.ec_regs.specs.declared.registers.TheConstants.{PROCESS_MEMORY, SYNC_MANAGER_COUNT};
 ghost use Rattle.ec_regs.specs.SyncMan.{guards_outputs};
 ghost use Rattle.ec_areas.specs.Apart.{are_apart};
-ghost use Rattle.ec_areas.specs.Hull.{hull_of, misses};
+ghost use Rattle.ec_areas.specs.Extent.{extent_of, mapped_count};
+ghost use Rattle.ec_areas.specs.Logical.{read_places, reads_some, writes_some};
 ghost use Rattle.ec_areas.specs.Logical.{write_map, target_places, names};
 ghost use Rattle.ec_areas.specs.Records.{fmmus_of, sync_manager_at, sync_managers_of};
 ghost use Rattle.ec_areas.specs.Showing.{last_byte};
@@ -18,8 +20,9 @@ ghost use Rattle.ec_esc.specs.Planned.{ChangesWithin};
 ghost use Rattle.ec_esc.specs.State.{with_run};
 ghost use Rattle.ec_esc.specs.Writing.{reaches_byte};
 
+use crate::process::are_bytes;
 use ec_areas::{
-    LogicalHull, are_apart, fmmu_at, fmmus_of, hull_of, sync_manager_at, sync_managers_of,
+    Extent, extent_of, fmmu_at, fmmus_of, read_mapped, sync_manager_at, sync_managers_of,
     write_mapped, writes_outputs,
 };
 use ec_regs::registers::{
@@ -38,9 +41,8 @@ use std::marker::Model;
 pub(crate) struct PlannedMemory {
     memory: Memory,
     fmmus: Fmmus,
-    hull: LogicalHull,
-    apart: bool,
     managers: SyncManagers,
+    extent: Extent,
 }
 
 impl Model for PlannedMemory {
@@ -51,7 +53,7 @@ impl Model for PlannedMemory {
 
     ghost view = { λ m. m.memory };
 
-    ghost invariant = { λ m. IsPlanned m.memory m.fmmus m.hull m.apart m.managers };
+    ghost invariant = { λ m. IsPlanned m.memory m.fmmus m.extent m.managers };
 }
 
 /// The records of all FMMUs.
@@ -89,21 +91,13 @@ fn sync_manager_record(number: usize) -> AddressRange
     }
 }
 
-/// Decodes each FMMU of whose record a byte lies in the range that was written; the others stay. The hull of
-/// them all, and whether what they read is apart from what they write, is found anew where there is such a
-/// byte.
-fn renew_fmmus(
-    fmmus: &mut Fmmus,
-    hull: &mut LogicalHull,
-    apart: &mut bool,
-    memory: &[u8],
-    written: AddressRange,
-)
+/// Decodes each FMMU of whose record a byte lies in the range that was written; the others stay. What they
+/// reach all together is found anew where there is such a byte.
+fn renew_fmmus(fmmus: &mut Fmmus, extent: &mut Extent, memory: &[u8], written: AddressRange)
     requires { length memory.now ≡ MEMORY_SIZE }
     ensures fmmus { (before : List ℕ) → fmmus.old ≡ fmmus_of before
         → ChangesWithin written.first written.count before memory.now → fmmus.new ≡ fmmus_of memory.now }
-    ensures hull { hull.old ≡ hull_of fmmus.old → hull.new ≡ hull_of fmmus.new }
-    ensures apart { apart.old ≡ are_apart fmmus.old → apart.new ≡ are_apart fmmus.new }
+    ensures extent { extent.old ≡ extent_of fmmus.old → extent.new ≡ extent_of fmmus.new }
 {
     if !FMMU_RECORDS.meets(&written) {
         return;
@@ -113,8 +107,7 @@ fn renew_fmmus(
             fmmus[number] = PlannedFmmu::new(fmmu_at(memory, number));
         }
     }
-    *hull = hull_of(fmmus);
-    *apart = are_apart(fmmus);
+    *extent = extent_of(fmmus);
 }
 
 /// Decodes each sync manager of whose record a byte lies in the range that was written; the others stay.
@@ -145,15 +138,13 @@ impl PlannedMemory {
         let mut memory = Memory::new(alloc)?;
         memory.set_byte(AL_STATUS, AlState::Init.code());
         let fmmus = fmmus_of(memory.bytes());
-        let hull = hull_of(&fmmus);
-        let apart = are_apart(&fmmus);
         let managers = sync_managers_of(memory.bytes());
+        let extent = extent_of(&fmmus);
         Ok(PlannedMemory {
             memory,
             fmmus,
-            hull,
-            apart,
             managers,
+            extent,
         })
     }
 
@@ -180,11 +171,20 @@ impl PlannedMemory {
         &self.fmmus
     }
 
-    /// Do all FMMUs map bits elsewhere than in the `count` bytes from the logical byte `address` on?
-    pub(crate) fn maps_elsewhere(&self, address: u32, count: u16) -> bool
-        ensures { result ≡ misses (hull_of (fmmus_of self.now)) (8 * address) (8 * count) }
+    /// Does the master write through no FMMU any bit of the `count` bytes from the logical byte `address` on?
+    /// Most slaves on a line are asked so by most writes; a look at the hull of what is written tells it.
+    pub(crate) fn writes_elsewhere(&self, address: u32, count: usize) -> bool
+        ensures { IsTrue result → writes_some (sync_managers_of self.now) (fmmus_of self.now)
+            (8 * address) (8 * count) ≡ false }
     {
-        self.hull.misses(address, count)
+        self.extent.writes.misses(address, count)
+    }
+
+    /// The FMMUs up to the last that maps a bit.
+    fn used_fmmus(&self) -> &[PlannedFmmu]
+        ensures { result.now ≡ take (mapped_count (fmmus_of self.now)) (fmmus_of self.now) }
+    {
+        &self.fmmus[..self.extent.count]
     }
 
     /// Does the sync manager with a number guard outputs, and does a write of `count` bytes at the logical
@@ -198,14 +198,20 @@ impl PlannedMemory {
             + (sync_manager_at self.now number).length ≤ MEMORY_SIZE }
     {
         let managers = &self.managers[..];
-        writes_outputs(managers, &self.fmmus, address, count, &managers[number])
+        writes_outputs(
+            managers,
+            self.used_fmmus(),
+            address,
+            count,
+            &managers[number],
+        )
     }
 
     /// Has no FMMU for reading a physical bit in common with one for writing?
     pub(crate) fn is_apart(&self) -> bool
         ensures { result ≡ are_apart (fmmus_of self.now) }
     {
-        self.apart
+        self.extent.is_apart
     }
 
     /// All sync managers, by number.
@@ -245,13 +251,7 @@ impl PlannedMemory {
             count: 1,
         };
         let bytes = self.memory.bytes();
-        renew_fmmus(
-            &mut self.fmmus,
-            &mut self.hull,
-            &mut self.apart,
-            bytes,
-            written,
-        );
+        renew_fmmus(&mut self.fmmus, &mut self.extent, bytes, written);
         renew_managers(&mut self.managers, bytes, written);
     }
 
@@ -268,14 +268,24 @@ impl PlannedMemory {
             count: bytes.len() as u16,
         };
         let bytes = self.memory.bytes();
-        renew_fmmus(
-            &mut self.fmmus,
-            &mut self.hull,
-            &mut self.apart,
-            bytes,
-            written,
-        );
+        renew_fmmus(&mut self.fmmus, &mut self.extent, bytes, written);
         renew_managers(&mut self.managers, bytes, written);
+    }
+
+    /// Fills the bits of the data that a read reaches, and says whether there is one; all others stay. The
+    /// first data byte stands at the logical byte `address`.
+    pub(crate) fn read_mapped(&self, address: u32, into: &mut [u8]) -> bool
+        ensures bits { into.new ≡ with_bits into.old self.now
+            (read_places (sync_managers_of self.now) (fmmus_of self.now) (8 * address)) }
+        ensures served { result ≡ reads_some
+            (sync_managers_of self.now) (fmmus_of self.now) (8 * address) (8 * length into.old) }
+    {
+        are_bytes(into);
+        if self.extent.reads.misses(address, into.len()) {
+            return false;
+        }
+        let memory = self.memory.bytes();
+        read_mapped(&self.managers, self.used_fmmus(), memory, address, into)
     }
 
     /// Writes the data to the physical bits of all FMMUs, of which a later one prevails, and says whether
@@ -289,12 +299,7 @@ impl PlannedMemory {
             (sync_managers_of self.old) (fmmus_of self.old) (8 * address)) (8 * length payload.now) }
         ensures size { length self.new ≡ MEMORY_SIZE }
     {
-        write_mapped(
-            &self.managers,
-            &self.fmmus,
-            &mut self.memory,
-            address,
-            payload,
-        )
+        let fmmus = &self.fmmus[..self.extent.count];
+        write_mapped(&self.managers, fmmus, &mut self.memory, address, payload)
     }
 }

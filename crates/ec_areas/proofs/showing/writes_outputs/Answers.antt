@@ -1,4 +1,4 @@
-use Rattle.std.proofs.Common.{◌≡◌, ◌*◌, ◌&&◌, sym, ◌∙◌, ap}
+use Rattle.std.proofs.Common.{◌*◌, ◌&&◌, sym, ◌∙◌, ap}
 use Rattle.std.specs.List.{list_any}
 use Rattle.std.proofs.Math.Bool.{and_assoc}
 use Rattle.ec_regs.specs.SyncMan.{guards_outputs}

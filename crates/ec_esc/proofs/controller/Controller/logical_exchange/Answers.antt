@@ -1,9 +1,8 @@
-use Rattle.std.proofs.Common.{◌≡◌, ◌+◌, ℕ, List, None, length, set, sym, ◌∙◌, ap, subst}
+use Rattle.std.proofs.Common.{◌≡◌, ◌+◌, ℕ, List, length, set, sym, ◌∙◌, ap}
 use Rattle.ec_regs.specs.Bits.{with_bits}
 use Rattle.ec_wire.specs.Datagram.{DatagramRecord, nth}
-use Rattle.ec_esc.specs.Pass.{Half, Effect, mapped_read, mapped_write, written_by, counter_after}
-use Rattle.ec_esc.specs.Pass.{nothing, where_served, read_sources, write_sources, IsServed}
-use Rattle.ec_esc.proofs.ServedLemmas.{IsServed-both, IsServed-nothing, read_placed, read_by_mapped}
+use Rattle.ec_esc.specs.Pass.{Effect, mapped_read, mapped_write, written_by, counter_after}
+use Rattle.ec_esc.proofs.ServedLemmas.{IsServed-both, read_placed, read_by_mapped}
 use Rattle.ec_esc.proofs.controller.Controller.logical_exchange.Goals as goal
 
 pub returns : goal.returns
@@ -28,24 +27,3 @@ returns c =
     filled_is raised_is
     (c.exchange_data-gain.ensures.state
     ∙ sym (read_by_mapped s (written_by e.writing d.payload s) d.address n))
-
-pub returns-then-maps_elsewhere : goal.returns-then-maps_elsewhere
-returns-then-maps_elsewhere c =
-    let s = c.args.self.now in
-    let rs = c.args.frame.now in
-    let k = c.args.k in
-    let d : DatagramRecord = nth rs k in
-    let reading : Half = record { places = read_sources s d.address; gain = 1; mail = None } in
-    let writing : Half = record {
-      places = write_sources s d.address (length d.payload);
-      gain = 2;
-      mail = None;
-    } in
-    subst (λ b. IsServed (record {
-      reading = where_served b reading;
-      writing = mapped_write 2 s d.address (length d.payload);
-    }) k rs s rs s)
-    (sym (c.maps_elsewhere.ensures.reads c.if-maps_elsewhere.true))
-    (subst (λ b. IsServed (record { reading = nothing; writing = where_served b writing }) k rs s rs s)
-    (sym (c.maps_elsewhere.ensures.writes c.if-maps_elsewhere.true))
-    (IsServed-nothing rs k s c.requires.arrives))

@@ -1,7 +1,7 @@
 use Rattle.std.proofs.Common.{◌≡◌, true, length, refl, sym, ◌∙◌, subst, None}
 use Rattle.ec_wire.specs.Datagram.{DatagramRecord, nth}
 use Rattle.ec_esc.specs.Pass.{Half, where_served, only_reads, read_sources, serves_read, IsServed}
-use Rattle.ec_esc.proofs.ServedLemmas.{IsServed-read, IsServed-unmapped, IsServed-nothing}
+use Rattle.ec_esc.proofs.ServedLemmas.{IsServed-read, IsServed-unmapped}
 use Rattle.ec_esc.proofs.controller.Controller.logical_read.Goals as goal
 
 pub returns-then-fill_data : goal.returns-then-fill_data
@@ -21,13 +21,3 @@ pub returns-else-fill_data : goal.returns-else-fill_data
 returns-else-fill_data c =
     IsServed-unmapped c.args.self.now c.args.frame.now c.fill_data.new.frame c.args.k c.requires.arrives
     c.fill_data.ensures.frame (sym c.fill_data.ensures.served ∙ c.if-fill_data.false)
-
-pub returns-then-maps_elsewhere : goal.returns-then-maps_elsewhere
-returns-then-maps_elsewhere c =
-    let s = c.args.self.now in
-    let rs = c.args.frame.now in
-    let k = c.args.k in
-    let half : Half = record { places = read_sources s (nth rs k).address; gain = 1; mail = None } in
-    subst (λ b. IsServed (only_reads (where_served b half)) k rs s rs s)
-    (sym (c.maps_elsewhere.ensures.reads c.if-maps_elsewhere.true))
-    (IsServed-nothing rs k s c.requires.arrives)

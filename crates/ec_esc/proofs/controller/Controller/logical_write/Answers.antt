@@ -1,8 +1,6 @@
-use Rattle.std.proofs.Common.{length, None, sym, ◌∙◌, subst}
-use Rattle.ec_wire.specs.Datagram.{DatagramRecord, nth}
-use Rattle.ec_esc.specs.Pass.{Half, where_served, only_writes, write_sources, IsServed}
+use Rattle.std.proofs.Common.{sym, ◌∙◌}
+use Rattle.ec_wire.specs.Datagram.{nth}
 use Rattle.ec_esc.proofs.ServedLemmas.{mapped_as, serves_as, IsServed-mapped_write, IsServed-unwritten}
-use Rattle.ec_esc.proofs.ServedLemmas.{IsServed-nothing}
 use Rattle.ec_esc.proofs.controller.Controller.logical_write.Goals as goal
 
 pub returns-then-write_data : goal.returns-then-write_data
@@ -28,18 +26,3 @@ returns-else-write_data c =
     IsServed-unwritten s c.write_data.new.self rs k c.requires.arrives (sym served ∙ c.if-write_data.false)
     (mapped_as 1 s c.write_data.new.self c.address.result c.data.result.now (nth rs k) c.address.ensures
     c.data.ensures.value (c.write_data.ensures.state 1))
-
-pub returns-then-maps_elsewhere : goal.returns-then-maps_elsewhere
-returns-then-maps_elsewhere c =
-    let s = c.args.self.now in
-    let rs = c.args.frame.now in
-    let k = c.args.k in
-    let d : DatagramRecord = nth rs k in
-    let half : Half = record {
-      places = write_sources s d.address (length d.payload);
-      gain = 1;
-      mail = None;
-    } in
-    subst (λ b. IsServed (only_writes (where_served b half)) k rs s rs s)
-    (sym (c.maps_elsewhere.ensures.writes c.if-maps_elsewhere.true))
-    (IsServed-nothing rs k s c.requires.arrives)

@@ -1,6 +1,5 @@
-use Rattle.std.proofs.Common.{◌≡◌, List, length, drop}
+use Rattle.std.proofs.Common.{◌≡◌, length, drop}
 use Rattle.ec_regs.specs.declared.registers.TheConstants.{PROCESS_MEMORY_SIZE}
-use Rattle.ec_regs.specs.declared.sync_man.SyncMan.{SyncMan}
 use Rattle.ec_areas.specs.Records.{sync_managers_of}
 use Rattle.ec_esc.specs.Writing.{reaches_byte, shown_after}
 use Rattle.ec_esc.proofs.controller.Controller.show_outputs.Given as goal

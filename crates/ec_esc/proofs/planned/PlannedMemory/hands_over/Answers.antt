@@ -6,7 +6,7 @@ use Rattle.ec_regs.specs.SyncMan.{guards_outputs, is_active, is_buffered, master
 use Rattle.ec_areas.specs.Logical.{names, write_map}
 use Rattle.ec_areas.specs.Records.{fmmus_of, sync_manager_at, sync_managers_of}
 use Rattle.ec_areas.specs.Showing.{last_byte}
-use Rattle.ec_areas.proofs.Laws.{active_place, get_or-sync_managers_of}
+use Rattle.ec_areas.proofs.Laws.{active_place, get_or-sync_managers_of, written_byte_mapped}
 use Rattle.ec_esc.proofs.planned.PlannedMemory.hands_over.Goals as goal
 
 -- the record that is looked at stands in the memory
@@ -23,15 +23,19 @@ area_is c =
 pub returns-clause-value : goal.returns-clause-value
 returns-clause-value c =
     let area : SyncMan = c.index-managers-number.result in
+    let memory : List ℕ = c.args.self.now in
+    let managers : List SyncMan = sync_managers_of memory in
+    let fmmus : List Fmmu = fmmus_of memory in
+    let from : ℕ = 8 * c.args.address in
+    let n : ℕ = 8 * c.args.count in
     let said : List SyncMan → List Fmmu → SyncMan → Bool = λ ms fs s.
-    guards_outputs s && names (λ b. write_map ms fs (8 * c.args.address) (8 * c.args.count)
-    (8 * last_byte s + b)) 8 in
-    let memory : List ℕ = c.self.inside.memory in
+    guards_outputs s && names (λ b. write_map ms fs from n (8 * last_byte s + b)) 8 in
     c.writes_outputs.ensures
-    ∙ ap (λ (ms : List SyncMan). said ms c.self.inside.fmmus area) c.self.invariant.managers_are
-    ∙ ap (λ (fs : List Fmmu). said (sync_managers_of memory) fs area) c.self.invariant.fmmus_are
-    ∙ ap (λ (m : List ℕ). said (sync_managers_of m) (fmmus_of m) area) c.self.view_is
-    ∙ ap (said (sync_managers_of c.args.self.now) (fmmus_of c.args.self.now)) (area_is c)
+    ∙ ap (λ (ms : List SyncMan). said ms c.used_fmmus.result.now area)
+    (c.self.invariant.managers_are ∙ ap sync_managers_of c.self.view_is)
+    ∙ ap (λ (fs : List Fmmu). said managers fs area) c.used_fmmus.ensures
+    ∙ ap (λ (b : Bool). guards_outputs area && b) (written_byte_mapped managers fmmus from n (last_byte area))
+    ∙ ap (said managers fmmus) (area_is c)
 
 -- an area that is handed over is active
 is_active_then : (c : goal.After-writes_outputs) → c.writes_outputs.result ≡ true

@@ -18,8 +18,7 @@ invariant_of-self c =
       fmmus_are =
           c.renew_fmmus.ensures.fmmus memory c.self.invariant.fmmus_are changes
           ∙ ap fmmus_of c.bytes-bytes.ensures.value;
-      hull_is = c.renew_fmmus.ensures.hull c.self.invariant.hull_is;
-      apart_is = c.renew_fmmus.ensures.apart c.self.invariant.apart_is;
+      extent_is = c.renew_fmmus.ensures.extent c.self.invariant.extent_is;
       managers_are =
           c.renew_managers.ensures memory c.self.invariant.managers_are changes
           ∙ ap sync_managers_of c.bytes-bytes.ensures.value;

@@ -25,8 +25,7 @@ invariant_of-self c =
       fmmus_are =
           c.self.invariant.fmmus_are
           ∙ fmmus_stay memory c.load.new.self AL_STATUS 2 changes size refl;
-      hull_is = c.self.invariant.hull_is;
-      apart_is = c.self.invariant.apart_is;
+      extent_is = c.self.invariant.extent_is;
       managers_are =
           c.self.invariant.managers_are
           ∙ managers_stay memory c.load.new.self AL_STATUS 2 changes size refl;
