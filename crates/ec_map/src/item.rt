@@ -255,6 +255,20 @@ impl Item {
         }
     }
 
+    /// Makes a datagram the one that asks it, with this index, whatever it was. Where both have as many data,
+    /// nothing but these is copied.
+    pub fn put_datagram(&self, index: u8, datagram: &mut Datagram)
+        ensures { record_of datagram.new ≡ datagram_of self.now index }
+    {
+        assign_bytes(&mut datagram.payload, self.payload.as_slice());
+        datagram.command = self.kind.command();
+        datagram.index = index;
+        datagram.address = self.wire_address();
+        datagram.circulating = false;
+        datagram.irq = 0;
+        datagram.counter = self.counter;
+    }
+
     /// The data's bit of a logical bit, 8 * byte + bit, or `None` where the item is not logical or the bit
     /// does not lie in it.
     pub fn bit(&self, logical: u64) -> Option<bool>

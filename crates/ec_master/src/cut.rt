@@ -13,9 +13,11 @@ pub fn frame_from(work: &Work, first: usize) -> FrameBuf
     requires { first < length work.now }
     ensures { result ≡ sent_of (frame_at first work.now) }
 {
-    let mut frame = FrameBuf::of(&work.datagram(first));
+    let mut datagram = work.datagram(first);
+    let mut frame = FrameBuf::of(&datagram);
     for k in first + 1..work.len() {
-        match frame.push(&work.datagram(k)) {
+        work.put_datagram(k, &mut datagram);
+        match frame.push(&datagram) {
             Ok(()) => {}
             Err(_) => return frame,
         }

@@ -144,6 +144,16 @@ impl Work {
         item.datagram(k as u8)
     }
 
+    /// Makes a datagram the one that asks the item at `k`, with `k` as index, whatever it was.
+    pub(crate) fn put_datagram(&self, k: usize, datagram: &mut Datagram)
+        requires { k < length self.now }
+        ensures { record_of datagram.new ≡ datagram_of (nth_item self.now k) k }
+    {
+        // For the prover: a work that is counted has at most `MAX_ITEMS` items.
+        let _count = self.len();
+        self.item(k).put_datagram(k as u8, datagram);
+    }
+
     /// Does nothing; its clauses are what a proof knows of the items of every work.
     pub fn are_items(&self)
         ensures items { AllByRecursion IsItem self.now }

@@ -19,7 +19,7 @@ loop-k-init c =
     let first : ℕ = c.args.first in
     record {
       entries = entry_of (nth_item items first) first ∷ [];
-      frame = c.of-frame.ensures ∙ ap (λ (d : DatagramRecord). d ∷ []) c.datagram.ensures.datagram;
+      frame = c.of-frame.ensures ∙ ap (λ (d : DatagramRecord). d ∷ []) c.datagram-datagram.ensures.datagram;
       inside = omega (arith, c.requires);
       rest = rw (add-one first, entries-cons first items no_item c.requires) refl;
     }
@@ -42,7 +42,7 @@ returns-in-Err c =
     let es = c.loop-k.invariant.entries in
     let e : Entry = entry_of (nth_item items k) k in
     let full : 1498 < body_length (sent_of es) + datagram_length e.sent
-    = over es e _ _ c.loop-k.invariant.frame c.datagram-in-loop-k.ensures.datagram
+    = over es e _ _ c.loop-k.invariant.frame c.put_datagram.ensures
     (c.in-Err.ensures.full.0 refl) in
     let inside : k < length items = omega (arith, c.loop-k-test.true, c.len-k-end.ensures.count) in
     c.in-Err.ensures.err ∙ c.loop-k.invariant.frame
@@ -60,11 +60,11 @@ loop-k-preserved c =
     let inside : k < length items = omega (arith, c.loop-k-test.true, c.len-k-end.ensures.count) in
     let pushed : c.push.new.self ≡ sent_of es ++ e.sent ∷ []
     = c.in-Ok.ensures.ok
-    ∙ ap (λ (ds : List DatagramRecord). ds ++ record_of c.datagram-in-loop-k.result ∷ [])
+    ∙ ap (λ (ds : List DatagramRecord). ds ++ record_of c.put_datagram.new.datagram ∷ [])
     c.loop-k.invariant.frame
-    ∙ ap (λ (d : DatagramRecord). sent_of es ++ d ∷ []) c.datagram-in-loop-k.ensures.datagram in
+    ∙ ap (λ (d : DatagramRecord). sent_of es ++ d ∷ []) c.put_datagram.ensures in
     let fits : body_length (sent_of es) + datagram_length e.sent ≤ 1498
-    = within es e _ _ c.loop-k.invariant.frame c.datagram-in-loop-k.ensures.datagram
+    = within es e _ _ c.loop-k.invariant.frame c.put_datagram.ensures
     (not_full _ _ c.in-Ok.ensures.full.1) in
     record {
       entries = es ++ e ∷ [];
