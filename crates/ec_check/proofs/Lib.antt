@@ -3,6 +3,8 @@ pub mod SearchLemmas
 pub mod LineLemmas
 pub mod StationLemmas
 pub mod RunLemmas
+pub mod HullLemmas
+pub mod OneSideLemmas
 pub mod WrittenLemmas
 pub mod ReadLemmas
 pub mod CrossedLemmas

@@ -1,5 +1,5 @@
 -- Whether a line is fit does not hang on the order of its slaves.
-use Rattle.std.proofs.Common.{◌≡◌, ◌≢◌, ◌⊎◌, ⊎_elim, inl, inr, ℕ, ◌+◌, ◌<◌, ◌≤◌, Bool, true, false, cond, eqb}
+use Rattle.std.proofs.Common.{◌≡◌, ◌≢◌, ⊎_elim, inl, inr, ℕ, ◌+◌, ◌<◌, ◌≤◌, true, cond, eqb}
 use Rattle.std.proofs.Common.{List, [], ◌∷◌, length, get_or, set, sym, subst, ◌∙◌, ap, refl, arith}
 use Rattle.std.specs.List.{swap}
 use Rattle.std.specs.List.Sorted.{IsPermutation}
@@ -17,7 +17,7 @@ use Rattle.ec_regs.specs.declared.registers.TheConstants.{STATION_ADDRESS}
 use Rattle.ec_check.specs.Fit.{Breaks, IsFit}
 use Rattle.ec_check.specs.Line.{controller_of, no_controller, station_of, fmmu_of, sync_manager_of, HasFmmu}
 use Rattle.ec_check.specs.Rules.{MapsLogical, MapsPhysical, ReadsLogical, WritesLogical, WritesPhysical}
-use Rattle.ec_check.specs.Rules.{IsGoodFmmu, IsInArea, Area, suits, IsGuarded, IsAreaFor, HoldsAllOf}
+use Rattle.ec_check.specs.Rules.{IsGoodFmmu, IsInArea, Area, suits, IsAreaFor, HoldsAllOf}
 use Rattle.ec_check.specs.Rules.{LeavesAreasAt}
 use Rattle.ec_check.specs.declared.fault.MapFault.{MapFault}
 use Rattle.ec_check.specs.declared.fault.MapFault.TheVariants.{TwinStation, BadFmmu, AreasMeet, OutsideArea}

@@ -4,6 +4,7 @@ pub mod Line
 pub mod Rules
 pub mod Fit
 pub mod Search
+pub mod Hulls
 pub mod Facts
 pub mod Mapping
 pub mod Records

@@ -6,15 +6,19 @@ ghost use Rattle.ec_check.specs.Line.{controllers_by, HasFmmu, StandsOn};
 ghost use Rattle.ec_check.specs.Search.{Answers};
 
 use crate::fault::MapFault;
+use crate::hulls::exchanges_on_one_side;
 use crate::line::{Standing, fmmu_of, standing_at};
 use crate::mapped::Mapped;
 use crate::runs::lowest_shared_logical;
 use ec_regs::registers::FMMU_COUNT;
 
-/// FMMUs that read, of all slaves.
+/// FMMUs that read, of all slaves. On most lines one pass tells that none reads what another slave writes.
 pub(crate) fn bits_read_and_written<S: Mapped>(line: &[S]) -> Result<(), MapFault>
     ensures { Answers (7 ∷ []) (controllers_by S.controller line.now) result }
 {
+    if exchanges_on_one_side(line) {
+        return Ok(());
+    }
     for reader in 0..line.len() {
         written_elsewhere(line, reader)?;
     }

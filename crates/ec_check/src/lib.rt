@@ -27,6 +27,7 @@
 //! - `fault`: why a line is refused.
 //! - `stations`, `fmmus`, `areas`, `outside`, `twice_written`, `twice_read`, `crossed`: the rules, in this
 //!   order.
+//! - `hulls`: one pass over lines that are mapped in the order of their bits, in place of all pairs.
 //! - `mapped`: what the rules must know of a slave, so that they judge records alone as well; [`Records`]: a
 //!   slave by those alone, mapped as the controller that has them, in 194 bytes; `line`: the records that
 //!   stand on the line; `runs`: the lowest number that two runs share.
@@ -41,6 +42,7 @@ mod crossed;
 mod facts;
 mod fault;
 mod fmmus;
+mod hulls;
 mod line;
 mod mapped;
 mod outside;

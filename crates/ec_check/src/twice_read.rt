@@ -8,15 +8,19 @@ ghost use Rattle.ec_check.specs.Order.{IsBefore};
 ghost use Rattle.ec_check.specs.Search.{Answers};
 
 use crate::fault::MapFault;
+use crate::hulls::reads_on_one_side;
 use crate::line::{Standing, fmmu_of, standing_at};
 use crate::mapped::Mapped;
 use crate::runs::lowest_shared_logical;
 use ec_regs::registers::FMMU_COUNT;
 
-/// FMMUs of all slaves.
+/// FMMUs of all slaves. Those of most lines read in the order of their bits, and no two need be compared.
 pub(crate) fn bits_read_twice<S: Mapped>(line: &[S]) -> Result<(), MapFault>
     ensures { Answers (6 ∷ []) (controllers_by S.controller line.now) result }
 {
+    if reads_on_one_side(line) {
+        return Ok(());
+    }
     for slave in 0..line.len() {
         read_twice_by(line, slave)?;
     }

@@ -1,10 +1,16 @@
 use Rattle.std.proofs.Common.{[], ◌∷◌, below_more, arith}
 use Rattle.std.proofs.lemmas.Result.{err_from_is_err_and}
 use Rattle.ec_check.specs.Line.{controllers_by}
+use Rattle.ec_check.proofs.OneSideLemmas.{HasNone-exchanged_on_one_side}
 use Rattle.ec_check.proofs.LineLemmas.{length-controllers_by}
 use Rattle.ec_check.proofs.SearchLemmas.{IsFirstOf-shorter, HasNone-all}
 use Rattle.ec_check.proofs.CrossedLemmas.{crossed_go_on}
 use Rattle.ec_check.proofs.crossed.bits_read_and_written.Goals as goal
+
+pub returns-then-exchanges_on_one_side : goal.returns-then-exchanges_on_one_side
+returns-then-exchanges_on_one_side g c =
+    HasNone-exchanged_on_one_side (controllers_by g.S.Mapped.controller c.args.line.now)
+    (c.exchanges_on_one_side.ensures.0 c.if-exchanges_on_one_side.true)
 
 pub loop-reader-preserved : goal.loop-reader-preserved
 loop-reader-preserved g c = below_more _ _ c.loop-reader.invariant c.in_ok-written_elsewhere.ensures

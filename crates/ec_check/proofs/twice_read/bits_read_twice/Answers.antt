@@ -1,10 +1,16 @@
 use Rattle.std.proofs.Common.{[], ◌∷◌, below_more, arith}
 use Rattle.std.proofs.lemmas.Result.{err_from_is_err_and}
 use Rattle.ec_check.specs.Line.{controllers_by}
+use Rattle.ec_check.proofs.OneSideLemmas.{HasNone-read_on_one_side}
 use Rattle.ec_check.proofs.LineLemmas.{length-controllers_by}
 use Rattle.ec_check.proofs.SearchLemmas.{IsFirstOf-shorter, HasNone-all}
 use Rattle.ec_check.proofs.ReadLemmas.{read_go_on}
 use Rattle.ec_check.proofs.twice_read.bits_read_twice.Goals as goal
+
+pub returns-then-reads_on_one_side : goal.returns-then-reads_on_one_side
+returns-then-reads_on_one_side g c =
+    HasNone-read_on_one_side (controllers_by g.S.Mapped.controller c.args.line.now)
+    (c.reads_on_one_side.ensures.0 c.if-reads_on_one_side.true)
 
 pub loop-slave-preserved : goal.loop-slave-preserved
 loop-slave-preserved g c = below_more _ _ c.loop-slave.invariant c.in_ok-read_twice_by.ensures

@@ -1,0 +1,7 @@
+use Rattle.ec_check.specs.Hulls.{IsExchangedSoFar}
+use Rattle.ec_check.specs.Line.{controllers_by}
+use Rattle.ec_check.proofs.hulls.with_slave.Given as goal
+
+abbrev pub invariant-loop-number : goal.invariant-loop-number
+invariant-loop-number g l =
+    IsExchangedSoFar (controllers_by g.S.Mapped.controller l.line) l.slave l.number l.hulls
