@@ -1,0 +1,292 @@
+//! `ecat list`: what is told of each packet of a capture.
+ghost use Rattle.std.specs.Prelude.{◌<◌, length};
+
+use super::line::{CSV_HEAD, Head, Note, Since, Style, any_frame, put_datagrams, put_note};
+use super::output::{Output, Stop};
+use super::stats::{Key, Passed, Stats};
+use super::tally::Came;
+use ec_wire::{Form as Carrier, FrameBuf};
+use ecat_capture::{
+    Capture, CaptureFault, CaptureFaultKind, Packet, Payload, Time, frame_type, payload_of,
+};
+use ecat_list::{Asked, Form, Listed};
+use ecat_source::Source;
+use std::alloc::Global;
+use std::io::Write;
+
+/// After how many packets it is told how many were read.
+const PROGRESS_STEP: u64 = 100_000;
+
+/// Lists the capture that the source has ahead: the texts go to `out`, and where progress is asked for to
+/// `err` how many packets were read. A write to `err` that fails is passed over.
+pub(crate) fn list<S: Source + Drop, W: Write, V: Write>(
+    alloc: Global,
+    source: S,
+    asked: Asked,
+    out: &mut W,
+    err: &mut V,
+) -> Listed {
+    let mut capture = Capture::new(alloc, source);
+    let mut listing = match Listing::new(alloc, asked, out) {
+        Ok(listing) => listing,
+        Err(stop) => return listed_of(stop),
+    };
+    let read = listing.read_all(&mut capture, err);
+    match listing.finish() {
+        Ok(()) => read,
+        Err(stop) => match read {
+            Listed::Closed | Listed::OutputFailed | Listed::NoMemory => read,
+            Listed::Whole | Listed::Damaged(_) | Listed::SourceFailed => listed_of(stop),
+        },
+    }
+}
+
+/// How a listing ended that was stopped.
+fn listed_of(stop: Stop) -> Listed {
+    match stop {
+        Stop::Closed => Listed::Closed,
+        Stop::OutputFailed => Listed::OutputFailed,
+        Stop::NoMemory => Listed::NoMemory,
+    }
+}
+
+/// How a listing ended whose capture has a fault.
+fn listed_by(fault: CaptureFault) -> Listed {
+    match fault.kind {
+        CaptureFaultKind::Read => Listed::SourceFailed,
+        CaptureFaultKind::NoMemory => Listed::NoMemory,
+        CaptureFaultKind::Short
+        | CaptureFaultKind::NotCapture
+        | CaptureFaultKind::Version
+        | CaptureFaultKind::LinkType
+        | CaptureFaultKind::TooLong
+        | CaptureFaultKind::ByteOrder
+        | CaptureFaultKind::BlockLength
+        | CaptureFaultKind::Overrun
+        | CaptureFaultKind::Interface
+        | CaptureFaultKind::TooManyInterfaces
+        | CaptureFaultKind::TimeResolution
+        | CaptureFaultKind::NoPacket
+        | CaptureFaultKind::Failed => Listed::Damaged(fault),
+    }
+}
+
+/// A listing under way.
+#[derive(Drop)]
+struct Listing<'a, W> {
+    asked: Asked,
+    output: Output<'a, W>,
+    frame: FrameBuf,
+    stats: Option<Stats>,
+    first: Option<u64>,
+}
+
+impl<'a, W: Write> Listing<'a, W> {
+    /// A listing of nothing yet, but for the names of the columns.
+    fn new(alloc: Global, asked: Asked, out: &'a mut W) -> Result<Listing<'a, W>, Stop> {
+        let mut output = Output::new(alloc, out, asked.live);
+        if asked.form == Form::Csv {
+            output.text.extend_from_slice(CSV_HEAD)?;
+        }
+        let stats = if asked.form == Form::Stats {
+            Some(Stats::new(alloc))
+        } else {
+            None
+        };
+        Ok(Listing {
+            asked,
+            output,
+            frame: any_frame(),
+            stats,
+            first: None,
+        })
+    }
+
+    /// Takes all packets of a capture.
+    fn read_all<S: Source, V: Write>(&mut self, capture: &mut Capture<S>, err: &mut V) -> Listed {
+        for _ in 0..u64::MAX {
+            match capture.next() {
+                Ok(Some(packet)) => match self.take(&packet, capture.bytes()) {
+                    Ok(()) => self.tell_progress(packet.number, err),
+                    Err(stop) => return listed_of(stop),
+                },
+                Ok(None) => break,
+                Err(fault) => return listed_by(fault),
+            }
+        }
+        Listed::Whole
+    }
+
+    /// Tells now and then how many packets were read.
+    fn tell_progress<V: Write>(&self, packets: u64, err: &mut V) {
+        if self.asked.progress && packets % PROGRESS_STEP == 0 {
+            let mut digits = itoa::Buffer::new();
+            let _ = err.write_all(digits.format(packets).as_bytes());
+            let _ = err.write_all(b" packets\r");
+            let _ = err.flush();
+        }
+    }
+
+    /// Takes a packet.
+    fn take(&mut self, packet: &Packet, bytes: &[u8]) -> Result<(), Stop> {
+        let head = self.head_of(packet, bytes);
+        match payload_of(bytes) {
+            Payload::Ethernet { from, to } => {
+                self.frame(&head, packet, &bytes[from..to], Carrier::Ethernet)?
+            }
+            Payload::Udp { from, to } => {
+                self.frame(&head, packet, &bytes[from..to], Carrier::Udp)?
+            }
+            Payload::Fragment => self.note(&head, Note::Fragment)?,
+            Payload::Short => self.note(&head, Note::Short)?,
+            Payload::BadLength => self.note(&head, Note::BadLength)?,
+            Payload::Other => return Ok(()),
+        }
+        self.output.settle()
+    }
+
+    /// What the lines of a packet begin with.
+    fn head_of(&mut self, packet: &Packet, bytes: &[u8]) -> Head {
+        let since = match packet.time {
+            Some(time) => Some(self.since_first(time)),
+            None => None,
+        };
+        Head {
+            number: packet.number,
+            since,
+            source: source_of(bytes),
+        }
+    }
+
+    /// The time since the first packet that has one.
+    fn since_first(&mut self, time: Time) -> Since {
+        let now = nanoseconds_of(time);
+        let first = match self.first {
+            Some(first) => first,
+            None => now,
+        };
+        self.first = Some(first);
+        Since {
+            before: now < first,
+            nanoseconds: now.max(first) - now.min(first),
+            fine: time.fine,
+        }
+    }
+
+    /// Takes a packet's payload.
+    fn frame(
+        &mut self,
+        head: &Head,
+        packet: &Packet,
+        payload: &[u8],
+        carrier: Carrier,
+    ) -> Result<(), Stop> {
+        if let Some(number) = other_type(payload) {
+            return self.note(head, Note::Type(number));
+        }
+        match self.frame.refill(payload, carrier) {
+            Ok(()) => self.datagrams(head, packet),
+            Err(fault) => self.note(head, Note::Fault(fault)),
+        }
+    }
+
+    /// Takes the datagrams of the frame that was read.
+    fn datagrams(&mut self, head: &Head, packet: &Packet) -> Result<(), Stop> {
+        match self.asked.form {
+            Form::Lines => self.datagram_lines(Style::Words, head),
+            Form::Csv => self.datagram_lines(Style::Csv, head),
+            Form::Faults => Ok(()),
+            Form::Stats => self.count_datagrams(packet),
+        }
+    }
+
+    /// Puts a line for each datagram.
+    fn datagram_lines(&mut self, style: Style, head: &Head) -> Result<(), Stop> {
+        put_datagrams(&mut self.output.text, style, head, &self.frame)?;
+        Ok(())
+    }
+
+    /// Counts each datagram.
+    fn count_datagrams(&mut self, packet: &Packet) -> Result<(), Stop> {
+        let Some(stats) = &mut self.stats else {
+            return Ok(());
+        };
+        for k in 0..self.frame.count() {
+            stats.take(&passed_of(&self.frame, k, packet))?;
+        }
+        Ok(())
+    }
+
+    /// Takes a packet that has no datagrams to show.
+    fn note(&mut self, head: &Head, note: Note) -> Result<(), Stop> {
+        match self.asked.form {
+            Form::Lines => put_note(&mut self.output.text, Style::Words, head, note)?,
+            Form::Csv => put_note(&mut self.output.text, Style::Csv, head, note)?,
+            Form::Faults => {
+                if note.is_fault() {
+                    put_note(&mut self.output.text, Style::Words, head, note)?;
+                }
+            }
+            Form::Stats => {}
+        }
+        Ok(())
+    }
+
+    /// Writes what is left to write.
+    fn finish(&mut self) -> Result<(), Stop> {
+        if let Some(stats) = &self.stats {
+            for place in 0..stats.count() {
+                stats.put(&mut self.output.text, place)?;
+                self.output.settle()?;
+            }
+            stats.put_left_out(&mut self.output.text)?;
+        }
+        self.output.flush()
+    }
+}
+
+/// The type of a frame that is told by it alone: 4 has network variables, 5 is of the mailbox gateway.
+fn other_type(payload: &[u8]) -> Option<u8> {
+    match frame_type(payload) {
+        Some(number) if number == 4 || number == 5 => Some(number),
+        Some(_) | None => None,
+    }
+}
+
+/// The source address of a packet, if it was captured.
+fn source_of(bytes: &[u8]) -> Option<[u8; 6]> {
+    if bytes.len() < 12 {
+        return None;
+    }
+    Some([bytes[6], bytes[7], bytes[8], bytes[9], bytes[10], bytes[11]])
+}
+
+/// A time in nanoseconds since the epoch, at most the greatest number.
+fn nanoseconds_of(time: Time) -> u64 {
+    time.seconds
+        .saturating_mul(1_000_000_000)
+        .saturating_add(time.nanoseconds)
+}
+
+/// What is counted of datagram `k` of a frame.
+fn passed_of(frame: &FrameBuf, k: usize, packet: &Packet) -> Passed
+    requires { k < length frame.now }
+{
+    let time = packet.time;
+    let command = frame.command(k);
+    Passed {
+        key: Key {
+            code: command.code(),
+            address: frame.address(k),
+            length: frame.data(k).len() as u16,
+            index: frame.index(k),
+        },
+        command,
+        came: Came {
+            counter: frame.counter(k),
+            packet: packet.number,
+        },
+        time: time.map(nanoseconds_of),
+        fine: time.is_some_and(|time| time.fine),
+    }
+}
