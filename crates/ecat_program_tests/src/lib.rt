@@ -10,9 +10,15 @@ mod args;
 #[cfg(test)]
 mod asserts;
 #[cfg(test)]
+mod chance;
+#[cfg(test)]
+mod first;
+#[cfg(test)]
 mod line;
 #[cfg(test)]
 mod rows;
+#[cfg(test)]
+mod scenes;
 #[cfg(test)]
 mod service;
 #[cfg(test)]

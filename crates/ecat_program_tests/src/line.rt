@@ -1,5 +1,7 @@
 //! Lines as their scenes describe them. A test accepts want of memory as an answer.
 
+mod records;
+
 use ec_check::Mapped;
 use ec_ring::{Ring, Travel, Weather};
 use ec_wire::Kind;
@@ -60,6 +62,14 @@ const ROWS: [Row; 6] = [
         }),
     },
 ];
+
+/// Did memory run out?
+fn is_want_of_memory(failure: &LineFailure) -> bool {
+    matches!(
+        failure,
+        LineFailure::NoMemory | LineFailure::Scene(SceneFault::NoMemory)
+    )
+}
 
 /// Is this what was wanted, or want of memory?
 fn is_read_so(done: &Result<Scene, LineFailure>, wanted: Read) -> bool {

@@ -1,6 +1,7 @@
 //! What the commands print and answer, over scenes in place. A test accepts want of memory as an answer, so
 //! that each allocation can be made to fail in turn.
 
+mod alike;
 mod cables;
 mod checking;
 mod covers;
