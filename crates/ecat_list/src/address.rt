@@ -2,7 +2,7 @@
 ghost use Rattle.std.specs.Prelude.{◌≡◌, ◌≤◌, ◌+◌};
 
 use crate::row::Row;
-use crate::text::four_digits;
+use crate::text::{four_digits, put_row};
 use ec_wire::{Command, ado_of, adp_of};
 use std::alloc::AllocError;
 
@@ -38,7 +38,7 @@ pub(crate) fn put_address(
 ) -> Result<(), AllocError> {
     row.clear();
     lead_address(row, command, address);
-    text.extend_from_slice(row.as_slice())
+    put_row(text, row)
 }
 
 /// Puts a datagram's address in front of a row.

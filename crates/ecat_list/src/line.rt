@@ -5,7 +5,7 @@ ghost use Rattle.ecat_list.specs.Shown.{kind_words};
 
 use crate::address::lead_address;
 use crate::row::Row;
-use crate::text::{digit_of, put_byte, put_decimal};
+use crate::text::{digit_of, put_byte, put_decimal, put_row};
 use arrayvec::ArrayVec;
 use ec_wire::{Command, Datagram, FaultKind, FrameBuf, WireFault};
 use std::alloc::AllocError;
@@ -174,7 +174,7 @@ pub(crate) fn put_datagrams(
     lead_head(first, style, head);
     for k in 0..frame.count() {
         lead_line(row, style, first, frame, k);
-        text.extend_from_slice(row.as_slice())?;
+        put_row(text, row)?;
     }
     Ok(())
 }
@@ -243,7 +243,7 @@ pub(crate) fn put_note(
     note: Note,
 ) -> Result<(), AllocError> {
     lead_head(row, style, head);
-    text.extend_from_slice(row.as_slice())?;
+    put_row(text, row)?;
     put_nothing(text, style)?;
     put_byte(text, style.separator())?;
     put_words(text, note)?;

@@ -1,5 +1,5 @@
 //! Numbers as text, put at the end of a text.
-ghost use Rattle.std.specs.Prelude.{◌≡◌, ◌<◌, ◌≤◌, ◌*◌, ◌++◌, ◌∷◌, [], OnOk, decimal, length};
+ghost use Rattle.std.specs.Prelude.{◌≡◌, ◌<◌, ◌≤◌, ◌*◌, ◌++◌, ◌∷◌, [], OnOk, decimal, drop, length};
 ghost use Rattle.ecat_list.specs.Digits.{digit, eight_digits, four_digits};
 
 use crate::row::Row;
@@ -17,6 +17,26 @@ pub(crate) fn put_byte(text: &mut Vec<u8>, byte: u8) -> Result<(), AllocError>
     ensures { OnOk result (text.new.items ≡ text.old.items ++ byte ∷ []) }
 {
     text.extend_from_slice(&[byte])
+}
+
+/// Puts a row. Where memory for it runs out, as much of it is put as there is room for: what a listing told
+/// until then goes out with it.
+pub(crate) fn put_row(text: &mut Vec<u8>, row: &Row) -> Result<(), AllocError>
+    ensures { OnOk result (text.new.items ≡ text.old.items ++ drop row.now.from row.now.bytes) }
+{
+    match text.extend_from_slice(row.as_slice()) {
+        Ok(()) => Ok(()),
+        Err(fault) => {
+            put_what_fits(text, row.as_slice());
+            Err(fault)
+        }
+    }
+}
+
+/// Puts as many bytes as there is room for without more memory.
+fn put_what_fits(text: &mut Vec<u8>, bytes: &[u8]) {
+    let room = text.capacity().saturating_sub(text.len());
+    let _ = text.extend_from_slice(&bytes[..room.min(bytes.len())]);
 }
 
 /// Puts the decimal digits of a number.
@@ -104,5 +124,5 @@ pub(crate) fn put_seconds(
 ) -> Result<(), AllocError> {
     row.clear();
     row.lead_seconds(nanoseconds, fine);
-    text.extend_from_slice(row.as_slice())
+    put_row(text, row)
 }
