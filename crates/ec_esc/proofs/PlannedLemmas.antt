@@ -1,11 +1,11 @@
 -- Records that are kept decoded: which of them stay when bytes of a memory change.
 use Rattle.std.proofs.Common.{◌≡◌, ℕ, ◌+◌, ◌*◌, ◌/◌, ◌%◌, ◌<◌, ◌≤◌, false, ◌&&◌, ltb, List, []}
-use Rattle.std.proofs.Common.{◌∷◌, length}
+use Rattle.std.proofs.Common.{◌∷◌, length, Bool, Option, ◌⊎◌, inl, inr}
 use Rattle.std.proofs.Common.{get_or, set, take, drop, sym, ◌∙◌, ap, refl, arith, ⊎_elim, below_more}
 use Rattle.std.proofs.Common.{get_or-set_same, get_or-set_other}
 use Rattle.std.proofs.Math.Bool.{and-false}
 use Rattle.std.proofs.lemmas.Bool.{and_cases, le-ltb, ltb-false}
-use Rattle.std.proofs.lemmas.List.{ext_get_or, length-take-le, length-drop}
+use Rattle.std.proofs.lemmas.List.{ext_get_or, length-take-le, length-drop, take_all}
 use Rattle.std.specs.Option.{is_some}
 use Rattle.ec_regs.specs.declared.registers.TheConstants.{FMMU_COUNT, SYNC_MANAGER_COUNT}
 use Rattle.ec_regs.specs.Al.{state_of, status_byte}
@@ -18,15 +18,16 @@ use Rattle.ec_regs.specs.declared.registers.TheConstants.{AL_STATUS, MEMORY_SIZE
 use Rattle.ec_regs.specs.declared.sync_man.SyncMan.{SyncMan}
 use Rattle.ec_regs.proofs.Laws.{length-with_bits, state_of-status_byte, get_or-run}
 use Rattle.ec_regs.proofs.Laws.{get_or-with_bits_kept}
-use Rattle.ec_areas.specs.declared.extent.Extent.{Extent}
 use Rattle.ec_areas.specs.Extent.{mapped_count}
-use Rattle.ec_areas.specs.Logical.{write_map}
+use Rattle.ec_areas.specs.Logical.{names, read_map, reads_some, write_map, writes_some}
 use Rattle.ec_areas.specs.Ranges.{takes_writes}
 use Rattle.ec_areas.specs.Records.{fmmu_at, fmmus_of, sync_manager_at, sync_managers_of}
 use Rattle.ec_areas.specs.Records.{SameRegisters}
 use Rattle.ec_areas.proofs.Laws.{get_or-sync_managers_of, write_map_register, get_or-fmmus_of}
-use Rattle.ec_areas.proofs.Laws.{length-fmmus_of, length-sync_managers_of, mapped_count-le}
-use Rattle.ec_esc.specs.Planned.{ChangesWithin, IsPlanned}
+use Rattle.ec_areas.proofs.Laws.{length-fmmus_of, length-sync_managers_of}
+use Rattle.ec_areas.proofs.Laws.{read_map_mapped, reads_some_mapped, write_map_mapped, writes_some_mapped}
+use Rattle.ec_areas.proofs.Laws.{written_byte_mapped}
+use Rattle.ec_esc.specs.Planned.{AreUsed, ChangesWithin}
 use Rattle.ec_esc.specs.State.{NamesState, with_run}
 use Rattle.ec_esc.proofs.ApplicationLemmas.{length-with_run, get_or-with_run_before, get_or-with_run_behind}
 use Rattle.ec_esc.proofs.ApplicationLemmas.{get_or-with_run_inside}
@@ -219,20 +220,64 @@ run_changes memory after bytes address inside after_is =
       behind = λ a reaches. get_or-with_run_behind memory bytes address a reaches inside;
     }
 
--- ---- FMMUs up to the last that maps a bit
+-- ---- FMMUs that need be looked at
 
--- there are no more than eight
-pub used_fmmus_fit : (memory : List ℕ) (fmmus : List Fmmu) (extent : Extent) (managers : List SyncMan)
-    → IsPlanned memory fmmus extent managers → extent.count ≤ 8
-used_fmmus_fit memory fmmus extent managers is =
-    let count : extent.count ≡ mapped_count fmmus = ap (λ (e : Extent). e.count) is.extent_is in
-    let all : length fmmus ≡ 8 = ap length is.fmmus_are ∙ length-fmmus_of memory in
-    omega (arith, count, all, mapped_count-le fmmus)
+-- a bit is read from the same place through them
+pub read_by_used : (managers : List SyncMan) (fmmus few : List Fmmu) → AreUsed fmmus few → (l : ℕ)
+    → read_map managers few l ≡ read_map managers fmmus l
+read_by_used managers fmmus few used l =
+    let by : List Fmmu → Option ℕ = λ fs. read_map managers fs l in
+    ⊎_elim
+    (λ (front : few ≡ take (mapped_count fmmus) fmmus). ap by front ∙ read_map_mapped managers fmmus l)
+    (λ (all : few ≡ fmmus). ap by all) used
 
--- they are those of the memory
-pub used_fmmus_are : (memory : List ℕ) (fmmus : List Fmmu) (extent : Extent) (managers : List SyncMan)
-    → IsPlanned memory fmmus extent managers
-    → take extent.count fmmus ≡ take (mapped_count (fmmus_of memory)) (fmmus_of memory)
-used_fmmus_are memory fmmus extent managers is =
-    ap (λ (e : Extent). take e.count fmmus) is.extent_is
-    ∙ ap (λ (fs : List Fmmu). take (mapped_count fs) fs) is.fmmus_are
+-- a physical bit takes the same
+pub written_by_used : (managers : List SyncMan) (fmmus few : List Fmmu) → AreUsed fmmus few → (from n p : ℕ)
+    → write_map managers few from n p ≡ write_map managers fmmus from n p
+written_by_used managers fmmus few used from n p =
+    let by : List Fmmu → Option ℕ = λ fs. write_map managers fs from n p in
+    ⊎_elim
+    (λ (front : few ≡ take (mapped_count fmmus) fmmus). ap by front ∙ write_map_mapped managers fmmus from n p)
+    (λ (all : few ≡ fmmus). ap by all) used
+
+-- a read is served alike
+pub reads_some_by_used : (managers : List SyncMan) (fmmus few : List Fmmu) → AreUsed fmmus few
+    → (from n : ℕ) → reads_some managers few from n ≡ reads_some managers fmmus from n
+reads_some_by_used managers fmmus few used from n =
+    let by : List Fmmu → Bool = λ fs. reads_some managers fs from n in
+    ⊎_elim
+    (λ (front : few ≡ take (mapped_count fmmus) fmmus). ap by front ∙ reads_some_mapped managers fmmus from n)
+    (λ (all : few ≡ fmmus). ap by all) used
+
+-- and a write
+pub writes_some_by_used : (managers : List SyncMan) (fmmus few : List Fmmu) → AreUsed fmmus few
+    → (from n : ℕ) → writes_some managers few from n ≡ writes_some managers fmmus from n
+writes_some_by_used managers fmmus few used from n =
+    let by : List Fmmu → Bool = λ fs. writes_some managers fs from n in
+    ⊎_elim
+    (λ (front : few ≡ take (mapped_count fmmus) fmmus). ap by front ∙ writes_some_mapped managers fmmus from n)
+    (λ (all : few ≡ fmmus). ap by all) used
+
+-- and a byte is written alike
+pub written_byte_by_used : (managers : List SyncMan) (fmmus few : List Fmmu) → AreUsed fmmus few
+    → (from n byte : ℕ)
+    → names (λ b. write_map managers few from n (8 * byte + b)) 8
+    ≡ names (λ b. write_map managers fmmus from n (8 * byte + b)) 8
+written_byte_by_used managers fmmus few used from n byte =
+    let by : List Fmmu → Bool = λ fs. names (λ b. write_map managers fs from n (8 * byte + b)) 8 in
+    ⊎_elim
+    (λ (front : few ≡ take (mapped_count fmmus) fmmus).
+    ap by front ∙ written_byte_mapped managers fmmus from n byte)
+    (λ (all : few ≡ fmmus). ap by all) used
+
+-- as many as map, or eight, of a memory's FMMUs are those
+pub first_are_used : (memory : List ℕ) (fmmus : List Fmmu) (count : ℕ) → fmmus ≡ fmmus_of memory
+    → ((count ≡ mapped_count (fmmus_of memory)) ⊎ (count ≡ 8)) → AreUsed (fmmus_of memory) (take count fmmus)
+first_are_used memory fmmus count are counts =
+    ⊎_elim
+    (λ (some : count ≡ mapped_count (fmmus_of memory)).
+    inl (ap (λ (n : ℕ). take n fmmus) some ∙ ap (take (mapped_count (fmmus_of memory))) are))
+    (λ (eight : count ≡ 8).
+    inr (ap (λ (n : ℕ). take n fmmus) eight ∙ ap (take 8) are
+    ∙ take_all 8 (fmmus_of memory) (omega (arith, length-fmmus_of memory))))
+    counts

@@ -1,14 +1,16 @@
 //! A controller's memory with the records in it decoded (IEC 61158-4-12, register layout). Each datagram asks
 //! for FMMUs and sync managers, so a record is decoded once: when a byte of it changes. What the FMMUs reach
-//! all together is found then too. AL status is written as a status alone, so it always names a state.
+//! all together is found when the next frame comes. AL status is written as a status alone, so it always
+//! names a state.
 
 ghost use Rattle.std.specs.Prelude.{◌≡◌, ◌≢◌, ◌==◌, ◌+◌, ◌*◌, ◌%◌, ◌<◌, ◌≤◌, ◌&&◌, nat_lt, ℕ, List, [], ◌∷◌};
-ghost use Rattle.std.specs.Prelude.{IfOk, IsTrue, Some, false, if◌then◌else◌, length, take};
+ghost use Rattle.std.specs.Prelude.{IfOk, IsTrue, Some, true, false, ◌⊎◌, if◌then◌else◌, length};
 ghost use Rattle.std.specs.Prelude.{slice_index, slice_set};
 ghost use Rattle.ec_regs.specs.Al.{state_of, status_byte, status_of};
 ghost use Rattle.ec_regs.specs.Bits.{AreBytes, with_bits};
 ghost use Rattle.ec_regs.specs.declared.registers.TheConstants.{AL_STATUS, MEMORY_SIZE};
-ghost use Rattle.ec_regs.specs.declared.registers.TheConstants.{PROCESS_MEMORY, SYNC_MANAGER_COUNT};
+ghost use Rattle.ec_regs.specs.declared.registers.TheConstants.{PROCESS_MEMORY};
+ghost use Rattle.ec_regs.specs.declared.registers.TheConstants.{FMMU_COUNT, SYNC_MANAGER_COUNT};
 ghost use Rattle.ec_regs.specs.SyncMan.{guards_outputs};
 ghost use Rattle.ec_areas.specs.Apart.{are_apart};
 ghost use Rattle.ec_areas.specs.Extent.{extent_of, mapped_count};
@@ -16,14 +18,14 @@ ghost use Rattle.ec_areas.specs.Logical.{read_places, reads_some, writes_some};
 ghost use Rattle.ec_areas.specs.Logical.{write_map, target_places, names};
 ghost use Rattle.ec_areas.specs.Records.{fmmus_of, sync_manager_at, sync_managers_of};
 ghost use Rattle.ec_areas.specs.Showing.{last_byte};
-ghost use Rattle.ec_esc.specs.Planned.{ChangesWithin};
+ghost use Rattle.ec_esc.specs.Planned.{AreUsed, ChangesWithin};
 ghost use Rattle.ec_esc.specs.State.{with_run};
 ghost use Rattle.ec_esc.specs.Writing.{reaches_byte};
 
 use crate::process::are_bytes;
 use ec_areas::{
-    Extent, extent_of, fmmu_at, fmmus_of, read_mapped, sync_manager_at, sync_managers_of,
-    write_mapped, writes_outputs,
+    Extent, are_apart, extent_of, fmmu_at, fmmus_of, read_mapped, sync_manager_at,
+    sync_managers_of, write_mapped, writes_outputs,
 };
 use ec_regs::registers::{
     AL_STATUS, FMMU_BASE, FMMU_COUNT, FMMU_SIZE, SYNC_MANAGER_BASE, SYNC_MANAGER_COUNT,
@@ -43,6 +45,8 @@ pub(crate) struct PlannedMemory {
     fmmus: Fmmus,
     managers: SyncManagers,
     extent: Extent,
+    /// Is the extent that of the FMMUs? It may not be once a byte of a record was written.
+    is_surveyed: bool,
 }
 
 impl Model for PlannedMemory {
@@ -53,7 +57,7 @@ impl Model for PlannedMemory {
 
     ghost view = { λ m. m.memory };
 
-    ghost invariant = { λ m. IsPlanned m.memory m.fmmus m.extent m.managers };
+    ghost invariant = { λ m. IsPlanned m.memory m.fmmus m.extent m.is_surveyed m.managers };
 }
 
 /// The records of all FMMUs.
@@ -91,23 +95,24 @@ fn sync_manager_record(number: usize) -> AddressRange
     }
 }
 
-/// Decodes each FMMU of whose record a byte lies in the range that was written; the others stay. What they
-/// reach all together is found anew where there is such a byte.
-fn renew_fmmus(fmmus: &mut Fmmus, extent: &mut Extent, memory: &[u8], written: AddressRange)
+/// Decodes each FMMU of whose record a byte lies in the range that was written; the others stay. Where there
+/// is such a byte, what they reach all together is no longer known.
+fn renew_fmmus(fmmus: &mut Fmmus, is_surveyed: &mut bool, memory: &[u8], written: AddressRange)
     requires { length memory.now ≡ MEMORY_SIZE }
     ensures fmmus { (before : List ℕ) → fmmus.old ≡ fmmus_of before
         → ChangesWithin written.first written.count before memory.now → fmmus.new ≡ fmmus_of memory.now }
-    ensures extent { extent.old ≡ extent_of fmmus.old → extent.new ≡ extent_of fmmus.new }
+    ensures surveyed { IsTrue is_surveyed.new
+        → (is_surveyed.old ≡ true) × (fmmus.new ≡ fmmus.old) }
 {
     if !FMMU_RECORDS.meets(&written) {
         return;
     }
+    *is_surveyed = false;
     for number in 0..FMMU_COUNT {
         if fmmu_record(number).meets(&written) {
             fmmus[number] = PlannedFmmu::new(fmmu_at(memory, number));
         }
     }
-    *extent = extent_of(fmmus);
 }
 
 /// Decodes each sync manager of whose record a byte lies in the range that was written; the others stay.
@@ -145,6 +150,7 @@ impl PlannedMemory {
             fmmus,
             managers,
             extent,
+            is_surveyed: true,
         })
     }
 
@@ -177,14 +183,45 @@ impl PlannedMemory {
         ensures { IsTrue result → writes_some (sync_managers_of self.now) (fmmus_of self.now)
             (8 * address) (8 * count) ≡ false }
     {
-        self.extent.writes.misses(address, count)
+        self.is_surveyed && self.extent.writes.misses(address, count)
     }
 
-    /// The FMMUs up to the last that maps a bit.
-    fn used_fmmus(&self) -> &[PlannedFmmu]
-        ensures { result.now ≡ take (mapped_count (fmmus_of self.now)) (fmmus_of self.now) }
+    /// Does the master read through no FMMU any bit of the `count` bytes from the logical byte `address` on?
+    fn reads_elsewhere(&self, address: u32, count: usize) -> bool
+        ensures { IsTrue result → reads_some (sync_managers_of self.now) (fmmus_of self.now)
+            (8 * address) (8 * count) ≡ false }
     {
-        &self.fmmus[..self.extent.count]
+        self.is_surveyed && self.extent.reads.misses(address, count)
+    }
+
+    /// Finds what the FMMUs reach all together, where a record was written since it was found last.
+    pub(crate) fn survey(&mut self)
+        ensures { self.new ≡ self.old }
+    {
+        if !self.is_surveyed {
+            self.extent = extent_of(&self.fmmus);
+            self.is_surveyed = true;
+        }
+    }
+
+    /// How many FMMUs need be looked at: those up to the last that maps a bit, or all.
+    fn used_count(&self) -> usize
+        ensures count { (result ≡ mapped_count (fmmus_of self.now)) ⊎ (result ≡ FMMU_COUNT) }
+        ensures limit { result ≤ FMMU_COUNT }
+    {
+        if self.is_surveyed {
+            self.extent.count
+        } else {
+            FMMU_COUNT
+        }
+    }
+
+    /// The FMMUs that need be looked at.
+    fn used_fmmus(&self) -> &[PlannedFmmu]
+        ensures { AreUsed (fmmus_of self.now) result.now }
+    {
+        let count = self.used_count();
+        &self.fmmus[..count]
     }
 
     /// Does the sync manager with a number guard outputs, and does a write of `count` bytes at the logical
@@ -211,7 +248,11 @@ impl PlannedMemory {
     pub(crate) fn is_apart(&self) -> bool
         ensures { result ≡ are_apart (fmmus_of self.now) }
     {
-        self.extent.is_apart
+        if self.is_surveyed {
+            self.extent.is_apart
+        } else {
+            are_apart(&self.fmmus)
+        }
     }
 
     /// All sync managers, by number.
@@ -251,7 +292,7 @@ impl PlannedMemory {
             count: 1,
         };
         let bytes = self.memory.bytes();
-        renew_fmmus(&mut self.fmmus, &mut self.extent, bytes, written);
+        renew_fmmus(&mut self.fmmus, &mut self.is_surveyed, bytes, written);
         renew_managers(&mut self.managers, bytes, written);
     }
 
@@ -268,7 +309,7 @@ impl PlannedMemory {
             count: bytes.len() as u16,
         };
         let bytes = self.memory.bytes();
-        renew_fmmus(&mut self.fmmus, &mut self.extent, bytes, written);
+        renew_fmmus(&mut self.fmmus, &mut self.is_surveyed, bytes, written);
         renew_managers(&mut self.managers, bytes, written);
     }
 
@@ -281,7 +322,7 @@ impl PlannedMemory {
             (sync_managers_of self.now) (fmmus_of self.now) (8 * address) (8 * length into.old) }
     {
         are_bytes(into);
-        if self.extent.reads.misses(address, into.len()) {
+        if self.reads_elsewhere(address, into.len()) {
             return false;
         }
         let memory = self.memory.bytes();
@@ -299,7 +340,8 @@ impl PlannedMemory {
             (sync_managers_of self.old) (fmmus_of self.old) (8 * address)) (8 * length payload.now) }
         ensures size { length self.new ≡ MEMORY_SIZE }
     {
-        let fmmus = &self.fmmus[..self.extent.count];
+        let count = self.used_count();
+        let fmmus = &self.fmmus[..count];
         write_mapped(&self.managers, fmmus, &mut self.memory, address, payload)
     }
 }

@@ -26,6 +26,22 @@ impl Controller {
         ensures frame { frame.new ≡ (frame_pass self.old frame.old).frame }
         ensures state { self.new ≡ (frame_pass self.old frame.old).state }
     {
+        self.survey();
+        self.pass_each(frame);
+    }
+
+    /// Has ready what the FMMUs reach all together, by which most datagrams are seen to go elsewhere.
+    fn survey(&mut self)
+        ensures { self.new ≡ self.old }
+    {
+        self.memory.survey();
+    }
+
+    /// The pass of each datagram of a frame, from left to right.
+    fn pass_each(&mut self, frame: &mut FrameBuf)
+        ensures frame { frame.new ≡ (frame_pass self.old frame.old).frame }
+        ensures state { self.new ≡ (frame_pass self.old frame.old).state }
+    {
         for k in 0..frame.count() {
             self.pass_datagram(frame, k);
         }

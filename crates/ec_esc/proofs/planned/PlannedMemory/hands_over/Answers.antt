@@ -6,7 +6,8 @@ use Rattle.ec_regs.specs.SyncMan.{guards_outputs, is_active, is_buffered, master
 use Rattle.ec_areas.specs.Logical.{names, write_map}
 use Rattle.ec_areas.specs.Records.{fmmus_of, sync_manager_at, sync_managers_of}
 use Rattle.ec_areas.specs.Showing.{last_byte}
-use Rattle.ec_areas.proofs.Laws.{active_place, get_or-sync_managers_of, written_byte_mapped}
+use Rattle.ec_areas.proofs.Laws.{active_place, get_or-sync_managers_of}
+use Rattle.ec_esc.proofs.PlannedLemmas.{written_byte_by_used}
 use Rattle.ec_esc.proofs.planned.PlannedMemory.hands_over.Goals as goal
 
 -- the record that is looked at stands in the memory
@@ -33,8 +34,8 @@ returns-clause-value c =
     c.writes_outputs.ensures
     ∙ ap (λ (ms : List SyncMan). said ms c.used_fmmus.result.now area)
     (c.self.invariant.managers_are ∙ ap sync_managers_of c.self.view_is)
-    ∙ ap (λ (fs : List Fmmu). said managers fs area) c.used_fmmus.ensures
-    ∙ ap (λ (b : Bool). guards_outputs area && b) (written_byte_mapped managers fmmus from n (last_byte area))
+    ∙ ap (λ (b : Bool). guards_outputs area && b)
+    (written_byte_by_used managers fmmus c.used_fmmus.result.now c.used_fmmus.ensures from n (last_byte area))
     ∙ ap (said managers fmmus) (area_is c)
 
 -- an area that is handed over is active

@@ -1,5 +1,6 @@
-use Rattle.std.proofs.Common.{◌≡◌, ℕ, List, length, get_or, ◌∙◌, ap, arith}
+use Rattle.std.proofs.Common.{◌≡◌, ℕ, List, length, get_or, sym, ◌∙◌, ap, arith}
 use Rattle.ec_regs.specs.declared.registers.TheConstants.{AL_STATUS}
+use Rattle.ec_areas.specs.Extent.{extent_of}
 use Rattle.ec_areas.specs.Records.{fmmus_of, sync_managers_of}
 use Rattle.ec_esc.specs.Planned.{ChangesWithin}
 use Rattle.ec_esc.proofs.ApplicationLemmas.{get_or-with_run_before}
@@ -18,7 +19,9 @@ invariant_of-self c =
       fmmus_are =
           c.renew_fmmus.ensures.fmmus memory c.self.invariant.fmmus_are changes
           ∙ ap fmmus_of c.bytes-bytes.ensures.value;
-      extent_is = c.renew_fmmus.ensures.extent c.self.invariant.extent_is;
+      extent_is = λ surveyed.
+          let same = c.renew_fmmus.ensures.surveyed surveyed in
+          c.self.invariant.extent_is same.0 ∙ ap extent_of (sym same.1);
       managers_are =
           c.renew_managers.ensures memory c.self.invariant.managers_are changes
           ∙ ap sync_managers_of c.bytes-bytes.ensures.value;

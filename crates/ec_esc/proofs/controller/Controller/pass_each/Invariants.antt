@@ -1,6 +1,6 @@
 use Rattle.std.proofs.Common.{◌≡◌, ◌++◌, take, drop}
 use Rattle.ec_esc.specs.Pass.{frame_pass}
-use Rattle.ec_esc.proofs.controller.Controller.process.Given as goal
+use Rattle.ec_esc.proofs.controller.Controller.pass_each.Given as goal
 
 -- the first k datagrams have passed, and the others are as they came
 abbrev pub invariant-loop-k : goal.invariant-loop-k

@@ -5,7 +5,7 @@ use Rattle.ec_esc.specs.State.{ControllerState}
 use Rattle.ec_esc.specs.Pass.{Passed, PassedFrame, pass, frame_pass}
 use Rattle.ec_esc.proofs.PassLemmas.{frame_pass_none, frame_pass_more, nth_waiting, set_waiting}
 use Rattle.ec_esc.proofs.PassLemmas.{waiting_length, frame_pass_all}
-use Rattle.ec_esc.proofs.controller.Controller.process.Goals as goal
+use Rattle.ec_esc.proofs.controller.Controller.pass_each.Goals as goal
 
 pub loop-k-init : goal.loop-k-init
 loop-k-init c =
