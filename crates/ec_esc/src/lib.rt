@@ -4,8 +4,8 @@
 //!
 //! A `Controller` is its memory, the bytes that its application is shown, and a mark that AL control was
 //! written. It keeps the FMMUs and sync managers of the memory decoded (`planned`), so that no datagram
-//! decodes them, and the hull of the bits that the FMMUs map, so that a datagram that reaches none of them
-//! costs little; and its AL status always names a state. One use, which `esc/door.rt` of
+//! decodes them, and what the FMMUs reach all together, found when a frame comes, so that a datagram that
+//! reaches none of them costs little; and its AL status always names a state. One use, which `esc/door.rt` of
 //! `ec_controller_tests` tries; `INPUTS` and `READ` of `esc.rt` are the records of an area of one byte and of
 //! an FMMU that maps it, and `sent` is an LRD of that byte:
 //!

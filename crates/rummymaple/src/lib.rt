@@ -38,9 +38,10 @@
 //!
 //! Each export answers by a struct of numbers, and its contract says of which end they are the numbers
 //! (`Join`, `Frame`, `Judge`, `Read`, `Cable`, `Turn`, `Mapping` and `Asked` of specs/). What an item is
-//! stands in `Items`, the controller of a slave's records in `ec_check` (`Records`), what a joined frame gives
-//! an item in `Answers`, the calls in their order in `Cycle`, and turns in `Turns`. A call needs less than
-//! 8 KB of stack: nothing that has the size of a frame is moved or made twice where it can stay in its place.
+//! stands in `Items`, the controller of a slave's records in `ec_check` (`Records`), what a joined frame
+//! gives an item in `Answers`, the calls in their order in `Cycle`, and turns in `Turns`. A call needs less
+//! than 8 KB of stack: nothing that has the size of a frame is moved or made twice where it can stay in its
+//! place.
 
 mod answered;
 mod asked;
