@@ -9,7 +9,7 @@ use ec_app::roles::{
 use ec_regs::SyncMan;
 use ec_regs::registers::{FMMU_COUNT, SYNC_MANAGER_COUNT};
 use ecat_scene::{
-    StartupObject, Stop, control_of, number, object_of, startup_of, sync_man_of, text_of, words_of,
+    StartupObject, Stop, control_of, number, object_of, put_words, startup_of, sync_man_of, text_of,
 };
 use std::alloc::{AllocError, Global};
 use std::fmt;
@@ -194,21 +194,22 @@ pub fn odd_lines(alloc: Global, text: &[u8]) -> Result<Vec<OddLine>, AllocError>
         slave: SlaveLines::new(alloc),
         found: Vec::new(alloc),
     };
+    let mut words = Vec::new(alloc);
     for line in text.split(|byte| *byte == b'\n') {
-        linter.take(line)?;
+        linter.take(line, &mut words)?;
     }
     linter.end_slave()?;
     Ok(linter.found)
 }
 
 impl Linter {
-    /// Looks at one line.
-    fn take(&mut self, line: &[u8]) -> Result<(), AllocError> {
+    /// Looks at one line, whose words take the place of those of the line before.
+    fn take<'a>(&mut self, line: &'a [u8], words: &mut Vec<&'a [u8]>) -> Result<(), AllocError> {
         self.line = self.line.saturating_add(1);
         if line.starts_with(b"#") {
             return Ok(());
         }
-        let words = words_of(self.alloc, line)?;
+        put_words(words, line)?;
         let [first, rest @ ..] = words.as_slice() else {
             return Ok(());
         };

@@ -47,4 +47,4 @@ pub use scene::{
     MAX_WEATHERS, Scene, SceneSlave, SceneWeather, Setting, StartupObject, SyncManSetting,
 };
 pub use slave_lines::{control_of, object_of, startup_of, sync_man_of};
-pub use words::{is_text, text_of, words_of};
+pub use words::{is_text, put_words, text_of, words_of};

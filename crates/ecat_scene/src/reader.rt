@@ -5,7 +5,7 @@ ghost use Rattle.ecat_scene.specs.declared.fault.SceneFault.TheVariants.{TooLong
 
 use crate::fault::{LineFault, SceneFault, Stop};
 use crate::scene::Scene;
-use crate::words::{test_text, text_of, words_of};
+use crate::words::{put_words, test_text, text_of};
 use ec_map::Kind;
 use std::alloc::Global;
 
@@ -62,9 +62,10 @@ impl Reader {
     pub(crate) fn read(mut self, text: &[u8]) -> Result<Scene, SceneFault>
         ensures { result ≢ Err TooLong }
     {
+        let mut words = Vec::new(self.alloc);
         for line in text.split(|byte| *byte == b'\n') {
             self.line = self.line.saturating_add(1);
-            match self.read_line(line) {
+            match self.read_line(line, &mut words) {
                 Ok(()) => {}
                 Err(stop) => return Err(fault_of(self.line, stop)),
             }
@@ -93,13 +94,13 @@ impl Reader {
             .map(|link| link.line)
     }
 
-    /// Reads one line.
-    fn read_line(&mut self, line: &[u8]) -> Result<(), Stop> {
+    /// Reads one line, whose words take the place of those of the line before.
+    fn read_line<'a>(&mut self, line: &'a [u8], words: &mut Vec<&'a [u8]>) -> Result<(), Stop> {
         test_text(line)?;
         if line.starts_with(b"#") {
             return Ok(());
         }
-        let words = words_of(self.alloc, line)?;
+        put_words(words, line)?;
         let [first, rest @ ..] = words.as_slice() else {
             return Ok(());
         };

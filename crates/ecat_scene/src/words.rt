@@ -1,8 +1,8 @@
 //! The lines and words of a scene.
 
-ghost use Rattle.std.specs.Prelude.{◌≡◌};
+ghost use Rattle.std.specs.Prelude.{◌≡◌, IfOk, OnOk, map};
 ghost use Rattle.std.specs.List.{list_all};
-ghost use Rattle.ecat_scene.specs.Text.{is_text, tested};
+ghost use Rattle.ecat_scene.specs.Text.{is_space, is_text, tested, words_in};
 
 use crate::fault::LineFault;
 use std::alloc::{AllocError, Global};
@@ -32,15 +32,34 @@ fn is_all_text(line: &[u8]) -> bool
     line.iter().all(|byte| is_text(*byte))
 }
 
+/// Is the byte a space, which separates words?
+fn is_space(byte: u8) -> bool
+    ensures { result ≡ is_space byte }
+{
+    byte == b' '
+}
+
 /// The words of a line, which spaces separate.
-pub fn words_of<'a>(alloc: Global, line: &'a [u8]) -> Result<Vec<&'a [u8]>, AllocError> {
+pub fn words_of<'a>(alloc: Global, line: &'a [u8]) -> Result<Vec<&'a [u8]>, AllocError>
+    ensures { IfOk result (λ words. map (λ word. word.now) words.items ≡ words_in line.now) }
+{
     let mut words = Vec::new(alloc);
-    for word in line.split(|byte| *byte == b' ') {
+    put_words(&mut words, line)?;
+    Ok(words)
+}
+
+/// Puts the words of a line in the place of those of another one, whose room they take: so not each line asks
+/// for memory.
+pub fn put_words<'a>(words: &mut Vec<&'a [u8]>, line: &'a [u8]) -> Result<(), AllocError>
+    ensures { OnOk result (map (λ word. word.now) words.new.items ≡ words_in line.now) }
+{
+    words.clear();
+    for word in line.split(|byte| is_space(*byte)) {
         if !word.is_empty() {
             words.push(word)?;
         }
     }
-    Ok(words)
+    Ok(())
 }
 
 /// A word as text, to be compared with the words of a scene; where it is no text an empty one, which none of
