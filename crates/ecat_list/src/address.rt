@@ -2,7 +2,7 @@
 ghost use Rattle.std.specs.Prelude.{◌≡◌, ◌≤◌, ◌+◌};
 
 use crate::row::Row;
-use crate::text::{four_digits, put_row};
+use crate::text::{four_digits, put_byte, put_decimal, put_hex};
 use ec_wire::{Command, ado_of, adp_of};
 use std::alloc::AllocError;
 
@@ -28,17 +28,43 @@ fn kind_of(command: Command) -> Kind {
 }
 
 /// Puts a datagram's address: `0x00010000` of a logical command, `-2:0x0130` by a place on the line, and
-/// `0x1001:0x0130` by a station's address; a broadcast has there how many slaves it has passed. It is written
-/// in a row, which loses what it had.
+/// `0x1001:0x0130` by a station's address; a broadcast has there how many slaves it has passed.
 pub(crate) fn put_address(
     text: &mut Vec<u8>,
-    row: &mut Row,
     command: Command,
     address: u32,
 ) -> Result<(), AllocError> {
-    row.clear();
-    lead_address(row, command, address);
-    put_row(text, row)
+    match kind_of(command) {
+        Kind::Logical => {
+            text.extend_from_slice(b"0x")?;
+            put_hex(text, &address.to_be_bytes())
+        }
+        Kind::Place => {
+            put_place(text, adp_of(address))?;
+            put_register(text, address)
+        }
+        Kind::Station => {
+            text.extend_from_slice(b"0x")?;
+            put_hex(text, &adp_of(address).to_be_bytes())?;
+            put_register(text, address)
+        }
+    }
+}
+
+/// Puts a place on the line, as a signed number.
+fn put_place(text: &mut Vec<u8>, adp: u16) -> Result<(), AllocError> {
+    if adp < 0x8000 {
+        put_decimal(text, u64::from(adp))
+    } else {
+        put_byte(text, b'-')?;
+        put_decimal(text, 0x1_0000 - u64::from(adp))
+    }
+}
+
+/// Puts a register's address behind a colon.
+fn put_register(text: &mut Vec<u8>, address: u32) -> Result<(), AllocError> {
+    text.extend_from_slice(b":0x")?;
+    put_hex(text, &ado_of(address).to_be_bytes())
 }
 
 /// Puts a datagram's address in front of a row.

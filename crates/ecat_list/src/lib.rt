@@ -27,6 +27,7 @@
 //! ends are tried by tests alone.
 
 mod address;
+mod columns;
 mod line;
 mod listing;
 mod output;

@@ -4,8 +4,9 @@ ghost use Rattle.ecat_list.specs.declared.row.TheConstants.{ROOM};
 ghost use Rattle.ecat_list.specs.Shown.{kind_words};
 
 use crate::address::lead_address;
+use crate::columns::{put_datagram, put_head, put_nothing};
 use crate::row::Row;
-use crate::text::{digit_of, put_byte, put_decimal, put_row};
+use crate::text::{digit_of, has_room, put_byte, put_decimal, put_row};
 use arrayvec::ArrayVec;
 use ec_wire::{Command, Datagram, FaultKind, FrameBuf, WireFault};
 use std::alloc::AllocError;
@@ -81,7 +82,7 @@ pub(crate) enum Style {
 
 impl Style {
     /// What stands between two columns.
-    fn separator(self) -> u8 {
+    pub(crate) fn separator(self) -> u8 {
         match self {
             Style::Words => b' ',
             Style::Csv => b',',
@@ -153,16 +154,8 @@ fn lead_nothing(row: &mut Row, style: Style)
     }
 }
 
-/// Puts what stands in a column that says nothing: a hyphen, or nothing.
-fn put_nothing(text: &mut Vec<u8>, style: Style) -> Result<(), AllocError> {
-    match style {
-        Style::Words => put_byte(text, b'-'),
-        Style::Csv => Ok(()),
-    }
-}
-
-/// Puts a line for each datagram of a frame, written in the second row. What all of them begin with is
-/// written once, in the first.
+/// Puts a line for each datagram of a frame: by one call, from the second row, where there is room for it.
+/// What all of them begin with is written once, in the first.
 pub(crate) fn put_datagrams(
     text: &mut Vec<u8>,
     first: &mut Row,
@@ -174,7 +167,11 @@ pub(crate) fn put_datagrams(
     lead_head(first, style, head);
     for k in 0..frame.count() {
         lead_line(row, style, first, frame, k);
-        put_row(text, row)?;
+        if has_room(text, row) {
+            put_row(text, row)?;
+        } else {
+            put_datagram(text, style, head, frame, k)?;
+        }
     }
     Ok(())
 }
@@ -234,16 +231,14 @@ fn lead_data(row: &mut Row, style: Style, data: &[u8])
     }
 }
 
-/// Puts the line of a packet that has no datagrams to show; a row serves for its beginning.
+/// Puts the line of a packet that has no datagrams to show.
 pub(crate) fn put_note(
     text: &mut Vec<u8>,
-    row: &mut Row,
     style: Style,
     head: &Head,
     note: Note,
 ) -> Result<(), AllocError> {
-    lead_head(row, style, head);
-    put_row(text, row)?;
+    put_head(text, style, head)?;
     put_nothing(text, style)?;
     put_byte(text, style.separator())?;
     put_words(text, note)?;

@@ -276,23 +276,11 @@ impl<'a, W: Write> Listing<'a, W> {
     /// Takes a packet that has no datagrams to show.
     fn note(&mut self, head: &Head, note: Note) -> Result<(), Stop> {
         match self.asked.form {
-            Form::Lines => put_note(
-                &mut self.output.text,
-                &mut self.row,
-                Style::Words,
-                head,
-                note,
-            )?,
-            Form::Csv => put_note(&mut self.output.text, &mut self.row, Style::Csv, head, note)?,
+            Form::Lines => put_note(&mut self.output.text, Style::Words, head, note)?,
+            Form::Csv => put_note(&mut self.output.text, Style::Csv, head, note)?,
             Form::Faults => {
                 if note.is_fault() {
-                    put_note(
-                        &mut self.output.text,
-                        &mut self.row,
-                        Style::Words,
-                        head,
-                        note,
-                    )?;
+                    put_note(&mut self.output.text, Style::Words, head, note)?;
                 }
             }
             Form::Stats => {}
@@ -304,7 +292,7 @@ impl<'a, W: Write> Listing<'a, W> {
     fn finish(&mut self) -> Result<(), Stop> {
         if let Some(stats) = &self.stats {
             for place in 0..stats.count() {
-                stats.put(&mut self.output.text, &mut self.row, place)?;
+                stats.put(&mut self.output.text, place)?;
                 self.output.settle()?;
             }
             stats.put_left_out(&mut self.output.text)?;

@@ -9,7 +9,6 @@ ghost use Rattle.ecat_list.specs.Stats.{IsAt, IsTold, group_of};
 ghost use Rattle.ecat_list.specs.Tally.{IsTally};
 
 use crate::address::put_address;
-use crate::row::Row;
 use crate::tally::{Came, Count, Tally};
 use crate::text::{put_byte, put_decimal, put_seconds};
 use ec_wire::Command;
@@ -103,30 +102,30 @@ impl Group {
         self.fine = passed.fine;
     }
 
-    /// Puts the line of this group; a row serves for its columns.
-    fn put(&self, text: &mut Vec<u8>, row: &mut Row, key: &Key) -> Result<(), AllocError> {
+    /// Puts the line of this group.
+    fn put(&self, text: &mut Vec<u8>, key: &Key) -> Result<(), AllocError> {
         text.extend_from_slice(self.command.name().as_bytes())?;
         put_byte(text, b' ')?;
-        put_address(text, row, self.command, key.address)?;
+        put_address(text, self.command, key.address)?;
         put_byte(text, b' ')?;
         put_decimal(text, u64::from(key.length))?;
         text.extend_from_slice(b" bytes: ")?;
         put_counts(text, &self.tally)?;
         text.extend_from_slice(b", index ")?;
         put_decimal(text, u64::from(key.index))?;
-        self.put_gaps(text, row)?;
+        self.put_gaps(text)?;
         put_byte(text, b'\n')
     }
 
     /// Puts the least and the greatest time between two.
-    fn put_gaps(&self, text: &mut Vec<u8>, row: &mut Row) -> Result<(), AllocError> {
+    fn put_gaps(&self, text: &mut Vec<u8>) -> Result<(), AllocError> {
         let Some(gaps) = self.gaps else {
             return Ok(());
         };
         text.extend_from_slice(b", ")?;
-        put_seconds(text, row, gaps.least, self.fine)?;
+        put_seconds(text, gaps.least, self.fine)?;
         text.extend_from_slice(b" to ")?;
-        put_seconds(text, row, gaps.greatest, self.fine)?;
+        put_seconds(text, gaps.greatest, self.fine)?;
         text.extend_from_slice(b" s apart")
     }
 }
@@ -307,15 +306,10 @@ impl Stats {
         self.groups.len()
     }
 
-    /// Puts the line of a group; a row serves for its columns.
-    pub(crate) fn put(
-        &self,
-        text: &mut Vec<u8>,
-        row: &mut Row,
-        place: usize,
-    ) -> Result<(), AllocError> {
+    /// Puts the line of a group.
+    pub(crate) fn put(&self, text: &mut Vec<u8>, place: usize) -> Result<(), AllocError> {
         match self.groups.get_index(place) {
-            Some((key, group)) => group.put(text, row, key),
+            Some((key, group)) => group.put(text, key),
             None => Ok(()),
         }
     }

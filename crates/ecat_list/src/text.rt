@@ -19,24 +19,16 @@ pub(crate) fn put_byte(text: &mut Vec<u8>, byte: u8) -> Result<(), AllocError>
     text.extend_from_slice(&[byte])
 }
 
-/// Puts a row. Where memory for it runs out, as much of it is put as there is room for: what a listing told
-/// until then goes out with it.
+/// Is there room for a row, so that no memory need be asked for?
+pub(crate) fn has_room(text: &Vec<u8>, row: &Row) -> bool {
+    row.as_slice().len() <= text.capacity().saturating_sub(text.len())
+}
+
+/// Puts a row.
 pub(crate) fn put_row(text: &mut Vec<u8>, row: &Row) -> Result<(), AllocError>
     ensures { OnOk result (text.new.items ≡ text.old.items ++ drop row.now.from row.now.bytes) }
 {
-    match text.extend_from_slice(row.as_slice()) {
-        Ok(()) => Ok(()),
-        Err(fault) => {
-            put_what_fits(text, row.as_slice());
-            Err(fault)
-        }
-    }
-}
-
-/// Puts as many bytes as there is room for without more memory.
-fn put_what_fits(text: &mut Vec<u8>, bytes: &[u8]) {
-    let room = text.capacity().saturating_sub(text.len());
-    let _ = text.extend_from_slice(&bytes[..room.min(bytes.len())]);
+    text.extend_from_slice(row.as_slice())
 }
 
 /// Puts the decimal digits of a number.
@@ -114,15 +106,31 @@ pub(crate) fn digit_of(number: u8) -> u8
     }
 }
 
-/// Puts a time in seconds from nanoseconds, to the microsecond, or to the nanosecond. It is written in a row,
-/// which loses what it had.
+/// Puts the last digits of a number, so many as the width, with zeros before them.
+pub(crate) fn put_digits(text: &mut Vec<u8>, number: u64, width: usize) -> Result<(), AllocError>
+    requires { width ≤ 9 }
+{
+    let mut digits = [b'0'; 9];
+    let mut rest = number;
+    for place in 0..width {
+        digits[width - 1 - place] = DIGITS[(rest % 10) as usize];
+        rest /= 10;
+    }
+    text.extend_from_slice(&digits[..width])
+}
+
+/// Puts a time in seconds from nanoseconds, to the microsecond, or to the nanosecond.
 pub(crate) fn put_seconds(
     text: &mut Vec<u8>,
-    row: &mut Row,
     nanoseconds: u64,
     fine: bool,
 ) -> Result<(), AllocError> {
-    row.clear();
-    row.lead_seconds(nanoseconds, fine);
-    put_row(text, row)
+    put_decimal(text, nanoseconds / 1_000_000_000)?;
+    put_byte(text, b'.')?;
+    let behind = nanoseconds % 1_000_000_000;
+    if fine {
+        put_digits(text, behind, 9)
+    } else {
+        put_digits(text, behind / 1000, 6)
+    }
 }
