@@ -1,2 +1,3 @@
+mod HexLemmas
 mod StatsLemmas
 mod TallyLemmas

@@ -12,3 +12,8 @@ four_digits n = digit (n / 4096 % 16) ∷ digit (n / 256 % 16) ∷ digit (n / 16
 -- and the last eight
 abbrev pub eight_digits : ℕ → List ℕ
 eight_digits n = four_digits (n / 65536) ++ four_digits n
+
+-- the two digits of each byte, the higher one first
+abbrev pub hex : List ℕ → List ℕ
+hex [] = []
+hex (b ∷ bs) = digit (b / 16) ∷ digit (b % 16) ∷ hex bs

@@ -2,11 +2,14 @@
 //!
 //! The digits of a number come lowest first. So a row that grows towards its front takes them where they
 //! stand, needs no look whether memory is there, and goes to the text by one call.
-ghost use Rattle.std.specs.Prelude.{◌≡◌, ◌<◌, ◌≤◌, ◌+◌, ◌*◌, ◌++◌, ◌∷◌, [], decimal, drop, length};
+ghost use Rattle.std.specs.Prelude.{◌≡◌, ◌<◌, ◌≤◌, ◌+◌, ◌*◌, ◌++◌, ◌∷◌, [], decimal, drop, length, map, take};
+ghost use Rattle.std.specs.Int.Digits.{AllBelowBase};
+ghost use Rattle.ecat_list.specs.Digits.{digit, hex};
 ghost use Rattle.ecat_list.specs.declared.row.TheConstants.{ROOM};
 
 use crate::text::spell;
 use itoa::write_digits;
+use std::simd::prelude::*;
 
 /// How many bytes a row has room for: those of the longest line, whose datagram has 1,486 bytes of data.
 const ROOM: usize = 3200;
@@ -72,38 +75,52 @@ impl Row {
         ensures written { drop self.new.from self.new.bytes
             ≡ bytes.now ++ drop self.old.from self.old.bytes }
     {
-        let end = self.from;
-        let from = end - bytes.len();
-        self.bytes[from..end].copy_from_slice(bytes);
+        let from = self.from - bytes.len();
+        self.put(from, bytes);
         self.from = from;
     }
 
-    /// Puts the hexadecimal digits of bytes in front, sixteen bytes at a time.
+    /// Puts the hexadecimal digits of bytes in front: sixteen bytes at a time, of which the last ones may
+    /// be among those before them.
     pub(crate) fn lead_hex(&mut self, bytes: &[u8])
         requires { 2 * length bytes.now ≤ self.old.from }
         ensures at { self.new.from + 2 * length bytes.now ≡ self.old.from }
+        ensures written { drop self.new.from self.new.bytes
+            ≡ hex bytes.now ++ drop self.old.from self.old.bytes }
     {
-        let pieces = bytes.len() / 16;
-        let few = bytes.len() - 16 * pieces;
-        for k in 0..pieces {
-            let from = few + 16 * (pieces - 1 - k);
-            self.lead_sixteen(&bytes[from..from + 16]);
+        if bytes.len() < 16 {
+            return self.lead_few(bytes);
         }
-        self.lead_few(&bytes[..few]);
+        let from = self.from - 2 * bytes.len();
+        for k in 0..bytes.len() / 16 {
+            self.put_sixteen(from + 32 * k, &bytes[16 * k..]);
+        }
+        self.put_sixteen(self.from - 32, &bytes[bytes.len() - 16..]);
+        self.from = from;
     }
 
-    /// Puts the digits of sixteen bytes in front. They are copied, so that the compiler sees that what is
-    /// read and what is written are apart, and spells all at once.
-    fn lead_sixteen(&mut self, bytes: &[u8])
-        requires sixteen { length bytes.now ≡ 16 }
-        requires room { 32 ≤ self.old.from }
-        ensures at { self.new.from + 32 ≡ self.old.from }
+    /// Puts the digits of the first sixteen of the bytes at a place.
+    fn put_sixteen(&mut self, at: usize, bytes: &[u8])
+        requires sixteen { 16 ≤ length bytes.now }
+        requires room { at + 32 ≤ ROOM }
+        ensures size { length self.old.bytes ≡ ROOM }
+        ensures from { self.new.from ≡ self.old.from }
+        ensures written { self.new.bytes ≡ take at self.old.bytes
+            ++ (hex (take 16 bytes.now) ++ drop (at + 32) self.old.bytes) }
     {
-        let mut copy = [0; 16];
-        copy.copy_from_slice(bytes);
-        let mut digits = [0; 32];
-        spell(&copy, &mut digits);
-        self.lead_bytes(&digits);
+        let (first, last) = digits_of_sixteen(u8x16::from_slice(bytes));
+        self.put(at, first.as_array());
+        self.put(at + 16, last.as_array());
+    }
+
+    /// Puts bytes at a place.
+    fn put(&mut self, at: usize, bytes: &[u8])
+        requires { at + length bytes.now ≤ ROOM }
+        ensures from { self.new.from ≡ self.old.from }
+        ensures written { self.new.bytes ≡ take at self.old.bytes
+            ++ (bytes.now ++ drop (at + length bytes.now) self.old.bytes) }
+    {
+        self.bytes[at..at + bytes.len()].copy_from_slice(bytes);
     }
 
     /// Puts the digits of fewer bytes in front.
@@ -111,6 +128,8 @@ impl Row {
         requires few { length bytes.now < 16 }
         requires room { 2 * length bytes.now ≤ self.old.from }
         ensures at { self.new.from + 2 * length bytes.now ≡ self.old.from }
+        ensures written { drop self.new.from self.new.bytes
+            ≡ hex bytes.now ++ drop self.old.from self.old.bytes }
     {
         let mut digits = [0; 32];
         spell(bytes, &mut digits);
@@ -140,4 +159,23 @@ impl Row {
         }
         self.lead_decimal(nanoseconds / 1_000_000_000);
     }
+}
+
+/// The hexadecimal digits of sixteen bytes, those of eight each.
+fn digits_of_sixteen(bytes: u8x16) -> (u8x16, u8x16)
+    ensures { result.0 ++ result.1 ≡ hex bytes }
+{
+    let high = digits(bytes >> u8x16::splat(4));
+    let low = digits(bytes & u8x16::splat(15));
+    high.interleave(low)
+}
+
+/// The hexadecimal digits of sixteen numbers below 16.
+fn digits(numbers: u8x16) -> u8x16
+    requires { AllBelowBase 16 numbers }
+    ensures { result ≡ map digit numbers }
+{
+    let decimal = numbers.simd_lt(u8x16::splat(10));
+    let base = decimal.select(u8x16::splat(b'0'), u8x16::splat(b'a' - 10));
+    numbers + base
 }

@@ -1,6 +1,6 @@
 //! Numbers as text, put at the end of a text.
-ghost use Rattle.std.specs.Prelude.{◌≡◌, ◌<◌, ◌≤◌, ◌*◌, ◌++◌, ◌∷◌, [], OnOk, decimal, drop, length};
-ghost use Rattle.ecat_list.specs.Digits.{digit, eight_digits, four_digits};
+ghost use Rattle.std.specs.Prelude.{◌≡◌, ◌<◌, ◌≤◌, ◌*◌, ◌++◌, ◌∷◌, [], OnOk, decimal, drop, length, take};
+ghost use Rattle.ecat_list.specs.Digits.{digit, eight_digits, four_digits, hex};
 
 use crate::row::Row;
 use itoa::Buffer;
@@ -88,6 +88,7 @@ pub(crate) fn put_hex(text: &mut Vec<u8>, bytes: &[u8]) -> Result<(), AllocError
 /// Spells bytes by two hexadecimal digits each. No digit is looked up, so that many are spelt at once.
 pub(crate) fn spell(bytes: &[u8], digits: &mut [u8])
     requires { 2 * length bytes.now ≤ length digits.old }
+    ensures { take (2 * length bytes.now) digits.new ≡ hex bytes.now }
 {
     for k in 0..bytes.len() {
         digits[2 * k] = digit_of(bytes[k] / 16);
@@ -98,6 +99,7 @@ pub(crate) fn spell(bytes: &[u8], digits: &mut [u8])
 /// The hexadecimal digit of a number below 16, by arithmetic.
 pub(crate) fn digit_of(number: u8) -> u8
     requires { number < 16 }
+    ensures { result ≡ digit number }
 {
     if number < 10 {
         b'0' + number
