@@ -20,11 +20,11 @@
 //! ```
 //!
 //! What is promised: what a byte and a decimal number put at the end of a text (`put_byte`, `put_decimal`),
-//! or they and the digits of bytes in front of the line under way (`Row`); what `Stats` counts, of each group of datagrams its working
-//! counters, how often each came and in which packet first, and how many datagrams are of further groups
-//! than are told apart (`specs/Stats.antt`); and that no bytes, times or counters make any of this crate fail
-//! but for memory and the output. The order of the columns, the times between datagrams and how a listing
-//! ends are tried by tests alone.
+//! and what these and the digits of bytes put in front of the line under way (`Row`); what `Stats` counts, of
+//! each group of datagrams its working counters, how often each came and in which packet first, and how many
+//! datagrams are of further groups than are told apart (`specs/Stats.antt`); and that no bytes, times or
+//! counters make any of this crate fail but for memory and the output. The order of the columns, the times
+//! between datagrams and how a listing ends are tried by tests alone.
 
 mod address;
 mod columns;

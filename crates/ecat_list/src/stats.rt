@@ -18,6 +18,9 @@ use std::alloc::{AllocError, Global};
 /// How many groups of datagrams are told apart.
 const MAX_GROUPS: usize = 4096;
 
+/// How many groups are kept where they were found last.
+const RECENT: usize = 4096;
+
 /// What datagrams of one group have in common.
 #[derive(Clone, Copy, PartialEq, Eq, Hash)]
 pub(crate) struct Key {
@@ -69,10 +72,8 @@ struct Group {
 pub(crate) struct Stats {
     groups: IndexMap<Key, Group>,
     left_out: u64,
-    /// The place of the group that the last datagram is of.
-    last: usize,
-    /// The place of the group that was found by its key the last time.
-    found: usize,
+    /// Where a group was found last, by a number made of its key.
+    recent: [u16; RECENT],
 }
 
 impl Group {
@@ -174,6 +175,20 @@ fn put_count(text: &mut Vec<u8>, count: &Count) -> Result<(), AllocError> {
     put_decimal(text, u64::from(count.counter))
 }
 
+/// A number below 4,096 that is made of a key, by which keys of a capture seldom meet.
+fn number_of(key: &Key) -> usize
+    ensures { result < RECENT }
+{
+    let rest = u32::from(key.code) | u32::from(key.index) << 8 | u32::from(key.length) << 16;
+    let mixed = key.address.wrapping_mul(0x9E37_79B1) ^ rest.wrapping_mul(0x85EB_CA6B);
+    (mixed / 0x0010_0000) as usize
+}
+
+/// A place as a number of sixteen bits, which each place of a group is.
+fn short(place: usize) -> u16 {
+    (place % 65536) as u16
+}
+
 /// The least and greatest time, with the one between the last datagram and this.
 fn gaps_with(gaps: Option<Gaps>, last: Option<u64>, time: u64) -> Option<Gaps> {
     let Some(last) = last else {
@@ -200,14 +215,13 @@ impl Stats {
         Stats {
             groups: IndexMap::new(alloc),
             left_out: 0,
-            last: 0,
-            found: 0,
+            recent: [0; RECENT],
         }
     }
 
     /// Takes a datagram, or counts it as left out where it is of a group past the 4,096th. Those of a cycle
-    /// come in one order again and again: so its group is looked for by its key only where it stands at
-    /// neither place where it likely is.
+    /// come again and again: so its group is looked for by its key only where it does not stand where one
+    /// with such a number was found last.
     pub(crate) fn take(&mut self, passed: &Passed) -> Result<(), AllocError>
         ensures { OnOk result ((all : List Passed) → IsTold all self.old
             → IsTold (all ++ passed.now ∷ []) self.new) }
@@ -221,19 +235,16 @@ impl Stats {
         }
     }
 
-    /// The place of the group of a key, if it is the one behind the last datagram's, or the one that was
-    /// found by its key the last time, as the first group of a cycle is.
+    /// The place of the group of a key, if it is the one that was found last by the number of its key.
     fn likely_place(&self, key: &Key) -> Option<usize>
         ensures { IfSome result (λ place. IsAt self.now place key.now) }
     {
-        let next = self.last.saturating_add(1);
-        if self.is_at(next, key) {
-            return Some(next);
+        let place = usize::from(self.recent[number_of(key)]);
+        if self.is_at(place, key) {
+            Some(place)
+        } else {
+            None
         }
-        if self.is_at(self.found, key) {
-            return Some(self.found);
-        }
-        None
     }
 
     /// Is the group of this key the one at this place?
@@ -254,7 +265,6 @@ impl Stats {
     {
         let (_, known) = self.groups.pair_mut(place);
         known.take(passed);
-        self.last = place;
     }
 
     /// Takes a datagram whose group is looked for by its key.
@@ -264,7 +274,7 @@ impl Stats {
     {
         match self.groups.get_full(&passed.key) {
             Some((place, _, _)) => {
-                self.found = place;
+                self.recent[number_of(&passed.key)] = short(place);
                 self.take_at(place, passed);
                 Ok(())
             }
@@ -294,7 +304,7 @@ impl Stats {
     {
         let mut group = Group::new(passed.command);
         group.take(passed);
-        self.last = self.groups.len();
+        self.recent[number_of(&passed.key)] = short(self.groups.len());
         match self.groups.insert(passed.key, group) {
             Ok(_) => Ok(()),
             Err(_) => Err(AllocError),

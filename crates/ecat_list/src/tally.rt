@@ -32,16 +32,12 @@ pub(crate) struct Count {
 }
 
 impl Count {
-    /// What is counted once one more datagram came with a counter.
-    fn counted(self, counter: u16) -> Count
-        ensures { result ≡ counts_again counter self }
+    /// Counts one datagram more where it came with this counter.
+    fn count(&mut self, counter: u16)
+        ensures { self.new ≡ counts_again counter self.old }
     {
-        if self.counter != counter {
-            return self;
-        }
-        Count {
-            times: self.times.saturating_add(1),
-            ..self
+        if self.counter == counter {
+            self.times = self.times.saturating_add(1);
         }
     }
 }
@@ -117,6 +113,6 @@ fn count_again(told: &mut [Count], counter: u16)
     ensures { told.new ≡ map (counts_again counter) told.old }
 {
     for count in told.iter_mut() {
-        *count = count.counted(counter);
+        count.count(counter);
     }
 }

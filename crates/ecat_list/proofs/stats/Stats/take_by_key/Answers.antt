@@ -1,16 +1,8 @@
 use Rattle.std.proofs.Common.{sym}
-use Rattle.ecat_list.specs.declared.stats.Stats.{Stats}
 use Rattle.ecat_list.proofs.StatsLemmas as stats
 use Rattle.ecat_list.proofs.stats.Stats.take_by_key.Goals as goal
 
 pub take_at-requires : goal.take_at-requires
 take_at-requires c =
-    let before = c.args.self.now in
-    let s : Stats = record {
-      groups = before.groups;
-      left_out = before.left_out;
-      last = before.last;
-      found = c.in-Some.place;
-    } in
-    stats.found_at s c.in-Some.place c.in-Some.field-0-1.now c.args.passed.now.key c.in-Some.field-0-2.now
+    stats.found_at _ c.in-Some.place c.in-Some.field-0-1.now c.args.passed.now.key c.in-Some.field-0-2.now
     c.in-Some.ensures.entry (sym c.in-Some.ensures.value) (sym c.in-Some.ensures.key)
