@@ -95,6 +95,9 @@ pub fn copy_bits(into: &mut [u8], at: usize, bytes: &[u8], source: usize, count:
     requires source_fits { source + count < 2 ^ 64 }
     ensures { into.new ≡ with_bits into.old bytes.now (partner at source count) }
 {
+    if at % BYTE + count <= BYTE {
+        return copy_in_byte(into, at, bytes, source, count);
+    }
     let head = ((BYTE - at % BYTE) % BYTE).min(count);
     copy_in_byte(into, at, bytes, source, head);
     let whole = (count - head) / BYTE;

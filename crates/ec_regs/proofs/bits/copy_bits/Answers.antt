@@ -15,11 +15,11 @@ returns c =
     let done = head + 8 * whole in
     let rest = c.args.count - done in
     let whole_bytes =
-    join_runs into bytes c.copy_in_byte.new.into c.copy_bytes.new.into at source head (8 * whole)
-    (partner (8 * ((at + head) / 8)) (source + head) (8 * whole)) c.copy_in_byte.ensures c.copy_bytes.ensures
+    join_runs into bytes c.copy_in_byte-2.new.into c.copy_bytes.new.into at source head (8 * whole)
+    (partner (8 * ((at + head) / 8)) (source + head) (8 * whole)) c.copy_in_byte-2.ensures c.copy_bytes.ensures
     (λ i. partner_whole (at + head) (source + head) whole i (λ some. omega arith)) in
     let end : done + rest ≡ c.args.count = omega arith in
-    join_runs into bytes c.copy_bytes.new.into c.copy_in_byte-2.new.into at source done rest (partner
+    join_runs into bytes c.copy_bytes.new.into c.copy_in_byte-3.new.into at source done rest (partner
     (at + done) (source + done) rest)
-    whole_bytes c.copy_in_byte-2.ensures (λ i. refl)
+    whole_bytes c.copy_in_byte-3.ensures (λ i. refl)
     ∙ ap (λ n. with_bits into bytes (partner at source n)) end
