@@ -1,4 +1,5 @@
 mod AskLemmas
 mod StepLemmas
+mod RecoveryLemmas
 mod OutputLemmas
 pub mod Laws

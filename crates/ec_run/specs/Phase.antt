@@ -2,6 +2,7 @@
 -- the mailboxes stand before Pre-Op, startup objects are written there, and the areas of process data and the
 -- FMMUs stand before Safe-Op.
 use Rattle.std.specs.Prelude.{◌≡◌, ℕ, ◌+◌, List, [], ◌∷◌, Result, Ok, Err}
+use Rattle.ec_regs.specs.declared.al.AlState.{AlState}
 use Rattle.ec_regs.specs.declared.al.AlState.TheVariants as state
 use Rattle.ec_master.specs.Ports.{Trips}
 use Rattle.ec_services.specs.declared.fault.MasterFault.{MasterFault}
@@ -28,6 +29,14 @@ steps_of SafeOp =
     ∷ Fmmu 0 ∷ Fmmu 1 ∷ Fmmu 2 ∷ Fmmu 3 ∷ Fmmu 4 ∷ Fmmu 5 ∷ Fmmu 6 ∷ Fmmu 7
     ∷ State state.SafeOp ∷ []
 steps_of Op = State state.Op ∷ []
+
+-- the state in which a slave is after a phase
+abbrev pub state_after : Phase → AlState
+state_after Init = state.Init
+state_after PreOp = state.PreOp
+state_after Startup = state.PreOp
+state_after SafeOp = state.SafeOp
+state_after Op = state.Op
 
 -- steps with the slave at a place are done one after the other until one fails, with this fault
 unfoldable pub AreDone : {P : Type 0} → Trips P → P → ℕ → Wanted → List Step → Result (Unit {0}) StepFault → P

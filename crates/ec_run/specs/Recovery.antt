@@ -1,5 +1,5 @@
 -- What a master does with a slave that has left Op (IEC 61158-6-12, AL state machine).
-use Rattle.std.specs.Prelude.{◌≡◌, ℕ, ◌==◌, List, Result, Ok, Err, slice_index}
+use Rattle.std.specs.Prelude.{◌≡◌, ℕ, ◌==◌, Bool, if◌then◌else◌, List, Result, Ok, Err, slice_index}
 use Rattle.ec_app.specs.Table.{first_fitting}
 use Rattle.std.specs.Prelude.{[], ◌∷◌, nat_lt}
 use Rattle.ec_wire.specs.Datagram.{DatagramRecord, nth}
@@ -10,6 +10,9 @@ use Rattle.ec_services.specs.States.{status_read}
 use Rattle.ec_services.specs.declared.fault.MasterFault.{MasterFault}
 use Rattle.ec_run.specs.Ask.{IsPut}
 use Rattle.ec_run.specs.declared.phase.Phase.TheVariants as phase
+use Rattle.ec_run.specs.declared.phase.StepFault.{StepFault}
+use Rattle.ec_run.specs.declared.recovery.Outcome.{Outcome}
+use Rattle.ec_run.specs.declared.recovery.Outcome.TheVariants.{Left, Brought, Failed}
 use Rattle.ec_run.specs.declared.recovery.Remedy.{Remedy}
 use Rattle.ec_run.specs.declared.recovery.Remedy.TheVariants.{Leave, From, Address}
 use Rattle.ec_run.specs.declared.recovery.Seen.{Seen}
@@ -51,3 +54,27 @@ pub record IsLookedAt {P : Type 0} (trips : Trips P) (before : P) (station : ℕ
   pub joined : Result (List DatagramRecord) MasterFault
   pub puts : IsPut trips before (status_read station) joined later
   pub shows : seen ≡ seen_by joined
+
+-- what became of a slave of which this was seen and that was to be brought up
+abbrev pub brought_as : Seen → Result (Unit {0}) StepFault → Outcome
+brought_as seen (Ok _) = Brought seen
+brought_as seen (Err fault) = Failed fault
+
+-- it is left alone where nothing could be seen, where nothing is to be done, and where it would be given its
+-- station address by a place that does not tell it from the others; else it is brought up, or that fails
+abbrev pub outcome_of : Bool → Result Seen MasterFault → Result (Unit {0}) StepFault → Outcome
+outcome_of tells_places (Err fault) brought = Left
+outcome_of tells_places (Ok seen) brought = elim (remedy_of seen) [
+  | Leave ↦ Left
+  | From first ↦ brought_as seen brought
+  | Address ↦ if tells_places then brought_as seen brought else Left
+]
+
+-- a slave is looked at by its station address, and what is seen says what becomes of it
+pub record IsRecovered {P : Type 0} (trips : Trips P) (before : P) (station : ℕ) (tells_places : Bool)
+    (outcome : Outcome) : Type 0 where
+  pub seen : Result Seen MasterFault
+  pub between : P
+  pub looked : IsLookedAt trips before station seen between
+  pub brought : Result (Unit {0}) StepFault
+  pub outcome_is : outcome ≡ outcome_of tells_places seen brought

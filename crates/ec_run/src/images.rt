@@ -2,6 +2,7 @@
 
 ghost use Rattle.std.specs.Prelude.{◌≡◌, IfOk, Ok, length as length_of};
 ghost use Rattle.hex.specs.Hex.{decode_of};
+ghost use Rattle.ec_run.specs.declared.images.ImagesFault.TheVariants.{NoMemory};
 
 use ec_master::Work;
 use hex::FromHexError;
@@ -65,7 +66,9 @@ pub enum ImagesFault {
 }
 
 impl<T: Drop> From<AllocFailed<T>> for ImagesFault {
-    fn from(_failed: AllocFailed<T>) -> ImagesFault {
+    fn from(_failed: AllocFailed<T>) -> ImagesFault
+        ensures { result ≡ NoMemory }
+    {
         ImagesFault::NoMemory
     }
 }

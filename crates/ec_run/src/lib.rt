@@ -29,6 +29,8 @@
 //! - [`Cycles::cycle`] (`cycle`): the items go out with their outputs at the start of the round of the
 //!   cycle's number, the cycle is `ec_master::run_cycle`, its end is counted, and the image is what a good
 //!   cycle brought and nothing else. `adds_up`: good, short, over and fault are all cycles together.
+//! - [`recover`] (`recovers`): the slave is looked at by its station address, and what is seen says whether
+//!   it is left alone.
 //!
 //! What the contracts speak of stands in specs/: `Step`, `Phase` and `StartupObjects` (start-up), `Cycles`
 //! and `Outputs`, `Recovery`, `Watched` (ports that tell where copies arrive, as ports of a master), `Ask`

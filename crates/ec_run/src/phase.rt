@@ -1,7 +1,7 @@
 //! The phases in which a line is brought up, and the steps of each.
 
 ghost use Rattle.std.specs.Prelude.{◌≡◌, ◌≤◌, ◌<◌, ◌+◌, IfErr, length};
-ghost use Rattle.ec_run.specs.Phase.{steps_of, AreDone, Brings};
+ghost use Rattle.ec_run.specs.Phase.{state_after, steps_of, AreDone, Brings};
 
 use crate::step::{Step, try_step};
 use crate::wanted::Wanted;
@@ -97,7 +97,9 @@ impl Phase {
     }
 
     /// The state in which a slave is after the phase.
-    pub fn state(self) -> AlState {
+    pub fn state(self) -> AlState
+        ensures { result ≡ state_after self }
+    {
         match self {
             Phase::Init => AlState::Init,
             Phase::PreOp | Phase::Startup => AlState::PreOp,

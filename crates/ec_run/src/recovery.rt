@@ -2,7 +2,7 @@
 
 ghost use Rattle.std.specs.Prelude.{◌≡◌, ◌≤◌, ◌<◌, length};
 ghost use Rattle.ec_wire.specs.Datagram.{nth};
-ghost use Rattle.ec_run.specs.Recovery.{remedy_of, seen_in, IsLookedAt};
+ghost use Rattle.ec_run.specs.Recovery.{remedy_of, seen_in, IsLookedAt, IsRecovered};
 
 use crate::ask::{put, request};
 use crate::phase::{PHASES, Phase, StepFault, bring_slave};
@@ -114,6 +114,7 @@ pub fn tells_places(cable: Located, slaves: usize) -> bool {
 
 /// Looks at one slave of a line, and brings it to Op where it has left it (`Seen::remedy`).
 pub fn recover<P: Ports>(ports: &mut P, place: u16, wanted: &Wanted, tells_places: bool) -> Outcome
+    ensures recovers { IsRecovered P.trips ports.old wanted.now.station tells_places result }
     ensures never_lower { P.failed ports.old ≤ P.failed ports.new }
 {
     let Ok(seen) = look_at(ports, wanted.station) else {

@@ -1,5 +1,9 @@
 //! Why a command on the line of a scene ends before its output does.
 
+ghost use Rattle.std.specs.Prelude.{◌≡◌};
+ghost use Rattle.ecat_line.specs.Failures.{failed_cycle};
+ghost use Rattle.ecat_line.specs.declared.failure.LineFailure.TheVariants.{Output, Port};
+
 use ec_master::{CycleFault, PortFault};
 use ecat_scene::SceneFault;
 use std::io;
@@ -26,19 +30,25 @@ pub enum LineFailure {
 }
 
 impl From<io::Error> for LineFailure {
-    fn from(_error: io::Error) -> LineFailure {
+    fn from(_error: io::Error) -> LineFailure
+        ensures { result ≡ Output }
+    {
         LineFailure::Output
     }
 }
 
 impl From<PortFault> for LineFailure {
-    fn from(_fault: PortFault) -> LineFailure {
+    fn from(_fault: PortFault) -> LineFailure
+        ensures { result ≡ Port }
+    {
         LineFailure::Port
     }
 }
 
 impl From<CycleFault> for LineFailure {
-    fn from(fault: CycleFault) -> LineFailure {
+    fn from(fault: CycleFault) -> LineFailure
+        ensures { result ≡ failed_cycle fault }
+    {
         match fault {
             CycleFault::Port => LineFailure::Port,
             CycleFault::Stranger => LineFailure::Stranger,

@@ -1,5 +1,8 @@
 //! Where the lines go, in pieces.
 
+ghost use Rattle.std.specs.Prelude.{◌≡◌};
+ghost use Rattle.ecat_list.specs.declared.output.Stop.TheVariants.{NoMemory};
+
 use std::alloc::{AllocError, Global};
 use std::io::{self, ErrorKind, Write};
 
@@ -18,7 +21,9 @@ pub(crate) enum Stop {
 }
 
 impl From<AllocError> for Stop {
-    fn from(_: AllocError) -> Stop {
+    fn from(_: AllocError) -> Stop
+        ensures { result ≡ NoMemory }
+    {
         Stop::NoMemory
     }
 }

@@ -49,7 +49,8 @@
 //! - [`scan`] tells what stands on a line, slave by slave. [`master`] is all but that, with an exit status.
 //!
 //! What is promised: [`run_cycles`] (`cycles`): the cycles of a run are `Cycles::cycle`, one after the other,
-//! and their ends add up. What is printed and when is tried by tests.
+//! and their ends add up; (`last`): it answers how the last one ended. What is printed and when is tried by
+//! tests.
 
 mod pace;
 mod run;

@@ -1,8 +1,9 @@
 //! A master that runs: the start-up of a line, and then cycle after cycle.
 
-ghost use Rattle.std.specs.Prelude.{◌≡◌, length};
+ghost use Rattle.std.specs.Prelude.{◌≡◌, IfOk, length};
 ghost use Rattle.ec_run.specs.Cycles.{AddUp, IsRun};
 ghost use Rattle.ec_run.specs.Watched.{WatchedTrips};
+ghost use Rattle.ecat_master.specs.Last.{IsLast, status_told};
 
 use crate::pace::Pace;
 use crate::startup::{StartEnd, StartFault, put_start_fault, start};
@@ -273,6 +274,8 @@ where
     ensures adds_up { AddUp cycles.new.counts }
     ensures asked { cycles.new.asked ≡ cycles.old.asked }
     ensures cycles { IsRun (WatchedTrips P.trips) plan.now.outputs expected.now cycles.old cycles.new }
+    ensures last { IfOk result (λ last. IsLast (WatchedTrips P.trips) plan.now.outputs expected.now
+        cycles.old last cycles.new) }
 {
     let mut last = None;
     let mut rooms = Rooms::new();
@@ -300,7 +303,9 @@ fn is_look_due(cycles: u64, ended: Result<Verdict, CycleFault>) -> bool {
 }
 
 /// The exit status of cycles of which the last one ended so.
-fn status_of(last: Option<Result<Verdict, CycleFault>>) -> u8 {
+fn status_of(last: Option<Result<Verdict, CycleFault>>) -> u8
+    ensures { result ≡ status_told last }
+{
     match last {
         None | Some(Ok(Verdict::Good)) => GOOD,
         Some(Ok(_)) | Some(Err(CycleFault::Stranger)) => REFUSED,

@@ -3,6 +3,7 @@
 ghost use Rattle.std.specs.Prelude.{◌≡◌, ◌≤◌, ◌<◌, IfSome, IfOk, length};
 ghost use Rattle.ec_services.specs.Mailbox.{IsPeer};
 ghost use Rattle.ec_wire.specs.Datagram.{nth};
+ghost use Rattle.ecat_master.specs.declared.scanning.ScanEnd.TheVariants.{Ask, Output};
 
 use crate::startup::look_surely;
 use crate::words::{put_cable, put_code, put_fault, state_name};
@@ -46,13 +47,17 @@ pub enum ScanEnd {
 }
 
 impl From<io::Error> for ScanEnd {
-    fn from(_error: io::Error) -> ScanEnd {
+    fn from(_error: io::Error) -> ScanEnd
+        ensures { result ≡ Output }
+    {
         ScanEnd::Output
     }
 }
 
 impl From<MasterFault> for ScanEnd {
-    fn from(fault: MasterFault) -> ScanEnd {
+    fn from(fault: MasterFault) -> ScanEnd
+        ensures { result ≡ Ask fault }
+    {
         ScanEnd::Ask(fault)
     }
 }

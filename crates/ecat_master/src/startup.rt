@@ -1,6 +1,8 @@
 //! The start-up of a line.
 
-ghost use Rattle.std.specs.Prelude.{◌≤◌, length};
+ghost use Rattle.std.specs.Prelude.{◌≡◌, ◌≤◌, length};
+ghost use Rattle.ecat_master.specs.declared.startup.StartEnd.TheVariants.{Fault, Output};
+ghost use Rattle.ecat_master.specs.declared.startup.StartFault.TheVariants.{Step};
 
 use crate::words::{put_cable, put_fault, put_step_fault, state_name};
 use ec_diag::{CutOff, Located};
@@ -36,13 +38,17 @@ pub enum StartEnd {
 }
 
 impl From<io::Error> for StartEnd {
-    fn from(_error: io::Error) -> StartEnd {
+    fn from(_error: io::Error) -> StartEnd
+        ensures { result ≡ Output }
+    {
         StartEnd::Output
     }
 }
 
 impl From<StepFault> for StartEnd {
-    fn from(fault: StepFault) -> StartEnd {
+    fn from(fault: StepFault) -> StartEnd
+        ensures { result ≡ Fault (Step fault) }
+    {
         StartEnd::Fault(StartFault::Step(fault))
     }
 }

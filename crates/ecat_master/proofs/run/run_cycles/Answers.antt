@@ -1,31 +1,42 @@
+use Rattle.std.proofs.Common.{refl}
 use Rattle.ec_run.specs.Watched.{WatchedTrips}
 use Rattle.ec_run.proofs.Laws.{run_starts, run_goes_on, is_run}
+use Rattle.ecat_master.proofs.LastLemmas.{cycle_is_last}
 use Rattle.ecat_master.proofs.run.run_cycles.Goals as goal
 
 pub loop-cycles-init : goal.loop-cycles-init
-loop-cycles-init g c =
-    run_starts (WatchedTrips g.P.HeardPorts.trips) c.args.plan.now.outputs c.args.expected.now
-    c.args.cycles.now
-    c.requires.sum
+loop-cycles-init g c = (
+  run_starts (WatchedTrips g.P.HeardPorts.trips) c.args.plan.now.outputs c.args.expected.now
+      c.args.cycles.now c.requires.sum,
+  refl,
+)
 
 pub loop-cycles-preserved-then-is_look_due : goal.loop-cycles-preserved-then-is_look_due
-loop-cycles-preserved-then-is_look_due g c =
-    run_goes_on (WatchedTrips g.P.HeardPorts.trips) c.args.plan.now.outputs c.args.expected.now
-    c.args.cycles.now c.loop-cycles.cycles c.cycle_in-ended.new.self _ _ _ c.loop-cycles.invariant
-    c.cycle_in-ended.ensures.cycle c.cycle_in-ended.ensures.adds_up
+loop-cycles-preserved-then-is_look_due g c = (
+  run_goes_on (WatchedTrips g.P.HeardPorts.trips) c.args.plan.now.outputs c.args.expected.now
+      c.args.cycles.now c.loop-cycles.cycles c.cycle_in-ended.new.self _ _ _ c.loop-cycles.invariant.0
+      c.cycle_in-ended.ensures.cycle c.cycle_in-ended.ensures.adds_up,
+  cycle_is_last (WatchedTrips g.P.HeardPorts.trips) c.args.plan.now.outputs c.args.expected.now
+      c.args.cycles.now c.loop-cycles.cycles c.cycle_in-ended.new.self _ _ _ c.loop-cycles.invariant.0
+      c.cycle_in-ended.ensures.cycle,
+)
 
 pub loop-cycles-preserved : goal.loop-cycles-preserved
-loop-cycles-preserved g c =
-    run_goes_on (WatchedTrips g.P.HeardPorts.trips) c.args.plan.now.outputs c.args.expected.now
-    c.args.cycles.now c.loop-cycles.cycles c.cycle_in-ended.new.self _ _ _ c.loop-cycles.invariant
-    c.cycle_in-ended.ensures.cycle c.cycle_in-ended.ensures.adds_up
+loop-cycles-preserved g c = (
+  run_goes_on (WatchedTrips g.P.HeardPorts.trips) c.args.plan.now.outputs c.args.expected.now
+      c.args.cycles.now c.loop-cycles.cycles c.cycle_in-ended.new.self _ _ _ c.loop-cycles.invariant.0
+      c.cycle_in-ended.ensures.cycle c.cycle_in-ended.ensures.adds_up,
+  cycle_is_last (WatchedTrips g.P.HeardPorts.trips) c.args.plan.now.outputs c.args.expected.now
+      c.args.cycles.now c.loop-cycles.cycles c.cycle_in-ended.new.self _ _ _ c.loop-cycles.invariant.0
+      c.cycle_in-ended.ensures.cycle,
+)
 
 pub returns-in_err-tell-clause-cycles : goal.returns-in_err-tell-clause-cycles
 returns-in_err-tell-clause-cycles g c =
     is_run (WatchedTrips g.P.HeardPorts.trips) c.args.plan.now.outputs c.args.expected.now c.args.cycles.now
     c.cycle_in-ended.new.self
     (run_goes_on (WatchedTrips g.P.HeardPorts.trips) c.args.plan.now.outputs c.args.expected.now
-    c.args.cycles.now c.loop-cycles.cycles c.cycle_in-ended.new.self _ _ _ c.loop-cycles.invariant
+    c.args.cycles.now c.loop-cycles.cycles c.cycle_in-ended.new.self _ _ _ c.loop-cycles.invariant.0
     c.cycle_in-ended.ensures.cycle c.cycle_in-ended.ensures.adds_up)
 
 pub returns-in_err-recover_next-clause-cycles : goal.returns-in_err-recover_next-clause-cycles
@@ -33,7 +44,7 @@ returns-in_err-recover_next-clause-cycles g c =
     is_run (WatchedTrips g.P.HeardPorts.trips) c.args.plan.now.outputs c.args.expected.now c.args.cycles.now
     c.cycle_in-ended.new.self
     (run_goes_on (WatchedTrips g.P.HeardPorts.trips) c.args.plan.now.outputs c.args.expected.now
-    c.args.cycles.now c.loop-cycles.cycles c.cycle_in-ended.new.self _ _ _ c.loop-cycles.invariant
+    c.args.cycles.now c.loop-cycles.cycles c.cycle_in-ended.new.self _ _ _ c.loop-cycles.invariant.0
     c.cycle_in-ended.ensures.cycle c.cycle_in-ended.ensures.adds_up)
 
 pub returns-then-ne-clause-cycles : goal.returns-then-ne-clause-cycles
@@ -41,5 +52,11 @@ returns-then-ne-clause-cycles g c =
     is_run (WatchedTrips g.P.HeardPorts.trips) c.args.plan.now.outputs c.args.expected.now c.args.cycles.now
     c.cycle_in-ended.new.self
     (run_goes_on (WatchedTrips g.P.HeardPorts.trips) c.args.plan.now.outputs c.args.expected.now
-    c.args.cycles.now c.loop-cycles.cycles c.cycle_in-ended.new.self _ _ _ c.loop-cycles.invariant
+    c.args.cycles.now c.loop-cycles.cycles c.cycle_in-ended.new.self _ _ _ c.loop-cycles.invariant.0
     c.cycle_in-ended.ensures.cycle c.cycle_in-ended.ensures.adds_up)
+
+pub returns-then-ne-clause-last : goal.returns-then-ne-clause-last
+returns-then-ne-clause-last g c =
+    cycle_is_last (WatchedTrips g.P.HeardPorts.trips) c.args.plan.now.outputs c.args.expected.now
+    c.args.cycles.now c.loop-cycles.cycles c.cycle_in-ended.new.self _ _ _ c.loop-cycles.invariant.0
+    c.cycle_in-ended.ensures.cycle
