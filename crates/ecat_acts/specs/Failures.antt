@@ -1,9 +1,14 @@
--- Why a command ends where its sockets could not be opened, and its exit status where its words are refused.
+-- Why a command ends where its sockets could not be opened or a scan ended, and its exit status where its
+-- words are refused.
 use Rattle.std.specs.Prelude.{ℕ}
 use Rattle.ecat_args.specs.declared.args.ArgsFault.{ArgsFault}
 use Rattle.ecat_args.specs.declared.args.ArgsFault.TheVariants.{Line, BadNumber, NoMemory as NoMemoryForWords}
 use Rattle.ecat_acts.specs.declared.failure.Failure.{Failure}
-use Rattle.ecat_acts.specs.declared.failure.Failure.TheVariants.{Bind, NoMemoryForSockets}
+use Rattle.ecat_acts.specs.declared.failure.Failure.TheVariants.{Asked, Bind, NoMemoryForSockets}
+use Rattle.ecat_acts.specs.declared.failure.Failure.TheVariants.{Line as OfLine}
+use Rattle.ecat_line.specs.declared.failure.LineFailure.TheVariants.{Output as OutputFailed}
+use Rattle.ecat_master.specs.declared.scanning.ScanEnd.{ScanEnd}
+use Rattle.ecat_master.specs.declared.scanning.ScanEnd.TheVariants.{Ask, Output}
 use Rattle.ecat_serve.specs.declared.sockets.BindFault.{BindFault}
 use Rattle.ecat_serve.specs.declared.sockets.BindFault.TheVariants.{NoSuchPort, NoSocket}
 use Rattle.ecat_serve.specs.declared.sockets.BindFault.TheVariants.{NoMemory as NoMemoryToWait}
@@ -13,6 +18,11 @@ abbrev pub unbound : BindFault → Failure
 unbound NoSuchPort = Bind
 unbound NoSocket = Bind
 unbound NoMemoryToWait = NoMemoryForSockets
+
+-- an output that failed is told apart from a question without an answer
+abbrev pub unscanned : ScanEnd → Failure
+unscanned Output = OfLine OutputFailed
+unscanned (Ask fault) = Asked fault
 
 -- words that are no command are told apart from want of memory
 abbrev pub refusal_status : ArgsFault → ℕ

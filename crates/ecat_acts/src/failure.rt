@@ -2,6 +2,8 @@
 
 ghost use Rattle.std.specs.Prelude.{◌≡◌};
 ghost use Rattle.ecat_acts.specs.Failures.{unbound};
+ghost use Rattle.ecat_acts.specs.declared.failure.Failure.TheVariants.{Line};
+ghost use Rattle.ecat_line.specs.declared.failure.LineFailure.TheVariants.{Output};
 
 use crate::raw::RawFaultText;
 use ec_run::ImagesFault;
@@ -55,13 +57,17 @@ pub enum Failure {
 }
 
 impl From<LineFailure> for Failure {
-    fn from(failure: LineFailure) -> Failure {
+    fn from(failure: LineFailure) -> Failure
+        ensures { result ≡ Line failure }
+    {
         Failure::Line(failure)
     }
 }
 
 impl From<io::Error> for Failure {
-    fn from(_error: io::Error) -> Failure {
+    fn from(_error: io::Error) -> Failure
+        ensures { result ≡ Line Output }
+    {
         Failure::Line(LineFailure::Output)
     }
 }

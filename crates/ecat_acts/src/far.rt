@@ -1,6 +1,8 @@
 //! A line that lies somewhere else: the master that runs on it, and what it is asked.
 
 ghost use Rattle.std.specs.Prelude.{◌≡◌, length};
+ghost use Rattle.ecat_acts.specs.Failures.{unscanned};
+ghost use Rattle.ecat_acts.specs.declared.failure.Failure.TheVariants.{Far};
 
 use crate::failure::{Failure, report, status_of};
 use arrayvec::ArrayVec;
@@ -53,13 +55,17 @@ impl<'a> Reach<'a> {
 }
 
 impl From<OpenFault> for Failure {
-    fn from(fault: OpenFault) -> Failure {
+    fn from(fault: OpenFault) -> Failure
+        ensures { result ≡ Far fault }
+    {
         Failure::Far(fault)
     }
 }
 
 impl From<ScanEnd> for Failure {
-    fn from(end: ScanEnd) -> Failure {
+    fn from(end: ScanEnd) -> Failure
+        ensures { result ≡ unscanned end }
+    {
         match end {
             ScanEnd::Output => Failure::Line(LineFailure::Output),
             ScanEnd::Ask(fault) => Failure::Asked(fault),

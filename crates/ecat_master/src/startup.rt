@@ -2,7 +2,7 @@
 
 ghost use Rattle.std.specs.Prelude.{◌≡◌, ◌≤◌, length};
 ghost use Rattle.ecat_master.specs.declared.startup.StartEnd.TheVariants.{Fault, Output};
-ghost use Rattle.ecat_master.specs.declared.startup.StartFault.TheVariants.{Step};
+ghost use Rattle.ecat_master.specs.declared.startup.StartFault.TheVariants.{Step as StepFailed};
 
 use crate::words::{put_cable, put_fault, put_step_fault, state_name};
 use ec_diag::{CutOff, Located};
@@ -47,7 +47,7 @@ impl From<io::Error> for StartEnd {
 
 impl From<StepFault> for StartEnd {
     fn from(fault: StepFault) -> StartEnd
-        ensures { result ≡ Fault (Step fault) }
+        ensures { result ≡ Fault (StepFailed fault) }
     {
         StartEnd::Fault(StartFault::Step(fault))
     }
