@@ -4,7 +4,7 @@ use super::stage::{Event, Row, Told, assert_rows};
 use ec_regs::AlState;
 
 /// What is told of slaves that leave Op, of ports that fail, and of a last cycle.
-static ROWS: [Row; 4] = [
+static ROWS: [Row; 5] = [
     Row {
         name: "an error is acknowledged and a slave that fell is brought up",
         slaves: 3,
@@ -37,6 +37,20 @@ static ROWS: [Row; 4] = [
         text: brought!(
             "cycle 15: slave 0 (0x1001) had lost its station, brought to Op\n\
             cycles 20 good 20 short 0 over 0 fault 0\nitem 0 LRW data a0a1a2 wkc 9 of 9\n"
+        ),
+    },
+    Row {
+        name: "the second slave gets its own station again",
+        slaves: 3,
+        down: &[],
+        told: Told::Same,
+        events: &[(3, Event::Forgets(1))],
+        stop: false,
+        cycles: 36,
+        status: 0,
+        text: brought!(
+            "cycle 31: slave 1 (0x1002) had lost its station, brought to Op\n\
+            cycles 36 good 36 short 0 over 0 fault 0\nitem 0 LRW data a0a1a2 wkc 9 of 9\n"
         ),
     },
     Row {
