@@ -4,7 +4,8 @@ use Rattle.std.proofs.Common.{◌∷◌, length, Bool, Option, ◌⊎◌, inl, i
 use Rattle.std.proofs.Common.{get_or, set, take, drop, sym, ◌∙◌, ap, refl, arith, ⊎_elim, below_more}
 use Rattle.std.proofs.Common.{get_or-set_same, get_or-set_other}
 use Rattle.std.proofs.Math.Bool.{and-false}
-use Rattle.std.proofs.lemmas.Bool.{and_cases, le-ltb, ltb-false}
+use Rattle.std.specs.Prelude.{nat_le}
+use Rattle.std.proofs.lemmas.Bool.{and_cases, le-ltb, lt-leb, ltb-false}
 use Rattle.std.proofs.lemmas.List.{ext_get_or, length-take-le, length-drop, take_all}
 use Rattle.std.specs.Option.{is_some}
 use Rattle.ec_regs.specs.declared.registers.TheConstants.{FMMU_COUNT, SYNC_MANAGER_COUNT}
@@ -27,6 +28,8 @@ use Rattle.ec_areas.proofs.Laws.{get_or-sync_managers_of, write_map_register, ge
 use Rattle.ec_areas.proofs.Laws.{length-fmmus_of, length-sync_managers_of}
 use Rattle.ec_areas.proofs.Laws.{read_map_mapped, reads_some_mapped, write_map_mapped, writes_some_mapped}
 use Rattle.ec_areas.proofs.Laws.{written_byte_mapped}
+use Rattle.ec_regs.specs.AddressRange.{within}
+use Rattle.ec_esc.specs.Pass.{is_written, written_places}
 use Rattle.ec_esc.specs.Planned.{AreUsed, ChangesWithin}
 use Rattle.ec_esc.specs.State.{NamesState, with_run}
 use Rattle.ec_esc.proofs.ApplicationLemmas.{length-with_run, get_or-with_run_before, get_or-with_run_behind}
@@ -219,6 +222,37 @@ run_changes memory after bytes address inside after_is =
       front = λ a before. get_or-with_run_before memory bytes address a before (omega arith);
       behind = λ a reaches. get_or-with_run_behind memory bytes address a reaches inside;
     }
+
+-- a byte of a run that takes no write is what it was
+written_stays : (memory payload : List ℕ) (from n a : ℕ) → AreBytes memory → is_written memory from n a ≡ false
+    → get_or (with_bits memory payload (written_places memory from n)) a 0 ≡ get_or memory a 0
+written_stays memory payload from n a are apart =
+    get_or-with_bits_kept memory payload (written_places memory from n) a are
+    (λ b below.
+    let byte : (8 * a + b) / 8 ≡ a = omega arith in
+    rw byte (rw apart refl))
+
+-- a run that is written as far as its bytes take writes
+pub written_changes : (memory after payload : List ℕ) (from n : ℕ) → AreBytes memory
+    → after ≡ with_bits memory payload (written_places memory from n) → ChangesWithin from n memory after
+written_changes memory after payload from n are after_is =
+    rw after_is record {
+      size = length-with_bits memory payload (written_places memory from n);
+      front = λ a before.
+          written_stays memory payload from n a are (rw (lt-leb from a before) refl);
+      behind = λ a reaches.
+          written_stays memory payload from n a are
+          (rw (le-ltb a (from + n) reaches, and-false (nat_le from a)) refl);
+    }
+
+-- and AL status, which takes no write, names a state as before
+pub written_names : (memory after payload : List ℕ) (from n : ℕ) → AreBytes memory
+    → after ≡ with_bits memory payload (written_places memory from n) → NamesState memory → NamesState after
+written_names memory after payload from n are after_is =
+    status_stays memory after
+    (ap (λ (m : List ℕ). get_or m AL_STATUS 0) after_is
+    ∙ written_stays memory payload from n AL_STATUS are
+    (rw (status_takes_none memory) (and-false (within from n AL_STATUS))))
 
 -- ---- FMMUs that need be looked at
 

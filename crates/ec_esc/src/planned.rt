@@ -18,11 +18,13 @@ ghost use Rattle.ec_areas.specs.Logical.{read_places, reads_some, writes_some};
 ghost use Rattle.ec_areas.specs.Logical.{write_map, target_places, names};
 ghost use Rattle.ec_areas.specs.Records.{fmmus_of, sync_manager_at, sync_managers_of};
 ghost use Rattle.ec_areas.specs.Showing.{last_byte};
+ghost use Rattle.ec_esc.specs.Pass.{range_sources, written_places};
 ghost use Rattle.ec_esc.specs.Planned.{AreUsed, ChangesWithin};
 ghost use Rattle.ec_esc.specs.State.{with_run};
 ghost use Rattle.ec_esc.specs.Writing.{reaches_byte};
 
 use crate::process::are_bytes;
+use crate::writing::{swap_run, write_run};
 use ec_areas::{
     Extent, are_apart, extent_of, fmmu_at, fmmus_of, read_mapped, sync_manager_at,
     sync_managers_of, write_mapped, writes_outputs,
@@ -308,6 +310,48 @@ impl PlannedMemory {
             first: address,
             count: bytes.len() as u16,
         };
+        let bytes = self.memory.bytes();
+        renew_fmmus(&mut self.fmmus, &mut self.is_surveyed, bytes, written);
+        renew_managers(&mut self.managers, bytes, written);
+    }
+
+    /// Writes the data from an address on, as far as the bytes there take writes by the records on arrival.
+    /// Records of which a byte was written are decoded once, behind the last byte.
+    pub(crate) fn write_run(&mut self, managers: &SyncManagers, from: u16, payload: &[u8])
+        requires size { length self.old ≡ MEMORY_SIZE }
+        requires bytes { AreBytes self.old }
+        requires records { managers.now ≡ sync_managers_of self.old }
+        requires inside { from + length payload.now ≤ MEMORY_SIZE }
+        ensures size { length self.new ≡ MEMORY_SIZE }
+        ensures written { self.new
+            ≡ with_bits self.old payload.now (written_places self.old from (length payload.now)) }
+    {
+        write_run(&mut self.memory, managers, from, payload);
+        let written = AddressRange {
+            first: from,
+            count: payload.len() as u16,
+        };
+        let bytes = self.memory.bytes();
+        renew_fmmus(&mut self.fmmus, &mut self.is_surveyed, bytes, written);
+        renew_managers(&mut self.managers, bytes, written);
+    }
+
+    /// Writes the data from an address on as `write_run` does, and fills it with the bytes that stood there.
+    pub(crate) fn swap_run(&mut self, managers: &SyncManagers, from: u16, payload: &mut [u8])
+        requires size { length self.old ≡ MEMORY_SIZE }
+        requires bytes { AreBytes self.old }
+        requires records { managers.now ≡ sync_managers_of self.old }
+        requires inside { from + length payload.old ≤ MEMORY_SIZE }
+        ensures size { length self.new ≡ MEMORY_SIZE }
+        ensures written { self.new
+            ≡ with_bits self.old payload.old (written_places self.old from (length payload.old)) }
+        ensures read { payload.new ≡ with_bits payload.old self.old (range_sources from) }
+    {
+        let written = AddressRange {
+            first: from,
+            count: payload.len() as u16,
+        };
+        swap_run(&mut self.memory, managers, from, payload);
         let bytes = self.memory.bytes();
         renew_fmmus(&mut self.fmmus, &mut self.is_surveyed, bytes, written);
         renew_managers(&mut self.managers, bytes, written);

@@ -20,7 +20,7 @@ use crate::planned::PlannedMemory;
 use crate::process::are_bytes;
 use ec_areas::{filled_by, last_byte, takes_writes, told_of_each};
 use ec_regs::registers::{AL_CONTROL, SYNC_MANAGER_COUNT};
-use ec_regs::{AddressRange, PlannedSyncMan, SyncManagers, status_address};
+use ec_regs::{AddressRange, Memory, PlannedSyncMan, SyncManagers, status_address};
 
 /// The status of a sync manager that was switched on or off.
 const EMPTY: u8 = 0x00;
@@ -36,7 +36,7 @@ fn arrived_records(memory: &PlannedMemory) -> SyncManagers
 }
 
 /// Writes the byte at an address where it takes writes by the records on arrival; all else stays.
-fn write_byte(memory: &mut PlannedMemory, managers: &SyncManagers, address: u16, byte: u8)
+fn write_byte(memory: &mut Memory, managers: &SyncManagers, address: u16, byte: u8)
     requires inside { address < MEMORY_SIZE }
     requires records { (arrived : List ℕ) × (managers.now ≡ sync_managers_of arrived) }
     ensures { (arrived : List ℕ) → managers.now ≡ sync_managers_of arrived → memory.new
@@ -48,7 +48,7 @@ fn write_byte(memory: &mut PlannedMemory, managers: &SyncManagers, address: u16,
 }
 
 /// Writes the data from an address on, as far as the bytes there take writes by the records on arrival.
-fn write_run(memory: &mut PlannedMemory, managers: &SyncManagers, from: u16, payload: &[u8])
+pub(crate) fn write_run(memory: &mut Memory, managers: &SyncManagers, from: u16, payload: &[u8])
     requires size { length memory.old ≡ MEMORY_SIZE }
     requires bytes { AreBytes memory.old }
     requires records { managers.now ≡ sync_managers_of memory.old }
@@ -63,7 +63,7 @@ fn write_run(memory: &mut PlannedMemory, managers: &SyncManagers, from: u16, pay
 }
 
 /// Writes the data from an address on as `write_run` does, and fills it with the bytes that stood there.
-fn swap_run(memory: &mut PlannedMemory, managers: &SyncManagers, from: u16, payload: &mut [u8])
+pub(crate) fn swap_run(memory: &mut Memory, managers: &SyncManagers, from: u16, payload: &mut [u8])
     requires size { length memory.old ≡ MEMORY_SIZE }
     requires bytes { AreBytes memory.old }
     requires records { managers.now ≡ sync_managers_of memory.old }
@@ -186,7 +186,7 @@ impl Controller {
             ≡ written_by (range_taken n self.old from (length payload.now)) payload.now self.old }
     {
         let before = arrived_records(&self.memory);
-        write_run(&mut self.memory, &before, from, payload);
+        self.memory.write_run(&before, from, payload);
         self.finish_write(&before, range_of(from, payload));
     }
 
@@ -199,7 +199,7 @@ impl Controller {
         ensures read { payload.new ≡ with_bits payload.old self.old.memory (range_sources from) }
     {
         let before = arrived_records(&self.memory);
-        swap_run(&mut self.memory, &before, from, payload);
+        self.memory.swap_run(&before, from, payload);
         self.finish_write(&before, range_of(from, payload));
     }
 }

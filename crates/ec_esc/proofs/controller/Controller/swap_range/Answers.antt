@@ -18,8 +18,8 @@ returns-clause-state c n =
     let before_is = c.arrived_records-before.ensures.value in
     let count_is : length c.swap_run.new.payload ≡ length payload = omega arith in
     rw c.range_of.ensures at (c.finish_write.ensures came.memory before_is)
-    ∙ ap (λ (m : ℕ). range_state came c.arrived_records-before.result from m c.swap_run.new.memory) count_is
-    ∙ ap (λ (ms : List SyncMan). range_state came ms from (length payload) c.swap_run.new.memory) before_is
+    ∙ ap (λ (m : ℕ). range_state came c.arrived_records-before.result from m c.swap_run.new.self) count_is
+    ∙ ap (λ (ms : List SyncMan). range_state came ms from (length payload) c.swap_run.new.self) before_is
     ∙ ap (range_state came (sync_managers_of came.memory) from (length payload)) c.swap_run.ensures.written
     ∙ written_range came from payload n
     ∙ ap (λ (s : ControllerState). written_by (range_taken n s from (length payload)) payload s)

@@ -17,7 +17,7 @@ returns c n =
     let payload : List ℕ = c.args.payload.now in
     let before_is = c.arrived_records-before.ensures.value in
     rw c.range_of.ensures at (c.finish_write.ensures came.memory before_is)
-    ∙ ap (λ (ms : List SyncMan). range_state came ms from (length payload) c.write_run.new.memory) before_is
+    ∙ ap (λ (ms : List SyncMan). range_state came ms from (length payload) c.write_run.new.self) before_is
     ∙ ap (range_state came (sync_managers_of came.memory) from (length payload)) c.write_run.ensures.written
     ∙ written_range came from payload n
     ∙ ap (λ (s : ControllerState). written_by (range_taken n s from (length payload)) payload s)
