@@ -883,3 +883,57 @@ def a_line_elsewhere_is_asked(stage):
         yield "sdo", "value 0x00000101\n0\n", stage.ends(*words)
         yield "surely", "value 0x00000101\n0\n", stage.ends(*words, "--surely")
         yield "no slave", "fault NoSlave\n1\n", stage.ends("sdo", "m", "0x2002", "0x1018", "2", *at)
+
+
+# The scenes that people read.
+SCENES = os.path.join(os.path.dirname(os.path.abspath(__file__)), "..", "scenes")
+
+# Commands, and the KB of stack and of address space that each has to get by with: hardly more than it took
+# before its works were lent from cycle to cycle.
+ROOMS = [
+    ("check check/accepted.scene", 152, 4096),
+    ("cover cover/left_out.scene", 152, 4096),
+    ("lint check/accepted.scene", 152, 4096),
+    ("where where/one_link_down.scene", 168, 4096),
+    ("run first.scene", 184, 4096),
+    ("run first.scene --judge", 184, 4096),
+    ("sweep sweep/two_slaves.scene", 320, 4096),
+    ("sdo sdo/lost_answer.scene 0x1001 0x1018 1 --surely", 200, 4096),
+    ("show startup.pcap", 112, 4096),
+    ("list startup.pcap --stats", 112, 4096),
+    ("vectors", 512, 4224),
+]
+
+
+def within(stage, limits, words):
+    """What a program leaves that runs under these limits of a shell."""
+    begin = "".join(f"ulimit {limit} && " for limit in limits)
+    command = ["/bin/sh", "-c", begin + 'exec "$0" "$@"', stage.ecat, *words]
+    done = subprocess.run(
+        command, env={}, cwd=SCENES, stdin=subprocess.DEVNULL, capture_output=True, timeout=stage.limit
+    )
+    return (done.stdout + done.stderr).decode("latin-1") + f"{done.returncode}\n"
+
+
+@case
+def commands_get_by_with_little_stack_and_memory(stage):
+    for line, stack, space in ROOMS:
+        words = line.split()
+        ample = within(stage, [], words)
+        yield f"{line}: stack", ample, within(stage, [f"-s {stack}"], words)
+        yield f"{line}: memory", ample, within(stage, [f"-s {stack}", f"-v {space}"], words)
+
+
+@case
+def a_master_gets_by_with_little_stack(stage):
+    stage.file("m", MACHINE)
+    scene = os.path.join(stage.folder, "m")
+    at = ("--at", both_ends(stage))
+    with stage.serve(MACHINE, "--forever"):
+        for words, stack in [
+            (("master", scene, *at, "--cycles", "3", "--every", "1000"), 728),
+            (("scan", *at), 208),
+            (("where", scene, *at), 196),
+        ]:
+            ample, little = (last_lines(within(stage, limits, words), 1) for limits in ([], [f"-s {stack}"]))
+            yield f"{words[0]}: stack", ample, little

@@ -23,7 +23,6 @@ use std::marker::Model;
 pub struct CheckedRing {
     ring: Ring,
     work: Work,
-    sent: Work,
     expected: [u16; MAX_ITEMS],
 }
 
@@ -39,23 +38,19 @@ impl Model for CheckedRing {
 
 impl CheckedRing {
     /// Checks a ring's line and a work on it (`accept`).
+    #[inline(never)]
     pub fn of(ring: Ring, work: Work) -> Result<CheckedRing, Refusal>
         ensures ring { IfOk result (λ checked. checked.ring ≡ ring) }
         ensures work { IfOk result (λ checked. checked.work ≡ work) }
         ensures refused { IfErr result (IsRefusal ring.slaves work) }
     {
-        match accept(ring.slaves(), &work) {
-            Ok(()) => {
-                let expected = all_expected(ring.slaves(), &work);
-                Ok(CheckedRing {
-                    ring,
-                    work,
-                    sent: Work::new(),
-                    expected,
-                })
-            }
-            Err(refusal) => Err(refusal),
-        }
+        accept(ring.slaves(), &work)?;
+        let expected = all_expected(ring.slaves(), &work);
+        Ok(CheckedRing {
+            ring,
+            work,
+            expected,
+        })
     }
 
     /// The ring.
@@ -72,8 +67,9 @@ impl CheckedRing {
         &self.work
     }
 
-    /// Makes one cycle in any weather (`weather_cycle`).
-    pub fn cycle(&mut self, weather: &[Weather]) -> Verdict
+    /// Makes one cycle in any weather (`weather_cycle`), with a second work as room for what was sent. What
+    /// that one holds before and after does not matter.
+    pub fn cycle(&mut self, weather: &[Weather], sent: &mut Work) -> Verdict
         ensures judged { result ≡ verdict_under weather.now self.old.ring self.old.work }
         ensures taken { self.new.work
             ≡ taken_on result self.old.work (answers_under weather.now self.old.ring self.old.work) }
@@ -85,7 +81,7 @@ impl CheckedRing {
             weather,
             &self.expected[..count],
             &mut self.work,
-            &mut self.sent,
+            sent,
         );
         self.work.are_items();
         verdict

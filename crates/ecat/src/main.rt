@@ -196,6 +196,7 @@ where
 /// Opens the capture that is to be shown, shows it, and tells what it is where it is none. Each packet's
 /// lines come at once where somebody reads them at a terminal, or the capture may still grow since it is no
 /// plain file.
+#[inline(never)]
 fn open_capture<R, W, V>(rt: &R, path: &str, is_read: bool, out: &mut W, err: &mut V) -> u8
 where
     R: Files + AllocGlobal,
@@ -223,6 +224,7 @@ fn is_plain<F: OpenFile>(file: &F) -> bool {
 }
 
 /// Opens the capture of a listing, standard input where it is `-`, and lists it.
+#[inline(never)]
 fn open_listing<R, W, V>(
     rt: &R,
     file: &str,

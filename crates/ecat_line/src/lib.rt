@@ -31,4 +31,4 @@ pub use reading::{scene_for_packets, scene_of, unread};
 pub use records::records_of;
 pub use stepping_ports::SteppingPorts;
 pub use weathers::weathers_of;
-pub use work::work_of;
+pub use work::{push_items, work_of};

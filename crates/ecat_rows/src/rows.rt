@@ -30,6 +30,7 @@ use std::fmt;
 use std::io::Write;
 
 /// Runs all rows and prints a line for each.
+#[inline(never)]
 pub fn vectors<W: Write>(alloc: Global, out: &mut W) -> Result<u8, LineFailure> {
     let rows = [
         (1, unmapped_read_is_unchanged(alloc)?),

@@ -13,6 +13,7 @@ use std::io::{self, Write};
 /// Sends one frame over the line of the scene that the source holds, in its first weather, or under its links
 /// where it has none, and prints where the copies came back and where the cable is broken. The actions and
 /// items of the scene are passed over.
+#[inline(never)]
 pub fn where_broken<S: Source, W: Write>(
     alloc: Global,
     source: &mut S,

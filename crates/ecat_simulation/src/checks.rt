@@ -8,6 +8,7 @@ use std::io::Write;
 
 /// Checks the line of the scene that the source holds, then its items in their order, and prints `accepted`
 /// or what is refused first. Its actions and weathers are passed over.
+#[inline(never)]
 pub fn check<S: Source, W: Write>(
     alloc: Global,
     source: &mut S,

@@ -70,6 +70,7 @@ impl fmt::Display for NotShownText {
 /// Checks the line of the scene that the source holds and its items, and then prints `covered`, or the first
 /// mapped bit that no item carries, or the first area of outputs that is not shown to its application. The
 /// actions and weathers of the scene are passed over.
+#[inline(never)]
 pub fn cover<S: Source, W: Write>(
     alloc: Global,
     source: &mut S,

@@ -10,6 +10,7 @@ use std::io::Write;
 
 /// Prints what is odd in the scene that the source holds, a line each; and where it has no items, why its
 /// line is refused if it is, which no cycle would tell.
+#[inline(never)]
 pub fn lint<S: Source, W: Write>(
     alloc: Global,
     source: &mut S,

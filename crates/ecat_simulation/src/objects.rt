@@ -40,6 +40,7 @@ pub struct Asked {
 /// value, `written`, or what is in the way. The actions and items of the scene are passed over, and so are
 /// its weathers, unless it is done surely: each trip is under the next of them then, and `err` is told how
 /// many trips there were.
+#[inline(never)]
 pub fn sdo<S, W, V>(
     alloc: Global,
     asked: &Asked,

@@ -6,7 +6,7 @@ use crate::judge::{judged_cycle, print_cable};
 use ec_master::{Reporting, Work, all_expected};
 use ec_process::Applications;
 use ec_ring::Weather;
-use ecat_line::{LineFailure, applications_of, ring_of, scene_of, weathers_of, work_of};
+use ecat_line::{LineFailure, applications_of, push_items, ring_of, scene_of, weathers_of};
 use ecat_scene::Action;
 use ecat_source::Source;
 use ecat_tape::{Moments, Recorder, TapedPorts, TapedRing};
@@ -19,6 +19,7 @@ use std::io::Write;
 /// that the master writes. Applications act behind each step and behind the cycle. With `judge` the cycle is
 /// judged whatever the scene has, and what is in the way of a good verdict is printed. All memory is taken
 /// before anything is printed. Each copy of its frames is recorded, if anybody wants it.
+#[inline(never)]
 pub fn run<'t, 'o, S, W, T, M>(
     alloc: Global,
     judge: bool,
@@ -48,7 +49,8 @@ where
     if refuse(ring.ring.slaves(), scene.items.as_slice(), &mut lines)? {
         return Ok(REFUSED);
     }
-    let mut work = work_of(scene.items)?;
+    let mut work = Work::new();
+    push_items(&mut work, scene.items)?;
     if judge {
         return judged(
             ring,

@@ -5,9 +5,10 @@ ghost use Rattle.ecat_simulation.specs.Sweeps.{case_words, sums_words, swept_wor
 
 use crate::carry::carry;
 use ec_diag::seen;
+use ec_map::Item;
 use ec_master::{CheckedRing, MAX_ITEMS, Verdict, Work, frame_from};
 use ec_ring::{Links, Port, Ring, Travel, Weather};
-use ecat_line::{LineFailure, put, ring_of, scene_of, work_of};
+use ecat_line::{LineFailure, push_items, put, ring_of, scene_of};
 use ecat_scene::{Action, Scene};
 use ecat_source::Source;
 use ecat_text::{GOOD, Lines, Missing, PortText, REFUSED, VerdictText, missing_of, refuse};
@@ -141,16 +142,35 @@ pub fn sweep<S: Source, W: Write>(
     for link in &links_down {
         put(&mut ring, *link as usize, true);
     }
-    let cycles = match CheckedRing::of(ring, work_of(items)?) {
-        Ok(cycles) => cycles,
-        Err(_) => return Ok(REFUSED),
-    };
-    let mut sweeper = Sweeper {
-        cycles,
-        lines,
-        sums: Sums::new(),
-    };
-    Ok(sweeper.all()?)
+    swept(ring, items, lines)
+}
+
+/// Does all cycles of a sweep of these items over the ring, whose links are all up, and answers the status.
+/// Its works are large: they have a frame of their own, which no other command pays for, and stay where they
+/// are made.
+#[inline(never)]
+fn swept<W: Write>(ring: Ring, items: Vec<Item>, lines: Lines<'_, W>) -> Result<u8, LineFailure> {
+    if items.len() > MAX_ITEMS {
+        return Err(LineFailure::TooMany);
+    }
+    match &mut CheckedRing::of(ring, counted_work(items)) {
+        Ok(cycles) => Ok(Sweeper {
+            cycles,
+            lines,
+            sums: Sums::new(),
+        }
+        .all()?),
+        Err(_) => Ok(REFUSED),
+    }
+}
+
+/// The work of items, of which there are not too many. A result that has a work in it would take its place
+/// on the stack once more.
+#[inline(never)]
+fn counted_work(items: Vec<Item>) -> Work {
+    let mut work = Work::new();
+    let _ = push_items(&mut work, items);
+    work
 }
 
 /// Does one action of a scene.
@@ -168,22 +188,24 @@ fn do_action(ring: &mut Ring, action: &Action) -> Result<(), LineFailure> {
 
 /// A sweep on its way: its ring, whose links are all up between its cycles, and its work.
 #[derive(Drop)]
-struct Sweeper<'a, W> {
-    cycles: CheckedRing,
-    lines: Lines<'a, W>,
+struct Sweeper<'a, 'o, W> {
+    cycles: &'a mut CheckedRing,
+    lines: Lines<'o, W>,
     sums: Sums,
 }
 
-impl<'a, W: Write> Sweeper<'a, W> {
-    /// Does all cycles, and answers the status.
+impl<W: Write> Sweeper<'_, '_, W> {
+    /// Does all cycles, with one room for what is sent, and answers the status.
+    #[inline(never)]
     fn all(&mut self) -> io::Result<u8> {
-        let whole = self.cycle(Case::Whole, &[])?;
-        let singles = self.single_breaks()?;
+        let mut sent = Work::new();
+        let whole = self.cycle(Case::Whole, &[], &mut sent)?;
+        let singles = self.single_breaks(&mut sent)?;
         for first in 0..=self.last_link() {
-            self.breaks_with(first)?;
+            self.breaks_with(first, &mut sent)?;
         }
         for frame in 0..frames_of(self.cycles.work()) {
-            self.losses(frame)?;
+            self.losses(frame, &mut sent)?;
         }
         self.lines.text(self.sums)?;
         self.lines.end()?;
@@ -195,11 +217,11 @@ impl<'a, W: Write> Sweeper<'a, W> {
     }
 
     /// Each link down in turn. Are all cycles good?
-    fn single_breaks(&mut self) -> io::Result<bool> {
+    fn single_breaks(&mut self, sent: &mut Work) -> io::Result<bool> {
         let mut good = true;
         for link in 0..=self.last_link() {
             self.put(link, false);
-            let verdict = self.cycle(Case::Link(link), &[])?;
+            let verdict = self.cycle(Case::Link(link), &[], sent)?;
             self.put(link, true);
             good = good && verdict == Verdict::Good;
         }
@@ -207,11 +229,11 @@ impl<'a, W: Write> Sweeper<'a, W> {
     }
 
     /// This link down, and each behind it in turn.
-    fn breaks_with(&mut self, first: usize) -> io::Result<()> {
+    fn breaks_with(&mut self, first: usize, sent: &mut Work) -> io::Result<()> {
         self.put(first, false);
         for second in first.saturating_add(1)..=self.last_link() {
             self.put(second, false);
-            self.cycle(Case::Links(first, second), &[])?;
+            self.cycle(Case::Links(first, second), &[], sent)?;
             self.put(second, true);
         }
         self.put(first, true);
@@ -219,14 +241,14 @@ impl<'a, W: Write> Sweeper<'a, W> {
     }
 
     /// Each copy of this frame lost in turn, on the whole ring.
-    fn losses(&mut self, frame: usize) -> io::Result<()> {
+    fn losses(&mut self, frame: usize, sent: &mut Work) -> io::Result<()> {
         if frame < MAX_ITEMS {
             let mut weathers = [Weather::calm(Links::new()); MAX_ITEMS];
             weathers[frame].lost_a = true;
-            self.cycle(Case::Lost(frame, Port::A), &weathers)?;
+            self.cycle(Case::Lost(frame, Port::A), &weathers, sent)?;
             weathers[frame].lost_a = false;
             weathers[frame].lost_b = true;
-            self.cycle(Case::Lost(frame, Port::B), &weathers)?;
+            self.cycle(Case::Lost(frame, Port::B), &weathers, sent)?;
         }
         Ok(())
     }
@@ -246,8 +268,8 @@ impl<'a, W: Write> Sweeper<'a, W> {
 
     /// Does the cycle once, prints its line and counts it. Where the cable is broken is what a frame would
     /// tell that is sent under these links (`seen`).
-    fn cycle(&mut self, case: Case, weathers: &[Weather]) -> io::Result<Verdict> {
-        let verdict = self.cycles.cycle(weathers);
+    fn cycle(&mut self, case: Case, weathers: &[Weather], sent: &mut Work) -> io::Result<Verdict> {
+        let verdict = self.cycles.cycle(weathers, sent);
         self.cycles.rewind();
         let ring = self.cycles.ring();
         let slaves = ring.slaves().len();
