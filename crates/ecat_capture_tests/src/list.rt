@@ -5,6 +5,7 @@ mod ends;
 mod first_form;
 mod lines;
 mod made;
+mod refused;
 mod same;
 mod samples;
 mod stats;

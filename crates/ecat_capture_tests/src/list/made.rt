@@ -5,12 +5,14 @@ mod cycles;
 mod files;
 mod frames;
 mod packets;
+mod steps;
 
 use chance::Chance;
 pub(super) use cycles::{cycles, many_groups};
 use files::File;
 pub(super) use files::Layout;
 use std::alloc::{AllocError, Global};
+pub(super) use steps::stepped;
 
 /// How many packets a made capture has.
 const PACKETS: u32 = 40;

@@ -5,6 +5,7 @@
 
 use super::first_form::list_at_first;
 use super::made::{cycles, long_lines, many_groups, mixed};
+use super::refused::Refusal;
 use ecat_list::{Asked, Form, Listed, list};
 use ecat_source::FailsAt;
 use std::alloc::{AllocError, Global};
@@ -18,10 +19,14 @@ const MIXED: u32 = 36;
 const OF_CYCLES: u32 = 60;
 
 /// All forms of a listing.
-const FORMS: [Form; 4] = [Form::Lines, Form::Csv, Form::Faults, Form::Stats];
+pub(super) const FORMS: [Form; 4] = [Form::Lines, Form::Csv, Form::Faults, Form::Stats];
 
 /// What stands in what was gathered where it was flushed: a byte that no text of a listing has.
 const FLUSHED: u8 = 0;
+
+/// For how many bytes an output has room before the listing begins: for all that a listing of a made capture
+/// writes, so that no request for memory but its own comes while it is under way.
+const GATHERED: usize = 1 << 20;
 
 /// An output that gathers what is written, and fails once it has so many bytes.
 #[derive(Drop)]
@@ -62,21 +67,22 @@ impl Write for Gathered {
     }
 }
 
-/// A capture, how it is listed, after how many bytes the output fails and how, and after how many reads of
-/// the source one fails.
+/// A capture, how it is listed, after how many bytes the output fails and how, after how many reads of the
+/// source one fails, and which request for memory is refused.
 #[derive(Clone, Copy)]
-struct Case<'a> {
+pub(super) struct Case<'a> {
     file: &'a [u8],
     form: Form,
     live: bool,
     room: usize,
     kind: ErrorKind,
     reads: u64,
+    refusal: Refusal,
 }
 
 impl<'a> Case<'a> {
     /// A capture that is listed with no failure.
-    fn whole(file: &'a [u8], form: Form, live: bool) -> Case<'a> {
+    pub(super) fn whole(file: &'a [u8], form: Form, live: bool) -> Case<'a> {
         Case {
             file,
             form,
@@ -84,25 +90,26 @@ impl<'a> Case<'a> {
             room: usize::MAX,
             kind: ErrorKind::Other,
             reads: u64::MAX,
+            refusal: Refusal::Never,
         }
+    }
+
+    /// The case with such a refusal.
+    pub(super) fn refusing(self, refusal: Refusal) -> Case<'a> {
+        Case { refusal, ..self }
     }
 }
 
-/// What a listing wrote, and how it ended.
+/// What a listing wrote, how it ended, and whether a request for memory was refused.
 #[derive(Drop)]
 struct Outcome {
     bytes: Vec<u8>,
     listed: Listed,
+    refused: bool,
 }
 
-/// What comes of a case, now or at first, or memory runs out.
-fn told_of(alloc: Global, case: &Case<'_>, at_first: bool) -> Result<Outcome, AllocError> {
-    let mut out = Gathered {
-        bytes: Vec::new(alloc),
-        left: case.room,
-        kind: case.kind,
-        lacks_memory: false,
-    };
+/// Lists a case, now or at first.
+fn list_case(alloc: Global, case: &Case<'_>, at_first: bool, out: &mut Gathered) -> Listed {
     let mut err = Cursor::new([0u8; 8]);
     let asked = Asked {
         form: case.form,
@@ -110,17 +117,31 @@ fn told_of(alloc: Global, case: &Case<'_>, at_first: bool) -> Result<Outcome, Al
         progress: false,
     };
     let source = FailsAt::new(case.file, 4096, case.reads);
-    let listed = if at_first {
-        list_at_first(alloc, source, asked, &mut out, &mut err)
+    if at_first {
+        list_at_first(alloc, source, asked, out, &mut err)
     } else {
-        list(alloc, source, asked, &mut out, &mut err)
+        list(alloc, source, asked, out, &mut err)
+    }
+}
+
+/// What comes of a case, now or at first, or memory runs out where no request was to be refused.
+fn told_of(alloc: Global, case: &Case<'_>, at_first: bool) -> Result<Outcome, AllocError> {
+    let mut out = Gathered {
+        bytes: Vec::with_capacity(alloc, GATHERED)?,
+        left: case.room,
+        kind: case.kind,
+        lacks_memory: false,
     };
-    if out.lacks_memory || listed == Listed::NoMemory {
+    case.refusal.begin(alloc);
+    let listed = list_case(alloc, case, at_first, &mut out);
+    let refused = case.refusal.end(alloc);
+    if out.lacks_memory || (listed == Listed::NoMemory && !refused) {
         return Err(AllocError);
     }
     Ok(Outcome {
         bytes: out.bytes,
         listed,
+        refused,
     })
 }
 
@@ -138,29 +159,31 @@ fn first_difference(some: &[u8], others: &[u8]) -> usize {
 fn assert_alike(rt: &impl Abort, case: &Case<'_>, now: &Outcome, first: &Outcome) {
     assert!(rt;
         now.bytes.as_slice() == first.bytes.as_slice(),
-        "{:?}, live {}, room {}: other bytes from {} on",
+        "{:?}, live {}, room {}, refusal {:?}: other bytes from {} on",
         case.form,
         case.live,
         case.room,
+        case.refusal,
         first_difference(&now.bytes, &first.bytes)
     );
     assert!(rt;
         now.listed == first.listed,
-        "{:?}, live {}, room {}: {:?}, not {:?}",
+        "{:?}, live {}, room {}, refusal {:?}: {:?}, not {:?}",
         case.form,
         case.live,
         case.room,
+        case.refusal,
         now.listed,
         first.listed
     );
 }
 
-/// A case is listed as in the first form, or memory runs out.
-fn compare(rt: &impl Abort, alloc: Global, case: &Case<'_>) -> Result<(), AllocError> {
+/// A case is listed as in the first form, or memory runs out. Was a request for memory refused?
+pub(super) fn compare(rt: &impl Abort, alloc: Global, case: &Case<'_>) -> Result<bool, AllocError> {
     let now = told_of(alloc, case, false)?;
     let first = told_of(alloc, case, true)?;
     assert_alike(rt, case, &now, &first);
-    Ok(())
+    Ok(now.refused || first.refused)
 }
 
 /// A capture is listed as in the first form in each form, at once and live.
@@ -173,7 +196,7 @@ fn compare_forms(rt: &impl Abort, alloc: Global, file: &[u8]) -> Result<(), Allo
 }
 
 /// Asserts that no memory is left for one byte: then alone a comparison may be left out.
-fn assert_no_memory(rt: &impl Abort, alloc: Global) {
+pub(super) fn assert_no_memory(rt: &impl Abort, alloc: Global) {
     assert!(rt;
         Vec::from_slice(alloc, &[0u8]).is_err(),
         "memory is there, and a listing had none"
@@ -201,7 +224,8 @@ fn packets_of_every_kind_are_listed_as_at_first(rt: HostRuntime) {
 fn compare_cycles(rt: &impl Abort, alloc: Global, number: u32) -> Result<(), AllocError> {
     let file = cycles(alloc, number)?;
     compare(rt, alloc, &Case::whole(&file, Form::Stats, false))?;
-    compare(rt, alloc, &Case::whole(&file, Form::Stats, true))
+    compare(rt, alloc, &Case::whole(&file, Form::Stats, true))?;
+    Ok(())
 }
 
 #[test]
@@ -218,7 +242,8 @@ fn cycles_in_each_order_are_counted_as_at_first(rt: HostRuntime) {
 /// The datagrams of more groups than are told apart are counted as in the first form.
 fn compare_many_groups(rt: &impl Abort, alloc: Global) -> Result<(), AllocError> {
     let file = many_groups(alloc)?;
-    compare(rt, alloc, &Case::whole(&file, Form::Stats, false))
+    compare(rt, alloc, &Case::whole(&file, Form::Stats, false))?;
+    Ok(())
 }
 
 #[test]
@@ -250,12 +275,9 @@ fn compare_failing(
         (true, ErrorKind::StorageFull),
     ] {
         let case = Case {
-            file,
-            form,
-            live,
             room,
             kind,
-            reads: u64::MAX,
+            ..Case::whole(file, form, live)
         };
         compare(rt, alloc, &case)?;
     }
