@@ -88,6 +88,30 @@ Keeps-adp {cells} {cells'} {starts} {part} {size} {at} {adp} {rs} k kept h small
     ∙ ap (λ xs. (code_of r.command ∷ r.index ∷ []) ++ (xs ++ behind)) (adp_low adp r.address ∙ sym written))
     (ap length written) place made
 
+index-in : (more : Bool) (r : DatagramRecord) (n : ℕ)
+    → datagram more (record r { index = n }) ≡ (code_of r.command ∷ []) ++ ((n ∷ []) ++ drop 2 (datagram more r))
+unfolding datagram
+index-in more r n = refl
+
+-- the index of the datagram at an index is replaced
+pub Keeps-index : {cells cells' starts part : List ℕ} {size at n : ℕ} {rs : List DatagramRecord} (k : ℕ)
+    → Keeps cells size starts rs → k < length rs → n < 2 ^ 8 → part ≡ n ∷ []
+    → at ≡ start_of rs k + 1
+    → cells' ≡ take at cells ++ (part ++ drop (at + length part) cells)
+    → Keeps cells' size starts (set rs k (record (nth rs k) { index = n }))
+unfolding datagram
+Keeps-index {cells} {cells'} {starts} {part} {size} {at} {n} {rs} k kept h small written place made =
+    let r = nth rs k in
+    let more = more_behind k rs in
+    let f = All-get_or Fits rs k blank h kept.value.fits in
+    Keeps-field cells cells' size starts rs k (record r { index = n }) (code_of r.command ∷ [])
+    (r.index ∷ []) part (drop 2 (datagram more r)) at kept h
+    (record { index = small; address = f.address; irq = f.irq; payload = f.payload; counter = f.counter })
+    refl
+    (index-in more r r.index)
+    (index-in more r n ∙ ap (λ xs. (code_of r.command ∷ []) ++ (xs ++ drop 2 (datagram more r))) (sym written))
+    (ap length written) place made
+
 irq-in : (more : Bool) (r : DatagramRecord) (n : ℕ)
     → datagram more (record r { irq = n }) ≡ take 8 (datagram more r)
     ++ (to_le_bytes w16 n ++ drop 10 (datagram more r))

@@ -6,7 +6,7 @@ ghost use Rattle.ec_wire.specs.Datagram.{nth, with_adp};
 ghost use Rattle.ec_wire.specs.Lending.{LendsData};
 
 use crate::frame::FrameBuf;
-use crate::layout::{ADDRESS, HEAD, IRQ, LENGTH};
+use crate::layout::{ADDRESS, HEAD, INDEX, IRQ, LENGTH};
 use crate::write::length_field;
 
 impl FrameBuf {
@@ -28,6 +28,16 @@ impl FrameBuf {
     {
         let at = self.start(k) + HEAD + self.data_len(k);
         self.cells.put(at, &counter.to_le_bytes());
+    }
+
+    /// Sets the index of the datagram at `k`, the byte by which a master tells its datagrams apart, and
+    /// leaves all else.
+    pub fn set_index(&mut self, k: usize, index: u8)
+        requires { k < length self.old }
+        ensures { self.new ≡ slice_set self.old k (record (nth self.old k) { index = index }) }
+    {
+        let at = self.start(k) + INDEX;
+        self.cells.put(at, &[index]);
     }
 
     /// Sets the low 16 bits of the address of the datagram at `k`, whatever its command, and leaves

@@ -1,0 +1,14 @@
+pub mod CopyLemmas
+pub mod PassLemmas
+pub mod WalkLemmas
+pub mod SealLemmas
+pub mod ApartLemmas
+pub mod OpenedLemmas
+pub mod TripLemmas
+pub mod ComesLemmas
+pub mod ArriveLemmas
+pub mod TrueLemmas
+pub mod SealsLemmas
+pub mod NetworkLemmas
+pub mod ToldLemmas
+pub mod Laws
