@@ -1,6 +1,7 @@
 //! A line that lies somewhere else: the master that runs on it, and what it is asked.
 
-ghost use Rattle.std.specs.Prelude.{◌≡◌, length};
+ghost use Rattle.std.specs.Prelude.{◌≡◌, ◌<◌, length};
+ghost use Rattle.ec_seal.specs.declared.seals.TheConstants.{TRIPS};
 ghost use Rattle.ecat_acts.specs.Failures.{unscanned};
 ghost use Rattle.ecat_acts.specs.declared.failure.Failure.TheVariants.{Far};
 
@@ -9,8 +10,9 @@ use arrayvec::ArrayVec;
 use ec_master::{MAX_ITEMS, Ports, Work, all_expected};
 use ec_ring::HeardPorts;
 use ec_run::{MAX_STARTUP, StartupObject, Wanted, Watched, image_length, wanted_of};
+use ec_seal::{Seals, TRIPS};
 use ec_wire::{Command, Datagram, FrameBuf};
-use ecat_far::{FarPorts, OpenFault, UdpCarrier, ends_of};
+use ecat_far::{Carrier, ClockTimer, FarPorts, OpenFault, Patience, Timer, UdpCarrier, ends_of};
 use ecat_line::{LineFailure, ring_of, scene_for_packets, work_of};
 use ecat_master::{Pace, Plan, ScanEnd, master, scan};
 use ecat_raw::{Descriptors, RawCarrier, descriptors_of};
@@ -20,13 +22,18 @@ use ecat_text::{GOOD, Lines, REFUSED, refuse};
 use std::alloc::Global;
 use std::io::Write;
 use std::net::Net;
-use std::time::Duration;
+use std::rt::Clock;
+use std::time::{SystemTime, UNIX_EPOCH};
 
-/// How long a copy is waited for by UDP where the words don't say, in microseconds.
+/// How long a trip waits for its copies where the words don't say, in microseconds.
 const LIMIT: u32 = 20_000;
 
-/// How long it is waited for at a network interface.
-const RAW_LIMIT: u32 = 2_000;
+/// How long a copy that did not come may still be on its way, in microseconds.
+const LATE: u64 = 1_000_000;
+
+/// In how many microseconds the first trip of a master that begins then is the next one: all have had their
+/// turn in about a second.
+const TURN: u128 = 128;
 
 /// What is written to a slave in Pre-Op.
 type Startup = [Option<StartupObject>; MAX_STARTUP];
@@ -76,31 +83,82 @@ impl From<ScanEnd> for Failure {
 /// The two ports of a master whose line lies there, `HOST:PORT` or two of them with a comma between; a copy
 /// is waited for so many microseconds. A first frame that asks nothing has gone out from each, so that
 /// whoever serves the line knows where both are.
-pub fn far_ports(
-    net: &impl Net,
+pub fn far_ports<'a, R>(
+    rt: &'a R,
     at: &str,
     limit: Option<u32>,
-) -> Result<FarPorts<UdpCarrier>, Failure> {
-    let carrier = UdpCarrier::open(net, ends_of(at), patience(limit, LIMIT))?;
-    let mut ports = FarPorts::new(carrier);
+) -> Result<FarPorts<UdpCarrier, ClockTimer<'a, R>>, Failure>
+where
+    R: Clock + Net + AllocGlobal,
+{
+    let carrier = UdpCarrier::open(rt, ends_of(at))?;
+    let timer = timer_of(rt)?;
+    let mut ports = ports_over(rt, carrier, timer, limit)?;
     let _ = ports.trip(&greeting());
     Ok(ports)
 }
 
-/// The two ports of a master at packet sockets.
-pub fn raw_ports(
+/// The two ports of a master at packet sockets. What an earlier master may have sent over the same interfaces
+/// is waited for first: it is late once they are there.
+pub fn raw_ports<'a, R>(
+    rt: &'a R,
     descriptors: Descriptors,
     limit: Option<u32>,
-) -> Result<FarPorts<RawCarrier>, Failure> {
-    match RawCarrier::open(descriptors, patience(limit, RAW_LIMIT)) {
-        Ok(carrier) => Ok(FarPorts::new(carrier)),
+) -> Result<FarPorts<RawCarrier, ClockTimer<'a, R>>, Failure>
+where
+    R: Clock + AllocGlobal,
+{
+    match RawCarrier::open(descriptors) {
+        Ok(carrier) => {
+            let mut timer = timer_of(rt)?;
+            timer.rest(LATE);
+            ports_over(rt, carrier, timer, limit)
+        }
         Err(fault) => Err(Failure::Raw(fault)),
     }
 }
 
-/// How long a copy is waited for: so many microseconds, or as many as are usual.
-fn patience(limit: Option<u32>, usual: u32) -> Duration {
-    Duration::from_micros(u64::from(limit.unwrap_or(usual)))
+/// A timer over the system's clock.
+fn timer_of<R: Clock>(rt: &R) -> Result<ClockTimer<'_, R>, Failure> {
+    match ClockTimer::new(rt) {
+        Ok(timer) => Ok(timer),
+        Err(_) => Err(Failure::Clock),
+    }
+}
+
+/// Ports over a carrier, which wait for so many microseconds, or as many as are usual.
+fn ports_over<'a, R, C>(
+    rt: &'a R,
+    carrier: C,
+    timer: ClockTimer<'a, R>,
+    limit: Option<u32>,
+) -> Result<FarPorts<C, ClockTimer<'a, R>>, Failure>
+where
+    R: Clock + AllocGlobal,
+    C: Carrier + Drop,
+{
+    let Ok(seals) = Seals::new(rt.alloc(), first_trip(rt)) else {
+        return Err(Failure::Line(LineFailure::NoMemory));
+    };
+    let patience = Patience {
+        limit: u64::from(limit.unwrap_or(LIMIT)),
+        late: LATE,
+    };
+    Ok(FarPorts::new(carrier, timer, patience, seals))
+}
+
+/// The number of the first trip, by the time of the day: a master does not begin where one that ran just
+/// before did. A clock that fails counts from 0.
+fn first_trip(clock: &impl Clock) -> usize
+    ensures { result < TRIPS }
+{
+    let Ok(now) = SystemTime::now(clock) else {
+        return 0;
+    };
+    match now.duration_since(UNIX_EPOCH) {
+        Ok(passed) => (passed.as_micros() / TURN % TRIPS as u128) as usize,
+        Err(_) => 0,
+    }
 }
 
 /// A frame that asks nothing: each slave passes it on as it is.

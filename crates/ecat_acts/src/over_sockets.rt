@@ -208,7 +208,7 @@ fn raw_of(word: Option<&str>) -> Option<Option<Descriptors>> {
 /// Asks the slaves of a line somewhere else what they are.
 fn scan_at<R, W, V>(rt: &R, reach: Reach<'_>, limit: Option<u32>, out: &mut W, err: &mut V) -> u8
 where
-    R: Net,
+    R: Clock + Net + AllocGlobal,
     W: io::Write,
     V: io::Write,
 {
@@ -217,7 +217,7 @@ where
             Ok(ports) => act_scan(ports, out, err),
             Err(failure) => report(&failure, out, err),
         },
-        Reach::Raw(descriptors) => match raw_ports(descriptors, limit) {
+        Reach::Raw(descriptors) => match raw_ports(rt, descriptors, limit) {
             Ok(ports) => act_scan(ports, out, err),
             Err(failure) => report(&failure, out, err),
         },
@@ -312,7 +312,7 @@ where
             Ok(ports) => act_master(course, ports, plan, &mut beat, out, err, log),
             Err(failure) => report(&failure, out, err),
         },
-        Reach::Raw(descriptors) => match raw_ports(descriptors, running.limit) {
+        Reach::Raw(descriptors) => match raw_ports(rt, descriptors, running.limit) {
             Ok(ports) => act_master(course, ports, plan, &mut beat, out, err, log),
             Err(failure) => report(&failure, out, err),
         },

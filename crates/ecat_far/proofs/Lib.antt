@@ -1,1 +1,1 @@
-pub mod CopyLemmas
+pub mod NetworkLemmas

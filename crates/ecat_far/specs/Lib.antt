@@ -1,2 +1,3 @@
 pub mod Taken
 pub mod Trips
+pub mod Network

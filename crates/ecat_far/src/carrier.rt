@@ -3,7 +3,7 @@
 ghost use Rattle.std.specs.Prelude.{◌≡◌, ◌≤◌, ◌<◌, ℕ, IfOk, IfSome, IsErr, take};
 ghost use Rattle.std.specs.Option.{option_map};
 ghost use Rattle.ec_wire.specs.declared.frame.TheConstants.{PACKET_ROOM};
-ghost use Rattle.ecat_far.specs.Taken.{Gives};
+ghost use Rattle.ecat_far.specs.Taken.{Gives, Heard};
 
 use ec_ring::{Port, PortFault};
 use ec_wire::PACKET_ROOM;
@@ -17,29 +17,40 @@ pub trait Carrier {
     /// What a receive at a port gives: a packet or none, and the carrier behind it.
     ghost gives: { Gives Self };
 
+    /// How many receives there were, as far as the carrier tells them apart: by this it is known that a
+    /// packet was given in one trip and not before.
+    ghost heard: { Heard Self };
+
+    /// Does a port speak with an end of the line?
+    fn speaks(&self, at: Port) -> bool;
+
     /// Drops what waits at both ports: it is late for what goes out next.
     fn drain(&mut self)
-        ensures never_lower { failed self.old ≤ failed self.new };
+        ensures never_lower { failed self.old ≤ failed self.new }
+        ensures heard_on { heard self.old ≤ heard self.new };
 
     /// Sends a packet from a port to the line's end there; a port that speaks with no end sends nothing. At
     /// the greatest count of failures, 2^64 - 1, the answer is `Ok` where a fault would be.
     fn send(&mut self, from: Port, bytes: &[u8]) -> Result<(), PortFault>
         ensures counted { IsErr result → failed self.old < failed self.new }
-        ensures never_lower { failed self.old ≤ failed self.new };
+        ensures never_lower { failed self.old ≤ failed self.new }
+        ensures heard_on { heard self.old ≤ heard self.new };
 
     /// Receives a packet at a port into the front of the room, and answers how many bytes of it there are;
-    /// `None` where none came in time. A packet that is longer than the room fills it. At the greatest count
-    /// of failures the answer is `None` where a fault would be.
+    /// `None` where none came within so many microseconds. A packet that is longer than the room fills it. At
+    /// the greatest count of failures the answer is `None` where a fault would be.
     fn receive(
         &mut self,
         at: Port,
         into: &mut [u8; PACKET_ROOM],
+        within: u64,
     ) -> Result<Option<usize>, PortFault>
         ensures room { IfOk result (λ found. IfSome found (λ count. count ≤ PACKET_ROOM)) }
         ensures gives { IfOk result (λ found. gives self.old at
             (option_map (λ (count : ℕ). take count into.new) found) self.new) }
         ensures counted { IsErr result → failed self.old < failed self.new }
-        ensures never_lower { failed self.old ≤ failed self.new };
+        ensures never_lower { failed self.old ≤ failed self.new }
+        ensures heard_on { heard self.old ≤ heard self.new };
 
     /// How many sends and receives have failed.
     fn failures(&self) -> u64

@@ -1,63 +1,104 @@
-//! Which packets are copies of a frame that was sent.
+//! Which packets are copies of a frame that went out under the seals of a trip.
 
-ghost use Rattle.std.specs.Prelude.{◌≡◌, ◌≤◌, ◌<◌, ◌↔◌, ℕ, true, length, Some, IfSome};
-ghost use Rattle.ec_wire.specs.Datagram.{nth};
-ghost use Rattle.ec_merge.specs.Frames.{IsOwn};
-ghost use Rattle.ec_merge.specs.Rule.{distance};
-ghost use Rattle.ecat_far.specs.Taken.{CameOf, IsCopyOf, most_gained};
+ghost use Rattle.std.specs.Prelude.{◌≡◌, ◌≢◌, ℕ, ◌<◌, List, Some, None, IfSome};
+ghost use Rattle.ec_wire.specs.Datagram.{DatagramRecord};
+ghost use Rattle.ec_seal.specs.Came.{IsCopy};
+ghost use Rattle.ec_seal.specs.Seal.{sealed_by};
+ghost use Rattle.ecat_far.specs.Taken.{AreSealed, IsCopyOfTrip, IsSealed, opened_copy};
 
-use ec_merge::join_frames;
-use ec_wire::{Form, FrameBuf};
+use ec_ring::Port;
+use ec_seal::{Seal, TRIPS, copy_in, open_frame, seal_frame};
+use ec_wire::FrameBuf;
 
-/// The most that a working counter gains in one trip: a line of 256 slaves moves it by 768.
-const MOST_GAINED: u16 = 1023;
+/// A frame that came back, under its seal, and the port from which it was sent.
+#[derive(Drop)]
+pub struct SealedCopy {
+    /// The port from which it was sent.
+    pub from: Port,
+    /// The frame as it came.
+    pub frame: FrameBuf,
+}
 
-/// The copy of a sent frame that a packet is, if it is one.
-pub(crate) fn copy_in(sent: &FrameBuf, packet: &[u8]) -> Option<FrameBuf>
-    ensures { IsCopyOf sent.now (Some packet.now) result }
+/// What goes out on a trip: a copy of the frame from each port, each under its seal.
+#[derive(Drop)]
+pub struct Outgoing {
+    /// The copy from port A.
+    pub a: FrameBuf,
+    /// The copy from port B.
+    pub b: FrameBuf,
+}
+
+/// A frame as it goes out on the trip with a number.
+pub(crate) fn seal_both(sent: &FrameBuf, trip: usize) -> Outgoing
+    requires { trip < TRIPS }
+    ensures { AreSealed trip sent.now result }
 {
-    match FrameBuf::read(packet, Form::Udp) {
-        Ok(copy) => own_copy(sent, copy),
-        Err(_) => None,
+    Outgoing {
+        a: sealed(sent, Seal::a(trip)),
+        b: sealed(sent, Seal::b(trip)),
     }
 }
 
-/// A frame, if it came of the sent one.
-fn own_copy(sent: &FrameBuf, copy: FrameBuf) -> Option<FrameBuf>
-    ensures kept { CameOf sent.now copy → result ≡ Some copy }
-    ensures came { IfSome result (λ xs. (xs ≡ copy) × CameOf sent.now copy) }
+/// A copy of a frame under a seal.
+fn sealed(sent: &FrameBuf, seal: Seal) -> FrameBuf
+    ensures { result ≡ sealed_by seal.number sent.now }
 {
-    if is_own(sent, &copy) && gained_little(sent, &copy) {
-        Some(copy)
-    } else {
-        None
+    let mut copy = sent.copy();
+    seal_frame(&mut copy, seal);
+    copy
+}
+
+/// The copy of what went out that a packet is, if it is one, but for the one that was taken already.
+pub(crate) fn copy_of_trip(
+    sent: &Outgoing,
+    already: Option<Port>,
+    packet: &[u8],
+) -> Option<SealedCopy>
+    ensures { (trip : ℕ) (frame : List DatagramRecord) → AreSealed trip frame sent.now
+        → IsCopyOfTrip trip frame already (Some packet.now) result }
+{
+    match copy_from(Port::A, &sent.a, already, packet) {
+        Some(frame) => Some(SealedCopy {
+            from: Port::A,
+            frame,
+        }),
+        None => match copy_from(Port::B, &sent.b, already, packet) {
+            Some(frame) => Some(SealedCopy {
+                from: Port::B,
+                frame,
+            }),
+            None => None,
+        },
     }
 }
 
-/// Is a frame no stranger? That is asked of the join, which is to take it.
-fn is_own(sent: &FrameBuf, copy: &FrameBuf) -> bool
-    ensures { (result ≡ true) ↔ IsOwn sent.now copy.now }
+/// The copy that a packet is of the one that went out from a port, if it is one and was not taken already.
+fn copy_from(
+    from: Port,
+    sealed: &FrameBuf,
+    already: Option<Port>,
+    packet: &[u8],
+) -> Option<FrameBuf>
+    ensures found { IfSome result (λ copy. (already ≢ Some from) × IsCopy sealed.now packet.now copy) }
+    ensures every { result ≡ None → already ≢ Some from → (copy : List DatagramRecord)
+        → IsCopy sealed.now packet.now copy → ⊥ }
 {
-    join_frames(sent, Some(copy), None).is_ok()
-}
-
-/// Has no counter of a copy moved further than a trip can move it?
-fn gained_little(sent: &FrameBuf, copy: &FrameBuf) -> bool
-    requires { length copy.now ≡ length sent.now }
-    ensures { (result ≡ true) ↔ ((k : ℕ) → k < length sent.now
-        → distance (nth sent.now k).counter (nth copy.now k).counter ≤ most_gained) }
-{
-    for k in 0..sent.count() {
-        if moved(sent.counter(k), copy.counter(k)) > MOST_GAINED {
-            return false;
-        }
+    if already == Some(from) {
+        return None;
     }
-    true
+    copy_in(sealed, packet)
 }
 
-/// How far a counter has moved from the sent one.
-fn moved(sent: u16, count: u16) -> u16
-    ensures { result ≡ distance sent count }
+/// What came of a trip, with its seal taken off.
+pub(crate) fn opened(copy: SealedCopy, trip: usize, sent: &FrameBuf) -> FrameBuf
+    requires { trip < TRIPS }
+    ensures { result ≡ opened_copy trip sent.now copy }
 {
-    count.wrapping_sub(sent)
+    let mut frame = copy.frame;
+    let seal = match copy.from {
+        Port::A => Seal::a(trip),
+        Port::B => Seal::b(trip),
+    };
+    open_frame(&mut frame, seal, sent);
+    frame
 }

@@ -1,16 +1,20 @@
 //! A master's two ports whose line lies somewhere else.
 
-ghost use Rattle.std.specs.Prelude.{◌≡◌, ◌≤◌, ◌<◌, IsErr, IfOk, List};
+ghost use Rattle.std.specs.Prelude.{◌≡◌, ◌+◌, ◌%◌, ◌≤◌, ◌<◌, ℕ, IsErr, IfOk, List, Some, None};
 ghost use Rattle.std.specs.Option.{option_map};
 ghost use Rattle.ec_wire.specs.Datagram.{DatagramRecord};
 ghost use Rattle.ec_ring.specs.declared.port.Port.TheVariants.{A, B};
-ghost use Rattle.ecat_far.specs.Taken.{AreTaken, IsTaken};
-ghost use Rattle.ecat_far.specs.Trips.{FarTrips, HeardTrips, arrivals_of, arrived_at};
+ghost use Rattle.ec_seal.specs.declared.seals.TheConstants.{TRIPS};
+ghost use Rattle.ecat_far.specs.Taken.{AreBoth, AreSealed, IsTaken, opened_came, opened_copy};
+ghost use Rattle.ecat_far.specs.Taken.{sent_from};
+ghost use Rattle.ecat_far.specs.Trips.{FarState, FarTrips, HeardTrips, arrivals_of, arrived_at};
 
 use crate::carrier::Carrier;
-use crate::copies::copy_in;
+use crate::copies::{Outgoing, SealedCopy, copy_of_trip, opened, seal_both};
+use crate::timer::Timer;
 use ec_master::{PortFault, Ports};
 use ec_ring::{Arrival, Arrivals, Came, HeardPorts, Port};
+use ec_seal::{Seals, TRIPS};
 use ec_wire::{FrameBuf, PACKET_ROOM};
 use std::marker::Model;
 
@@ -21,79 +25,168 @@ const MOST_PASSED: usize = 64;
 #[derive(Drop)]
 struct Given {
     /// The copy of the sent frame, if it is one.
-    copy: Option<FrameBuf>,
+    copy: Option<SealedCopy>,
     /// Whether a packet came.
     came: bool,
 }
 
-/// A master's two ports over what carries packets to a line and back. Contracts see what carries them.
+/// What came at both ports.
 #[derive(Drop)]
-pub struct FarPorts<C: Carrier> {
+struct Both {
+    a: Option<SealedCopy>,
+    b: Option<SealedCopy>,
+}
+
+/// For how long a master waits for what comes, in microseconds.
+#[derive(Clone, Copy, PartialEq, Eq, Debug)]
+pub struct Patience {
+    /// For how long a trip waits for its copies, from when they were sent on.
+    pub limit: u64,
+    /// For how long a copy that did not come may still be on its way: its seal is not given again before.
+    pub late: u64,
+}
+
+/// A master's two ports over what carries packets to a line and back. Contracts see what carries them, and
+/// the number of the next trip.
+#[derive(Drop)]
+pub struct FarPorts<C: Carrier, T: Timer> {
     carrier: C,
+    timer: T,
+    patience: Patience,
+    seals: Seals,
 }
 
-impl<C: Carrier> Model for FarPorts<C> {
-    ghost Value = { C };
+impl<C: Carrier, T: Timer> Model for FarPorts<C, T> {
+    ghost use Rattle.ecat_far.specs.Trips.{FarState};
 
-    ghost view = { λ p. p.carrier };
+    ghost Value = { FarState C };
+
+    ghost view = { λ p. record { carrier = p.carrier; trip = p.seals.next } };
 }
 
-impl<C: Carrier> FarPorts<C> {
-    /// Ports over what carries the packets.
-    pub fn new(carrier: C) -> FarPorts<C>
-        ensures { result ≡ carrier }
+impl<C: Carrier, T: Timer> FarPorts<C, T> {
+    /// Ports over what carries the packets, whose copies get these seals one after the other.
+    pub fn new(carrier: C, timer: T, patience: Patience, seals: Seals) -> FarPorts<C, T>
+        ensures { result ≡ record { carrier = carrier; trip = seals.next } }
     {
-        FarPorts { carrier }
+        FarPorts {
+            carrier,
+            timer,
+            patience,
+            seals,
+        }
     }
 
-    /// Drops what is late, and sends a copy of a frame from each port, from port A first.
-    fn send_copies(&mut self, sent: &FrameBuf) -> Result<(), PortFault>
-        ensures counted { IsErr result → C.failed self.old < C.failed self.new }
-        ensures never_lower { C.failed self.old ≤ C.failed self.new }
+    /// What carries the packets.
+    pub fn carrier(&self) -> &C
+        ensures { result.now ≡ self.now.carrier }
+    {
+        &self.carrier
+    }
+
+    /// What the ports tell the time by.
+    pub fn timer(&self) -> &T {
+        &self.timer
+    }
+
+    /// The number of this trip: the next one, once its seals are free. Where copies of its last trip did not
+    /// come, that is so long after they were sent.
+    fn next_trip(&mut self) -> usize
+        ensures carrier { self.new.carrier ≡ self.old.carrier }
+        ensures trip { result ≡ self.old.trip }
+        ensures below { result < TRIPS }
+        ensures next { self.new.trip ≡ (self.old.trip + 1) % TRIPS }
+    {
+        let now = self.timer.now();
+        match self.seals.give(now, self.patience.late) {
+            Ok(trip) => trip,
+            Err(wait) => {
+                self.timer.rest(wait);
+                match self.seals.give(now + wait, self.patience.late) {
+                    Ok(trip) => trip,
+                    Err(_) => unreachable!(),
+                }
+            }
+        }
+    }
+
+    /// Drops what is late, and sends both copies, from port A first.
+    fn send_copies(&mut self, out: &Outgoing) -> Result<(), PortFault>
+        ensures counted { IsErr result → C.failed self.old.carrier < C.failed self.new.carrier }
+        ensures never_lower { C.failed self.old.carrier ≤ C.failed self.new.carrier }
+        ensures heard_on { C.heard self.old.carrier ≤ C.heard self.new.carrier }
+        ensures turn { self.new.trip ≡ self.old.trip }
     {
         self.carrier.drain();
-        self.carrier.send(Port::A, sent.bytes())?;
-        self.carrier.send(Port::B, sent.bytes())
+        self.carrier.send(Port::A, out.a.bytes())?;
+        self.carrier.send(Port::B, out.b.bytes())
     }
 
-    /// Receives at both ports, at port A first.
-    fn receive_copies(&mut self, sent: &FrameBuf) -> Result<Came, PortFault>
-        ensures taken { IfOk result (λ came. AreTaken C.gives sent.now came self.new) }
-        ensures counted { IsErr result → C.failed self.old < C.failed self.new }
-        ensures never_lower { C.failed self.old ≤ C.failed self.new }
+    /// Receives at both ports, at port A first, each of another copy, up to a time.
+    fn receive_copies(&mut self, out: &Outgoing, until: u64) -> Result<Both, PortFault>
+        ensures taken { IfOk result (λ both. (trip : ℕ) (sent : List DatagramRecord)
+            → AreSealed trip sent out.now
+            → AreBoth C.gives C.heard (C.heard self.old.carrier) trip sent both self.new.carrier) }
+        ensures counted { IsErr result → C.failed self.old.carrier < C.failed self.new.carrier }
+        ensures never_lower { C.failed self.old.carrier ≤ C.failed self.new.carrier }
+        ensures turn { self.new.trip ≡ self.old.trip }
     {
-        let a = self.receive_copy(Port::A, sent)?;
-        let b = self.receive_copy(Port::B, sent)?;
-        Ok(Came { a, b })
+        let a = self.receive_copy(Port::A, out, None, until)?;
+        let already = sent_from(&a);
+        let b = self.receive_copy(Port::B, out, already, until)?;
+        Ok(Both { a, b })
     }
 
-    /// Receives at a port until a copy of the sent frame comes, or nothing in time. Other packets are passed
-    /// over, 64 at the most.
-    fn receive_copy(&mut self, at: Port, sent: &FrameBuf) -> Result<Option<FrameBuf>, PortFault>
-        ensures taken { IfOk result (λ copy. IsTaken C.gives at sent.now copy self.new) }
-        ensures counted { IsErr result → C.failed self.old < C.failed self.new }
-        ensures never_lower { C.failed self.old ≤ C.failed self.new }
+    /// Receives at a port until a copy comes that was not taken already, or the time is over. Other packets
+    /// are passed over, 64 at the most.
+    fn receive_copy(
+        &mut self,
+        at: Port,
+        out: &Outgoing,
+        already: Option<Port>,
+        until: u64,
+    ) -> Result<Option<SealedCopy>, PortFault>
+        ensures taken { IfOk result (λ copy. (trip : ℕ) (sent : List DatagramRecord)
+            → AreSealed trip sent out.now
+            → IsTaken C.gives C.heard (C.heard self.old.carrier) at trip sent already copy
+            self.new.carrier) }
+        ensures counted { IsErr result → C.failed self.old.carrier < C.failed self.new.carrier }
+        ensures never_lower { C.failed self.old.carrier ≤ C.failed self.new.carrier }
+        ensures heard_on { C.heard self.old.carrier ≤ C.heard self.new.carrier }
+        ensures turn { self.new.trip ≡ self.old.trip }
     {
-        let mut given = self.receive_packet(at, sent)?;
         for _passed in 0..MOST_PASSED {
+            let given = self.receive_packet(at, out, already, until)?;
             if given.copy.is_some() || !given.came {
                 return Ok(given.copy);
             }
-            given = self.receive_packet(at, sent)?;
         }
+        let given = self.receive_packet(at, out, already, until)?;
         Ok(given.copy)
     }
 
     /// Receives a packet at a port, if one comes in time.
-    fn receive_packet(&mut self, at: Port, sent: &FrameBuf) -> Result<Given, PortFault>
-        ensures taken { IfOk result (λ given. IsTaken C.gives at sent.now given.copy self.new) }
-        ensures counted { IsErr result → C.failed self.old < C.failed self.new }
-        ensures never_lower { C.failed self.old ≤ C.failed self.new }
+    fn receive_packet(
+        &mut self,
+        at: Port,
+        out: &Outgoing,
+        already: Option<Port>,
+        until: u64,
+    ) -> Result<Given, PortFault>
+        ensures taken { IfOk result (λ given. (trip : ℕ) (sent : List DatagramRecord)
+            → AreSealed trip sent out.now
+            → IsTaken C.gives C.heard (C.heard self.old.carrier) at trip sent already given.copy
+            self.new.carrier) }
+        ensures counted { IsErr result → C.failed self.old.carrier < C.failed self.new.carrier }
+        ensures never_lower { C.failed self.old.carrier ≤ C.failed self.new.carrier }
+        ensures heard_on { C.heard self.old.carrier ≤ C.heard self.new.carrier }
+        ensures turn { self.new.trip ≡ self.old.trip }
     {
+        let within = until.saturating_sub(self.timer.now());
         let mut packet = [0; PACKET_ROOM];
-        match self.carrier.receive(at, &mut packet)? {
+        match self.carrier.receive(at, &mut packet, within)? {
             Some(count) => Ok(Given {
-                copy: copy_in(sent, &packet[..count]),
+                copy: copy_of_trip(out, already, &packet[..count]),
                 came: true,
             }),
             None => Ok(Given {
@@ -102,19 +195,68 @@ impl<C: Carrier> FarPorts<C> {
             }),
         }
     }
+
+    /// Frees the seals of a trip of which each copy came that was sent.
+    fn free_if_whole(&mut self, trip: usize, both: &Both)
+        requires { trip < TRIPS }
+        ensures { self.new ≡ self.old }
+    {
+        let came_a = both.a.is_some() || !self.carrier.speaks(Port::A);
+        let came_b = both.b.is_some() || !self.carrier.speaks(Port::B);
+        if came_a && came_b {
+            self.seals.free(trip);
+        }
+    }
 }
 
-impl<C: Carrier> Ports for FarPorts<C> {
-    ghost trips = { FarTrips C.gives };
+/// The port from which a copy was sent.
+fn sent_from(copy: &Option<SealedCopy>) -> Option<Port>
+    ensures { result ≡ sent_from copy.now }
+{
+    match copy {
+        Some(copy) => Some(copy.from),
+        None => None,
+    }
+}
 
-    ghost failed = { λ ports. C.failed ports };
+/// What came, with the seals taken off.
+fn opened_came(both: Both, trip: usize, sent: &FrameBuf) -> Came
+    requires { trip < TRIPS }
+    ensures { result ≡ opened_came trip sent.now both }
+{
+    Came {
+        a: opened_if(both.a, trip, sent),
+        b: opened_if(both.b, trip, sent),
+    }
+}
 
-    /// Sends a copy from each port and receives at both what comes back in time: a packet is a copy exactly
-    /// where it spells a frame that came of the sent one. The first call of the carrier that fails is the
-    /// last.
+/// A copy with its seal taken off, if one came.
+fn opened_if(copy: Option<SealedCopy>, trip: usize, sent: &FrameBuf) -> Option<FrameBuf>
+    requires { trip < TRIPS }
+    ensures { result ≡ option_map (opened_copy trip sent.now) copy }
+{
+    match copy {
+        Some(copy) => Some(opened(copy, trip, sent)),
+        None => None,
+    }
+}
+
+impl<C: Carrier, T: Timer> Ports for FarPorts<C, T> {
+    ghost trips = { FarTrips C.gives C.heard };
+
+    ghost failed = { λ ports. C.failed ports.carrier };
+
+    /// Sends a copy from each port, each under a seal of its own, and receives at both what comes back in
+    /// time: a packet is a copy exactly where it spells a frame that came of one of them, and each is taken
+    /// once. The first call of the carrier that fails is the last.
     fn trip(&mut self, sent: &FrameBuf) -> Result<Came, PortFault> {
-        self.send_copies(sent)?;
-        self.receive_copies(sent)
+        let trip = self.next_trip();
+        let out = seal_both(sent, trip);
+        self.send_copies(&out)?;
+        let until = self.timer.now().saturating_add(self.patience.limit);
+        let both = self.receive_copies(&out, until)?;
+        self.free_if_whole(trip, &both);
+        Ok(opened_came(both, trip, sent))
     }
 
     fn failures(&self) -> u64 {
@@ -123,10 +265,10 @@ impl<C: Carrier> Ports for FarPorts<C> {
 }
 
 /// Where a copy arrived is known: at the port where it was received.
-impl<C: Carrier> HeardPorts for FarPorts<C> {
-    ghost trips = { HeardTrips C.gives };
+impl<C: Carrier, T: Timer> HeardPorts for FarPorts<C, T> {
+    ghost trips = { HeardTrips C.gives C.heard };
 
-    ghost failed = { λ ports. C.failed ports };
+    ghost failed = { λ ports. C.failed ports.carrier };
 
     fn trip_heard(&mut self, sent: &FrameBuf) -> Result<Arrivals, PortFault> {
         let came = self.trip(sent)?;

@@ -1,6 +1,6 @@
 //! The system's sockets, each of which speaks with one end of a line.
 
-ghost use Rattle.std.specs.Prelude.{⊤, ◌≡◌, ◌+◌, ◌-◌, ◌^◌, ◌≤◌, ◌<◌, IfOk, IfSome, IsErr, IsOk};
+ghost use Rattle.std.specs.Prelude.{⊤, ◌≡◌, ◌+◌, ◌-◌, ◌^◌, ◌≤◌, ◌<◌, IfOk, IfSome, IsErr, IsOk, length};
 ghost use Rattle.std.specs.IoError.{error_kind};
 ghost use Rattle.ec_wire.specs.declared.frame.TheConstants.{PACKET_ROOM};
 
@@ -27,24 +27,58 @@ pub struct OpenFault {
 /// A UDP socket at each port of the master, which speaks with the line's end there and with nobody else; with
 /// one end alone port B sends and receives nothing.
 ///
-/// A receive waits so long at most; that no packet came by then is no failure, nor is that nobody listens at
-/// the line's end. Of a packet of more than 1,501 bytes the first 1,501 are received. Each other error of the
-/// system counts as a failure.
+/// That no packet came in time is no failure, nor is that nobody listens at the line's end. Of a packet of
+/// more than 1,501 bytes the first 1,501 are received. Each other error of the system counts as a failure.
 #[derive(Drop)]
 pub struct UdpCarrier {
-    a: UdpSocket,
-    b: Option<UdpSocket>,
+    a: TimedSocket,
+    b: Option<TimedSocket>,
     failures: u64,
 }
 
+/// A socket with the time for which a receive at it waits, in microseconds: 0 where it was never told.
+#[derive(Drop)]
+struct TimedSocket {
+    socket: UdpSocket,
+    wait: u64,
+}
+
+impl TimedSocket {
+    /// Receives a packet within so many microseconds, by a 64th more or less: the system is told of a time
+    /// only where it is another one.
+    fn receive(&mut self, into: &mut [u8], within: u64) -> io::Result<usize>
+        ensures room { IfOk result (λ count. count ≤ length into.old) }
+    {
+        if within == 0 {
+            return self.look(into);
+        }
+        if self.wait.abs_diff(within) > within / 64 {
+            self.socket
+                .set_read_timeout(Some(Duration::from_micros(within)))?;
+            self.wait = within;
+        }
+        self.socket.recv(into)
+    }
+
+    /// Receives a packet that waits there, if one does.
+    fn look(&mut self, into: &mut [u8]) -> io::Result<usize>
+        ensures room { IfOk result (λ count. count ≤ length into.old) }
+    {
+        self.socket.set_nonblocking(true)?;
+        let count = self.socket.recv(into);
+        self.socket.set_nonblocking(false)?;
+        count
+    }
+}
+
 impl UdpCarrier {
-    /// Opens a socket for each end, and looks its name up. A receive is to wait for so long, above zero.
-    pub fn open(net: &impl Net, ends: FarEnds<'_>, limit: Duration) -> Result<UdpCarrier, OpenFault>
+    /// Opens a socket for each end, and looks its name up.
+    pub fn open(net: &impl Net, ends: FarEnds<'_>) -> Result<UdpCarrier, OpenFault>
         ensures none_failed { IfOk result (λ carrier. ⟦<UdpCarrier as Carrier>⟧.failed carrier ≡ 0) }
     {
-        let a = socket_at(net, Port::A, ends.a, limit)?;
+        let a = socket_at(net, Port::A, ends.a)?;
         let b = match ends.b {
-            Some(end) => Some(socket_at(net, Port::B, end, limit)?),
+            Some(end) => Some(socket_at(net, Port::B, end)?),
             None => None,
         };
         Ok(UdpCarrier { a, b, failures: 0 })
@@ -52,9 +86,22 @@ impl UdpCarrier {
 
     /// The socket of a port, if it has one.
     fn socket(&self, at: Port) -> Option<&UdpSocket> {
-        match at {
-            Port::A => Some(&self.a),
-            Port::B => self.b.as_ref(),
+        match (at, &self.b) {
+            (Port::A, _) => Some(&self.a.socket),
+            (Port::B, Some(b)) => Some(&b.socket),
+            (Port::B, None) => None,
+        }
+    }
+
+    /// Receives at a port; nothing comes at one without a socket.
+    fn receive_at(&mut self, at: Port, into: &mut [u8], within: u64) -> io::Result<usize>
+        ensures room { IfOk result (λ count. count ≤ length into.old) }
+        ensures failures { self.new.failures ≡ self.old.failures }
+    {
+        match (at, &mut self.b) {
+            (Port::A, _) => self.a.receive(into, within),
+            (Port::B, Some(b)) => b.receive(into, within),
+            (Port::B, None) => Err(io::Error::from(ErrorKind::WouldBlock)),
         }
     }
 
@@ -78,10 +125,17 @@ impl Carrier for UdpCarrier {
     // what a socket gives is up to the line and to the system
     ghost gives = { λ before at packet later. ⊤ };
 
+    // no two receives are told apart
+    ghost heard = { λ carrier. 0 };
+
+    fn speaks(&self, at: Port) -> bool {
+        self.socket(at).is_some()
+    }
+
     fn drain(&mut self) {
-        drop_late(&self.a);
-        if let Some(socket) = &self.b {
-            drop_late(socket);
+        drop_late(&self.a.socket);
+        if let Some(b) = &self.b {
+            drop_late(&b.socket);
         }
     }
 
@@ -100,11 +154,9 @@ impl Carrier for UdpCarrier {
         &mut self,
         at: Port,
         into: &mut [u8; PACKET_ROOM],
+        within: u64,
     ) -> Result<Option<usize>, PortFault> {
-        let Some(socket) = self.socket(at) else {
-            return Ok(None);
-        };
-        match socket.recv(into) {
+        match self.receive_at(at, into, within) {
             Ok(count) => Ok(Some(count)),
             Err(fault) if is_silence(&fault) => Ok(None),
             Err(_) => {
@@ -120,30 +172,23 @@ impl Carrier for UdpCarrier {
 }
 
 /// Opens the socket of a port, to speak with the line's end there.
-fn socket_at(
-    net: &impl Net,
-    end: Port,
-    name: &str,
-    limit: Duration,
-) -> Result<UdpSocket, OpenFault> {
-    match connected(net, name, limit) {
-        Ok(socket) => Ok(socket),
+fn socket_at(net: &impl Net, end: Port, name: &str) -> Result<TimedSocket, OpenFault> {
+    match connected(net, name) {
+        Ok(socket) => Ok(TimedSocket { socket, wait: 0 }),
         Err(error) => Err(OpenFault { end, error }),
     }
 }
 
 /// A socket that speaks with what a name resolves to, by IPv4 or else by IPv6.
-fn connected(net: &impl Net, name: &str, limit: Duration) -> io::Result<UdpSocket> {
+fn connected(net: &impl Net, name: &str) -> io::Result<UdpSocket> {
     let socket = UdpSocket::bind(net, (Ipv4Addr::UNSPECIFIED, 0))?;
-    let socket = match socket.connect(name) {
-        Ok(()) => socket,
+    match socket.connect(name) {
+        Ok(()) => Ok(socket),
         Err(fault) => match UdpSocket::bind(net, (Ipv6Addr::UNSPECIFIED, 0)) {
-            Ok(other) if other.connect(name).is_ok() => other,
-            _ => return Err(fault),
+            Ok(other) if other.connect(name).is_ok() => Ok(other),
+            _ => Err(fault),
         },
-    };
-    socket.set_read_timeout(Some(limit))?;
-    Ok(socket)
+    }
 }
 
 /// Drops what waits at a socket.

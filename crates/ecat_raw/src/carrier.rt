@@ -11,7 +11,6 @@ use ec_ring::{Port, PortFault};
 use ec_wire::{MAX_FRAME, PACKET_ROOM};
 use ecat_far::Carrier;
 use std::io::{self, ErrorKind};
-use std::time::Duration;
 
 /// How many late packets are dropped at a port before a trip, at the most.
 const MOST_LATE: usize = 1024;
@@ -21,37 +20,30 @@ const MOST_LATE: usize = 1024;
 /// A frame goes out to every station from `ADDRESS_A` or `ADDRESS_B`. What comes in is taken for an answer
 /// where its type is 0x88A4, with at most two tags before it, and its source address says that it has passed
 /// a controller: so a port takes neither its own frame for an answer nor another master's. Any other packet
-/// is received as one of no bytes. A receive waits so long at most; that no packet came by then is no
-/// failure. Each other error of the system counts as a failure, as of an interface that is down.
+/// is received as one of no bytes. A receive waits in whole milliseconds, as many as there are begun ones;
+/// that no packet came by then is no failure. Each other error of the system counts as a failure, as of an
+/// interface that is down.
 #[derive(Drop)]
 pub struct RawCarrier {
     a: PacketSocket,
     b: Option<PacketSocket>,
-    limit: i32,
     failures: u64,
 }
 
 impl RawCarrier {
-    /// Takes over inherited packet sockets, which are closed with it. A receive is to wait for so long, in
-    /// whole milliseconds and one at least.
-    pub fn open(descriptors: Descriptors, limit: Duration) -> Result<RawCarrier, RawFault>
+    /// Takes over inherited packet sockets, which are closed with it.
+    pub fn open(descriptors: Descriptors) -> Result<RawCarrier, RawFault>
         ensures none_failed { IfOk result (λ carrier. ⟦<RawCarrier as Carrier>⟧.failed carrier ≡ 0) }
     {
         let (a, b) = open_both(descriptors)?;
-        Ok(RawCarrier::over(a, b, limit))
+        Ok(RawCarrier::over(a, b))
     }
 
     /// A carrier over these sockets.
-    pub(crate) fn over(a: PacketSocket, b: Option<PacketSocket>, limit: Duration) -> RawCarrier
+    pub(crate) fn over(a: PacketSocket, b: Option<PacketSocket>) -> RawCarrier
         ensures { result.failures ≡ 0 }
     {
-        let limit = i32::try_from(limit.as_millis()).unwrap_or(i32::MAX).max(1);
-        RawCarrier {
-            a,
-            b,
-            limit,
-            failures: 0,
-        }
+        RawCarrier { a, b, failures: 0 }
     }
 
     /// The socket of a port, if it has one.
@@ -82,6 +74,13 @@ impl Carrier for RawCarrier {
     // which packets come is up to the line and to the system
     ghost gives = { λ before at packet later. IfSome packet IsGiven };
 
+    // no two receives are told apart
+    ghost heard = { λ carrier. 0 };
+
+    fn speaks(&self, at: Port) -> bool {
+        self.socket(at).is_some()
+    }
+
     fn drain(&mut self) {
         drop_late(&self.a);
         if let Some(socket) = &self.b {
@@ -107,12 +106,13 @@ impl Carrier for RawCarrier {
         &mut self,
         at: Port,
         into: &mut [u8; PACKET_ROOM],
+        within: u64,
     ) -> Result<Option<usize>, PortFault> {
         let Some(socket) = self.socket(at) else {
             return Ok(None);
         };
         let mut packet = [0; PACKET];
-        match socket.receive_within(&mut packet, self.limit) {
+        match socket.receive_within(&mut packet, milliseconds(within)) {
             Ok(count) => Ok(Some(take_answer(&packet[..count], into))),
             Err(fault) if is_silence(&fault) => Ok(None),
             Err(_) => {
@@ -125,6 +125,11 @@ impl Carrier for RawCarrier {
     fn failures(&self) -> u64 {
         self.failures
     }
+}
+
+/// So many microseconds in milliseconds, as many as are begun.
+fn milliseconds(micros: u64) -> i32 {
+    i32::try_from(micros.div_ceil(1000)).unwrap_or(i32::MAX)
 }
 
 /// The source address of what goes out from a port.

@@ -7,17 +7,17 @@ use crate::sockets::PacketSocket;
 use ec_ring::{Port, PortFault};
 use ecat_far::Carrier;
 use std::process::Abort;
-use std::time::Duration;
 
-/// A carrier over these, which waits for five milliseconds.
+/// A carrier over these.
 fn over(a: PacketSocket, b: Option<PacketSocket>) -> RawCarrier {
-    RawCarrier::over(a, b, Duration::from_millis(5))
+    RawCarrier::over(a, b)
 }
 
-/// Asserts what is received next at a port: so many bytes, those of the asked frame where they are 16.
+/// Asserts what is received next at a port, within five milliseconds: so many bytes, those of the asked frame
+/// where they are 16.
 fn assert_received(rt: &impl Abort, carrier: &mut RawCarrier, at: Port, wanted: Option<usize>) {
     let mut room = [0; 1501];
-    assert_same(rt, carrier.receive(at, &mut room), Ok(wanted));
+    assert_same(rt, carrier.receive(at, &mut room, 5_000), Ok(wanted));
     if wanted == Some(16) {
         assert_eq!(rt; room.get(..16), Some(ASKED.as_slice()));
     }
@@ -82,6 +82,10 @@ fn what_the_system_refuses_counts_as_a_failure(rt: HostRuntime) {
     // Nobody is there any more: the system says so once at the next call.
     assert_same(&rt, carrier.send(Port::A, &ASKED), Ok(()));
     let mut room = [0; 1501];
-    assert_same(&rt, carrier.receive(Port::A, &mut room), Err(PortFault));
+    assert_same(
+        &rt,
+        carrier.receive(Port::A, &mut room, 5_000),
+        Err(PortFault),
+    );
     assert_same(&rt, carrier.failures(), 1);
 }

@@ -6,11 +6,10 @@ use ec_ring::Port;
 use std::fs::File;
 use std::net::UdpSocket;
 use std::os::fd::AsRawFd;
-use std::time::Duration;
 
 /// Why a carrier over these could not be had.
 fn fault(a: u16, b: Option<u16>) -> Option<RawFault> {
-    RawCarrier::open(Descriptors { a, b }, Duration::from_millis(1)).err()
+    RawCarrier::open(Descriptors { a, b }).err()
 }
 
 #[test]

@@ -1,43 +1,47 @@
 //! What is taken for a copy, and what is passed over.
 
-use super::script::Script;
-use super::{SENT, trip, with};
+use super::script::{Script, Wound};
+use super::{SENT, ports_over, trip, under, with};
 use crate::asserts::assert_same;
 use ec_master::{PortFault, Ports};
 use ec_ring::{HeardPorts, Port};
 use ec_wire::{Form, FrameBuf};
-use ecat_far::FarPorts;
 
 #[test]
 fn a_copy_comes_at_each_port(rt: HostRuntime) {
-    let script = Script::new(
-        [with(13, 3), SENT, SENT, SENT],
-        1,
-        [with(12, 9), SENT, SENT, SENT],
-        1,
-    );
-    let mut ports = FarPorts::new(script);
+    // on a whole line the copy from port B, whose seal is 1, comes at port A, and the other one at port B
+    let script = Script::new([under(1, 3); 4], 1, [with(12, 9); 4], 1);
+    let mut ports = ports_over(&rt, rt.alloc(), script, Wound::still());
     assert_same(&rt, trip(&rt, &mut ports), [Some((0x55, 3)), Some((9, 0))]);
 }
 
 #[test]
 fn nothing_in_time_is_a_lost_copy(rt: HostRuntime) {
-    let mut ports = FarPorts::new(Script::new([SENT; 4], 0, [SENT; 4], 1));
+    let script = Script::new([SENT; 4], 0, [SENT; 4], 1);
+    let mut ports = ports_over(&rt, rt.alloc(), script, Wound::still());
     assert_same(&rt, trip(&rt, &mut ports), [None, Some((0x55, 0))]);
 }
 
 #[test]
+fn a_copy_that_comes_at_both_ports_is_taken_once(rt: HostRuntime) {
+    let script = Script::new([SENT; 4], 1, [SENT; 4], 4);
+    let mut ports = ports_over(&rt, rt.alloc(), script, Wound::still());
+    assert_same(&rt, trip(&rt, &mut ports), [Some((0x55, 0)), None]);
+}
+
+#[test]
 fn other_packets_are_passed_over(rt: HostRuntime) {
-    // a length that is none, another index, a counter of the round before, and then the copy
-    let a = [with(0, 0x0C), with(3, 1), with(14, 0xF8), with(13, 2)];
+    // a length that is none, the index of another trip, a counter of another slot, and then the copy
+    let a = [with(0, 0x0C), with(3, 2), with(14, 4), with(13, 2)];
     // the farthest that a counter may have moved is 1,023
     let b = [
-        with(14, 4),
-        [0x0D, 0x10, 0x0C, 0, 0, 0, 1, 0, 1, 0, 0, 0, 0x55, 0xFF, 3],
+        with(14, 0xF8),
+        [0x0D, 0x10, 0x0C, 1, 0, 0, 1, 0, 1, 0, 0, 0, 0x55, 0xFF, 3],
         SENT,
         SENT,
     ];
-    let mut ports = FarPorts::new(Script::new(a, 4, b, 2));
+    let script = Script::new(a, 4, b, 2);
+    let mut ports = ports_over(&rt, rt.alloc(), script, Wound::still());
     assert_same(
         &rt,
         trip(&rt, &mut ports),
@@ -46,8 +50,51 @@ fn other_packets_are_passed_over(rt: HostRuntime) {
 }
 
 #[test]
+fn copies_of_another_trip_are_passed_over(rt: HostRuntime) {
+    // both copies of the second trip, whose seals are 2 and 3, come behind those of the first
+    let a = [under(0, 1), under(0, 1), under(2, 4), under(0, 1)];
+    let b = [under(1, 2), under(1, 2), under(3, 5), under(1, 2)];
+    let script = Script::new(a, 4, b, 4);
+    let mut ports = ports_over(&rt, rt.alloc(), script, Wound::still());
+    assert_same(
+        &rt,
+        trip(&rt, &mut ports),
+        [Some((0x55, 1)), Some((0x55, 2))],
+    );
+    assert_same(
+        &rt,
+        trip(&rt, &mut ports),
+        [Some((0x55, 4)), Some((0x55, 5))],
+    );
+}
+
+#[test]
+fn packets_that_are_no_copies_do_not_prolong_a_trip(rt: HostRuntime) {
+    let mut timer = Wound::still();
+    // it is looked at before the trip, behind the sending, and before each receive
+    timer.step = 6_000;
+    let script = Script::new([with(0, 0x0C); 4], 4, [SENT; 4], 0);
+    let mut ports = ports_over(&rt, rt.alloc(), script, timer);
+    assert_same(&rt, trip(&rt, &mut ports), [None, None]);
+    assert_same(&rt, ports.carrier().within, 0);
+}
+
+#[test]
+fn seals_of_lost_copies_are_held(rt: HostRuntime) {
+    let script = Script::new([SENT; 4], 0, [SENT; 4], 0);
+    let mut ports = ports_over(&rt, rt.alloc(), script, Wound::still());
+    for _trip in 0..8192usize {
+        assert_same(&rt, trip(&rt, &mut ports), [None, None]);
+    }
+    assert_same(&rt, ports.timer().rested, 0);
+    assert_same(&rt, trip(&rt, &mut ports), [None, None]);
+    assert_same(&rt, ports.timer().rested, 1_000_000);
+}
+
+#[test]
 fn a_copy_arrives_where_it_is_received(rt: HostRuntime) {
-    let mut ports = FarPorts::new(Script::new([SENT; 4], 1, [SENT; 4], 1));
+    let script = Script::new([under(1, 0); 4], 1, [SENT; 4], 1);
+    let mut ports = ports_over(&rt, rt.alloc(), script, Wound::still());
     let sent = FrameBuf::read(&SENT, Form::Udp).ok().expect(&rt, "a frame");
     let came = ports.trip_heard(&sent).ok().expect(&rt, "no fault");
     assert_same(&rt, came.a.map(|x| x.at), Some(Port::A));
@@ -60,7 +107,7 @@ fn the_first_call_that_fails_ends_the_trip(rt: HostRuntime) {
     for failing in 1..5usize {
         let mut script = Script::new([SENT; 4], 1, [SENT; 4], 1);
         script.failing = failing;
-        let mut ports = FarPorts::new(script);
+        let mut ports = ports_over(&rt, rt.alloc(), script, Wound::still());
         assert_same(&rt, ports.trip(&sent).err(), Some(PortFault));
         assert_same(&rt, Ports::failures(&ports), 1);
         assert_same(&rt, ports.trip(&sent).is_ok(), true);

@@ -4,7 +4,7 @@ ghost use Rattle.std.specs.Prelude.{⊤, ◌≡◌, ◌≤◌, ◌<◌, IsErr};
 
 use ec_ring::{Port, PortFault};
 use ec_wire::PACKET_ROOM;
-use ecat_far::Carrier;
+use ecat_far::{Carrier, Timer};
 
 /// How many packets come at a port, at the most.
 pub const ROOM: usize = 4;
@@ -28,6 +28,8 @@ pub struct Script {
     pub made: usize,
     /// How many calls have failed.
     pub failed: u64,
+    /// For how long the last receive was to wait.
+    pub within: u64,
 }
 
 impl Script {
@@ -42,6 +44,7 @@ impl Script {
             failing: 0,
             made: 0,
             failed: 0,
+            within: 0,
         }
     }
 
@@ -80,6 +83,12 @@ impl Carrier for Script {
 
     ghost gives = { λ before at packet later. ⊤ };
 
+    ghost heard = { λ script. 0 };
+
+    fn speaks(&self, _at: Port) -> bool {
+        true
+    }
+
     fn drain(&mut self) {}
 
     fn send(&mut self, _from: Port, _bytes: &[u8]) -> Result<(), PortFault> {
@@ -90,7 +99,9 @@ impl Carrier for Script {
         &mut self,
         at: Port,
         into: &mut [u8; PACKET_ROOM],
+        within: u64,
     ) -> Result<Option<usize>, PortFault> {
+        self.within = within;
         self.call()?;
         match self.next(at) {
             Some(packet) => {
@@ -103,5 +114,40 @@ impl Carrier for Script {
 
     fn failures(&self) -> u64 {
         self.failed
+    }
+}
+
+/// A timer that is wound by hand: each look at it takes so long, and each rest as long as it says.
+#[derive(Drop)]
+pub struct Wound {
+    /// The microseconds since it began.
+    pub now: u64,
+    /// How many microseconds pass with each look.
+    pub step: u64,
+    /// For how long it rested.
+    pub rested: u64,
+}
+
+impl Wound {
+    /// A timer that stands still.
+    pub fn still() -> Wound {
+        Wound {
+            now: 0,
+            step: 0,
+            rested: 0,
+        }
+    }
+}
+
+impl Timer for Wound {
+    fn now(&mut self) -> u64 {
+        let now = self.now;
+        self.now = now.saturating_add(self.step);
+        now
+    }
+
+    fn rest(&mut self, micros: u64) {
+        self.now = self.now.saturating_add(micros);
+        self.rested = self.rested.saturating_add(micros);
     }
 }

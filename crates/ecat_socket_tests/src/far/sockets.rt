@@ -4,7 +4,9 @@ use crate::asserts::assert_same;
 use ec_ring::Port;
 use ecat_far::{Carrier, FarEnds, UdpCarrier};
 use std::net::UdpSocket;
-use std::time::Duration;
+
+/// For how long a receive waits, in microseconds.
+const LIMIT: u64 = 20_000;
 
 #[test]
 fn packets_go_to_the_end_that_is_named_and_back(rt: HostRuntime) {
@@ -16,22 +18,19 @@ fn packets_go_to_the_end_that_is_named_and_back(rt: HostRuntime) {
         a: text.as_str(),
         b: None,
     };
-    let limit = Duration::from_millis(50);
-    let mut carrier = UdpCarrier::open(&rt, ends, limit)
-        .ok()
-        .expect(&rt, "sockets");
+    let mut carrier = UdpCarrier::open(&rt, ends).ok().expect(&rt, "sockets");
     let mut into = [0; 1501];
     assert_same(&rt, carrier.send(Port::A, b"out"), Ok(()));
     let (count, from) = line.recv_from(&mut into).expect(&rt, "a packet");
     assert_same(&rt, count, 3);
     assert_same(&rt, line.send_to(b"late", from).is_ok(), true);
     carrier.drain();
-    assert_same(&rt, carrier.receive(Port::A, &mut into), Ok(None));
+    assert_same(&rt, carrier.receive(Port::A, &mut into, LIMIT), Ok(None));
     assert_same(&rt, line.send_to(b"back", from).is_ok(), true);
-    assert_same(&rt, carrier.receive(Port::A, &mut into), Ok(Some(4)));
+    assert_same(&rt, carrier.receive(Port::A, &mut into, LIMIT), Ok(Some(4)));
     assert_same(&rt, &into[..4], b"back".as_slice());
     assert_same(&rt, carrier.send(Port::B, b"out"), Ok(()));
-    assert_same(&rt, carrier.receive(Port::B, &mut into), Ok(None));
+    assert_same(&rt, carrier.receive(Port::B, &mut into, LIMIT), Ok(None));
     assert_same(&rt, carrier.failures(), 0);
 }
 
@@ -41,7 +40,7 @@ fn an_end_that_cannot_be_is_named(rt: HostRuntime) {
         a: "127.0.0.1:9",
         b: Some("no end"),
     };
-    let fault = UdpCarrier::open(&rt, ends, Duration::from_millis(1)).err();
+    let fault = UdpCarrier::open(&rt, ends).err();
     assert_same(&rt, fault.map(|fault| fault.end), Some(Port::B));
 }
 
@@ -51,14 +50,11 @@ fn nobody_at_the_end_is_silence(rt: HostRuntime) {
         a: "127.0.0.1:9",
         b: None,
     };
-    let limit = Duration::from_millis(5);
-    let mut carrier = UdpCarrier::open(&rt, ends, limit)
-        .ok()
-        .expect(&rt, "sockets");
+    let mut carrier = UdpCarrier::open(&rt, ends).ok().expect(&rt, "sockets");
     let mut into = [0; 1501];
     for _trip in 0..3usize {
         assert_same(&rt, carrier.send(Port::A, b"out"), Ok(()));
-        assert_same(&rt, carrier.receive(Port::A, &mut into), Ok(None));
+        assert_same(&rt, carrier.receive(Port::A, &mut into, LIMIT), Ok(None));
     }
     assert_same(&rt, carrier.failures(), 0);
 }

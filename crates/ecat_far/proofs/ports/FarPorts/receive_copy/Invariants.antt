@@ -1,9 +1,10 @@
-use Rattle.std.proofs.Common.{◌≤◌}
-use Rattle.ecat_far.specs.Taken.{IsTaken}
+use Rattle.std.proofs.Common.{◌≡◌, ◌≤◌}
 use Rattle.ecat_far.proofs.ports.FarPorts.receive_copy.Given as goal
 
+-- no count has fallen, and the turn is the same
 abbrev pub invariant-loop-passed : goal.invariant-loop-passed
 invariant-loop-passed g l = record {
-  counted : g.C.Carrier.failed l.initial.self ≤ g.C.Carrier.failed l.self;
-  taken : IsTaken g.C.Carrier.gives l.at l.sent l.given.copy l.self;
+  counted : g.C.Carrier.failed l.initial.self.carrier ≤ g.C.Carrier.failed l.self.carrier;
+  heard_on : g.C.Carrier.heard l.initial.self.carrier ≤ g.C.Carrier.heard l.self.carrier;
+  turn : l.self.trip ≡ l.initial.self.trip;
 }
