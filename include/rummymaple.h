@@ -35,6 +35,9 @@
 extern "C" {
 #endif
 
+/* The version of the library and of this header, which is that of the program `ecat` too. */
+#define RMP_VERSION "1.0.0"
+
 /* The most bytes of a frame, without the Ethernet or UDP header before it. */
 #define RMP_FRAME_SIZE 1500
 
