@@ -1,5 +1,6 @@
 mod AskLemmas
 mod StepLemmas
 mod RecoveryLemmas
+mod StatesLemmas
 mod OutputLemmas
 pub mod Laws

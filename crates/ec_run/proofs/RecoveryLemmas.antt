@@ -1,27 +1,61 @@
--- What becomes of a slave that is left alone.
-use Rattle.std.proofs.Common.{◌≡◌, ◌∙◌, Bool, false, if◌then◌else◌, Ok, ap, sym}
-use Rattle.ec_run.specs.Recovery.{remedy_of, brought_as, outcome_of}
-use Rattle.ec_run.specs.declared.recovery.Outcome.{Outcome}
-use Rattle.ec_run.specs.declared.recovery.Outcome.TheVariants.{Left}
-use Rattle.ec_run.specs.declared.recovery.Remedy.{Remedy}
-use Rattle.ec_run.specs.declared.recovery.Remedy.TheVariants.{Leave, From, Address}
+-- A slave that is looked at until it answers.
+use Rattle.std.proofs.Common.{◌≡◌, ℕ, suc, sym, refl, subst, true, false, Result}
+use Rattle.ec_master.specs.Ports.{Trips}
+use Rattle.ec_services.specs.declared.fault.MasterFault.{MasterFault}
+use Rattle.ec_run.specs.Recovery.{IsLookedAt, IsLookedFor, is_nobody}
 use Rattle.ec_run.specs.declared.recovery.Seen.{Seen}
 
-abbrev by_remedy : Bool → Seen → Remedy → Outcome
-by_remedy tells_places seen remedy = elim remedy [
-  | Leave ↦ Left
-  | From first ↦ brought_as seen (Ok tt)
-  | Address ↦ if tells_places then brought_as seen (Ok tt) else Left
-]
+-- what the looks that are left come to, from the ports as they are now, is what all come to
+abbrev pub LooksOn : {P : Type 0} → Trips P → P → P → ℕ → ℕ → ℕ → Type 0
+LooksOn {P} trips start now station all left =
+    (seen : Result Seen MasterFault) (later : P) → IsLookedFor trips now station left seen later
+    → IsLookedFor trips start station all seen later
 
--- nothing is to be done
-pub nothing_to_do : (tells_places : Bool) (seen : Seen) → Leave ≡ remedy_of seen
-    → Left ≡ outcome_of tells_places (Ok seen) (Ok tt)
-nothing_to_do tells_places seen is = ap (λ remedy. by_remedy tells_places seen remedy) is
+looked-again : {P : Type 0} (trips : Trips P) (now between : P) (station left : ℕ)
+    (first : Result Seen MasterFault) → is_nobody first ≡ true
+    → IsLookedAt trips now station first between
+    → (seen : Result Seen MasterFault) (later : P) → IsLookedFor trips between station left seen later
+    → IsLookedFor trips now station (suc left) seen later
+unfolding IsLookedFor
+looked-again trips now between station left first nobody did seen later more =
+    (first, between, did, rw nobody more)
 
--- its place does not tell it from the others
-pub no_place : (tells_places : Bool) (seen : Seen) → Address ≡ remedy_of seen → tells_places ≡ false
-    → Left ≡ outcome_of tells_places (Ok seen) (Ok tt)
-no_place tells_places seen is not_told =
-    ap (λ (told : Bool). if told then brought_as seen (Ok tt) else Left) (sym not_told)
-    ∙ ap (λ remedy. by_remedy tells_places seen remedy) is
+looked-once : {P : Type 0} (trips : Trips P) (now between : P) (station left : ℕ)
+    (first : Result Seen MasterFault) → is_nobody first ≡ false
+    → IsLookedAt trips now station first between
+    → IsLookedFor trips now station (suc left) first between
+unfolding IsLookedFor
+looked-once trips now between station left first told did = (first, between, did, rw told (refl, refl))
+
+looked-last : {P : Type 0} (trips : Trips P) (now between : P) (station : ℕ)
+    (first : Result Seen MasterFault) → IsLookedAt trips now station first between
+    → IsLookedFor trips now station 0 first between
+unfolding IsLookedFor
+looked-last trips now between station first did = did
+
+pub looks_on : {P : Type 0} (trips : Trips P) (start now between : P) (station all left less : ℕ)
+    (first : Result Seen MasterFault) → LooksOn trips start now station all left → left ≡ suc less
+    → is_nobody first ≡ true → IsLookedAt trips now station first between
+    → LooksOn trips start between station all less
+looks_on trips start now between station all left less first so_far is nobody did seen later more =
+    so_far seen later
+    (subst (λ (n : ℕ). IsLookedFor trips now station n seen later) (sym is)
+    (looked-again trips now between station less first nobody did seen later more))
+
+pub looks_end : {P : Type 0} (trips : Trips P) (start now between : P) (station all left less : ℕ)
+    (first : Result Seen MasterFault) → LooksOn trips start now station all left → left ≡ suc less
+    → is_nobody first ≡ false → IsLookedAt trips now station first between
+    → IsLookedFor trips start station all first between
+looks_end trips start now between station all left less first so_far is told did =
+    so_far first between
+    (subst (λ (n : ℕ). IsLookedFor trips now station n first between) (sym is)
+    (looked-once trips now between station less first told did))
+
+pub looks_last : {P : Type 0} (trips : Trips P) (start now between : P) (station all left : ℕ)
+    (first : Result Seen MasterFault) → LooksOn trips start now station all left → left ≡ 0
+    → IsLookedAt trips now station first between
+    → IsLookedFor trips start station all first between
+looks_last trips start now between station all left first so_far is did =
+    so_far first between
+    (subst (λ (n : ℕ). IsLookedFor trips now station n first between) (sym is)
+    (looked-last trips now between station first did))

@@ -1,6 +1,6 @@
 -- One question to the slaves: a datagram goes out alone in a frame, and its copies join to a datagram that
 -- tells how many slaves counted (IEC 61158-4-12, working counter).
-use Rattle.std.specs.Prelude.{◌≡◌, ℕ, ◌==◌, nat_lt, nat_eq, not, List, [], ◌∷◌, Result, Ok, Err}
+use Rattle.std.specs.Prelude.{◌≡◌, ℕ, ◌==◌, ◌||◌, nat_lt, nat_eq, not, List, [], ◌∷◌, Result, Ok, Err, is_some}
 use Rattle.std.specs.Cmp.Lexicographic.{pointwise}
 use Rattle.ec_wire.specs.Datagram.{DatagramRecord, nth}
 use Rattle.ec_app.specs.Table.{first_fitting}
@@ -8,6 +8,7 @@ use Rattle.ec_master.specs.Ports.{Trips}
 use Rattle.ec_services.specs.Ask.{Answer, Asks}
 use Rattle.ec_services.specs.declared.fault.MasterFault.{MasterFault}
 use Rattle.ec_services.specs.declared.fault.MasterFault.TheVariants.{NoSlave, BadAnswer}
+use Rattle.ec_run.specs.declared.ask.Reply.{Reply}
 
 -- the joined frame of an answer
 abbrev pub joined_by : Answer → Result (List DatagramRecord) MasterFault
@@ -20,6 +21,18 @@ pub record IsPut {P : Type 0} (trips : Trips P) (before : P) (sent : DatagramRec
   pub answer : Answer
   pub asks : Asks trips before sent answer later
   pub tells : joined ≡ joined_by answer
+
+-- the joined frame of an answer, and whether any copy came
+abbrev pub reply_by : Answer → Result Reply MasterFault
+reply_by (Err fault) = Err fault
+reply_by (Ok back) = Ok (record { joined = back.joined; heard = is_some back.came.a || is_some back.came.b })
+
+-- a datagram goes out over ports alone in a frame, and this comes back
+pub record IsReplied {P : Type 0} (trips : Trips P) (before : P) (sent : DatagramRecord)
+    (reply : Result Reply MasterFault) (later : P) : Type 0 where
+  pub answer : Answer
+  pub asks : Asks trips before sent answer later
+  pub tells : reply ≡ reply_by answer
 
 -- ---- what an answer says
 

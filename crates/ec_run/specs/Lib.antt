@@ -2,6 +2,7 @@ pub mod Ask
 pub mod Watched
 pub mod Counting
 pub mod StartupObjects
+pub mod States
 pub mod Step
 pub mod Phase
 pub mod Recovery

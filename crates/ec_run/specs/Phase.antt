@@ -1,7 +1,7 @@
 -- The slaves of a line are brought up phase by phase (IEC 61158-6-12, AL state machine; ETG.2000, InitCmd):
 -- the mailboxes stand before Pre-Op, startup objects are written there, and the areas of process data and the
 -- FMMUs stand before Safe-Op.
-use Rattle.std.specs.Prelude.{◌≡◌, ℕ, ◌+◌, List, [], ◌∷◌, Result, Ok, Err}
+use Rattle.std.specs.Prelude.{◌≡◌, ℕ, ◌+◌, ◌++◌, List, [], ◌∷◌, Result, Ok, Err}
 use Rattle.ec_regs.specs.declared.al.AlState.{AlState}
 use Rattle.ec_regs.specs.declared.al.AlState.TheVariants as state
 use Rattle.ec_master.specs.Ports.{Trips}
@@ -29,6 +29,14 @@ steps_of SafeOp =
     ∷ Fmmu 0 ∷ Fmmu 1 ∷ Fmmu 2 ∷ Fmmu 3 ∷ Fmmu 4 ∷ Fmmu 5 ∷ Fmmu 6 ∷ Fmmu 7
     ∷ State state.SafeOp ∷ []
 steps_of Op = State state.Op ∷ []
+
+-- the steps of a phase and of all that follow it
+abbrev pub steps_from : Phase → List Step
+steps_from Init = steps_of Init ++ steps_of PreOp ++ steps_of Startup ++ steps_of SafeOp ++ steps_of Op
+steps_from PreOp = steps_of PreOp ++ steps_of Startup ++ steps_of SafeOp ++ steps_of Op
+steps_from Startup = steps_of Startup ++ steps_of SafeOp ++ steps_of Op
+steps_from SafeOp = steps_of SafeOp ++ steps_of Op
+steps_from Op = steps_of Op
 
 -- the state in which a slave is after a phase
 abbrev pub state_after : Phase → AlState

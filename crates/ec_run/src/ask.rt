@@ -1,14 +1,15 @@
 //! One question to the slaves: a datagram that goes out alone in a frame, and what its copies join to.
 
-ghost use Rattle.std.specs.Prelude.{◌≡◌, ◌≤◌, ◌<◌, IfOk, Err, length};
+ghost use Rattle.std.specs.Prelude.{◌≡◌, ◌≤◌, ◌<◌, ◌||◌, IfOk, Err, is_some, length};
 ghost use Rattle.ec_wire.specs.Datagram.{nth, record_of};
 ghost use Rattle.ec_services.specs.Ask.{request};
 ghost use Rattle.ec_services.specs.declared.fault.MasterFault.TheVariants.{Port};
-ghost use Rattle.ec_run.specs.Ask.{IsPut, one_counted, one_or_two, held_by};
+ghost use Rattle.ec_run.specs.Ask.{IsPut, IsReplied, one_counted, one_or_two, held_by};
 
 use arrayvec::ArrayVec;
 use ec_master::Ports;
 use ec_merge::join_frames;
+use ec_ring::Came;
 use ec_services::MasterFault;
 use ec_wire::{Command, Datagram, FrameBuf, MAX_DATA};
 
@@ -30,6 +31,43 @@ pub fn request(command: Command, address: u32, payload: &[u8]) -> Datagram
     }
 }
 
+/// What came back of a datagram that went out alone in a frame.
+#[derive(Drop)]
+pub(crate) struct Reply {
+    /// The frame of one datagram that the copies join to; that which was sent, where none came.
+    pub(crate) joined: FrameBuf,
+    /// Whether a copy came: where none did, nothing is known of the slaves.
+    pub(crate) heard: bool,
+}
+
+/// Did a copy come?
+fn is_heard(came: &Came) -> bool
+    ensures { result ≡ (is_some came.now.a || is_some came.now.b) }
+{
+    came.a.is_some() || came.b.is_some()
+}
+
+/// Sends a datagram alone in a frame, and answers what came back: a frame of one datagram of its size.
+pub(crate) fn ask<P: Ports>(ports: &mut P, sent: &Datagram) -> Result<Reply, MasterFault>
+    ensures replied { IsReplied P.trips ports.old (record_of sent.now) result ports.new }
+    ensures one { IfOk result (λ reply. length reply.joined ≡ 1) }
+    ensures size { IfOk result
+        (λ reply. length (nth reply.joined 0).payload ≡ length sent.now.payload.items) }
+    ensures counted { result ≡ Err Port → P.failed ports.old < P.failed ports.new }
+    ensures never_lower { P.failed ports.old ≤ P.failed ports.new }
+{
+    let frame = FrameBuf::of(sent);
+    let came = match ports.trip(&frame) {
+        Ok(came) => came,
+        Err(_) => return Err(MasterFault::Port),
+    };
+    let heard = is_heard(&came);
+    match join_frames(&frame, came.a.as_ref(), came.b.as_ref()) {
+        Ok(joined) => Ok(Reply { joined, heard }),
+        Err(_) => Err(MasterFault::Stranger),
+    }
+}
+
 /// Sends a datagram alone in a frame, and answers what its copies join to: a frame of one datagram of its
 /// size.
 pub fn put<P: Ports>(ports: &mut P, sent: &Datagram) -> Result<FrameBuf, MasterFault>
@@ -40,14 +78,9 @@ pub fn put<P: Ports>(ports: &mut P, sent: &Datagram) -> Result<FrameBuf, MasterF
     ensures counted { result ≡ Err Port → P.failed ports.old < P.failed ports.new }
     ensures never_lower { P.failed ports.old ≤ P.failed ports.new }
 {
-    let frame = FrameBuf::of(sent);
-    let came = match ports.trip(&frame) {
-        Ok(came) => came,
-        Err(_) => return Err(MasterFault::Port),
-    };
-    match join_frames(&frame, came.a.as_ref(), came.b.as_ref()) {
-        Ok(joined) => Ok(joined),
-        Err(_) => Err(MasterFault::Stranger),
+    match ask(ports, sent) {
+        Ok(reply) => Ok(reply.joined),
+        Err(fault) => Err(fault),
     }
 }
 

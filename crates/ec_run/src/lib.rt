@@ -20,6 +20,7 @@
 //! - [`Cycles`] is a work that is done again and again: [`Cycles::cycle`] makes one. Its [`Outputs`] may be
 //!   images of a text, a line for each cycle ([`read_images`]).
 //! - [`recover`] looks at a slave and brings it up again; [`Seen::remedy`] is the table of what is done.
+//! - [`states_item`] reads the states of all slaves in each cycle; [`leave`] asks all of them for a state.
 //! - [`Watched`] are ports that keep where copies arrived.
 //!
 //! What is promised:
@@ -29,11 +30,14 @@
 //! - [`Cycles::cycle`] (`cycle`): the items go out with their outputs at the start of the round of the
 //!   cycle's number, the cycle is `ec_master::run_cycle`, its end is counted, and the image is what a good
 //!   cycle brought and nothing else. `adds_up`: good, short, over and fault are all cycles together.
-//! - [`recover`] (`recovers`): the slave is looked at by its station address, and what is seen says whether
-//!   it is left alone.
+//! - [`recover`] (`recovers`): the slave is looked at by its station address until it answers, and the steps
+//!   that the table has for what is seen are done with it in their order, until one fails. So one that is
+//!   said to be brought to Op has answered that it is there.
+//! - [`tells_all_in_op`]: the byte that the last item brought back says Op and nothing else. Which states the
+//!   slaves had then is a law over rings (`ec_over_ring`, `all_in_op`).
 //!
 //! What the contracts speak of stands in specs/: `Step`, `Phase` and `StartupObjects` (start-up), `Cycles`
-//! and `Outputs`, `Recovery`, `Watched` (ports that tell where copies arrive, as ports of a master), `Ask`
+//! and `Outputs`, `Recovery`, `States`, `Watched` (ports that tell where copies arrive, as ports of a master), `Ask`
 //! and `Counting` (one question).
 
 mod ask;
@@ -45,6 +49,7 @@ mod objects;
 mod outputs;
 mod phase;
 mod recovery;
+mod states;
 mod step;
 mod wanted;
 mod watched;
@@ -57,7 +62,8 @@ pub use images::{Image, ImageFault, ImagesFault, MAX_IMAGES_TEXT, image_length, 
 pub use objects::peer_between;
 pub use outputs::Outputs;
 pub use phase::{PHASES, Phase, StepFault, bring, bring_line};
-pub use recovery::{Outcome, Remedy, Seen, look_at, recover, tells_places};
+pub use recovery::{Outcome, Remedy, Seen, look_at, look_for, recover, tells_places};
+pub use states::{add_states, leave, states_item, tells_all_in_op};
 pub use step::{Step, startup_number};
 pub use wanted::{MAX_STARTUP, StartupObject, Wanted, wanted_of};
 pub use watched::{Signs, Watched, Ways};

@@ -1,7 +1,7 @@
 //! The phases in which a line is brought up, and the steps of each.
 
 ghost use Rattle.std.specs.Prelude.{◌≡◌, ◌≤◌, ◌<◌, ◌+◌, IfErr, length};
-ghost use Rattle.ec_run.specs.Phase.{state_after, steps_of, AreDone, Brings};
+ghost use Rattle.ec_run.specs.Phase.{state_after, steps_from, steps_of, AreDone, Brings};
 
 use crate::step::{Step, try_step};
 use crate::wanted::Wanted;
@@ -34,15 +34,14 @@ pub const PHASES: [Phase; 5] = [
     Phase::Op,
 ];
 
-const INIT_STEPS: [Step; 1] = [Step::State(AlState::Init)];
-
-const PRE_OP_STEPS: [Step; 3] = [
+/// All steps by which a slave is given its station address by its place and brought up from Init on: the
+/// station, and the steps of the phases in their order.
+pub(crate) const ALL_STEPS: [Step; 37] = [
+    Step::Station,
+    Step::State(AlState::Init),
     Step::SyncManager(0),
     Step::SyncManager(1),
     Step::State(AlState::PreOp),
-];
-
-const STARTUP_STEPS: [Step; 16] = [
     Step::Startup(0),
     Step::Startup(1),
     Step::Startup(2),
@@ -59,9 +58,6 @@ const STARTUP_STEPS: [Step; 16] = [
     Step::Startup(13),
     Step::Startup(14),
     Step::Startup(15),
-];
-
-const SAFE_OP_STEPS: [Step; 15] = [
     Step::SyncManager(2),
     Step::SyncManager(3),
     Step::SyncManager(4),
@@ -77,9 +73,8 @@ const SAFE_OP_STEPS: [Step; 15] = [
     Step::Fmmu(6),
     Step::Fmmu(7),
     Step::State(AlState::SafeOp),
+    Step::State(AlState::Op),
 ];
-
-const OP_STEPS: [Step; 1] = [Step::State(AlState::Op)];
 
 impl Phase {
     /// The steps of the phase, in their order (IEC 61158-6-12, AL state machine: the mailboxes stand before
@@ -88,11 +83,11 @@ impl Phase {
         ensures { result.now ≡ steps_of self }
     {
         match self {
-            Phase::Init => &INIT_STEPS,
-            Phase::PreOp => &PRE_OP_STEPS,
-            Phase::Startup => &STARTUP_STEPS,
-            Phase::SafeOp => &SAFE_OP_STEPS,
-            Phase::Op => &OP_STEPS,
+            Phase::Init => &ALL_STEPS[1..2],
+            Phase::PreOp => &ALL_STEPS[2..5],
+            Phase::Startup => &ALL_STEPS[5..21],
+            Phase::SafeOp => &ALL_STEPS[21..36],
+            Phase::Op => &ALL_STEPS[36..],
         }
     }
 
@@ -106,6 +101,19 @@ impl Phase {
             Phase::SafeOp => AlState::SafeOp,
             Phase::Op => AlState::Op,
         }
+    }
+}
+
+/// The steps of a phase and of all that follow it.
+pub(crate) fn steps_from(first: Phase) -> &'static [Step]
+    ensures { result.now ≡ steps_from first }
+{
+    match first {
+        Phase::Init => &ALL_STEPS[1..],
+        Phase::PreOp => &ALL_STEPS[2..],
+        Phase::Startup => &ALL_STEPS[5..],
+        Phase::SafeOp => &ALL_STEPS[21..],
+        Phase::Op => &ALL_STEPS[36..],
     }
 }
 

@@ -32,7 +32,7 @@ const MOST_BYTES: usize = 16;
 pub(crate) const MOST_READS: u32 = 1000;
 
 /// How often a step is tried again that no slave answered: a frame may have been lost.
-const MORE_TRIES: u32 = 2;
+const MORE_TRIES: u32 = 19;
 
 /// A step by which a slave is brought up. Numbers of sync managers and FMMUs are those of a slave, and begin
 /// anew at `SYNC_MANAGER_COUNT` and `FMMU_COUNT`.

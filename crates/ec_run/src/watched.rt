@@ -38,6 +38,8 @@ pub struct Watched<P: HeardPorts> {
     ports: P,
     signs: Signs,
     counts: ArrayVec<u16, MAX_ITEMS>,
+    heard_a: bool,
+    heard_b: bool,
 }
 
 impl<P: HeardPorts> Model for Watched<P> {
@@ -58,6 +60,8 @@ impl<P: HeardPorts> Watched<P> {
                 by_a: 0,
             },
             counts: ArrayVec::new(),
+            heard_a: false,
+            heard_b: false,
         }
     }
 
@@ -77,6 +81,21 @@ impl<P: HeardPorts> Watched<P> {
             by_a: 0,
         };
         self.counts = ArrayVec::new();
+        self.heard_a = false;
+        self.heard_b = false;
+    }
+
+    /// Did any copy come?
+    pub fn has_heard(&self) -> bool {
+        self.heard_a || self.heard_b
+    }
+
+    /// Did any copy come at this port?
+    pub fn has_heard_at(&self, port: Port) -> bool {
+        match port {
+            Port::A => self.heard_a,
+            Port::B => self.heard_b,
+        }
     }
 
     /// What the copies told.
@@ -103,12 +122,26 @@ impl<P: HeardPorts> Watched<P> {
     fn take(&mut self, sent: &FrameBuf, came: &Arrivals)
         ensures { self.new ≡ self.old }
     {
+        self.hear(&came.a);
+        self.hear(&came.b);
         self.signs.ways = worse(self.signs.ways, ways_of(came));
         for k in 0..sent.count() {
             let by_a = moved(sent, &came.a, k);
             let by_b = moved(sent, &came.b, k);
             self.signs.by_a = self.signs.by_a.wrapping_add(by_a);
             self.keep(by_a.wrapping_add(by_b));
+        }
+    }
+
+    /// Takes at which port a copy came, if it did.
+    fn hear(&mut self, copy: &Option<Arrival>)
+        ensures { self.new ≡ self.old }
+    {
+        if let Some(arrival) = copy {
+            match arrival.at {
+                Port::A => self.heard_a = true,
+                Port::B => self.heard_b = true,
+            }
         }
     }
 

@@ -1,22 +1,24 @@
-use Rattle.std.proofs.Common.{rules, ◌≡◌, sym, subst, refl, length, List, [], ◌∷◌, Ok, Err}
+use Rattle.std.proofs.Common.{rules, ◌≡◌, sym, subst, refl, ap, length, Bool, List, [], ◌∷◌, Ok, Err}
 use Rattle.ec_wire.specs.Datagram.{record_of, nth, DatagramRecord}
 use Rattle.ec_merge.specs.Frames.{IsOwn, copy_or, joined_frame}
 use Rattle.ec_services.specs.declared.fault.MasterFault.TheVariants.{Port, Stranger}
 use Rattle.ec_run.proofs.AskLemmas.{joined_size}
-use Rattle.ec_run.proofs.ask.put.Goals as goal
+use Rattle.ec_run.proofs.ask.ask.Goals as goal
 
-pub returns-in-Err-clause-put : goal.returns-in-Err-clause-put
-returns-in-Err-clause-put g c = record { answer = Err Port; asks = search rules; tells = refl }
+pub returns-in-Err-clause-replied : goal.returns-in-Err-clause-replied
+returns-in-Err-clause-replied g c = record { answer = Err Port; asks = search rules; tells = refl }
 
-pub returns-in-Ok-join_frames-clause-put : goal.returns-in-Ok-join_frames-clause-put
-returns-in-Ok-join_frames-clause-put g c = record {
+pub returns-in-Ok-join_frames-clause-replied : goal.returns-in-Ok-join_frames-clause-replied
+returns-in-Ok-join_frames-clause-replied g c = record {
   answer = Ok (record { came = c.in-Ok.came; joined = c.in-Ok-join_frames.joined });
   asks = search rules;
-  tells = refl;
+  tells = ap
+      (λ (h : Bool). Ok (record { joined = c.in-Ok-join_frames.joined; heard = h }))
+      c.is_heard-heard.ensures;
 }
 
-pub returns-in-Err-join_frames-clause-put : goal.returns-in-Err-join_frames-clause-put
-returns-in-Err-join_frames-clause-put g c = record { answer = Err Stranger; asks = search rules; tells = refl }
+pub returns-in-Err-join_frames-clause-replied : goal.returns-in-Err-join_frames-clause-replied
+returns-in-Err-join_frames-clause-replied g c = record { answer = Err Stranger; asks = search rules; tells = refl }
 
 pub returns-in-Ok-join_frames-clause-size : goal.returns-in-Ok-join_frames-clause-size
 returns-in-Ok-join_frames-clause-size g c =
