@@ -48,4 +48,6 @@ pub mod TenTripsLemmas
 pub mod AnsweredLemmas
 pub mod CalmRingLemmas
 pub mod AnyPortsLemmas
+pub mod SentLemmas
+pub mod InOpLemmas
 pub mod Laws

@@ -3,3 +3,4 @@ pub mod States
 pub mod Transfers
 pub mod Stations
 pub mod Recovery
+pub mod InOp

@@ -23,6 +23,10 @@
 //! In [`stations`], `stations_over_ring`: station addresses ([`ec_services::assign_stations`]) come to each
 //! slave's own with all links up, and to Broken, with nothing written, where any is down.
 //!
+//! In [`states`], `all_in_op`: where a cycle's verdict is good, in whatever weather, and its last item tells
+//! that all slaves are in Op ([`ec_run::tells_all_in_op`]), each one whose AL status names a state is in Op
+//! and has no error.
+//!
 //! Of calls that recover ([`ec_services::upload_surely`] and [`ec_services::download_surely`]), over a ring
 //! in any weather, where copies are lost and pass a slave twice, and from any state of its mailboxes, in
 //! [`recovery`]:
@@ -40,8 +44,9 @@
 //! that one slave has, and what a state request comes to; `Transfers`, a slave that takes a peer's next
 //! request, and what a transfer comes to; `Stations`, what each slave of a line went through; `Recovery`, how
 //! both copies of a frame fare at a slave, what stands in its mailboxes, and what a call that recovers comes
-//! to.
+//! to; `InOp`, a cycle that tells that all slaves are in Op.
 
 pub mod promises;
 pub mod recovery;
+pub mod states;
 pub mod stations;
