@@ -8,12 +8,12 @@
 //!   `ec_ring::HeardPorts`: a copy arrived at the port where it was received.
 //! - `UdpCarrier`: two UDP sockets, each of which speaks with one end of the line. It is a `Carrier`.
 //!
-//! A trip drops what still waits at the ports, sends a copy from port A and one from port B, and then
-//! receives at port A and at port B, up to `Patience::limit` after the sending. Each copy goes out under a
-//! seal of its own (`ec_seal`), which is taken off what comes. A packet that is no copy of this trip is
-//! passed over: one that is no frame, or a frame of another question or another trip, or the same copy once
-//! more. A copy that does not come in time is lost; its seal is not given again before `Patience::late` has
-//! passed since it was sent.
+//! A trip sends a copy from port A and one from port B, and then receives at port A and at port B, up to
+//! `Patience::limit` after the sending; where copies of the last trip did not come, it first drops what waits
+//! at the ports. Each copy goes out under a seal of its own (`ec_seal`), which is taken off what comes. A
+//! packet that is no copy of this trip is passed over: one that is no frame, or a frame of another question
+//! or another trip, or the same copy once more. A copy that does not come in time is lost; its seal is not
+//! given again before `Patience::late` has passed since it was sent.
 //!
 //! What is promised:
 //!
@@ -43,4 +43,4 @@ pub use copies::{Outgoing, SealedCopy};
 pub use ports::{FarPorts, Patience};
 pub use promises::{a_good_is_of_its_cycle, a_trip_is_its_own};
 pub use sockets::{OpenFault, UdpCarrier};
-pub use timer::{ClockTimer, Timer};
+pub use timer::{ClockTimer, TellingTimer, Timer};

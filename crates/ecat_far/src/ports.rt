@@ -54,6 +54,8 @@ pub struct FarPorts<C: Carrier, T: Timer> {
     timer: T,
     patience: Patience,
     seals: Seals,
+    /// Whether all copies of the last trip came, so that none of them can wait at a port.
+    is_settled: bool,
 }
 
 impl<C: Carrier, T: Timer> Model for FarPorts<C, T> {
@@ -74,6 +76,7 @@ impl<C: Carrier, T: Timer> FarPorts<C, T> {
             timer,
             patience,
             seals,
+            is_settled: false,
         }
     }
 
@@ -110,14 +113,18 @@ impl<C: Carrier, T: Timer> FarPorts<C, T> {
         }
     }
 
-    /// Drops what is late, and sends both copies, from port A first.
+    /// Sends both copies, from port A first. Where copies of the last trip did not come, what waits at the
+    /// ports is late and dropped before.
     fn send_copies(&mut self, out: &Outgoing) -> Result<(), PortFault>
         ensures counted { IsErr result → C.failed self.old.carrier < C.failed self.new.carrier }
         ensures never_lower { C.failed self.old.carrier ≤ C.failed self.new.carrier }
         ensures heard_on { C.heard self.old.carrier ≤ C.heard self.new.carrier }
         ensures turn { self.new.trip ≡ self.old.trip }
     {
-        self.carrier.drain();
+        if !self.is_settled {
+            self.carrier.drain();
+        }
+        self.is_settled = false;
         self.carrier.send(Port::A, out.a.bytes())?;
         self.carrier.send(Port::B, out.b.bytes())
     }
@@ -197,13 +204,14 @@ impl<C: Carrier, T: Timer> FarPorts<C, T> {
     }
 
     /// Frees the seals of a trip of which each copy came that was sent.
-    fn free_if_whole(&mut self, trip: usize, both: &Both)
+    fn settle(&mut self, trip: usize, both: &Both)
         requires { trip < TRIPS }
         ensures { self.new ≡ self.old }
     {
         let came_a = both.a.is_some() || !self.carrier.speaks(Port::A);
         let came_b = both.b.is_some() || !self.carrier.speaks(Port::B);
-        if came_a && came_b {
+        self.is_settled = came_a && came_b;
+        if self.is_settled {
             self.seals.free(trip);
         }
     }
@@ -255,7 +263,7 @@ impl<C: Carrier, T: Timer> Ports for FarPorts<C, T> {
         self.send_copies(&out)?;
         let until = self.timer.now().saturating_add(self.patience.limit);
         let both = self.receive_copies(&out, until)?;
-        self.free_if_whole(trip, &both);
+        self.settle(trip, &both);
         Ok(opened_came(both, trip, sent))
     }
 

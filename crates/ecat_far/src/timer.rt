@@ -1,8 +1,12 @@
 //! The time by which seals are held and copies are waited for.
 
+use std::io::Write;
 use std::rt::Clock;
 use std::time::{Duration, Instant};
 use std::{io, thread};
+
+/// How many microseconds a millisecond has.
+const MICROS: u64 = 1000;
 
 /// What a master's ports tell the time by.
 pub trait Timer {
@@ -42,5 +46,42 @@ impl<'a, R: Clock> Timer for ClockTimer<'a, R> {
 
     fn rest(&mut self, micros: u64) {
         thread::sleep(self.clock, Duration::from_micros(micros));
+    }
+}
+
+/// A timer that writes a line the first time that it is waited by. A fault of that line is passed over.
+#[derive(Drop)]
+pub struct TellingTimer<T: Timer, W: Write> {
+    timer: T,
+    err: W,
+    has_told: bool,
+}
+
+impl<T: Timer, W: Write> TellingTimer<T, W> {
+    /// This timer, which tells `err` that it is waited by.
+    pub fn new(timer: T, err: W) -> TellingTimer<T, W> {
+        TellingTimer {
+            timer,
+            err,
+            has_told: false,
+        }
+    }
+}
+
+impl<T: Timer, W: Write> Timer for TellingTimer<T, W> {
+    fn now(&mut self) -> u64 {
+        self.timer.now()
+    }
+
+    fn rest(&mut self, micros: u64) {
+        if !self.has_told {
+            self.has_told = true;
+            let millis = micros.div_ceil(MICROS);
+            let _ = writeln!(
+                self.err,
+                "waiting {millis} ms: copies are missing, and may still come (--late)"
+            );
+        }
+        self.timer.rest(micros);
     }
 }
