@@ -636,6 +636,21 @@ MACHINE = "".join(
 # The lines of a start-up over a whole ring of three slaves.
 STARTED = "slaves 3\nring whole\nstations given\nall in Init\nall in Pre-Op\nall in Safe-Op\nall in Op\n"
 
+# What the slaves are left in, unless it is told otherwise.
+LEFT = "left in Init\n"
+
+
+def sums(cycles):
+    """The sums of so many cycles, all of them good, with all slaves in Op; N for their times."""
+    return f"cycles {cycles} good {cycles} short 0 over 0 fault 0 not-in-op 0\ncycle time N\n"
+
+
+def timed(text):
+    """What a master prints, with N for the times of its cycles and for by how much they began late."""
+    times = r"least \d+ mean \d+ greatest \d+ microseconds, 99 of 100 within \d+\n"
+    return re.sub(f"^(cycle time|lateness) {times}", r"\1 N\n", text, flags=re.M)
+
+
 # The items of its last cycle: the inputs, and 8 for each slave, which is in Op.
 ITEMS = "item 0 LRW data 112233 wkc 9 of 9\nitem 1 BRD data 0800 wkc 3 of 3 adp 3\n"
 
@@ -664,8 +679,8 @@ def a_master_brings_a_line_to_op_and_cycles(stage):
     with stage.serve(MACHINE, "--forever") as _line:
         stage.file("m", MACHINE)
         words = ("master", "m", "--at", both_ends(stage), "--cycles", "50", "--log", "log", *PATIENCE)
-        wanted = STARTED + "cycles 50 good 50 short 0 over 0 fault 0\n" + ITEMS + "0\n"
-        yield "master", wanted, stage.ends(*words)
+        wanted = STARTED + LEFT + sums(50) + ITEMS + "0\n"
+        yield "master", wanted, timed(stage.ends(*words))
         with open(os.path.join(stage.folder, "log"), encoding="latin-1") as log:
             wanted = "".join(f"cycle {k} good counts 9 3\n" for k in range(50))
             yield "log", wanted, log.read()
@@ -691,10 +706,10 @@ def a_master_brings_slaves_without_a_mailbox_to_op(stage):
             words = ("master", "m", "--at", both_ends(stage), "--cycles", cycles, *PATIENCE)
             text = stage.ends(*words)
             seen.append(re.search("item 1 LRD data (..)", text))
-            wanted = STARTED + f"cycles {cycles} good {cycles} short 0 over 0 fault 0\n"
+            wanted = STARTED + LEFT + sums(cycles)
             wanted += "item 0 LWR data a1 wkc 1 of 1\nitem 1 LRD data NN wkc 1 of 1\n"
             wanted += "item 2 LRW data b2 wkc 3 of 3\nitem 3 BRD data 0800 wkc 3 of 3 adp 3\n0\n"
-            yield "master", wanted, re.sub("LRD data ..", "LRD data NN", text)
+            yield "master", wanted, timed(re.sub("LRD data ..", "LRD data NN", text))
         yield "counts", "True", str(bool(seen[0] and seen[1] and seen[0][1] != seen[1][1]))
 
 
@@ -703,8 +718,8 @@ def a_master_with_one_port_cycles(stage):
     with stage.serve(MACHINE, "--forever") as _line:
         stage.file("m", MACHINE)
         words = ("master", "m", "--at", f"127.0.0.1:{stage.port}", "--cycles", "5", *PATIENCE)
-        wanted = "cycles 5 good 5 short 0 over 0 fault 0\n" + ITEMS + "0\n"
-        yield "master", wanted, last_lines(stage.ends(*words), 4)
+        wanted = LEFT + sums(5) + ITEMS + "0\n"
+        yield "master", wanted, timed(last_lines(stage.ends(*words), 6))
 
 
 @case
@@ -748,7 +763,7 @@ def a_master_sees_cables_break_and_heal(stage):
             master.process.stdin.close()
             master.process.stdin = None
             end = master.end()
-            cycles, good, short, over, fault = (int(n) for n in re.findall(r"\d+", last_lines(end, 4))[:5])
+            cycles, good, short, over, fault = (int(n) for n in re.findall(r"\d+", last_lines(end, 6))[:5])
             yield "sums", f"{cycles} 0", f"{good + short + over} {fault}"
             yield "items", ITEMS + "0\n", last_lines(end, 3)
 
@@ -782,8 +797,8 @@ def the_outputs_of_a_file_begin_again_behind_its_last_line(stage):
         stage.file("o", "0102\n0304\nF5f6")
         for cycles, wanted in ((1, "01 02"), (2, "03 04"), (3, "f5 f6"), (4, "01 02"), (8, "03 04")):
             at = ("--at", both_ends(stage), "--cycles", str(cycles), "--outputs", "o", *PATIENCE)
-            sums = f"cycles {cycles} good {cycles} short 0 over 0 fault 0\n"
-            yield "sums", sums, last_lines(stage.ends("master", "m", *at), 6).splitlines(True)[0]
+            last = timed(last_lines(stage.ends("master", "m", *at), 7))
+            yield "sums", sums(cycles), "".join(last.splitlines(True)[:2])
             line.process.stdin.write(b"areas\n")
             shown = [line.line().split()[-1] for _ in range(2)]
             yield f"{cycles} cycles", wanted, " ".join(shown)
@@ -801,8 +816,8 @@ def startup_objects_are_written_before_safe_op(stage):
     with stage.serve(WRITABLE, "--forever") as _line:
         stage.file("m", STARTING)
         at = ("--at", both_ends(stage))
-        wanted = OBJECTS_STARTED + "cycles 5 good 5 short 0 over 0 fault 0\n" + ITEMS + "0\n"
-        yield "master", wanted, stage.ends("master", "m", *at, "--cycles", "5", *PATIENCE)
+        words = ("master", "m", *at, "--cycles", "5", "--leave", "op", *PATIENCE)
+        yield "master", OBJECTS_STARTED + sums(5) + ITEMS + "0\n", timed(stage.ends(*words))
         yield "written", "value 0x03e8\n0\n", stage.ends("sdo", "m", "0x1002", "0x8000", "1", *at)
         yield "another", "value 0x0005\n0\n", stage.ends("sdo", "m", "0x1003", "0x8000", "1", *at)
 
@@ -831,16 +846,18 @@ def startup_objects_are_written_to_a_slave_that_came_back(stage):
     """The service is started anew under a master: its slaves know nothing."""
     stage.file("m", STARTING)
     line = stage.serve(WRITABLE, "--forever")
-    words = ("master", "m", "--at", both_ends(stage), "--every", "2000", "--recover")
+    words = ("master", "m", "--at", both_ends(stage), "--every", "2000", "--recover", "--leave", "op")
     with stage.start(*words, stdin=subprocess.PIPE) as master:
         for wanted in OBJECTS_STARTED.splitlines(True):
             yield "start", wanted, master.line()
         line.process.terminate()
         line.process.wait()
         with stage.serve(WRITABLE, "--forever") as _line:
-            brought = 0
-            while brought < 3:
-                brought += "brought to Op" in master.line()
+            ended = time.monotonic() + stage.limit
+            seen = []
+            while sum("brought to Op" in text for text in seen) < 3 and time.monotonic() < ended:
+                seen.append(master.line())
+            yield "brought", 3, sum("brought to Op" in text for text in seen)
             time.sleep(1)
             master.process.stdin.close()
             master.process.stdin = None
@@ -873,7 +890,7 @@ def a_line_elsewhere_is_asked(stage):
         yield "scan", "slaves 3\nring whole\n" + slaves + "0\n", stage.ends("scan", *at, *PATIENCE)
         command(line, "link 0 down")
         command(line, "link 3 down")
-        nothing = "slaves 0\nno copy came back: nothing known\n1\n"
+        nothing = "nobody answers at A\n1\n"
         yield "scan of nothing", nothing, stage.ends("scan", *at)
         command(line, "link 0 up")
         command(line, "link 3 up")
@@ -883,6 +900,88 @@ def a_line_elsewhere_is_asked(stage):
         yield "sdo", "value 0x00000101\n0\n", stage.ends(*words)
         yield "surely", "value 0x00000101\n0\n", stage.ends(*words, "--surely")
         yield "no slave", "fault NoSlave\n1\n", stage.ends("sdo", "m", "0x2002", "0x1018", "2", *at)
+
+
+@case
+def slaves_that_leave_op_are_told(stage):
+    """A drive that leaves Op is named though all cycles are good, and so it is when it is there again."""
+    control = {"stdin": subprocess.PIPE}
+    with stage.serve(MACHINE, "--control", **control) as line:
+        stage.file("m", MACHINE)
+        words = ("master", "m", "--at", both_ends(stage), "--every", "2000", *PATIENCE)
+        with stage.start(*words, **control) as master:
+            for wanted in STARTED.splitlines(True):
+                yield "start", wanted, master.line()
+            command(line, "state 1 2")
+            yield "out of Op", "cycle N: not all in Op\n", told(master.line())
+            yield "who", "cycle N: slave 1 (0x1002) is in Pre-Op\n", told(master.line())
+            command(line, "state 1 8")
+            yield "in Op", "cycle N: all in Op again after M cycles\n", told(master.line())
+            command(line, "state 2 4")
+            yield "out of Op again", "cycle N: not all in Op\n", told(master.line())
+            yield "who else", "cycle N: slave 2 (0x1003) is in Safe-Op\n", told(master.line())
+            master.process.stdin.close()
+            master.process.stdin = None
+            end = timed(master.end())
+            yield "left", LEFT, end.splitlines(True)[0]
+            yield "status", "1\n", last_lines(end, 1)
+        line.process.stdin.write(b"line\n")
+        states = [line.line() for _ in range(4)]
+        yield "states", "3", str(sum("state 1" in text for text in states))
+
+
+@case
+def slaves_are_left_where_it_is_told(stage):
+    with stage.serve(MACHINE, "--forever") as _line:
+        stage.file("m", MACHINE)
+        at = ("master", "m", "--at", both_ends(stage), "--cycles", "2", *PATIENCE)
+        for word, state in (("init", "Init"), ("pre-op", "Pre-Op"), ("safe-op", "Safe-Op")):
+            wanted = f"left in {state}\n" + sums(2) + ITEMS + "0\n"
+            yield word, wanted, timed(last_lines(stage.ends(*at, "--leave", word), 6))
+        wanted = STARTED + sums(2) + ITEMS + "0\n"
+        yield "op", wanted, timed(stage.ends(*at, "--leave", "op"))
+
+
+@case
+def another_product_in_a_slaves_place_is_told(stage):
+    with stage.serve(MACHINE, "--forever") as _line:
+        stage.file("m", MACHINE.replace("ro 257", "ro 258"))
+        words = ("master", "m", "--at", both_ends(stage), "--cycles", "5", *PATIENCE)
+        why = "fault: slave 1 (0x1002): object 0x1018:2 is 0x00000101, wanted 0x00000102\n1\n"
+        yield "another", "all in Pre-Op\n" + why, last_lines(stage.ends(*words), 3)
+
+
+@case
+def a_master_names_an_output_or_a_log_that_fails(stage):
+    with stage.serve(MACHINE, "--forever") as _line:
+        stage.file("m", MACHINE)
+        words = ("master", "m", "--at", both_ends(stage), "--cycles", "5", *PATIENCE)
+        wanted = STARTED + LEFT + sums(1) + ITEMS + "log: Write\n3\n"
+        yield "log", wanted, timed(stage.ends(*words, "--log", "/dev/full"))
+        with open("/dev/full", "wb") as full:
+            yield "output", "output: Write\n3\n", stage.ends(*words, stdout=full)
+
+
+@case
+def nobody_who_answers_a_scan_is_told(stage):
+    yield "nobody", "nobody answers at A\n1\n", stage.ends("scan", "--at", f"127.0.0.1:{stage.port}")
+
+
+@case
+def an_object_is_read_again_and_again(stage):
+    """Each run begins with the same counter of mails, which a slave takes for the same mail: only a run that
+    goes on asking has an answer then."""
+    with stage.serve(MACHINE, "--control", stdin=subprocess.PIPE) as line:
+        stage.file("m", MACHINE)
+        words = ("sdo", "m", "0x1002", "0x1018", "2", "--at", both_ends(stage))
+        init = "slave 0x1002 is in Init, where it takes no mail; Pre-Op is wanted"
+        yield "in Init", f"fault NoAnswer\n{init}\n1\n", stage.ends(*words)
+        command(line, "state 1 2")
+        for _ in range(10):
+            yield "read", "value 0x00000101\n0\n", stage.ends(*words)
+        missing = ("sdo", "m", "0x1002", "0x7000", "0", "--at", both_ends(stage))
+        wanted = "abort 0x06020000\n0x06020000: object does not exist in the object dictionary\n1\n"
+        yield "an abort", wanted, stage.ends(*missing)
 
 
 # The scenes that people read.

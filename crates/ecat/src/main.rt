@@ -30,6 +30,7 @@ fn main(rt: HostRuntime) -> ExitCode {
         input: rt.stdin(),
         is_watched: rt.stderr().is_terminal(),
         is_read: rt.stdout().is_terminal(),
+        notes: rt.stderr(),
     };
     ExitCode::from(start(&rt, console, &mut rt.stdout(), &mut rt.stderr()))
 }

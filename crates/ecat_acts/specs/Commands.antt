@@ -8,6 +8,6 @@ abbrev pub has_a_way_of_its_own : Args → Bool
 has_a_way_of_its_own (Lists file csv faults stats) = true
 has_a_way_of_its_own (Udp scene port judge pcap force) = true
 has_a_way_of_its_own (Serve scene port packets address forever control log raw pcap force) = true
-has_a_way_of_its_own (Master scene at raw cycles every limit outputs log stop recover) = true
-has_a_way_of_its_own (Scan at raw limit) = true
+has_a_way_of_its_own (Master scene at raw cycles every limit late outputs log stop recover leave) = true
+has_a_way_of_its_own (Scan at raw limit late) = true
 has_a_way_of_its_own _ = false

@@ -50,6 +50,8 @@ pub enum Failure {
     Reach,
     /// The descriptors of packet sockets are no numbers.
     Descriptors,
+    /// The state in which slaves are to be left has another name.
+    State,
     /// The packet sockets are of no use.
     Raw(RawFault),
     /// The clock of a master, or the wait for its input, could not be had.
@@ -102,6 +104,10 @@ pub fn report<W: Write, V: Write>(failure: &Failure, out: &mut W, err: &mut V) -
         Failure::Descriptors => bad_argument(
             err,
             b"argument: --raw wants numbers, as 10 or 10,11\n",
+        ),
+        Failure::State => bad_argument(
+            err,
+            b"argument: --leave wants init, pre-op, safe-op or op\n",
         ),
         Failure::Raw(fault) => report_raw(*fault, err),
         Failure::Far(fault) => {

@@ -8,13 +8,16 @@ ghost use Rattle.ecat_acts.specs.declared.failure.Failure.TheVariants.{Far};
 use crate::failure::{Failure, report, status_of};
 use arrayvec::ArrayVec;
 use ec_master::{MAX_ITEMS, Ports, Work, all_expected};
+use ec_regs::AlState;
 use ec_ring::HeardPorts;
-use ec_run::{MAX_STARTUP, StartupObject, Wanted, Watched, image_length, wanted_of};
+use ec_run::{MAX_STARTUP, StartupObject, Wanted, Watched, add_states, image_length, wanted_of};
 use ec_seal::{Seals, TRIPS};
 use ec_wire::{Command, Datagram, FrameBuf};
-use ecat_far::{Carrier, ClockTimer, FarPorts, OpenFault, Patience, Timer, UdpCarrier, ends_of};
+use ecat_far::{
+    Carrier, ClockTimer, FarPorts, OpenFault, Patience, TellingTimer, Timer, UdpCarrier, ends_of,
+};
 use ecat_line::{LineFailure, ring_of, scene_for_packets, work_of};
-use ecat_master::{Pace, Plan, ScanEnd, master, scan};
+use ecat_master::{ENTRIES, IDENTITY, Identity, Pace, Plan, ScanEnd, master, scan};
 use ecat_raw::{Descriptors, RawCarrier, descriptors_of};
 use ecat_scene::SceneSlave;
 use ecat_source::Source;
@@ -22,18 +25,61 @@ use ecat_text::{GOOD, Lines, REFUSED, refuse};
 use std::alloc::Global;
 use std::io::Write;
 use std::net::Net;
-use std::rt::Clock;
+use std::rt::{Clock, Stderr};
 use std::time::{SystemTime, UNIX_EPOCH};
 
 /// How long a trip waits for its copies where the words don't say, in microseconds.
 const LIMIT: u32 = 20_000;
 
-/// How long a copy that did not come may still be on its way, in microseconds.
-const LATE: u64 = 1_000_000;
+/// For how long a copy that did not come may still be on its way where the words don't say, in milliseconds.
+const LATE: u32 = 1000;
+
+/// How many microseconds a millisecond has.
+const MICROS: u64 = 1000;
+
+/// How long a master waits for copies, as the words say it.
+#[derive(Clone, Copy)]
+pub struct Waiting {
+    /// After how many microseconds a copy counts as lost.
+    pub limit: Option<u32>,
+    /// For how many milliseconds a missing copy may still come.
+    pub late: Option<u32>,
+}
+
+impl Waiting {
+    /// As is usual.
+    pub const USUAL: Waiting = Waiting {
+        limit: None,
+        late: None,
+    };
+
+    /// In microseconds, with what is usual where the words don't say.
+    fn patience(self) -> Patience {
+        Patience {
+            limit: u64::from(self.limit.unwrap_or(LIMIT)),
+            late: u64::from(self.late.unwrap_or(LATE)) * MICROS,
+        }
+    }
+}
+
+/// What a master's ports tell the time by, which tells standard error when a trip waits for late copies.
+pub type FarTimer<'a, R> = TellingTimer<ClockTimer<'a, R>, Stderr>;
 
 /// In how many microseconds the first trip of a master that begins then is the next one: all have had their
 /// turn in about a second.
 const TURN: u128 = 128;
+
+/// The state in which slaves are left that a word names: Init where there is none, and as they are where it
+/// names Op.
+pub fn left_in(word: Option<&str>) -> Result<Option<AlState>, Failure> {
+    match word {
+        None | Some("init") => Ok(Some(AlState::Init)),
+        Some("pre-op") => Ok(Some(AlState::PreOp)),
+        Some("safe-op") => Ok(Some(AlState::SafeOp)),
+        Some("op") => Ok(None),
+        Some(_) => Err(Failure::State),
+    }
+}
 
 /// What is written to a slave in Pre-Op.
 type Startup = [Option<StartupObject>; MAX_STARTUP];
@@ -80,20 +126,20 @@ impl From<ScanEnd> for Failure {
     }
 }
 
-/// The two ports of a master whose line lies there, `HOST:PORT` or two of them with a comma between; a copy
-/// is waited for so many microseconds. A first frame that asks nothing has gone out from each, so that
-/// whoever serves the line knows where both are.
+/// The two ports of a master whose line lies there, `HOST:PORT` or two of them with a comma between. A first
+/// frame that asks nothing has gone out from each, so that whoever serves the line knows where both are.
 pub fn far_ports<'a, R>(
     rt: &'a R,
     at: &str,
-    limit: Option<u32>,
-) -> Result<FarPorts<UdpCarrier, ClockTimer<'a, R>>, Failure>
+    waiting: Waiting,
+    notes: Stderr,
+) -> Result<FarPorts<UdpCarrier, FarTimer<'a, R>>, Failure>
 where
     R: Clock + Net + AllocGlobal,
 {
     let carrier = UdpCarrier::open(rt, ends_of(at))?;
     let timer = timer_of(rt)?;
-    let mut ports = ports_over(rt, carrier, timer, limit)?;
+    let mut ports = ports_over(rt, carrier, timer, waiting, notes)?;
     let _ = ports.trip(&greeting());
     Ok(ports)
 }
@@ -103,16 +149,17 @@ where
 pub fn raw_ports<'a, R>(
     rt: &'a R,
     descriptors: Descriptors,
-    limit: Option<u32>,
-) -> Result<FarPorts<RawCarrier, ClockTimer<'a, R>>, Failure>
+    waiting: Waiting,
+    notes: Stderr,
+) -> Result<FarPorts<RawCarrier, FarTimer<'a, R>>, Failure>
 where
     R: Clock + AllocGlobal,
 {
     match RawCarrier::open(descriptors) {
         Ok(carrier) => {
             let mut timer = timer_of(rt)?;
-            timer.rest(LATE);
-            ports_over(rt, carrier, timer, limit)
+            timer.rest(waiting.patience().late);
+            ports_over(rt, carrier, timer, waiting, notes)
         }
         Err(fault) => Err(Failure::Raw(fault)),
     }
@@ -126,13 +173,14 @@ fn timer_of<R: Clock>(rt: &R) -> Result<ClockTimer<'_, R>, Failure> {
     }
 }
 
-/// Ports over a carrier, which wait for so many microseconds, or as many as are usual.
+/// Ports over a carrier, which wait so long for copies.
 fn ports_over<'a, R, C>(
     rt: &'a R,
     carrier: C,
     timer: ClockTimer<'a, R>,
-    limit: Option<u32>,
-) -> Result<FarPorts<C, ClockTimer<'a, R>>, Failure>
+    waiting: Waiting,
+    notes: Stderr,
+) -> Result<FarPorts<C, FarTimer<'a, R>>, Failure>
 where
     R: Clock + AllocGlobal,
     C: Carrier + Drop,
@@ -140,11 +188,8 @@ where
     let Ok(seals) = Seals::new(rt.alloc(), first_trip(rt)) else {
         return Err(Failure::Line(LineFailure::NoMemory));
     };
-    let patience = Patience {
-        limit: u64::from(limit.unwrap_or(LIMIT)),
-        late: LATE,
-    };
-    Ok(FarPorts::new(carrier, timer, patience, seals))
+    let timer = TellingTimer::new(timer, notes);
+    Ok(FarPorts::new(carrier, timer, waiting.patience(), seals))
 }
 
 /// The number of the first trip, by the time of the day: a master does not begin where one that ran just
@@ -181,8 +226,10 @@ fn greeting() -> FrameBuf {
 #[derive(Drop)]
 pub struct Course {
     line: Vec<Wanted>,
+    identities: Vec<Identity>,
     work: Work,
     expected: [u16; MAX_ITEMS],
+    states: bool,
 }
 
 impl Course {
@@ -221,6 +268,7 @@ fn checked_course<S: Source, W: Write>(
 ) -> Result<Option<Course>, LineFailure> {
     let scene = scene_for_packets(alloc, source)?;
     let startups = startups_of(alloc, scene.slaves.as_slice())?;
+    let identities = identities_of(alloc, scene.slaves.as_slice())?;
     let ring = ring_of(alloc, scene.slaves, &[])?;
     let mut lines = Lines::new(out);
     if scene.items.is_empty() {
@@ -231,7 +279,8 @@ fn checked_course<S: Source, W: Write>(
     if refuse(ring.slaves(), scene.items.as_slice(), &mut lines)? {
         return Ok(None);
     }
-    let work = work_of(scene.items)?;
+    let mut work = work_of(scene.items)?;
+    let states = add_states(&mut work);
     let expected = all_expected(ring.slaves(), &work);
     let Ok(mut line) = wanted_of(alloc, ring.slaves()) else {
         return Err(LineFailure::NoMemory);
@@ -241,9 +290,33 @@ fn checked_course<S: Source, W: Write>(
     }
     Ok(Some(Course {
         line,
+        identities,
         work,
         expected,
+        states,
     }))
+}
+
+/// Who the slaves are to be that a scene describes, by their places.
+fn identities_of(alloc: Global, described: &[SceneSlave]) -> Result<Vec<Identity>, LineFailure> {
+    let mut identities = Vec::new(alloc);
+    for slave in described {
+        if identities.push(identity_of(slave)).is_err() {
+            return Err(LineFailure::NoMemory);
+        }
+    }
+    Ok(identities)
+}
+
+/// Who a slave is to be that a scene describes: the entries of its identity that the scene has.
+fn identity_of(described: &SceneSlave) -> Identity {
+    let mut identity = [None; ENTRIES];
+    for number in 0..ENTRIES {
+        if let Some((_, value)) = described.objects.get(IDENTITY, number as u8 + 1) {
+            identity[number] = Some(value);
+        }
+    }
+    identity
 }
 
 /// The startup objects of the slaves that a scene describes, by their places.
@@ -291,16 +364,23 @@ where
 {
     let Course {
         line,
+        identities,
         work,
         expected,
+        states,
     } = course;
     let count = work.len();
+    let plan = Plan {
+        identities: identities.as_slice(),
+        states,
+        ..*plan
+    };
     master(
         ports,
         line.as_slice(),
         work,
         &expected[..count],
-        plan,
+        &plan,
         pace,
         out,
         err,

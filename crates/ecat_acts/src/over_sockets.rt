@@ -3,10 +3,13 @@
 use crate::act::act;
 use crate::asked::asked_of;
 use crate::failure::{Failure, report, report_file, status_of, unbound};
-use crate::far::{Course, Reach, act_master, act_scan, course_of, far_ports, raw_ports};
+use crate::far::{
+    Course, Reach, Waiting, act_master, act_scan, course_of, far_ports, left_in, raw_ports,
+};
 use crate::images::images_at;
 use crate::tape::{Pcap, end, make};
 use crate::udp::{Prepared, Wanted, act_udp, prepare_udp};
+use ec_regs::AlState;
 use ec_run::{Image, Outputs};
 use ecat_args::Args;
 use ecat_master::Plan;
@@ -14,12 +17,12 @@ use ecat_pace::{Beat, Ending};
 use ecat_raw::{Descriptors, RawEnds, descriptors_of};
 use ecat_serve::{Served, UdpEnds};
 use ecat_service::{Service, control, line_to_serve, serve};
-use ecat_simulation::{run, sdo_far, where_far};
+use ecat_simulation::{Asked, run, sdo_far, where_far};
 use ecat_source::Source;
 use ecat_tape::{Counter, Moments, Recorder, TapedEnds, TapedLine, WallClock, unrecorded};
 use ecat_udp::UdpLine;
 use std::net::{Ipv4Addr, Net};
-use std::rt::{Clock, Files, Stdin};
+use std::rt::{Clock, Files, Stderr, Stdin};
 use std::time::Duration;
 use std::{fs, io};
 
@@ -32,6 +35,8 @@ pub struct Console {
     pub is_watched: bool,
     /// Whether standard output is a terminal.
     pub is_read: bool,
+    /// Standard error once more, for what is told in the middle of a trip.
+    pub notes: Stderr,
 }
 
 /// What the words of `master` say but for its scene.
@@ -40,12 +45,13 @@ struct Running<'a> {
     reach: Reach<'a>,
     cycles: Option<u32>,
     every: Option<u32>,
-    limit: Option<u32>,
+    waiting: Waiting,
     outputs: Option<&'a str>,
     log: Option<&'a str>,
     stop: bool,
     recover: bool,
     progress: bool,
+    leave: Option<AlState>,
 }
 
 impl Running<'_> {
@@ -57,6 +63,9 @@ impl Running<'_> {
             recover: self.recover,
             progress: self.progress,
             log: self.log.is_some(),
+            states: false,
+            identities: &[],
+            leave: self.leave,
         }
     }
 }
@@ -135,40 +144,57 @@ where
             cycles,
             every,
             limit,
+            late,
             outputs,
             log,
             stop,
             recover,
+            leave,
             ..
         } => {
             let reach = match Reach::of(*at, *raw) {
                 Ok(reach) => reach,
                 Err(failure) => return report(&failure, out, err),
             };
+            let leave = match left_in(*leave) {
+                Ok(leave) => leave,
+                Err(failure) => return report(&failure, out, err),
+            };
             let running = Running {
                 reach,
                 cycles: *cycles,
                 every: *every,
-                limit: *limit,
+                waiting: Waiting {
+                    limit: *limit,
+                    late: *late,
+                },
                 outputs: *outputs,
                 log: *log,
                 stop: *stop,
                 recover: *recover,
                 progress: console.is_watched,
+                leave,
             };
-            master_at(rt, running, console.input, source, out, err)
+            master_at(rt, running, console, source, out, err)
         }
-        Args::Scan { at, raw, limit } => match Reach::of(*at, *raw) {
-            Ok(reach) => scan_at(rt, reach, *limit, out, err),
+        Args::Scan {
+            at,
+            raw,
+            limit,
+            late,
+        } => match Reach::of(*at, *raw) {
+            Ok(reach) => {
+                let waiting = Waiting {
+                    limit: *limit,
+                    late: *late,
+                };
+                scan_at(rt, reach, waiting, console.notes, out, err)
+            }
             Err(failure) => report(&failure, out, err),
         },
-        Args::Where { at: Some(at), .. } => {
-            match far_ports(rt, at, None) {
-                Ok(mut ports) => status_of(
-                    where_far(rt.alloc(), &mut ports, source, out),
-                    out,
-                    err,
-                ),
+        Args::Where { at, raw, .. } if at.is_some() || raw.is_some() => {
+            match Reach::of(*at, *raw) {
+                Ok(reach) => where_at(rt, reach, console.notes, source, out, err),
                 Err(failure) => report(&failure, out, err),
             }
         }
@@ -177,17 +203,14 @@ where
             index,
             sub,
             value,
-            surely,
-            at: Some(at),
+            once,
+            at,
+            raw,
             ..
-        } => {
-            let asked = asked_of(*station, *index, *sub, *value, *surely);
-            match far_ports(rt, at, None) {
-                Ok(mut ports) => status_of(
-                    sdo_far(rt.alloc(), &asked, &mut ports, source, out),
-                    out,
-                    err,
-                ),
+        } if at.is_some() || raw.is_some() => {
+            let asked = asked_of(*station, *index, *sub, *value, !*once);
+            match Reach::of(*at, *raw) {
+                Ok(reach) => sdo_at(rt, reach, &asked, console.notes, source, out, err),
                 Err(failure) => report(&failure, out, err),
             }
         }
@@ -206,22 +229,86 @@ fn raw_of(word: Option<&str>) -> Option<Option<Descriptors>> {
 }
 
 /// Asks the slaves of a line somewhere else what they are.
-fn scan_at<R, W, V>(rt: &R, reach: Reach<'_>, limit: Option<u32>, out: &mut W, err: &mut V) -> u8
+fn scan_at<R, W, V>(
+    rt: &R,
+    reach: Reach<'_>,
+    waiting: Waiting,
+    notes: Stderr,
+    out: &mut W,
+    err: &mut V,
+) -> u8
 where
     R: Clock + Net + AllocGlobal,
     W: io::Write,
     V: io::Write,
 {
     match reach {
-        Reach::At(at) => match far_ports(rt, at, limit) {
+        Reach::At(at) => match far_ports(rt, at, waiting, notes) {
             Ok(ports) => act_scan(ports, out, err),
             Err(failure) => report(&failure, out, err),
         },
-        Reach::Raw(descriptors) => match raw_ports(rt, descriptors, limit) {
+        Reach::Raw(descriptors) => match raw_ports(rt, descriptors, waiting, notes) {
             Ok(ports) => act_scan(ports, out, err),
             Err(failure) => report(&failure, out, err),
         },
     }
+}
+
+/// Says where the cable of a line somewhere else is broken.
+fn where_at<R, S, W, V>(
+    rt: &R,
+    reach: Reach<'_>,
+    notes: Stderr,
+    source: &mut S,
+    out: &mut W,
+    err: &mut V,
+) -> u8
+where
+    R: Clock + Net + AllocGlobal,
+    S: Source,
+    W: io::Write,
+    V: io::Write,
+{
+    let told = match reach {
+        Reach::At(at) => match far_ports(rt, at, Waiting::USUAL, notes) {
+            Ok(mut ports) => where_far(rt.alloc(), &mut ports, source, out),
+            Err(failure) => return report(&failure, out, err),
+        },
+        Reach::Raw(descriptors) => match raw_ports(rt, descriptors, Waiting::USUAL, notes) {
+            Ok(mut ports) => where_far(rt.alloc(), &mut ports, source, out),
+            Err(failure) => return report(&failure, out, err),
+        },
+    };
+    status_of(told, out, err)
+}
+
+/// Reads or writes an object of a slave on a line somewhere else.
+fn sdo_at<R, S, W, V>(
+    rt: &R,
+    reach: Reach<'_>,
+    asked: &Asked,
+    notes: Stderr,
+    source: &mut S,
+    out: &mut W,
+    err: &mut V,
+) -> u8
+where
+    R: Clock + Net + AllocGlobal,
+    S: Source,
+    W: io::Write,
+    V: io::Write,
+{
+    let told = match reach {
+        Reach::At(at) => match far_ports(rt, at, Waiting::USUAL, notes) {
+            Ok(mut ports) => sdo_far(rt.alloc(), asked, &mut ports, source, out, err),
+            Err(failure) => return report(&failure, out, err),
+        },
+        Reach::Raw(descriptors) => match raw_ports(rt, descriptors, Waiting::USUAL, notes) {
+            Ok(mut ports) => sdo_far(rt.alloc(), asked, &mut ports, source, out, err),
+            Err(failure) => return report(&failure, out, err),
+        },
+    };
+    status_of(told, out, err)
 }
 
 /// What the outputs of a master are to be: those of its scene, a number that grows, or these images.
@@ -258,7 +345,7 @@ where
 fn master_at<R, S, W, V>(
     rt: &R,
     running: Running<'_>,
-    input: Stdin,
+    console: Console,
     source: &mut S,
     out: &mut W,
     err: &mut V,
@@ -279,9 +366,18 @@ where
     };
     let plan = running.plan(outputs_of(running.outputs, images.as_slice()));
     match running.log {
-        None => run_master(rt, course, running, &plan, input, out, err, &mut io::sink()),
+        None => run_master(
+            rt,
+            course,
+            running,
+            &plan,
+            console,
+            out,
+            err,
+            &mut io::sink(),
+        ),
         Some(path) => match fs::create(rt, path) {
-            Ok(mut log) => run_master(rt, course, running, &plan, input, out, err, &mut log),
+            Ok(mut log) => run_master(rt, course, running, &plan, console, out, err, &mut log),
             Err(error) => report_file(&Failure::Log, path, &error, out, err),
         },
     }
@@ -293,7 +389,7 @@ fn run_master<R, W, V, L>(
     course: Course,
     running: Running<'_>,
     plan: &Plan<'_>,
-    input: Stdin,
+    console: Console,
     out: &mut W,
     err: &mut V,
     log: &mut L,
@@ -304,15 +400,20 @@ where
     V: io::Write,
     L: io::Write,
 {
-    let Ok(mut beat) = beat_of(rt, running, input) else {
+    let Ok(mut beat) = beat_of(rt, running, console.input) else {
         return report(&Failure::Clock, out, err);
     };
     match running.reach {
-        Reach::At(at) => match far_ports(rt, at, running.limit) {
+        Reach::At(at) => match far_ports(rt, at, running.waiting, console.notes) {
             Ok(ports) => act_master(course, ports, plan, &mut beat, out, err, log),
             Err(failure) => report(&failure, out, err),
         },
-        Reach::Raw(descriptors) => match raw_ports(rt, descriptors, running.limit) {
+        Reach::Raw(descriptors) => match raw_ports(
+            rt,
+            descriptors,
+            running.waiting,
+            console.notes,
+        ) {
             Ok(ports) => act_master(course, ports, plan, &mut beat, out, err, log),
             Err(failure) => report(&failure, out, err),
         },

@@ -6,8 +6,8 @@ use Rattle.clap.specs.declared.error.kind.ErrorKind.TheVariants.{OutOfMemory}
 use Rattle.ecat_args.specs.Given.{Given, IsComplete, IsNoAddress, LiesAt, control_in, force_in, forever_in}
 use Rattle.ecat_args.specs.Given.{index_in}
 use Rattle.ecat_args.specs.Given.{judge_in, log_in, many_in, port_in, station_in, sub_in, surely_in}
-use Rattle.ecat_args.specs.Given.{csv_in, every_in, faults_in, limit_in, recover_in, stats_in, stop_in}
-use Rattle.ecat_args.specs.Given.{value_in, word_in}
+use Rattle.ecat_args.specs.Given.{csv_in, every_in, faults_in, late_in, limit_in, once_in, recover_in, stats_in}
+use Rattle.ecat_args.specs.Given.{stop_in, value_in, word_in}
 use Rattle.ecat_commands.specs.Commands.{line}
 use Rattle.ecat_args.specs.declared.args.Args.{Args}
 use Rattle.ecat_args.specs.declared.args.Args.TheVariants.{Show, Check, Cover, Lint, Where, Run, Sweep, Sdo}
@@ -28,20 +28,22 @@ Says (Cover scene) given =
     (given.0 ≡ codes "cover") × (word_in given (codes "SCENE") ≡ Some scene.now)
 Says (Lint scene) given =
     (given.0 ≡ codes "lint") × (word_in given (codes "SCENE") ≡ Some scene.now)
-Says (Where scene place) given =
+Says (Where scene place raw) given =
     (given.0 ≡ codes "where") × (word_in given (codes "SCENE") ≡ Some scene.now)
     × (word_in given (codes "AT") ≡ option_map (λ w. w.now) place)
+    × (word_in given (codes "RAW") ≡ option_map (λ w. w.now) raw)
 Says (Run scene judge pcap force) given =
     (given.0 ≡ codes "run") × (word_in given (codes "SCENE") ≡ Some scene.now)
     × (judge_in given ≡ judge) × (word_in given (codes "PCAP") ≡ option_map (λ w. w.now) pcap)
     × (force_in given ≡ force)
 Says (Sweep scene) given =
     (given.0 ≡ codes "sweep") × (word_in given (codes "SCENE") ≡ Some scene.now)
-Says (Sdo scene station index sub value surely place) given =
+Says (Sdo scene station index sub value surely once place raw) given =
     (given.0 ≡ codes "sdo") × (word_in given (codes "SCENE") ≡ Some scene.now)
     × (station_in given ≡ Some station) × (index_in given ≡ Some index)
     × (sub_in given ≡ Some sub) × (value_in given ≡ Some value) × (surely_in given ≡ surely)
-    × (word_in given (codes "AT") ≡ option_map (λ w. w.now) place)
+    × (once_in given ≡ once) × (word_in given (codes "AT") ≡ option_map (λ w. w.now) place)
+    × (word_in given (codes "RAW") ≡ option_map (λ w. w.now) raw)
 Says (Udp scene port judge pcap force) given =
     (given.0 ≡ codes "udp") × (word_in given (codes "SCENE") ≡ Some scene.now)
     × (port_in given ≡ Some port) × (judge_in given ≡ judge)
@@ -53,17 +55,19 @@ Says (Serve scene port packets address forever control log raw pcap force) given
     × (forever_in given ≡ forever) × (control_in given ≡ control) × (log_in given ≡ log)
     × (word_in given (codes "RAW") ≡ option_map (λ w. w.now) raw)
     × (word_in given (codes "PCAP") ≡ option_map (λ w. w.now) pcap) × (force_in given ≡ force)
-Says (Master scene place raw cycles every limit outputs log stop recover) given =
+Says (Master scene place raw cycles every limit late outputs log stop recover leave) given =
     (given.0 ≡ codes "master") × (word_in given (codes "SCENE") ≡ Some scene.now)
     × (word_in given (codes "AT") ≡ option_map (λ w. w.now) place)
     × (word_in given (codes "RAW") ≡ option_map (λ w. w.now) raw) × (many_in given ≡ Some cycles)
-    × (every_in given ≡ Some every) × (limit_in given ≡ Some limit)
+    × (every_in given ≡ Some every) × (limit_in given ≡ Some limit) × (late_in given ≡ Some late)
     × (word_in given (codes "OUTPUTS") ≡ option_map (λ w. w.now) outputs)
     × (word_in given (codes "LOG") ≡ option_map (λ w. w.now) log)
     × (stop_in given ≡ stop) × (recover_in given ≡ recover)
-Says (Scan place raw limit) given =
+    × (word_in given (codes "STATE") ≡ option_map (λ w. w.now) leave)
+Says (Scan place raw limit late) given =
     (given.0 ≡ codes "scan") × (word_in given (codes "AT") ≡ option_map (λ w. w.now) place)
     × (word_in given (codes "RAW") ≡ option_map (λ w. w.now) raw) × (limit_in given ≡ Some limit)
+    × (late_in given ≡ Some late)
 Says Vectors given = given.0 ≡ codes "vectors"
 
 -- a word of the command that has to be a number, a value or an address is none in its range
@@ -75,8 +79,8 @@ HasBadNumber given =
     ⊎ ((given.0 ≡ codes "serve") × ((port_in given ≡ None) ⊎ (many_in given ≡ None)
     ⊎ IsNoAddress (word_in given (codes "ADDRESS"))))
     ⊎ ((given.0 ≡ codes "master") × ((many_in given ≡ None) ⊎ (every_in given ≡ None)
-    ⊎ (limit_in given ≡ None)))
-    ⊎ ((given.0 ≡ codes "scan") × (limit_in given ≡ None))
+    ⊎ (limit_in given ≡ None) ⊎ (late_in given ≡ None)))
+    ⊎ ((given.0 ≡ codes "scan") × ((limit_in given ≡ None) ⊎ (late_in given ≡ None)))
 
 -- clap's definition of the line takes the words, and what it gives of them is complete and
 -- satisfies P

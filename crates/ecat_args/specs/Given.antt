@@ -68,6 +68,10 @@ every_in given = count_by (word_in given (codes "MICROSECONDS"))
 abbrev pub limit_in : Given → Option (Option ℕ)
 limit_in given = count_by (word_in given (codes "LIMIT"))
 
+-- for how many milliseconds a missing copy may still come
+abbrev pub late_in : Given → Option (Option ℕ)
+late_in given = count_by (word_in given (codes "LATE"))
+
 -- whether a flag was given: clap writes down `true` for it, and `false` where it was not
 abbrev pub flag_by : Option Text → Bool
 flag_by None = false
@@ -78,6 +82,9 @@ judge_in given = flag_by (word_in given (codes "judge"))
 
 abbrev pub surely_in : Given → Bool
 surely_in given = flag_by (word_in given (codes "surely"))
+
+abbrev pub once_in : Given → Bool
+once_in given = flag_by (word_in given (codes "once"))
 
 abbrev pub control_in : Given → Bool
 control_in given = flag_by (word_in given (codes "control"))

@@ -61,12 +61,14 @@ pub enum Args<'a> {
         /// The path of the scene.
         scene: &'a str,
     },
-    /// `where SCENE [--at AT]`: says where the cable of a scene is broken, and who is missing.
+    /// `where SCENE [--at AT] [--raw RAW]`: says where the cable of a scene is broken, and who is missing.
     Where {
         /// The path of the scene.
         scene: &'a str,
-        /// Where the line lies, if it is not simulated here: the address of an end, or of both.
+        /// Where the line lies, if it is reached by UDP: the address of an end, or of both.
         at: Option<&'a str>,
+        /// The descriptors of packet sockets, if it is reached by network interfaces.
+        raw: Option<&'a str>,
     },
     /// `run SCENE [--judge] [--pcap PCAP] [--force]`: does the actions of a scene, and then its work.
     Run {
@@ -84,7 +86,8 @@ pub enum Args<'a> {
         /// The path of the scene.
         scene: &'a str,
     },
-    /// `sdo SCENE STATION INDEX SUB [VALUE] [--surely] [--at AT]`: one upload, or a download of the value.
+    /// `sdo SCENE STATION INDEX SUB [VALUE] [--surely] [--once] [--at AT] [--raw RAW]`: one upload, or a
+    /// download of the value.
     Sdo {
         /// The path of the scene.
         scene: &'a str,
@@ -98,8 +101,12 @@ pub enum Args<'a> {
         value: Option<Value>,
         /// Whether trips are made until it is done, whatever copies are lost.
         surely: bool,
-        /// Where the line lies, if it is not simulated here: the address of an end, or of both.
+        /// Whether a line somewhere else is asked once, whatever copies are lost.
+        once: bool,
+        /// Where the line lies, if it is reached by UDP: the address of an end, or of both.
         at: Option<&'a str>,
+        /// The descriptors of packet sockets, if it is reached by network interfaces.
+        raw: Option<&'a str>,
     },
     /// `udp SCENE [--port P] [--judge] [--pcap PCAP] [--force]`: does the work of a scene by UDP sockets.
     Udp {
@@ -138,9 +145,9 @@ pub enum Args<'a> {
         /// Whether a capture that is there is overwritten.
         force: bool,
     },
-    /// `master SCENE [--at AT] [--raw RAW] [--cycles N] [--every MICROSECONDS] [--limit LIMIT]
-    /// [--outputs OUTPUTS] [--log LOG] [--stop] [--recover]`: brings a line somewhere else to Op, and cycles
-    /// on it.
+    /// `master SCENE [--at AT] [--raw RAW] [--cycles N] [--every MICROSECONDS] [--limit LIMIT] [--late LATE]
+    /// [--outputs OUTPUTS] [--log LOG] [--stop] [--recover] [--leave STATE]`: brings a line somewhere else to
+    /// Op, cycles on it, and leaves it in a state.
     Master {
         /// The path of the scene, what the slaves are to be told.
         scene: &'a str,
@@ -154,6 +161,8 @@ pub enum Args<'a> {
         every: Option<u32>,
         /// How many microseconds a copy is waited for.
         limit: Option<u32>,
+        /// For how many milliseconds a missing copy may still come.
+        late: Option<u32>,
         /// What the outputs are: `count`, or the path of a file; without it those of the scene.
         outputs: Option<&'a str>,
         /// The path of a file that gets a line for each cycle.
@@ -162,8 +171,11 @@ pub enum Args<'a> {
         stop: bool,
         /// Whether slaves are brought up again.
         recover: bool,
+        /// The name of the state in which the slaves are left at the end.
+        leave: Option<&'a str>,
     },
-    /// `scan [--at AT] [--raw RAW] [--limit LIMIT]`: tells what slaves a line has that lies somewhere else.
+    /// `scan [--at AT] [--raw RAW] [--limit LIMIT] [--late LATE]`: tells what slaves a line has that lies
+    /// somewhere else.
     Scan {
         /// Where the line lies, if it is reached by UDP: the address of an end, or of both.
         at: Option<&'a str>,
@@ -171,6 +183,8 @@ pub enum Args<'a> {
         raw: Option<&'a str>,
         /// How many microseconds a copy is waited for.
         limit: Option<u32>,
+        /// For how many milliseconds a missing copy may still come.
+        late: Option<u32>,
     },
     /// `vectors`: runs the worked rows.
     Vectors,
@@ -326,6 +340,7 @@ fn where_broken<'a>(given: &ArgMatches<'a>) -> Args<'a>
     Args::Where {
         scene: text(given, "SCENE"),
         at: word(given, "AT"),
+        raw: word(given, "RAW"),
     }
 }
 
@@ -359,7 +374,9 @@ fn sdo<'a>(given: &ArgMatches<'a>) -> Option<Args<'a>>
         sub: sub as u8,
         value,
         surely: flag(given, "surely"),
+        once: flag(given, "once"),
         at: word(given, "AT"),
+        raw: word(given, "RAW"),
     })
 }
 
@@ -421,6 +438,7 @@ fn master<'a>(given: &ArgMatches<'a>) -> Option<Args<'a>>
     let cycles = count_given(given, "N")?;
     let every = count_given(given, "MICROSECONDS")?;
     let limit = count_given(given, "LIMIT")?;
+    let late = count_given(given, "LATE")?;
     Some(Args::Master {
         scene: text(given, "SCENE"),
         at: word(given, "AT"),
@@ -428,10 +446,12 @@ fn master<'a>(given: &ArgMatches<'a>) -> Option<Args<'a>>
         cycles,
         every,
         limit,
+        late,
         outputs: word(given, "OUTPUTS"),
         log: word(given, "LOG"),
         stop: flag(given, "stop"),
         recover: flag(given, "recover"),
+        leave: word(given, "STATE"),
     })
 }
 
@@ -442,10 +462,12 @@ fn scan<'a>(given: &ArgMatches<'a>) -> Option<Args<'a>>
         (λ args. Says args (codes "scan", rows_of (found_of given.now))) }
 {
     let limit = count_given(given, "LIMIT")?;
+    let late = count_given(given, "LATE")?;
     Some(Args::Scan {
         at: word(given, "AT"),
         raw: word(given, "RAW"),
         limit,
+        late,
     })
 }
 

@@ -59,13 +59,14 @@ impl fmt::Display for BadWord<'_> {
 }
 
 /// The options whose values have a form, with their names as they are printed.
-const OPTIONS: [(&str, Form); 6] = [
+const OPTIONS: [(&str, Form); 7] = [
     ("--port", Form::Number(LEAST_PORT, GREATEST_PORT)),
     ("--packets", Form::Number(LEAST_COUNT, u32::MAX)),
     ("--bind", Form::Address),
     ("--cycles", Form::Number(LEAST_COUNT, u32::MAX)),
     ("--every", Form::Number(LEAST_COUNT, u32::MAX)),
     ("--limit", Form::Number(LEAST_COUNT, u32::MAX)),
+    ("--late", Form::Number(LEAST_COUNT, u32::MAX)),
 ];
 
 /// The words of `sdo` behind its scene, in their order.
@@ -107,13 +108,13 @@ fn bad_word_of_sdo<'a>(words: &'a [&'a str]) -> Option<BadWord<'a>> {
 }
 
 /// The plain word with this number, from 0, behind the command: none of those that begin with a hyphen, and
-/// not the value of `--at`.
+/// not the value of `--at` or `--raw`.
 fn plain_word<'a>(words: &'a [&'a str], number: usize) -> Option<&'a str> {
     let mut seen = 0usize;
     let mut is_value = false;
     for word in words.iter().skip(2) {
         let is_plain = !is_value && !word.starts_with('-');
-        is_value = *word == "--at";
+        is_value = *word == "--at" || *word == "--raw";
         if is_plain {
             if seen == number {
                 return Some(*word);

@@ -62,6 +62,10 @@ raw_rule = option_rule (codes "RAW") (codes "raw")
 abbrev pub limit_rule : Rule
 limit_rule = option_rule (codes "LIMIT") (codes "limit")
 
+-- `--late LATE`
+abbrev pub late_rule : Rule
+late_rule = option_rule (codes "LATE") (codes "late")
+
 -- `--pcap PCAP`
 abbrev pub pcap_rule : Rule
 pcap_rule = option_rule (codes "PCAP") (codes "pcap")
@@ -103,9 +107,9 @@ cover_line = with_rules (new_app (codes "cover")) scene_word
 abbrev pub lint_line : App
 lint_line = with_rules (new_app (codes "lint")) scene_word
 
--- `where SCENE [--at AT]`
+-- `where SCENE [--at AT] [--raw RAW]`
 abbrev pub where_words : List Rule
-where_words = scene_rule ∷ at_rule ∷ []
+where_words = scene_rule ∷ at_rule ∷ raw_rule ∷ []
 
 abbrev pub where_line : App
 where_line = with_rules (new_app (codes "where")) where_words
@@ -121,11 +125,11 @@ run_line = with_rules (new_app (codes "run")) run_words
 abbrev pub sweep_line : App
 sweep_line = with_rules (new_app (codes "sweep")) scene_word
 
--- `sdo SCENE STATION INDEX SUB [VALUE] [--surely] [--at AT]`
+-- `sdo SCENE STATION INDEX SUB [VALUE] [--surely] [--once] [--at AT] [--raw RAW]`
 abbrev pub sdo_words : List Rule
 sdo_words = scene_rule ∷ needed_rule (codes "STATION")
     ∷ needed_rule (codes "INDEX") ∷ needed_rule (codes "SUB") ∷ new_rule (codes "VALUE")
-    ∷ flag_rule (codes "surely") ∷ at_rule ∷ []
+    ∷ flag_rule (codes "surely") ∷ flag_rule (codes "once") ∷ at_rule ∷ raw_rule ∷ []
 
 abbrev pub sdo_line : App
 sdo_line = with_rules (new_app (codes "sdo")) sdo_words
@@ -148,20 +152,21 @@ serve_words = scene_rule ∷ port_rule
 abbrev pub serve_line : App
 serve_line = with_rules (new_app (codes "serve")) serve_words
 
--- `master SCENE [--at AT] [--raw RAW] [--cycles N] [--every MICROSECONDS] [--limit LIMIT] [--outputs OUTPUTS]
--- [--log LOG] [--stop] [--recover]`
+-- `master SCENE [--at AT] [--raw RAW] [--cycles N] [--every MICROSECONDS] [--limit LIMIT] [--late LATE]
+-- [--outputs OUTPUTS] [--log LOG] [--stop] [--recover] [--leave STATE]`
 abbrev pub master_words : List Rule
 master_words = scene_rule ∷ at_rule ∷ raw_rule
     ∷ option_rule (codes "N") (codes "cycles") ∷ option_rule (codes "MICROSECONDS") (codes "every")
-    ∷ limit_rule ∷ option_rule (codes "OUTPUTS") (codes "outputs") ∷ option_rule (codes "LOG") (codes "log")
-    ∷ flag_rule (codes "stop") ∷ flag_rule (codes "recover") ∷ []
+    ∷ limit_rule ∷ late_rule ∷ option_rule (codes "OUTPUTS") (codes "outputs")
+    ∷ option_rule (codes "LOG") (codes "log") ∷ flag_rule (codes "stop") ∷ flag_rule (codes "recover")
+    ∷ option_rule (codes "STATE") (codes "leave") ∷ []
 
 abbrev pub master_line : App
 master_line = with_rules (new_app (codes "master")) master_words
 
--- `scan [--at AT] [--raw RAW] [--limit LIMIT]`
+-- `scan [--at AT] [--raw RAW] [--limit LIMIT] [--late LATE]`
 abbrev pub scan_words : List Rule
-scan_words = at_rule ∷ raw_rule ∷ limit_rule ∷ []
+scan_words = at_rule ∷ raw_rule ∷ limit_rule ∷ late_rule ∷ []
 
 abbrev pub scan_line : App
 scan_line = with_rules (new_app (codes "scan")) scan_words

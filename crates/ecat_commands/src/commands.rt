@@ -3,7 +3,7 @@ ghost use Rattle.std.specs.Prelude.{◌≡◌, List, IfOk, codes};
 ghost use Rattle.clap.specs.Words.{App, Rule, new_app, new_rule, with_subcommand};
 ghost use Rattle.ecat_commands.specs.Commands.{AreWords, Builds, IsWord, flag_rule, line};
 ghost use Rattle.ecat_commands.specs.Commands.{needed_rule, option_rule, at_rule, force_rule};
-ghost use Rattle.ecat_commands.specs.Commands.{judge_rule, limit_rule, pcap_rule, port_rule};
+ghost use Rattle.ecat_commands.specs.Commands.{judge_rule, late_rule, limit_rule, pcap_rule, port_rule};
 ghost use Rattle.ecat_commands.specs.Commands.{raw_rule, check_line, cover_line, lint_line};
 ghost use Rattle.ecat_commands.specs.Commands.{list_line, master_line, run_line, scan_line, sdo_line};
 ghost use Rattle.ecat_commands.specs.Commands.{serve_line, show_line, sweep_line, udp_line};
@@ -80,6 +80,14 @@ fn limit<'a>(alloc: Global) -> Arg<'a>
 {
     let help = "After how many microseconds a copy counts as lost; 20000 if not given";
     option(alloc, "LIMIT", "limit", help)
+}
+
+// How late a copy may come.
+fn late<'a>(alloc: Global) -> Arg<'a>
+    ensures { IsWord late_rule result }
+{
+    let help = "For how many milliseconds a missing copy may still come; 1000 if not given";
+    option(alloc, "LATE", "late", help)
 }
 
 // Where each copy is kept.
@@ -190,12 +198,12 @@ fn lint<'a>(alloc: Global) -> Result<Command<'a>, AllocError>
     command(alloc, "lint", about, help::LINT, words)
 }
 
-// `where SCENE [--at AT]`
+// `where SCENE [--at AT] [--raw RAW]`
 fn where_broken<'a>(alloc: Global) -> Result<Command<'a>, AllocError>
     ensures { IfOk result (Builds where_line) }
 {
     let about = "Says where the cable of a scene is broken, and who is missing";
-    let words = vec![in alloc; scene(alloc), at(alloc)]?;
+    let words = vec![in alloc; scene(alloc), at(alloc), raw(alloc)]?;
     command(alloc, "where", about, help::WHERE, words)
 }
 
@@ -217,13 +225,14 @@ fn sweep<'a>(alloc: Global) -> Result<Command<'a>, AllocError>
     command(alloc, "sweep", about, help::SWEEP, words)
 }
 
-// `sdo SCENE STATION INDEX SUB [VALUE] [--surely] [--at AT]`
+// `sdo SCENE STATION INDEX SUB [VALUE] [--surely] [--once] [--at AT] [--raw RAW]`
 fn sdo<'a>(alloc: Global) -> Result<Command<'a>, AllocError>
     ensures { IfOk result (Builds sdo_line) }
 {
     let about = "Reads an object of a slave, or writes VALUE to it";
     let value = "What to write: 0x and 2, 4 or 8 hexadecimal digits";
     let surely = "Makes trips until it is done, whatever copies are lost: 64 at most";
+    let once = "Asks a line somewhere else once; the first lost copy is a fault then";
     let words = vec![in alloc;
         scene(alloc),
         needed(alloc, "STATION", "The station address of the slave"),
@@ -231,7 +240,9 @@ fn sdo<'a>(alloc: Global) -> Result<Command<'a>, AllocError>
         needed(alloc, "SUB", "The subindex of the object"),
         optional(alloc, "VALUE", value),
         flag(alloc, "surely", surely),
+        flag(alloc, "once", once),
         at(alloc),
+        raw(alloc),
     ]?;
     command(alloc, "sdo", about, help::SDO, words)
 }
@@ -281,8 +292,8 @@ fn serve<'a>(alloc: Global) -> Result<Command<'a>, AllocError>
     command(alloc, "serve", about, help::SERVE, words)
 }
 
-// `master SCENE [--at AT] [--raw RAW] [--cycles N] [--every MICROSECONDS] [--limit LIMIT] [--outputs OUTPUTS]
-// [--log LOG] [--stop] [--recover]`
+// `master SCENE [--at AT] [--raw RAW] [--cycles N] [--every MICROSECONDS] [--limit LIMIT] [--late LATE]
+// [--outputs OUTPUTS] [--log LOG] [--stop] [--recover] [--leave STATE]`
 fn master<'a>(alloc: Global) -> Result<Command<'a>, AllocError>
     ensures { IfOk result (Builds master_line) }
 {
@@ -293,6 +304,7 @@ fn master<'a>(alloc: Global) -> Result<Command<'a>, AllocError>
         "The outputs: count, or a file with a line for each cycle; the scene's if not given";
     let log = "A file that gets a line for each cycle: its number, its verdict and its counters";
     let recover = "Brings slaves up again that show an error or came back in Init";
+    let leave = "Where slaves are left at the end: init, pre-op, safe-op, op; init if not given";
     let words = vec![in alloc;
         scene(alloc),
         at(alloc),
@@ -300,20 +312,22 @@ fn master<'a>(alloc: Global) -> Result<Command<'a>, AllocError>
         option(alloc, "N", "cycles", cycles),
         option(alloc, "MICROSECONDS", "every", every),
         limit(alloc),
+        late(alloc),
         option(alloc, "OUTPUTS", "outputs", outputs),
         option(alloc, "LOG", "log", log),
         flag(alloc, "stop", "Ends at the first cycle that is not good"),
         flag(alloc, "recover", recover),
+        option(alloc, "STATE", "leave", leave),
     ]?;
     command(alloc, "master", about, help::MASTER, words)
 }
 
-// `scan [--at AT] [--raw RAW] [--limit LIMIT]`
+// `scan [--at AT] [--raw RAW] [--limit LIMIT] [--late LATE]`
 fn scan<'a>(alloc: Global) -> Result<Command<'a>, AllocError>
     ensures { IfOk result (Builds scan_line) }
 {
     let about = "Tells what slaves a line somewhere else has";
-    let words = vec![in alloc; at(alloc), raw(alloc), limit(alloc)]?;
+    let words = vec![in alloc; at(alloc), raw(alloc), limit(alloc), late(alloc)]?;
     command(alloc, "scan", about, help::SCAN, words)
 }
 

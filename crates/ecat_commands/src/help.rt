@@ -92,8 +92,8 @@ or its first weather, if it has one. Prints where each copy came back and how
 many slaves counted on it; and then whole, or which links are down and which
 slaves are cut off, as far as the copies tell. Whole gives the status 0, else
 it is 1. The actions and items of the scene are passed over.
-With --at the frame goes to a line somewhere else, at its ends A and B; of the
-scene the number of slaves and their stations are taken.
+With --at or --raw the frame goes to a line somewhere else, at its ends A and B;
+of the scene the number of slaves and their stations are taken.
 
 Example:
   ecat where scenes/run/two_slaves_link_1_down.scene";
@@ -134,8 +134,8 @@ way. The actions, items and weathers of the scene are passed over.
 With --surely it makes trips until it is done, whatever copies are lost, but 64
 at most: the first ones in the weathers of the scene, the others under its
 links. How many it took is printed on standard error.
-With --at the slave is one of a line somewhere else; the scene says where its
-mailboxes are.
+With --at or --raw the slave is one of a line somewhere else; the scene says
+where its mailboxes are. It is asked as with --surely, or as above with --once.
 
 Example:
   ecat sdo scenes/sdo/objects.scene 0x1001 0x1018 1
@@ -192,12 +192,16 @@ A master of a line somewhere else, whose ends A and B lie at AT; with one
 address it has one port. The scene is what the slaves are to be told, and its
 items are what each cycle asks. It counts the slaves, gives them their stations,
 writes their sync managers and FMMUs and, in Pre-Op, their startup objects, and
-brings them to Op, a line for each step. Then it cycles, N times or to the end
-of standard input, and is silent while all is good. It tells of a cycle that is
-not good, with the item that is short and where the cable is broken; of
-redundancy that is lost though cycles are good; and of a ring that is whole
-again. At the end it prints how many cycles were good, short, over and without
-a verdict, and the items with their last answers.
+brings them to Op, a line for each step. A slave for which the scene has object
+0x1018 has to be that one. Then it cycles, N times or to the end of standard
+input, and is silent while all is good. It tells of a cycle that is not good,
+with the item that is short and where the cable is broken; of redundancy that is
+lost though cycles are good; of a ring that is whole again; and of slaves that
+are not in Op, which each cycle asks by one datagram more. At the end the slaves
+are left in Init, or as --leave says; it prints how many cycles were good, short,
+over and without a verdict, in how many good ones not all slaves were in Op, and
+the items with their last answers. The status is 0 where the last cycle was good
+with all slaves in Op, and the slaves were left as they were to be.
 With --outputs count the outputs are a number that grows by one each cycle.
 With --outputs and a file, of 1 MiB at most, each of its lines has the outputs
 of one cycle, and behind the last line it begins again at the first: the bytes
@@ -215,7 +219,8 @@ Example:
 pub(crate) const SCAN: &str = "\
 Asks the slaves of a line somewhere else what they are, and prints a line for
 each: its place, station, AL state and error, its active sync managers and
-FMMUs, and its identity where it has a mailbox.
+FMMUs, and its identity where it has a mailbox. They are counted three times;
+counts that differ are told, and so is it where nobody answers.
 
 Example:
   ecat scan --at 127.0.0.1:34980,127.0.0.1:34981";

@@ -48,6 +48,7 @@ impl Command {
             Command::Where => Args::Where {
                 scene: "s",
                 at: None,
+                raw: None,
             },
             Command::Write => sdo_with(Some(Value::Two(0x1234)), false),
         }
@@ -77,7 +78,9 @@ fn sdo_with(value: Option<Value>, surely: bool) -> Args<'static>
         sub: 0,
         value,
         surely,
+        once: false,
         at: None,
+        raw: None,
     }
 }
 

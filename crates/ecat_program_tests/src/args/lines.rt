@@ -10,33 +10,45 @@ check a.scene | Ok(Check { scene: \"a.scene\" })
 lint a.scene | Ok(Lint { scene: \"a.scene\" })
 run a.scene | Ok(Run { scene: \"a.scene\", judge: false, pcap: None, force: false })
 cover a.scene | Ok(Cover { scene: \"a.scene\" })
-where a.scene | Ok(Where { scene: \"a.scene\", at: None })
+where a.scene | Ok(Where { scene: \"a.scene\", at: None, raw: None })
 sweep a.scene | Ok(Sweep { scene: \"a.scene\" })
 vectors | Ok(Vectors)
 show -- --help | Ok(Show { file: \"--help\" })
 list - --faults | Ok(List { file: \"-\", csv: false, faults: true, stats: false })
 list --csv a.pcap --stats | Ok(List { file: \"a.pcap\", csv: true, faults: false, stats: true })
-where a.scene --at a:1,b:2 | Ok(Where { scene: \"a.scene\", at: Some(\"a:1,b:2\") })
-scan --at=a:1,b:2 --limit 50 | Ok(Scan { at: Some(\"a:1,b:2\"), raw: None, limit: Some(50) })
-scan --raw 10,11 | Ok(Scan { at: None, raw: Some(\"10,11\"), limit: None })
+where a.scene --at a:1,b:2 | Ok(Where { scene: \"a.scene\", at: Some(\"a:1,b:2\"), raw: None })
+where --raw=10 a.scene | Ok(Where { scene: \"a.scene\", at: None, raw: Some(\"10\") })
+scan --at=a:1,b:2 --limit 50 | Ok(Scan { at: Some(\"a:1,b:2\"), raw: None, limit: Some(50), late: None })
+scan --raw 10,11 | Ok(Scan { at: None, raw: Some(\"10,11\"), limit: None, late: None })
+scan --late 0x10 --at a:1 | Ok(Scan { at: Some(\"a:1\"), raw: None, limit: None, late: Some(16) })
 master a.scene --at a:1 | \
     Ok(Master { scene: \"a.scene\", at: Some(\"a:1\"), raw: None, cycles: None, every: None, limit: None, \
-    outputs: None, log: None, stop: false, recover: false })
+    late: None, outputs: None, log: None, stop: false, recover: false, leave: None })
+master a.scene --late 250 --leave safe-op | \
+    Ok(Master { scene: \"a.scene\", at: None, raw: None, cycles: None, every: None, limit: None, \
+    late: Some(250), outputs: None, log: None, stop: false, recover: false, leave: Some(\"safe-op\") })
 master a.scene --raw 10 --cycles 7 --every 1000 --limit 2000 --outputs count --log f --stop --recover | \
     Ok(Master { scene: \"a.scene\", at: None, raw: Some(\"10\"), cycles: Some(7), every: Some(1000), \
-    limit: Some(2000), outputs: Some(\"count\"), log: Some(\"f\"), stop: true, recover: true })
+    limit: Some(2000), late: None, outputs: Some(\"count\"), log: Some(\"f\"), stop: true, recover: true, \
+    leave: None })
 sdo a.scene 0x1001 0x1018 1 | \
-    Ok(Sdo { scene: \"a.scene\", station: 4097, index: 4120, sub: 1, value: None, surely: false, at: None })
+    Ok(Sdo { scene: \"a.scene\", station: 4097, index: 4120, sub: 1, value: None, surely: false, \
+    once: false, at: None, raw: None })
 sdo a.scene 1 2 3 0x0405 | \
     Ok(Sdo { scene: \"a.scene\", station: 1, index: 2, sub: 3, value: Some(Two(1029)), surely: false, \
-    at: None })
+    once: false, at: None, raw: None })
 sdo a.scene 1 2 3 --surely | \
-    Ok(Sdo { scene: \"a.scene\", station: 1, index: 2, sub: 3, value: None, surely: true, at: None })
+    Ok(Sdo { scene: \"a.scene\", station: 1, index: 2, sub: 3, value: None, surely: true, \
+    once: false, at: None, raw: None })
 sdo --surely a.scene 1 2 3 | \
-    Ok(Sdo { scene: \"a.scene\", station: 1, index: 2, sub: 3, value: None, surely: true, at: None })
+    Ok(Sdo { scene: \"a.scene\", station: 1, index: 2, sub: 3, value: None, surely: true, \
+    once: false, at: None, raw: None })
+sdo --once a.scene 1 2 3 --raw 10,11 | \
+    Ok(Sdo { scene: \"a.scene\", station: 1, index: 2, sub: 3, value: None, surely: false, \
+    once: true, at: None, raw: Some(\"10,11\") })
 sdo a.scene 1 2 3 --surely 0x04 | \
     Ok(Sdo { scene: \"a.scene\", station: 1, index: 2, sub: 3, value: Some(One(4)), surely: true, \
-    at: None })";
+    once: false, at: None, raw: None })";
 
 /// Cycles: judged, with their copies kept, and by the port that is given or by 34980.
 const CYCLES: &str = "\

@@ -5,31 +5,35 @@ use super::{assert_bad_numbers, assert_rows};
 /// of digits is read.
 const OBJECTS: &str = "\
 sdo a.scene 0 0 0 | \
-    Ok(Sdo { scene: \"a.scene\", station: 0, index: 0, sub: 0, value: None, surely: false, at: None })
+    Ok(Sdo { scene: \"a.scene\", station: 0, index: 0, sub: 0, value: None, surely: false, \
+    once: false, at: None, raw: None })
 sdo a.scene 65535 65534 0 | \
     Ok(Sdo { scene: \"a.scene\", station: 65535, index: 65534, sub: 0, value: None, surely: false, \
-    at: None })
+    once: false, at: None, raw: None })
 sdo a.scene 65534 65535 0 | \
     Ok(Sdo { scene: \"a.scene\", station: 65534, index: 65535, sub: 0, value: None, surely: false, \
-    at: None })
+    once: false, at: None, raw: None })
 sdo a.scene 65536 0 0 | Err(BadNumber)
 sdo a.scene 0 65536 0 | Err(BadNumber)
 sdo a.scene 0x10000 0 0 | Err(BadNumber)
 sdo a.scene 4294967296 0 0 | Err(BadNumber)
 sdo a.scene 1 2 255 | \
-    Ok(Sdo { scene: \"a.scene\", station: 1, index: 2, sub: 255, value: None, surely: false, at: None })
+    Ok(Sdo { scene: \"a.scene\", station: 1, index: 2, sub: 255, value: None, surely: false, \
+    once: false, at: None, raw: None })
 sdo a.scene 1 2 0xff | \
-    Ok(Sdo { scene: \"a.scene\", station: 1, index: 2, sub: 255, value: None, surely: false, at: None })
+    Ok(Sdo { scene: \"a.scene\", station: 1, index: 2, sub: 255, value: None, surely: false, \
+    once: false, at: None, raw: None })
 sdo a.scene 1 2 256 | Err(BadNumber)
 sdo a.scene 1 2 0x100 | Err(BadNumber)
 sdo a.scene 0xabcd 0xABCD 0xeF | \
     Ok(Sdo { scene: \"a.scene\", station: 43981, index: 43981, sub: 239, value: None, surely: false, \
-    at: None })
+    once: false, at: None, raw: None })
 sdo a.scene 0x9 0xa 0xF | \
-    Ok(Sdo { scene: \"a.scene\", station: 9, index: 10, sub: 15, value: None, surely: false, at: None })
+    Ok(Sdo { scene: \"a.scene\", station: 9, index: 10, sub: 15, value: None, surely: false, \
+    once: false, at: None, raw: None })
 sdo a.scene 000000000000000000000000065535 0x00000000000000000000000000ffff 007 | \
     Ok(Sdo { scene: \"a.scene\", station: 65535, index: 65535, sub: 7, value: None, surely: false, \
-    at: None })
+    once: false, at: None, raw: None })
 sdo a.scene 999999999999999999999999999999 0 0 | Err(BadNumber)
 sdo a.scene 0xffffffffffffffffffffffffffffff 0 0 | Err(BadNumber)";
 
@@ -37,22 +41,22 @@ sdo a.scene 0xffffffffffffffffffffffffffffff 0 0 | Err(BadNumber)";
 const VALUES: &str = "\
 sdo a.scene 1 1 1 0x02 | \
     Ok(Sdo { scene: \"a.scene\", station: 1, index: 1, sub: 1, value: Some(One(2)), surely: false, \
-    at: None })
+    once: false, at: None, raw: None })
 sdo a.scene 1 1 1 0xFf | \
     Ok(Sdo { scene: \"a.scene\", station: 1, index: 1, sub: 1, value: Some(One(255)), surely: false, \
-    at: None })
+    once: false, at: None, raw: None })
 sdo a.scene 1 1 1 0x0002 | \
     Ok(Sdo { scene: \"a.scene\", station: 1, index: 1, sub: 1, value: Some(Two(2)), surely: false, \
-    at: None })
+    once: false, at: None, raw: None })
 sdo a.scene 1 1 1 0xABcd | \
     Ok(Sdo { scene: \"a.scene\", station: 1, index: 1, sub: 1, value: Some(Two(43981)), surely: false, \
-    at: None })
+    once: false, at: None, raw: None })
 sdo a.scene 1 1 1 0x00000002 | \
     Ok(Sdo { scene: \"a.scene\", station: 1, index: 1, sub: 1, value: Some(Four(2)), surely: false, \
-    at: None })
+    once: false, at: None, raw: None })
 sdo a.scene 1 1 1 0xffffffff | \
     Ok(Sdo { scene: \"a.scene\", station: 1, index: 1, sub: 1, value: Some(Four(4294967295)), surely: false, \
-    at: None })";
+    once: false, at: None, raw: None })";
 
 /// The port is from 1024 to 65534.
 const PORTS: &str = "\
