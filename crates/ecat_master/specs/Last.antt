@@ -1,9 +1,11 @@
 -- How the last of cycles ended that were made one after the other, and the exit status that tells it.
-use Rattle.std.specs.Prelude.{◌≡◌, ℕ, Option, None, Some, List, Ok, Err}
+use Rattle.std.specs.Prelude.{◌≡◌, ℕ, Bool, true, false, not, if◌then◌else◌, Option, None, Some, List, Ok, Err}
+use Rattle.ec_map.specs.Item.{ItemRecord}
 use Rattle.ec_master.specs.Ports.{Trips}
 use Rattle.ec_master.specs.declared.cycle.CycleFault.TheVariants.{Port, Stranger}
 use Rattle.ec_master.specs.declared.verdict.Verdict.TheVariants.{Good, Short, Over}
 use Rattle.ec_run.specs.Cycles.{End, IsCycle, IsRun}
+use Rattle.ec_run.specs.States.{tells_all_in_op}
 use Rattle.ec_run.specs.declared.cycles.Cycles.{Cycles}
 use Rattle.ec_run.specs.declared.outputs.Outputs.{Outputs}
 
@@ -21,12 +23,18 @@ abbrev pub IsLast : {P : Type 0} → Trips P → Outputs → List ℕ → Cycles
 IsLast trips outputs expected start None now = now ≡ start
 IsLast trips outputs expected start (Some end) now = LastEnded trips outputs expected start end now
 
--- 0 where the last cycle was good or there was none, 1 where its counters were others or a frame came back
--- that is none of those sent, 3 where a port failed
-abbrev pub status_told : Option End → ℕ
-status_told None = 0
-status_told (Some (Ok Good)) = 0
-status_told (Some (Ok (Short k))) = 1
-status_told (Some (Ok (Over k))) = 1
-status_told (Some (Err Stranger)) = 1
-status_told (Some (Err Port)) = 3
+-- the answers of the last good cycle tell that all slaves are in Op; where cycles don't tell the states,
+-- nothing speaks against it
+abbrev pub in_op : Bool → Option (List ItemRecord) → Bool
+in_op states None = not states
+in_op states (Some image) = if states then tells_all_in_op image else true
+
+-- 0 where the last cycle was good with all slaves in Op, or there was none; 1 where they were not all in Op,
+-- its counters were others or a frame came back that is none of those sent; 3 where a port failed
+abbrev pub status_told : Option End → Bool → ℕ
+status_told None all_in_op = 0
+status_told (Some (Ok Good)) all_in_op = if all_in_op then 0 else 1
+status_told (Some (Ok (Short k))) all_in_op = 1
+status_told (Some (Ok (Over k))) all_in_op = 1
+status_told (Some (Err Stranger)) all_in_op = 1
+status_told (Some (Err Port)) all_in_op = 3

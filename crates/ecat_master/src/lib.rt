@@ -20,6 +20,9 @@
 //!     recover: true,
 //!     progress: false,
 //!     log: false,
+//!     states: true,
+//!     identities: &[],
+//!     leave: Some(AlState::Init),
 //! };
 //! let mut pace = Count { left: 5 };
 //! let status = master(
@@ -38,7 +41,9 @@
 //! all in Safe-Op
 //! all in Op
 //! cycle 3: redundancy lost: link 2 down: between slave 1 (0x1002) and slave 2 (0x1003)
-//! cycles 5 good 5 short 0 over 0 fault 0
+//! left in Init
+//! cycles 5 good 5 short 0 over 0 fault 0 not-in-op 0
+//! cycle time least 0 mean 0 greatest 0 microseconds, 99 of 100 within 0
 //! item 0 LRW data a0a1a2 wkc 9 of 9
 //! ```
 //!
@@ -52,14 +57,22 @@
 //! and their ends add up; (`last`): it answers how the last one ended. What is printed and when is tried by
 //! tests.
 
+mod identity;
+mod leaving;
 mod pace;
+mod ports;
 mod run;
 mod scanning;
+mod slaves;
+mod spread;
 mod startup;
+mod teller;
 mod telling;
 mod words;
 
+pub use identity::{ENTRIES, IDENTITY, Identity, OtherSlave};
 pub use pace::Pace;
-pub use run::{FAILED, GOOD, Plan, REFUSED, Teller, master, run_cycles};
+pub use run::{FAILED, GOOD, Plan, REFUSED, master, run_cycles};
 pub use scanning::{ScanEnd, scan};
 pub use startup::{StartEnd, StartFault, put_start_fault, start};
+pub use teller::{Teller, Unwritten};

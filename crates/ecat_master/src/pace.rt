@@ -6,6 +6,10 @@ pub trait Pace {
     /// ended, the output closed).
     fn next(&mut self) -> bool;
 
+    /// By how many microseconds the last cycle that it had was let begin behind its time; `None` where cycles
+    /// begin back to back.
+    fn late(&mut self) -> Option<u64>;
+
     /// Microseconds since the pace began, never falling.
     fn now(&mut self) -> u64;
 }

@@ -5,9 +5,10 @@ ghost use Rattle.ec_services.specs.Mailbox.{IsPeer};
 ghost use Rattle.ec_wire.specs.Datagram.{nth};
 ghost use Rattle.ecat_master.specs.declared.scanning.ScanEnd.TheVariants.{Ask, Output};
 
+use crate::identity::{IDENTITY, put_value};
 use crate::startup::look_surely;
 use crate::words::{put_cable, put_code, put_fault, state_name};
-use ec_app::Value;
+use arrayvec::ArrayVec;
 use ec_app::roles::{ANSWER_MAILBOX, REQUEST_MAILBOX};
 use ec_diag::Located;
 use ec_master::Ports;
@@ -21,9 +22,6 @@ use ec_services::{MasterFault, Peer, upload_surely};
 use ec_wire::{Command, FrameBuf, address_of};
 use ecat_text::Lines;
 use std::io::{self, Write};
-
-/// The object that says who a slave is (IEC 61158-6-12, object dictionary): vendor, product.
-const IDENTITY: u16 = 0x1018;
 
 /// The most trips by which an object is read.
 const TRIPS: u32 = 64;
@@ -75,26 +73,94 @@ struct Shown {
 /// Writes a line for each slave that is counted: its place, its station address, its AL state and error, its
 /// active sync managers and FMMUs, and who it is where it has mailboxes; before them how many there are and
 /// where the cable is broken. Behind a broken link with slaves on both sides a slave is read by its place
-/// only where no other answers with it; the line of another one says `BadAnswer`. It answers whether any
-/// copy came back that looked at the cable, and all slaves could be read.
+/// only where no other answers with it; the line of another one says `BadAnswer`. It answers whether copies
+/// came back, the counts of the slaves were alike, and all slaves could be read.
 pub fn scan<P: HeardPorts, W: Write>(
     ports: &mut Watched<P>,
     lines: &mut Lines<'_, W>,
 ) -> Result<bool, ScanEnd> {
-    let count = count_slaves(ports)?;
-    lines.text(format_args!("slaves {count}"))?;
-    lines.end()?;
+    let counted = count_often(ports)?;
+    let Some(count) = counted.greatest() else {
+        lines.text("nobody answers at A")?;
+        lines.end()?;
+        return Ok(false);
+    };
+    put_counted(&counted, count, lines)?;
     let located = match look_surely(ports, usize::from(count)) {
         Some(located) => located,
         None => return Err(ScanEnd::Ask(MasterFault::Port)),
     };
     put_links(located, lines)?;
     lines.end()?;
-    let mut all = located != Located::Unknown;
+    let mut all = located != Located::Unknown && counted.are_alike();
     for place in 0..count {
         all = scan_slave(ports, place, located, lines)? && all;
     }
     Ok(all)
+}
+
+/// How often the slaves are counted.
+const COUNTS: usize = 3;
+
+/// How often they are asked for that, at the most: an answer of which no copy came is none.
+const ASKS: usize = 10;
+
+/// What the slaves of a line were counted to be.
+#[derive(Drop)]
+struct Counted {
+    counts: ArrayVec<u16, COUNTS>,
+}
+
+impl Counted {
+    /// The most slaves that were counted; nothing where nobody answered.
+    fn greatest(&self) -> Option<u16> {
+        let mut greatest = *self.counts.as_slice().first()?;
+        for count in self.counts.as_slice() {
+            greatest = greatest.max(*count);
+        }
+        Some(greatest)
+    }
+
+    /// Was the same counted each time?
+    fn are_alike(&self) -> bool {
+        let counts = self.counts.as_slice();
+        match counts.first() {
+            Some(first) => counts.iter().all(|count| count == first),
+            None => true,
+        }
+    }
+}
+
+/// Counts the slaves `COUNTS` times, as far as copies come.
+fn count_often<P: HeardPorts>(ports: &mut Watched<P>) -> Result<Counted, MasterFault> {
+    let mut counts = ArrayVec::new();
+    for _ask in 0..ASKS {
+        ports.clear();
+        let count = count_slaves(ports)?;
+        if ports.has_heard() && counts.len() < COUNTS {
+            counts.push(count);
+        }
+        if counts.len() == COUNTS {
+            break;
+        }
+    }
+    Ok(Counted { counts })
+}
+
+/// Writes how many slaves there are, and what else was counted.
+fn put_counted<W: Write>(
+    counted: &Counted,
+    count: u16,
+    lines: &mut Lines<'_, W>,
+) -> io::Result<()> {
+    lines.text(format_args!("slaves {count}"))?;
+    if !counted.are_alike() {
+        lines.text("; counts differ:")?;
+        for count in counted.counts.as_slice() {
+            lines.text(format_args!(" {count}"))?;
+        }
+    }
+    lines.end()
 }
 
 /// Puts where the cable is broken, with no name of a slave.
@@ -325,9 +391,7 @@ fn put_object<P: Ports, W: Write>(
 {
     lines.text(format_args!(" 0x1018:{sub} "))?;
     match upload_surely(ports, peer, IDENTITY, sub, TRIPS) {
-        Ok(Value::One(value)) => lines.text(format_args!("{value}")),
-        Ok(Value::Two(value)) => lines.text(format_args!("0x{value:04x}")),
-        Ok(Value::Four(value)) => lines.text(format_args!("0x{value:08x}")),
+        Ok(value) => put_value(value, lines),
         Err(fault) => put_fault(fault, lines),
     }
 }

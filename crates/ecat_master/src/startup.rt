@@ -2,8 +2,10 @@
 
 ghost use Rattle.std.specs.Prelude.{◌≡◌, ◌≤◌, length};
 ghost use Rattle.ecat_master.specs.declared.startup.StartEnd.TheVariants.{Fault, Output};
+ghost use Rattle.ecat_master.specs.declared.startup.StartFault.TheVariants.{Identity as IsOther};
 ghost use Rattle.ecat_master.specs.declared.startup.StartFault.TheVariants.{Step as StepFailed};
 
+use crate::identity::{Identity, OtherSlave, compare_identities, put_other_slave};
 use crate::words::{put_cable, put_fault, put_step_fault, state_name};
 use ec_diag::{CutOff, Located};
 use ec_ring::{HeardPorts, MAX_SLAVES};
@@ -13,7 +15,7 @@ use ecat_text::Lines;
 use std::io::{self, Write};
 
 /// How often the slaves are counted, and the cable is looked at, where that did not come out as it should.
-const TRIES: usize = 3;
+const TRIES: usize = 10;
 
 /// Why a line could not be started.
 #[derive(Clone, Copy, PartialEq, Eq, Debug)]
@@ -26,6 +28,8 @@ pub enum StartFault {
     Cable(Located),
     /// A step with a slave failed.
     Step(StepFault),
+    /// A slave is another one than it is to be.
+    Identity(OtherSlave),
 }
 
 /// Why a start-up has ended early.
@@ -53,13 +57,23 @@ impl From<StepFault> for StartEnd {
     }
 }
 
+impl From<OtherSlave> for StartEnd {
+    fn from(other: OtherSlave) -> StartEnd
+        ensures { result ≡ Fault (IsOther other) }
+    {
+        StartEnd::Fault(StartFault::Identity(other))
+    }
+}
+
 /// Brings up a line, at most 256 slaves, and writes a line of text for each part of it that is done: the
 /// slaves are counted and the cable is looked at; each slave is given its station address; then phase by
-/// phase all slaves are brought to Op, and their startup objects are written. It answers where the cable is
-/// broken: nowhere, or at one link.
+/// phase all slaves are brought to Op, and their startup objects are written; in Pre-Op each slave has to be
+/// the one that its place in `identities` wants. It answers where the cable is broken: nowhere, or at one
+/// link.
 pub fn start<P: HeardPorts, W: Write>(
     ports: &mut Watched<P>,
     line: &[Wanted],
+    identities: &[Identity],
     lines: &mut Lines<'_, W>,
 ) -> Result<Located, StartEnd> {
     if line.len() > MAX_SLAVES {
@@ -77,6 +91,9 @@ pub fn start<P: HeardPorts, W: Write>(
     for phase in PHASES {
         bring_line(ports, line, phase)?;
         tell_phase(phase, line, lines)?;
+        if phase == Phase::PreOp {
+            compare_identities(ports, line, identities)?;
+        }
     }
     Ok(located)
 }
@@ -195,6 +212,7 @@ pub fn put_start_fault<W: Write>(
         StartFault::Ask(fault) => put_fault(*fault, lines)?,
         StartFault::Count(_) => lines.text("another number of slaves")?,
         StartFault::Cable(located) => put_cable(*located, line, lines)?,
+        StartFault::Identity(other) => put_other_slave(other, lines)?,
         StartFault::Step(fault) => match line.get(usize::from(fault.place)) {
             Some(wanted) => put_step_fault(fault, wanted, lines)?,
             None => {}

@@ -11,6 +11,22 @@ use ec_run::{Counts, Signs, Wanted, Watched, Ways};
 use ecat_text::{CountText, Lines, VerdictText, print_item};
 use std::io::{self, Write};
 
+/// How a cycle ended, and whether it told that all slaves are in Op.
+#[derive(Clone, Copy, PartialEq, Eq, Debug)]
+pub(crate) struct CycleEnd {
+    /// Its verdict, or why it has none.
+    pub(crate) ended: Result<Verdict, CycleFault>,
+    /// Whether a good cycle told that all slaves are in Op; true of one that tells no states.
+    pub(crate) in_op: bool,
+}
+
+impl CycleEnd {
+    /// Was the cycle good, with all slaves in Op?
+    pub(crate) fn is_well(self) -> bool {
+        self.ended == Ok(Verdict::Good) && self.in_op
+    }
+}
+
 /// What a cycle showed. Of two cycles that showed the same only the first is told.
 #[derive(Clone, Copy, PartialEq, Eq)]
 struct Showing {
@@ -69,6 +85,7 @@ impl Told {
         ports: &mut Watched<P>,
         expected: &[u16],
         line: &[Wanted],
+        states: bool,
         lines: &mut Lines<'_, W>,
     ) -> io::Result<()> {
         let now = Showing {
@@ -91,7 +108,16 @@ impl Told {
             tell_end(cycle, cycle.saturating_sub(before.since), ended, lines)?;
         }
         self.since = cycle;
-        tell_showing(cycle, &now, expected, cable, line, before.cable, lines)
+        tell_showing(
+            cycle,
+            &now,
+            expected,
+            cable,
+            line,
+            before.cable,
+            states,
+            lines,
+        )
     }
 
     /// Where the cable is broken now. Nothing new is known where the ports have failed.
@@ -157,6 +183,7 @@ fn tell_showing<W: Write>(
     cable: Located,
     line: &[Wanted],
     cable_before: Located,
+    states: bool,
     lines: &mut Lines<'_, W>,
 ) -> io::Result<()> {
     match now.ended {
@@ -164,7 +191,7 @@ fn tell_showing<W: Write>(
         Ok(Verdict::Good) => tell_cable(cycle, cable, line, lines),
         Ok(Verdict::Short(item)) | Ok(Verdict::Over(item)) => {
             put_cycle(cycle, lines)?;
-            put_count(item, now.came, expected, lines)?;
+            put_count(item, now.came, expected, states, lines)?;
             lines.text("; ")?;
             put_cable(cable, line, lines)?;
             lines.end()
@@ -200,18 +227,20 @@ fn tell_cable<W: Write>(
     lines.end()
 }
 
-/// Puts how often an item was counted, and how often it was to be.
+/// Puts how often an item was counted, and how often it was to be; of the read of the states, which is behind
+/// those of the scene, how many slaves it passed.
 fn put_count<W: Write>(
     item: usize,
     came: u16,
     expected: &[u16],
+    states: bool,
     lines: &mut Lines<'_, W>,
 ) -> io::Result<()> {
-    lines.text(CountText {
-        item,
-        came,
-        wanted: wanted_of(expected, item),
-    })
+    let wanted = wanted_of(expected, item);
+    if states && item.saturating_add(1) == expected.len() {
+        return lines.text(format_args!("slaves: {came} of {wanted} answered"));
+    }
+    lines.text(CountText { item, came, wanted })
 }
 
 /// What the counter of an item is to gain.
@@ -222,8 +251,13 @@ fn wanted_of(expected: &[u16], item: usize) -> u16 {
     }
 }
 
-/// Puts how many cycles there were, by their ends.
-pub fn put_counts<W: Write>(counts: Counts, lines: &mut Lines<'_, W>) -> io::Result<()> {
+/// Puts how many cycles there were, by their ends; and how many of the good ones found not all slaves in Op,
+/// where that is known.
+pub fn put_counts<W: Write>(
+    counts: Counts,
+    not_in_op: Option<u64>,
+    lines: &mut Lines<'_, W>,
+) -> io::Result<()> {
     let Counts {
         cycles,
         good,
@@ -231,21 +265,32 @@ pub fn put_counts<W: Write>(counts: Counts, lines: &mut Lines<'_, W>) -> io::Res
         over,
         fault,
     } = counts;
-    lines.text(format_args!("cycles {cycles} good {good} short {short} over {over} fault {fault}"))
+    lines.text(format_args!(
+        "cycles {cycles} good {good} short {short} over {over} fault {fault}"
+    ))?;
+    match not_in_op {
+        Some(not_in_op) => lines.text(format_args!(" not-in-op {not_in_op}")),
+        None => Ok(()),
+    }
 }
 
-/// Writes a line for a cycle that was made: its number, its end, and how far each counter moved.
-pub fn log_cycle<W: Write>(
+/// Writes a line for a cycle that was made: its number, its end, and how far the counter of each of so many
+/// items moved; and behind a good one where not all slaves were in Op.
+pub(crate) fn log_cycle<W: Write>(
     cycle: u64,
-    ended: Result<Verdict, CycleFault>,
+    end: CycleEnd,
     counts: &[u16],
+    items: usize,
     lines: &mut Lines<'_, W>,
 ) -> io::Result<()> {
     lines.text(format_args!("cycle {cycle} "))?;
-    put_end(ended, lines)?;
+    put_end(end.ended, lines)?;
     lines.text(" counts")?;
-    for count in counts {
+    for count in counts.iter().take(items) {
         lines.text(format_args!(" {count}"))?;
+    }
+    if end.ended == Ok(Verdict::Good) && !end.in_op {
+        lines.text(" not-in-op")?;
     }
     lines.end()
 }
@@ -265,13 +310,15 @@ fn put_end<W: Write>(
 /// The counters of a round go out as a multiple of this.
 const ROUND: u16 = 2048;
 
-/// Writes a line for each item of an image: its data, and how often it was counted.
+/// Writes a line for each item of an image that is the scene's: its data, and how often it was counted.
 pub fn tell_image<W: Write>(
     image: &Work,
     expected: &[u16],
+    states: bool,
     lines: &mut Lines<'_, W>,
 ) -> io::Result<()> {
-    for k in 0..image.len() {
+    let count = image.len().saturating_sub(usize::from(states));
+    for k in 0..count {
         let item = image.item(k);
         let counter = item.counter() % ROUND;
         print_item(k, item, counter, wanted_of(expected, k), lines)?;

@@ -21,3 +21,4 @@ mod objects;
 mod recovered;
 mod scanned;
 mod stage;
+mod states;

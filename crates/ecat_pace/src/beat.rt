@@ -18,6 +18,7 @@ pub struct Beat<'a, R: Clock, I: Read + AsRawFd + Drop> {
     began: Instant,
     every: Option<Duration>,
     due: Duration,
+    late: Option<u64>,
     left: Option<u32>,
     input: Option<Ending<I>>,
 }
@@ -36,6 +37,7 @@ impl<'a, R: Clock, I: Read + AsRawFd + Drop> Beat<'a, R, I> {
             began: Instant::now(clock)?,
             every,
             due: Duration::from_secs(0),
+            late: None,
             left: cycles,
             input,
         })
@@ -68,10 +70,12 @@ impl<'a, R: Clock, I: Read + AsRawFd + Drop> Beat<'a, R, I> {
         let Some(every) = self.every else {
             return;
         };
+        let due = self.due;
         let passed = self.passed();
-        if let Some(rest) = self.due.checked_sub(passed) {
+        if let Some(rest) = due.checked_sub(passed) {
             thread::sleep(self.clock, rest);
         }
+        self.late = Some(micros_between(due, self.passed()));
         self.due = match self.due.max(passed).checked_add(every) {
             Some(due) => due,
             None => self.due,
@@ -91,7 +95,24 @@ impl<'a, R: Clock, I: Read + AsRawFd + Drop> Pace for Beat<'a, R, I> {
         }
     }
 
+    fn late(&mut self) -> Option<u64> {
+        self.late
+    }
+
     fn now(&mut self) -> u64 {
-        u64::try_from(self.passed().as_micros()).unwrap_or(u64::MAX)
+        micros_of(self.passed())
+    }
+}
+
+/// A time in whole microseconds.
+fn micros_of(time: Duration) -> u64 {
+    u64::try_from(time.as_micros()).unwrap_or(u64::MAX)
+}
+
+/// How many microseconds lie between two times; none where the later one comes first.
+fn micros_between(from: Duration, to: Duration) -> u64 {
+    match to.checked_sub(from) {
+        Some(between) => micros_of(between),
+        None => 0,
     }
 }

@@ -93,6 +93,10 @@ impl Pace for Count {
         true
     }
 
+    fn late(&mut self) -> Option<u64> {
+        None
+    }
+
     fn now(&mut self) -> u64 {
         0
     }
@@ -142,6 +146,9 @@ fn run(ports: Machine, course: Course, cycles: u32) -> Option<u64> {
         recover: true,
         progress: false,
         log: true,
+        states: false,
+        identities: &[],
+        leave: None,
     };
     let Course {
         line,

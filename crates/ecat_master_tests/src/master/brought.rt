@@ -20,7 +20,9 @@ static ROWS: [Row; 1] = [Row {
     stop: false,
     cycles: 2,
     status: 0,
-    text: brought!("cycles 2 good 2 short 0 over 0 fault 0\nitem 0 LRW data a0a1a2 wkc 9 of 9\n"),
+    text: brought!(
+        "left in Init\ncycles 2 good 2 short 0 over 0 fault 0 not-in-op 0\ncycle time least 0 mean 0 greatest 0 microseconds, 99 of 100 within 0\nitem 0 LRW data a0a1a2 wkc 9 of 9\n"
+    ),
 }];
 
 #[test]
@@ -33,7 +35,7 @@ fn is_brought(rt: &(impl AllocGlobal + Abort), row: &str, link: usize) {
     let line = wanted_with(rt, Told::Same);
     let mut out = Cursor::new([0u8; ROOM]);
     let mut ports = Watched::new(Stage::new(ring_with(rt, 3, &[link]), &[]));
-    let started = start(&mut ports, line.as_slice(), &mut Lines::new(&mut out));
+    let started = start(&mut ports, line.as_slice(), &[], &mut Lines::new(&mut out));
     assert!(rt; started.is_ok(), "{row}");
     let ports = ports.into_ports();
     for place in 0..3usize {

@@ -3,6 +3,7 @@
 use super::line::{EXPECTED, ring, wanted, work};
 use super::stage::{Count, Event, ROOM, Stage, written};
 use crate::asserts::assert_found;
+use ec_regs::AlState;
 use ec_run::Outputs;
 use ecat_master::{Plan, master};
 use std::io::Cursor;
@@ -12,7 +13,7 @@ const TOLD: &str =
     "slaves 3\nring whole\nstations given\nall in Init\nall in Pre-Op\nall in Safe-Op\n\
     all in Op\n\
     cycle 3: redundancy lost: link 2 down: between slave 1 (0x1002) and slave 2 (0x1003)\n\
-    cycles 5 good 5 short 0 over 0 fault 0\n\
+    left in Init\ncycles 5 good 5 short 0 over 0 fault 0 not-in-op 0\ncycle time least 0 mean 0 greatest 0 microseconds, 99 of 100 within 0\n\
     item 0 LRW data a0a1a2 wkc 9 of 9\n";
 
 #[test]
@@ -26,6 +27,9 @@ fn a_line_is_brought_up_and_a_link_breaks_while_it_cycles(rt: HostRuntime) {
         recover: true,
         progress: true,
         log: true,
+        states: true,
+        identities: &[],
+        leave: Some(AlState::Init),
     };
     let mut pace = Count { left: 5 };
     let mut out = Cursor::new([0u8; ROOM]);

@@ -24,9 +24,11 @@ impl Write for Stops {
     }
 }
 
-/// The writes, each of which fails in turn: seven lines of start-up, that of the sums, and that of the item.
-static WRITES: [&str; 9] = [
-    "slaves", "ring", "stations", "Init", "Pre-Op", "Safe-Op", "Op", "the sums", "the item",
+/// The writes, each of which fails in turn: seven lines of start-up, that of the end, those of the
+/// sums and the time, and that of the item.
+static WRITES: [&str; 11] = [
+    "slaves", "ring", "stations", "Init", "Pre-Op", "Safe-Op", "Op", "left", "the sums",
+    "the time", "the item",
 ];
 
 /// Asserts the status of a run whose write after so many fails.

@@ -7,7 +7,7 @@ use ec_map::{Item, Kind};
 use ec_master::Work;
 use ec_regs::{AlState, Fmmu, SyncMan};
 use ec_ring::Ring;
-use ec_run::{Wanted, wanted_of};
+use ec_run::{Wanted, add_states, wanted_of};
 use std::alloc::Global;
 use std::process::Abort;
 
@@ -64,7 +64,7 @@ pub fn ring(rt: &impl Abort, alloc: Global, count: u16) -> Ring
 }
 
 /// One exchange of the three bytes: each slave is to count 3.
-pub fn work(rt: &impl Abort) -> Work {
+pub fn exchange(rt: &impl Abort) -> Work {
     let mut work = Work::new();
     let item = Item::new(Kind::Lrw, 0x10000, &[0x11, 0x22, 0x33]).expect(rt, "an item");
     let pushed = work.push(item);
@@ -72,8 +72,18 @@ pub fn work(rt: &impl Abort) -> Work {
     work
 }
 
-/// What is expected of the counter of that exchange.
-pub const EXPECTED: [u16; 1] = [9];
+/// That exchange and the read of the states, which each slave counts once.
+pub fn work(rt: &impl Abort) -> Work {
+    let mut work = exchange(rt);
+    assert!(rt; add_states(&mut work));
+    work
+}
+
+/// What is expected of the counter of the exchange.
+pub const EXCHANGED: [u16; 1] = [9];
+
+/// What is expected of the counters of both.
+pub const EXPECTED: [u16; 2] = [9, 3];
 
 /// The state and the station address of the slave at a place, where there is one.
 pub fn shown(ring: &Ring, place: usize) -> Option<(AlState, u16)> {

@@ -44,7 +44,7 @@ fn startup_objects_are_written_in_their_order(rt: HostRuntime) {
     let line = wanted_with(&rt, Told::Startup(1, &[SEVEN, EIGHT, NINE]));
     let mut out = Cursor::new([0u8; ROOM]);
     let mut ports = Watched::new(Stage::new(ring_with(&rt, 3, &[]), &[]));
-    let started = start(&mut ports, line.as_slice(), &mut Lines::new(&mut out));
+    let started = start(&mut ports, line.as_slice(), &[], &mut Lines::new(&mut out));
     assert_found(&rt, row, started.is_ok(), true);
     assert_found(
         &rt,
@@ -91,9 +91,11 @@ static ROWS: [Row; 2] = [
         status: 0,
         text: "slaves 3\nring whole\nstations given\nall in Init\nall in Pre-Op\n\
             startup objects written\nall in Safe-Op\nall in Op\n\
-            cycle 15: slave 0 (0x1001) was in Init, brought to Op\n\
-            cycle 31: slave 1 (0x1002) was in Pre-Op, brought to Op\n\
-            cycles 40 good 40 short 0 over 0 fault 0\nitem 0 LRW data a0a1a2 wkc 9 of 9\n",
+            cycle 3: not all in Op\ncycle 3: slave 0 (0x1001) was in Init, brought to Op\n\
+            cycle 4: all in Op again after 1 cycles\ncycle 17: not all in Op\n\
+            cycle 19: slave 1 (0x1002) was in Pre-Op, brought to Op\n\
+            cycle 20: all in Op again after 3 cycles\nleft in Init\n\
+            cycles 40 good 40 short 0 over 0 fault 0 not-in-op 4\ncycle time least 0 mean 0 greatest 0 microseconds, 99 of 100 within 0\nitem 0 LRW data a0a1a2 wkc 9 of 9\n",
     },
 ];
 

@@ -67,7 +67,7 @@ static ROWS: [Row; 4] = [
         down: &[0, 3],
         starts: false,
         all: false,
-        text: "slaves 0\nno copy came back: nothing known\n",
+        text: "nobody answers at A\n",
     },
 ];
 
@@ -75,7 +75,7 @@ static ROWS: [Row; 4] = [
 fn brings_up(rt: &(impl AllocGlobal + Abort), ports: &mut Watched<Stage<'_>>) {
     let line = wanted_with(rt, Told::Same);
     let mut out = Cursor::new([0u8; ROOM]);
-    let started = start(ports, line.as_slice(), &mut Lines::new(&mut out));
+    let started = start(ports, line.as_slice(), &[], &mut Lines::new(&mut out));
     assert!(rt; started.is_ok());
 }
 

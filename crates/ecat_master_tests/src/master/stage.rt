@@ -176,13 +176,17 @@ impl Pace for Count {
         true
     }
 
+    fn late(&mut self) -> Option<u64> {
+        None
+    }
+
     fn now(&mut self) -> u64 {
         0
     }
 }
 
 /// Room for what a run prints.
-pub const ROOM: usize = 2048;
+pub const ROOM: usize = 4096;
 
 /// What was written to a cursor over an array.
 pub fn written(cursor: &Cursor<[u8; ROOM]>) -> &str {
@@ -197,6 +201,9 @@ pub const PLAN: Plan<'static> = Plan {
     recover: true,
     progress: false,
     log: false,
+    states: true,
+    identities: &[],
+    leave: Some(AlState::Init),
 };
 
 /// A change of what the three slaves are to be told.
@@ -273,7 +280,7 @@ fn put_startup(wanted: &mut Wanted, objects: &[StartupObject]) {
 }
 
 /// Runs a master on slaves behind these ports that are to be told this, with what it prints, and asserts its
-/// status. Nothing is run where the exchange is none of one item.
+/// status.
 pub fn assert_runs<W: Write>(
     rt: &impl Abort,
     row: &str,

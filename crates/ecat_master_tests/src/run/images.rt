@@ -1,7 +1,7 @@
 //! The outputs of cycles as a text gives them, and what is wrong with a text.
 
 use crate::asserts::assert_found;
-use crate::master::line::work;
+use crate::master::line;
 use ec_map::{Item, Kind};
 use ec_master::Work;
 use ec_run::{ImageFault, ImagesFault, Outputs, image_length, read_images};
@@ -96,7 +96,7 @@ fn mixed(rt: &impl Abort) -> Work {
 
 #[test]
 fn the_items_send_the_lines_in_turn(rt: HostRuntime) {
-    let (exchange, mixed) = (work(&rt), mixed(&rt));
+    let (exchange, mixed) = (line::exchange(&rt), mixed(&rt));
     assert_found(&rt, "bytes of an image", image_length(&mixed), 4);
     for row in &SENDING {
         let work = if row.mixed { &mixed } else { &exchange };

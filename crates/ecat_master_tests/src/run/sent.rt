@@ -4,7 +4,7 @@ ghost use Rattle.std.specs.Prelude.{⊤};
 ghost use Rattle.ec_run.specs.Cycles.{AddUp};
 
 use crate::asserts::assert_found;
-use crate::master::line::{EXPECTED, work};
+use crate::master::line::{EXCHANGED, exchange};
 use ec_master::{CycleFault, PortFault, Ports, Verdict};
 use ec_ring::Came;
 use ec_run::{Cycles, Outputs};
@@ -47,10 +47,10 @@ fn makes(ports: &mut Counting, cycles: &mut Cycles, gains: u16) -> Result<Verdic
     ensures { AddUp cycles.new.counts }
 {
     ports.gains = gains;
-    if cycles.asked.len() != EXPECTED.len() || cycles.counts.cycles > 9 {
+    if cycles.asked.len() != EXCHANGED.len() || cycles.counts.cycles > 9 {
         return Err(CycleFault::Port);
     }
-    cycles.cycle(ports, Outputs::Count, &EXPECTED)
+    cycles.cycle(ports, Outputs::Count, &EXCHANGED)
 }
 
 /// Asserts what the ports were sent last.
@@ -79,7 +79,7 @@ static SENT: [u8; 17] = [
 
 #[test]
 fn a_cycle_sends_its_number_in_its_round_and_the_image_is_that_of_a_good_one(rt: HostRuntime) {
-    let mut cycles = Cycles::new(work(&rt));
+    let mut cycles = Cycles::new(exchange(&rt));
     let mut ports = Counting {
         gains: 0,
         sent: None,

@@ -11,16 +11,6 @@ loop-cycles-init g c = (
   refl,
 )
 
-pub loop-cycles-preserved-then-is_look_due : goal.loop-cycles-preserved-then-is_look_due
-loop-cycles-preserved-then-is_look_due g c = (
-  run_goes_on (WatchedTrips g.P.HeardPorts.trips) c.args.plan.now.outputs c.args.expected.now
-      c.args.cycles.now c.loop-cycles.cycles c.cycle_in-ended.new.self _ _ _ c.loop-cycles.invariant.0
-      c.cycle_in-ended.ensures.cycle c.cycle_in-ended.ensures.adds_up,
-  cycle_is_last (WatchedTrips g.P.HeardPorts.trips) c.args.plan.now.outputs c.args.expected.now
-      c.args.cycles.now c.loop-cycles.cycles c.cycle_in-ended.new.self _ _ _ c.loop-cycles.invariant.0
-      c.cycle_in-ended.ensures.cycle,
-)
-
 pub loop-cycles-preserved : goal.loop-cycles-preserved
 loop-cycles-preserved g c = (
   run_goes_on (WatchedTrips g.P.HeardPorts.trips) c.args.plan.now.outputs c.args.expected.now
@@ -31,32 +21,24 @@ loop-cycles-preserved g c = (
       c.cycle_in-ended.ensures.cycle,
 )
 
-pub returns-in_err-tell-clause-cycles : goal.returns-in_err-tell-clause-cycles
-returns-in_err-tell-clause-cycles g c =
+pub returns-in_err-is_last-clause-cycles : goal.returns-in_err-is_last-clause-cycles
+returns-in_err-is_last-clause-cycles g c =
     is_run (WatchedTrips g.P.HeardPorts.trips) c.args.plan.now.outputs c.args.expected.now c.args.cycles.now
     c.cycle_in-ended.new.self
     (run_goes_on (WatchedTrips g.P.HeardPorts.trips) c.args.plan.now.outputs c.args.expected.now
     c.args.cycles.now c.loop-cycles.cycles c.cycle_in-ended.new.self _ _ _ c.loop-cycles.invariant.0
     c.cycle_in-ended.ensures.cycle c.cycle_in-ended.ensures.adds_up)
 
-pub returns-in_err-recover_next-clause-cycles : goal.returns-in_err-recover_next-clause-cycles
-returns-in_err-recover_next-clause-cycles g c =
+pub returns-then-is_last-clause-cycles : goal.returns-then-is_last-clause-cycles
+returns-then-is_last-clause-cycles g c =
     is_run (WatchedTrips g.P.HeardPorts.trips) c.args.plan.now.outputs c.args.expected.now c.args.cycles.now
     c.cycle_in-ended.new.self
     (run_goes_on (WatchedTrips g.P.HeardPorts.trips) c.args.plan.now.outputs c.args.expected.now
     c.args.cycles.now c.loop-cycles.cycles c.cycle_in-ended.new.self _ _ _ c.loop-cycles.invariant.0
     c.cycle_in-ended.ensures.cycle c.cycle_in-ended.ensures.adds_up)
 
-pub returns-then-ne-clause-cycles : goal.returns-then-ne-clause-cycles
-returns-then-ne-clause-cycles g c =
-    is_run (WatchedTrips g.P.HeardPorts.trips) c.args.plan.now.outputs c.args.expected.now c.args.cycles.now
-    c.cycle_in-ended.new.self
-    (run_goes_on (WatchedTrips g.P.HeardPorts.trips) c.args.plan.now.outputs c.args.expected.now
-    c.args.cycles.now c.loop-cycles.cycles c.cycle_in-ended.new.self _ _ _ c.loop-cycles.invariant.0
-    c.cycle_in-ended.ensures.cycle c.cycle_in-ended.ensures.adds_up)
-
-pub returns-then-ne-clause-last : goal.returns-then-ne-clause-last
-returns-then-ne-clause-last g c =
+pub returns-then-is_last-clause-last : goal.returns-then-is_last-clause-last
+returns-then-is_last-clause-last g c =
     cycle_is_last (WatchedTrips g.P.HeardPorts.trips) c.args.plan.now.outputs c.args.expected.now
     c.args.cycles.now c.loop-cycles.cycles c.cycle_in-ended.new.self _ _ _ c.loop-cycles.invariant.0
     c.cycle_in-ended.ensures.cycle

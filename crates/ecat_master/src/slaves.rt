@@ -1,0 +1,108 @@
+//! Which slaves are in Op while cycles run, and what is told of it.
+
+use crate::telling::put_cycle;
+use crate::words::{put_code, state_name};
+use ec_regs::AlState;
+use ec_ring::MAX_SLAVES;
+use ec_run::Seen;
+use ecat_text::{End, Lines};
+use std::io::{self, Write};
+
+/// What good cycles told of the states of all slaves, and what was told of each.
+#[derive(Drop)]
+pub(crate) struct SlaveStates {
+    /// Whether the last good cycle told that all are in Op.
+    in_op: bool,
+    /// The first cycle that told what the last one did.
+    since: u64,
+    /// How many good cycles told that not all are in Op.
+    cycles: u64,
+    /// What was last told of each slave, by its place.
+    told: [Seen; MAX_SLAVES],
+}
+
+impl SlaveStates {
+    /// All slaves are in Op.
+    pub(crate) fn new() -> SlaveStates {
+        SlaveStates {
+            in_op: true,
+            since: 0,
+            cycles: 0,
+            told: [Seen::In(AlState::Op); MAX_SLAVES],
+        }
+    }
+
+    /// Did the last good cycle tell that all are in Op?
+    pub(crate) fn are_in_op(&self) -> bool {
+        self.in_op
+    }
+
+    /// How many good cycles told that not all are in Op, where cycles tell it.
+    pub(crate) fn cycles_if(&self, states: bool) -> Option<u64> {
+        if states { Some(self.cycles) } else { None }
+    }
+
+    /// Takes whether a good cycle told that all are in Op, and tells where that has changed.
+    pub(crate) fn take<W: Write>(
+        &mut self,
+        cycle: u64,
+        in_op: bool,
+        lines: &mut Lines<'_, W>,
+    ) -> io::Result<()> {
+        if !in_op {
+            self.cycles = self.cycles.saturating_add(1);
+        }
+        if in_op == self.in_op {
+            return Ok(());
+        }
+        let lasted = cycle.saturating_sub(self.since);
+        self.in_op = in_op;
+        self.since = cycle;
+        put_cycle(cycle, lines)?;
+        if in_op {
+            self.told = [Seen::In(AlState::Op); MAX_SLAVES];
+            lines.text(format_args!("all in Op again after {lasted} cycles"))?;
+        } else {
+            lines.text("not all in Op")?;
+        }
+        lines.end()
+    }
+
+    /// Tells what was seen of a slave, unless that was told of it last.
+    pub(crate) fn tell<W: Write>(
+        &mut self,
+        cycle: u64,
+        place: u16,
+        station: u16,
+        seen: Seen,
+        lines: &mut Lines<'_, W>,
+    ) -> io::Result<()> {
+        let at = usize::from(place);
+        if at >= MAX_SLAVES || self.told[at] == seen || seen == Seen::Unheard {
+            return Ok(());
+        }
+        self.told[at] = seen;
+        put_cycle(cycle, lines)?;
+        lines.text(End::AtSlave(at, station))?;
+        put_seen(seen, lines)?;
+        lines.end()
+    }
+}
+
+/// Puts what was seen of a slave.
+fn put_seen<W: Write>(seen: Seen, lines: &mut Lines<'_, W>) -> io::Result<()> {
+    match seen {
+        Seen::Unheard => Ok(()),
+        Seen::Nobody => lines.text(" does not answer"),
+        Seen::Several => lines.text(" is not alone: another slave has its station"),
+        Seen::In(state) => {
+            let state = state_name(state);
+            lines.text(format_args!(" is in {state}"))
+        }
+        Seen::Error(state, code) => {
+            let state = state_name(state);
+            lines.text(format_args!(" is in {state} with error "))?;
+            put_code(code, lines)
+        }
+    }
+}
