@@ -9,3 +9,4 @@ pub mod TurnLemmas
 pub mod ReadBackLemmas
 pub mod RoomLemmas
 pub mod SpellLemmas
+pub mod SealLemmas

@@ -1,6 +1,8 @@
 pub mod Numbers
 pub mod Copies
 pub mod Join
+pub mod Seals
+pub mod Single
 pub mod Items
 pub mod Cut
 pub mod Room

@@ -1,5 +1,5 @@
 -- How the check of a line by its records ends.
-use Rattle.std.specs.Prelude.{List, Option, None, Some}
+use Rattle.std.specs.Prelude.{ℕ, List, Option, None, Some}
 use Rattle.ec_check.specs.Fit.{IsFit, IsFirstFault}
 use Rattle.ec_check.specs.Line.{controllers_by}
 use Rattle.ec_check.specs.declared.fault.MapFault.{MapFault}
@@ -66,3 +66,8 @@ map_answer (Some (ReadAndWritten reader fmmu writer writer_fmmu bit)) =
       other_number = writer_fmmu;
       place = bit;
     }
+
+-- a line of more slaves than a line can have, and how many they are
+abbrev pub long_line : ℕ → MapAnswer
+long_line count =
+    record { rule = 8; slave = 0; number = 0; other_slave = 0; other_number = 0; place = count }

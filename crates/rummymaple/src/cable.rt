@@ -1,9 +1,10 @@
 //! Where the cable is broken, by what came back of a broadcast read that was sent both ways round the ring.
 
-ghost use Rattle.std.specs.Prelude.{◌≡◌, ℕ, List, None, Some};
+ghost use Rattle.std.specs.Prelude.{◌≡◌, ◌⊎◌, ℕ, List, None, Some, true};
+ghost use Rattle.ec_wire.specs.Datagram.{nth};
 ghost use Rattle.ec_wire.specs.Fault.{IsSpelt};
 ghost use Rattle.rummymaple.specs.Cable.{IsHeard, IsKnown, AreHeard, IsCable, none_heard, cable_answer};
-ghost use Rattle.rummymaple.specs.Cable.{place_of};
+ghost use Rattle.rummymaple.specs.Cable.{place_of, is_asked, IsNotAsked};
 ghost use Rattle.rummymaple.specs.Numbers.{form_of};
 ghost use Rattle.rummymaple.specs.declared.cable.Cable.{Cable};
 
@@ -11,7 +12,7 @@ use crate::numbers::{Code, Copy, form_of};
 use crate::packet::blank;
 use ec_diag::{Heard, Located};
 use ec_ring::Port;
-use ec_wire::{Form, FrameBuf, WireFault};
+use ec_wire::{Command, Form, FrameBuf, WireFault};
 
 /// How the search for a broken link ended.
 #[derive(Clone, Copy)]
@@ -20,6 +21,8 @@ pub enum CableEnd {
     Told(Located),
     /// What is said to be sent is no frame.
     NotSent(WireFault),
+    /// What is said to be sent does not begin with a broadcast read, or with one that circulates already.
+    NotBroadcast,
     /// There is no such form.
     BadForm,
 }
@@ -92,6 +95,7 @@ impl Cable {
         let (located, at, code) = match self.end {
             CableEnd::Told(located) => (located, 0, Code::Good),
             CableEnd::NotSent(fault) => (Located::Unknown, fault.at, Code::NotSent),
+            CableEnd::NotBroadcast => (Located::Unknown, 0, Code::NotBroadcast),
             CableEnd::BadForm => (Located::Unknown, 0, Code::BadForm),
         };
         let place = place_of(located);
@@ -162,8 +166,18 @@ fn known(slaves: usize, a: Option<Heard>, b: Option<Heard>) -> Located
     by_a.and_heard(slaves, b)
 }
 
+/// Does a frame begin with a broadcast read that does not circulate yet?
+fn begins_with_read(sent: &FrameBuf) -> bool
+    ensures { result ≡ is_asked (nth sent.now 0) }
+{
+    // For the prover: a frame that is counted has a datagram.
+    let _count = sent.count();
+    sent.command(0).code() == Command::Brd.code() && !sent.circulating(0)
+}
+
 /// What the packets at both ports tell of a line of so many slaves.
 fn hear_both(sent: &FrameBuf, form: Form, a: &[u8], b: &[u8], slaves: usize) -> Cable
+    requires { is_asked (nth sent.now 0) ≡ true }
     ensures { (bytes : List ℕ) → IsSpelt form bytes sent.now
         → AreHeard form bytes a.now b.now slaves result }
 {
@@ -177,20 +191,31 @@ fn hear_both(sent: &FrameBuf, form: Form, a: &[u8], b: &[u8], slaves: usize) -> 
     }
 }
 
+/// What the packets at both ports tell, where the frame that was sent can tell of the cable.
+fn hear_frame(sent: &FrameBuf, form: Form, a: &[u8], b: &[u8], slaves: usize) -> Cable
+    ensures { (bytes : List ℕ) → IsSpelt form bytes sent.now
+        → AreHeard form bytes a.now b.now slaves result ⊎ IsNotAsked form bytes result }
+{
+    if !begins_with_read(sent) {
+        return none_heard(CableEnd::NotBroadcast);
+    }
+    hear_both(sent, form, a, b, slaves)
+}
+
 /// What the packets at both ports tell that came back of the frame that these bytes spell.
 fn hear_packets(form: Form, sent: &[u8], a: &[u8], b: &[u8], slaves: usize) -> Cable
     ensures { IsCable (Some form) sent.now a.now b.now slaves result }
 {
     let mut frame = blank();
     match frame.refill(sent, form) {
-        Ok(()) => hear_both(&frame, form, a, b, slaves),
+        Ok(()) => hear_frame(&frame, form, a, b, slaves),
         Err(fault) => none_heard(CableEnd::NotSent(fault)),
     }
 }
 
 /// Says where the cable of a line of so many slaves is broken, as far as the packets tell that came back of
 /// a frame: `sent` are its bytes, `a` what came at port A and `b` what came at port B, each of length 0 where
-/// nothing came. The frame's first datagram is a broadcast read; of any other nothing is known.
+/// nothing came. A frame whose first datagram is no broadcast read is refused.
 #[unsafe(no_mangle)]
 pub extern "C" fn rmp_where(
     form: u32,

@@ -14,7 +14,7 @@ use ec_merge::{Counter, Flag, Irq, JoinFault, Merge, join_bytes};
 use ec_wire::{Command, FrameBuf, ado_of};
 
 /// The part of an address that slaves leave as it is.
-fn fixed_address(command: Command, address: u32) -> u32
+pub(crate) fn fixed_address(command: Command, address: u32) -> u32
     ensures { result ≡ fixed_address command address }
 {
     if command.counts_adp() {

@@ -8,7 +8,9 @@
 //!
 //! ```text
 //! let made = rmp_frame(&items, &image, 0, &mut sent);
-//! // .. the frame goes out both ways round the ring, and packets come back ..
+//! let out = rmp_seal(seal, &sent[..made.bytes], &mut sealed);
+//! // .. each copy goes out under its seal, one each way round the ring, and a packet comes back ..
+//! let a = rmp_open(UDP, seal, &sent[..made.bytes], &packet, &mut opened);
 //! let came = rmp_join(UDP, &sent[..made.bytes], &a, &b, &mut joined);
 //! let verdict = rmp_judge(&mut items, 0, &joined[..came.bytes]);
 //! let stored = rmp_store(&items, 0, &joined[..came.bytes], &mut image);
@@ -20,9 +22,13 @@
 //!   with its data from the image;
 //! - [`rmp_join`]: a packet is a copy exactly where it spells a frame (`ec_wire`, `IsSpelt`); the bytes spell
 //!   the joined frame (`ec_merge`, `joined_frame`), or the stranger is named (`IsFault`);
+//! - [`rmp_seal`], [`rmp_open`]: a copy goes out under a seal (`ec_seal`, `sealed_by`), and a packet is
+//!   opened exactly where it came of that sealed frame (`CameOf`, `opened_by`), under one seal alone
+//!   ([`packets_open_under_one_seal`]);
 //! - [`rmp_judge`]: the verdict is that on the items' counters (`ec_master`, `verdict_from`), and only what
 //!   came back is written into the items;
 //! - [`rmp_store`]: the image gets the data of those items that read, and nothing else;
+//! - [`rmp_single`]: the bytes spell the frame of that one datagram, of any command: what a start-up asks;
 //! - [`rmp_read`]: the datagrams of the frame that the bytes spell and where their data lie, or the first
 //!   fault with its place (`ec_wire`, `IsFirstFault`);
 //! - [`rmp_where`]: what is known of the links is exactly that the packets can arrive so (`ec_diag`,
@@ -37,11 +43,11 @@
 //!   `ec_master::run_cycle` over ports that give what came, with all that this certifies.
 //!
 //! Each export answers by a struct of numbers, and its contract says of which end they are the numbers
-//! (`Join`, `Frame`, `Judge`, `Read`, `Cable`, `Turn`, `Mapping` and `Asked` of specs/). What an item is
-//! stands in `Items`, the controller of a slave's records in `ec_check` (`Records`), what a joined frame
-//! gives an item in `Answers`, the calls in their order in `Cycle`, and turns in `Turns`. A call needs less
-//! than 8 KB of stack: nothing that has the size of a frame is moved or made twice where it can stay in its
-//! place.
+//! (`Join`, `Seals`, `Single`, `Frame`, `Judge`, `Read`, `Cable`, `Turn`, `Mapping` and `Asked` of specs/).
+//! What an item is stands in `Items`, the controller of a slave's records in `ec_check` (`Records`), what a
+//! joined frame gives an item in `Answers`, the calls in their order in `Cycle`, and turns in `Turns`. A call
+//! needs less than 8 KB of stack: nothing that has the size of a frame is moved or made twice where it can
+//! stay in its place.
 
 mod answered;
 mod asked;
@@ -57,10 +63,13 @@ mod judge;
 mod layout;
 mod mapping;
 mod numbers;
+mod open;
 mod packet;
 mod promises;
 mod read;
 mod room;
+mod seal;
+mod single;
 mod spell;
 mod store;
 
@@ -78,10 +87,15 @@ pub use join::{Join, JoinAnswer, JoinEnd, rmp_join};
 pub use judge::{ItemAnswer, JudgeEnd, rmp_judge};
 pub use mapping::{MapAnswer, rmp_check};
 pub use numbers::{Code, Copy};
+pub use open::{OpenEnd, rmp_open};
+pub use packet::WrittenAnswer;
 pub use promises::{
-    calls_are_a_cycle, records_are_the_line, turns_are_a_cycle, what_is_told_is_so,
+    calls_are_a_cycle, packets_open_under_one_seal, records_are_the_line, turns_are_a_cycle,
+    what_is_told_is_so,
 };
 pub use read::{DatagramPlace, ReadAnswer, ReadEnd, rmp_read};
+pub use seal::{SealEnd, rmp_seal};
+pub use single::{SingleEnd, rmp_single};
 pub use store::{StoreEnd, rmp_store};
 
 #[cfg(test)]

@@ -1,11 +1,12 @@
 //! Is a line mapped as a cycle needs it, by its slaves' records alone?
 
-ghost use Rattle.std.specs.Prelude.{◌≡◌, Option};
+ghost use Rattle.std.specs.Prelude.{◌≡◌, ◌<◌, ◌≤◌, Option, length};
 ghost use Rattle.ec_check.specs.declared.fault.MapFault.{MapFault};
-ghost use Rattle.rummymaple.specs.Mapping.{IsChecked, map_answer};
+ghost use Rattle.rummymaple.specs.Mapping.{IsChecked, map_answer, long_line};
 
 use ec_check::Records;
 use ec_map::{MapFault, check};
+use ec_ring::MAX_SLAVES;
 
 /// What the check of a line found, in numbers: `struct rmp_mapping` of the header. Slaves, FMMUs and sync
 /// managers are numbered from 0; what a rule does not name is 0, or that of the first party.
@@ -23,7 +24,8 @@ pub struct MapAnswer {
     /// The lowest address (rules 3 and 4) or bit, 8 * byte + bit (rules 5 to 7).
     pub place: u64,
     /// The rule that is broken, 1 to 7 in their order, or 0 where none is: a twin station, a bad FMMU, areas
-    /// that meet, an FMMU outside its area, a bit written twice, read twice, read and written.
+    /// that meet, an FMMU outside its area, a bit written twice, read twice, read and written; or 8, before
+    /// all of these: the line has more slaves than [`MAX_SLAVES`], and `place` says how many.
     pub rule: u32,
 }
 
@@ -109,11 +111,17 @@ fn first_fault(line: &[Records]) -> Option<MapFault>
     }
 }
 
-/// Says whether a line of slaves, of which these are the records, is mapped as a cycle needs it: that none of
-/// seven rules is broken, or the first that is, with its parties and its place.
+/// Says whether a line of slaves, of which these are the records, is mapped as a cycle needs it: that it is
+/// no longer than a line can be and none of seven rules is broken, or the first that is, with its parties and
+/// its place.
 #[unsafe(no_mangle)]
 pub extern "C" fn rmp_check(line: &[Records]) -> MapAnswer
-    ensures { (fault : Option MapFault) × (result ≡ map_answer fault) × IsChecked line.now fault }
+    ensures long { MAX_SLAVES < length line.now → result ≡ long_line (length line.now) }
+    ensures checked { length line.now ≤ MAX_SLAVES
+        → (fault : Option MapFault) × (result ≡ map_answer fault) × IsChecked line.now fault }
 {
+    if line.len() > MAX_SLAVES {
+        return numbered(8, (0, 0), (0, 0), line.len() as u64);
+    }
     map_answer(first_fault(line))
 }

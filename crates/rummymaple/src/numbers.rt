@@ -68,6 +68,16 @@ pub enum Code {
     OutsideWrite,
     /// No item asks for a logical bit that is mapped.
     NotAsked,
+    /// The number of a seal is none.
+    BadSeal,
+    /// A packet is a frame, but not of the sealed one.
+    OtherFrame,
+    /// A packet is of such a frame, but went out under a seal with another counter.
+    OtherCounter,
+    /// The frame that is said to be sent does not begin with a broadcast read.
+    NotBroadcast,
+    /// The code of a command is none.
+    BadCommand,
 }
 
 impl Code {

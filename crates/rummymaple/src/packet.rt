@@ -7,6 +7,18 @@ ghost use Rattle.rummymaple.specs.Join.{IsPut};
 use ec_diag::probe;
 use ec_wire::FrameBuf;
 
+/// How the writing of a frame into a room ended, in numbers: `struct rmp_written` of the header.
+#[repr(C)]
+#[derive(Clone, Copy)]
+pub struct WrittenAnswer {
+    /// How many bytes were written.
+    pub bytes: usize,
+    /// The first datagram that differs, or the byte at fault.
+    pub at: usize,
+    /// How it ended.
+    pub code: u32,
+}
+
 /// A frame to read into: it is refilled in its place, so that a read moves no frame.
 pub(crate) fn blank() -> FrameBuf {
     probe()

@@ -1,8 +1,10 @@
 //! What the calls in their order come to, each promise the contract of a function that does nothing.
 
-ghost use Rattle.std.specs.Prelude.{◌≡◌, ◌≤◌, ◌<◌, ℕ, List, [], ◌∷◌, map, length, Ok};
+ghost use Rattle.std.specs.Prelude.{◌≡◌, ◌≤◌, ◌<◌, ℕ, List, [], ◌∷◌, map, length, Ok, Some};
 ghost use Rattle.std.specs.List.{AllByRecursion};
 ghost use Rattle.ec_wire.specs.Datagram.{DatagramRecord};
+ghost use Rattle.ec_wire.specs.Fault.{IsSpelt};
+ghost use Rattle.ec_wire.specs.Spelling.{spelling};
 ghost use Rattle.ec_wire.specs.declared.fault.Form.{Form};
 ghost use Rattle.ec_esc.specs.State.{ControllerState};
 ghost use Rattle.ec_esc.specs.declared.counting.TheConstants.{MOST_CONTROLLERS};
@@ -21,7 +23,13 @@ ghost use Rattle.ec_master.specs.Rounds.{round_counter, AreRecent, AreOfRound};
 ghost use Rattle.ec_master.specs.Suffice.{in_turn, SaysOfEach};
 ghost use Rattle.ec_master.specs.Work.{with_answers};
 ghost use Rattle.ec_master.specs.declared.verdict.Verdict.TheVariants.{Good};
+ghost use Rattle.ec_seal.specs.Came.{CameOf};
+ghost use Rattle.ec_seal.specs.Network.{Sent, IsSent, HasOwnSeal, IsOfSome, ArrivesAs};
+ghost use Rattle.ec_seal.specs.Seal.{sealed_by};
+ghost use Rattle.ec_seal.specs.declared.seal.TheConstants.{SEALS};
 ghost use Rattle.rummymaple.specs.Cable.{AreHeard, IsArrival};
+ghost use Rattle.rummymaple.specs.Join.{IsPut};
+ghost use Rattle.rummymaple.specs.Seals.{IsOpened};
 ghost use Rattle.rummymaple.specs.Turn.{Held};
 ghost use Rattle.rummymaple.specs.Turns.{AreTurns};
 ghost use Rattle.rummymaple.specs.Cycle.{AreCalls, AreGood, as_ports_give};
@@ -30,10 +38,13 @@ ghost use Rattle.rummymaple.specs.Mapping.{line_of};
 ghost use Rattle.rummymaple.specs.ReadBack.{AreOfLine};
 ghost use Rattle.rummymaple.specs.declared.cable.Cable.{Cable};
 ghost use Rattle.rummymaple.specs.declared.item.Item.{Item};
+ghost use Rattle.rummymaple.specs.declared.open.OpenEnd.TheVariants.{Opened};
 ghost use Rattle.ec_check.specs.declared.records.Records.{Records};
 
 use ec_diag::promises::trips_are_heard;
 use ec_master::certificate::frames_suffice;
+use ec_seal::{copies_are_told, frames_can_be_sealed, seals_are_apart};
+use ec_wire::one_spelling;
 
 /// Calls in their order are a cycle over ports that give what came: where each frame is made behind the one
 /// before it, what came back of it is joined, and the verdict on each is good, so is that of `run_cycle`
@@ -104,3 +115,28 @@ pub fn records_are_the_line()
     ensures unfit { (records : List Records) (line : List ControllerState) → AreOfLine records line
         → IsFit line → IsFit (line_of records) }
 {}
+
+/// A packet opens under one seal alone, and as what arrives of the frame without it. What [`rmp_open`] opens
+/// under a seal came of no frame under another (`one`): so no late copy is opened whose seal is not that of
+/// this one. And where it came of this copy, or of others that are out and have other seals, what is put into
+/// the room is what arrives of the frame, unsealed, on the way of this copy (`told`).
+///
+/// [`rmp_open`]: crate::rmp_open
+pub fn packets_open_under_one_seal()
+    ensures one { (form : Form) (m n : ℕ) (sent packet before later : List ℕ) (count : ℕ)
+        (other copy : List DatagramRecord)
+        → IsOpened (Some form) m sent packet before (Opened count) later
+        → n < SEALS → 0 < length other → IsSpelt form packet copy → CameOf (sealed_by n other) copy
+        → m ≡ n }
+    ensures told { (form : Form) (c : Sent) (others : List Sent) (sent packet before later : List ℕ)
+        (count : ℕ) (copy : List DatagramRecord) → IsSent c → AllByRecursion IsSent others
+        → HasOwnSeal c others → IsSpelt form sent c.frame → IsSpelt form packet copy
+        → IsOfSome (c ∷ others) copy
+        → IsOpened (Some form) c.seal sent packet before (Opened count) later
+        → (came : List DatagramRecord) × ArrivesAs c came × IsPut (spelling came) before count later }
+{
+    one_spelling();
+    frames_can_be_sealed();
+    seals_are_apart();
+    copies_are_told();
+}

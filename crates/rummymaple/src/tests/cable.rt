@@ -86,6 +86,17 @@ fn what_is_no_answer_tells_nothing(rt: HostRuntime) {
 }
 
 #[test]
+fn a_frame_that_is_no_broadcast_read_tells_nothing_of_a_cable(rt: HostRuntime) {
+    let mut read = SENT;
+    read[2] = 4;
+    let answer = rmp_where(UDP, &read, &read, &[], SLAVES);
+    assert_same(&rt, (answer.code, answer.cable, answer.copy_a), (33, 0, 0));
+    let mut turned = SENT;
+    turned[9] = 0x40;
+    assert_same(&rt, rmp_where(UDP, &turned, &[], &[], SLAVES).code, 33);
+}
+
+#[test]
 fn the_header_states_the_size_of_the_answer(rt: HostRuntime) {
     assert_same(&rt, size_of::<CableAnswer>(), 40);
 }

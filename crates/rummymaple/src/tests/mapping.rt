@@ -46,6 +46,17 @@ fn a_line_of_records_is_checked(rt: HostRuntime) {
     assert_same(&rt, (crossed.rule, crossed.place), (6, 524288));
 }
 
+#[test]
+fn a_line_of_257_slaves_is_too_long(rt: HostRuntime) {
+    let none = Records {
+        station: 0,
+        fmmus: [0; 128],
+        sync_managers: [0; 64],
+    };
+    let long = rmp_check(&[none; 257]);
+    assert_same(&rt, (long.rule, long.place), (8, 257));
+}
+
 /// An item of this kind counts so much there.
 fn counts(rt: &impl Abort, kind: u16, counter: u32) {
     let found = rmp_expected(&[slave(0x1001)], &logical(kind)).counter;
