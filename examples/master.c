@@ -1,13 +1,17 @@
 /*
  * A master over UDP with a redundant ring, by rummymaple.h: 1,000 cycles over a cable that breaks in between.
  *
- *     ECAT=./ecat master [PORT]
+ *     ECAT=./ecat master [PORT [WAIT]]
  *
  * It starts `ecat serve scenes/serve/bench.scene --control`, a line of five slaves, breaks two of its links
- * while it cycles and mends them, and prints each change: the verdict, and where the cable is broken. Run it
- * at the top of the repository. The status is 0 where the line was short for a while, and good at last.
+ * while it cycles and mends them, and prints each change: the verdict, and where the cable is broken. With
+ * WAIT, the milliseconds for which a copy is awaited, it prints each cycle, and its inputs. Run it at the top
+ * of the repository. The status is 0 where the line was short for a while, and good at last. It is C11 and
+ * C++17.
  */
+#ifndef _POSIX_C_SOURCE
 #define _POSIX_C_SOURCE 200809L
+#endif
 #include "rummymaple.h"
 #include <arpa/inet.h>
 #include <poll.h>
@@ -15,25 +19,30 @@
 #include <stdlib.h>
 #include <string.h>
 #include <sys/socket.h>
+#include <time.h>
 
 enum { OUTPUTS, INPUTS, ITEMS };
-enum { SLAVES = 5, CYCLES = 1000, WAIT_MS = 200 };
+enum { SLAVES = 5, CYCLES = 1000 };
 
-/* The process image: a byte out and a byte in for each slave. */
+/* How late a packet may come: no seal is given again before. And how long a copy is awaited. */
+enum { LATE_MS = 1000 };
+static uint64_t wait_ms = 200;
+
+/* The process image, a byte out and a byte in for each slave, and the items that exchange them. */
 static uint8_t image[2 * SLAVES];
-static struct rmp_item items[ITEMS] = {
-    [OUTPUTS] = {.kind = RMP_LWR, .address = 0x10000, .offset = 0, .length = SLAVES, .expected = SLAVES},
-    [INPUTS] = {.kind = RMP_LRD, .address = 0x20000, .offset = SLAVES, .length = SLAVES, .expected = SLAVES},
-};
+static struct rmp_item items[ITEMS];
 
 /* The AL status of all slaves: the copies of this read alone in its frame tell where the cable is broken. */
 static uint8_t status[2];
-static struct rmp_item probe = {.kind = RMP_BRD, .address = 0x0130, .length = 2, .expected = SLAVES};
+static struct rmp_item probe;
 
-/* The frame that is out, what came at each port, and what both are joined to. */
-static uint8_t sent[RMP_FRAME_SIZE], joined[RMP_FRAME_SIZE];
-static struct packet {
-    uint8_t bytes[RMP_FRAME_SIZE + 1];
+/* The frame of a trip, what of it is out, a packet that came, and what both copies are joined to. */
+static uint8_t sent[RMP_FRAME_SIZE], sealed[RMP_FRAME_SIZE], joined[RMP_FRAME_SIZE];
+static uint8_t packet[RMP_FRAME_SIZE + 1];
+
+/* The copies of the trip that came, by the port at which they came, opened. */
+static struct copy {
+    uint8_t bytes[RMP_FRAME_SIZE];
     size_t size;
 } came[2];
 
@@ -42,39 +51,85 @@ static void give_up(void) {
     exit(3);
 }
 
+static struct rmp_item item(enum rmp_kind kind, uint32_t address, uint32_t offset, uint16_t length) {
+    struct rmp_item made;
+    memset(&made, 0, sizeof made);
+    made.kind = (uint16_t)kind;
+    made.address = address;
+    made.offset = offset;
+    made.length = length;
+    made.expected = SLAVES; /* each slave reads, or writes, once */
+    return made;
+}
+
+/* Milliseconds of a clock that is never set. */
+static uint64_t now(void) {
+    struct timespec time;
+    clock_gettime(CLOCK_MONOTONIC, &time);
+    return (uint64_t)time.tv_sec * 1000 + (uint64_t)time.tv_nsec / 1000000;
+}
+
+static void pause_for(uint64_t milliseconds) { poll(NULL, 0, (int)milliseconds); }
+
 /* A socket that is connected to one end of the line. */
 static int connect_to(int port) {
-    struct sockaddr_in end = {.sin_family = AF_INET, .sin_port = htons((uint16_t)port)};
+    struct sockaddr_in end;
     int port_socket = socket(AF_INET, SOCK_DGRAM, 0);
+    memset(&end, 0, sizeof end);
+    end.sin_family = AF_INET;
+    end.sin_port = htons((uint16_t)port);
     end.sin_addr.s_addr = htonl(INADDR_LOOPBACK);
     if (port_socket < 0 || connect(port_socket, (struct sockaddr *)&end, sizeof end) != 0)
         give_up();
     return port_socket;
 }
 
-/* The next packet at a port, or none in time. */
-static void receive(int port, int wait, struct packet *packet) {
-    struct pollfd ready = {.fd = port, .events = POLLIN};
-    ssize_t size = poll(&ready, 1, wait) > 0 ? recv(port, packet->bytes, sizeof packet->bytes, 0) : 0;
-    packet->size = size > 0 ? (size_t)size : 0;
+/* The seal of the next trip's copy from port A; that from port B has the next one. They are given in turn,
+ * and none again while a packet under it may come. */
+static uint32_t next_seal(void) {
+    static uint64_t free_at[RMP_TRIPS];
+    static uint32_t trip;
+    uint32_t given = trip;
+    while (now() < free_at[given])
+        pause_for(1);
+    free_at[given] = now() + LATE_MS;
+    trip = (trip + 1) % RMP_TRIPS;
+    return 2 * given;
 }
 
-/* The frame goes out at both ports and comes back; what is late of frames before is dropped. */
+/* Opens what came at a port, where it is a copy of this trip that did not come yet. */
+static void take(struct copy *copy, size_t packet_size, uint32_t seal, size_t sent_size, int has_come[2]) {
+    for (int c = 0; c < 2 && copy->size == 0; c++)
+        if (!has_come[c]) {
+            copy->size = rmp_open(RMP_UDP, seal + (uint32_t)c, sent, sent_size, packet, packet_size,
+                                  copy->bytes, sizeof copy->bytes)
+                             .bytes;
+            has_come[c] = copy->size > 0;
+        }
+}
+
+/* The frame goes out at both ports, each copy under its seal, and comes back. What is late is passed over. */
 static void travel(const int ports[2], size_t size) {
+    uint32_t seal = next_seal();
+    uint64_t begun = now();
+    int has_come[2] = {0, 0};
+    for (int p = 0; p < 2; p++) {
+        struct rmp_written out = rmp_seal(seal + (uint32_t)p, sent, size, sealed, sizeof sealed);
+        send(ports[p], sealed, out.bytes, 0); /* where it fails, the copy is lost */
+    }
     for (int p = 0; p < 2; p++)
-        do
-            receive(ports[p], 0, &came[p]);
-        while (came[p].size);
-    for (int p = 0; p < 2; p++)
-        if (send(ports[p], sent, size, 0) < 0)
-            perror("master: a copy is lost");
-    for (int p = 0; p < 2; p++)
-        receive(ports[p], WAIT_MS, &came[p]);
+        for (came[p].size = 0; came[p].size == 0;) {
+            struct pollfd ready = {ports[p], POLLIN, 0};
+            uint64_t gone = now() - begun;
+            if (poll(&ready, 1, gone < wait_ms ? (int)(wait_ms - gone) : 0) <= 0)
+                break; /* the copy is lost */
+            ssize_t got = recv(ports[p], packet, sizeof packet, 0);
+            take(&came[p], got > 0 ? (size_t)got : 0, seal, size, has_come);
+        }
 }
 
 /* Where the cable is broken, in words. */
 static void find_break(const int ports[2], char *told, size_t room) {
-    probe.sent += 2048; /* as the items' counters step */
     struct rmp_framed made = rmp_frame(&probe, 1, status, sizeof status, 0, sent, sizeof sent);
     travel(ports, made.bytes);
     struct rmp_located place = rmp_where(RMP_UDP, sent, made.bytes, came[0].bytes, came[0].size,
@@ -94,7 +149,7 @@ static void cycle(const int ports[2], char *told, size_t room) {
     struct rmp_joined answer = rmp_join(RMP_UDP, sent, made.bytes, came[0].bytes, came[0].size, came[1].bytes,
                                         came[1].size, joined, sizeof joined);
     if (answer.code != RMP_GOOD) {
-        snprintf(told, room, "not joined: code %u at %zu", (unsigned)answer.code, answer.at);
+        snprintf(told, room, "not joined: %s (%zu)", rmp_code_text(answer.code), answer.at);
         return;
     }
     struct rmp_answer verdict = rmp_judge(items, ITEMS, 0, joined, answer.bytes);
@@ -102,9 +157,9 @@ static void cycle(const int ports[2], char *told, size_t room) {
         rmp_store(items, ITEMS, 0, joined, answer.bytes, image, sizeof image);
         snprintf(told, room, "good");
     } else {
-        const struct rmp_item *item = &items[verdict.at];
+        const struct rmp_item *one = &items[verdict.at];
         snprintf(told, room, "%s: item %zu came %u of %u", verdict.code == RMP_SHORT ? "short" : "over",
-                 verdict.at, (unsigned)(uint16_t)(item->came - item->sent), (unsigned)item->expected);
+                 verdict.at, (unsigned)(uint16_t)(one->came - one->sent), (unsigned)one->expected);
     }
     find_break(ports, told + strlen(told), room - strlen(told));
 }
@@ -121,26 +176,44 @@ static FILE *serve(int port) {
     return line;
 }
 
+/* Cycles until one is good: the line is there, and has learnt who speaks at its ends. */
+static void await_line(const int ports[2], char *told, size_t room) {
+    for (uint64_t begun = now(); now() - begun < 10000; pause_for(20)) {
+        cycle(ports, told, room);
+        if (strcmp(told, "good") == 0)
+            return;
+    }
+}
+
+static void print_cycle(int k, const char *told, int with_inputs) {
+    printf("cycle %d: %s", k, told);
+    for (int slave = 0; with_inputs && slave < SLAVES; slave++)
+        printf("%s%02x", slave ? "" : ", inputs ", image[SLAVES + slave]);
+    putchar('\n');
+}
+
 int main(int count, char **words) {
-    int port = count > 1 ? atoi(words[1]) : 34980, short_seen = 0;
+    const char *commands[] = {"link 2 down\n", "link 4 down\n", "link 4 up\n", "link 2 up\n"};
+    int port = count > 1 ? atoi(words[1]) : 34980, prints_each = count > 2, short_seen = 0;
     FILE *line = serve(port);
     int ports[2] = {connect_to(port), connect_to(port + 1)};
     char told[160] = "", before[160] = "";
-    poll(NULL, 0, 500);              /* until the line is there */
-    cycle(ports, told, sizeof told); /* the line learns who speaks at its ends */
+    items[OUTPUTS] = item(RMP_LWR, 0x10000, 0, SLAVES);
+    items[INPUTS] = item(RMP_LRD, 0x20000, SLAVES, SLAVES);
+    probe = item(RMP_BRD, 0x0130, 0, sizeof status);
+    if (prints_each)
+        wait_ms = (uint64_t)atoi(words[2]);
+    await_line(ports, told, sizeof told);
     for (int k = 0; k < CYCLES; k++) {
-        const char *commands[] = {"link 2 down\n", "link 4 down\n", "link 4 up\n", "link 2 up\n"};
         if (k % 200 == 0 && k > 0) {
             fputs(commands[k / 200 - 1], line);
             fflush(line);
-            poll(NULL, 0, 100); /* until it is done */
+            pause_for(100); /* until it is done */
         }
-        for (int item = 0; item < ITEMS; item++) /* a late frame of another cycle shows in its counters */
-            items[item].sent = (uint16_t)(2048 * k);
         memset(image, k & 0xFF, SLAVES);
         cycle(ports, told, sizeof told);
-        if (strcmp(told, before) != 0)
-            printf("cycle %d: %s\n", k, told);
+        if (prints_each || strcmp(told, before) != 0)
+            print_cycle(k, told, prints_each);
         short_seen |= strncmp(told, "short", 5) == 0;
         memcpy(before, told, sizeof before);
     }

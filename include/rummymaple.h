@@ -1,15 +1,17 @@
 /*
  * rummymaple.h: the proved core of an EtherCAT master, for masters in C (C11) and C++ (C++17).
  *
- * Four calls, in the order of a cycle, a reader, a call that says where the cable is broken, three that are a
- * cycle by turns, and four that check the slaves' records and the items before the first cycle. Between the
- * calls of a cycle the master does what it likes: it sends each frame both ways round the ring, works, and
- * receives. With one array for the joined bytes of each frame k:
+ * Four calls, in the order of a cycle, two that tell the copies of one trip from all others, a reader, a
+ * call that says where the cable is broken, three that are a cycle by turns, one that makes the frames of a
+ * start-up, and four that check the slaves' records and the items before the first cycle. Between the calls
+ * of a cycle the master does what it likes: it sends each frame both ways round the ring, works, and
+ * receives. With one array for the joined bytes of each frame k, and two seals for each trip:
  *
  *     for (k = 0, first = 0; first < n; first += made.items, k++) {
  *         made = rmp_frame(items, n, image, sizeof image, first, sent, sizeof sent);
  *         ... where made.code is not RMP_GOOD, give up: made.items is 0 ...
- *         ... send sent[0 .. made.bytes] from both ports, and receive the packets a and b ...
+ *         ... send what rmp_seal makes of sent[0 .. made.bytes], from each port under a seal of its own ...
+ *         ... receive until rmp_open has opened a packet at each port, a and b, or time is up ...
  *         came = rmp_join(RMP_UDP, sent, made.bytes, a, a_size, b, b_size, joined[k], sizeof joined[k]);
  *         verdict = rmp_judge(items, n, first, joined[k], came.bytes);
  *         ... keep first and came.bytes of this frame, as first_of[k] and bytes_of[k] ...
@@ -50,6 +52,13 @@ extern "C" {
 /* The most data bytes of an item. */
 #define RMP_MAX_DATA 1486
 
+/* The most slaves of a line: what is promised of lines ends there. */
+#define RMP_MAX_SLAVES 256
+
+/* How many seals there are, and how many trips have two of their own: trip n has 2 * n and 2 * n + 1. */
+#define RMP_SEALS 16384
+#define RMP_TRIPS 8192
+
 /* How a call ended: the member `code` of each answer. */
 enum rmp_code {
     RMP_GOOD = 0,       /* done; of rmp_judge: each counter moved by what is expected */
@@ -84,15 +93,23 @@ enum rmp_code {
     /* of rmp_check_item, `at` being the first slave of the item's station: */
     RMP_OUTSIDE_READ = 27,  /* it reads neither registers nor one buffered area that the master reads */
     RMP_OUTSIDE_WRITE = 28, /* it does not write one buffered area that the master writes */
-    RMP_NOT_ASKED = 29      /* of rmp_covered: no item asks for a logical bit that is mapped */
+    RMP_NOT_ASKED = 29,     /* of rmp_covered: no item asks for a logical bit that is mapped */
+    RMP_BAD_SEAL = 30,      /* there is no such seal: the number is RMP_SEALS or more */
+    /* of rmp_open: the packet is a frame, but no copy of the sealed one; it may be late. Datagram `at` is the
+       first that differs: */
+    RMP_OTHER_FRAME = 31,   /* by command, index, length or address, or since one of the frames ends there */
+    RMP_OTHER_COUNTER = 32, /* by its counter, which is not 0 to 1,023 past that of the seal */
+    RMP_NOT_BROADCAST = 33, /* of rmp_where: the frame does not begin with a BRD that goes out */
+    RMP_BAD_COMMAND = 34    /* of rmp_single: there is no such command */
 };
 
 /* What an item does: the codes of its commands on the wire (IEC 61158-4-12). */
 enum rmp_kind {
     RMP_FPRD = 4, /* reads the slave with a station address */
     RMP_FPWR = 5, /* writes it */
-    RMP_BRD = 7,  /* reads a register of all slaves; its data come back or-ed, with those that were sent too:
-                     zero them in the image before each frame */
+    RMP_BRD = 7,  /* reads a register of all slaves; its data come back or-ed, with those that were sent too,
+                     and rmp_store puts them where they are sent from: ZERO THEM IN THE IMAGE BEFORE EACH
+                     FRAME, or bits that all slaves have cleared stay set */
     RMP_LRD = 10, /* reads what FMMUs map to logical addresses */
     RMP_LWR = 11, /* writes it */
     RMP_LRW = 12  /* does both */
@@ -132,9 +149,10 @@ struct rmp_item {
     uint16_t length;   /* how many data bytes it has, 1 to RMP_MAX_DATA */
     uint16_t kind;     /* of enum rmp_kind */
     uint16_t expected; /* by how much its working counter has to move; of LRW a slave adds 1 for reading and 2
-                          for writing, else 1 */
-    uint16_t sent;     /* the working counter with which it goes out: (uint16_t)(2048 * k) in cycle k, so that
-                          a late copy shows. With small steps it may make up for a slave that was missed */
+                          for writing, else 1 (rmp_expected). AN ITEM THAT IS EXPECTED TO MOVE BY 0 IS GOOD
+                          WHERE NOTHING CAME BACK: so is one whose `expected` was forgotten */
+    uint16_t sent;     /* the working counter with which it goes out. Under seals leave it 0. Without them:
+                          (uint16_t)(2048 * k) in cycle k, so that a copy up to fifteen cycles late shows */
     uint16_t came;     /* written by rmp_judge: the working counter with which it came back; it has moved by
                           (uint16_t)(came - sent) */
     uint16_t passed;   /* written by rmp_judge: of BRD how many slaves it passed, else 0 */
@@ -146,6 +164,13 @@ struct rmp_framed {
     size_t items;  /* how many items it carries, from `first` on */
     size_t at;     /* the item that is at fault */
     uint32_t code; /* RMP_GOOD, RMP_NO_ROOM, RMP_TOO_MANY, RMP_NO_ITEM or RMP_BAD_.. of an item */
+};
+
+/* What rmp_seal, rmp_open and rmp_single answer. */
+struct rmp_written {
+    size_t bytes;  /* how many bytes of the frame were written */
+    size_t at;     /* the datagram that `code` is about, or the byte at fault */
+    uint32_t code; /* of enum rmp_code */
 };
 
 /* What rmp_join answers. */
@@ -187,7 +212,7 @@ struct rmp_located {
     size_t first;    /* the first link that is down, where it is known, else 0 */
     size_t last;     /* the last link that is down, where it is known, else 0 */
     size_t at;       /* the byte at fault of what is said to be sent */
-    uint32_t code;   /* RMP_GOOD, RMP_BAD_FORM or RMP_NOT_SENT */
+    uint32_t code;   /* RMP_GOOD, RMP_BAD_FORM, RMP_NOT_SENT or RMP_NOT_BROADCAST */
     uint32_t cable;  /* of enum rmp_cable */
     uint32_t copy_a; /* of enum rmp_copy: what came at port A */
     uint32_t copy_b; /* and at port B */
@@ -209,7 +234,8 @@ struct rmp_records {
     uint8_t sync_managers[8][8];  /* its sync manager records, which it has from 0x0800 on */
 };
 
-/* The rules of a mapping, in the order in which they are tested. Only active FMMUs and areas count. */
+/* The rules of a mapping, in the order in which they are tested, the last one first. Only active FMMUs and
+ * areas count. */
 enum rmp_rule {
     RMP_FIT = 0,             /* none is broken */
     RMP_TWIN_STATION = 1,    /* two slaves have one station address */
@@ -220,7 +246,8 @@ enum rmp_rule {
                                 that reads may read 0x080D alone instead, which tells of waiting mail */
     RMP_TWICE_WRITTEN = 5,   /* two FMMUs of a slave write its memory's bit `place` */
     RMP_TWICE_READ = 6,      /* two FMMUs of the line read logical bit `place` */
-    RMP_READ_AND_WRITTEN = 7 /* logical bit `place` is read from one slave and written to another */
+    RMP_READ_AND_WRITTEN = 7, /* logical bit `place` is read from one slave and written to another */
+    RMP_LONG_LINE = 8        /* the line has `place` slaves, more than RMP_MAX_SLAVES; tested before all */
 };
 
 /* What rmp_check answers. Slaves and their FMMUs and sync managers are numbered from 0, bits are 8 * byte
@@ -284,10 +311,52 @@ struct rmp_framed rmp_frame(const struct rmp_item *items, size_t n, const uint8_
                             size_t first, uint8_t *room, size_t room_size);
 
 /*
+ * Puts the frame `sent` under a seal at the front of `room`: what goes out in its place. A seal is a number
+ * below RMP_SEALS: each datagram gets its low 8 bits as index, and as working counter 1,024 times its high 6
+ * bits, whatever it had; all else is as in `sent`. The slaves serve a sealed frame as they serve the frame.
+ *
+ * Give each copy that goes out a seal of its own: trip n those of 2 * (n % RMP_TRIPS) and one more, from port
+ * A and from port B. Give no seal again before a packet under it can come no more: by the time that a packet
+ * may be late, or since both copies of its trip came. A master that starts anew waits that time first. Frames
+ * of every sort bear seals: those of cycles, of the start-up, and those for rmp_where.
+ *
+ * Proved: the bytes spell exactly that frame (`sealed_by` of ec_seal). Else the first of these that is so:
+ * RMP_BAD_SEAL; RMP_NOT_SENT: `sent` is no frame, byte `at` being the first at fault; RMP_NO_ROOM. Any end
+ * but RMP_GOOD leaves `room` as it is.
+ */
+struct rmp_written rmp_seal(uint32_t seal, const uint8_t *sent, size_t sent_size, uint8_t *room,
+                           size_t room_size);
+
+/*
+ * Opens a packet that came back: says whether it is a copy of the frame `sent` that went out under this
+ * seal, and puts what it is without the seal at the front of `room`: each datagram with the index that was
+ * sent, and with the counter that was sent plus what it has gained, modulo 65,536. What is opened goes into
+ * the calls below, each copy once:
+ *
+ *     for (copy = 0; copy < 2; copy++)
+ *         if (!came[copy]) {
+ *             open = rmp_open(RMP_UDP, seal + copy, sent, sent_size, packet, packet_size, a, sizeof a);
+ *             ... where open.code is RMP_GOOD: came[copy] = 1, and a_size = open.bytes ...
+ *         }
+ *
+ * In an unbroken ring copy A comes at port B, and copy B at port A. A packet that neither seal opens is late,
+ * or not of this master: drop it, and receive the next one.
+ *
+ * Proved: RMP_GOOD exactly where the packet spells a frame that came of the sealed one (`CameOf`, `opened_by`
+ * of ec_seal): as many datagrams, each with its command, index, length and address, but for the ADP where
+ * slaves count it up, and with a counter that has gained 1,023 at most. Over at most 256 slaves each copy is
+ * so of its own seal, and of no other. Else the first of these that is so: RMP_BAD_FORM, RMP_BAD_SEAL,
+ * RMP_NOT_SENT, RMP_FAULT_.. of the packet (RMP_FAULT_SHORT of length 0), RMP_OTHER_FRAME, RMP_OTHER_COUNTER,
+ * RMP_NO_ROOM. Any end but RMP_GOOD leaves `room` as it is.
+ */
+struct rmp_written rmp_open(uint32_t form, uint32_t seal, const uint8_t *sent, size_t sent_size,
+                           const uint8_t *packet, size_t packet_size, uint8_t *room, size_t room_size);
+
+/*
  * Joins the packets `a` and `b` that came back of the frame `sent`, and puts the joined frame at the front of
  * `room`. A packet of length 0 is a lost copy; one that is no frame counts as lost, and is told so. Where
  * both are lost, the joined frame is the sent one, and rmp_judge says short. A copy that comes a cycle late
- * is no stranger: empty both ports before a frame is sent, and step `sent` of the items.
+ * is no stranger here: rmp_open tells it.
  *
  * Proved: each data bit, event request and circulating bit differs from the sent one exactly if it does in a
  * copy; each working counter, and the ADP where slaves count it up, has moved as far as in both copies
@@ -319,6 +388,20 @@ struct rmp_answer rmp_store(const struct rmp_item *items, size_t n, size_t first
                             size_t joined_size, uint8_t *image, size_t image_size);
 
 /*
+ * Puts the frame of one datagram at the front of `room`, of any command of the standard: what a start-up
+ * asks, as APWR (2) of the station address at 0x0010, FPWR (5) of AL control at 0x0120, FPRD (4) and BRD (7)
+ * of AL status at 0x0130. `address` is the logical one, or ADP + 65,536 * ADO; APWR reaches the n-th slave,
+ * counted from 0, with ADP (uint16_t)-n. The index and the working counter are 0: under a seal they are the
+ * seal's.
+ *
+ * Proved: the bytes spell exactly that frame. Else the first of these that is so: RMP_BAD_COMMAND: the code
+ * is above 14; RMP_BAD_LENGTH: no data, or more than RMP_MAX_DATA bytes; RMP_NO_ROOM. Any end but RMP_GOOD
+ * leaves `room` as it is.
+ */
+struct rmp_written rmp_single(uint32_t command, uint32_t address, const uint8_t *payload,
+                              size_t payload_size, uint8_t *room, size_t room_size);
+
+/*
  * Reads the bytes of a frame: puts its datagrams, and where their data lie, at the front of `room`, which
  * RMP_MAX_DATAGRAMS always suffice for.
  *
@@ -334,11 +417,12 @@ struct rmp_reading rmp_read(uint32_t form, const uint8_t *bytes, size_t size, st
  *     struct rmp_cycle cycle = rmp_cycle_begin(RMP_UDP);
  *     while (cycle.state == RMP_UNDER_WAY) {
  *         made = rmp_cycle_next(&cycle, items, n, image, size, sent, sizeof sent);
- *         ... where made.code is not RMP_GOOD, give up; send sent[0 .. made.bytes], receive a and b ...
+ *         ... where made.code is not RMP_GOOD, give up ...
+ *         ... send sent[0 .. made.bytes] under two seals, and open what comes back of it: a and b ...
  *         turn = rmp_cycle_came(&cycle, items, n, sent, made.bytes, a, a_size, b, b_size, waiting, size,
  *                               image, size);
- *         ... of RMP_STRANGER_A (_B) receive another a (b), and call rmp_cycle_came again: do not send again;
- *             of another code above RMP_OVER give up: what is wrong stays ...
+ *         ... of a code above RMP_OVER give up: what is wrong stays; but of RMP_STRANGER_A (_B), which no
+ *             opened packet is, receive another a (b), and call rmp_cycle_came again: do not send again ...
  *     }
  */
 struct rmp_cycle rmp_cycle_begin(uint32_t form);
@@ -375,12 +459,14 @@ struct rmp_turn rmp_cycle_came(struct rmp_cycle *cycle, struct rmp_item *items, 
  * Says where the cable of a line of so many slaves is broken, by a frame `sent` that went out at both ports
  * and begins with a BRD, as rmp_frame makes it of one item:
  *
- *     struct rmp_item states = {.address = 0x0130, .length = 2, .kind = RMP_BRD, .sent = ..};
+ *     struct rmp_item states = {.address = 0x0130, .length = 2, .kind = RMP_BRD};
  *     made = rmp_frame(&states, 1, two_zeros, 2, 0, sent, sizeof sent);
  *
- * `a` is the packet that port A received, at the first slave's end of the line, and
- * `b` the one that port B received. A packet of length 0 tells nothing, nor does one that is no frame, or
- * whose first datagram is not that BRD by command, index, register and length.
+ * `a` is what port A received, at the first slave's end of the line, and `b` what port B received, each
+ * opened by rmp_open: the item's `sent` stays 0. A packet of length 0 tells nothing, nor does one that is no
+ * frame, or whose first datagram is not that BRD by command, index, register and length.
+ *
+ * RMP_NOT_BROADCAST: `sent` is a frame, and begins with no BRD, or with one whose circulating bit is set.
  *
  * Proved: the answer says of the links exactly that the packets can arrive so, each by how far the working
  * counter of its BRD moved, and by whether it turned round. And it is so, over any line of up to 256 slaves,
@@ -396,7 +482,7 @@ struct rmp_located rmp_where(uint32_t form, const uint8_t *sent, size_t sent_siz
  *
  * Proved: the answer is RMP_FIT exactly where no rule is broken, and else the first rule that is, with the
  * smallest numbers from left to right and the lowest address or bit. Of fit lines alone the promises about
- * cycles hold.
+ * cycles hold. Of more than RMP_MAX_SLAVES slaves it is RMP_LONG_LINE.
  *
  * Not looked at: whether an area is written to its last byte (where it is not, a slave counts, and its
  * application is never shown these outputs), and the two further buffers that a controller keeps behind a
@@ -435,6 +521,48 @@ struct rmp_expectation rmp_expected(const struct rmp_records *line, size_t slave
 struct rmp_gap rmp_covered(const struct rmp_records *line, size_t slaves, const struct rmp_item *items,
                            size_t n);
 
+/* What a code says, in a few words, or "no such code". Written by hand, here alone. */
+static inline const char *rmp_code_text(uint32_t code) {
+    static const char *const texts[] = {
+        "good",
+        "a working counter moved by less than is expected",
+        "a working counter moved by more than is expected",
+        "packet a is not of the sent frame",
+        "packet b is not of the sent frame",
+        "the room is too small",
+        "no such form",
+        "what is said to be sent is no frame",
+        "what is said to be joined is no frame",
+        "a datagram is not the answer of its item",
+        "too many items",
+        "no such item",
+        "no such kind of item",
+        "no data, or too many",
+        "the addresses of an item end past those of its kind",
+        "the data of an item do not lie in the image",
+        "the bytes end before the frame does",
+        "the frame's type is not 1",
+        "a reserved bit is set",
+        "the frame states no datagrams",
+        "the frame states too many bytes",
+        "a command above 14",
+        "a datagram reaches past the end of the frame",
+        "the last datagram says that more follow",
+        "bytes are left behind the last datagram",
+        "bytes follow the frame",
+        "the cycle is done or ended",
+        "an item reads where a cycle may not",
+        "an item writes where a cycle may not",
+        "no item asks for a mapped bit",
+        "no such seal",
+        "the packet is no copy of the sealed frame",
+        "the packet is no copy under this seal: its counter is another",
+        "the frame does not begin with a broadcast read",
+        "no such command",
+    };
+    return code < sizeof texts / sizeof texts[0] ? texts[code] : "no such code";
+}
+
 #ifdef __cplusplus
 }
 #define RMP_ASSERT static_assert
@@ -458,6 +586,10 @@ RMP_ASSERT(offsetof(struct rmp_framed, bytes) == 0, "bytes");
 RMP_ASSERT(offsetof(struct rmp_framed, items) == 8, "items");
 RMP_ASSERT(offsetof(struct rmp_framed, at) == 16, "at");
 RMP_ASSERT(offsetof(struct rmp_framed, code) == 24, "code");
+RMP_ASSERT(sizeof(struct rmp_written) == 24, "size of rmp_written");
+RMP_ASSERT(offsetof(struct rmp_written, bytes) == 0, "bytes");
+RMP_ASSERT(offsetof(struct rmp_written, at) == 8, "at");
+RMP_ASSERT(offsetof(struct rmp_written, code) == 16, "code");
 RMP_ASSERT(sizeof(struct rmp_joined) == 32, "size of rmp_joined");
 RMP_ASSERT(offsetof(struct rmp_joined, bytes) == 0, "bytes");
 RMP_ASSERT(offsetof(struct rmp_joined, at) == 8, "at");

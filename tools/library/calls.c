@@ -108,6 +108,69 @@ static void copies(void) {
     CHECK(rmp_join(RMP_UDP, NULL, 0, NULL, 0, NULL, 0, NULL, 0).code == RMP_NOT_SENT);
 }
 
+/* The frame under seal 0x0123, which is index 0x23 and counter 0x0400; and FROM_A under it. */
+static const uint8_t SEALED[] = {
+    28, 0x10,
+    0x0C, 0x23, 0x00, 0x00, 0x01, 0x00, 2, 0x80, 0, 0, 0xAA, 0x55, 0x00, 0x04,
+    0x07, 0x23, 0x00, 0x00, 0x30, 0x01, 2, 0x00, 0, 0, 0x00, 0x00, 0x00, 0x04,
+};
+static const uint8_t SEALED_FROM_A[] = {
+    28, 0x10,
+    0x0C, 0x23, 0x00, 0x00, 0x01, 0x00, 2, 0x80, 0, 0, 0x12, 0x55, 0x03, 0x04,
+    0x07, 0x23, 0x01, 0x00, 0x30, 0x01, 2, 0x00, 0, 0, 0x08, 0x00, 0x01, 0x04,
+};
+
+/* A packet that is not opened: nothing is written. */
+static void unopened(uint32_t seal, const uint8_t *packet, size_t size, uint32_t code, size_t at) {
+    struct rmp_written opened;
+    joined[0] = 0x5A;
+    opened = rmp_open(RMP_UDP, seal, FRAME, sizeof FRAME, packet, size, joined, sizeof joined);
+    CHECK(opened.code == code && opened.at == at && opened.bytes == 0 && joined[0] == 0x5A);
+}
+
+static void sealing(void) {
+    static const uint8_t late_probe[] = {14, 0x10, 0x07, 0x23, 1, 0, 0x30, 0x01, 2, 0, 0, 0, 8, 0, 1, 4};
+    uint8_t other[sizeof FRAME], padded[46] = {0};
+    struct rmp_written out;
+    memset(sent, 0x5A, sizeof sent);
+    out = rmp_seal(0x0123, FRAME, sizeof FRAME, sent, sizeof sent);
+    CHECK(out.code == RMP_GOOD && out.bytes == sizeof FRAME && out.at == 0);
+    CHECK(memcmp(sent, SEALED, sizeof SEALED) == 0 && sent[sizeof SEALED] == 0x5A);
+    out = rmp_seal(RMP_SEALS - 1, FRAME, sizeof FRAME, sent, sizeof FRAME);
+    CHECK(out.code == RMP_GOOD && sent[3] == 0xFF && sent[14] == 0x00 && sent[15] == 0xFC);
+    sent[0] = 0x5A;
+    CHECK(rmp_seal(RMP_SEALS, FRAME, sizeof FRAME, sent, sizeof sent).code == RMP_BAD_SEAL);
+    CHECK(rmp_seal(0x10000123, FRAME, sizeof FRAME, sent, sizeof sent).code == RMP_BAD_SEAL);
+    CHECK(rmp_seal(0, FRAME, sizeof FRAME, sent, sizeof FRAME - 1).code == RMP_NO_ROOM);
+    out = rmp_seal(0, FRAME, sizeof FRAME - 1, sent, sizeof sent);
+    CHECK(out.code == RMP_NOT_SENT && out.at == sizeof FRAME - 1 && out.bytes == 0 && sent[0] == 0x5A);
+    CHECK(rmp_seal(0, NULL, 0, NULL, 0).code == RMP_NOT_SENT);
+    memset(joined, 0x5A, sizeof joined);
+    out = rmp_open(RMP_UDP, 0x0123, FRAME, sizeof FRAME, SEALED_FROM_A, sizeof SEALED_FROM_A, joined,
+                   sizeof FRAME);
+    CHECK(out.code == RMP_GOOD && out.bytes == sizeof FROM_A && out.at == 0);
+    CHECK(memcmp(joined, FROM_A, sizeof FROM_A) == 0 && joined[sizeof FROM_A] == 0x5A);
+    memcpy(padded, SEALED_FROM_A, sizeof SEALED_FROM_A);
+    out = rmp_open(RMP_ETHERNET, 0x0123, FRAME, sizeof FRAME, padded, sizeof padded, joined, sizeof joined);
+    CHECK(out.code == RMP_GOOD && out.bytes == sizeof FROM_A);
+    unopened(0x0123, padded, sizeof padded, RMP_FAULT_TRAILING, sizeof FROM_A);
+    unopened(0x0122, SEALED_FROM_A, sizeof SEALED_FROM_A, RMP_OTHER_FRAME, 0); /* the other copy's seal */
+    unopened(0x0023, SEALED_FROM_A, sizeof SEALED_FROM_A, RMP_OTHER_COUNTER, 0); /* of a trip before */
+    unopened(0x0223, SEALED_FROM_A, sizeof SEALED_FROM_A, RMP_OTHER_COUNTER, 0);
+    unopened(0x0123, late_probe, sizeof late_probe, RMP_OTHER_FRAME, 0);
+    unopened(0x0123, NULL, 0, RMP_FAULT_SHORT, 0);
+    unopened(RMP_SEALS, SEALED_FROM_A, sizeof SEALED_FROM_A, RMP_BAD_SEAL, 0);
+    memcpy(other, SEALED_FROM_A, sizeof other);
+    other[29] = 0x08; /* the second datagram has gained 1,025 */
+    unopened(0x0123, other, sizeof other, RMP_OTHER_COUNTER, 1);
+    out = rmp_open(RMP_UDP, 0x0123, FRAME, 9, SEALED_FROM_A, sizeof SEALED_FROM_A, joined, sizeof joined);
+    CHECK(out.code == RMP_NOT_SENT && out.at == 9);
+    CHECK(rmp_open(2, 0, FRAME, sizeof FRAME, NULL, 0, NULL, 0).code == RMP_BAD_FORM);
+    CHECK(rmp_open(RMP_UDP, 0x0123, FRAME, sizeof FRAME, SEALED_FROM_A, sizeof SEALED_FROM_A, joined,
+                   sizeof FRAME - 1)
+              .code == RMP_NO_ROOM);
+}
+
 /* Padding belongs to a frame in an Ethernet packet alone. */
 static void forms(void) {
     uint8_t padded[46] = {0};
@@ -269,9 +332,41 @@ static void cables(void) {
     CHECK(place.code == RMP_NOT_SENT && place.at == 5 && place.cable == RMP_UNKNOWN);
     CHECK(rmp_where(2, PROBE, sizeof PROBE, NULL, 0, NULL, 0, 3).code == RMP_BAD_FORM);
     place = rmp_where(RMP_UDP, FRAME, sizeof FRAME, FROM_A, sizeof FROM_A, FROM_B, sizeof FROM_B, 2);
-    CHECK(place.code == RMP_GOOD && place.cable == RMP_UNKNOWN); /* it does not begin with a BRD */
+    CHECK(place.code == RMP_NOT_BROADCAST && place.cable == RMP_UNKNOWN && place.copy_a == RMP_LOST);
     place = rmp_where(RMP_UDP, PROBE, sizeof PROBE, PROBE, 15, NULL, 0, SIZE_MAX);
     CHECK(place.code == RMP_GOOD && place.copy_a == RMP_NO_FRAME && place.cable == RMP_UNKNOWN);
+}
+
+/* Frames of one datagram: the fourth slave's station address, and the longest one. */
+static void singles(void) {
+    static const uint8_t station[] = {14, 0x10, 2, 0, 0xFD, 0xFF, 0x10, 0, 2, 0, 0, 0, 0x04, 0x10, 0, 0};
+    static const uint8_t data[RMP_MAX_DATA + 1] = {0x04, 0x10};
+    struct rmp_written frame;
+    memset(sent, 0x5A, sizeof sent);
+    frame = rmp_single(2, 0x0010FFFD, data, 2, sent, sizeof sent);
+    CHECK(frame.code == RMP_GOOD && frame.bytes == sizeof station && frame.at == 0);
+    CHECK(memcmp(sent, station, sizeof station) == 0 && sent[sizeof station] == 0x5A);
+    frame = rmp_single(14, 0, data, RMP_MAX_DATA, sent, sizeof sent);
+    CHECK(frame.code == RMP_GOOD && frame.bytes == RMP_FRAME_SIZE && sent[8] == 0xCE && sent[9] == 0x05);
+    CHECK(rmp_single(14, 0, data, RMP_MAX_DATA + 1, sent, sizeof sent).code == RMP_BAD_LENGTH);
+    CHECK(rmp_single(2, 0, data, 0, sent, sizeof sent).code == RMP_BAD_LENGTH);
+    CHECK(rmp_single(2, 0, NULL, 0, NULL, 0).code == RMP_BAD_LENGTH);
+    CHECK(rmp_single(15, 0, data, 2, sent, sizeof sent).code == RMP_BAD_COMMAND);
+    CHECK(rmp_single(258, 0, data, 2, sent, sizeof sent).code == RMP_BAD_COMMAND);
+    CHECK(rmp_single(2, 0, data, 2, sent, 15).code == RMP_NO_ROOM);
+}
+
+/* Each code has a text of its own. */
+static void texts(void) {
+    for (uint32_t code = 0; code <= RMP_BAD_COMMAND; code++)
+        for (uint32_t other = 0; other < code; other++)
+            CHECK(strcmp(rmp_code_text(code), rmp_code_text(other)) != 0);
+    CHECK(strcmp(rmp_code_text(RMP_GOOD), "good") == 0);
+    CHECK(strcmp(rmp_code_text(RMP_BAD_PLACE), "the data of an item do not lie in the image") == 0);
+    CHECK(strcmp(rmp_code_text(RMP_FAULT_SHORT), "the bytes end before the frame does") == 0);
+    CHECK(strcmp(rmp_code_text(RMP_NOT_UNDER_WAY), "the cycle is done or ended") == 0);
+    CHECK(strcmp(rmp_code_text(RMP_BAD_COMMAND), "no such command") == 0);
+    CHECK(strcmp(rmp_code_text(RMP_BAD_COMMAND + 1), "no such code") == 0);
 }
 
 /* A byte more than a frame holds goes onto the next one. */
@@ -293,7 +388,7 @@ static void cut(void) {
 
 /* ---- the mapping: records written out by hand */
 
-static struct rmp_records line[RMP_MAX_ITEMS];
+static struct rmp_records line[RMP_MAX_SLAVES + 1];
 
 /* An active sync manager: start, length, control (0x04 the master writes, 0x00 it reads), activate. */
 static void area(int slave, int k, uint16_t start, uint8_t length, uint8_t control) {
@@ -429,7 +524,7 @@ static void coverage(void) {
 
 /* A full line, each slave with all its FMMUs in use, and the time that its check takes. */
 static void full_line(void) {
-    enum { SLAVES = RMP_MAX_ITEMS, ROUNDS = 20 };
+    enum { SLAVES = RMP_MAX_SLAVES, ROUNDS = 20 };
     clock_t begun_at;
     double milliseconds;
     memset(line, 0, sizeof line);
@@ -447,6 +542,7 @@ static void full_line(void) {
     milliseconds = 1000.0 * (double)(clock() - begun_at) / CLOCKS_PER_SEC / ROUNDS;
     printf("time of rmp_check of %d slaves: %.2f ms\n", SLAVES, milliseconds);
     CHECK(milliseconds < 20);
+    CHECK(rmp_check(line, SLAVES + 1).rule == RMP_LONG_LINE && rmp_check(line, SLAVES + 1).place == 257);
     maps(SLAVES - 1, 7, 0x00010004, 0x1100, 1); /* what the first slave's FMMU 4 reads */
     CHECK(rmp_check(line, SLAVES).rule == RMP_TWICE_READ);
     CHECK(rmp_check(line, SLAVES).other_slave == SLAVES - 1 && rmp_check(line, SLAVES).other_number == 7);
@@ -459,6 +555,7 @@ static uint8_t stack[65536];
 static ucontext_t here, there;
 static struct rmp_framed made;
 static struct rmp_joined came;
+static struct rmp_written marked;
 static struct rmp_answer told;
 static struct rmp_reading seen;
 static struct rmp_located located;
@@ -476,13 +573,19 @@ static void call_join(void) {
     came = rmp_join(RMP_UDP, FRAME, sizeof FRAME, FROM_A, sizeof FROM_A, FROM_B, sizeof FROM_B, joined,
                     sizeof joined);
 }
+static void call_seal(void) { marked = rmp_seal(0x0123, FRAME, sizeof FRAME, sent, sizeof sent); }
+static void call_open(void) {
+    marked = rmp_open(RMP_UDP, 0x0123, FRAME, sizeof FRAME, SEALED_FROM_A, sizeof SEALED_FROM_A, joined,
+                      sizeof joined);
+}
+static void call_single(void) { marked = rmp_single(2, 0, FRAME, sizeof FRAME, sent, sizeof sent); }
 static void call_judge(void) { told = rmp_judge(items, 2, 0, JOINED, sizeof JOINED); }
 static void call_store(void) { told = rmp_store(items, 2, 0, JOINED, sizeof JOINED, image, sizeof image); }
 
 static void call_read(void) { seen = rmp_read(RMP_UDP, JOINED, sizeof JOINED, places, 2); }
 
 static void call_where(void) {
-    located = rmp_where(RMP_UDP, JOINED, sizeof JOINED, FROM_A, sizeof FROM_A, FROM_B, sizeof FROM_B, 3);
+    located = rmp_where(RMP_UDP, PROBE, sizeof PROBE, PROBE, sizeof PROBE, PROBE, sizeof PROBE, 3);
 }
 
 static void call_check(void) { mapped = rmp_check(line, 2); }
@@ -530,9 +633,12 @@ int main(void) {
     begin();
     cycle();
     copies();
+    sealing();
     forms();
     refusals();
     cut();
+    singles();
+    texts();
     reading();
     cables();
     turns();
@@ -542,7 +648,10 @@ int main(void) {
     full_line();
     begin();
     measure("rmp_frame", call_frame);
+    measure("rmp_seal", call_seal);
+    measure("rmp_open", call_open);
     measure("rmp_join", call_join);
+    measure("rmp_single", call_single);
     measure("rmp_judge", call_judge);
     measure("rmp_store", call_store);
     measure("rmp_read", call_read);

@@ -1,5 +1,6 @@
 /* Damaged packets, many of them: each array that the library sees ends where no memory is mapped, and what
- * rmp_join answers is compared with a reader and a join that are written here anew, byte by byte.
+ * rmp_join, rmp_seal and rmp_open answer is compared with a reader, a join and seals that are written here
+ * anew, byte by byte.
  *
  *     damaged [PAIRS [SEED]]
  */
@@ -183,6 +184,8 @@ static int is_located(uint32_t form, const uint8_t *sent, size_t size, const uin
     struct rmp_located place =
         rmp_where(form, sent, size, packets[0], sizes[0], packets[1], sizes[1], (size_t)n);
     int told[2];
+    if (sent[2] != RMP_BRD) /* no frame that goes out circulates */
+        return place.code == RMP_NOT_BROADCAST && place.cable == RMP_UNKNOWN;
     for (int port = 0; port < 2; port++) {
         told[port] = heard(form, sent, packets[port], sizes[port]);
         if (told[port] >= 65536) /* a count that no line has stays one */
@@ -268,8 +271,86 @@ static size_t choose_copy(uint8_t *copy, const uint8_t *sent, size_t size) {
     return size;
 }
 
+/* The bytes of a frame under a seal. */
+static void put_seal(unsigned seal, const uint8_t *sent, size_t size, uint8_t *sealed) {
+    size_t at[MOST + 1];
+    int count = places(sent, size, RMP_UDP, at);
+    memcpy(sealed, sent, size);
+    for (int k = 0; k < count; k++) {
+        sealed[at[k] + 1] = seal & 0xFF;
+        put_word(sealed + at[k + 1] - 2, seal >> 8 << 10);
+    }
+}
+
+/* What a packet is under a seal, and its bytes without it. */
+static struct rmp_written opened(uint32_t form, const uint8_t *sent, const uint8_t *sealed, size_t sent_size,
+                                const uint8_t *packet, size_t size, uint8_t *room) {
+    struct rmp_written answer = {0, 0, RMP_GOOD};
+    size_t at[MOST + 1], other[MOST + 1];
+    int count = places(sealed, sent_size, form, at), found = places(packet, size, form, other), k;
+    if (found == 0) { /* which fault it is, is_read asks */
+        answer.code = RMP_FAULT_SHORT;
+        return answer;
+    }
+    for (k = 0; k < count && k < found; k++)
+        if (!belongs(sealed + at[k], packet + other[k]))
+            break;
+    answer.at = k;
+    answer.code = RMP_OTHER_FRAME;
+    if (k < count || k < found)
+        return answer;
+    answer.code = RMP_OTHER_COUNTER;
+    memcpy(room, packet, at[count]);
+    for (k = 0; k < count; k++) {
+        unsigned gained = word(packet + at[k + 1] - 2) - word(sealed + at[k + 1] - 2);
+        answer.at = k;
+        if ((gained & 0xFFFF) > 1023)
+            return answer;
+        room[at[k] + 1] = sent[at[k] + 1];
+        put_word(room + at[k + 1] - 2, word(sent + at[k + 1] - 2) + gained);
+    }
+    answer.at = 0;
+    answer.code = RMP_GOOD;
+    answer.bytes = at[count];
+    return answer;
+}
+
+/* Whether a frame is sealed, and a packet that came of it is opened, as they should be; 2 where it is a copy.
+ * The room ends with the frame, and is unmapped behind it. */
+static int is_opened(uint32_t form, uint8_t *sent, size_t size, uint8_t *packet_end, uint8_t *room) {
+    static uint8_t sealed[RMP_FRAME_SIZE], packet[1700], wanted[RMP_FRAME_SIZE];
+    uint32_t seal = chance(RMP_SEALS), asked = seal;
+    struct rmp_written out = rmp_seal(seal, sent, size, room, size), open, want;
+    size_t came;
+    uint8_t *edge_packet;
+    put_seal(seal, sent, size, sealed);
+    if (out.code != RMP_GOOD || out.bytes != size || out.at != 0 || memcmp(room, sealed, size) != 0)
+        return 0;
+    came = choose_copy(packet, sealed, size);
+    if (chance(8) == 0 && came == size) /* a counter that moved far */
+        put_word(packet + size - 2, word(packet + size - 2) + chance(2048));
+    if (chance(4) == 0) { /* another trip's, next to it by index or by counter */
+        asked = (seal + (chance(2) ? 256 : 1) * (chance(2) ? 1 : RMP_SEALS - 1)) % RMP_SEALS;
+        put_seal(asked, sent, size, sealed);
+    }
+    edge_packet = packet_end - came;
+    memcpy(edge_packet, packet, came);
+    memset(room, 0xA5, size);
+    memset(wanted, 0xA5, size);
+    open = rmp_open(form, asked, sent, size, edge_packet, came, room, size);
+    want = opened(form, sent, sealed, size, packet, came, wanted);
+    if (want.code != RMP_GOOD)
+        memset(wanted, 0xA5, size); /* nothing is written */
+    if (memcmp(room, wanted, size) != 0 || open.bytes != want.bytes)
+        return 0;
+    if (want.code == RMP_FAULT_SHORT)
+        return open.code >= RMP_FAULT_SHORT && open.code <= RMP_FAULT_TRAILING && open.at <= came;
+    return open.code == want.code && open.at == want.at ? 1 + (open.code == RMP_GOOD) : 0;
+}
+
 int main(int count, char **words) {
-    long pairs = count > 1 ? atol(words[1]) : 1000000, good = 0, stranger = 0, none = 0;
+    long pairs = count > 1 ? atol(words[1]) : 1000000, good = 0, stranger = 0, none = 0, opens = 0;
+    int is_copy;
     uint8_t *sent_end = edge(), *a_end = edge(), *b_end = edge(), *room_end = edge(), *image_end = edge();
     uint8_t *image = image_end - 4096, frame[RMP_FRAME_SIZE], packet[2][1700], wanted[RMP_FRAME_SIZE];
     struct rmp_item items[4];
@@ -320,8 +401,14 @@ int main(int count, char **words) {
         } else {
             rmp_store(items, n, 0, a, sizes[0], image, 4096);
         }
+        is_copy = is_opened(form, sent, made.bytes, b_end, room);
+        if (is_copy == 0) {
+            printf("damaged: pair %ld is not sealed or opened as it should be\n", i);
+            return 1;
+        }
+        opens += is_copy == 2;
     }
-    printf("damaged: %ld pairs, %ld joined, %ld strangers, %ld with a packet that is no frame\n", pairs, good,
-           stranger, none);
+    printf("damaged: %ld pairs, %ld joined, %ld strangers, %ld with a packet that is no frame, %ld opened\n",
+           pairs, good, stranger, none, opens);
     return 0;
 }

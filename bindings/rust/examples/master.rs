@@ -1,61 +1,118 @@
 //! A master over UDP with a redundant ring: 1,000 cycles over a cable that breaks in between.
 //!
-//!     ECAT=./ecat cargo run --offline --manifest-path bindings/rust/Cargo.toml --example master [PORT]
+//!     cargo run --offline --manifest-path bindings/rust/Cargo.toml --example master [PORT [WAIT]]
 //!
-//! It starts `ecat serve scenes/serve/bench.scene --control`, a line of five slaves, breaks two of its links
-//! while it cycles and mends them, and prints each change: the verdict, and where the cable is broken. Run it
-//! at the top of the repository. The status is 0 where the line was short for a while, and good at last.
+//! It starts `ecat serve scenes/serve/bench.scene --control` (`./ecat`, or what ECAT names), a line of five
+//! slaves, breaks two of its links while it cycles and mends them, and prints each change: the verdict, and
+//! where the cable is broken. With WAIT, the milliseconds for which a copy is awaited, it prints each cycle,
+//! and its inputs. Run it at the top of the repository. The status is 0 where the line was short for a while,
+//! and good at last.
 
-use rummymaple::{frame, locate, Cable, Cycle, Fault, Form, Item, Kind, State, Verdict};
+use rummymaple::{frame, locate, open, seal, Cable, Cycle, Fault, Form, Item, Kind, State, Verdict, TRIPS};
 use std::io::{Result, Write};
 use std::net::UdpSocket;
 use std::process::{Child, Command, Stdio};
 use std::thread::sleep;
-use std::time::Duration;
+use std::time::{Duration, Instant};
 
 const SLAVES: usize = 5;
 const ROOM: usize = 1501;
 
-/// Sockets that are connected to both ends of the line.
-struct Ports([UdpSocket; 2]);
+/// How late a packet may come: no seal is given again before.
+const LATE: Duration = Duration::from_millis(1000);
+
+/// Which trip's seals are given next, and when those of each trip were given.
+struct Seals {
+    next: u16,
+    given_at: Vec<Option<Instant>>,
+}
+
+impl Seals {
+    fn new() -> Seals {
+        Seals { next: 0, given_at: vec![None; TRIPS.into()] }
+    }
+
+    /// The seals of the copies from port A and port B: in turn, and none while a packet under it may come.
+    fn give(&mut self) -> [u16; 2] {
+        let (trip, given_at) = (self.next, &mut self.given_at[usize::from(self.next)]);
+        if let Some(given_at) = given_at {
+            sleep(LATE.saturating_sub(given_at.elapsed()));
+        }
+        *given_at = Some(Instant::now());
+        self.next = (trip + 1) % TRIPS;
+        [2 * trip, 2 * trip + 1]
+    }
+}
+
+/// Sockets that are connected to both ends of the line, and the seals of what goes out.
+struct Ports {
+    sockets: [UdpSocket; 2],
+    seals: Seals,
+    /// How long a copy is awaited.
+    wait: Duration,
+}
+
+/// What came at a port: the copy of a frame, opened, or none.
+struct Arrived {
+    bytes: [u8; ROOM],
+    size: usize,
+}
+
+impl Arrived {
+    fn copy(&self) -> &[u8] {
+        &self.bytes[..self.size]
+    }
+}
 
 impl Ports {
-    fn connect(port: u16) -> Result<Ports> {
+    fn connect(port: u16, wait: Duration) -> Result<Ports> {
         let to = |port| {
             let socket = UdpSocket::bind("127.0.0.1:0")?;
             socket.connect(("127.0.0.1", port))?;
             Ok::<_, std::io::Error>(socket)
         };
-        Ok(Ports([to(port)?, to(port + 1)?]))
+        Ok(Ports { sockets: [to(port)?, to(port + 1)?], seals: Seals::new(), wait })
     }
 
-    /// A frame goes out at both ports, and this comes back; what is late of frames before is dropped.
-    fn travel(&self, frame: &[u8], came: &mut [[u8; ROOM]; 2]) -> Result<[usize; 2]> {
-        let mut sizes = [0; 2];
-        for socket in &self.0 {
-            socket.set_nonblocking(true)?;
-            while socket.recv(&mut came[0]).is_ok() {}
-            socket.set_nonblocking(false)?;
-            socket.set_read_timeout(Some(Duration::from_millis(200)))?;
+    /// A frame goes out at both ports, each copy under its seal, and this comes back. What is late is passed
+    /// over, and each copy is taken once.
+    fn travel(&mut self, sent: &[u8]) -> Result<[Arrived; 2]> {
+        let begun = Instant::now();
+        let seals = self.seals.give();
+        let mut awaited = [true; 2];
+        for (socket, number) in self.sockets.iter().zip(seals) {
+            let mut sealed = [0; ROOM];
+            let size = seal(number, sent, &mut sealed).expect("a frame, and its seal");
+            let _ = socket.send(&sealed[..size]); // where it fails, the copy is lost
         }
-        for socket in &self.0 {
-            socket.send(frame)?;
+        let mut arrived = [0, 1].map(|_| Arrived { bytes: [0; ROOM], size: 0 });
+        for (socket, here) in self.sockets.iter().zip(&mut arrived) {
+            let mut packet = [0; ROOM];
+            while here.size == 0 && begun.elapsed() < 2 * self.wait {
+                let rest = self.wait.saturating_sub(begun.elapsed()).max(Duration::from_millis(1));
+                socket.set_read_timeout(Some(rest))?;
+                let Ok(size) = socket.recv(&mut packet) else { break };
+                for (number, awaited) in seals.into_iter().zip(&mut awaited) {
+                    if *awaited && here.size == 0 {
+                        let opened = open(Form::Udp, number, sent, &packet[..size], &mut here.bytes);
+                        here.size = opened.unwrap_or(0);
+                        *awaited = here.size == 0;
+                    }
+                }
+            }
         }
-        for (port, socket) in self.0.iter().enumerate() {
-            sizes[port] = socket.recv(&mut came[port]).unwrap_or(0);
-        }
-        Ok(sizes)
+        Ok(arrived)
     }
 }
 
 /// One cycle as a state machine: its last verdict, or why nothing was joined.
 fn cycle(
-    ports: &Ports,
+    ports: &mut Ports,
     items: &mut [Item],
     waiting: &mut [u8],
     image: &mut [u8],
 ) -> Result<std::result::Result<Verdict, Fault>> {
-    let (mut sent, mut came, mut verdict) = ([0; ROOM], [[0; ROOM]; 2], Verdict::Good);
+    let (mut sent, mut verdict) = ([0; ROOM], Verdict::Good);
     let mut cycle = Cycle::begin(Form::Udp);
     while cycle.state() == State::UnderWay {
         let made = match cycle.next_frame(items, image, &mut sent) {
@@ -63,9 +120,8 @@ fn cycle(
             Err(fault) => return Ok(Err(fault)),
         };
         let sent = &sent[..made.bytes];
-        let sizes = ports.travel(sent, &mut came)?;
-        let (a, b) = (&came[0][..sizes[0]], &came[1][..sizes[1]]);
-        match cycle.came(items, sent, a, b, waiting, image) {
+        let [a, b] = ports.travel(sent)?;
+        match cycle.came(items, sent, a.copy(), b.copy(), waiting, image) {
             Ok(turn) => verdict = turn.verdict,
             Err(fault) => return Ok(Err(fault)),
         }
@@ -73,19 +129,17 @@ fn cycle(
     Ok(Ok(verdict))
 }
 
-/// Where the cable is broken: by the copies of a broadcast read of AL status that is alone in its frame, and
-/// goes out with the counter of the cycle.
-fn find_break(ports: &Ports, counter: u16) -> Result<std::result::Result<Cable, Fault>> {
-    let (mut sent, mut came) = ([0; ROOM], [[0; ROOM]; 2]);
-    let mut probe = [Item::new(Kind::Brd, 0x0130, 0, 2, SLAVES as u16)];
-    probe[0].sent = counter;
+/// Where the cable is broken: by the copies of a broadcast read of AL status that is alone in its frame.
+fn find_break(ports: &mut Ports) -> Result<std::result::Result<Cable, Fault>> {
+    let mut sent = [0; ROOM];
+    let probe = [Item::new(Kind::Brd, 0x0130, 0, 2, SLAVES as u16)];
     let made = match frame(&probe, &[0; 2], 0, &mut sent) {
         Ok(made) => made,
         Err(fault) => return Ok(Err(fault)),
     };
-    let sizes = ports.travel(&sent[..made.bytes], &mut came)?;
-    let (a, b) = (&came[0][..sizes[0]], &came[1][..sizes[1]]);
-    Ok(locate(Form::Udp, &sent[..made.bytes], a, b, SLAVES).map(|place| place.cable))
+    let sent = &sent[..made.bytes];
+    let [a, b] = ports.travel(sent)?;
+    Ok(locate(Form::Udp, sent, a.copy(), b.copy(), SLAVES).map(|place| place.cable))
 }
 
 /// The line: its standard input takes commands.
@@ -96,19 +150,24 @@ fn serve(port: u16) -> Result<Child> {
 }
 
 fn main() -> Result<()> {
-    let port = std::env::args().nth(1).and_then(|word| word.parse().ok()).unwrap_or(34980);
+    let word = |n| std::env::args().nth(n).and_then(|word| word.parse::<u16>().ok());
+    let (port, wait) = (word(1).unwrap_or(34980), word(2));
     let mut line = serve(port)?;
     let mut commands = line.stdin.take().expect("a pipe");
-    sleep(Duration::from_millis(500));
-    let ports = Ports::connect(port)?;
+    let mut ports = Ports::connect(port, Duration::from_millis(wait.unwrap_or(200).into()))?;
     let (count, inputs) = (SLAVES as u16, SLAVES as u32);
     let mut items = [
         Item::new(Kind::Lwr, 0x10000, 0, count, count),
         Item::new(Kind::Lrd, 0x20000, inputs, count, count),
     ];
     let (mut image, mut waiting) = ([0; 2 * SLAVES], [0; 2 * SLAVES]);
-    let (mut before, mut short) = (None, false);
-    let _ = cycle(&ports, &mut items, &mut waiting, &mut image)?; // the line learns who speaks at its ends
+    let (mut before, mut short, begun) = (None, false, Instant::now());
+    // Until one is good: the line is there, and has learnt who speaks at its ends.
+    while cycle(&mut ports, &mut items, &mut waiting, &mut image)? != Ok(Verdict::Good)
+        && begun.elapsed() < Duration::from_secs(10)
+    {
+        sleep(Duration::from_millis(20));
+    }
     for k in 0..1000usize {
         if k % 200 == 0 && k > 0 {
             let command = ["link 2 down", "link 4 down", "link 4 up", "link 2 up"][k / 200 - 1];
@@ -116,14 +175,13 @@ fn main() -> Result<()> {
             commands.flush()?;
             sleep(Duration::from_millis(100));
         }
-        let counter = (2048 * k % 65536) as u16; // a late frame of another cycle shows in its counters
-        for item in &mut items {
-            item.sent = counter;
-        }
         image[..SLAVES].fill(k as u8);
-        let verdict = cycle(&ports, &mut items, &mut waiting, &mut image)?;
-        let told = (verdict, find_break(&ports, counter)?);
-        if before != Some(told) {
+        let verdict = cycle(&mut ports, &mut items, &mut waiting, &mut image)?;
+        let told = (verdict, find_break(&mut ports)?);
+        if wait.is_some() {
+            let inputs: String = image[SLAVES..].iter().map(|byte| format!("{byte:02x}")).collect();
+            println!("cycle {k}: {:?}, {:?}, inputs {inputs}", told.0, told.1);
+        } else if before != Some(told) {
             println!("cycle {k}: {:?}, {:?}", told.0, told.1);
         }
         short |= matches!(told.0, Ok(Verdict::Short(_)));

@@ -39,8 +39,10 @@
 #![no_std]
 
 mod mapping;
+mod seals;
 
 pub use mapping::{check, check_item, covered, expected, Gap, Outside, Party, Records, Unfit};
+pub use seals::{open, seal, single, SEALS, TRIPS};
 
 /// What an item does, by the standard's codes (IEC 61158-4-12).
 #[derive(Clone, Copy, PartialEq, Eq, Debug)]
@@ -50,8 +52,9 @@ pub enum Kind {
     Fprd = 4,
     /// Writes it.
     Fpwr = 5,
-    /// Reads a register of all slaves; its data come back or-ed, with those that were sent too: zero them in
-    /// the image before each frame.
+    /// Reads a register of all slaves; its data come back or-ed, with those that were sent too, and `store`
+    /// puts them where they are sent from: **zero them in the image before each frame**, or bits that all
+    /// slaves have cleared stay set.
     Brd = 7,
     /// Reads what FMMUs map to logical addresses.
     Lrd = 10,
@@ -79,10 +82,10 @@ pub struct Item {
     offset: u32,
     length: u16,
     kind: u16,
-    /// By how much its working counter has to move.
+    /// By how much its working counter has to move. **One that is to move by 0 is good where nothing came.**
     pub expected: u16,
-    /// The working counter with which it goes out: 2,048 times the number of the cycle, modulo 65,536, so
-    /// that a late copy shows.
+    /// The working counter with which it goes out: 0 under seals. Without them 2,048 times the number of the
+    /// cycle, modulo 65,536, so that a copy up to fifteen cycles late shows.
     pub sent: u16,
     /// The working counter with which it came back; it has moved by `came.wrapping_sub(sent)`.
     pub came: u16,
@@ -381,6 +384,18 @@ pub enum Fault {
     BadPlace(usize),
     /// The cycle is done or ended.
     NotUnderWay,
+    /// There is no such seal: its number is 16,384 or more.
+    BadSeal,
+    /// The packet is a frame, but no copy of the sealed one: this datagram is the first that differs by
+    /// command, index, length or address.
+    OtherFrame(usize),
+    /// The packet is of such a frame, but no copy of the sealed one: the counter of this datagram is the
+    /// first that is not 0 to 1,023 past that of the seal.
+    OtherCounter(usize),
+    /// The frame that is said to be sent does not begin with a broadcast read that goes out.
+    NotBroadcast,
+    /// There is no such command: its code is above 14.
+    BadCommand,
     /// A number that the library of this crate does not have: another library was linked.
     Unknown(u32),
 }
@@ -535,6 +550,11 @@ fn fault(code: u32, at: usize) -> Fault {
         24 => Fault::NoFrame(Wrong::LeftOver, at),
         25 => Fault::NoFrame(Wrong::Trailing, at),
         26 => Fault::NotUnderWay,
+        30 => Fault::BadSeal,
+        31 => Fault::OtherFrame(at),
+        32 => Fault::OtherCounter(at),
+        33 => Fault::NotBroadcast,
+        34 => Fault::BadCommand,
         _ => Fault::Unknown(code),
     }
 }
@@ -629,7 +649,7 @@ pub fn store(items: &[Item], first: usize, joined: &[u8], image: &mut [u8]) -> R
 
 /// Says where the cable of a line of so many slaves is broken, by the packets that port A and port B received
 /// of a frame that went out at both, each of length 0 where nothing came. The frame's first datagram is a
-/// broadcast read; what is told is so where it is the only one (docs/LIBRARY.md).
+/// broadcast read, else it is a fault; what is told is so where it is the only one (docs/LIBRARY.md).
 pub fn locate(form: Form, sent: &[u8], a: &[u8], b: &[u8], slaves: usize) -> Result<Located, Fault> {
     // SAFETY: each pointer is that of a slice of that length.
     let told = unsafe {

@@ -41,6 +41,8 @@ pub enum Unfit {
     TwiceRead(Party, Party, u64),
     /// This logical bit is read from the first party's slave and written to the other's.
     ReadAndWritten(Party, Party, u64),
+    /// There are so many slaves, which are more than 256.
+    LongLine(usize),
     /// A rule that the library of this crate does not have: another library was linked.
     Unknown(u32),
 }
@@ -132,6 +134,7 @@ pub fn check(line: &[Records]) -> Result<(), Unfit> {
         5 => Err(Unfit::TwiceWritten(first, other, found.place)),
         6 => Err(Unfit::TwiceRead(first, other, found.place)),
         7 => Err(Unfit::ReadAndWritten(first, other, found.place)),
+        8 => Err(Unfit::LongLine(found.place as usize)),
         rule => Err(Unfit::Unknown(rule)),
     }
 }
