@@ -14,6 +14,8 @@ CASES = []
 ROOT = os.path.dirname(os.path.dirname(os.path.abspath(__file__)))
 
 FILES = """bin/ecat
+lib/ecat/ecat
+lib/ecat/until_signal
 lib/librummymaple.a
 lib/pkgconfig/rummymaple.pc
 include/rummymaple.h
@@ -97,6 +99,8 @@ def what_is_installed_works_and_goes(ecat, folder, _limit):
         version = file.read().strip()
     program = os.path.join(to, "bin/ecat")
     yield "program", left(ecat, "help"), left(program, "help")
+    os.symlink(program, os.path.join(folder, "link"))
+    yield "through a symlink", left(ecat, "help"), left(os.path.join(folder, "link"), "help")
     said = lines_of(to, "lib/pkgconfig/rummymaple.pc", "Version")
     yield "what pkg-config says", f"Version: {version}\n", said
     if has("cc", "nothing is compiled with the installed library"):
@@ -112,6 +116,7 @@ def what_is_installed_works_and_goes(ecat, folder, _limit):
     told = "".join(f"removed {to}/{name}\n" for name in FILES.split())
     yield "uninstall", told + "0\n", install(ecat, folder, "uninstall", f"PREFIX={to}")
     yield "nothing is left", "", files_below(to)
+    yield "nor a folder of its own", "False", str(os.path.exists(os.path.join(to, "lib/ecat")))
 
 
 def lines_of(folder, name, begin):

@@ -65,7 +65,7 @@ class Clone:
             if not found:
                 raise FileNotFoundError(f"no {tool} here, which the launcher's cases want")
             os.symlink(found, os.path.join(self.bin, tool))
-        for name in ("ecat", "tools/sources", "tools/build"):
+        for name in ("ecat", "tools/sources", "tools/build", "tools/until_signal"):
             os.makedirs(os.path.dirname(self.at(name)), exist_ok=True)
             shutil.copy(os.path.join(ROOT, name), self.at(name))
         self.file("HANDLES", "Handles allowed: none.\n")
@@ -410,7 +410,7 @@ def what_is_missing_or_damaged_is_named(clone):
 @case
 def cases_say_what_they_wait_for(clone):
     os.mkdir(clone.at("cases"))
-    for name in ("try", "live.py", "launcher.py", "install.py"):
+    for name in ("try", "live.py", "launcher.py", "install.py", "signals.py"):
         shutil.copy(os.path.join(ROOT, "cases", name), clone.at(f"cases/{name}"))
     os.symlink(shutil.which("python3"), os.path.join(clone.bin, "python3"))
     clone.rt(toolchain(OTHER, seconds=3))
