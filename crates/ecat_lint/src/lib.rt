@@ -4,13 +4,21 @@
 //!
 //! - [`explained`] is the column, the word, and what is wanted in its place, for a line with a fault of
 //!   `ecat_scene`.
-//! - [`odd_lines`] are the lines that set something twice, or something that is never used.
+//! - [`odd_lines`] are the lines that set something twice, or something that is never used; process data that
+//!   no FMMU maps, areas that lie in the buffers of others, and items that nobody serves.
 //!
-//! Nothing of it is stated: the words are tried by tests (`lint` of `ecat_scene_tests`) and in `cases`.
+//! What of a mapping is odd has exact contracts, by the words of specs/: `Mapping`, `Buffers` and `Items`.
+//! The texts, and that each slave and item is asked about, are tried by tests (`lint` of `ecat_scene_tests`)
+//! and in `cases`.
 
+mod buffers;
 mod explain;
 mod forms;
+mod items;
 mod lint;
+mod mapping;
+mod oddity;
+mod records;
 
 pub use explain::{Explanation, explained};
 pub use lint::{OddLine, odd_lines};

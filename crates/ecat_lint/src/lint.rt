@@ -1,106 +1,50 @@
 //! What a scene says that is accepted and yet seldom meant.
 
+use crate::buffers::buffers_meet;
+use crate::items::{fmmus_of, unserved};
+use crate::mapping::{area_differs, fewer_mapped, unmapped};
+use crate::oddity::{Oddity, ProcessData};
+use crate::records::records_of;
 use bitflags::Flags;
 use ec_app::Objects;
 use ec_app::roles::{
-    ANSWER_MAILBOX, INPUTS, OUTPUTS, REQUEST_MAILBOX, fits_inputs, fits_outputs, is_answer_mailbox,
-    is_request_mailbox,
+    ANSWER_MAILBOX, INPUTS, OUTPUTS, REQUEST_MAILBOX, is_answer_mailbox, is_request_mailbox,
 };
-use ec_regs::SyncMan;
+use ec_check::Records;
+use ec_map::Item;
 use ec_regs::registers::{FMMU_COUNT, SYNC_MANAGER_COUNT};
+use ec_regs::{Fmmu, SyncMan};
 use ecat_scene::{
-    StartupObject, Stop, control_of, number, object_of, put_words, startup_of, sync_man_of, text_of,
+    Scene, SceneFault, StartupObject, Stop, control_of, number, object_of, put_words, startup_of,
+    sync_man_of, text_of,
 };
 use std::alloc::{AllocError, Global};
 use std::fmt;
 
-/// What is odd about a line of a scene.
+/// What of a scene an odd line is about, by its number, from 0.
 #[derive(Clone, Copy)]
-enum Oddity {
-    /// The sync manager was set before, in this line.
-    SyncManagerAgain(usize),
-    /// The FMMU was set before, in this line.
-    FmmuAgain(usize),
-    /// The lengths were said before, in this line.
-    AreasAgain(usize),
-    /// The state was said before, in this line.
-    StateAgain(usize),
-    /// The sync manager is never active: too short or too long for what it is.
-    NeverActive,
-    /// The application takes outputs of another length than those of sync manager 2.
-    OutputsDiffer,
-    /// The application gives inputs of another length than those of sync manager 3.
-    InputsDiffer,
-    /// The object is never reached, since the slave has no mailboxes.
-    NoMailboxes,
-    /// The startup object is never written, since the slave has no mailboxes.
-    StartsWithoutMailboxes,
-    /// The startup object is none that the slave has.
-    StartsWithNone,
-    /// The startup object may not be written.
-    StartsReadOnly,
-    /// The startup object has another size.
-    StartsOtherSize,
-}
-
-impl Oddity {
-    /// Where a line does anew what an earlier one did: of what, how it is called, and which line did it.
-    fn earlier(self) -> Option<(&'static str, &'static str, usize)> {
-        match self {
-            Oddity::SyncManagerAgain(line) => Some(("the sync manager is", "set", line)),
-            Oddity::FmmuAgain(line) => Some(("the FMMU is", "set", line)),
-            Oddity::AreasAgain(line) => Some(("the lengths are", "said", line)),
-            Oddity::StateAgain(line) => Some(("the state is", "said", line)),
-            _ => None,
-        }
-    }
-
-    /// What is odd, in a sentence that names no other line.
-    fn sentence(self) -> &'static str {
-        match self {
-            Oddity::NeverActive => "a sync manager of this length is never active",
-            Oddity::OutputsDiffer =>
-                "sync manager 2 is no area of so many outputs: Safe-Op is refused",
-            Oddity::InputsDiffer =>
-                "sync manager 3 is no area of so many inputs: Safe-Op is refused",
-            Oddity::NoMailboxes =>
-                "no object is reached without mailboxes at sync managers 0 and 1",
-            Oddity::StartsWithoutMailboxes => {
-                "no startup object is written without mailboxes at sync managers 0 and 1"
-            }
-            Oddity::StartsWithNone => "the slave has no object of this index and subindex",
-            Oddity::StartsReadOnly => "the object is read only: its write is aborted",
-            Oddity::StartsOtherSize =>
-                "the object has another number of bytes: its write is aborted",
-            _ => "an earlier line did this already",
-        }
-    }
+enum Subject {
+    /// A slave.
+    Slave(usize),
+    /// An item.
+    Item(usize),
 }
 
 /// One line of a scene that is accepted and yet seldom meant; it is printed as a sentence.
 #[derive(Clone, Copy)]
 pub struct OddLine {
     line: usize,
-    slave: usize,
+    subject: Subject,
     oddity: Oddity,
 }
 
 impl fmt::Display for OddLine {
     fn fmt<W: fmt::Write>(&self, f: &mut fmt::Formatter<W>) -> fmt::Result {
         let line = self.line;
-        let slave = self.slave;
-        write!(f, "line {line}: slave {slave}: ")?;
-        match self.oddity.earlier() {
-            Some((what, done, earlier)) => {
-                write!(
-                    f,
-                    "{what} {done} in line {earlier} already, and {done} anew here"
-                )
-            }
-            None => {
-                let sentence = self.oddity.sentence();
-                write!(f, "{sentence}")
-            }
+        let oddity = self.oddity;
+        match self.subject {
+            Subject::Slave(slave) => write!(f, "line {line}: slave {slave}: {oddity}"),
+            Subject::Item(item) => write!(f, "line {line}: item {item}: {oddity}"),
         }
     }
 }
@@ -182,16 +126,40 @@ struct Linter {
     /// How many slaves have begun.
     slaves: usize,
     slave: SlaveLines,
+    /// By what the slaves are mapped; none where the text is no scene.
+    records: Vec<Records>,
+    /// The lines of the items, in their order.
+    items: Vec<usize>,
     found: Vec<OddLine>,
 }
 
-/// What is odd about the lines of a scene that is accepted, in the order of the slaves.
+/// What is odd about the lines of a scene that is accepted, in the order of the slaves; and behind that, of
+/// the items, in their order. Of a text that is no scene the lines alone are looked at, not the mapping.
 pub fn odd_lines(alloc: Global, text: &[u8]) -> Result<Vec<OddLine>, AllocError> {
+    match Scene::read(alloc, text) {
+        Ok(scene) => {
+            let records = records_of(alloc, scene.slaves.as_slice())?;
+            odd_of(alloc, text, records, scene.items.as_slice())
+        }
+        Err(SceneFault::NoMemory) => Err(AllocError),
+        Err(_) => odd_of(alloc, text, Vec::new(alloc), &[]),
+    }
+}
+
+/// What is odd about the lines of a text, whose slaves have these records, and about the items.
+fn odd_of(
+    alloc: Global,
+    text: &[u8],
+    records: Vec<Records>,
+    items: &[Item],
+) -> Result<Vec<OddLine>, AllocError> {
     let mut linter = Linter {
         alloc,
         line: 0,
         slaves: 0,
         slave: SlaveLines::new(alloc),
+        records,
+        items: Vec::new(alloc),
         found: Vec::new(alloc),
     };
     let mut words = Vec::new(alloc);
@@ -199,6 +167,7 @@ pub fn odd_lines(alloc: Global, text: &[u8]) -> Result<Vec<OddLine>, AllocError>
         linter.take(line, &mut words)?;
     }
     linter.end_slave()?;
+    linter.end_items(items)?;
     Ok(linter.found)
 }
 
@@ -224,19 +193,31 @@ impl Linter {
                 Ok(())
             }
             "startup" => self.startup(rest),
+            "lrd" | "lwr" | "lrw" | "brd" | "fprd" | "fpwr" => {
+                self.items.push(self.line)?;
+                Ok(())
+            }
             _ => Ok(()),
         }
     }
 
     /// Keeps an oddity of a line.
     fn keep(&mut self, line: usize, oddity: Oddity) -> Result<(), AllocError> {
-        let slave = self.slaves.saturating_sub(1);
+        let subject = Subject::Slave(self.slaves.saturating_sub(1));
         self.found.push(OddLine {
             line,
-            slave,
+            subject,
             oddity,
         })?;
         Ok(())
+    }
+
+    /// Keeps what is found odd of a line, if anything is.
+    fn keep_found(&mut self, line: usize, found: Option<Oddity>) -> Result<(), AllocError> {
+        match found {
+            Some(oddity) => self.keep(line, oddity),
+            None => Ok(()),
+        }
     }
 
     /// Ends a slave and begins the next one.
@@ -249,26 +230,91 @@ impl Linter {
 
     /// What is odd about a slave whose lines are all known.
     fn end_slave(&mut self) -> Result<(), AllocError> {
-        let areas = self.slave.of_areas;
-        let outputs = self.slave.of_sync_managers[OUTPUTS];
-        let inputs = self.slave.of_sync_managers[INPUTS];
-        if areas != 0
-            && outputs != 0
-            && !fits_outputs(&self.slave.sync_managers[OUTPUTS], self.slave.output_length)
-        {
-            self.keep(areas, Oddity::OutputsDiffer)?;
-        }
-        if areas != 0
-            && inputs != 0
-            && !fits_inputs(&self.slave.sync_managers[INPUTS], self.slave.input_length)
-        {
-            self.keep(areas, Oddity::InputsDiffer)?;
-        }
+        self.end_area(OUTPUTS, ProcessData::Outputs, self.slave.output_length)?;
+        self.end_area(INPUTS, ProcessData::Inputs, self.slave.input_length)?;
         let object = self.slave.of_object;
         if object != 0 && !self.slave.has_mailboxes() {
             self.keep(object, Oddity::NoMailboxes)?;
         }
-        self.end_startup()
+        self.end_startup()?;
+        self.end_mapping()
+    }
+
+    /// What is odd about the length that the application has of process data, where one is said, and the
+    /// sync manager that should guard them, where it is set.
+    fn end_area(
+        &mut self,
+        number: usize,
+        kind: ProcessData,
+        wanted: u16,
+    ) -> Result<(), AllocError> {
+        let said = self.slave.of_areas;
+        if said == 0 || number >= SYNC_MANAGER_COUNT || self.slave.of_sync_managers[number] == 0 {
+            return Ok(());
+        }
+        let manager = self.slave.sync_managers[number];
+        self.keep_found(said, area_differs(number, kind, &manager, wanted))
+    }
+
+    /// What is odd about how a slave is mapped whose lines are all known.
+    fn end_mapping(&mut self) -> Result<(), AllocError> {
+        let Some(records) = self.records.as_slice().get(self.slaves.saturating_sub(1)) else {
+            return Ok(());
+        };
+        let fmmus = fmmus_of(records);
+        self.end_lengths(&fmmus)?;
+        for number in 0..SYNC_MANAGER_COUNT {
+            self.end_sync_manager(number, &fmmus)?;
+        }
+        Ok(())
+    }
+
+    /// What is odd about how many bytes of the application's process data are mapped.
+    fn end_lengths(&mut self, fmmus: &[Fmmu]) -> Result<(), AllocError> {
+        let line = self.slave.of_areas;
+        let outputs = self.slave.sync_managers[OUTPUTS];
+        let inputs = self.slave.sync_managers[INPUTS];
+        let taken = self.slave.output_length;
+        let given = self.slave.input_length;
+        self.keep_found(
+            line,
+            fewer_mapped(ProcessData::Outputs, fmmus, &outputs, taken),
+        )?;
+        self.keep_found(
+            line,
+            fewer_mapped(ProcessData::Inputs, fmmus, &inputs, given),
+        )
+    }
+
+    /// What is odd about how the area of a sync manager is mapped, and about what begins behind it.
+    fn end_sync_manager(&mut self, number: usize, fmmus: &[Fmmu]) -> Result<(), AllocError> {
+        if number >= SYNC_MANAGER_COUNT {
+            return Ok(());
+        }
+        let line = self.slave.of_sync_managers[number];
+        let manager = self.slave.sync_managers[number];
+        self.keep_found(
+            line,
+            unmapped(number, ProcessData::Outputs, fmmus, &manager),
+        )?;
+        self.keep_found(line, unmapped(number, ProcessData::Inputs, fmmus, &manager))?;
+        let met = buffers_meet(&self.slave.sync_managers, &manager);
+        self.keep_found(line, met)
+    }
+
+    /// What is odd about the items of the scene.
+    fn end_items(&mut self, items: &[Item]) -> Result<(), AllocError> {
+        for (k, item) in items.iter().enumerate() {
+            if let Some(oddity) = unserved(self.records.as_slice(), item) {
+                let line = self.items.as_slice().get(k).copied().unwrap_or(0);
+                self.found.push(OddLine {
+                    line,
+                    subject: Subject::Item(k),
+                    oddity,
+                })?;
+            }
+        }
+        Ok(())
     }
 
     /// What is odd about the startup objects of a slave whose lines are all known.
@@ -333,7 +379,7 @@ impl Linter {
         }
         let earlier = self.slave.of_sync_managers[index as usize];
         if earlier != 0 {
-            self.keep(self.line, Oddity::SyncManagerAgain(earlier))?;
+            self.keep(self.line, Oddity::SyncManagerAgain { line: earlier })?;
         }
         if !record.is_active() {
             self.keep(self.line, Oddity::NeverActive)?;
@@ -356,7 +402,7 @@ impl Linter {
         }
         let earlier = self.slave.of_fmmus[index as usize];
         if earlier != 0 {
-            self.keep(self.line, Oddity::FmmuAgain(earlier))?;
+            self.keep(self.line, Oddity::FmmuAgain { line: earlier })?;
         }
         self.slave.of_fmmus[index as usize] = self.line;
         Ok(())
@@ -371,7 +417,8 @@ impl Linter {
             return Ok(());
         };
         if self.slave.of_areas != 0 {
-            self.keep(self.line, Oddity::AreasAgain(self.slave.of_areas))?;
+            let line = self.slave.of_areas;
+            self.keep(self.line, Oddity::AreasAgain { line })?;
         }
         self.slave.of_areas = self.line;
         self.slave.output_length = outputs.min(u64::from(u16::MAX)) as u16;
@@ -382,7 +429,8 @@ impl Linter {
     /// `state S`
     fn state(&mut self) -> Result<(), AllocError> {
         if self.slave.of_state != 0 {
-            self.keep(self.line, Oddity::StateAgain(self.slave.of_state))?;
+            let line = self.slave.of_state;
+            self.keep(self.line, Oddity::StateAgain { line })?;
         }
         self.slave.of_state = self.line;
         Ok(())
