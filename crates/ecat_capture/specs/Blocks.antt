@@ -169,6 +169,7 @@ packet_of fields (Ok time) = Ok (record {
   captured = fields.captured;
   original = fields.original;
   from = fields.from;
+  interface = fields.interface;
 })
 packet_of fields (Err kind) = Err kind
 

@@ -49,6 +49,7 @@ record_of format bytes = record {
   captured = word format.order 8 bytes;
   original = word format.order 12 bytes;
   from = 16;
+  interface = 0;
 }
 
 -- a record: its head, and as many bytes of the packet as the head says

@@ -205,6 +205,7 @@ packet_told number found = record {
   time = found.time;
   captured = found.captured;
   original = found.original;
+  interface = found.interface;
 }
 
 -- what is told of a piece behind so many packets

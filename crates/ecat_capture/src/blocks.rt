@@ -367,6 +367,7 @@ fn packet_from(
         captured: fields.captured,
         original: fields.original,
         from: fields.from,
+        interface: fields.interface,
     })
 }
 

@@ -217,6 +217,7 @@ impl<S: Source> Capture<S> {
             time: found.time,
             captured: found.captured,
             original: found.original,
+            interface: found.interface,
         }
     }
 }

@@ -79,5 +79,6 @@ pub(crate) fn record_of(format: Format, bytes: &[u8]) -> Found
         captured: order.word(bytes, 8),
         original: order.word(bytes, 12),
         from: HEAD_LEN,
+        interface: 0,
     }
 }

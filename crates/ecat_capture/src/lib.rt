@@ -18,7 +18,7 @@
 //!
 //! - [`Capture::step`] takes exactly one piece of the file from the front of what is left: a header, a record
 //!   or a block, by the definition of each (`piece`), or says that the file ends in front of one (`end`); a
-//!   packet's bytes, times and lengths are those of its record or block;
+//!   packet's bytes, times, lengths and interface are those of its record or block;
 //! - each fault has its cause in the bytes ahead, and its place is where the piece begins (`err`, `place`);
 //!   `Read` comes only where the source's count of failures grew; after the end it is always the end
 //!   (`ended`), and after a fault always `Failed` (`failed`);

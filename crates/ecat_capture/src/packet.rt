@@ -101,6 +101,8 @@ pub struct Packet {
     pub captured: u32,
     /// How long it was on the wire.
     pub original: u32,
+    /// The number of the interface that captured it, in its section of a pcapng file, from 0; of pcap 0.
+    pub interface: u32,
 }
 
 /// A packet in its record or block.
@@ -114,4 +116,6 @@ pub(crate) struct Found {
     pub original: u32,
     /// The place of its first byte in the record or block.
     pub from: usize,
+    /// The number of its interface; of a record 0.
+    pub interface: u32,
 }

@@ -118,6 +118,7 @@ fn a_reader_reads_what_was_written(rt: HostRuntime) {
         }),
         captured: 3,
         original: 3,
+        interface: 0,
     };
     assert_same(&rt, capture.next(), Ok(Some(wanted)));
     assert_bytes(&rt, capture.bytes(), &[9, 8, 7]);

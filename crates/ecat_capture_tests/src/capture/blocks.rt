@@ -74,6 +74,7 @@ fn each_block_is_a_step(rt: HostRuntime) -> Result<(), Fail> {
         time: None,
         captured: 5,
         original: 5,
+        interface: 0,
     };
     assert_same(&rt, capture.step(), Ok(Step::Packet(packet)));
     assert_same(&rt, capture.step(), Ok(Step::End));

@@ -26,6 +26,7 @@ fn expect_packet<S: Source>(rt: &impl Abort, capture: &mut Capture<S>, number: u
         time: Some(TIME),
         captured: 1,
         original: 1,
+        interface: 0,
     };
     assert_same(rt, capture.next(), Ok(Some(wanted)));
     assert_same(rt, capture.bytes(), [0x5a].as_slice());

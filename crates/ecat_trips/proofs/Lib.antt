@@ -1,0 +1,8 @@
+pub mod Pairs
+pub mod NumberLemmas
+pub mod BasesLemmas
+pub mod ZippedLemmas
+pub mod SetLemmas
+pub mod CopyLemmas
+pub mod RunLemmas
+pub mod CountLemmas

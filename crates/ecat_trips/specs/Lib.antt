@@ -1,0 +1,11 @@
+pub mod Packet
+pub mod Bases
+pub mod Alike
+pub mod Zipped
+pub mod Copies
+pub mod Trip
+pub mod Ways
+pub mod Lost
+pub mod Steps
+pub mod Runs
+pub mod Sums

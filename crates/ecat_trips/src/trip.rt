@@ -1,0 +1,208 @@
+//! A trip: what was sent, and what came back of it.
+
+ghost use Rattle.std.specs.Prelude.{◌≡◌, IfOk};
+ghost use Rattle.ecat_trips.specs.Copies.{joined_with};
+
+use crate::alike::{first_number, same_frame, same_key};
+use crate::copies::{join_in, with_indexes};
+use crate::packet::Outline;
+use ec_wire::FrameBuf;
+use std::alloc::{AllocError, Global};
+use std::marker::Model;
+
+/// A frame as it was sent, by which its copies are known.
+#[derive(Drop)]
+pub struct SentFrame {
+    /// The frame of the first copy.
+    pub frame: FrameBuf,
+    /// Did a second copy go out whose indexes are the first one's with their lowest bits turned?
+    pub turned: bool,
+}
+
+impl SentFrame {
+    ghost use Rattle.ecat_trips.specs.Trip.{bears};
+
+    /// Does a frame bear the key of the first copy, or of the second?
+    pub fn bears(&self, frame: &FrameBuf) -> bool
+        ensures { result ≡ bears frame.now self.now }
+    {
+        same_key(false, &self.frame, frame) || self.turned && same_key(true, &self.frame, frame)
+    }
+
+    /// The same once more.
+    pub(crate) fn copy(&self) -> SentFrame
+        ensures { result ≡ self.now }
+    {
+        SentFrame {
+            frame: self.frame.copy(),
+            turned: self.turned,
+        }
+    }
+}
+
+/// What was sent, once or by both ports of a master, and what came back of it.
+#[derive(Drop)]
+pub struct Trip {
+    /// The frame that was sent.
+    pub sent: SentFrame,
+    /// The packet of the first sent copy.
+    pub first: Outline,
+    /// That of the second, which the other port sent.
+    pub second: Option<Outline>,
+    /// What came back, with the indexes of the first sent copy: of two copies the join.
+    pub came: Option<FrameBuf>,
+    /// The packet of the first copy that came back.
+    pub back: Option<Outline>,
+    /// That of the second.
+    pub again: Option<Outline>,
+}
+
+impl Trip {
+    ghost use Rattle.ecat_trips.specs.Trip.{begun, has_room, is_second, with_back, with_again, with_return};
+    ghost use Rattle.ecat_trips.specs.Trip.{with_second};
+
+    /// A trip that begins with a packet.
+    pub(crate) fn begun(first: Outline, frame: &FrameBuf) -> Trip
+        ensures { result ≡ begun first frame.now }
+    {
+        Trip {
+            sent: SentFrame {
+                frame: frame.copy(),
+                turned: false,
+            },
+            first,
+            second: None,
+            came: None,
+            back: None,
+            again: None,
+        }
+    }
+
+    /// Is a packet the second sent copy of the trip, with its indexes turned or not?
+    pub(crate) fn is_second(&self, turned: bool, packet: &Outline, frame: &FrameBuf) -> bool
+        ensures { result ≡ is_second turned packet.now frame.now self.now }
+    {
+        self.second.is_none()
+            && packet.source.base != self.first.source.base
+            && same_frame(turned, &self.sent.frame, frame)
+    }
+
+    /// May one more copy come back? No more may than were sent.
+    pub(crate) fn has_room(&self) -> bool
+        ensures { result ≡ has_room self.now }
+    {
+        self.back.is_none() || self.second.is_some()
+    }
+
+    /// Takes the second sent copy.
+    pub(crate) fn take_second(&mut self, turned: bool, packet: Outline)
+        ensures { self.new ≡ with_second turned packet self.old }
+    {
+        self.sent.turned = turned;
+        self.second = Some(packet);
+    }
+
+    /// Takes the first copy that came back.
+    fn take_back(&mut self, packet: Outline, frame: &FrameBuf)
+        ensures { self.new ≡ with_back packet frame.now self.old }
+    {
+        self.came = Some(with_indexes(&self.sent.frame, frame));
+        self.back = Some(packet);
+    }
+
+    /// Takes the second copy that came back.
+    fn take_again(&mut self, packet: Outline, frame: &FrameBuf)
+        ensures { self.new ≡ with_again packet frame.now self.old }
+    {
+        let other = with_indexes(&self.sent.frame, frame);
+        self.came = Some(joined_with(&self.sent.frame, self.came.take(), other));
+        self.again = Some(packet);
+    }
+
+    /// Takes one more copy that came back.
+    pub(crate) fn take_return(&mut self, packet: Outline, frame: &FrameBuf)
+        ensures { self.new ≡ with_return packet frame.now self.old }
+    {
+        match self.back {
+            None => self.take_back(packet, frame),
+            Some(_) => self.take_again(packet, frame),
+        }
+    }
+}
+
+/// What came, with another copy joined in; of none that one.
+fn joined_with(sent: &FrameBuf, came: Option<FrameBuf>, other: FrameBuf) -> FrameBuf
+    ensures { result ≡ joined_with sent.now other came }
+{
+    match came {
+        None => other,
+        Some(mut came) => {
+            join_in(sent, &mut came, &other);
+            came
+        }
+    }
+}
+
+/// A trip that is kept in a place of its own.
+#[derive(Drop)]
+pub struct Kept {
+    /// What is told fast of its key.
+    number: u64,
+    trip: Box<Trip>,
+}
+
+impl Model for Kept {
+    ghost use Rattle.ecat_trips.specs.declared.trip.Trip.{Trip};
+
+    ghost Value = { Trip };
+
+    ghost view = { λ k. k.trip.value };
+
+    ghost use Rattle.std.specs.Prelude.{◌≡◌};
+    ghost use Rattle.ecat_trips.specs.Alike.{first_number};
+
+    ghost invariant = { λ k. k.number ≡ first_number k.trip.value.sent.frame };
+}
+
+impl Kept {
+    ghost use Rattle.ecat_trips.specs.Alike.{first_number};
+    ghost use Rattle.ecat_trips.specs.Trip.{bears, with_return, with_second};
+
+    /// Keeps a trip: 4 KB of memory.
+    pub(crate) fn new(alloc: Global, trip: Trip) -> Result<Kept, AllocError>
+        ensures { IfOk result (λ kept. kept ≡ trip) }
+    {
+        let number = first_number(&trip.sent.frame);
+        let trip = Box::new(alloc, trip)?;
+        Ok(Kept { number, trip })
+    }
+
+    /// Does a frame, of which this is told fast, bear the key of the trip?
+    pub(crate) fn bears(&self, number: u64, frame: &FrameBuf) -> bool
+        requires { number ≡ first_number frame.now }
+        ensures { result ≡ bears frame.now self.now.sent }
+    {
+        self.number == number && self.trip.sent.bears(frame)
+    }
+
+    /// The trip.
+    pub fn trip(&self) -> &Trip
+        ensures { result.now ≡ self.now }
+    {
+        &self.trip
+    }
+
+    /// Takes the second sent copy.
+    pub(crate) fn take_second(&mut self, turned: bool, packet: Outline)
+        ensures { self.new ≡ with_second turned packet self.old }
+    {
+        self.trip.take_second(turned, packet);
+    }
+
+    /// Takes one more copy that came back.
+    pub(crate) fn take_return(&mut self, packet: Outline, frame: &FrameBuf)
+        ensures { self.new ≡ with_return packet frame.now self.old }
+    {
+        self.trip.take_return(packet, frame);
+    }
+}

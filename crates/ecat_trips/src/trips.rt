@@ -1,0 +1,365 @@
+//! The trips of a capture, one packet after the other.
+
+ghost use Rattle.std.specs.Prelude.{◌≡◌, ◌<◌, length, position, IfOk, OnErr, IfSome};
+ghost use Rattle.std.specs.Option.{ForSome};
+
+use crate::alike::first_number;
+use crate::lost::Lost;
+use crate::marks::Marks;
+use crate::packet::Outline;
+use crate::trip::{Kept, Trip};
+use crate::way::{Told, Way};
+use ec_wire::FrameBuf;
+use std::alloc::{AllocError, Global};
+use std::marker::Model;
+
+/// How many trips are on the way at most.
+pub const MAX_ON_THE_WAY: usize = 4096;
+
+/// What a packet is.
+#[derive(Drop)]
+pub enum Fate {
+    /// It begins a trip.
+    Begins,
+    /// It begins a trip, and ends this one, whose key it bears.
+    Replaces(Kept),
+    /// It is the second sent copy of the trip that the packet with this number began.
+    Second(u64),
+    /// It is a copy that came back of the trip that the packet with this number began, and another one is to
+    /// come back.
+    Back(u64),
+    /// It is the last copy that comes back of this trip, which ends with it.
+    Closes(Kept),
+    /// It is a copy of a trip that was lost.
+    Late,
+    /// It came back, and nothing that was sent explains it.
+    Stray,
+}
+
+/// One thing that happens.
+#[derive(Drop)]
+pub enum Step {
+    /// A trip ended in front of the packet, which is still to be taken.
+    Ended(Kept),
+    /// The packet is taken: which way it went, and what it is.
+    Taken(Told, Fate),
+}
+
+/// The trips of a capture that are on the way, and the frames of those that were lost last.
+#[derive(Drop)]
+pub struct Trips {
+    alloc: Global,
+    on_the_way: Vec<Kept>,
+    lost: Lost,
+}
+
+impl Model for Trips {
+    ghost use Rattle.ecat_trips.specs.Steps.{TripsState};
+
+    ghost Value = { TripsState };
+
+    ghost view = { λ t. record { on_the_way = t.on_the_way.items; lost = t.lost } };
+}
+
+impl Trips {
+    ghost use Rattle.std.specs.Prelude.{[], ◌∷◌, if◌then◌else◌, true, OnOk};
+    ghost use Rattle.ecat_trips.specs.Trip.{begun, is_second};
+    ghost use Rattle.ecat_trips.specs.Ways.{told};
+    ghost use Rattle.ecat_trips.specs.Steps.{bears_trip, begins, closes, comes_back, ends, is_late};
+    ghost use Rattle.ecat_trips.specs.Steps.{oldest_ends, replaces, returned, seconds, sent, step, trip_of};
+
+    /// No packet was taken yet.
+    pub fn new(alloc: Global) -> Result<Trips, AllocError>
+        ensures { IfOk result (λ trips. trips ≡ record { on_the_way = []; lost = [] }) }
+    {
+        let on_the_way = Vec::with_capacity(alloc, MAX_ON_THE_WAY)?;
+        let lost = Lost::new(alloc)?;
+        Ok(Trips {
+            alloc,
+            on_the_way,
+            lost,
+        })
+    }
+
+    /// The place of the newest trip on the way whose key a frame bears.
+    fn place_of(&self, frame: &FrameBuf) -> Option<usize>
+        ensures value { result ≡ position (bears_trip frame.now) self.now.on_the_way }
+        ensures within { IfSome result (λ i. i < length self.now.on_the_way) }
+    {
+        let number = first_number(frame);
+        self.on_the_way
+            .iter()
+            .position(|kept| kept.bears(number, frame))
+    }
+
+    /// The way of a packet whose trip on the way, by its key, stands at this place.
+    fn told(&self, marks: &Marks, packet: &Outline, frame: &FrameBuf, at: Option<usize>) -> Told
+        requires { ForSome at (λ i. i < length self.now.on_the_way) }
+        ensures { result ≡ told marks.now packet.now frame.now (trip_of packet.now frame.now self.now at) }
+    {
+        match at {
+            Some(i) => marks.told(packet, frame, Some(self.on_the_way[i].trip())),
+            None => marks.told(packet, frame, None),
+        }
+    }
+
+    /// The place of a trip, whose key the packet bears, goes to the one that the packet begins.
+    fn replace(
+        &mut self,
+        packet: &Outline,
+        frame: &FrameBuf,
+        told: Told,
+        i: usize,
+    ) -> Result<Step, AllocError>
+        requires { i < length self.old.on_the_way }
+        ensures step { IfOk result (λ happened.
+            happened ≡ (replaces packet.now frame.now self.old told i).step) }
+        ensures after { OnOk result (self.new ≡ (replaces packet.now frame.now self.old told i).after) }
+        ensures kept { OnErr result (self.new ≡ self.old) }
+    {
+        self.add(packet, frame)?;
+        let kept = self.on_the_way.remove(i + 1);
+        if kept.trip().back.is_none() {
+            self.lost.take(kept.trip().sent.copy());
+        }
+        Ok(Step::Taken(told, Fate::Replaces(kept)))
+    }
+
+    /// The trip at a place ends in front of the packet.
+    fn end(&mut self, packet: &Outline, frame: &FrameBuf, i: usize) -> Step
+        requires { i < length self.old.on_the_way }
+        ensures step { result ≡ (ends packet.now frame.now self.old i).step }
+        ensures after { self.new ≡ (ends packet.now frame.now self.old i).after }
+    {
+        let kept = self.on_the_way.remove(i);
+        if kept.trip().back.is_none() {
+            self.lost.take(kept.trip().sent.copy());
+        }
+        Step::Ended(kept)
+    }
+
+    /// The oldest trip ends in front of the packet.
+    fn end_oldest(&mut self, packet: &Outline, frame: &FrameBuf) -> Step
+        requires { 0 < length self.old.on_the_way }
+        ensures step { result ≡ (oldest_ends packet.now frame.now self.old).step }
+        ensures after { self.new ≡ (oldest_ends packet.now frame.now self.old).after }
+    {
+        let i = self.on_the_way.len() - 1;
+        self.end(packet, frame, i)
+    }
+
+    /// The packet begins a trip.
+    fn add(&mut self, packet: &Outline, frame: &FrameBuf) -> Result<(), AllocError>
+        ensures added { OnOk result (self.new ≡ record {
+          on_the_way = begun packet.now frame.now ∷ self.old.on_the_way;
+          lost = self.old.lost;
+        }) }
+        ensures kept { OnErr result (self.new ≡ self.old) }
+    {
+        let kept = Kept::new(self.alloc, Trip::begun(*packet, frame))?;
+        self.on_the_way.insert(0, kept)?;
+        Ok(())
+    }
+
+    /// The packet begins a trip; where as many are on the way as may be, the oldest ends first.
+    fn begin(&mut self, packet: &Outline, frame: &FrameBuf, told: Told) -> Result<Step, AllocError>
+        ensures step { IfOk result (λ happened. happened ≡ (begins packet.now frame.now self.old told).step) }
+        ensures after { OnOk result (self.new ≡ (begins packet.now frame.now self.old told).after) }
+        ensures kept { OnErr result (self.new ≡ self.old) }
+    {
+        if self.on_the_way.len() < MAX_ON_THE_WAY {
+            self.add(packet, frame)?;
+            Ok(Step::Taken(told, Fate::Begins))
+        } else {
+            Ok(self.end_oldest(packet, frame))
+        }
+    }
+
+    /// The packet is the second sent copy of the trip at a place.
+    fn second(
+        &mut self,
+        turned: bool,
+        packet: &Outline,
+        frame: &FrameBuf,
+        told: Told,
+        i: usize,
+    ) -> Step
+        requires { i < length self.old.on_the_way }
+        ensures step { result ≡ (seconds turned packet.now frame.now self.old told i).step }
+        ensures after { self.new ≡ (seconds turned packet.now frame.now self.old told i).after }
+    {
+        self.on_the_way[i].take_second(turned, *packet);
+        Step::Taken(told, Fate::Second(self.on_the_way[i].trip().first.number))
+    }
+
+    /// The packet is a copy that came back, and one more is to come back.
+    fn come_back(&mut self, packet: &Outline, frame: &FrameBuf, told: Told, i: usize) -> Step
+        requires { i < length self.old.on_the_way }
+        ensures step { result ≡ (comes_back packet.now frame.now self.old told i).step }
+        ensures after { self.new ≡ (comes_back packet.now frame.now self.old told i).after }
+    {
+        self.on_the_way[i].take_return(*packet, frame);
+        Step::Taken(told, Fate::Back(self.on_the_way[i].trip().first.number))
+    }
+
+    /// The packet is the last copy that comes back; older trips end first.
+    fn close(&mut self, packet: &Outline, frame: &FrameBuf, told: Told, i: usize) -> Step
+        requires { i < length self.old.on_the_way }
+        ensures step { result ≡ (closes packet.now frame.now self.old told i).step }
+        ensures after { self.new ≡ (closes packet.now frame.now self.old told i).after }
+    {
+        if self.on_the_way.len() == i + 1 {
+            let mut kept = self.on_the_way.remove(i);
+            kept.take_return(*packet, frame);
+            Step::Taken(told, Fate::Closes(kept))
+        } else {
+            self.end_oldest(packet, frame)
+        }
+    }
+
+    /// The packet came back of no trip on the way.
+    fn stray(&mut self, packet: &Outline, frame: &FrameBuf, told: Told) -> Step
+        ensures step { result ≡ (is_late packet.now frame.now self.old told).step }
+        ensures after { self.new ≡ (is_late packet.now frame.now self.old told).after }
+    {
+        match self.lost.place_of(frame) {
+            Some(j) => {
+                self.lost.forget(j);
+                Step::Taken(told, Fate::Late)
+            }
+            None => Step::Taken(told, Fate::Stray),
+        }
+    }
+
+    /// The place of the newest trip whose second sent copy the packet is by its turned indexes; only a master
+    /// with two ports sends any.
+    fn twin_of(&self, marks: &Marks, packet: &Outline, frame: &FrameBuf) -> Option<usize>
+        ensures value { result ≡ (if marks.now.two
+            then position (is_second true packet.now frame.now) self.now.on_the_way else None) }
+        ensures within { IfSome result (λ i. i < length self.now.on_the_way) }
+    {
+        if marks.two {
+            self.place_of_twin(packet, frame)
+        } else {
+            None
+        }
+    }
+
+    /// The place of the newest trip whose second sent copy the packet is by its turned indexes.
+    fn place_of_twin(&self, packet: &Outline, frame: &FrameBuf) -> Option<usize>
+        ensures value { result ≡ position (is_second true packet.now frame.now) self.now.on_the_way }
+        ensures within { IfSome result (λ i. i < length self.now.on_the_way) }
+    {
+        self.on_the_way
+            .iter()
+            .position(|kept| kept.trip().is_second(true, packet, frame))
+    }
+
+    /// The packet was sent, and no trip of its key is on the way.
+    fn send_new(
+        &mut self,
+        marks: &Marks,
+        packet: &Outline,
+        frame: &FrameBuf,
+        told: Told,
+    ) -> Result<Step, AllocError>
+        ensures step { IfOk result (λ happened.
+            happened ≡ (sent marks.now packet.now frame.now self.old told None).step) }
+        ensures after { OnOk result
+            (self.new ≡ (sent marks.now packet.now frame.now self.old told None).after) }
+        ensures kept { OnErr result (self.new ≡ self.old) }
+    {
+        match self.twin_of(marks, packet, frame) {
+            Some(j) => Ok(self.second(true, packet, frame, told, j)),
+            None => self.begin(packet, frame, told),
+        }
+    }
+
+    /// The packet was sent, and the trip of its key on the way stands at this place.
+    fn send_again(
+        &mut self,
+        marks: &Marks,
+        packet: &Outline,
+        frame: &FrameBuf,
+        told: Told,
+        i: usize,
+    ) -> Result<Step, AllocError>
+        requires { i < length self.old.on_the_way }
+        ensures step { IfOk result (λ happened.
+            happened ≡ (sent marks.now packet.now frame.now self.old told (Some i)).step) }
+        ensures after { OnOk result
+            (self.new ≡ (sent marks.now packet.now frame.now self.old told (Some i)).after) }
+        ensures kept { OnErr result (self.new ≡ self.old) }
+    {
+        if marks.two && self.on_the_way[i].trip().is_second(false, packet, frame) {
+            Ok(self.second(false, packet, frame, told, i))
+        } else {
+            self.replace(packet, frame, told, i)
+        }
+    }
+
+    /// The packet returned, and the trip of its key on the way stands at this place.
+    fn return_to(
+        &mut self,
+        marks: &Marks,
+        packet: &Outline,
+        frame: &FrameBuf,
+        told: Told,
+        i: usize,
+    ) -> Step
+        requires { i < length self.old.on_the_way }
+        ensures step { result ≡ (returned marks.now packet.now frame.now self.old told (Some i)).step }
+        ensures after { self.new ≡ (returned marks.now packet.now frame.now self.old told (Some i)).after }
+    {
+        let trip = self.on_the_way[i].trip();
+        if !trip.has_room() {
+            self.stray(packet, frame, told)
+        } else if marks.two && trip.back.is_none() {
+            self.come_back(packet, frame, told, i)
+        } else {
+            self.close(packet, frame, told, i)
+        }
+    }
+
+    /// What happens with a packet: call it again with the same packet as long as it answers [`Step::Ended`],
+    /// that a trip ended in front of it. Where memory is refused, 4 KB for a trip that begins, nothing has
+    /// changed.
+    pub fn take(
+        &mut self,
+        marks: &Marks,
+        packet: &Outline,
+        frame: &FrameBuf,
+    ) -> Result<Step, AllocError>
+        ensures step { IfOk result (λ happened.
+            happened ≡ (step marks.now packet.now frame.now self.old).step) }
+        ensures after { OnOk result (self.new ≡ (step marks.now packet.now frame.now self.old).after) }
+        ensures kept { OnErr result (self.new ≡ self.old) }
+    {
+        let at = self.place_of(frame);
+        let told = self.told(marks, packet, frame, at);
+        match told.way {
+            Way::Sent => match at {
+                Some(i) => self.send_again(marks, packet, frame, told, i),
+                None => self.send_new(marks, packet, frame, told),
+            },
+            Way::Returned => match at {
+                Some(i) => Ok(self.return_to(marks, packet, frame, told, i)),
+                None => Ok(self.stray(packet, frame, told)),
+            },
+        }
+    }
+
+    /// How many trips are on the way.
+    pub fn on_the_way(&self) -> usize
+        ensures { result ≡ length self.now.on_the_way }
+    {
+        self.on_the_way.len()
+    }
+
+    /// The trips that are on the way, the newest first.
+    pub fn trips(&self) -> &[Kept]
+        ensures { result.now ≡ self.now.on_the_way }
+    {
+        &self.on_the_way
+    }
+}
