@@ -50,6 +50,12 @@ def toolchain(version, seconds=0):
     return RT.format(version=version, seconds=seconds)
 
 
+def copy(path, to):
+    """Copies a file that will be run. Another process does it: cases run side by side, and a file that one has
+    open for writing while another one starts a process cannot be run."""
+    subprocess.run(["cp", path, to], check=True)
+
+
 class Clone:
     """A small repository, commands that it is tried with, and a home."""
 
@@ -67,7 +73,7 @@ class Clone:
             os.symlink(found, os.path.join(self.bin, tool))
         for name in ("ecat", "tools/sources", "tools/build", "tools/until_signal"):
             os.makedirs(os.path.dirname(self.at(name)), exist_ok=True)
-            shutil.copy(os.path.join(ROOT, name), self.at(name))
+            copy(os.path.join(ROOT, name), self.at(name))
         self.file("HANDLES", "Handles allowed: none.\n")
         self.file("crates.txt", "# Crates.\nlow:\necat: low\nlow_tests: low\n")
         self.file("crates/low/src/lib.rt", "// low\n")
@@ -99,9 +105,8 @@ class Clone:
         if os.path.exists(path):
             os.remove(path)
         if script:
-            with open(path, "w", encoding="latin-1") as file:
-                file.write(script)
-            os.chmod(path, 0o755)
+            put = ["install", "-m", "755", "/dev/stdin", path]
+            subprocess.run(put, input=script.encode("latin-1"), check=True)
 
     def run(self, *command, **more):
         """What a command leaves: its output, its error text, and its status, as three."""
@@ -411,7 +416,7 @@ def what_is_missing_or_damaged_is_named(clone):
 def cases_say_what_they_wait_for(clone):
     os.mkdir(clone.at("cases"))
     for name in ("try", "live.py", "launcher.py", "install.py", "signals.py"):
-        shutil.copy(os.path.join(ROOT, "cases", name), clone.at(f"cases/{name}"))
+        copy(os.path.join(ROOT, "cases", name), clone.at(f"cases/{name}"))
     os.symlink(shutil.which("python3"), os.path.join(clone.bin, "python3"))
     clone.rt(toolchain(OTHER, seconds=3))
     clone.file("crates/low/src/lib.rt", "// changed\n")

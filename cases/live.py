@@ -857,7 +857,7 @@ def startup_objects_are_written_to_a_slave_that_came_back(stage):
             seen = []
             while sum("brought to Op" in text for text in seen) < 3 and time.monotonic() < ended:
                 seen.append(master.line())
-            yield "brought", 3, sum("brought to Op" in text for text in seen)
+            yield "brought", "3", str(sum("brought to Op" in text for text in seen))
             time.sleep(1)
             master.process.stdin.close()
             master.process.stdin = None

@@ -7,13 +7,12 @@ and nothing of it may be left.
 import os
 import pty
 import re
-import shutil
 import signal
 import subprocess
 import time
 
 from install import install
-from launcher import Clone
+from launcher import Clone, copy
 from live import ITEMS, LEFT, MACHINE, PATIENCE, STARTED, Running, Stage, asked, both_ends, timed
 
 CASES = []
@@ -50,7 +49,7 @@ class Signalled:
     def run(self, ecat, folder, port):
         clone = Clone(folder, self.limit)
         os.makedirs(clone.at("crates/ecat/out"))
-        shutil.copy(ecat, clone.at("crates/ecat/out/ecat"))
+        copy(ecat, clone.at("crates/ecat/out/ecat"))
         yield from self.function(Launching(clone, ecat, port))
 
 
