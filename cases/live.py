@@ -13,7 +13,10 @@ import time
 CASES = []
 
 # One slave with a byte of outputs, whose state goes up at a step.
-SLAVE = "slave 0x1001\nsm 0 0x1800 32 mailbox-write\nsm 1 0x1880 32 mailbox-read\nsm 2 0x1000 1 write\n"
+SLAVE = (
+    "slave 0x1001\nsm 0 0x1800 32 mailbox-write\nsm 1 0x1880 32 mailbox-read\nsm 2 0x1000 1 write\n"
+    "fmmu 0 0x10000 1 0 7 0x1000 0 write\n"
+)
 
 # A broadcast read of AL status as it is sent, and as one slave in Init answers it, then as two do.
 ASKED = bytes.fromhex("0e10 0707 0000 3001 0200 0000 0000 0000")
@@ -586,7 +589,8 @@ def largest_item_is_told_whole(stage):
     digits = "5a" * 1486
     stage.file("s", f"slave 1\nlrd 0 {digits}\n")
     told = f"item 0 LRD data {digits} wkc 0 of 0\n"
-    yield "run", told + "0\n", stage.ends("run", "s")
+    odd = "odd lines: 1; ecat lint s names them\n"
+    yield "run", told + odd + "0\n", stage.ends("run", "s")
     yield "udp", "good\n" + told + "0\n", stage.ends("udp", "s", "--port", str(stage.port))
 
 
@@ -990,16 +994,16 @@ SCENES = os.path.join(os.path.dirname(os.path.abspath(__file__)), "..", "scenes"
 # Commands, and the KB of stack and of address space that each has to get by with: hardly more than it took
 # before its works were lent from cycle to cycle.
 ROOMS = [
-    ("check check/accepted.scene", 152, 4096),
-    ("cover cover/left_out.scene", 152, 4096),
-    ("lint check/accepted.scene", 152, 4096),
-    ("where where/one_link_down.scene", 168, 4096),
-    ("run first.scene", 184, 4096),
-    ("run first.scene --judge", 184, 4096),
-    ("sweep sweep/two_slaves.scene", 320, 4096),
-    ("sdo sdo/lost_answer.scene 0x1001 0x1018 1 --surely", 200, 4096),
-    ("show startup.pcap", 112, 4096),
-    ("list startup.pcap --stats", 112, 4096),
+    ("check check/accepted.scene", 152, 4224),
+    ("cover cover/left_out.scene", 152, 4224),
+    ("lint check/accepted.scene", 152, 4224),
+    ("where where/one_link_down.scene", 168, 4224),
+    ("run first.scene", 184, 4224),
+    ("run first.scene --judge", 184, 4224),
+    ("sweep sweep/two_slaves.scene", 320, 4224),
+    ("sdo sdo/lost_answer.scene 0x1001 0x1018 1 --surely", 200, 4224),
+    ("show startup.pcap", 112, 4224),
+    ("list startup.pcap --stats", 112, 4224),
     ("vectors", 512, 4224),
 ]
 
