@@ -1,6 +1,7 @@
 -- One question to the slaves: a datagram goes out alone in a frame, and its copies join to a datagram that
 -- tells how many slaves counted (IEC 61158-4-12, working counter).
-use Rattle.std.specs.Prelude.{◌≡◌, ℕ, ◌==◌, ◌||◌, nat_lt, nat_eq, not, List, [], ◌∷◌, Result, Ok, Err, is_some}
+use Rattle.std.specs.Prelude.{◌≡◌, ℕ, ◌==◌, ◌||◌, nat_lt, nat_eq, not, List, [], ◌∷◌, Result, Ok, Err}
+use Rattle.std.specs.Prelude.{is_some}
 use Rattle.std.specs.Cmp.Lexicographic.{pointwise}
 use Rattle.ec_wire.specs.Datagram.{DatagramRecord, nth}
 use Rattle.ec_app.specs.Table.{first_fitting}

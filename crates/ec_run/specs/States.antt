@@ -1,7 +1,8 @@
 -- The states of all slaves of a line at once (IEC 61158-6-12, AL control and AL status; IEC 61158-4-12,
 -- broadcast read and broadcast write).
 use Rattle.std.specs.Prelude.{◌≡◌, ◌==◌, ◌&&◌, ℕ, zero, suc, ◌+◌, ◌-◌, ◌++◌, Bool, true, false, List, [], ◌∷◌}
-use Rattle.std.specs.Prelude.{Option, None, Some, length, slice_get, slice_index, Result, Ok, Err, if◌then◌else◌}
+use Rattle.std.specs.Prelude.{Option, None, Some, length, slice_get, slice_index, Result, Ok, Err}
+use Rattle.std.specs.Prelude.{if◌then◌else◌}
 use Rattle.ec_wire.specs.Datagram.{DatagramRecord, address_of, nth}
 use Rattle.ec_wire.specs.declared.command.Command.TheVariants.{Brd as BroadcastRead, Bwr}
 use Rattle.ec_wire.specs.declared.kind.Kind.TheVariants.{Brd}

@@ -37,8 +37,8 @@
 //!   slaves had then is a law over rings (`ec_over_ring`, `all_in_op`).
 //!
 //! What the contracts speak of stands in specs/: `Step`, `Phase` and `StartupObjects` (start-up), `Cycles`
-//! and `Outputs`, `Recovery`, `States`, `Watched` (ports that tell where copies arrive, as ports of a master), `Ask`
-//! and `Counting` (one question).
+//! and `Outputs`, `Recovery`, `States`, `Watched` (ports that tell where copies arrive, as ports of a
+//! master), `Ask` and `Counting` (one question).
 
 mod ask;
 mod counting;

@@ -31,7 +31,7 @@ const MORE_LOOKS: u32 = 9;
 pub enum Seen {
     /// No copy of the question came back: nothing is known.
     Unheard,
-    /// No slave answered: it is cut off, it has lost its station address, or the copy was lost that passed it.
+    /// No slave answered: it is cut off, it has lost its station address, or the copy that passed it is lost.
     Nobody,
     /// One slave answered, in this state and without an error.
     In(AlState),

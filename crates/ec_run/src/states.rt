@@ -1,4 +1,4 @@
-//! The states of all slaves of a line at once: one datagram reads them in each cycle, and one asks for a state.
+//! The states of all slaves of a line at once: one datagram reads them in each cycle, one asks for a state.
 
 ghost use Rattle.std.specs.Prelude.{◌≡◌, ◌≢◌, ◌≤◌, ◌<◌, ◌↔◌, IfOk, length, true};
 ghost use Rattle.ec_wire.specs.Datagram.{nth};

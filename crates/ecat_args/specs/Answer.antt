@@ -6,8 +6,8 @@ use Rattle.clap.specs.declared.error.kind.ErrorKind.TheVariants.{OutOfMemory}
 use Rattle.ecat_args.specs.Given.{Given, IsComplete, IsNoAddress, LiesAt, control_in, force_in, forever_in}
 use Rattle.ecat_args.specs.Given.{index_in}
 use Rattle.ecat_args.specs.Given.{judge_in, log_in, many_in, port_in, station_in, sub_in, surely_in}
-use Rattle.ecat_args.specs.Given.{csv_in, every_in, faults_in, late_in, limit_in, once_in, recover_in, stats_in}
-use Rattle.ecat_args.specs.Given.{stop_in, value_in, word_in}
+use Rattle.ecat_args.specs.Given.{csv_in, every_in, faults_in, late_in, limit_in, once_in, recover_in}
+use Rattle.ecat_args.specs.Given.{stats_in, stop_in, value_in, word_in}
 use Rattle.ecat_commands.specs.Commands.{line}
 use Rattle.ecat_args.specs.declared.args.Args.{Args}
 use Rattle.ecat_args.specs.declared.args.Args.TheVariants.{Show, Check, Cover, Lint, Where, Run, Sweep, Sdo}

@@ -70,7 +70,7 @@ impl SilentPorts {
         }
     }
 
-    /// Takes at which ports copies of a cycle came, and tells of a port at which none come any more, or again.
+    /// Takes at which ports copies of a cycle came, and tells of a port at which none come any more or again.
     pub(crate) fn tell<P: HeardPorts, W: Write>(
         &mut self,
         cycle: u64,

@@ -50,8 +50,8 @@ pub struct Plan<'a> {
     pub leave: Option<AlState>,
 }
 
-/// Do the last good cycle's answers tell that all slaves are in Op? Where cycles don't tell the states, nothing
-/// speaks against it.
+/// Do the last good cycle's answers tell that all slaves are in Op? Where cycles don't tell the states,
+/// nothing speaks against it.
 fn in_op(states: bool, image: &Option<Work>) -> bool
     ensures { result ≡ in_op states image.now }
 {

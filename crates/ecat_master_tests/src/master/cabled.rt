@@ -15,7 +15,9 @@ static ROWS: [Row; 3] = [
         status: 0,
         text: brought!(
             "cycle 3: redundancy lost: link 2 down: between slave 1 (0x1002) and slave 2 (0x1003)\n\
-            cycle 7: ring whole again\nleft in Init\ncycles 10 good 10 short 0 over 0 fault 0 not-in-op 0\ncycle time least 0 mean 0 greatest 0 microseconds, 99 of 100 within 0\n\
+            cycle 7: ring whole again\nleft in Init\n\
+            cycles 10 good 10 short 0 over 0 fault 0 not-in-op 0\n\
+            cycle time least 0 mean 0 greatest 0 microseconds, 99 of 100 within 0\n\
             item 0 LRW data a0a1a2 wkc 9 of 9\n"
         ),
     },
@@ -37,7 +39,9 @@ static ROWS: [Row; 3] = [
             cycle 4: item 0: came 6 of 9; links 1 and 2 down: slave 1 cut off (0x1002)\n\
             cycle 9: good again after 5 cycles\n\
             cycle 9: redundancy lost: link 2 down: between slave 1 (0x1002) and slave 2 (0x1003)\n\
-            left in Init\ncycles 10 good 5 short 5 over 0 fault 0 not-in-op 0\ncycle time least 0 mean 0 greatest 0 microseconds, 99 of 100 within 0\nitem 0 LRW data a0a1a2 wkc 9 of 9\n"
+            left in Init\ncycles 10 good 5 short 5 over 0 fault 0 not-in-op 0\n\
+            cycle time least 0 mean 0 greatest 0 microseconds, 99 of 100 within 0\n\
+            item 0 LRW data a0a1a2 wkc 9 of 9\n"
         ),
     },
     Row {
@@ -51,7 +55,9 @@ static ROWS: [Row; 3] = [
         status: 0,
         text: brought!(
             "cycle 3: item 0: came 0 of 9; ring whole\ncycle 4: good again after 1 cycles\n\
-            left in Init\ncycles 5 good 4 short 1 over 0 fault 0 not-in-op 0\ncycle time least 0 mean 0 greatest 0 microseconds, 99 of 100 within 0\nitem 0 LRW data a0a1a2 wkc 9 of 9\n"
+            left in Init\ncycles 5 good 4 short 1 over 0 fault 0 not-in-op 0\n\
+            cycle time least 0 mean 0 greatest 0 microseconds, 99 of 100 within 0\n\
+            item 0 LRW data a0a1a2 wkc 9 of 9\n"
         ),
     },
 ];

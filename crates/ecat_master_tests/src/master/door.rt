@@ -13,7 +13,8 @@ const TOLD: &str =
     "slaves 3\nring whole\nstations given\nall in Init\nall in Pre-Op\nall in Safe-Op\n\
     all in Op\n\
     cycle 3: redundancy lost: link 2 down: between slave 1 (0x1002) and slave 2 (0x1003)\n\
-    left in Init\ncycles 5 good 5 short 0 over 0 fault 0 not-in-op 0\ncycle time least 0 mean 0 greatest 0 microseconds, 99 of 100 within 0\n\
+    left in Init\ncycles 5 good 5 short 0 over 0 fault 0 not-in-op 0\n\
+    cycle time least 0 mean 0 greatest 0 microseconds, 99 of 100 within 0\n\
     item 0 LRW data a0a1a2 wkc 9 of 9\n";
 
 #[test]

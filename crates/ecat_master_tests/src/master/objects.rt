@@ -95,7 +95,9 @@ static ROWS: [Row; 2] = [
             cycle 4: all in Op again after 1 cycles\ncycle 17: not all in Op\n\
             cycle 19: slave 1 (0x1002) was in Pre-Op, brought to Op\n\
             cycle 20: all in Op again after 3 cycles\nleft in Init\n\
-            cycles 40 good 40 short 0 over 0 fault 0 not-in-op 4\ncycle time least 0 mean 0 greatest 0 microseconds, 99 of 100 within 0\nitem 0 LRW data a0a1a2 wkc 9 of 9\n",
+            cycles 40 good 40 short 0 over 0 fault 0 not-in-op 4\n\
+            cycle time least 0 mean 0 greatest 0 microseconds, 99 of 100 within 0\n\
+            item 0 LRW data a0a1a2 wkc 9 of 9\n",
     },
 ];
 

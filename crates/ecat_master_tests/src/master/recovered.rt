@@ -23,7 +23,9 @@ static ROWS: [Row; 5] = [
             cycle 4: slave 1 (0x1002) had an error in Safe-Op: 0x001b sync manager watchdog, brought to Op\n\
             cycle 5: slave 2 (0x1003) was in Init, brought to Op\n\
             cycle 6: all in Op again after 3 cycles\nleft in Init\n\
-            cycles 80 good 80 short 0 over 0 fault 0 not-in-op 3\ncycle time least 0 mean 0 greatest 0 microseconds, 99 of 100 within 0\nitem 0 LRW data a0a1a2 wkc 9 of 9\n"
+            cycles 80 good 80 short 0 over 0 fault 0 not-in-op 3\n\
+            cycle time least 0 mean 0 greatest 0 microseconds, 99 of 100 within 0\n\
+            item 0 LRW data a0a1a2 wkc 9 of 9\n"
         ),
     },
     Row {
@@ -37,7 +39,9 @@ static ROWS: [Row; 5] = [
         status: 0,
         text: brought!(
             "cycle 15: slave 0 (0x1001) had lost its station, brought to Op\n\
-            left in Init\ncycles 20 good 20 short 0 over 0 fault 0 not-in-op 0\ncycle time least 0 mean 0 greatest 0 microseconds, 99 of 100 within 0\nitem 0 LRW data a0a1a2 wkc 9 of 9\n"
+            left in Init\ncycles 20 good 20 short 0 over 0 fault 0 not-in-op 0\n\
+            cycle time least 0 mean 0 greatest 0 microseconds, 99 of 100 within 0\n\
+            item 0 LRW data a0a1a2 wkc 9 of 9\n"
         ),
     },
     Row {
@@ -51,7 +55,9 @@ static ROWS: [Row; 5] = [
         status: 0,
         text: brought!(
             "cycle 31: slave 1 (0x1002) had lost its station, brought to Op\n\
-            left in Init\ncycles 36 good 36 short 0 over 0 fault 0 not-in-op 0\ncycle time least 0 mean 0 greatest 0 microseconds, 99 of 100 within 0\nitem 0 LRW data a0a1a2 wkc 9 of 9\n"
+            left in Init\ncycles 36 good 36 short 0 over 0 fault 0 not-in-op 0\n\
+            cycle time least 0 mean 0 greatest 0 microseconds, 99 of 100 within 0\n\
+            item 0 LRW data a0a1a2 wkc 9 of 9\n"
         ),
     },
     Row {
@@ -65,7 +71,9 @@ static ROWS: [Row; 5] = [
         status: 0,
         text: brought!(
             "cycle 2: a port failed\ncycle 4: good again after 2 cycles\n\
-            left in Init\ncycles 6 good 4 short 0 over 0 fault 2 not-in-op 0\ncycle time least 0 mean 0 greatest 0 microseconds, 99 of 100 within 0\nitem 0 LRW data a0a1a2 wkc 9 of 9\n"
+            left in Init\ncycles 6 good 4 short 0 over 0 fault 2 not-in-op 0\n\
+            cycle time least 0 mean 0 greatest 0 microseconds, 99 of 100 within 0\n\
+            item 0 LRW data a0a1a2 wkc 9 of 9\n"
         ),
     },
     Row {
@@ -78,7 +86,9 @@ static ROWS: [Row; 5] = [
         cycles: 6,
         status: 1,
         text: brought!(
-            "cycle 2: item 0: came 0 of 9; ring whole\nleft in Init\ncycles 3 good 2 short 1 over 0 fault 0 not-in-op 0\ncycle time least 0 mean 0 greatest 0 microseconds, 99 of 100 within 0\n\
+            "cycle 2: item 0: came 0 of 9; ring whole\nleft in Init\n\
+            cycles 3 good 2 short 1 over 0 fault 0 not-in-op 0\n\
+            cycle time least 0 mean 0 greatest 0 microseconds, 99 of 100 within 0\n\
             item 0 LRW data a0a1a2 wkc 9 of 9\n"
         ),
     },
