@@ -19,6 +19,12 @@ CASES = []
 
 INT, TERM, HUP = signal.SIGINT, signal.SIGTERM, signal.SIGHUP
 
+# What began these cases in the background may have them ignore signals, and a shell can take no notice of those
+# that it ignores from its beginning on.
+for ignored in (INT, TERM, HUP, signal.SIGQUIT):
+    if signal.getsignal(ignored) == signal.SIG_IGN:
+        signal.signal(ignored, signal.SIG_DFL)
+
 # A service without a packet, and what it says on standard error where its input ended.
 SERVED = "packets 0 frames 0 dropped 0\n"
 ENDED = "input: ended; with --forever or --packets N it is left alone\n"
@@ -284,7 +290,11 @@ def a_later_signal_kills(stage):
         yield "left", "[]", line.left()
     with stage.start("serve", "s") as line:
         yield "line", "here\n", line.line()
-        line.process.send_signal(signal.SIGQUIT)
+        # A shell that is just about to wait may miss a signal.
+        until = time.monotonic() + stage.limit
+        while line.process.poll() is None and time.monotonic() < until:
+            line.process.send_signal(signal.SIGQUIT)
+            time.sleep(0.5)
         yield "SIGQUIT", "137\n", line.end()
         yield "SIGQUIT: left", "[]", line.left()
 
