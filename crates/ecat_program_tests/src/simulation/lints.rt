@@ -6,13 +6,14 @@ use super::{Command, Row, assert_rows};
 const LINTS: [Row; 3] = [
     // Nothing is odd.
     Row {
-        scene: "slave 1\nsm 2 0x1000 1 write\nbrd 0x0130 0000\n",
+        scene: "slave 1\nsm 2 0x1000 1 write\nfmmu 0 0x10000 1 0 7 0x1000 0 write\nbrd 0x0130 0000\n",
         status: 0,
         told: "",
     },
     // A record that is set twice is odd.
     Row {
-        scene: "slave 1\nsm 2 0x1000 1 write\nsm 2 0x1000 2 write\n",
+        scene: "slave 1\nsm 2 0x1000 1 write\nsm 2 0x1000 2 write\n\
+            fmmu 0 0x10000 2 0 7 0x1000 0 write\n",
         status: 1,
         told: "line 3: slave 0: the sync manager is set in line 2 already, and set anew here\n",
     },
