@@ -2,6 +2,7 @@
 
 Each is a function of a `Stage`. It gives what `cases/try` compares: a name, what is wanted, what is seen.
 """
+import contextlib
 import os
 import re
 import select
@@ -726,50 +727,57 @@ def a_master_with_one_port_cycles(stage):
         yield "master", wanted, timed(last_lines(stage.ends(*words), 6))
 
 
-@case
-def a_master_sees_cables_break_and_heal(stage):
-    """Each break is told once, with its place; two breaks cut slaves off, and the cycles are short."""
+@contextlib.contextmanager
+def machine_and_master(stage):
+    """The machine, which takes commands, and a master that cycles on it until its input ends."""
     control = {"stdin": subprocess.PIPE}
     with stage.serve(MACHINE, "--control", **control) as line:
         stage.file("m", MACHINE)
         words = ("master", "m", "--at", both_ends(stage), "--every", "2000", *PATIENCE)
         with stage.start(*words, **control) as master:
-            for wanted in STARTED.splitlines(True):
-                yield "start", wanted, master.line()
+            yield line, master
 
-            def tells(words):
-                """Reads on to a line with these words. A cycle that met a change between its two copies may have
-                another counter: its line tells of the cable too, and the next one that it is good again."""
+
+@case
+def a_master_sees_cables_break_and_heal(stage):
+    """Each break is told once, with its place; two breaks cut slaves off, and the cycles are short."""
+    with machine_and_master(stage) as (line, master):
+        for wanted in STARTED.splitlines(True):
+            yield "start", wanted, master.line()
+
+        def tells(words):
+            """Reads on to a line with these words. A cycle that met a change between its two copies may have
+            another counter: its line tells of the cable too, and the next one that it is good again."""
+            seen = told(master.line())
+            while words not in seen and re.search("came|good again|other than before|lost: links", seen):
                 seen = told(master.line())
-                while words not in seen and re.search("came|good again|other than before|lost: links", seen):
-                    seen = told(master.line())
-                if "came" in seen and "came" not in words:
-                    master.line()
-                return words if words in seen else seen
+            if "came" in seen and "came" not in words:
+                master.line()
+            return words if words in seen else seen
 
-            def after(command, words):
-                line.process.stdin.write(command.encode() + b"\n")
-                line.line()
-                return tells(words)
-
-            lost = "link 1 down: between slave 0 (0x1001) and slave 1 (0x1002)\n"
-            yield "one break", lost, after("link 1 down", lost)
-            yield "none", "ring whole", after("link 1 up", "ring whole")
-            yield "one break", lost, after("link 1 down", lost)
-            short = "came 6 of 9; links 1 and 2 down: slave 1 cut off (0x1002)\n"
-            yield "two breaks", short, after("link 2 down", short)
-            line.process.stdin.write(b"link 2 up\n")
+        def after(command, words):
+            line.process.stdin.write(command.encode() + b"\n")
             line.line()
-            seen = ""
-            while "good again" not in seen or lost not in seen:
-                seen += told(master.line())
-            yield "one break", "good again", re.search("good again", seen)[0]
-            master.process.stdin.close()
-            master.process.stdin = None
-            end = master.end()
-            cycles, good, short, over, fault = (int(n) for n in re.findall(r"\d+", last_lines(end, 6))[:5])
-            yield "sums", f"{cycles} 0", f"{good + short + over} {fault}"
-            yield "items", ITEMS + "0\n", last_lines(end, 3)
+            return tells(words)
+
+        lost = "link 1 down: between slave 0 (0x1001) and slave 1 (0x1002)\n"
+        yield "one break", lost, after("link 1 down", lost)
+        yield "none", "ring whole", after("link 1 up", "ring whole")
+        yield "one break", lost, after("link 1 down", lost)
+        short = "came 6 of 9; links 1 and 2 down: slave 1 cut off (0x1002)\n"
+        yield "two breaks", short, after("link 2 down", short)
+        line.process.stdin.write(b"link 2 up\n")
+        line.line()
+        seen = ""
+        while "good again" not in seen or lost not in seen:
+            seen += told(master.line())
+        yield "one break", "good again", re.search("good again", seen)[0]
+        master.process.stdin.close()
+        master.process.stdin = None
+        end = master.end()
+        cycles, good, short, over, fault = (int(n) for n in re.findall(r"\d+", last_lines(end, 6))[:5])
+        yield "sums", f"{cycles} 0", f"{good + short + over} {fault}"
+        yield "items", ITEMS + "0\n", last_lines(end, 3)
 
 
 @case
@@ -909,26 +917,22 @@ def a_line_elsewhere_is_asked(stage):
 @case
 def slaves_that_leave_op_are_told(stage):
     """A drive that leaves Op is named though all cycles are good, and so it is when it is there again."""
-    control = {"stdin": subprocess.PIPE}
-    with stage.serve(MACHINE, "--control", **control) as line:
-        stage.file("m", MACHINE)
-        words = ("master", "m", "--at", both_ends(stage), "--every", "2000", *PATIENCE)
-        with stage.start(*words, **control) as master:
-            for wanted in STARTED.splitlines(True):
-                yield "start", wanted, master.line()
-            command(line, "state 1 2")
-            yield "out of Op", "cycle N: not all in Op\n", told(master.line())
-            yield "who", "cycle N: slave 1 (0x1002) is in Pre-Op\n", told(master.line())
-            command(line, "state 1 8")
-            yield "in Op", "cycle N: all in Op again after M cycles\n", told(master.line())
-            command(line, "state 2 4")
-            yield "out of Op again", "cycle N: not all in Op\n", told(master.line())
-            yield "who else", "cycle N: slave 2 (0x1003) is in Safe-Op\n", told(master.line())
-            master.process.stdin.close()
-            master.process.stdin = None
-            end = timed(master.end())
-            yield "left", LEFT, end.splitlines(True)[0]
-            yield "status", "1\n", last_lines(end, 1)
+    with machine_and_master(stage) as (line, master):
+        for wanted in STARTED.splitlines(True):
+            yield "start", wanted, master.line()
+        command(line, "state 1 2")
+        yield "out of Op", "cycle N: not all in Op\n", told(master.line())
+        yield "who", "cycle N: slave 1 (0x1002) is in Pre-Op\n", told(master.line())
+        command(line, "state 1 8")
+        yield "in Op", "cycle N: all in Op again after M cycles\n", told(master.line())
+        command(line, "state 2 4")
+        yield "out of Op again", "cycle N: not all in Op\n", told(master.line())
+        yield "who else", "cycle N: slave 2 (0x1003) is in Safe-Op\n", told(master.line())
+        master.process.stdin.close()
+        master.process.stdin = None
+        end = timed(master.end())
+        yield "left", LEFT, end.splitlines(True)[0]
+        yield "status", "1\n", last_lines(end, 1)
         line.process.stdin.write(b"line\n")
         states = [line.line() for _ in range(4)]
         yield "states", "3", str(sum("state 1" in text for text in states))
