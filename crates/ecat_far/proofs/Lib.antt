@@ -1,1 +1,3 @@
+mod CopyLemmas
+pub mod HistoryLemmas
 pub mod NetworkLemmas

@@ -1,5 +1,5 @@
 -- Over a network that holds copies back, what a cycle brings is what the ring's own trips give.
-use Rattle.std.specs.Prelude.{◌≡◌, ◌≢◌, ◌⊎◌, ◌≤◌, ◌<◌, ℕ, Bool, true, false}
+use Rattle.std.specs.Prelude.{◌≡◌, ◌≢◌, ◌⊎◌, ◌+◌, ◌%◌, ◌≤◌, ◌<◌, ℕ, Bool, true, false}
 use Rattle.std.specs.Prelude.{List, [], ◌∷◌, ◌++◌, length, map, Option, None, Some, Ok, Err, Result, refl}
 use Rattle.std.specs.List.{AllByRecursion}
 use Rattle.std.proofs.Common.{arith, ap, sym, subst, ◌∙◌, inl, inr, cond, suc}
@@ -9,7 +9,7 @@ use Rattle.ec_line.specs.After.{Entry}
 use Rattle.ec_line.specs.Answered.{sent_of}
 use Rattle.ec_line.specs.Trip.{Trip, passed}
 use Rattle.ec_line.specs.Run.{trips_run}
-use Rattle.ec_map.specs.Item.{ItemRecord, IsItem}
+use Rattle.ec_map.specs.Item.{ItemRecord}
 use Rattle.ec_map.specs.Share.{expected_of}
 use Rattle.ec_ring.specs.Ring.{RingState, line_of, with_line}
 use Rattle.ec_ring.specs.Travel.{Travelled, travelled, with_a_first, with_b_first, trip_of, as_trip}
@@ -18,13 +18,15 @@ use Rattle.ec_ring.specs.declared.links.Links.{Links}
 use Rattle.ec_ring.specs.declared.links.TheConstants.{MAX_SLAVES}
 use Rattle.ec_ring.specs.declared.port.Port.{Port}
 use Rattle.ec_ring.specs.declared.port.Port.TheVariants.{A, B}
+use Rattle.ec_ring.specs.Arrivals.{copies_of}
+use Rattle.ec_ring.specs.declared.arrivals.Arrivals.{Arrivals}
+use Rattle.ec_ring.specs.declared.port.PortFault.{PortFault}
 use Rattle.ec_ring.specs.declared.weather.Came.{Came}
 use Rattle.ec_ring.specs.declared.weather.Weather.{Weather}
 use Rattle.ec_ring.proofs.Laws.{travelled-trip, length-walked_from_a, length-walked_from_b}
 use Rattle.ec_ring.proofs.Laws.{length-controllers}
-use Rattle.ec_seal.specs.Network.{Made, IsMade, MeetsLate, losing}
+use Rattle.ec_seal.specs.Network.{Made, MeetsLate, losing}
 use Rattle.ec_seal.specs.Opened.{opened_sealed, sealed_trip}
-use Rattle.ec_seal.specs.Seal.{CountersFit}
 use Rattle.ec_seal.specs.declared.seals.TheConstants.{TRIPS}
 use Rattle.ec_seal.proofs.Laws.{brings_own, line_behind}
 use Rattle.ec_master.specs.Cut.{entries_from, fits_frame, cut_onto, cut, frames_of}
@@ -34,12 +36,15 @@ use Rattle.ec_master.specs.Travelled.{trips_of}
 use Rattle.ec_master.specs.Unordered.{IsAccepted}
 use Rattle.ec_master.specs.declared.cycle.CycleFault.{CycleFault}
 use Rattle.ec_master.specs.declared.verdict.Verdict.{Verdict}
-use Rattle.ecat_far.specs.Network.{by_seal, Takes, NoneFailed, TakesAll, NetworkGaveAll, AreAllTaken}
-use Rattle.ecat_far.specs.Network.{IsGivenBy, IsOfCycle}
+use Rattle.ecat_far.specs.History.{PastTrip, Went, Gave}
+use Rattle.ecat_far.specs.Network.{by_seal, TripTaken, Takes, NoneFailed, TakesAll, NetworkGaveAll}
+use Rattle.ecat_far.specs.Network.{AreAllTaken, IsGivenBy, IsOfCycle, past_of, pasts_of}
 use Rattle.ecat_far.specs.Taken.{Gives, Heard, AreBoth, IsCopyOfTrip, sent_from, opened_came}
-use Rattle.ecat_far.specs.Trips.{FarState, FarTrip, FarTrips}
+use Rattle.ecat_far.specs.Trips.{FarState, Speaks, FarTrip, FarTrips, HeardCopies, HeardTrips, IsTurn}
+use Rattle.ecat_far.specs.Trips.{all_came, arrivals_of, came_of}
 use Rattle.ecat_far.specs.declared.copies.SealedCopy.{SealedCopy}
 use Rattle.ecat_far.specs.declared.ports.Both.{Both}
+use Rattle.ecat_far.proofs.HistoryLemmas.{MeetsSome, meets, made_now, went_one, turn_next}
 
 -- ---- two copies of one trip
 
@@ -96,16 +101,14 @@ both_in_either gives heard since trip sent both later are =
 
 -- ---- one trip
 
--- what came of a trip is what its own copies give, with nothing late
-pub trip_given : {C : Type 0} (gives : Gives C) (heard : Heard C) (before later : FarState C)
-    (es : List Entry) (both : Both) (came : Came) (w : Weather) (line : List ControllerState)
-    (late : List Made)
-    → is_circulating (sent_of es) ≡ false → Takes gives heard before (sent_of es) both came later
-    → MeetsLate (record { number = before.trip; frame = sent_of es; weather = w; line = line }) late
-    (by_seal both)
+-- what came of a trip that met late copies is what its own copies give, with nothing late
+given_meeting : {C : Type 0} (gives : Gives C) (heard : Heard C) (since n : ℕ) (es : List Entry) (both : Both)
+    (came : Came) (carrier : C) (w : Weather) (line : List ControllerState) (late : List Made)
+    → is_circulating (sent_of es) ≡ false → AreBoth gives heard since n (sent_of es) both carrier
+    → came ≡ opened_came n (sent_of es) both
+    → MeetsLate (record { number = n; frame = sent_of es; weather = w; line = line }) late (by_seal both)
     → GivenBy (trip_of (losing (by_seal both) w) es (length line)) line (Ok came)
-trip_given gives heard before later es both came w line late still takes meets =
-    let n : ℕ = before.trip in
+given_meeting gives heard since n es both came carrier w line late still are opened meets =
     let f : List DatagramRecord = sent_of es in
     let m : Made = record { number = n; frame = f; weather = w; line = line } in
     let v : Weather = losing (by_seal both) w in
@@ -113,20 +116,39 @@ trip_given gives heard before later es both came w line late still takes meets =
     let own : opened_sealed n f (by_seal both) ≡ (as_trip t (passed t line)).came =
     brings_own m late (by_seal both) meets
     ∙ ap (λ (x : Travelled). x.came) (travelled-trip v es line still) in
-    elim (both_in_either gives heard (heard before.carrier) n f both later.carrier takes.taken) [
-      | inl is ↦ inl (takes.opened ∙ is ∙ own)
-      | inr is ↦ inr (takes.opened ∙ is ∙ ap exchanged own)
+    elim (both_in_either gives heard since n f both carrier are) [
+      | inl is ↦ inl (opened ∙ is ∙ own)
+      | inr is ↦ inr (opened ∙ is ∙ ap exchanged own)
     ]
 
+-- what came of a trip is so, behind others of which copies may still come
+pub trip_given : {C : Type 0} (speaks : Speaks C) (gives : Gives C) (heard : Heard C)
+    (first before later : FarState C) (past : List PastTrip) (es : List Entry) (t : TripTaken) (came : Came)
+    (w : Weather) (line : List ControllerState) → length line ≤ MAX_SLAVES
+    → is_circulating (sent_of es) ≡ false → Went first past before
+    → Takes speaks gives heard before (sent_of es) t came later
+    → Gave before.late t.at past
+    (record { number = before.seals.next; frame = sent_of es; weather = w; line = line }) (by_seal t.both)
+    → GivenBy (trip_of (losing (by_seal t.both) w) es (length line)) line (Ok came)
+trip_given speaks gives heard first before later past es t came w line room still went takes gave =
+    let f : List DatagramRecord = sent_of es in
+    let n : ℕ = before.seals.next in
+    let m : Made = record { number = n; frame = f; weather = w; line = line } in
+    let some : MeetsSome m (by_seal t.both) =
+    meets gives heard first before later f t.at t.settled past t.both w line room went takes.turn takes.taken
+    gave in
+    given_meeting gives heard (heard before.carrier) n es t.both came later.carrier w line some.late still
+    takes.taken takes.opened some.meets
+
 -- and the trips leave the same line
-pub line_left : (n : ℕ) (es : List Entry) (w : Weather) (line : List ControllerState) (late : List Made)
-    (taken : Came) → is_circulating (sent_of es) ≡ false
-    → MeetsLate (record { number = n; frame = sent_of es; weather = w; line = line }) late taken
-    → (sealed_trip n w (sent_of es) line).line
+pub line_left : {C : Type 0} (before later : FarState C) (es : List Entry) (at : ℕ) (settled : Bool)
+    (w : Weather) (line : List ControllerState) (taken : Came) → length line ≤ MAX_SLAVES
+    → is_circulating (sent_of es) ≡ false → IsTurn before (sent_of es) at settled later
+    → (sealed_trip before.seals.next w (sent_of es) line).line
     ≡ (passed (trip_of (losing taken w) es (length line)) line).line
-line_left n es w line late taken still meets =
-    let m : Made = record { number = n; frame = sent_of es; weather = w; line = line } in
-    sym (line_behind m taken meets.made)
+line_left before later es at settled w line taken room still turn =
+    let m : Made = record { number = before.seals.next; frame = sent_of es; weather = w; line = line } in
+    sym (line_behind m taken (made_now before later (sent_of es) at settled w line room turn))
     ∙ ap (λ (x : Travelled). x.line) (travelled-trip (losing taken w) es line still)
 
 -- a trip leaves as many controllers as there were
@@ -141,39 +163,121 @@ length-travelled w f line =
       | false ↦ length-walked_from_b w.b f (walked_from_a w.a f line).line ∙ length-walked_from_a w.a f line
     ]
 
-length-left : (n : ℕ) (es : List Entry) (w : Weather) (line : List ControllerState) (late : List Made)
-    (taken : Came)
-    → MeetsLate (record { number = n; frame = sent_of es; weather = w; line = line }) late taken
-    → length (sealed_trip n w (sent_of es) line).line ≡ length line
-length-left n es w line late taken meets =
-    let m : Made = record { number = n; frame = sent_of es; weather = w; line = line } in
-    ap (λ (l : List ControllerState). length l) (sym (line_behind m taken meets.made))
+length-left : {C : Type 0} (before later : FarState C) (es : List Entry) (at : ℕ) (settled : Bool)
+    (w : Weather) (line : List ControllerState) (taken : Came) → length line ≤ MAX_SLAVES
+    → IsTurn before (sent_of es) at settled later
+    → length (sealed_trip before.seals.next w (sent_of es) line).line ≡ length line
+length-left before later es at settled w line taken room turn =
+    let m : Made = record { number = before.seals.next; frame = sent_of es; weather = w; line = line } in
+    ap (λ (l : List ControllerState). length l)
+    (sym (line_behind m taken (made_now before later (sent_of es) at settled w line room turn)))
     ∙ length-travelled (losing taken w) (sent_of es) line
 
 -- ---- the trips of frames
 
 -- on trips of which none failed copies were taken
-pub all_taken : {C : Type 0} (gives : Gives C) (heard : Heard C) (before later : FarState C)
-    (frames : List (List DatagramRecord)) (came : AllThatCame) → NoneFailed came
-    → Brings (FarTrips gives heard) before frames came later
-    → AreAllTaken gives heard before frames came later
+pub all_taken : {C : Type 0} (speaks : Speaks C) (gives : Gives C) (heard : Heard C)
+    (before later : FarState C) (frames : List (List DatagramRecord)) (came : AllThatCame) → NoneFailed came
+    → Brings (FarTrips speaks gives heard) before frames came later
+    → AreAllTaken speaks gives heard before frames came later
 unfolding Brings TakesAll
-all_taken gives heard before later frames [] none brought = record { taken = []; takes = (refl, brought) }
-all_taken gives heard before later [] (came ∷ more) none brought = absurd brought
-all_taken gives heard before later (sent ∷ frames) (Err failed ∷ more) none brought = absurd none
-all_taken {C} gives heard before later (sent ∷ frames) (Ok came ∷ more) none brought =
+all_taken speaks gives heard before later frames [] none brought =
+    record { taken = []; takes = (refl, brought) }
+all_taken speaks gives heard before later [] (came ∷ more) none brought = absurd brought
+all_taken speaks gives heard before later (sent ∷ frames) (Err failed ∷ more) none brought = absurd none
+all_taken {C} speaks gives heard before later (sent ∷ frames) (Ok came ∷ more) none brought =
     let between : FarState C = brought.0 in
-    let trip : FarTrip gives heard before sent came between = brought.1 in
-    let rest : AreAllTaken gives heard between frames more later =
-    all_taken gives heard between later frames more none brought.2 in
+    let trip : FarTrip speaks gives heard before sent came between = brought.1 in
+    let both : Both = trip.taken.both in
+    let rest : AreAllTaken speaks gives heard between frames more later =
+    all_taken speaks gives heard between later frames more none brought.2 in
     record {
-      taken = trip.taken.both ∷ rest.taken;
+      taken = record { at = trip.at; both = both; settled = all_came (speaks between.carrier) both }
+          ∷ rest.taken;
       takes = (
         between,
-        record { taken = trip.taken.taken; opened = trip.taken.opened; next = trip.next },
+        record {
+          taken = trip.taken.taken;
+          opened = trip.taken.opened;
+          settled = refl;
+          turn = trip.turn;
+        },
         rest.takes,
       );
     }
+
+-- no trip is of the past
+no_past : {C : Type 0} (number : ℕ) (frames : List (List DatagramRecord)) (before later : FarState C)
+    → later ≡ before → Went before (pasts_of number frames []) later
+no_past number [] before later same = same
+no_past number (sent ∷ frames) before later same = same
+
+both_arrived : (a b : Option (List DatagramRecord))
+    → copies_of (arrivals_of (record { a = a; b = b })) ≡ record { a = a; b = b }
+both_arrived None None = refl
+both_arrived None (Some b) = refl
+both_arrived (Some a) None = refl
+both_arrived (Some a) (Some b) = refl
+
+-- copies are those that are known to have arrived
+copies_arrived : (came : Came) → copies_of (arrivals_of came) ≡ came
+copies_arrived came = both_arrived came.a came.b
+
+-- a trip of which it is known where the copies arrived is such a trip of these copies
+pub heard_trip : {C : Type 0} (speaks : Speaks C) (gives : Gives C) (heard : Heard C)
+    (before later : FarState C) (sent : List DatagramRecord) (arrivals : Result Arrivals PortFault)
+    → HeardTrips speaks gives heard before sent arrivals later
+    → FarTrips speaks gives heard before sent (came_of arrivals) later
+heard_trip speaks gives heard before later sent (Ok arrivals) trip =
+    subst (λ (came : Came). FarTrip speaks gives heard before sent came later)
+    (sym (copies_arrived trip.copies) ∙ sym (ap copies_of trip.arrived)) trip.trip
+heard_trip speaks gives heard before later sent (Err failed) trip = trip
+
+brings_copies : {C : Type 0} (speaks : Speaks C) (gives : Gives C) (heard : Heard C)
+    (before later : FarState C) (frames : List (List DatagramRecord)) (came : AllThatCame)
+    → Brings (HeardCopies speaks gives heard) before frames came later
+    → Brings (FarTrips speaks gives heard) before frames came later
+unfolding Brings
+brings_copies speaks gives heard before later frames [] brought = brought
+brings_copies speaks gives heard before later [] (c ∷ more) brought = absurd brought
+brings_copies speaks gives heard before later (sent ∷ frames) (c ∷ more) brought =
+    let trip : HeardCopies speaks gives heard before sent c brought.0 = brought.1 in (
+      brought.0,
+      subst (λ (came : Result Came PortFault). FarTrips speaks gives heard before sent came brought.0)
+          (sym trip.copies) (heard_trip speaks gives heard before brought.0 sent trip.arrivals trip.made),
+      brings_copies speaks gives heard brought.0 later frames more brought.2,
+    )
+
+-- so copies were taken on them
+pub all_watched : {C : Type 0} (speaks : Speaks C) (gives : Gives C) (heard : Heard C)
+    (before later : FarState C) (frames : List (List DatagramRecord)) (came : AllThatCame) → NoneFailed came
+    → Brings (HeardCopies speaks gives heard) before frames came later
+    → AreAllTaken speaks gives heard before frames came later
+all_watched speaks gives heard before later frames came none brought =
+    all_taken speaks gives heard before later frames came none
+    (brings_copies speaks gives heard before later frames came brought)
+
+-- these trips are of the past behind them
+pub all_past : {C : Type 0} (speaks : Speaks C) (gives : Gives C) (heard : Heard C)
+    (before later : FarState C) (frames : List (List DatagramRecord)) (taken : List TripTaken)
+    (came : AllThatCame) → TakesAll speaks gives heard before frames taken came later
+    → Went before (pasts_of before.seals.next frames taken) later
+unfolding TakesAll
+all_past speaks gives heard before later frames taken [] takes =
+    subst (λ (l : List TripTaken). Went before (pasts_of before.seals.next frames l) later) (sym takes.0)
+    (no_past before.seals.next frames before later takes.1)
+all_past speaks gives heard before later [] taken (c ∷ more) takes = absurd takes
+all_past speaks gives heard before later (sent ∷ frames) [] (c ∷ more) takes = absurd takes
+all_past speaks gives heard before later (sent ∷ frames) (t ∷ taken) (Err f ∷ more) takes = absurd takes
+all_past {C} speaks gives heard before later (sent ∷ frames) (t ∷ taken) (Ok came ∷ more) takes =
+    let between : FarState C = takes.0 in
+    let turn : IsTurn before sent t.at t.settled between = takes.1.turn in (
+      between,
+      record { number = refl; turn = turn },
+      subst (λ (k : ℕ). Went between (pasts_of k frames taken) later)
+          (turn_next before.late t.at before.seals.next t.settled before.seals between.seals turn.run)
+          (all_past speaks gives heard between later frames taken more takes.2),
+    )
 
 -- a frame whose first circulating bit is not set
 abbrev Still : List Entry → Type 0
@@ -186,54 +290,69 @@ record AllGiven (links : Links) (n : ℕ) (fs : List (List Entry)) (line : List 
   given : AllGivenBy (trips_of weathers links n fs) line came
   left : length came ≡ length fs → behind ≡ (trips_run (trips_of weathers links n fs) line).line
 
-none_out : (trip : ℕ) (line behind : List ControllerState) (frames : List (List DatagramRecord))
-    (taken : List Both) → taken ≡ [] → NetworkGaveAll trip line frames taken behind → behind ≡ line
-none_out trip line behind frames taken is gave =
-    subst (λ (l : List Both). NetworkGaveAll trip line frames l behind) is gave
+none_out : (late : ℕ) (past : List PastTrip) (trip : ℕ) (line behind : List ControllerState)
+    (frames : List (List DatagramRecord)) (taken : List TripTaken) → taken ≡ []
+    → NetworkGaveAll late past trip line frames taken behind → behind ≡ line
+none_out late past trip line behind frames taken is gave =
+    subst (λ (l : List TripTaken). NetworkGaveAll late past trip line frames l behind) is gave
 
-all_given : {C : Type 0} (gives : Gives C) (heard : Heard C) (before later : FarState C) (links : Links)
-    (n : ℕ) (fs : List (List Entry)) (line : List ControllerState) (taken : List Both) (came : AllThatCame)
+all_given : {C : Type 0} (speaks : Speaks C) (gives : Gives C) (heard : Heard C)
+    (first before later : FarState C) (past : List PastTrip) (links : Links) (n : ℕ) (fs : List (List Entry))
+    (line : List ControllerState) (taken : List TripTaken) (came : AllThatCame)
     (behind : List ControllerState)
-    → length line ≡ n → AllByRecursion Still fs
-    → TakesAll gives heard before (map sent_of fs) taken came later
-    → NetworkGaveAll before.trip line (map sent_of fs) taken behind
+    → length line ≡ n → n ≤ MAX_SLAVES → AllByRecursion Still fs → Went first past before
+    → TakesAll speaks gives heard before (map sent_of fs) taken came later
+    → NetworkGaveAll before.late past before.seals.next line (map sent_of fs) taken behind
     → AllGiven links n fs line came behind
 unfolding TakesAll AllGivenBy trips_of trips_run
-all_given gives heard before later links n [] line taken [] behind size still takes gave = record {
-  weathers = [];
-  given = tt;
-  left = λ same. none_out before.trip line behind [] taken takes.0 gave;
-}
-all_given gives heard before later links n (es ∷ fs) line taken [] behind size still takes gave =
+all_given speaks gives heard first before later past links n [] line taken [] behind size room still went
+    takes gave = record {
+      weathers = [];
+      given = tt;
+      left = λ same. none_out before.late past before.seals.next line behind [] taken takes.0 gave;
+    }
+all_given speaks gives heard first before later past links n (es ∷ fs) line taken [] behind size room still
+    went takes gave =
     record { weathers = []; given = tt; left = λ same. absurd (omega (arith, same)) }
-all_given gives heard before later links n [] line taken (c ∷ more) behind size still takes gave =
-    absurd takes
-all_given gives heard before later links n (es ∷ fs) line [] (c ∷ more) behind size still takes gave =
-    absurd takes
-all_given gives heard before later links n (es ∷ fs) line (both ∷ taken) (Err f ∷ more) behind size still
-    takes gave = absurd takes
-all_given {C} gives heard before later links n (es ∷ fs) line (both ∷ taken) (Ok came ∷ more) behind size
-    still takes gave =
+all_given speaks gives heard first before later past links n [] line taken (c ∷ more) behind size room still
+    went takes gave = absurd takes
+all_given speaks gives heard first before later past links n (es ∷ fs) line [] (c ∷ more) behind size room
+    still went takes gave = absurd takes
+all_given speaks gives heard first before later past links n (es ∷ fs) line (t ∷ taken) (Err f ∷ more) behind
+    size room still went takes gave = absurd takes
+all_given {C} speaks gives heard first before later past links n (es ∷ fs) line (t ∷ taken) (Ok came ∷ more)
+    behind size room still went takes gave =
     let between : FarState C = takes.0 in
-    let here : Takes gives heard before (sent_of es) both came between = takes.1 in
+    let here : Takes speaks gives heard before (sent_of es) t came between = takes.1 in
+    let turn : IsTurn before (sent_of es) t.at t.settled between = here.turn in
+    let number : ℕ = before.seals.next in
     let w : Weather = gave.0 in
-    let late : List Made = gave.1 in
-    let meets : MeetsLate (record { number = before.trip; frame = sent_of es; weather = w; line = line }) late
-    (by_seal both) = gave.2 in
-    let v : Weather = losing (by_seal both) w in
-    let next : List ControllerState = (sealed_trip before.trip w (sent_of es) line).line in
+    let v : Weather = losing (by_seal t.both) w in
+    let fits : length line ≤ MAX_SLAVES = omega (arith, size, room) in
+    let next : List ControllerState = (sealed_trip number w (sent_of es) line).line in
+    let more_past : List PastTrip = past ++ past_of number (sent_of es) t ∷ [] in
+    let counted : between.seals.next ≡ (number + 1) % TRIPS =
+    turn_next before.late t.at number t.settled before.seals between.seals turn.run in
+    let gave_more : NetworkGaveAll between.late more_past between.seals.next next (map sent_of fs) taken
+    behind =
+    subst (λ (late : ℕ). NetworkGaveAll late more_past between.seals.next next (map sent_of fs) taken behind)
+    (sym turn.late)
+    (subst (λ (k : ℕ). NetworkGaveAll before.late more_past k next (map sent_of fs) taken behind)
+    (sym counted) gave.2) in
     let rest : AllGiven links n fs next more behind =
-    all_given gives heard between later links n fs next taken more behind
-    (length-left before.trip es w line late (by_seal both) meets ∙ size) still.1 takes.2
-    (subst (λ (k : ℕ). NetworkGaveAll k next (map sent_of fs) taken behind) (sym here.next) gave.3) in
+    all_given speaks gives heard first between later more_past links n fs next taken more behind
+    (length-left before between es t.at t.settled w line (by_seal t.both) fits turn ∙ size) room still.1
+    (went_one first before between past (past_of number (sent_of es) t) went
+    (record { number = refl; turn = turn })) takes.2 gave_more in
     let left : next ≡ (passed (trip_of v es n) line).line =
     subst (λ (k : ℕ). next ≡ (passed (trip_of v es k) line).line) size
-    (line_left before.trip es w line late (by_seal both) still.0 meets) in
+    (line_left before between es t.at t.settled w line (by_seal t.both) fits still.0 turn) in
     record {
       weathers = v ∷ rest.weathers;
       given = (
         subst (λ (k : ℕ). GivenBy (trip_of v es k) line (Ok came)) size
-            (trip_given gives heard before between es both came w line late still.0 here meets),
+            (trip_given speaks gives heard first before between past es t came w line fits still.0 went here
+            gave.1),
         subst (λ (l : List ControllerState). AllGivenBy (trips_of rest.weathers links n fs) l more) left
             rest.given,
       );
@@ -290,66 +409,39 @@ still_frames [] all = tt
 still_frames ([] ∷ fs) all = (refl, still_frames fs all.1)
 still_frames ((e ∷ es) ∷ fs) all = (all.0.1.0, still_frames fs all.1)
 
--- the counter of each has 16 bits
-abbrev Fits : Entry → Type 0
-Fits e = e.sent.counter < 65536
-
-fit_entries : (k : ℕ) (items : List ItemRecord) → AllByRecursion IsItem items
-    → AllByRecursion Fits (entries_from k items)
-unfolding entries_from
-fit_entries k [] are = tt
-fit_entries k (r ∷ rs) are = (are.0.counter, fit_entries (suc k) rs are.1)
-
-fit_sent : (es : List Entry) → AllByRecursion Fits es → CountersFit (sent_of es)
-fit_sent [] all = tt
-fit_sent (e ∷ es) all = (all.0, fit_sent es all.1)
-
--- each frame of items can be made on any trip, over any line
-made_frames : (number : ℕ) (w : Weather) (line : List ControllerState) (fs : List (List Entry))
-    → number < TRIPS → length line ≤ MAX_SLAVES → AllByRecursion (AtLeastOne Fits) fs
-    → AllByRecursion (λ (es : List Entry).
-    IsMade (record { number = number; frame = sent_of es; weather = w; line = line })) fs
-made_frames number w line [] is room all = tt
-made_frames number w line (es ∷ fs) is room all = (
-  record { number = is; some = all.0.0; counters = fit_sent es all.0.1; line = room },
-  made_frames number w line fs is room all.1,
-)
-
-pub are_made : (number : ℕ) (w : Weather) (line : List ControllerState) (items : List ItemRecord)
-    → number < TRIPS → length line ≤ MAX_SLAVES → AllByRecursion IsItem items
-    → AllByRecursion (λ (es : List Entry).
-    IsMade (record { number = number; frame = sent_of es; weather = w; line = line })) (frames_of items)
-are_made number w line items is room are =
-    made_frames number w line (frames_of items) is room
-    (each_cut Fits (entries_from 0 items) (fit_entries 0 items are))
-
 -- over a ring in some weathers the frames of items bring what they brought
-pub given_by : {C : Type 0} (gives : Gives C) (heard : Heard C) (before later : FarState C) (r : RingState)
-    (items : List ItemRecord) (taken : List Both) (came : AllThatCame) (behind : List ControllerState)
-    → TakesAll gives heard before (map sent_of (frames_of items)) taken came later
-    → NetworkGaveAll before.trip (line_of r) (map sent_of (frames_of items)) taken behind
+pub given_by : {C : Type 0} (speaks : Speaks C) (gives : Gives C) (heard : Heard C)
+    (first before later : FarState C) (past : List PastTrip) (r : RingState) (items : List ItemRecord)
+    (taken : List TripTaken) (came : AllThatCame) (behind : List ControllerState)
+    → length r.slaves ≤ MAX_SLAVES → Went first past before
+    → TakesAll speaks gives heard before (map sent_of (frames_of items)) taken came later
+    → NetworkGaveAll before.late past before.seals.next (line_of r) (map sent_of (frames_of items)) taken
+    behind
     → IsGivenBy r items came behind
-given_by gives heard before later r items taken came behind takes gave =
+given_by speaks gives heard first before later past r items taken came behind room went takes gave =
     let is : AllGiven r.links (length r.slaves) (frames_of items) (line_of r) came behind =
-    all_given gives heard before later r.links (length r.slaves) (frames_of items) (line_of r) taken came
-    behind (length-controllers r.slaves)
-    (still_frames (frames_of items) (each_cut Calm (entries_from 0 items) (calm_entries 0 items))) takes
+    all_given speaks gives heard first before later past r.links (length r.slaves) (frames_of items)
+    (line_of r) taken came behind (length-controllers r.slaves) room
+    (still_frames (frames_of items) (each_cut Calm (entries_from 0 items) (calm_entries 0 items))) went takes
     gave in
     record { weathers = is.weathers; given = is.given; left = is.left }
 
 -- so the end of the cycle says of the ring all that a cycle over it says
-pub says_of : {C : Type 0} (gives : Gives C) (heard : Heard C) (before later : FarState C) (r : RingState)
-    (items : List ItemRecord) (expected : List ℕ) (taken : List Both) (came : AllThatCame)
-    (behind : List ControllerState) (result : Result Verdict CycleFault) (items_later : List ItemRecord)
+pub says_of : {C : Type 0} (speaks : Speaks C) (gives : Gives C) (heard : Heard C)
+    (first before later : FarState C) (past : List PastTrip) (r : RingState) (items : List ItemRecord)
+    (expected : List ℕ) (taken : List TripTaken) (came : AllThatCame) (behind : List ControllerState)
+    (result : Result Verdict CycleFault) (items_later : List ItemRecord)
     → length r.slaves ≤ MAX_SLAVES → IsAccepted r.slaves items
     → expected ≡ map (expected_of (line_of r)) items → SaysOfEach items expected came result items_later
-    → TakesAll gives heard before (map sent_of (frames_of items)) taken came later
-    → NetworkGaveAll before.trip (line_of r) (map sent_of (frames_of items)) taken behind
+    → Went first past before
+    → TakesAll speaks gives heard before (map sent_of (frames_of items)) taken came later
+    → NetworkGaveAll before.late past before.seals.next (line_of r) (map sent_of (frames_of items)) taken
+    behind
     → IsOfCycle r items came behind result items_later
-says_of gives heard before later r items expected taken came behind result items_later room accepted counts
-    says takes gave =
+says_of speaks gives heard first before later past r items expected taken came behind result items_later room
+    accepted counts says went takes gave =
     let is : IsGivenBy r items came behind =
-    given_by gives heard before later r items taken came behind takes gave in
+    given_by speaks gives heard first before later past r items taken came behind room went takes gave in
     record {
       weathers = is.weathers;
       says = says is.weathers r room accepted counts is.given;

@@ -1,3 +1,5 @@
 pub mod Taken
 pub mod Trips
+pub mod History
 pub mod Network
+pub mod Tape

@@ -1,7 +1,7 @@
 -- A network that holds copies back behind the line, seen from the ports: which copies were taken on each
--- trip, and that each is of this trip or of another that is still out (IEC 61158-4-12, index and working
--- counter).
-use Rattle.std.specs.Prelude.{◌≡◌, ℕ, ◌+◌, ◌%◌, List, [], ◌∷◌, length, Option, None, Some}
+-- trip, and that each is of this trip or of an earlier one of which a copy may still come (IEC 61158-4-12,
+-- index and working counter).
+use Rattle.std.specs.Prelude.{◌≡◌, ℕ, ◌+◌, ◌%◌, Bool, List, [], ◌∷◌, ◌++◌, length, Option, None, Some}
 use Rattle.std.specs.Prelude.{Result, Ok, Err}
 use Rattle.ec_wire.specs.Datagram.{DatagramRecord}
 use Rattle.ec_esc.specs.State.{ControllerState}
@@ -11,7 +11,6 @@ use Rattle.ec_ring.specs.declared.port.Port.{Port}
 use Rattle.ec_ring.specs.declared.port.Port.TheVariants.{A, B}
 use Rattle.ec_ring.specs.declared.weather.Came.{Came}
 use Rattle.ec_ring.specs.declared.weather.Weather.{Weather}
-use Rattle.ec_seal.specs.Network.{Made, MeetsLate}
 use Rattle.ec_seal.specs.Opened.{sealed_trip}
 use Rattle.ec_seal.specs.declared.seals.TheConstants.{TRIPS}
 use Rattle.ec_master.specs.Cut.{frames_of}
@@ -20,7 +19,8 @@ use Rattle.ec_master.specs.Travelled.{trips_under, run_under, ring_under}
 use Rattle.ec_master.specs.declared.cycle.CycleFault.{CycleFault}
 use Rattle.ec_master.specs.declared.verdict.Verdict.{Verdict}
 use Rattle.ecat_far.specs.Taken.{Gives, Heard, AreBoth, opened_came}
-use Rattle.ecat_far.specs.Trips.{FarState}
+use Rattle.ecat_far.specs.History.{PastTrip, Gave}
+use Rattle.ecat_far.specs.Trips.{FarState, Speaks, IsTurn, all_came}
 use Rattle.ecat_far.specs.declared.copies.SealedCopy.{SealedCopy}
 use Rattle.ecat_far.specs.declared.ports.Both.{Both}
 
@@ -50,12 +50,19 @@ by_seal both = record {
   b = first_of (frame_if B both.a) (frame_if B both.b);
 }
 
--- these copies were taken on a trip; opened, they are what came, and the trips are in turn
-pub record Takes {C : Type 0} (gives : Gives C) (heard : Heard C) (before : FarState C)
-    (sent : List DatagramRecord) (both : Both) (came : Came) (later : FarState C) : Type 0 where
-  pub taken : AreBoth gives heard (heard before.carrier) before.trip sent both later.carrier
-  pub opened : came ≡ opened_came before.trip sent both
-  pub next : later.trip ≡ (before.trip + 1) % TRIPS
+-- what was taken on a trip, whose seals were given at a time and, where it is settled, handed back
+pub record TripTaken : Type 0 where
+  pub at : ℕ
+  pub both : Both
+  pub settled : Bool
+
+-- this was taken on a trip; opened, the copies are what came, and the trip had its turn
+pub record Takes {C : Type 0} (speaks : Speaks C) (gives : Gives C) (heard : Heard C) (before : FarState C)
+    (sent : List DatagramRecord) (t : TripTaken) (came : Came) (later : FarState C) : Type 0 where
+  pub taken : AreBoth gives heard (heard before.carrier) before.seals.next sent t.both later.carrier
+  pub opened : came ≡ opened_came before.seals.next sent t.both
+  pub settled : t.settled ≡ all_came (speaks later.carrier) t.both
+  pub turn : IsTurn before sent t.at t.settled later
 
 -- no trip failed
 abbrev pub NoneFailed : AllThatCame → Type 0
@@ -63,37 +70,49 @@ NoneFailed [] = Unit {0}
 NoneFailed (Ok came ∷ more) = NoneFailed more
 NoneFailed (Err failed ∷ more) = ⊥
 
--- frames go out one after the other, none of these trips fails, and on each these copies are taken; the last
--- frames may not have gone out
-unfoldable pub TakesAll : {C : Type 0} → Gives C → Heard C → FarState C → List (List DatagramRecord)
-    → List Both → AllThatCame → FarState C → Type 0
-TakesAll gives heard before frames taken [] later = (taken ≡ []) × (later ≡ before)
-TakesAll {C} gives heard before (sent ∷ frames) (both ∷ taken) (Ok came ∷ more) later =
-    (between : FarState C) × Takes gives heard before sent both came between
-    × TakesAll gives heard between frames taken more later
-TakesAll gives heard before frames taken (came ∷ more) later = ⊥
+-- frames go out one after the other, none of these trips fails, and on each this was taken; the last frames
+-- may not have gone out
+unfoldable pub TakesAll : {C : Type 0} → Speaks C → Gives C → Heard C → FarState C
+    → List (List DatagramRecord) → List TripTaken → AllThatCame → FarState C → Type 0
+TakesAll speaks gives heard before frames taken [] later = (taken ≡ []) × (later ≡ before)
+TakesAll {C} speaks gives heard before (sent ∷ frames) (t ∷ taken) (Ok came ∷ more) later =
+    (between : FarState C) × Takes speaks gives heard before sent t came between
+    × TakesAll speaks gives heard between frames taken more later
+TakesAll speaks gives heard before frames taken (came ∷ more) later = ⊥
+
+-- a trip on which this was taken, as one of the past
+abbrev pub past_of : ℕ → List DatagramRecord → TripTaken → PastTrip
+past_of number sent t = record { number = number; frame = sent; at = t.at; settled = t.settled }
+
+-- the trips of frames from a number on
+abbrev pub pasts_of : ℕ → List (List DatagramRecord) → List TripTaken → List PastTrip
+pasts_of number (sent ∷ frames) (t ∷ taken) =
+    past_of number sent t ∷ pasts_of ((number + 1) % TRIPS) frames taken
+pasts_of number _ _ = []
 
 -- ---- what the network gave
 
--- frames go out one after the other, each on the next trip over the line that the last one left, and on each
--- trip the network gave what was taken: under some weather, while copies of some other trips were out. This
--- is the line behind the last trip
-abbrev pub NetworkGaveAll : ℕ → List ControllerState → List (List DatagramRecord) → List Both
-    → List ControllerState → Type 0
-NetworkGaveAll trip line frames [] behind = behind ≡ line
-NetworkGaveAll trip line [] (both ∷ taken) behind = ⊥
-NetworkGaveAll trip line (sent ∷ frames) (both ∷ taken) behind =
-    (w : Weather) × (late : List Made)
-    × MeetsLate (record { number = trip; frame = sent; weather = w; line = line }) late (by_seal both)
-    × NetworkGaveAll ((trip + 1) % TRIPS) (sealed_trip trip w sent line).line frames taken behind
+-- frames go out one after the other, each on the next trip over the line that the last one left, behind
+-- others; and on each trip the network gave what was taken, under some weather. This is the line behind the
+-- last trip
+abbrev pub NetworkGaveAll : ℕ → List PastTrip → ℕ → List ControllerState → List (List DatagramRecord)
+    → List TripTaken → List ControllerState → Type 0
+NetworkGaveAll late past trip line frames [] behind = behind ≡ line
+NetworkGaveAll late past trip line [] (t ∷ taken) behind = ⊥
+NetworkGaveAll late past trip line (sent ∷ frames) (t ∷ taken) behind =
+    (w : Weather)
+    × Gave late t.at past (record { number = trip; frame = sent; weather = w; line = line }) (by_seal t.both)
+    × NetworkGaveAll late (past ++ past_of trip sent t ∷ []) ((trip + 1) % TRIPS)
+    (sealed_trip trip w sent line).line frames taken behind
 
 -- ---- what it says of the ring
 
--- copies were taken on the trips, none of which failed
-pub record AreAllTaken {C : Type 0} (gives : Gives C) (heard : Heard C) (before : FarState C)
-    (frames : List (List DatagramRecord)) (came : AllThatCame) (later : FarState C) : Type 0 where
-  pub taken : List Both
-  pub takes : TakesAll gives heard before frames taken came later
+-- this was taken on the trips, none of which failed
+pub record AreAllTaken {C : Type 0} (speaks : Speaks C) (gives : Gives C) (heard : Heard C)
+    (before : FarState C) (frames : List (List DatagramRecord)) (came : AllThatCame) (later : FarState C)
+    : Type 0 where
+  pub taken : List TripTaken
+  pub takes : TakesAll speaks gives heard before frames taken came later
 
 -- in some weathers the ring's own trips, with nothing late, give what came; where all frames went out, they
 -- leave the line that was left

@@ -4,6 +4,7 @@ ghost use Rattle.std.specs.Prelude.{◌≡◌, ◌≤◌, ◌<◌, ℕ, IfOk, If
 ghost use Rattle.std.specs.Option.{option_map};
 ghost use Rattle.ec_wire.specs.declared.frame.TheConstants.{PACKET_ROOM};
 ghost use Rattle.ecat_far.specs.Taken.{Gives, Heard};
+ghost use Rattle.ecat_far.specs.Trips.{Speaks};
 
 use ec_ring::{Port, PortFault};
 use ec_wire::PACKET_ROOM;
@@ -22,7 +23,11 @@ pub trait Carrier {
     ghost heard: { Heard Self };
 
     /// Does a port speak with an end of the line?
-    fn speaks(&self, at: Port) -> bool;
+    ghost speaks: { Speaks Self };
+
+    /// Does a port speak with an end of the line?
+    fn speaks(&self, at: Port) -> bool
+        ensures { result ≡ speaks self.now at };
 
     /// Drops what waits at both ports: it is late for what goes out next.
     fn drain(&mut self)
@@ -55,4 +60,14 @@ pub trait Carrier {
     /// How many sends and receives have failed.
     fn failures(&self) -> u64
         ensures { result ≡ failed self.now };
+}
+
+/// Copies the bytes of a packet into the front of the room, as far as that goes, and says how many there are.
+pub fn copy_front(frame: &[u8], into: &mut [u8; PACKET_ROOM]) -> usize
+    ensures room { result ≤ PACKET_ROOM }
+    ensures copied { take result into.new ≡ take PACKET_ROOM frame.now }
+{
+    let count = PACKET_ROOM.min(frame.len());
+    into[..count].copy_from_slice(&frame[..count]);
+    count
 }

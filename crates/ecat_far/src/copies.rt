@@ -2,6 +2,7 @@
 
 ghost use Rattle.std.specs.Prelude.{◌≡◌, ◌≢◌, ℕ, ◌<◌, List, Some, None, IfSome};
 ghost use Rattle.ec_wire.specs.Datagram.{DatagramRecord};
+ghost use Rattle.ec_wire.specs.Spelling.{IsFrameValue};
 ghost use Rattle.ec_seal.specs.Came.{IsCopy};
 ghost use Rattle.ec_seal.specs.Seal.{sealed_by};
 ghost use Rattle.ecat_far.specs.Taken.{AreSealed, IsCopyOfTrip, IsSealed, opened_copy};
@@ -31,8 +32,10 @@ pub struct Outgoing {
 /// A frame as it goes out on the trip with a number.
 pub(crate) fn seal_both(sent: &FrameBuf, trip: usize) -> Outgoing
     requires { trip < TRIPS }
-    ensures { AreSealed trip sent.now result }
+    ensures sealed { AreSealed trip sent.now result }
+    ensures frame { IsFrameValue sent.now }
 {
+    let _frame = sent.count();
     Outgoing {
         a: sealed(sent, Seal::a(trip)),
         b: sealed(sent, Seal::b(trip)),

@@ -4,10 +4,13 @@ ghost use Rattle.std.specs.Prelude.{◌≡◌, ◌+◌, ◌%◌, ◌≤◌, ◌<
 ghost use Rattle.std.specs.Option.{option_map};
 ghost use Rattle.ec_wire.specs.Datagram.{DatagramRecord};
 ghost use Rattle.ec_ring.specs.declared.port.Port.TheVariants.{A, B};
+ghost use Rattle.ec_wire.specs.Spelling.{IsFrameValue};
+ghost use Rattle.ec_seal.specs.Seals.{IsGiven, IsTable};
 ghost use Rattle.ec_seal.specs.declared.seals.TheConstants.{TRIPS};
 ghost use Rattle.ecat_far.specs.Taken.{AreBoth, AreSealed, IsTaken, opened_came, opened_copy};
 ghost use Rattle.ecat_far.specs.Taken.{sent_from};
 ghost use Rattle.ecat_far.specs.Trips.{FarState, FarTrips, HeardTrips, arrivals_of, arrived_at};
+ghost use Rattle.ecat_far.specs.Trips.{all_came, handed_back};
 
 use crate::carrier::Carrier;
 use crate::copies::{Outgoing, SealedCopy, copy_of_trip, opened, seal_both};
@@ -42,12 +45,22 @@ struct Both {
 pub struct Patience {
     /// For how long a trip waits for its copies, from when they were sent on.
     pub limit: u64,
-    /// For how long a copy that did not come may still be on its way: its seal is not given again before.
+    /// For how long a copy that did not come may still be on its way, from when its trip began: its seal is
+    /// not given again before.
     pub late: u64,
 }
 
-/// A master's two ports over what carries packets to a line and back. Contracts see what carries them, and
-/// the number of the next trip.
+/// Whose turn it is.
+#[derive(Drop)]
+struct Turn {
+    /// The trip's number.
+    number: usize,
+    /// When its seals were given.
+    at: u64,
+}
+
+/// A master's two ports over what carries packets to a line and back. Contracts see what carries them, the
+/// table of seals, for how long seals are held, and what time the timer has told.
 #[derive(Drop)]
 pub struct FarPorts<C: Carrier, T: Timer> {
     carrier: C,
@@ -63,13 +76,23 @@ impl<C: Carrier, T: Timer> Model for FarPorts<C, T> {
 
     ghost Value = { FarState C };
 
-    ghost view = { λ p. record { carrier = p.carrier; trip = p.seals.next } };
+    ghost view = { λ p. record {
+      carrier = p.carrier;
+      seals = p.seals;
+      late = p.patience.late;
+      time = T.told p.timer;
+    } };
 }
 
 impl<C: Carrier, T: Timer> FarPorts<C, T> {
     /// Ports over what carries the packets, whose copies get these seals one after the other.
     pub fn new(carrier: C, timer: T, patience: Patience, seals: Seals) -> FarPorts<C, T>
-        ensures { result ≡ record { carrier = carrier; trip = seals.next } }
+        ensures { result ≡ record {
+          carrier = carrier;
+          seals = seals;
+          late = patience.late;
+          time = T.told timer;
+        } }
     {
         FarPorts {
             carrier,
@@ -92,21 +115,25 @@ impl<C: Carrier, T: Timer> FarPorts<C, T> {
         &self.timer
     }
 
-    /// The number of this trip: the next one, once its seals are free. Where copies of its last trip did not
-    /// come, that is so long after they were sent.
-    fn next_trip(&mut self) -> usize
+    /// This trip's turn, once its seals are free. Where copies of the last trip with its number did not come,
+    /// that is so long after that one began.
+    fn next_turn(&mut self) -> Turn
         ensures carrier { self.new.carrier ≡ self.old.carrier }
-        ensures trip { result ≡ self.old.trip }
-        ensures below { result < TRIPS }
-        ensures next { self.new.trip ≡ (self.old.trip + 1) % TRIPS }
+        ensures late { self.new.late ≡ self.old.late }
+        ensures since { self.old.time ≤ result.at }
+        ensures told { result.at ≤ self.new.time }
+        ensures table { IsTable self.old.seals }
+        ensures given { IsGiven result.at self.old.late self.old.seals result.number self.new.seals }
+        ensures below { result.number < TRIPS }
     {
         let now = self.timer.now();
         match self.seals.give(now, self.patience.late) {
-            Ok(trip) => trip,
+            Ok(number) => Turn { number, at: now },
             Err(wait) => {
                 self.timer.rest(wait);
-                match self.seals.give(now + wait, self.patience.late) {
-                    Ok(trip) => trip,
+                let at = self.timer.now();
+                match self.seals.give(at, self.patience.late) {
+                    Ok(number) => Turn { number, at },
                     Err(_) => unreachable!(),
                 }
             }
@@ -119,7 +146,7 @@ impl<C: Carrier, T: Timer> FarPorts<C, T> {
         ensures counted { IsErr result → C.failed self.old.carrier < C.failed self.new.carrier }
         ensures never_lower { C.failed self.old.carrier ≤ C.failed self.new.carrier }
         ensures heard_on { C.heard self.old.carrier ≤ C.heard self.new.carrier }
-        ensures turn { self.new.trip ≡ self.old.trip }
+        ensures rest { self.new ≡ record self.old { carrier = self.new.carrier } }
     {
         if !self.is_settled {
             self.carrier.drain();
@@ -136,7 +163,8 @@ impl<C: Carrier, T: Timer> FarPorts<C, T> {
             → AreBoth C.gives C.heard (C.heard self.old.carrier) trip sent both self.new.carrier) }
         ensures counted { IsErr result → C.failed self.old.carrier < C.failed self.new.carrier }
         ensures never_lower { C.failed self.old.carrier ≤ C.failed self.new.carrier }
-        ensures turn { self.new.trip ≡ self.old.trip }
+        ensures time { self.old.time ≤ self.new.time }
+        ensures rest { self.new ≡ record self.old { carrier = self.new.carrier; time = self.new.time } }
     {
         let a = self.receive_copy(Port::A, out, None, until)?;
         let already = sent_from(&a);
@@ -160,7 +188,8 @@ impl<C: Carrier, T: Timer> FarPorts<C, T> {
         ensures counted { IsErr result → C.failed self.old.carrier < C.failed self.new.carrier }
         ensures never_lower { C.failed self.old.carrier ≤ C.failed self.new.carrier }
         ensures heard_on { C.heard self.old.carrier ≤ C.heard self.new.carrier }
-        ensures turn { self.new.trip ≡ self.old.trip }
+        ensures time { self.old.time ≤ self.new.time }
+        ensures rest { self.new ≡ record self.old { carrier = self.new.carrier; time = self.new.time } }
     {
         for _passed in 0..MOST_PASSED {
             let given = self.receive_packet(at, out, already, until)?;
@@ -187,7 +216,8 @@ impl<C: Carrier, T: Timer> FarPorts<C, T> {
         ensures counted { IsErr result → C.failed self.old.carrier < C.failed self.new.carrier }
         ensures never_lower { C.failed self.old.carrier ≤ C.failed self.new.carrier }
         ensures heard_on { C.heard self.old.carrier ≤ C.heard self.new.carrier }
-        ensures turn { self.new.trip ≡ self.old.trip }
+        ensures time { self.old.time ≤ self.new.time }
+        ensures rest { self.new ≡ record self.old { carrier = self.new.carrier; time = self.new.time } }
     {
         let within = until.saturating_sub(self.timer.now());
         let mut packet = [0; PACKET_ROOM];
@@ -206,7 +236,9 @@ impl<C: Carrier, T: Timer> FarPorts<C, T> {
     /// Frees the seals of a trip of which each copy came that was sent.
     fn settle(&mut self, trip: usize, both: &Both)
         requires { trip < TRIPS }
-        ensures { self.new ≡ self.old }
+        ensures { self.new ≡ record self.old {
+          seals = handed_back (all_came (C.speaks self.new.carrier) both.now) trip self.old.seals;
+        } }
     {
         let came_a = both.a.is_some() || !self.carrier.speaks(Port::A);
         let came_b = both.b.is_some() || !self.carrier.speaks(Port::B);
@@ -250,7 +282,7 @@ fn opened_if(copy: Option<SealedCopy>, trip: usize, sent: &FrameBuf) -> Option<F
 }
 
 impl<C: Carrier, T: Timer> Ports for FarPorts<C, T> {
-    ghost trips = { FarTrips C.gives C.heard };
+    ghost trips = { FarTrips C.speaks C.gives C.heard };
 
     ghost failed = { λ ports. C.failed ports.carrier };
 
@@ -258,13 +290,13 @@ impl<C: Carrier, T: Timer> Ports for FarPorts<C, T> {
     /// time: a packet is a copy exactly where it spells a frame that came of one of them, and each is taken
     /// once. The first call of the carrier that fails is the last.
     fn trip(&mut self, sent: &FrameBuf) -> Result<Came, PortFault> {
-        let trip = self.next_trip();
-        let out = seal_both(sent, trip);
+        let turn = self.next_turn();
+        let out = seal_both(sent, turn.number);
         self.send_copies(&out)?;
         let until = self.timer.now().saturating_add(self.patience.limit);
         let both = self.receive_copies(&out, until)?;
-        self.settle(trip, &both);
-        Ok(opened_came(both, trip, sent))
+        self.settle(turn.number, &both);
+        Ok(opened_came(both, turn.number, sent))
     }
 
     fn failures(&self) -> u64 {
@@ -274,7 +306,7 @@ impl<C: Carrier, T: Timer> Ports for FarPorts<C, T> {
 
 /// Where a copy arrived is known: at the port where it was received.
 impl<C: Carrier, T: Timer> HeardPorts for FarPorts<C, T> {
-    ghost trips = { HeardTrips C.gives C.heard };
+    ghost trips = { HeardTrips C.speaks C.gives C.heard };
 
     ghost failed = { λ ports. C.failed ports.carrier };
 

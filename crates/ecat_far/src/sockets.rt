@@ -2,7 +2,9 @@
 
 ghost use Rattle.std.specs.Prelude.{⊤, ◌≡◌, ◌+◌, ◌-◌, ◌^◌, ◌≤◌, ◌<◌, IfOk, IfSome, IsErr, IsOk, length};
 ghost use Rattle.std.specs.IoError.{error_kind};
+ghost use Rattle.std.specs.Option.{is_some};
 ghost use Rattle.ec_wire.specs.declared.frame.TheConstants.{PACKET_ROOM};
+ghost use Rattle.ecat_far.specs.Trips.{speaks_at};
 
 use crate::address::FarEnds;
 use crate::carrier::Carrier;
@@ -85,7 +87,9 @@ impl UdpCarrier {
     }
 
     /// The socket of a port, if it has one.
-    fn socket(&self, at: Port) -> Option<&UdpSocket> {
+    fn socket(&self, at: Port) -> Option<&UdpSocket>
+        ensures { is_some result ≡ speaks_at (is_some self.now.b) at }
+    {
         match (at, &self.b) {
             (Port::A, _) => Some(&self.a.socket),
             (Port::B, Some(b)) => Some(&b.socket),
@@ -127,6 +131,8 @@ impl Carrier for UdpCarrier {
 
     // no two receives are told apart
     ghost heard = { λ carrier. 0 };
+
+    ghost speaks = { λ carrier at. speaks_at (is_some carrier.b) at };
 
     fn speaks(&self, at: Port) -> bool {
         self.socket(at).is_some()

@@ -1,5 +1,7 @@
 //! The time by which seals are held and copies are waited for.
 
+ghost use Rattle.std.specs.Prelude.{◌≡◌, ◌+◌, ◌-◌, ◌^◌, ◌≤◌, ℕ, min};
+
 use std::io::Write;
 use std::rt::Clock;
 use std::time::{Duration, Instant};
@@ -8,16 +10,22 @@ use std::{io, thread};
 /// How many microseconds a millisecond has.
 const MICROS: u64 = 1000;
 
-/// What a master's ports tell the time by.
+/// What a master's ports tell the time by: it does not go back.
 pub trait Timer {
-    /// The microseconds since it began.
-    fn now(&mut self) -> u64;
+    /// How many microseconds have passed since it began, at the least, as far as it was asked.
+    ghost told: { Self → ℕ };
 
-    /// Waits for so many microseconds.
-    fn rest(&mut self, micros: u64);
+    /// The microseconds since it began.
+    fn now(&mut self) -> u64
+        ensures told { result ≡ told self.new }
+        ensures on { told self.old ≤ told self.new };
+
+    /// Waits for so many microseconds. Its greatest time is 2^64 - 1.
+    fn rest(&mut self, micros: u64)
+        ensures { min (told self.old + micros) (2 ^ 64 - 1) ≤ told self.new };
 }
 
-/// The system's clock, from when it is made on. One that fails stands still.
+/// The system's clock, from when it is made on. One that fails stands still, but for what was waited.
 #[derive(Drop)]
 pub struct ClockTimer<'a, R: Clock> {
     clock: &'a R,
@@ -37,15 +45,19 @@ impl<'a, R: Clock> ClockTimer<'a, R> {
 }
 
 impl<'a, R: Clock> Timer for ClockTimer<'a, R> {
+    ghost told = { λ timer. timer.last };
+
     fn now(&mut self) -> u64 {
         if let Ok(passed) = self.began.elapsed(self.clock) {
-            self.last = u64::try_from(passed.as_micros()).unwrap_or(u64::MAX);
+            let micros = u64::try_from(passed.as_micros()).unwrap_or(u64::MAX);
+            self.last = self.last.max(micros);
         }
         self.last
     }
 
     fn rest(&mut self, micros: u64) {
         thread::sleep(self.clock, Duration::from_micros(micros));
+        self.last = self.last.saturating_add(micros);
     }
 }
 
@@ -69,6 +81,8 @@ impl<T: Timer, W: Write> TellingTimer<T, W> {
 }
 
 impl<T: Timer, W: Write> Timer for TellingTimer<T, W> {
+    ghost told = { λ telling. T.told telling.timer };
+
     fn now(&mut self) -> u64 {
         self.timer.now()
     }

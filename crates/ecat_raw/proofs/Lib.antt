@@ -1,3 +1,2 @@
 mod AroundLemmas
-mod CopyLemmas
 mod HeaderLemmas

@@ -1,5 +1,6 @@
 -- What is taken of the packets that come, and from whom it comes.
-use Rattle.std.specs.Prelude.{◌≡◌, ℕ, ◌+◌, ◌-◌, ◌≤◌, if◌then◌else◌, List, [], ◌∷◌, take, slice_index}
+use Rattle.std.specs.Prelude.{◌≡◌, ◌⊎◌, ℕ, ◌+◌, ◌-◌, ◌≤◌, if◌then◌else◌, List, [], ◌∷◌, length, take, drop}
+use Rattle.std.specs.Prelude.{slice_index}
 use Rattle.std.specs.Prelude.{true, is_some}
 use Rattle.std.specs.Prelude.{Option, None, Some}
 use Rattle.std.specs.Net.Addr.{ipv6_segments, segments_of}
@@ -10,16 +11,25 @@ use Rattle.std.specs.declared.net.socket_addr.SocketAddr.{SocketAddr}
 use Rattle.ec_wire.specs.declared.frame.TheConstants.{PACKET_ROOM}
 use Rattle.ec_ring.specs.declared.port.Port.{Port}
 use Rattle.ecat_serve.specs.declared.ends.Arrived.{Arrived}
-use Rattle.ecat_raw.specs.Ethernet.{answer_in, answering, frame_in, header_in, is_marked}
+use Rattle.ecat_raw.specs.Ethernet.{answering, cut, frame_in, header_in, is_marked, source_of, type_of, typed}
 
 -- the bytes of a frame, as far as their room goes; none where there is no frame
 abbrev pub taken : Option (List ℕ) → List ℕ
 taken None = []
 taken (Some frame) = take PACKET_ROOM frame
 
--- what a master's port gives came of some packet: the frame of an answer, and no byte of any other packet
+-- a packet that answers a master: it has both addresses and a type behind them (14 bytes without a tag), the
+-- type is that of EtherCAT, and its source address says that it has passed a controller
+pub record IsAnswer (packet : List ℕ) : Type 0 where
+  pub whole : 14 ≤ length packet
+  pub own : type_of (typed packet) ≡ 0x88a4
+  pub passed : is_marked (source_of packet) ≡ true
+
+-- what a master's port gives: no byte, or the frame of such a packet, without padding, as far as its room
+-- goes
 abbrev pub IsGiven : List ℕ → Type 0
-IsGiven bytes = (packet : List ℕ) × (bytes ≡ taken (answer_in packet))
+IsGiven bytes = (bytes ≡ []) ⊎ ((packet : List ℕ) × IsAnswer packet
+    × (bytes ≡ take PACKET_ROOM (cut (drop 2 (typed packet)))))
 
 -- ---- who sent a packet
 

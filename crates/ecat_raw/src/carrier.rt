@@ -1,7 +1,9 @@
 //! What carries a master's frames over Ethernet.
 
 ghost use Rattle.std.specs.Prelude.{◌≡◌, ◌+◌, ◌-◌, ◌^◌, ◌≤◌, IfOk, IfSome, IsErr, IsOk, length, take};
+ghost use Rattle.std.specs.Option.{is_some};
 ghost use Rattle.ec_wire.specs.declared.frame.TheConstants.{MAX_FRAME, PACKET_ROOM};
+ghost use Rattle.ecat_far.specs.Trips.{speaks_at};
 ghost use Rattle.ecat_raw.specs.Ethernet.{answer_in};
 ghost use Rattle.ecat_raw.specs.Taken.{IsGiven, taken};
 
@@ -9,7 +11,7 @@ use crate::ethernet::{ADDRESS_A, ADDRESS_B, answer_in, packet_of};
 use crate::sockets::{Descriptors, PACKET, PacketSocket, RawFault, open_both};
 use ec_ring::{Port, PortFault};
 use ec_wire::{MAX_FRAME, PACKET_ROOM};
-use ecat_far::Carrier;
+use ecat_far::{Carrier, copy_front};
 use std::io::{self, ErrorKind};
 
 /// How many late packets are dropped at a port before a trip, at the most.
@@ -47,7 +49,9 @@ impl RawCarrier {
     }
 
     /// The socket of a port, if it has one.
-    fn socket(&self, at: Port) -> Option<&PacketSocket> {
+    fn socket(&self, at: Port) -> Option<&PacketSocket>
+        ensures { is_some result ≡ speaks_at (is_some self.now.b) at }
+    {
         match at {
             Port::A => Some(&self.a),
             Port::B => self.b.as_ref(),
@@ -76,6 +80,8 @@ impl Carrier for RawCarrier {
 
     // no two receives are told apart
     ghost heard = { λ carrier. 0 };
+
+    ghost speaks = { λ carrier at. speaks_at (is_some carrier.b) at };
 
     fn speaks(&self, at: Port) -> bool {
         self.socket(at).is_some()
@@ -150,16 +156,6 @@ fn take_answer(packet: &[u8], into: &mut [u8; PACKET_ROOM]) -> usize
         Some(frame) => copy_front(frame, into),
         None => 0,
     }
-}
-
-/// Copies a frame into the front of the room, as far as that goes, and says how many bytes it has there.
-pub(crate) fn copy_front(frame: &[u8], into: &mut [u8; PACKET_ROOM]) -> usize
-    ensures room { result ≤ PACKET_ROOM }
-    ensures copied { take result into.new ≡ take PACKET_ROOM frame.now }
-{
-    let count = PACKET_ROOM.min(frame.len());
-    into[..count].copy_from_slice(&frame[..count]);
-    count
 }
 
 /// Drops what waits at a socket.

@@ -1,24 +1,27 @@
 //! The ends of a line on Ethernet.
 
-ghost use Rattle.std.specs.Prelude.{◌≡◌, ◌≤◌, IfOk, IfSome};
-ghost use Rattle.ec_wire.specs.declared.frame.TheConstants.{PACKET_ROOM};
+ghost use Rattle.std.specs.Prelude.{◌≡◌, ◌≤◌, IfOk, IfSome, length};
+ghost use Rattle.ec_wire.specs.declared.frame.TheConstants.{MAX_FRAME, PACKET_ROOM};
 ghost use Rattle.ecat_serve.specs.Ends.{any_receive, any_send};
+ghost use Rattle.ecat_raw.specs.Ethernet.{under};
 ghost use Rattle.ecat_raw.specs.Taken.{IsTaken};
 
-use crate::carrier::copy_front;
 use crate::ethernet::{
-    ADDRESS_A, Header, answering, frame_in, header_in, header_of, sender_of, under,
+    ADDRESS_A, Header, Packet, answering, frame_in, header_in, header_of, sender_of, under,
 };
 use crate::sockets::{Descriptors, PACKET, PacketSocket, RawFault, open_both};
 use ec_ring::{Port, PortFault};
 use ec_wire::{MAX_FRAME, PACKET_ROOM};
+use ecat_far::copy_front;
 use ecat_serve::{
-    Arrived, Console, EndSockets, Ends, InputLine, LINE_ROOM, WaitFault, Waiting, may_try_again,
+    Arrived, Console, EndSockets, Ends, InputLine, LINE_ROOM, TimedEnds, WaitFault, Waited,
+    Waiting, may_try_again,
 };
 use std::alloc::Global;
 use std::io::Read;
 use std::net::{Net, SocketAddr};
 use std::os::fd::AsRawFd;
+use std::time::Duration;
 
 /// The packet sockets of both ends, and the header of the answer to what came last.
 #[derive(Drop)]
@@ -66,6 +69,14 @@ impl RawSockets {
         })
     }
 
+    /// The packet of a frame that answers what came last: it goes under the header of that.
+    fn answer_with(&self, frame: &[u8]) -> Packet
+        requires { length frame.now ≤ MAX_FRAME }
+        ensures { result.items ≡ under self.now.answers_under.items frame.now }
+    {
+        under(&self.answers_under, frame)
+    }
+
     /// Sends a frame from an end, as the answer to what came last; from an end with no socket nothing.
     fn send(&self, from: Port, frame: &[u8]) -> Result<(), PortFault> {
         let Some(socket) = self.socket(from) else {
@@ -74,7 +85,7 @@ impl RawSockets {
         if MAX_FRAME < frame.len() {
             return Err(PortFault);
         }
-        match socket.send(under(&self.answers_under, frame).as_slice()) {
+        match socket.send(self.answer_with(frame).as_slice()) {
             Ok(_) => Ok(()),
             Err(fault) if may_try_again(&fault) => Ok(()),
             Err(_) => Err(PortFault),
@@ -170,6 +181,16 @@ impl<I: Read + AsRawFd + Drop> Ends for RawEnds<I> {
 
     fn send(&mut self, from: Port, _to: SocketAddr, bytes: &[u8]) -> Result<(), PortFault> {
         self.sockets.send(from, bytes)
+    }
+}
+
+impl<I: Read + AsRawFd + Drop> TimedEnds for RawEnds<I> {
+    fn receive_within(
+        &mut self,
+        into: &mut [u8; PACKET_ROOM],
+        limit: Duration,
+    ) -> Result<Waited, PortFault> {
+        self.waiting.receive_within(&mut self.sockets, into, limit)
     }
 }
 

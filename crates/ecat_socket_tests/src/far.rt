@@ -5,6 +5,7 @@ ghost use Rattle.std.specs.Prelude.{◌<◌};
 mod passing;
 mod script;
 mod sockets;
+mod tape;
 
 use crate::asserts::assert_same;
 use ec_master::Ports;

@@ -4,9 +4,10 @@ use crate::copies::{Recorder, Way};
 use crate::moments::Moments;
 use ec_ring::{Port, PortFault};
 use ec_wire::PACKET_ROOM;
-use ecat_serve::{Arrived, Console, Ends, InputLine, LINE_ROOM};
+use ecat_serve::{Arrived, Console, Ends, InputLine, LINE_ROOM, TimedEnds, Waited};
 use std::io::Write;
 use std::net::SocketAddr;
+use std::time::Duration;
 
 /// The ends of a line that is served, of which each packet is recorded as its master has it: what comes to an
 /// end has left the master's port there, and what leaves an end arrives at that port. Contracts see the ends.
@@ -41,6 +42,21 @@ impl<E: Ends, W: Write, M: Moments> Ends for TapedEnds<'_, '_, E, W, M> {
     fn send(&mut self, from: Port, to: SocketAddr, bytes: &[u8]) -> Result<(), PortFault> {
         self.recorder.copy(from, Way::Arrives, bytes);
         self.ends.send(from, to, bytes)
+    }
+}
+
+impl<E: TimedEnds, W: Write, M: Moments> TimedEnds for TapedEnds<'_, '_, E, W, M> {
+    fn receive_within(
+        &mut self,
+        into: &mut [u8; PACKET_ROOM],
+        limit: Duration,
+    ) -> Result<Waited, PortFault> {
+        let waited = self.ends.receive_within(into, limit)?;
+        if let Waited::Arrived(arrived) = waited {
+            self.recorder
+                .copy(arrived.at, Way::Leaves, &into[..arrived.count]);
+        }
+        Ok(waited)
     }
 }
 

@@ -18,7 +18,7 @@
 //!   `12:52:4d:50:00:0b` arrives at port B, as `ecat_raw` sends and controllers pass on.
 //! - [`Moments`] are the times: a count, or the clock of the system.
 //! - [`TapedRing`], [`TapedPorts`], [`TapedLine`] and [`TapedEnds`] record what travels over a ring, over
-//!   packets, and to a line that is served.
+//!   packets, and to a line that is served; [`TapedCarrier`] what a master sends to a line somewhere else.
 //!
 //! What is promised, over a writer that tells its bytes:
 //!
@@ -30,6 +30,7 @@
 //! - recording changes nothing: to contracts a recorded ring is the ring, a recorded line the line, so that
 //!   what is proved of a cycle over them holds of one that is recorded.
 
+mod carriers;
 mod copies;
 mod ends;
 mod format;
@@ -39,6 +40,7 @@ mod promises;
 mod rings;
 mod tape;
 
+pub use carriers::TapedCarrier;
 pub use copies::{Recorder, Way, address_of, unrecorded};
 pub use ends::TapedEnds;
 pub use format::Unit;

@@ -6,6 +6,7 @@ use crate::asserts::assert_same;
 use ec_master::{PortFault, Ports};
 use ec_ring::{HeardPorts, Port};
 use ec_wire::{Form, FrameBuf};
+use ecat_far::greet;
 
 #[test]
 fn a_copy_comes_at_each_port(rt: HostRuntime) {
@@ -112,4 +113,16 @@ fn the_first_call_that_fails_ends_the_trip(rt: HostRuntime) {
         assert_same(&rt, Ports::failures(&ports), 1);
         assert_same(&rt, ports.trip(&sent).is_ok(), true);
     }
+}
+
+#[test]
+fn a_greeting_is_no_trip(rt: HostRuntime) {
+    // what comes of it is received at port A, once for each port
+    let mut script = Script::new([SENT; 4], 2, [under(0, 1); 4], 1);
+    let sent = FrameBuf::read(&SENT, Form::Udp).ok().expect(&rt, "a frame");
+    greet(&mut script, &sent, 20_000);
+    assert_same(&rt, (script.made, script.taken), (4, [2, 0]));
+    // the first trip has the seals 0 and 1
+    let mut ports = ports_over(&rt, rt.alloc(), script, Wound::still());
+    assert_same(&rt, trip(&rt, &mut ports), [None, Some((0x55, 1))]);
 }

@@ -1,6 +1,6 @@
 //! Packets that come as they are written down, and calls that fail in turn.
 
-ghost use Rattle.std.specs.Prelude.{⊤, ◌≡◌, ◌≤◌, ◌<◌, IsErr};
+ghost use Rattle.std.specs.Prelude.{⊤, ◌≡◌, ◌+◌, ◌-◌, ◌^◌, ◌≤◌, ◌<◌, IsErr, min, true};
 
 use ec_ring::{Port, PortFault};
 use ec_wire::PACKET_ROOM;
@@ -85,6 +85,8 @@ impl Carrier for Script {
 
     ghost heard = { λ script. 0 };
 
+    ghost speaks = { λ script at. true };
+
     fn speaks(&self, _at: Port) -> bool {
         true
     }
@@ -122,7 +124,7 @@ impl Carrier for Script {
 pub struct Wound {
     /// The microseconds since it began.
     pub now: u64,
-    /// How many microseconds pass with each look.
+    /// How many microseconds pass before each look.
     pub step: u64,
     /// For how long it rested.
     pub rested: u64,
@@ -140,10 +142,11 @@ impl Wound {
 }
 
 impl Timer for Wound {
+    ghost told = { λ timer. timer.now };
+
     fn now(&mut self) -> u64 {
-        let now = self.now;
-        self.now = now.saturating_add(self.step);
-        now
+        self.now = self.now.saturating_add(self.step);
+        self.now
     }
 
     fn rest(&mut self, micros: u64) {
