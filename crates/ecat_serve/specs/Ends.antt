@@ -1,6 +1,6 @@
 -- What the ends of a line are asked: which packets are received and which are sent, each told by the ends
 -- before and behind; and at which ports the ends lie.
-use Rattle.std.specs.Prelude.{◌+◌, Bool, true, false, List, ℕ, Option, None, Some, Result}
+use Rattle.std.specs.Prelude.{◌+◌, ◌≤◌, Bool, true, false, List, ℕ, Option, None, Some, Result}
 use Rattle.std.specs.Prelude.{Ok, Err, ⊤, if◌then◌else◌}
 use Rattle.std.specs.IoError.{error_kind}
 use Rattle.std.specs.declared.net.socket_addr.SocketAddr.{SocketAddr}
@@ -10,7 +10,10 @@ use Rattle.std.specs.declared.io.ErrorKind.TheVariants.{Interrupted, WouldBlock}
 use Rattle.ec_ring.specs.declared.port.PortFault.{PortFault}
 use Rattle.ec_ring.specs.declared.port.Port.{Port}
 use Rattle.ec_ring.specs.declared.port.Port.TheVariants.{A, B}
+use Rattle.ec_wire.specs.declared.frame.TheConstants.{PACKET_ROOM}
 use Rattle.ecat_serve.specs.declared.ends.Arrived.{Arrived}
+use Rattle.ecat_serve.specs.declared.ends.Waited.{Waited}
+use Rattle.ecat_serve.specs.declared.ends.Waited.TheVariants as waited
 use Rattle.ecat_serve.specs.declared.sockets.BindFault.{BindFault}
 use Rattle.ecat_serve.specs.declared.sockets.BindFault.TheVariants as bind
 use Rattle.ecat_serve.specs.declared.waiting.WaitFault.{WaitFault}
@@ -31,6 +34,11 @@ any_receive before answer room later = ⊤
 
 abbrev pub any_send : {E : Type 0} → Sends E
 any_send before from to packet answer later = ⊤
+
+-- a packet that came while ends were waited at lies in its room
+abbrev pub has_room : Waited → Type 0
+has_room (waited.Arrived arrived) = arrived.count ≤ PACKET_ROOM
+has_room _ = ⊤
 
 -- the end that is not this one
 abbrev pub other : Port → Port

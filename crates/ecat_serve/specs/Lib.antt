@@ -2,6 +2,7 @@ pub mod State
 pub mod Ends
 pub mod Answering
 pub mod Bench
+pub mod Disturbing
 pub mod Lines
 pub mod Rounds
 pub mod Commands

@@ -3,18 +3,30 @@
 ghost use Rattle.std.specs.Prelude.{◌≡◌, ◌+◌, ◌-◌, ◌^◌, ◌<◌, ◌≤◌, IfOk};
 ghost use Rattle.ecat_serve.specs.Commands.{IsCommanded, ServesCommanded};
 
+use crate::disturbed::{Disturb, Disturbance};
 use crate::ends::{Console, Ends};
 use crate::lines::{InputLine, LINE_ROOM};
 use crate::served::{Counts, Served};
 use crate::watch::Watch;
-use ec_ring::PortFault;
+use ec_ring::{Port, PortFault};
 
 /// Somebody who does to a line what he is told between two of its rounds.
 pub trait Desk {
     /// Does what a line of input asks, or none of it; `None` is a line that is too long. He is told how many
-    /// packets came so far. Does the service go on?
-    fn take(&mut self, served: &mut Served, came: Counts, line: Option<&[u8]>) -> bool
+    /// packets came so far, and answers how the service goes on.
+    fn take(&mut self, served: &mut Served, came: Counts, line: Option<&[u8]>) -> Onward
         ensures { IsCommanded served.old served.new };
+}
+
+/// How a service goes on behind a line of input.
+#[derive(Clone, Copy, PartialEq, Eq, Debug)]
+pub enum Onward {
+    /// It ends.
+    Ends,
+    /// It goes on.
+    Goes,
+    /// It goes on, and something befalls so many more of the copies that leave an end.
+    Disturbed(Port, Disturbance, u32),
 }
 
 impl Served {
@@ -22,7 +34,7 @@ impl Served {
     /// ends say that something else is to be looked at first. It ends behind a line that ends it, or where
     /// there is none, since no more is to come; once so many packets have come; and at the first call of the
     /// ends that fails. The answer is how many packets have come in.
-    pub fn serve_commanded<E: Ends + Console, V: Watch, D: Desk>(
+    pub fn serve_commanded<E: Ends + Console + Disturb, V: Watch, D: Desk>(
         &mut self,
         ends: &mut E,
         most: u64,
@@ -49,7 +61,7 @@ impl Served {
 }
 
 /// Takes a line that came, and does what it asks. Does the service go on? Not where none came.
-fn take_line<E: Console, D: Desk>(
+fn take_line<E: Console + Disturb, D: Desk>(
     served: &mut Served,
     ends: &mut E,
     desk: &mut D,
@@ -58,9 +70,17 @@ fn take_line<E: Console, D: Desk>(
     ensures { IsCommanded served.old served.new }
 {
     let mut room = [0; LINE_ROOM];
-    match ends.take_line(&mut room) {
-        None => false,
+    let onward = match ends.take_line(&mut room) {
+        None => Onward::Ends,
         Some(InputLine::Long) => desk.take(served, came, None),
         Some(InputLine::Whole(count)) => desk.take(served, came, Some(&room[..count])),
+    };
+    match onward {
+        Onward::Ends => false,
+        Onward::Goes => true,
+        Onward::Disturbed(at, disturbance, count) => {
+            ends.disturb(at, disturbance, count);
+            true
+        }
     }
 }

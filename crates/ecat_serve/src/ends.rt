@@ -1,7 +1,7 @@
 //! The two ends of a line, at which anybody may speak.
 
 ghost use Rattle.std.specs.Prelude.{◌≤◌, IfOk, IfSome};
-ghost use Rattle.ecat_serve.specs.Ends.{Receives, Sends};
+ghost use Rattle.ecat_serve.specs.Ends.{Receives, Sends, has_room};
 ghost use Rattle.ecat_serve.specs.Lines.{IsInRoom};
 ghost use Rattle.ec_wire.specs.declared.frame.TheConstants.{PACKET_ROOM};
 
@@ -9,6 +9,7 @@ use crate::lines::{InputLine, LINE_ROOM};
 use ec_ring::{Port, PortFault};
 use ec_wire::PACKET_ROOM;
 use std::net::SocketAddr;
+use std::time::Duration;
 
 /// A packet that came in.
 #[derive(Clone, Copy, PartialEq, Eq, Debug)]
@@ -48,4 +49,26 @@ pub trait Ends {
     /// Sends a packet from an end to somebody.
     fn send(&mut self, from: Port, to: SocketAddr, bytes: &[u8]) -> Result<(), PortFault>
         ensures run { sends self.old from to bytes.now result self.new };
+}
+
+/// What came while ends were waited at for a time.
+#[derive(Clone, Copy, PartialEq, Eq, Debug)]
+pub enum Waited {
+    /// A packet came in.
+    Arrived(Arrived),
+    /// No packet has come yet.
+    Silent,
+    /// No more is to come, or something else is to be looked at first.
+    Ended,
+}
+
+/// Ends that can be waited at for a time.
+pub trait TimedEnds: Ends {
+    /// Waits for a packet at either end as `receive` does, but so long at most; it may wait less.
+    fn receive_within(
+        &mut self,
+        into: &mut [u8; PACKET_ROOM],
+        limit: Duration,
+    ) -> Result<Waited, PortFault>
+        ensures room { IfOk result has_room };
 }

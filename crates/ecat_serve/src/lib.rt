@@ -10,6 +10,7 @@
 //! - `Waiting`: what waits at two ends and at an input at once, for sockets of any kind (`EndSockets`).
 //! - `Served::set_link`, `lose`, `unplug`, `load` and `set_state` (`bench`): what somebody does to the line
 //!   between its packets, and `Console`: the lines by which he says so, which `UdpEnds` takes of its input.
+//! - `Disturbed`: ends whose copies leave late, twice or damaged where a command asks for it (`Disturb`).
 //! - `Watch`: who is told of each packet by `Served::serve_watched`; what he is told is required to be so.
 //!
 //! A packet that is a frame in the UDP form walks from the end where it came in, under the ring's own links;
@@ -45,6 +46,7 @@
 
 pub mod bench;
 pub mod commands;
+pub mod disturbed;
 pub mod ends;
 pub mod lines;
 pub mod served;
@@ -53,8 +55,9 @@ pub mod waiting;
 pub mod watch;
 
 pub use bench::BenchFault;
-pub use commands::Desk;
-pub use ends::{Arrived, Console, Ends};
+pub use commands::{Desk, Onward};
+pub use disturbed::{Disturb, Disturbance, Disturbed, Times};
+pub use ends::{Arrived, Console, Ends, TimedEnds, Waited};
 pub use lines::{InputLine, LINE_ROOM};
 pub use served::{Counts, Round, Served};
 pub use sockets::{BindFault, UdpEnds};

@@ -7,7 +7,7 @@ ghost use Rattle.ec_ring.specs.declared.port.Port.TheVariants.{A, B};
 ghost use Rattle.ecat_serve.specs.Ends.{any_receive, any_send, asked_port, received, unwaited};
 ghost use Rattle.ec_wire.specs.declared.frame.TheConstants.{PACKET_ROOM};
 
-use crate::ends::{Arrived, Console, Ends};
+use crate::ends::{Arrived, Console, Ends, TimedEnds, Waited};
 use crate::lines::{InputLine, LINE_ROOM};
 use crate::waiting::{EndSockets, WaitFault, Waiting, may_try_again};
 use ec_ring::{Port, PortFault};
@@ -17,6 +17,7 @@ use std::alloc::Global;
 use std::io::{self, Read};
 use std::net::{IpAddr, Ipv4Addr, Net, SocketAddr};
 use std::os::fd::AsRawFd;
+use std::time::Duration;
 
 /// Why a line of sockets could not be opened.
 #[derive(Clone, Copy, PartialEq, Eq, Debug)]
@@ -163,6 +164,16 @@ impl<I: Read + AsRawFd + Drop> Ends for UdpEnds<I> {
             Ok(_) => Ok(()),
             Err(_) => Err(PortFault),
         }
+    }
+}
+
+impl<I: Read + AsRawFd + Drop> TimedEnds for UdpEnds<I> {
+    fn receive_within(
+        &mut self,
+        into: &mut [u8; PACKET_ROOM],
+        limit: Duration,
+    ) -> Result<Waited, PortFault> {
+        self.waiting.receive_within(&mut self.sockets, into, limit)
     }
 }
 

@@ -2,11 +2,11 @@
 
 ghost use Rattle.std.specs.Prelude.{◌≡◌, ◌≢◌, ◌≤◌, IfOk, IfErr, IfSome};
 ghost use Rattle.std.specs.IoError.{error_kind};
-ghost use Rattle.ecat_serve.specs.Ends.{other, says_again};
+ghost use Rattle.ecat_serve.specs.Ends.{has_room, other, says_again};
 ghost use Rattle.ecat_serve.specs.Lines.{IsInRoom};
 ghost use Rattle.ec_wire.specs.declared.frame.TheConstants.{PACKET_ROOM};
 
-use crate::ends::Arrived;
+use crate::ends::{Arrived, Waited};
 use crate::lines::{InputLine, InputLines, LINE_ROOM, PIECE_ROOM};
 use ec_ring::{Port, PortFault};
 use ec_wire::PACKET_ROOM;
@@ -145,6 +145,31 @@ impl<I: Read + AsRawFd + Drop> Waiting<I> {
             self.wait(None)?;
         }
         Ok(None)
+    }
+
+    /// Receives a packet that is there at either end, as `receive` does; else it waits for one, so long at
+    /// most, or until anything comes.
+    pub fn receive_within<S: EndSockets>(
+        &mut self,
+        sockets: &mut S,
+        into: &mut [u8; PACKET_ROOM],
+        limit: Duration,
+    ) -> Result<Waited, PortFault>
+        ensures room { IfOk result has_room }
+    {
+        if self.is_due()? {
+            return Ok(Waited::Ended);
+        }
+        if let Some(arrived) = self.receive_waiting(sockets, into)? {
+            self.in_a_row = self.in_a_row.saturating_add(1);
+            return Ok(Waited::Arrived(arrived));
+        }
+        self.in_a_row = 0;
+        if self.has_ended() || self.lines.holds_line() {
+            return Ok(Waited::Ended);
+        }
+        self.wait(Some(limit))?;
+        Ok(Waited::Silent)
     }
 
     /// Has the input ended?

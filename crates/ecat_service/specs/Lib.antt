@@ -1,3 +1,4 @@
 pub mod Controls
+pub mod Onward
 pub mod Raw
 pub mod Services

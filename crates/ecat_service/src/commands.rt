@@ -2,6 +2,7 @@
 
 ghost use Rattle.std.specs.Prelude.{◌≡◌, OnErr};
 ghost use Rattle.ecat_serve.specs.Commands.{IsCommanded};
+ghost use Rattle.ecat_service.specs.Onward.{onward_of};
 
 use crate::service::Service;
 use crate::serving::{most_packets, print_counts, print_end, print_where};
@@ -9,7 +10,9 @@ use crate::slave_lines::print_line;
 use ecat_line::LineFailure;
 use ecat_log::Log;
 use ecat_scene::{BenchCommand, CommandFault, LineFault, SlaveName};
-use ecat_serve::{BenchFault, Console, Counts, Desk, Ends, Served, Unwatched, Watch};
+use ecat_serve::{
+    BenchFault, Console, Counts, Desk, Disturb, Disturbance, Ends, Onward, Served, Unwatched, Watch,
+};
 use ecat_text::{GOOD, Lines, print_areas};
 use std::alloc::Global;
 use std::fmt;
@@ -49,30 +52,30 @@ struct Commands<'a, W> {
 }
 
 impl<W: Write> Desk for Commands<'_, W> {
-    fn take(&mut self, served: &mut Served, came: Counts, line: Option<&[u8]>) -> bool {
+    fn take(&mut self, served: &mut Served, came: Counts, line: Option<&[u8]>) -> Onward {
         let answered = match line {
             None => print_refusal(Refusal::TooLong, &mut self.lines),
             Some(line) => answer(self.alloc, served, came, line, &mut self.lines),
         };
         match answered {
-            Ok(goes_on) => goes_on,
+            Ok(onward) => onward,
             Err(failure) => {
                 self.failed = Some(failure);
-                false
+                Onward::Ends
             }
         }
     }
 }
 
 /// Does the command of a line, and prints what it is answered by: what was asked for and `ok`, or why it is
-/// refused. Does the service go on?
+/// refused. It answers how the service goes on.
 fn answer<W: Write>(
     alloc: Global,
     served: &mut Served,
     came: Counts,
     line: &[u8],
     lines: &mut Lines<'_, W>,
-) -> Result<bool, LineFailure>
+) -> Result<Onward, LineFailure>
     ensures { IsCommanded served.old served.new }
 {
     let command = match BenchCommand::read(alloc, line) {
@@ -85,13 +88,13 @@ fn answer<W: Write>(
     }
 }
 
-/// Prints what a command that was done asks for, and `ok`. Does the service go on?
+/// Prints what a command that was done asks for, and `ok`; and answers how the service goes on.
 fn print_done<W: Write>(
     served: &Served,
     came: Counts,
     command: &BenchCommand,
     lines: &mut Lines<'_, W>,
-) -> Result<bool, LineFailure> {
+) -> Result<Onward, LineFailure> {
     match command {
         BenchCommand::Areas => print_areas(served.ring().slaves(), lines)?,
         BenchCommand::Line => print_line(served.ring(), lines)?,
@@ -101,12 +104,36 @@ fn print_done<W: Write>(
         | BenchCommand::Load { .. }
         | BenchCommand::State { .. }
         | BenchCommand::Lose { .. }
+        | BenchCommand::Late { .. }
+        | BenchCommand::Double { .. }
+        | BenchCommand::Damage { .. }
         | BenchCommand::Unplug { .. }
         | BenchCommand::Quit => {}
     }
     lines.text("ok")?;
     lines.end()?;
-    Ok(!matches!(command, BenchCommand::Quit))
+    Ok(onward_of(command))
+}
+
+/// How a service goes on behind a command that was done.
+fn onward_of(command: &BenchCommand) -> Onward
+    ensures { result ≡ onward_of command.now }
+{
+    match command {
+        BenchCommand::Quit => Onward::Ends,
+        BenchCommand::Late {
+            at,
+            milliseconds,
+            count,
+        } => Onward::Disturbed(*at, Disturbance::Late(*milliseconds), *count),
+        BenchCommand::Double { at, count } => {
+            Onward::Disturbed(*at, Disturbance::Double, *count)
+        }
+        BenchCommand::Damage { at, count } => {
+            Onward::Disturbed(*at, Disturbance::Damage, *count)
+        }
+        _ => Onward::Goes,
+    }
 }
 
 /// Changes the line as a command asks. What is refused changes nothing.
@@ -133,6 +160,9 @@ fn change(served: &mut Served, command: &BenchCommand) -> Result<(), BenchFault>
             Ok(())
         }
         BenchCommand::Nothing
+        | BenchCommand::Late { .. }
+        | BenchCommand::Double { .. }
+        | BenchCommand::Damage { .. }
         | BenchCommand::Areas
         | BenchCommand::Line
         | BenchCommand::Counts
@@ -181,10 +211,10 @@ fn refusal_of(fault: BenchFault) -> Refusal {
 fn print_refusal<W: Write>(
     refusal: Refusal,
     lines: &mut Lines<'_, W>,
-) -> Result<bool, LineFailure> {
+) -> Result<Onward, LineFailure> {
     lines.text(refusal)?;
     lines.end()?;
-    Ok(true)
+    Ok(Onward::Goes)
 }
 
 /// Serves a line that has these ends under the commands that they bring, and answers the exit status. It
@@ -199,7 +229,7 @@ pub fn control<E, W, V>(
     err: &mut V,
 ) -> Result<u8, LineFailure>
 where
-    E: Ends + Console,
+    E: Ends + Console + Disturb,
     W: Write,
     V: Write,
 {
@@ -220,7 +250,7 @@ fn control_watched<E, V, W>(
     out: &mut W,
 ) -> Result<u8, LineFailure>
 where
-    E: Ends + Console,
+    E: Ends + Console + Disturb,
     V: Watch,
     W: Write,
 {

@@ -15,6 +15,7 @@ mod applications;
 mod bench;
 mod commands;
 mod console;
+mod disturbed;
 mod faults;
 mod input;
 mod line;

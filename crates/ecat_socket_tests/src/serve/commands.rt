@@ -7,7 +7,10 @@ use crate::serve::line::{Spelling, served};
 use crate::serve::memory::{MemoryEnds, Packet, assert_counts};
 use ec_ring::{Port, PortFault};
 use ec_wire::PACKET_ROOM;
-use ecat_serve::{Arrived, Console, Counts, Desk, Ends, InputLine, LINE_ROOM, Served, Unwatched};
+use ecat_serve::{
+    Arrived, Console, Counts, Desk, Disturb, Disturbance, Ends, InputLine, LINE_ROOM, Onward,
+    Served, Unwatched,
+};
 use std::net::SocketAddr;
 use std::process::Abort;
 
@@ -25,6 +28,7 @@ struct Talk {
     ends: MemoryEnds,
     order: &'static [Next],
     at: usize,
+    disturbed: Option<(Port, Disturbance, u32)>,
 }
 
 impl Talk {
@@ -69,7 +73,14 @@ impl Console for Talk {
     }
 }
 
-/// Somebody who breaks and mends link 1, and keeps how many packets had come at the last line.
+impl Disturb for Talk {
+    fn disturb(&mut self, at: Port, disturbance: Disturbance, count: u32) {
+        self.disturbed = Some((at, disturbance, count));
+    }
+}
+
+/// Somebody who breaks and mends link 1, has two copies leave end B twice, and keeps how many packets had
+/// come at the last line.
 #[derive(Drop)]
 struct Hand {
     came: u64,
@@ -77,18 +88,24 @@ struct Hand {
 }
 
 impl Desk for Hand {
-    fn take(&mut self, served: &mut Served, came: Counts, line: Option<&[u8]>) -> bool {
+    fn take(&mut self, served: &mut Served, came: Counts, line: Option<&[u8]>) -> Onward {
         self.came = came.packets();
         match line {
-            Some(b"d") => served.set_link(1, false).is_ok(),
-            Some(b"u") => served.set_link(1, true).is_ok(),
-            Some(_) => false,
+            Some(b"d") => onward(served.set_link(1, false).is_ok()),
+            Some(b"u") => onward(served.set_link(1, true).is_ok()),
+            Some(b"2") => Onward::Disturbed(Port::B, Disturbance::Double, 2),
+            Some(_) => Onward::Ends,
             None => {
                 self.long = true;
-                true
+                Onward::Goes
             }
         }
     }
+}
+
+/// The service goes on, or it ends.
+fn onward(goes_on: bool) -> Onward {
+    if goes_on { Onward::Goes } else { Onward::Ends }
 }
 
 /// What comes to a line in its order, and what becomes of it.
@@ -238,6 +255,7 @@ fn assert_row(rt: &impl Abort, served: &mut Served, row: &Row) {
         ends: MemoryEnds::new(&FOUR, row.failing),
         order: row.order,
         at: 0,
+        disturbed: None,
     };
     let mut desk = Hand {
         came: 0,
@@ -262,4 +280,27 @@ fn lines_come_between_packets(rt: HostRuntime) {
         let mut served = served(&rt, rt.alloc(), [true; 3]);
         assert_row(&rt, &mut served, row);
     }
+}
+
+#[test]
+fn a_line_may_have_copies_disturbed_and_the_service_goes_on(rt: HostRuntime) {
+    let mut served = served(&rt, rt.alloc(), [true; 3]);
+    let mut talk = Talk {
+        ends: MemoryEnds::new(&FOUR, 0),
+        order: &[Next::Packet, Next::Line(b'2'), Next::Packet],
+        at: 0,
+        disturbed: None,
+    };
+    let mut desk = Hand {
+        came: 0,
+        long: false,
+    };
+    let counts = served.serve_commanded(&mut talk, 9, &mut Unwatched, &mut desk);
+    assert_counts(&rt, "behind the line", counts, Some((2, 0)));
+    assert_found(
+        &rt,
+        "what is disturbed",
+        talk.disturbed,
+        Some((Port::B, Disturbance::Double, 2)),
+    );
 }
