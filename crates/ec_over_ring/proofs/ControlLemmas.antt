@@ -37,7 +37,7 @@ unfolding some_address takes_writes
 control_taken m = refl
 
 -- so it is served
-control_served : (m : List ℕ) → serves_physical_write m (sync_managers_of m) 288 2 ≡ true
+pub control_served : (m : List ℕ) → serves_physical_write m (sync_managers_of m) 288 2 ≡ true
 control_served m =
     let rest : Bool = is_some (filled_by (sync_managers_of m) 288 2) in
     ap (λ (b : Bool). (not b && some_address (takes_writes m) 288 2) || rest)
@@ -133,7 +133,7 @@ control_touched m =
     some_of : (o : Option ℕ) (x : ℕ) → o ≡ Some x → IsSome o
     some_of o x is = subst (λ (y : Option ℕ). IsSome y) (sym is) refl
 
-settled_size : (before after : List ℕ) → length (settled before after) ≡ length after
+pub settled_size : (before after : List ℕ) → length (settled before after) ≡ length after
 unfolding settled
 settled_size before after = length-map-range_with_len (settled_byte before after) 0 (length after)
 
@@ -213,7 +213,7 @@ control_station c address control controller meant place =
     ∙ omega (arith, low, high)
 
 -- and a controller stays one
-bytes_settled : (before after : List ℕ) → AreBytes after → AreBytes (settled before after)
+pub bytes_settled : (before after : List ℕ) → AreBytes after → AreBytes (settled before after)
 unfolding settled
 bytes_settled before after bytes k =
     ⊎_elim

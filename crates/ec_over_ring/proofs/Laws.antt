@@ -35,7 +35,11 @@ use Rattle.ec_over_ring.proofs.NobodyLemmas as nobody
 use Rattle.ec_over_ring.proofs.StateLemmas as states
 use Rattle.ec_over_ring.proofs.ObjectLemmas as objects
 use Rattle.ec_over_ring.proofs.ReadyLemmas as ready
+pub use Rattle.ec_over_ring.proofs.BroughtLemmas.{entered, recovered}
 pub use Rattle.ec_over_ring.proofs.CallLemmas.{keeps}
+pub use Rattle.ec_over_ring.proofs.LineBroughtLemmas.{all_entered, all_in_op}
+pub use Rattle.ec_over_ring.proofs.StartedLemmas.{all_started}
+pub use Rattle.ec_over_ring.proofs.LeftLemmas.{left_in_op}
 pub use Rattle.ec_over_ring.proofs.RecoveryLemmas.{begins, decides}
 pub use Rattle.ec_over_ring.proofs.RecoveryLemmas.{download_recovers, upload_recovers}
 pub use Rattle.ec_over_ring.proofs.ShapeLemmas.{said_throughout}

@@ -50,4 +50,13 @@ pub mod CalmRingLemmas
 pub mod AnyPortsLemmas
 pub mod SentLemmas
 pub mod InOpLemmas
+pub mod TripKeepsLemmas
+pub mod HoldersLemmas
+pub mod BroughtLemmas
+pub mod SparedLemmas
+pub mod RecordsLemmas
+pub mod SettingLemmas
+pub mod LineBroughtLemmas
+pub mod StartedLemmas
+pub mod LeftLemmas
 pub mod Laws

@@ -58,7 +58,7 @@ halves_other c address n r w other =
     ∙ ap (λ (h : Half). record { reading = nothing; writing = h }) (served_nothing w)
 
 -- does nothing
-unaddressed : (c : ControllerState) (x : Command) (address n : ℕ) → addressing x ≡ ConfiguredStation
+pub unaddressed : (c : ControllerState) (x : Command) (address n : ℕ) → addressing x ≡ ConfiguredStation
     → eqb (adp_of address) (word_at c.memory STATION_ADDRESS) ≡ false
     → effect x c address n ≡ silent
 unaddressed c x address n station other =

@@ -120,18 +120,18 @@ stands_state state byte (Stands.refused old is) none =
 
 -- ---- the write
 
-small_code : (state : AlState) → code_of state + 16 < 256
+pub small_code : (state : AlState) → code_of state + 16 < 256
 small_code Init = omega arith
 small_code PreOp = omega arith
 small_code SafeOp = omega arith
 small_code Op = omega arith
 
-two_bytes : (x : ℕ) → x < 256 → AreBytes (x ∷ 0 ∷ [])
+pub two_bytes : (x : ℕ) → x < 256 → AreBytes (x ∷ 0 ∷ [])
 two_bytes x small zero = small
 two_bytes x small (suc zero) = omega arith
 two_bytes x small (suc (suc k)) = omega arith
 
-zeros : (n : ℕ) → AreBytes (replicate n 0)
+pub zeros : (n : ℕ) → AreBytes (replicate n 0)
 zeros zero k = omega arith
 zeros (suc n) zero = omega arith
 zeros (suc n) (suc k) = zeros n k
@@ -188,7 +188,7 @@ first_trip station state r before s behind answer between has asks =
     }
 
 -- a read of AL status tells the bytes that stand there, and changes nothing
-status_passed : (station : ℕ) (r : RingState) (before : List SlaveState) (s : SlaveState)
+pub status_passed : (station : ℕ) (r : RingState) (before : List SlaveState) (s : SlaveState)
     (behind : List SlaveState) → HasStation station r before s behind
     → pass s.controller (status_read station)
     ≡ record {

@@ -5,7 +5,7 @@ use Rattle.ec_services.specs.Ask.{Answer, Asks, Question, IsAsked, Talks}
 use Rattle.ec_services.specs.declared.fault.MasterFault.{MasterFault}
 
 -- what is left of a talk behind what an answer decided
-abbrev Rest : {P A : Type 0} → Trips P → P → List (Question A) → Result A MasterFault
+abbrev pub Rest : {P A : Type 0} → Trips P → P → List (Question A) → Result A MasterFault
     → Result A MasterFault → P
     → Result (Option A) MasterFault → Type 0
 Rest trips between rest undecided result later (Err fault) = (result ≡ Err fault) × (later ≡ between)

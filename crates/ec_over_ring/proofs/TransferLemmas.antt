@@ -50,7 +50,7 @@ abbrev pub AreSlaves : List SlaveState → Type 0
 AreSlaves ss = AllByRecursion IsSlave ss
 
 -- one among them is another
-one_other : (before : List SlaveState) (s t : SlaveState) (behind : List SlaveState)
+pub one_other : (before : List SlaveState) (s t : SlaveState) (behind : List SlaveState)
     → AreSlaves (before ++ s ∷ behind) → IsSlave t → AreSlaves (before ++ t ∷ behind)
 one_other [] s t behind all is = (is, all.1)
 one_other (x ∷ before) s t behind all is = (all.0, one_other before s t behind all.1 is)

@@ -4,3 +4,5 @@ pub mod Transfers
 pub mod Stations
 pub mod Recovery
 pub mod InOp
+pub mod Brought
+pub mod Started

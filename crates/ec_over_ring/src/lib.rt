@@ -27,6 +27,17 @@
 //! that all slaves are in Op ([`ec_run::tells_all_in_op`]), each one whose AL status names a state is in Op
 //! and has no error.
 //!
+//! In [`brought`], what a slave is at last that is brought up step by step ([`ec_run::recover`]), over a ring
+//! with at most one link down, of which nothing is lost:
+//!
+//! - `recovered`: where it is said that a slave was brought to Op, one slave alone has that station address
+//!   then, and it is in Op without an error; and one that is in Op and has its station alone is left alone;
+//! - `entered`: so it is of each step that asks for a state and is done;
+//! - `line_entered`: and of all slaves of a line that are asked one after the other ([`ec_run::bring`]), as
+//!   in the last phase of a start-up: all of them are in Op in the end, not the last one alone;
+//! - `started_over_ring`: behind the last two phases of a start-up each slave of a line is in Op, and its
+//!   FMMUs and the sync managers of its process data stand as they were wanted.
+//!
 //! Of calls that recover ([`ec_services::upload_surely`] and [`ec_services::download_surely`]), over a ring
 //! in any weather, where copies are lost and pass a slave twice, and from any state of its mailboxes, in
 //! [`recovery`]:
@@ -44,8 +55,10 @@
 //! that one slave has, and what a state request comes to; `Transfers`, a slave that takes a peer's next
 //! request, and what a transfer comes to; `Stations`, what each slave of a line went through; `Recovery`, how
 //! both copies of a frame fare at a slave, what stands in its mailboxes, and what a call that recovers comes
-//! to; `InOp`, a cycle that tells that all slaves are in Op.
+//! to; `InOp`, a cycle that tells that all slaves are in Op; `Brought`, a slave in a state that has its
+//! station alone, and a line of such slaves; `Started`, which records stand in their registers.
 
+pub mod brought;
 pub mod promises;
 pub mod recovery;
 pub mod states;

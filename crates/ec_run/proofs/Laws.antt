@@ -1,4 +1,5 @@
--- The laws that crates above cite: cycle after cycle, and what so many of them have counted and asked.
+-- The laws that crates above cite: cycle after cycle, and what so many of them have counted and asked; how
+-- many trips steps and recoveries make; and the answer by which a slave was brought to a state.
 use Rattle.std.proofs.Common.{◌≡◌, ℕ, suc, ◌+◌, List, Ok, Err, refl, ap, arith, ◌∙◌}
 use Rattle.ec_master.specs.Ports.{Trips}
 use Rattle.ec_master.specs.declared.verdict.Verdict.TheVariants.{Good, Short, Over}
@@ -6,6 +7,11 @@ use Rattle.ec_run.specs.Cycles.{AddUp, End, counted, IsCycle, Run, OneMore, IsRu
 use Rattle.ec_run.specs.declared.counts.Counts.{Counts}
 use Rattle.ec_run.specs.declared.cycles.Cycles.{Cycles}
 use Rattle.ec_run.specs.declared.outputs.Outputs.{Outputs}
+pub use Rattle.ec_run.proofs.TravelsLemmas.{are_done_within, brings_within, done_within, looked_up_within}
+pub use Rattle.ec_run.proofs.TravelsLemmas.{recovered_within, tried_within, within_less, within_none}
+pub use Rattle.ec_run.proofs.TravelsLemmas.{within_one, within_then}
+pub use Rattle.ec_run.proofs.CycleTripsLemmas.{cycle_within}
+pub use Rattle.ec_run.proofs.EndLemmas.{EndsWith, done_ends, recovered_ends, tried_ends}
 
 pub run_none : {P : Type 0} (trips : Trips P) (outputs : Outputs) (expected : List ℕ) (start : Cycles)
     → Run trips outputs expected 0 start start

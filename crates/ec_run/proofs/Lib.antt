@@ -3,4 +3,7 @@ mod StepLemmas
 mod RecoveryLemmas
 mod StatesLemmas
 mod OutputLemmas
+mod TravelsLemmas
+mod EndLemmas
+mod CycleTripsLemmas
 pub mod Laws

@@ -1,10 +1,12 @@
 pub mod Ask
 pub mod Watched
+pub mod Wanted
 pub mod Counting
 pub mod StartupObjects
 pub mod States
 pub mod Step
 pub mod Phase
 pub mod Recovery
+pub mod Travels
 pub mod Outputs
 pub mod Cycles

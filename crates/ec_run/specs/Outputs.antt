@@ -1,5 +1,6 @@
 -- The outputs of a cycle: what the items of a work send.
-use Rattle.std.specs.Prelude.{ℕ, ◌%◌, if◌then◌else◌, List, [], ◌∷◌, ◌++◌, map, take, drop, length, slice_get}
+use Rattle.std.specs.Prelude.{ℕ, ◌+◌, ◌%◌, if◌then◌else◌, List, [], ◌∷◌, ◌++◌, map, take, drop, length}
+use Rattle.std.specs.Prelude.{slice_get}
 use Rattle.std.specs.Prelude.{None, Some}
 use Rattle.std.specs.Int.{w64, to_le_bytes}
 use Rattle.ec_wire.specs.Command.{writes}
@@ -51,3 +52,14 @@ abbrev pub outputs_at : Outputs → ℕ → List ItemRecord → List ItemRecord
 outputs_at Kept cycle items = items
 outputs_at Count cycle items = map (numbered cycle) items
 outputs_at (Images images) cycle items = filled (image_of images.now cycle) items
+
+-- ---- how long an image is
+
+-- what an item takes of it: its data if it writes
+abbrev pub taken_by : ItemRecord → ℕ
+taken_by r = if writes (command_of r.kind) then length r.payload else 0
+
+-- all items together
+abbrev pub image_length : List ItemRecord → ℕ
+image_length [] = 0
+image_length (r ∷ rest) = taken_by r + image_length rest

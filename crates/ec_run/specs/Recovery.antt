@@ -1,11 +1,13 @@
 -- What a master does with a slave that has left Op (IEC 61158-6-12, AL state machine).
 use Rattle.std.specs.Prelude.{◌≡◌, ℕ, zero, suc, ◌==◌, Bool, true, false, not, if◌then◌else◌, List, [], ◌∷◌}
-use Rattle.std.specs.Prelude.{Result, Ok, Err, drop, nat_lt, slice_index}
+use Rattle.std.specs.Prelude.{◌||◌, Result, Ok, Err, drop, nat_lt, slice_index}
 use Rattle.std.specs.Int.{w16, from_le_bytes}
 use Rattle.ec_app.specs.Table.{first_fitting}
 use Rattle.ec_wire.specs.Datagram.{nth}
 use Rattle.ec_regs.specs.Al.{status_of}
 use Rattle.ec_regs.specs.declared.al.AlState.TheVariants as state
+use Rattle.ec_diag.specs.declared.located.Located.{Located}
+use Rattle.ec_diag.specs.declared.located.Located.TheVariants.{Whole, One}
 use Rattle.ec_master.specs.Ports.{Trips}
 use Rattle.ec_services.specs.States.{status_read}
 use Rattle.ec_services.specs.declared.fault.MasterFault.{MasterFault}
@@ -84,7 +86,20 @@ IsLookedFor {P} trips before station (suc more) seen later =
       | false ↦ (seen ≡ first) × (later ≡ between)
     ])
 
+-- as often as a running master does
+abbrev pub IsLookedUp : {P : Type 0} → Trips P → P → ℕ → Result Seen MasterFault → P → Type 0
+IsLookedUp trips before station seen later = IsLookedFor trips before station MORE_LOOKS seen later
+
 -- ---- what is done
+
+-- does the place of each of so many slaves tell how a frame reaches it alone: the cable is whole, or broken
+-- before the first one or behind the last one
+abbrev pub tells_places : Located → ℕ → Bool
+tells_places cable slaves = elim cable [
+  | Whole ↦ true
+  | One link ↦ (link == 0) || (link == slaves)
+  | _ ↦ false
+]
 
 -- the steps of a remedy: from a phase on to Op; with the station address first, where its place tells a slave
 -- from the others; none where nothing is done
@@ -120,5 +135,5 @@ pub record IsRecovered {P : Type 0} (trips : Trips P) (before : P) (place : ℕ)
     (tells_places : Bool) (outcome : Outcome) (later : P) : Type 0 where
   pub seen : Result Seen MasterFault
   pub between : P
-  pub looked : IsLookedFor trips before wanted.station MORE_LOOKS seen between
+  pub looked : IsLookedUp trips before wanted.station seen between
   pub dealt : IsDealtWith trips between place wanted tells_places seen outcome later

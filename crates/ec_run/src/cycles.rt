@@ -11,7 +11,8 @@ use ec_master::{CycleFault, Ports, Verdict, Work, run_cycle_in};
 /// The most cycles: a count of 64 bits has no room for another one.
 pub const MOST_CYCLES: u64 = u64::MAX;
 
-/// Room for the works of cycles: what a cycle sends and takes. What it holds between cycles does not matter.
+/// Room for the works of cycles: what a cycle sends and takes. Before a cycle it does not matter
+/// what they hold.
 #[derive(Drop)]
 pub struct Rooms {
     work: Work,
@@ -25,6 +26,11 @@ impl Rooms {
             work: Work::new(),
             sent: Work::new(),
         }
+    }
+
+    /// The items as they went out in the last cycle that was made in these rooms.
+    pub fn sent(&self) -> &Work {
+        &self.sent
     }
 }
 

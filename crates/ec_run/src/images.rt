@@ -1,10 +1,14 @@
 //! The outputs of cycles as a text gives them: a line for each cycle.
 
-ghost use Rattle.std.specs.Prelude.{◌≡◌, IfOk, Ok, length as length_of};
+ghost use Rattle.std.specs.Prelude.{◌≡◌, ◌≤◌, IfOk, Ok, length as length_of};
+ghost use Rattle.ec_wire.specs.declared.datagram.TheConstants.{MAX_DATA};
+ghost use Rattle.ec_run.specs.Outputs.{image_length, taken_by};
 ghost use Rattle.hex.specs.Hex.{decode_of};
 ghost use Rattle.ec_run.specs.declared.images.ImagesFault.TheVariants.{NoMemory};
 
+use ec_map::Item;
 use ec_master::Work;
+use ec_wire::MAX_DATA;
 use hex::FromHexError;
 use std::alloc::{AllocFailed, Global};
 use std::fmt;
@@ -86,15 +90,27 @@ impl fmt::Display for ImagesFault {
 }
 
 /// How many bytes an image has for a work: those of the items that write, together.
-pub fn image_length(work: &Work) -> usize {
-    let mut length = 0usize;
+pub fn image_length(work: &Work) -> usize
+    ensures { result ≡ image_length work.now }
+{
+    let mut length = 0;
     for k in 0..work.len() {
-        let item = work.item(k);
-        if item.kind().command().writes() {
-            length = length.saturating_add(item.len());
-        }
+        length += taken_by(work.item(k));
     }
     length
+}
+
+/// How many bytes an item takes of an image.
+fn taken_by(item: &Item) -> usize
+    ensures value { result ≡ taken_by item.now }
+    ensures bound { result ≤ MAX_DATA }
+{
+    let length = item.len();
+    if item.kind().command().writes() {
+        length
+    } else {
+        0
+    }
 }
 
 /// The images of a text, each of so many bytes: a line for each, two hexadecimal digits of either case for

@@ -32,13 +32,14 @@
 //!   cycle brought and nothing else. `adds_up`: good, short, over and fault are all cycles together.
 //! - [`recover`] (`recovers`): the slave is looked at by its station address until it answers, and the steps
 //!   that the table has for what is seen are done with it in their order, until one fails. So one that is
-//!   said to be brought to Op has answered that it is there.
+//!   said to be brought to Op has answered that it is there; that it is there then is a law over rings
+//!   (`ec_over_ring`, `recovered`). So many trips as `specs/Travels` says are the most.
 //! - [`tells_all_in_op`]: the byte that the last item brought back says Op and nothing else. Which states the
 //!   slaves had then is a law over rings (`ec_over_ring`, `all_in_op`).
 //!
-//! What the contracts speak of stands in specs/: `Step`, `Phase` and `StartupObjects` (start-up), `Cycles`
-//! and `Outputs`, `Recovery`, `States`, `Watched` (ports that tell where copies arrive, as ports of a
-//! master), `Ask` and `Counting` (one question).
+//! What the contracts speak of stands in specs/: `Step`, `Phase` and `StartupObjects` (start-up), `Wanted`,
+//! `Cycles` and `Outputs`, `Recovery`, `Travels` (trips, counted), `States`, `Watched` (ports that tell where
+//! copies arrive, as ports of a master), `Ask` and `Counting` (one question).
 
 mod ask;
 mod counting;

@@ -177,7 +177,7 @@ pub fn bring<P: Ports>(
 }
 
 /// Brings the slaves of a line through a phase, at most 256 of them: each of its steps (`Phase::steps`) with
-/// each slave, slave after slave until a step fails. A step that no slave answers is done again, twice at
+/// each slave, slave after slave until a step fails. A step that no slave answers is done again, 19 times at
 /// most.
 pub fn bring_line<P: Ports>(ports: &mut P, line: &[Wanted], phase: Phase) -> Result<(), StepFault>
     requires { length line.now ≤ MAX_SLAVES }

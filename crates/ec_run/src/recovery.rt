@@ -3,7 +3,7 @@
 ghost use Rattle.std.specs.Prelude.{◌≡◌, ◌≤◌, length};
 ghost use Rattle.ec_wire.specs.Datagram.{nth};
 ghost use Rattle.ec_run.specs.Recovery.{remedy_of, seen_in, steps_for, is_nobody, IsLookedAt};
-ghost use Rattle.ec_run.specs.Recovery.{IsLookedFor, IsRecovered};
+ghost use Rattle.ec_run.specs.Recovery.{IsLookedUp, IsRecovered, tells_places};
 
 use crate::ask::{Reply, ask, request};
 use crate::phase::{ALL_STEPS, Phase, StepFault, bring_slave, steps_from};
@@ -121,7 +121,7 @@ fn is_nobody(seen: Result<Seen, MasterFault>) -> bool
 /// Looks at the slave with a station address until it answers, at most `MORE_LOOKS` times more. A look of
 /// which no copy comes back ends it: nothing is known then.
 pub fn look_for<P: Ports>(ports: &mut P, station: u16) -> Result<Seen, MasterFault>
-    ensures looked { IsLookedFor P.trips ports.old station MORE_LOOKS result ports.new }
+    ensures looked { IsLookedUp P.trips ports.old station result ports.new }
     ensures never_lower { P.failed ports.old ≤ P.failed ports.new }
 {
     for _look in 0..MORE_LOOKS {
@@ -146,7 +146,9 @@ pub enum Outcome {
 
 /// Does the place of each of so many slaves tell how a frame reaches it alone: is the cable whole, or broken
 /// before the first slave or behind the last one?
-pub fn tells_places(cable: Located, slaves: usize) -> bool {
+pub fn tells_places(cable: Located, slaves: usize) -> bool
+    ensures { result ≡ tells_places cable slaves }
+{
     match cable {
         Located::Whole => true,
         Located::One(link) => link == 0 || link == slaves,

@@ -1,8 +1,12 @@
 //! What a slave is to be told at start-up.
 
-ghost use Rattle.std.specs.Prelude.{◌≡◌, ◌<◌, Some, slice_get};
+ghost use Rattle.std.specs.Prelude.{◌≡◌, ◌<◌, IfOk, Some, is_some, map, slice_get};
+ghost use Rattle.std.specs.List.{list_any};
+ghost use Rattle.ec_areas.specs.Records.{fmmus_of, sync_managers_of};
+ghost use Rattle.ec_run.specs.Wanted.{wanted_by};
 
 use ec_app::{Slave, Value};
+use ec_esc::Controller;
 use ec_regs::registers::{FMMU_COUNT, SYNC_MANAGER_COUNT};
 use ec_regs::{Fmmu, NoMemory, SyncMan};
 use std::alloc::Global;
@@ -37,29 +41,59 @@ pub struct Wanted {
     pub startup: [Option<StartupObject>; MAX_STARTUP],
 }
 
+/// The records of a slave's sync managers.
+#[tactic(auto, unfolding(ec_areas::specs::Records::sync_managers_of))]
+fn managers_of(controller: &Controller) -> [SyncMan; SYNC_MANAGER_COUNT]
+    ensures { result ≡ sync_managers_of controller.now.memory }
+{
+    [
+        controller.syncman(0),
+        controller.syncman(1),
+        controller.syncman(2),
+        controller.syncman(3),
+        controller.syncman(4),
+        controller.syncman(5),
+        controller.syncman(6),
+        controller.syncman(7),
+    ]
+}
+
+/// The records of a slave's FMMUs.
+#[tactic(auto, unfolding(ec_areas::specs::Records::fmmus_of))]
+fn fmmus_of(controller: &Controller) -> [Fmmu; FMMU_COUNT]
+    ensures { result ≡ fmmus_of controller.now.memory }
+{
+    [
+        controller.fmmu(0),
+        controller.fmmu(1),
+        controller.fmmu(2),
+        controller.fmmu(3),
+        controller.fmmu(4),
+        controller.fmmu(5),
+        controller.fmmu(6),
+        controller.fmmu(7),
+    ]
+}
+
 impl Wanted {
     /// What makes a slave that which this one is: its station address and its records as they stand, and no
     /// startup object.
-    pub fn of(slave: &Slave) -> Wanted {
+    pub fn of(slave: &Slave) -> Wanted
+        ensures { result ≡ wanted_by slave.now }
+    {
         let controller = slave.controller();
-        let mut managers = [SyncMan::read(&[0; 8]); SYNC_MANAGER_COUNT];
-        for number in 0..SYNC_MANAGER_COUNT {
-            managers[number] = controller.syncman(number);
-        }
-        let mut fmmus = [Fmmu::read(&[0; 16]); FMMU_COUNT];
-        for number in 0..FMMU_COUNT {
-            fmmus[number] = controller.fmmu(number);
-        }
         Wanted {
             station: controller.station(),
-            managers,
-            fmmus,
+            managers: managers_of(controller),
+            fmmus: fmmus_of(controller),
             startup: [None; MAX_STARTUP],
         }
     }
 
     /// Has it any startup object?
-    pub fn has_startup(&self) -> bool {
+    pub fn has_startup(&self) -> bool
+        ensures { result ≡ list_any is_some self.now.startup }
+    {
         self.startup.iter().any(|object| object.is_some())
     }
 }
@@ -91,7 +125,9 @@ impl Wanted {
 }
 
 /// What the slaves of a line are to be told, by their places.
-pub fn wanted_of(alloc: Global, line: &[Slave]) -> Result<Vec<Wanted>, NoMemory> {
+pub fn wanted_of(alloc: Global, line: &[Slave]) -> Result<Vec<Wanted>, NoMemory>
+    ensures { IfOk result (λ all. all.items ≡ map wanted_by line.now) }
+{
     let mut all = Vec::new(alloc);
     for slave in line {
         if all.push(Wanted::of(slave)).is_err() {

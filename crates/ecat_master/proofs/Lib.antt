@@ -1,1 +1,3 @@
 mod LastLemmas
+mod CourseLemmas
+mod GoodRunLemmas

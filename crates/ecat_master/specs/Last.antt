@@ -1,5 +1,5 @@
 -- How the last of cycles ended that were made one after the other, and the exit status that tells it.
-use Rattle.std.specs.Prelude.{◌≡◌, ℕ, Bool, true, false, not, if◌then◌else◌, Option, None, Some, List}
+use Rattle.std.specs.Prelude.{◌≡◌, ℕ, Bool, true, not, if◌then◌else◌, Option, None, Some, List}
 use Rattle.std.specs.Prelude.{Ok, Err}
 use Rattle.ec_map.specs.Item.{ItemRecord}
 use Rattle.ec_master.specs.Ports.{Trips}

@@ -1,1 +1,4 @@
 pub mod Last
+pub mod Course
+pub mod Start
+pub mod GoodRun

@@ -20,6 +20,7 @@
 //!     recover: true,
 //!     progress: false,
 //!     log: false,
+//!     log_images: false,
 //!     states: true,
 //!     identities: &[],
 //!     leave: Some(AlState::Init),
@@ -53,9 +54,19 @@
 //!   slaves up again that have left Op.
 //! - [`scan`] tells what stands on a line, slave by slave. [`master`] is all but that, with an exit status.
 //!
-//! What is promised: [`run_cycles`] (`cycles`): the cycles of a run are `Cycles::cycle`, one after the other,
-//! and their ends add up; (`last`): it answers how the last one ended. What is printed and when is tried by
-//! tests.
+//! What is promised:
+//!
+//! - [`start`] (`started`): where it answers Ok, the slaves were counted as many as they are to be, the cable
+//!   is whole or broken at one link, each slave was given its station address, and all of them were brought
+//!   through the phases in their order, each by its steps.
+//! - [`run_cycles`] (`cycles`): the cycles of a run are `Cycles::cycle`, one after the other, and their ends
+//!   add up; (`last`): it answers how the last one ended. (`course`): cycles, looks at the cable, looks at
+//!   slaves and recoveries follow each other end to end, from the ports before to the ports behind; and
+//!   (`trips`) so many trips are the most for each cycle, whatever a clock says.
+//! - [`master`] (`good`): an exit status of 0 says that the line was started so, and that the last cycle on
+//!   it was good with all slaves in Op, if there was one.
+//!
+//! What is printed and when is tried by tests.
 
 mod identity;
 mod leaving;
@@ -73,6 +84,6 @@ mod words;
 pub use identity::{ENTRIES, IDENTITY, Identity, OtherSlave};
 pub use pace::Pace;
 pub use run::{FAILED, GOOD, Plan, REFUSED, master, run_cycles};
-pub use scanning::{ScanEnd, scan};
+pub use scanning::{Finder, ScanEnd, Unfound, scan};
 pub use startup::{StartEnd, StartFault, put_start_fault, start};
 pub use teller::{Teller, Unwritten};

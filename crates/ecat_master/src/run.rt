@@ -1,16 +1,22 @@
 //! A master that runs: the start-up of a line, and then cycle after cycle.
 
-ghost use Rattle.std.specs.Prelude.{◌≡◌, IfOk, length};
+ghost use Rattle.std.specs.Prelude.{◌≡◌, ◌≢◌, ◌-◌, ◌*◌, ℕ, Err, IfOk, IsOk, length};
 ghost use Rattle.ec_run.specs.Cycles.{AddUp, IsRun};
+ghost use Rattle.ec_run.specs.Travels.{IsWithin};
 ghost use Rattle.ec_run.specs.Watched.{WatchedTrips};
+ghost use Rattle.ecat_master.specs.Course.{IsCourse, round_trips};
+ghost use Rattle.ecat_master.specs.GoodRun.{EndsGood, IsGoodRun};
 ghost use Rattle.ecat_master.specs.Last.{IsLast, in_op, status_told};
+ghost use Rattle.ecat_master.specs.Start.{IsStarted};
+ghost use Rattle.ecat_master.specs.declared.run.StartFailure.TheVariants.{Told};
+ghost use Rattle.ecat_master.specs.declared.run.TheConstants.{FAILED, GOOD};
 
 use crate::identity::{Identity, OtherSlave};
 use crate::leaving::{Left, leave_line, put_left};
 use crate::pace::Pace;
 use crate::startup::{StartEnd, StartFault, put_start_fault, start};
 use crate::teller::{Teller, Unwritten};
-use crate::telling::{CycleEnd, put_counts, tell_image};
+use crate::telling::{CycleEnd, Images, put_counts, tell_image};
 use ec_diag::Located;
 use ec_master::{CycleFault, Verdict, Work};
 use ec_regs::AlState;
@@ -42,6 +48,8 @@ pub struct Plan<'a> {
     pub progress: bool,
     /// Whether a line is written into the log for every cycle.
     pub log: bool,
+    /// Whether that line has what the items sent, and what they hold behind the cycle.
+    pub log_images: bool,
     /// Whether the last item of the work reads the states of all slaves (`ec_run::states_item`).
     pub states: bool,
     /// Who the slaves are to be, by their places; nobody in particular where it is shorter than the line.
@@ -85,6 +93,10 @@ where
     ensures adds_up { AddUp cycles.new.counts }
     ensures asked { cycles.new.asked ≡ cycles.old.asked }
     ensures cycles { IsRun (WatchedTrips P.trips) plan.now.outputs expected.now cycles.old cycles.new }
+    ensures course { IsCourse P.trips plan.now.outputs expected.now line.now cycles.old ports.old cycles.new
+        ports.new }
+    ensures trips { IsWithin (WatchedTrips P.trips) ((cycles.new.counts.cycles - cycles.old.counts.cycles)
+        * round_trips (length cycles.old.asked)) ports.old ports.new }
     ensures last { IfOk result (λ last. IsLast (WatchedTrips P.trips) plan.now.outputs expected.now
         cycles.old last cycles.new) }
 {
@@ -101,7 +113,11 @@ where
             ended,
             in_op: in_op(plan.states, &cycles.image),
         };
-        let is_last = teller.follow(cycles.counts, end, ports, expected, line, plan)?;
+        let images = Images {
+            sent: rooms.sent(),
+            image: cycles.image.as_ref(),
+        };
+        let is_last = teller.follow(cycles.counts, end, ports, expected, line, images, plan)?;
         if is_last {
             break;
         }
@@ -122,8 +138,18 @@ fn status_of(last: Option<Result<Verdict, CycleFault>>, in_op: bool) -> u8
     }
 }
 
+/// The exit status of cycles of which the last one ended so, where the slaves were left as they were to be or
+/// not.
+fn status_where(last: Option<Result<Verdict, CycleFault>>, left: Left, in_op: bool) -> u8
+    ensures { result ≡ GOOD → status_told last in_op ≡ GOOD }
+{
+    status_of(last, left.is_well() && in_op)
+}
+
 /// The exit status of a line that could not be started.
-fn status_of_start(fault: &StartFault) -> u8 {
+fn status_of_start(fault: &StartFault) -> u8
+    ensures { result ≢ GOOD }
+{
     match fault {
         StartFault::Ask(MasterFault::Port) => FAILED,
         StartFault::Step(
@@ -166,6 +192,7 @@ where
     V: Write,
     L: Write,
     requires { length expected.now ≡ length work }
+    ensures good { result ≡ GOOD → IsGoodRun P.trips ports line.now work expected.now plan.now }
 {
     let mut ports = Watched::new(ports);
     let cable = match begin(&mut ports, line, plan.identities, &mut Lines::new(out)) {
@@ -203,7 +230,10 @@ fn begin<P: HeardPorts, W: Write>(
     line: &[Wanted],
     identities: &[Identity],
     lines: &mut Lines<'_, W>,
-) -> Result<Located, StartFailure> {
+) -> Result<Located, StartFailure>
+    ensures started { IfOk result (λ cable. IsStarted P.trips ports.old line.now cable ports.new) }
+    ensures told { (status : ℕ) → result ≡ Err (Told status) → status ≢ GOOD }
+{
     match start(ports, line, identities, lines) {
         Ok(cable) => Ok(cable),
         Err(StartEnd::Output) => Err(StartFailure::Output),
@@ -215,7 +245,9 @@ fn begin<P: HeardPorts, W: Write>(
 }
 
 /// Tells that the output cannot be written, and answers the exit status.
-fn output_failed<V: Write>(err: &mut V) -> u8 {
+fn output_failed<V: Write>(err: &mut V) -> u8
+    ensures { result ≡ FAILED }
+{
     let _ = err.write_all(b"output: Write\n");
     FAILED
 }
@@ -229,10 +261,13 @@ fn conclude<W: Write, V: Write, L: Write>(
     expected: &[u16],
     plan: &Plan<'_>,
     teller: &mut Teller<'_, W, V, L>,
-) -> u8 {
+) -> u8
+    ensures good { result ≡ GOOD → IfOk ran (λ last. EndsGood last plan.now cycles.now) }
+    ensures ran { result ≡ GOOD → IsOk ran }
+{
     if ran != Err(Unwritten::Output) && put_end(left, cycles, expected, plan, teller).is_ok() {
         return match ran {
-            Ok(last) => status_of(last, left.is_well() && in_op(plan.states, &cycles.image)),
+            Ok(last) => status_where(last, left, in_op(plan.states, &cycles.image)),
             Err(_) => {
                 let _ = put_unwritten("log: Write", &mut teller.err);
                 FAILED

@@ -9,6 +9,7 @@ use crate::identity::{IDENTITY, put_value};
 use crate::startup::look_surely;
 use crate::words::{put_cable, put_code, put_fault, state_name};
 use arrayvec::ArrayVec;
+use ec_app::Value;
 use ec_app::roles::{ANSWER_MAILBOX, REQUEST_MAILBOX};
 use ec_diag::Located;
 use ec_master::Ports;
@@ -34,6 +35,26 @@ const MANAGER_BYTES: usize = 8;
 
 /// The bytes of an FMMU's record.
 const FMMU_BYTES: usize = 16;
+
+/// Who takes what a scan reads of the slaves.
+pub trait Finder {
+    /// Takes what the registers of the slave at a place hold, from an address on: its station address, six
+    /// bytes of AL status and its code, and the records of its sync managers and FMMUs.
+    fn registers(&mut self, place: u16, address: u16, bytes: &[u8]);
+
+    /// Takes an entry of the object that says who the slave at a place is (0x1018), by its subindex.
+    fn identity(&mut self, place: u16, sub: u8, value: Value);
+}
+
+/// Nobody takes it.
+#[derive(Clone, Copy, Debug)]
+pub struct Unfound;
+
+impl Finder for Unfound {
+    fn registers(&mut self, _place: u16, _address: u16, _bytes: &[u8]) {}
+
+    fn identity(&mut self, _place: u16, _sub: u8, _value: Value) {}
+}
 
 /// Why a scan has ended early.
 #[derive(Drop)]
@@ -73,11 +94,13 @@ struct Shown {
 /// Writes a line for each slave that is counted: its place, its station address, its AL state and error, its
 /// active sync managers and FMMUs, and who it is where it has mailboxes; before them how many there are and
 /// where the cable is broken. Behind a broken link with slaves on both sides a slave is read by its place
-/// only where no other answers with it; the line of another one says `BadAnswer`. It answers whether copies
-/// came back, the counts of the slaves were alike, and all slaves could be read.
-pub fn scan<P: HeardPorts, W: Write>(
+/// only where no other answers with it; the line of another one says `BadAnswer`, and that two may answer.
+/// What is read of a slave goes to the finder too. It answers whether copies came back, the counts of the
+/// slaves were alike, and all slaves could be read.
+pub fn scan<P: HeardPorts, W: Write, F: Finder>(
     ports: &mut Watched<P>,
     lines: &mut Lines<'_, W>,
+    finder: &mut F,
 ) -> Result<bool, ScanEnd> {
     let counted = count_often(ports)?;
     let Some(count) = counted.greatest() else {
@@ -94,7 +117,7 @@ pub fn scan<P: HeardPorts, W: Write>(
     lines.end()?;
     let mut all = located != Located::Unknown && counted.are_alike();
     for place in 0..count {
-        all = scan_slave(ports, place, located, lines)? && all;
+        all = scan_slave(ports, place, located, lines, finder)? && all;
     }
     Ok(all)
 }
@@ -172,23 +195,27 @@ fn put_links<W: Write>(located: Located, lines: &mut Lines<'_, W>) -> io::Result
 }
 
 /// Writes the line of one slave, and answers whether it could be read.
-fn scan_slave<P: HeardPorts, W: Write>(
+fn scan_slave<P: HeardPorts, W: Write, F: Finder>(
     ports: &mut Watched<P>,
     place: u16,
     located: Located,
     lines: &mut Lines<'_, W>,
+    finder: &mut F,
 ) -> Result<bool, ScanEnd> {
     lines.text(format_args!("slave {place}"))?;
-    let read = match look(ports, way_to(place, located)) {
+    let read = match look(ports, way_to(place, located), place, finder) {
         Err(MasterFault::Port) => return Err(ScanEnd::Ask(MasterFault::Port)),
         Err(fault) => {
             lines.text(" ")?;
             put_fault(fault, lines)?;
+            if fault == MasterFault::BadAnswer && located != Located::Whole {
+                lines.text(" (while the cable is broken, another slave may answer for it)")?;
+            }
             false
         }
         Ok(shown) => {
             put_shown(&shown, lines)?;
-            put_identity(ports, &shown, lines)?;
+            put_identity(ports, &shown, place, lines, finder)?;
             true
         }
     };
@@ -244,7 +271,12 @@ fn read_at<P: Ports>(
 }
 
 /// Reads what a slave shows of itself.
-fn look<P: Ports>(ports: &mut P, way: Way) -> Result<Shown, MasterFault> {
+fn look<P: Ports, F: Finder>(
+    ports: &mut P,
+    way: Way,
+    place: u16,
+    finder: &mut F,
+) -> Result<Shown, MasterFault> {
     let station = read_at(ports, way, STATION_ADDRESS, 2)?;
     let status = read_at(ports, way, AL_STATUS, STATUS_BYTES)?;
     let managers = read_at(
@@ -254,6 +286,10 @@ fn look<P: Ports>(ports: &mut P, way: Way) -> Result<Shown, MasterFault> {
         MANAGER_BYTES * SYNC_MANAGER_COUNT,
     )?;
     let fmmus = read_at(ports, way, FMMU_BASE, FMMU_BYTES * FMMU_COUNT)?;
+    finder.registers(place, STATION_ADDRESS, station.data(0));
+    finder.registers(place, AL_STATUS, status.data(0));
+    finder.registers(place, SYNC_MANAGER_BASE, managers.data(0));
+    finder.registers(place, FMMU_BASE, fmmus.data(0));
     let station = station.data(0);
     let status = status.data(0);
     Ok(Shown {
@@ -367,31 +403,38 @@ fn peer_of(shown: &Shown) -> Option<Peer>
 }
 
 /// Puts who a slave is, if it answers mails: its vendor and its product.
-fn put_identity<P: Ports, W: Write>(
+fn put_identity<P: Ports, W: Write, F: Finder>(
     ports: &mut P,
     shown: &Shown,
+    place: u16,
     lines: &mut Lines<'_, W>,
+    finder: &mut F,
 ) -> io::Result<()> {
     let Some(mut peer) = peer_of(shown) else {
         return Ok(());
     };
-    put_object(ports, &mut peer, 1, lines)?;
-    put_object(ports, &mut peer, 2, lines)
+    put_object(ports, &mut peer, place, 1, lines, finder)?;
+    put_object(ports, &mut peer, place, 2, lines, finder)
 }
 
-/// Puts one entry of the object that says who a slave is.
-fn put_object<P: Ports, W: Write>(
+/// Puts one entry of the object that says who a slave is, or why it could not be read.
+fn put_object<P: Ports, W: Write, F: Finder>(
     ports: &mut P,
     peer: &mut Peer,
+    place: u16,
     sub: u8,
     lines: &mut Lines<'_, W>,
+    finder: &mut F,
 ) -> io::Result<()>
     requires { IsPeer peer.old }
     ensures { IsPeer peer.new }
 {
     lines.text(format_args!(" 0x1018:{sub} "))?;
     match upload_surely(ports, peer, IDENTITY, sub, TRIPS) {
-        Ok(value) => put_value(value, lines),
+        Ok(value) => {
+            finder.identity(place, sub, value);
+            put_value(value, lines)
+        }
         Err(fault) => put_fault(fault, lines),
     }
 }

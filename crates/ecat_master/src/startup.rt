@@ -1,6 +1,10 @@
 //! The start-up of a line.
 
-ghost use Rattle.std.specs.Prelude.{◌≡◌, ◌≤◌, length};
+ghost use Rattle.std.specs.Prelude.{◌≡◌, ◌≤◌, ◌<◌, IfOk, IfSome, Ok, OnOk, Some, length};
+ghost use Rattle.ec_run.specs.Phase.{Brings, steps_of};
+ghost use Rattle.ec_run.specs.Watched.{WatchedTrips};
+ghost use Rattle.ecat_master.specs.Course.{AreLooks};
+ghost use Rattle.ecat_master.specs.Start.{AreCounted, GivesStations, IsCable, IsStarted, gap_of};
 ghost use Rattle.ecat_master.specs.declared.startup.StartEnd.TheVariants.{Fault, Output};
 ghost use Rattle.ecat_master.specs.declared.startup.StartFault.TheVariants.{Identity as IsOther};
 ghost use Rattle.ecat_master.specs.declared.startup.StartFault.TheVariants.{Step as StepFailed};
@@ -8,14 +12,18 @@ ghost use Rattle.ecat_master.specs.declared.startup.StartFault.TheVariants.{Step
 use crate::identity::{Identity, OtherSlave, compare_identities, put_other_slave};
 use crate::words::{put_cable, put_fault, put_step_fault, state_name};
 use ec_diag::{CutOff, Located};
+use ec_master::Ports;
 use ec_ring::{HeardPorts, MAX_SLAVES};
-use ec_run::{PHASES, Phase, Step, StepFault, Wanted, Watched, bring, bring_line, count_slaves};
+use ec_run::{Phase, Step, StepFault, Wanted, Watched, bring, bring_line, count_slaves};
 use ec_services::MasterFault;
 use ecat_text::Lines;
 use std::io::{self, Write};
 
-/// How often the slaves are counted, and the cable is looked at, where that did not come out as it should.
+/// How often the cable is looked at, where that did not come out as it should.
 const TRIES: usize = 10;
+
+/// How often the slaves are counted again, where they were not as many as they are to be.
+const MORE_COUNTS: usize = 9;
 
 /// Why a line could not be started.
 #[derive(Clone, Copy, PartialEq, Eq, Debug)]
@@ -75,7 +83,9 @@ pub fn start<P: HeardPorts, W: Write>(
     line: &[Wanted],
     identities: &[Identity],
     lines: &mut Lines<'_, W>,
-) -> Result<Located, StartEnd> {
+) -> Result<Located, StartEnd>
+    ensures started { IfOk result (λ cable. IsStarted P.trips ports.old line.now cable ports.new) }
+{
     if line.len() > MAX_SLAVES {
         return Err(StartEnd::Fault(StartFault::Count(0)));
     }
@@ -88,14 +98,29 @@ pub fn start<P: HeardPorts, W: Write>(
     give_stations(ports, line, located)?;
     lines.text("stations given")?;
     lines.end()?;
-    for phase in PHASES {
-        bring_line(ports, line, phase)?;
-        tell_phase(phase, line, lines)?;
-        if phase == Phase::PreOp {
-            compare_identities(ports, line, identities)?;
-        }
-    }
+    bring_up(ports, line, Phase::Init, lines)?;
+    bring_up(ports, line, Phase::PreOp, lines)?;
+    compare_identities(ports, line, identities)?;
+    bring_up(ports, line, Phase::Startup, lines)?;
+    bring_up(ports, line, Phase::SafeOp, lines)?;
+    bring_up(ports, line, Phase::Op, lines)?;
     Ok(located)
+}
+
+/// Brings all slaves through a phase, and tells of it.
+fn bring_up<P: HeardPorts, W: Write>(
+    ports: &mut Watched<P>,
+    line: &[Wanted],
+    phase: Phase,
+    lines: &mut Lines<'_, W>,
+) -> Result<(), StartEnd>
+    requires { length line.now ≤ MAX_SLAVES }
+    ensures { OnOk result (Brings (WatchedTrips P.trips) ports.old 0 line.now (steps_of phase) (Ok tt)
+        ports.new) }
+{
+    bring_line(ports, line, phase)?;
+    tell_phase(phase, line, lines)?;
+    Ok(())
 }
 
 /// Tells of a phase through which all slaves were brought; nothing of startup objects where there is none.
@@ -112,28 +137,40 @@ fn tell_phase<W: Write>(phase: Phase, line: &[Wanted], lines: &mut Lines<'_, W>)
     Ok(())
 }
 
-/// Counts the slaves, which are to be so many.
+/// Counts the slaves, which are to be so many, and tells of it.
 fn count<P: HeardPorts, W: Write>(
     ports: &mut Watched<P>,
     wanted: usize,
     lines: &mut Lines<'_, W>,
-) -> Result<u16, StartEnd> {
-    let mut found = 0;
-    for _try in 0..TRIES {
-        match count_slaves(ports) {
-            Ok(count) => found = count,
-            Err(fault) => return Err(StartEnd::Fault(StartFault::Ask(fault))),
-        }
-        if usize::from(found) == wanted {
-            break;
-        }
-    }
+) -> Result<u16, StartEnd>
+    ensures counted { IfOk result (λ found. AreCounted (WatchedTrips P.trips) ports.old found ports.new) }
+{
+    let found = match count_until(ports, wanted) {
+        Ok(found) => found,
+        Err(fault) => return Err(StartEnd::Fault(StartFault::Ask(fault))),
+    };
     lines.text(format_args!("slaves {found}"))?;
     if usize::from(found) != wanted {
         lines.text(format_args!(", wanted {wanted}"))?;
     }
     lines.end()?;
     Ok(found)
+}
+
+/// Counts the slaves until they are so many, `MORE_COUNTS` times more at the most.
+fn count_until<P: Ports>(ports: &mut P, wanted: usize) -> Result<u16, MasterFault>
+    ensures counted { IfOk result (λ found. AreCounted P.trips ports.old found ports.new) }
+{
+    for _count in 0..MORE_COUNTS {
+        let found = match count_slaves(ports) {
+            Ok(found) => found,
+            Err(fault) => return Err(fault),
+        };
+        if usize::from(found) == wanted {
+            return Ok(found);
+        }
+    }
+    count_slaves(ports)
 }
 
 /// Tells where the cable is broken, where slaves are cut off by it.
@@ -156,7 +193,10 @@ fn look<P: HeardPorts, W: Write>(
     ports: &mut Watched<P>,
     line: &[Wanted],
     lines: &mut Lines<'_, W>,
-) -> Result<Located, StartEnd> {
+) -> Result<Located, StartEnd>
+    ensures looks { AreLooks P.trips ports.old (length line.now) TRIES ports.new }
+    ensures cable { IfOk result IsCable }
+{
     let located = match look_surely(ports, line.len()) {
         Some(located) => located,
         None => return Err(StartEnd::Fault(StartFault::Ask(MasterFault::Port))),
@@ -169,18 +209,47 @@ fn look<P: HeardPorts, W: Write>(
     }
 }
 
-/// Where the cable of a line of so many slaves is broken, by a few frames if copies were lost; nothing where
-/// the ports failed.
-pub(crate) fn look_surely<P: HeardPorts>(ports: &mut Watched<P>, slaves: usize) -> Option<Located> {
+/// Is it known of each link whether it is down, but for those between two that are?
+fn is_known(located: Located) -> bool {
+    matches!(
+        located,
+        Located::Whole | Located::One(_) | Located::Between(_, _)
+    )
+}
+
+/// Where the cable of a line of so many slaves is broken, by a few frames if copies were lost, `TRIES` at the
+/// most; nothing where the ports failed.
+pub(crate) fn look_surely<P: HeardPorts>(ports: &mut Watched<P>, slaves: usize) -> Option<Located>
+    ensures looks { AreLooks P.trips ports.old slaves TRIES ports.new }
+{
     let mut located = Located::Unknown;
     for _try in 0..TRIES {
-        located = ports.locate(slaves).ok()?;
-        match located {
-            Located::Whole | Located::One(_) | Located::Between(_, _) => break,
-            _ => {}
+        match ports.locate(slaves) {
+            Ok(found) => located = found,
+            Err(_) => return None,
+        }
+        if is_known(located) {
+            return Some(located);
         }
     }
     Some(located)
+}
+
+/// The link between two slaves at which the cable is broken, where it is broken there and nowhere else.
+fn gap_of(located: Located, slaves: usize) -> Option<usize>
+    ensures value { result ≡ gap_of located slaves }
+    ensures inside { IfSome result (λ link. link < slaves) }
+{
+    match located {
+        Located::One(link) => {
+            if 0 < link && link < slaves {
+                Some(link)
+            } else {
+                None
+            }
+        }
+        _ => None,
+    }
 }
 
 /// Gives each slave its station address, by its place, over a cable that is whole or broken at one link.
@@ -190,15 +259,30 @@ fn give_stations<P: HeardPorts>(
     located: Located,
 ) -> Result<(), StepFault>
     requires { length line.now ≤ MAX_SLAVES }
+    ensures gives { OnOk result (GivesStations (WatchedTrips P.trips) ports.old line.now
+        (gap_of located (length line.now)) ports.new) }
 {
-    match located {
-        Located::One(link) if 0 < link && link < line.len() => {
-            let first = link as u16;
-            bring(ports, first, &line[link..], &[Step::StationBehind(first)])?;
-            bring(ports, 0, &line[..link], &[Step::StationBefore])
-        }
-        _ => bring(ports, 0, line, &[Step::Station]),
+    match gap_of(located, line.len()) {
+        Some(link) => give_around(ports, line, link),
+        None => bring(ports, 0, line, &[Step::Station]),
     }
+}
+
+/// Gives each slave its station address over a cable that is broken at a link between two of them: those
+/// behind it first.
+fn give_around<P: HeardPorts>(
+    ports: &mut Watched<P>,
+    line: &[Wanted],
+    link: usize,
+) -> Result<(), StepFault>
+    requires limit { length line.now ≤ MAX_SLAVES }
+    requires inside { link < length line.now }
+    ensures gives { OnOk result (GivesStations (WatchedTrips P.trips) ports.old line.now (Some link)
+        ports.new) }
+{
+    let first = link as u16;
+    bring(ports, first, &line[link..], &[Step::StationBehind(first)])?;
+    bring(ports, 0, &line[..link], &[Step::StationBefore])
 }
 
 /// Puts why a line could not be started.

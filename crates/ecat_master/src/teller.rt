@@ -1,12 +1,13 @@
 //! Who is told of the cycles of a master while they run, and when slaves are looked at.
 
-ghost use Rattle.std.specs.Prelude.{◌≡◌, length};
+ghost use Rattle.std.specs.Prelude.{◌≡◌, IfSome, Some, length, slice_get};
+ghost use Rattle.ecat_master.specs.Course.{IsFollowed, IsSeenTo};
 
 use crate::ports::SilentPorts;
 use crate::run::Plan;
 use crate::slaves::SlaveStates;
 use crate::spread::Spread;
-use crate::telling::{CycleEnd, Told, log_cycle, put_counts, put_cycle};
+use crate::telling::{CycleEnd, Images, Told, log_cycle, put_counts, put_cycle};
 use crate::words::{put_code, put_step_fault, state_name};
 use ec_diag::Located;
 use ec_master::{CycleFault, Verdict};
@@ -144,11 +145,16 @@ impl<'a, W: Write, V: Write, L: Write> Teller<'a, W, V, L> {
         ports: &mut Watched<P>,
         expected: &[u16],
         line: &[Wanted],
+        images: Images<'_>,
         plan: &Plan<'_>,
-    ) -> Result<bool, Unwritten> {
+    ) -> Result<bool, Unwritten>
+        ensures followed { IsFollowed P.trips line.now ports.old ports.new }
+    {
         let cycle = counts.cycles.saturating_sub(1);
         let items = expected.len().saturating_sub(usize::from(plan.states));
-        if plan.log && log_cycle(cycle, end, ports.counts(), items, &mut self.log).is_err() {
+        let images = if plan.log_images { Some(images) } else { None };
+        let log = &mut self.log;
+        if plan.log && log_cycle(cycle, end, ports.counts(), items, images, log).is_err() {
             return Err(Unwritten::Log);
         }
         match self.tell(cycle, end, ports, expected, line, plan) {
@@ -166,7 +172,9 @@ impl<'a, W: Write, V: Write, L: Write> Teller<'a, W, V, L> {
         expected: &[u16],
         line: &[Wanted],
         plan: &Plan<'_>,
-    ) -> io::Result<()> {
+    ) -> io::Result<()>
+        ensures followed { IsFollowed P.trips line.now ports.old ports.new }
+    {
         self.silent.tell(cycle, ports, &mut self.out)?;
         self.told.tell(
             cycle,
@@ -205,9 +213,11 @@ impl<'a, W: Write, V: Write, L: Write> Teller<'a, W, V, L> {
         cycle: u64,
         ports: &mut Watched<P>,
         line: &[Wanted],
-    ) -> io::Result<()> {
+    ) -> io::Result<()>
+        ensures seen_to { IsSeenTo P.trips line.now ports.old ports.new }
+    {
         let place = self.next_place(line.len());
-        let Some(wanted) = line.get(usize::from(place)) else {
+        let Some(wanted) = wanted_at(line, place) else {
             return Ok(());
         };
         match look_for(ports, wanted.station) {
@@ -224,9 +234,11 @@ impl<'a, W: Write, V: Write, L: Write> Teller<'a, W, V, L> {
         cycle: u64,
         ports: &mut Watched<P>,
         line: &[Wanted],
-    ) -> io::Result<()> {
+    ) -> io::Result<()>
+        ensures seen_to { IsSeenTo P.trips line.now ports.old ports.new }
+    {
         let place = self.next_place(line.len());
-        let Some(wanted) = line.get(usize::from(place)) else {
+        let Some(wanted) = wanted_at(line, place) else {
             return Ok(());
         };
         let tells_places = tells_places(self.told.cable(), line.len());
@@ -254,6 +266,18 @@ impl<'a, W: Write, V: Write, L: Write> Teller<'a, W, V, L> {
                 put_unrecovered(cycle, &fault, wanted, &mut self.out)
             }
         }
+    }
+}
+
+/// What the slave of a line at a place is to be told, if it has one there.
+fn wanted_at(line: &[Wanted], place: u16) -> Option<&Wanted>
+    ensures { IfSome result (λ wanted. slice_get line.now place ≡ Some wanted.now) }
+{
+    let at = usize::from(place);
+    if at < line.len() {
+        Some(&line[at])
+    } else {
+        None
     }
 }
 

@@ -1,6 +1,8 @@
 //! What is told of cycles while they run.
 
 ghost use Rattle.std.specs.Prelude.{◌≡◌, ◌≤◌, length};
+ghost use Rattle.ecat_master.specs.Course.{AreLooks};
+ghost use Rattle.ecat_master.specs.declared.startup.TheConstants.{TRIES};
 
 use crate::startup::look_surely;
 use crate::words::put_cable;
@@ -87,7 +89,9 @@ impl Told {
         line: &[Wanted],
         states: bool,
         lines: &mut Lines<'_, W>,
-    ) -> io::Result<()> {
+    ) -> io::Result<()>
+        ensures looks { AreLooks P.trips ports.old (length line.now) TRIES ports.new }
+    {
         let now = Showing {
             ended,
             came: came_of(ended, ports.counts()),
@@ -126,7 +130,9 @@ impl Told {
         ended: Result<Verdict, CycleFault>,
         ports: &mut Watched<P>,
         slaves: usize,
-    ) -> Located {
+    ) -> Located
+        ensures looks { AreLooks P.trips ports.old slaves TRIES ports.new }
+    {
         if ended == Err(CycleFault::Port) {
             return self.cable;
         }
@@ -274,13 +280,23 @@ pub fn put_counts<W: Write>(
     }
 }
 
+/// What a log has of a cycle beside its end: the items as they went out, and as the last good one left them,
+/// if there was one.
+#[derive(Clone, Copy)]
+pub(crate) struct Images<'a> {
+    pub(crate) sent: &'a Work,
+    pub(crate) image: Option<&'a Work>,
+}
+
 /// Writes a line for a cycle that was made: its number, its end, and how far the counter of each of so many
-/// items moved; and behind a good one where not all slaves were in Op.
+/// items moved; behind a good one where not all slaves were in Op; and what went out and what the items hold
+/// behind it, where that is asked for.
 pub(crate) fn log_cycle<W: Write>(
     cycle: u64,
     end: CycleEnd,
     counts: &[u16],
     items: usize,
+    images: Option<Images<'_>>,
     lines: &mut Lines<'_, W>,
 ) -> io::Result<()> {
     lines.text(format_args!("cycle {cycle} "))?;
@@ -292,7 +308,36 @@ pub(crate) fn log_cycle<W: Write>(
     if end.ended == Ok(Verdict::Good) && !end.in_op {
         lines.text(" not-in-op")?;
     }
+    if let Some(images) = images {
+        put_images(images, items, lines)?;
+    }
     lines.end()
+}
+
+/// Puts the data of so many items as they went out, and as they are held; `-` where there was no good cycle.
+fn put_images<W: Write>(
+    images: Images<'_>,
+    items: usize,
+    lines: &mut Lines<'_, W>,
+) -> io::Result<()> {
+    lines.text(" sent ")?;
+    put_data(images.sent, items, lines)?;
+    lines.text(" image ")?;
+    match images.image {
+        Some(image) => put_data(image, items, lines),
+        None => lines.text("-"),
+    }
+}
+
+/// Puts the data of so many items of a work, with a comma between two.
+fn put_data<W: Write>(work: &Work, items: usize, lines: &mut Lines<'_, W>) -> io::Result<()> {
+    for k in 0..work.len().min(items) {
+        if k != 0 {
+            lines.text(",")?;
+        }
+        lines.hex(work.item(k).data())?;
+    }
+    Ok(())
 }
 
 /// Puts how a cycle ended.

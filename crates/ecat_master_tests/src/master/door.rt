@@ -28,6 +28,7 @@ fn a_line_is_brought_up_and_a_link_breaks_while_it_cycles(rt: HostRuntime) {
         recover: true,
         progress: true,
         log: true,
+        log_images: true,
         states: true,
         identities: &[],
         leave: Some(AlState::Init),
@@ -57,7 +58,10 @@ fn a_line_is_brought_up_and_a_link_breaks_while_it_cycles(rt: HostRuntime) {
         &rt,
         "what is logged",
         written(&log),
-        "cycle 0 good counts 9\ncycle 1 good counts 9\ncycle 2 good counts 9\n\
-        cycle 3 good counts 9\ncycle 4 good counts 9\n",
+        "cycle 0 good counts 9 sent 000000 image a0a1a2\n\
+        cycle 1 good counts 9 sent 010000 image a0a1a2\n\
+        cycle 2 good counts 9 sent 020000 image a0a1a2\n\
+        cycle 3 good counts 9 sent 030000 image a0a1a2\n\
+        cycle 4 good counts 9 sent 040000 image a0a1a2\n",
     );
 }

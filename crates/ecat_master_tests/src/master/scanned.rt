@@ -3,7 +3,7 @@
 use super::stage::{ROOM, Stage, Told, ring_with, wanted_with, written};
 use crate::asserts::assert_found;
 use ec_run::Watched;
-use ecat_master::{scan, start};
+use ecat_master::{Unfound, scan, start};
 use ecat_text::Lines;
 use std::io::Cursor;
 use std::process::Abort;
@@ -58,7 +58,8 @@ static ROWS: [Row; 4] = [
         down: &[1],
         starts: false,
         all: false,
-        text: "slaves 3\nlink 1 down\nslave 0 station 0x0000 state Init\nslave 1 BadAnswer\n\
+        text: "slaves 3\nlink 1 down\nslave 0 station 0x0000 state Init\nslave 1 BadAnswer \
+        (while the cable is broken, another slave may answer for it)\n\
             slave 2 station 0x0000 state Init\n",
     },
     Row {
@@ -87,7 +88,7 @@ fn assert_row(rt: &(impl AllocGlobal + Abort), row: &Row) {
         brings_up(rt, &mut ports);
     }
     let mut out = Cursor::new([0u8; ROOM]);
-    let scanned = scan(&mut ports, &mut Lines::new(&mut out)).ok();
+    let scanned = scan(&mut ports, &mut Lines::new(&mut out), &mut Unfound).ok();
     assert_found(rt, row.name, scanned, Some(row.all));
     assert_found(rt, row.name, written(&out), row.text);
 }

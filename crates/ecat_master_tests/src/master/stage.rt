@@ -201,6 +201,7 @@ pub const PLAN: Plan<'static> = Plan {
     recover: true,
     progress: false,
     log: false,
+    log_images: false,
     states: true,
     identities: &[],
     leave: Some(AlState::Init),

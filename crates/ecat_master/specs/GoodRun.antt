@@ -1,0 +1,31 @@
+-- A run that ends with the exit status 0: its line was started, cycles were made on it from there on, and the
+-- last one was good with all slaves in Op.
+use Rattle.std.specs.Prelude.{◌≡◌, ℕ, Option, List}
+use Rattle.ec_diag.specs.declared.located.Located.{Located}
+use Rattle.ec_map.specs.Item.{ItemRecord}
+use Rattle.ec_run.specs.Cycles.{End, begun_with}
+use Rattle.ec_run.specs.Watched.{WatchedTrips}
+use Rattle.ec_run.specs.declared.cycles.Cycles.{Cycles}
+use Rattle.ec_run.specs.declared.wanted.Wanted.{Wanted}
+use Rattle.ecat_master.specs.Course.{HeardTrips, IsCourse}
+use Rattle.ecat_master.specs.Last.{IsLast, in_op, status_told}
+use Rattle.ecat_master.specs.Start.{IsStarted}
+use Rattle.ecat_master.specs.declared.run.Plan.{Plan}
+
+-- the status 0, by how the last cycle ended and by the image
+abbrev pub EndsGood : Option End → Plan → Cycles → Type 0
+EndsGood last plan cycles = status_told last (in_op plan.states cycles.image) ≡ 0
+
+-- the line was started; from the ports as they were then there was a course of cycles, of which the last one
+-- ended so, if there was any
+pub record IsGoodRun {P : Type 0} (heard : HeardTrips P) (before : P) (line : List Wanted)
+    (work : List ItemRecord) (expected : List ℕ) (plan : Plan) : Type 0 where
+  pub cable : Located
+  pub between : P
+  pub started : IsStarted heard before line cable between
+  pub cycles : Cycles
+  pub later : P
+  pub course : IsCourse heard plan.outputs expected line (begun_with work) between cycles later
+  pub last : Option End
+  pub is_last : IsLast (WatchedTrips heard) plan.outputs expected (begun_with work) last cycles
+  pub good : EndsGood last plan cycles
