@@ -360,8 +360,9 @@ struct rmp_written rmp_open(uint32_t form, uint32_t seal, const uint8_t *sent, s
  *
  * Proved: each data bit, event request and circulating bit differs from the sent one exactly if it does in a
  * copy; each working counter, and the ADP where slaves count it up, has moved as far as in both copies
- * together; a frame that cannot have come of the sent one, by its commands, indexes, lengths and addresses,
- * is named with its first datagram that differs, a before b; any end but RMP_GOOD leaves `room` as it is.
+ * together; what is put is a frame; a frame that cannot have come of the sent one, by its commands, indexes,
+ * lengths and addresses, is named with its first datagram that differs, a before b; any end but RMP_GOOD
+ * leaves `room` as it is.
  */
 struct rmp_joined rmp_join(uint32_t form, const uint8_t *sent, size_t sent_size, const uint8_t *a,
                            size_t a_size, const uint8_t *b, size_t b_size, uint8_t *room, size_t room_size);
@@ -382,7 +383,9 @@ struct rmp_answer rmp_judge(struct rmp_item *items, size_t n, size_t first, cons
  * were sent, so let the application write outputs of an LRW behind this call.
  *
  * Proved: the image is the one before with these data in their places; items that only write, and all bytes
- * outside, are as they were; any end but RMP_GOOD leaves the image as it is.
+ * outside, are as they were; any end but RMP_GOOD leaves the image as it is. Behind all frames of a cycle
+ * each item that reads has the data of its answer in its place; where places overlap the last such item
+ * prevails.
  */
 struct rmp_answer rmp_store(const struct rmp_item *items, size_t n, size_t first, const uint8_t *joined,
                             size_t joined_size, uint8_t *image, size_t image_size);
@@ -448,7 +451,8 @@ struct rmp_framed rmp_cycle_next(const struct rmp_cycle *cycle, const struct rmp
  * items, `waiting` and the image as they are, so that a stranger may be dropped and the next packets taken:
  * those of rmp_join but RMP_NO_ROOM; RMP_OTHER_ITEM; RMP_BAD_.. of an item; RMP_NO_ROOM where `waiting` is
  * not of the image's size; RMP_NOT_UNDER_WAY. A cycle that is done is a good cycle, as that of the four
- * calls is, where the master leaves the image alone meanwhile.
+ * calls is, where the master leaves the image alone meanwhile; the image then has the answers of this cycle,
+ * whatever `waiting` held before its first frame.
  */
 struct rmp_turn rmp_cycle_came(struct rmp_cycle *cycle, struct rmp_item *items, size_t n,
                                const uint8_t *sent, size_t sent_size, const uint8_t *a, size_t a_size,
@@ -482,7 +486,9 @@ struct rmp_located rmp_where(uint32_t form, const uint8_t *sent, size_t sent_siz
  *
  * Proved: the answer is RMP_FIT exactly where no rule is broken, and else the first rule that is, with the
  * smallest numbers from left to right and the lowest address or bit. Of fit lines alone the promises about
- * cycles hold. Of more than RMP_MAX_SLAVES slaves it is RMP_LONG_LINE.
+ * cycles hold. Of more than RMP_MAX_SLAVES slaves it is RMP_LONG_LINE. What this call and the three below
+ * find by records that were read back of the slaves is so of the line, of `counter` where the line is fit and
+ * the item goes where a cycle may.
  *
  * Not looked at: whether an area is written to its last byte (where it is not, a slave counts, and its
  * application is never shown these outputs), and the two further buffers that a controller keeps behind a

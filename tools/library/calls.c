@@ -78,6 +78,25 @@ static void cycle(void) {
     CHECK(memcmp(image, after, sizeof after) == 0);
 }
 
+/* Where the places of items overlap the last item that reads prevails, and no other byte changes. */
+static void overlapping(void) {
+    const uint8_t after[6] = {0xF0, 0x12, 0x08, 0x00, 0, 0};
+    struct rmp_cycle turns = rmp_cycle_begin(RMP_UDP);
+    uint8_t room[6];
+    begin();
+    items[1].offset = 2; /* the LRW's data lie at 1 and 2, the BRD's at 2 and 3 */
+    CHECK(rmp_store(items, 2, 0, JOINED, sizeof JOINED, image, sizeof image).code == RMP_GOOD);
+    CHECK(memcmp(image, after, sizeof after) == 0);
+    begin();
+    items[1].offset = 2;
+    memset(room, 0xEE, sizeof room);
+    CHECK(rmp_cycle_came(&turns, items, 2, FRAME, sizeof FRAME, FROM_A, sizeof FROM_A, FROM_B, sizeof FROM_B,
+                         room, sizeof room, image, sizeof image)
+              .code == RMP_GOOD);
+    CHECK(memcmp(image, after, sizeof after) == 0 && room[0] == 0xEE && room[4] == 0xEE);
+    begin();
+}
+
 /* Copies that are lost, damaged or of another frame. */
 static void copies(void) {
     uint8_t other[sizeof FROM_B];
@@ -632,6 +651,7 @@ static void measure(const char *name, void (*call)(void)) {
 int main(void) {
     begin();
     cycle();
+    overlapping();
     copies();
     sealing();
     forms();

@@ -140,7 +140,7 @@ between-none asks k = ap (λ m. entries_from k (take m (drop k asks))) none
     none = omega arith
 
 -- how many they are
-length-entries : (k : ℕ) (rs : List ItemRecord) → length (entries_from k rs) ≡ length rs
+pub length-entries : (k : ℕ) (rs : List ItemRecord) → length (entries_from k rs) ≡ length rs
 unfolding entries_from
 length-entries k [] = refl
 length-entries k (r ∷ rs) = ap suc (length-entries (suc k) rs)

@@ -86,7 +86,7 @@ entries-split (f ∷ front) k (r ∷ rs) back e =
 -- ---- the frames of the calls
 
 -- a joined frame has as many datagrams as the sent one
-length-joined_frame : (s a b : List DatagramRecord) → length a ≡ length s → length b ≡ length s
+pub length-joined_frame : (s a b : List DatagramRecord) → length a ≡ length s → length b ≡ length s
     → length (joined_frame s a b) ≡ length s
 length-joined_frame [] a b ha hb = refl
 length-joined_frame (s ∷ ss) [] b ha hb = absurd (omega (arith, ha))

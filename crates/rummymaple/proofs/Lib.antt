@@ -10,3 +10,8 @@ pub mod ReadBackLemmas
 pub mod RoomLemmas
 pub mod SpellLemmas
 pub mod SealLemmas
+pub mod ImageLemmas
+pub mod TurnImageLemmas
+pub mod SameLineLemmas
+pub mod PacketLemmas
+pub mod CallLemmas

@@ -47,7 +47,7 @@ sync_manager_bytes r c are =
     (omega (arith, are.controller.memory_size, length-drop 2048 c.memory))
 
 -- each FMMU is that of the controller
-fmmu_read : (r : Records) (c : ControllerState) (i : ℕ) → AreOf r c → i < 8
+pub fmmu_read : (r : Records) (c : ControllerState) (i : ℕ) → AreOf r c → i < 8
     → fmmu_at (memory_of r) i ≡ fmmu_at c.memory i
 unfolding fmmu_at
 fmmu_read r c i are there =
@@ -83,7 +83,7 @@ fmmus_read r c are =
       e 7 (omega arith),
     ) refl
 
-sync_managers_read : (r : Records) (c : ControllerState) → AreOf r c
+pub sync_managers_read : (r : Records) (c : ControllerState) → AreOf r c
     → sync_managers_of (memory_of r) ≡ sync_managers_of c.memory
 unfolding sync_managers_of
 sync_managers_read r c are =

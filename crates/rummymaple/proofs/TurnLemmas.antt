@@ -57,23 +57,23 @@ map-with_counts f same [] ds = refl
 map-with_counts f same (i ∷ items) [] = refl
 map-with_counts f same (i ∷ items) (d ∷ ds) = λ t. same i d t ∷ map-with_counts f same items ds t
 
-map-with_counts_at : {A : Type 0} (f : Item → A)
+pub map-with_counts_at : {A : Type 0} (f : Item → A)
     (same : (i : Item) (d : DatagramRecord) → f (came_back i d) ≡ f i) (k : ℕ) (items : List Item)
     (ds : List DatagramRecord) → map f (with_counts_at k items ds) ≡ map f items
 map-with_counts_at f same zero items ds = map-with_counts f same items ds
 map-with_counts_at f same (suc k) [] ds = refl
 map-with_counts_at f same (suc k) (i ∷ items) ds = ap (λ xs. f i ∷ xs) (map-with_counts_at f same k items ds)
 
-asked-with_counts_at : (image : List ℕ) (k : ℕ) (items : List Item) (ds : List DatagramRecord)
+pub asked-with_counts_at : (image : List ℕ) (k : ℕ) (items : List Item) (ds : List DatagramRecord)
     → map (asked image) (with_counts_at k items ds) ≡ map (asked image) items
 asked-with_counts_at image k items ds = map-with_counts_at (asked image) (λ i d. refl) k items ds
 
-expected-with_counts_at : (k : ℕ) (items : List Item) (ds : List DatagramRecord)
+pub expected-with_counts_at : (k : ℕ) (items : List Item) (ds : List DatagramRecord)
     → map (λ i. i.expected) (with_counts_at k items ds) ≡ map (λ i. i.expected) items
 expected-with_counts_at k items ds = map-with_counts_at (λ (i : Item). i.expected) (λ i d. refl) k items ds
 
 -- verdicts hang on what is asked and expected alone
-good-same : (later items : List Item) (k : ℕ) (joined : List (List DatagramRecord))
+pub good-same : (later items : List Item) (k : ℕ) (joined : List (List DatagramRecord))
     → map (asked []) later ≡ map (asked []) items
     → map (λ i. i.expected) later ≡ map (λ i. i.expected) items → AreGood later k joined
     → AreGood items k joined
@@ -97,7 +97,7 @@ past-calls h (c ∷ cs) [] later rs k turns past end = absurd turns
 past-calls h (c ∷ cs) (j ∷ js) later rs k turns past end = absurd (omega (arith, turns.0, past))
 
 -- unless it is the last one, the image is as it was behind a good frame
-same-image : (h : Held) (frame : List DatagramRecord)
+pub same-image : (h : Held) (frame : List DatagramRecord)
     → (h.cycle.first + length frame ≡ length h.items → ⊥) → (judged h frame Good).image ≡ h.image
 same-image h frame other =
     let test : eqb (h.cycle.first + length frame) (length h.items) ≡ false =

@@ -2,7 +2,7 @@
 use Rattle.std.specs.Prelude.{◌≡◌, ◌<◌, ◌≤◌, ℕ, Option, None, Some, List, ◌++◌, length, drop, ◌⊎◌}
 use Rattle.ec_wire.specs.Datagram.{DatagramRecord}
 use Rattle.ec_wire.specs.Fault.{IsSpelt, IsFirstFault}
-use Rattle.ec_wire.specs.Spelling.{spelling}
+use Rattle.ec_wire.specs.Spelling.{spelling, IsFrameValue}
 use Rattle.ec_wire.specs.declared.fault.Form.{Form}
 use Rattle.ec_wire.specs.declared.fault.WireFault.{WireFault}
 use Rattle.ec_merge.specs.Frames.{IsOwn, IsFault, joined_frame}
@@ -28,7 +28,8 @@ pub record IsPut (bytes before : List ℕ) (count : ℕ) (later : List ℕ) : Ty
 abbrev pub EndsIn : List DatagramRecord → List DatagramRecord → List DatagramRecord → List ℕ → JoinEnd
     → List ℕ → Type 0
 EndsIn s x y before (Joined count) later =
-    IsOwn s x × IsOwn s y × IsPut (spelling (joined_frame s x y)) before count later
+    IsOwn s x × IsOwn s y × IsFrameValue (joined_frame s x y)
+    × IsPut (spelling (joined_frame s x y)) before count later
 EndsIn s x y before (Stranger fault) later = IsFault s x y fault × (later ≡ before)
 EndsIn s x y before NoRoom later =
     IsOwn s x × IsOwn s y × (length before < length (spelling (joined_frame s x y))) × (later ≡ before)

@@ -14,6 +14,8 @@ pub mod Read
 pub mod Cable
 pub mod Turn
 pub mod Turns
+pub mod Image
+pub mod Calls
 pub mod Mapping
 pub mod Asked
 pub mod ReadBack

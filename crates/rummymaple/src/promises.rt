@@ -1,6 +1,6 @@
 //! What the calls in their order come to, each promise the contract of a function that does nothing.
 
-ghost use Rattle.std.specs.Prelude.{◌≡◌, ◌≤◌, ◌<◌, ℕ, List, [], ◌∷◌, map, length, Ok, Some};
+ghost use Rattle.std.specs.Prelude.{◌≡◌, ◌↔◌, ◌≤◌, ◌<◌, ℕ, List, [], ◌∷◌, map, length, Ok, Some, None};
 ghost use Rattle.std.specs.List.{AllByRecursion};
 ghost use Rattle.ec_wire.specs.Datagram.{DatagramRecord};
 ghost use Rattle.ec_wire.specs.Fault.{IsSpelt};
@@ -10,7 +10,12 @@ ghost use Rattle.ec_esc.specs.State.{ControllerState};
 ghost use Rattle.ec_esc.specs.declared.counting.TheConstants.{MOST_CONTROLLERS};
 ghost use Rattle.ec_check.specs.Fit.{IsFit};
 ghost use Rattle.ec_check.specs.Mapping.{mapping};
+ghost use Rattle.ec_map.specs.Covered.{IsGap};
 ghost use Rattle.ec_map.specs.Item.{IsItem};
+ghost use Rattle.ec_map.specs.Place.{IsPlaced, IsPlaceFault};
+ghost use Rattle.ec_map.specs.Share.{expected_of};
+ghost use Rattle.ec_map.specs.declared.covered.Gap.{Gap};
+ghost use Rattle.ec_map.specs.declared.place.PlaceFault.{PlaceFault};
 ghost use Rattle.ec_ring.specs.Arrivals.{arrivals_of};
 ghost use Rattle.ec_ring.specs.declared.port.Port.TheVariants.{A, B};
 ghost use Rattle.ec_ring.specs.declared.weather.Came.{Came};
@@ -28,12 +33,17 @@ ghost use Rattle.ec_seal.specs.Network.{Sent, IsSent, HasOwnSeal, IsOfSome, Arri
 ghost use Rattle.ec_seal.specs.Seal.{sealed_by};
 ghost use Rattle.ec_seal.specs.declared.seal.TheConstants.{SEALS};
 ghost use Rattle.rummymaple.specs.Cable.{AreHeard, IsArrival};
+ghost use Rattle.rummymaple.specs.Calls.{AreGoodCalls, AreJoinedBytes, AreStoredBytes};
 ghost use Rattle.rummymaple.specs.Join.{IsPut};
 ghost use Rattle.rummymaple.specs.Seals.{IsOpened};
 ghost use Rattle.rummymaple.specs.Turn.{Held};
-ghost use Rattle.rummymaple.specs.Turns.{AreTurns};
+ghost use Rattle.rummymaple.specs.Numbers.{form_of};
+ghost use Rattle.rummymaple.specs.Copies.{AreGiven, Packets};
+ghost use Rattle.rummymaple.specs.Turns.{AreGoodTurns, AreTurns};
 ghost use Rattle.rummymaple.specs.Cycle.{AreCalls, AreGood, as_ports_give};
-ghost use Rattle.rummymaple.specs.Items.{asked};
+ghost use Rattle.rummymaple.specs.Image.{AreStored, HasAnswers};
+ghost use Rattle.rummymaple.specs.Asked.{request, requests};
+ghost use Rattle.rummymaple.specs.Items.{asked, refusal, AreTaken};
 ghost use Rattle.rummymaple.specs.Mapping.{line_of};
 ghost use Rattle.rummymaple.specs.ReadBack.{AreOfLine};
 ghost use Rattle.rummymaple.specs.declared.cable.Cable.{Cable};
@@ -51,7 +61,9 @@ use ec_wire::one_spelling;
 /// (`cycle`). So all that a good cycle says of a ring holds of each ring that would have given what came
 /// (`says`). Where each item went out with the counter of round `k`, that is with `sent` at 2,048 times `k`
 /// modulo 65,536, and is expected to gain less than 4,096, and every copy is of that round or of one of the
-/// fifteen before it, the good cycle rests on no copy of an earlier one (`this_round`).
+/// fifteen before it, the good cycle rests on no copy of an earlier one (`this_round`). Such calls are those
+/// of which [`rmp_join`](crate::rmp_join) and [`rmp_judge`](crate::rmp_judge) say, by whatever packets, that
+/// each frame is joined and good, where what was sent is what [`rmp_frame`](crate::rmp_frame) made (`told`).
 pub fn calls_are_a_cycle()
     ensures cycle { (items : List Item) (image : List ℕ) (came : List Came)
         (joined : List (List DatagramRecord))
@@ -71,7 +83,14 @@ pub fn calls_are_a_cycle()
         → AllByRecursion (λ (i : Item). i.expected < 4096) items
         → AllByRecursion (AreRecent k) (as_ports_give came)
         → AllByRecursion (AreOfRound k) (as_ports_give came) }
+    ensures told { (form : Form) (items later : List Item) (image : List ℕ) (packets : List Packets)
+        (bytes : List (List ℕ)) → AreGoodCalls form image items 0 packets bytes later
+        → (came : List Came) × (joined : List (List DatagramRecord))
+        × AreGiven form packets came × AreJoinedBytes bytes joined
+        × AreCalls (map (asked image) items) 0 came joined × AreGood items 0 joined
+        × (map (asked image) later ≡ map (asked image) items) }
 {
+    one_spelling();
     frames_suffice();
 }
 
@@ -90,8 +109,15 @@ pub fn what_is_told_is_so()
 
 /// Turns of a cycle from its first item on, of which each frame is made behind the one before it, and what
 /// came back of it is joined and judged good, are calls in their order (`calls`), and so a good cycle over
-/// ports that give what came (`cycle`).
+/// ports that give what came (`cycle`). Such turns are those of which
+/// [`rmp_cycle_came`](crate::rmp_cycle_came) says, of whatever packets, that they are good, where what was
+/// sent is what [`rmp_cycle_next`](crate::rmp_cycle_next) made: a port gives the frame that a packet spells,
+/// and of a packet that spells none nothing (`packets`).
 pub fn turns_are_a_cycle()
+    ensures packets { (form : Form) (h later : Held) (packets : List Packets)
+        → form_of h.cycle.form ≡ Some form → AreGoodTurns form h packets later
+        → (came : List Came) × (joined : List (List DatagramRecord))
+        × AreGiven form packets came × AreTurns h came joined later }
     ensures calls { (h later : Held) (came : List Came) (joined : List (List DatagramRecord))
         → AreTurns h came joined later → h.cycle.first ≡ 0
         → AreCalls (map (asked h.image) h.items) 0 came joined × AreGood h.items 0 joined }
@@ -101,12 +127,50 @@ pub fn turns_are_a_cycle()
         (map (λ i. i.expected) h.items) (Ok Good)
         (with_answers (map (asked h.image) h.items) (concat joined)) [] }
 {
+    one_spelling();
     calls_are_a_cycle();
 }
 
-/// Records that are the bytes of the slaves' registers are mapped as the slaves' controllers are: a line is
-/// fit exactly where its records are, so that what [`rmp_check`](crate::rmp_check) finds of records that were
-/// read back holds of the line itself, as long as its mapping stays.
+/// The image has the answers of the items, and nothing else: where the calls in their order cover the items
+/// and each joined frame is stored, over whatever image, each item that reads, and into whose place no
+/// later item reads, has in its place the data that the work of `run_cycle` takes; of places that overlap
+/// the last item that reads prevails; and every other byte is as it was (`stored`). Each joined frame is so
+/// where [`rmp_store`](crate::rmp_store) says it of the bytes that spell it (`bytes`). So does the image of
+/// a cycle by turns behind its last frame, whatever waited before it (`taken`), and that of a cycle of
+/// which [`rmp_cycle_came`](crate::rmp_cycle_came) says that each turn is good, by whatever packets
+/// (`told`).
+pub fn image_has_the_answers()
+    ensures stored { (items : List Item) (image before later : List ℕ) (came : List Came)
+        (joined : List (List DatagramRecord))
+        → AreCalls (map (asked image) items) 0 came joined → AreStored items 0 joined before later
+        → HasAnswers items (with_answers (map (asked image) items) (concat joined)) before later }
+    ensures bytes { (items : List Item) (before later : List ℕ) (bytes : List (List ℕ))
+        (joined : List (List DatagramRecord)) → AreJoinedBytes bytes joined
+        → AreStoredBytes items 0 bytes joined before later → AreStored items 0 joined before later }
+    ensures taken { (h later : Held) (came : List Came) (joined : List (List DatagramRecord))
+        → AreTurns h came joined later → h.cycle.first ≡ 0 → AreTaken (length h.image) h.items
+        → length h.waiting ≡ length h.image
+        → HasAnswers h.items (with_answers (map (asked h.image) h.items) (concat joined)) h.image
+        later.image }
+    ensures told { (form : Form) (h later : Held) (packets : List Packets)
+        → form_of h.cycle.form ≡ Some form → h.cycle.first ≡ 0 → AreGoodTurns form h packets later
+        → (came : List Came) × (joined : List (List DatagramRecord))
+        × AreGiven form packets came × AreTurns h came joined later
+        × HasAnswers h.items (with_answers (map (asked h.image) h.items) (concat joined)) h.image
+        later.image }
+{
+    one_spelling();
+    turns_are_a_cycle();
+}
+
+/// Records that are the bytes of the slaves' registers are mapped as the slaves' controllers are, so that
+/// what is found of records that were read back holds of the line itself, as long as its mapping stays: a
+/// line is fit exactly where its records are ([`rmp_check`](crate::rmp_check)); an item, with its data from
+/// an image, goes where a cycle may not on the line exactly where it does by the records, at the slave that
+/// they name (`outside`, [`rmp_check_item`](crate::rmp_check_item)); where it does not, and the records are
+/// fit, the line adds to its counter what is expected by the records (`expected`,
+/// [`rmp_expected`](crate::rmp_expected)); and the same mapped bits are asked for by no item (`gaps`,
+/// [`rmp_covered`](crate::rmp_covered)).
 pub fn records_are_the_line()
     ensures mapping { (records : List Records) (line : List ControllerState) → AreOfLine records line
         → mapping (line_of records) ≡ mapping line }
@@ -114,6 +178,16 @@ pub fn records_are_the_line()
         → IsFit (line_of records) → IsFit line }
     ensures unfit { (records : List Records) (line : List ControllerState) → AreOfLine records line
         → IsFit line → IsFit (line_of records) }
+    ensures outside { (records : List Records) (line : List ControllerState) (image : List ℕ) (i : Item)
+        (fault : PlaceFault) → AreOfLine records line → refusal (length image) i ≡ None
+        → IsPlaceFault (line_of records) (request i) fault ↔ IsPlaceFault line (asked image i) fault }
+    ensures expected { (records : List Records) (line : List ControllerState) (image : List ℕ) (i : Item)
+        → AreOfLine records line → refusal (length image) i ≡ None → IsItem (asked image i)
+        → IsFit (line_of records) → IsPlaced (line_of records) (request i)
+        → expected_of (line_of records) (request i) ≡ expected_of line (asked image i) }
+    ensures gaps { (records : List Records) (line : List ControllerState) (image : List ℕ)
+        (items : List Item) (gap : Gap) → AreOfLine records line → AreTaken (length image) items
+        → IsGap (line_of records) (requests items) gap ↔ IsGap line (map (asked image) items) gap }
 {}
 
 /// A packet opens under one seal alone, and as what arrives of the frame without it. What [`rmp_open`] opens

@@ -4,6 +4,7 @@ use Rattle.ec_map.specs.Item.{ItemRecord}
 use Rattle.ec_master.specs.Rounds.{round_counter}
 use Rattle.rummymaple.specs.Items.{asked}
 use Rattle.rummymaple.specs.declared.item.Item.{Item}
+use Rattle.rummymaple.proofs.CallLemmas.{calls-told}
 use Rattle.rummymaple.proofs.CycleLemmas.{calls-cycle, each-of_map}
 use Rattle.rummymaple.proofs.promises.calls_are_a_cycle.Goals as goal
 
@@ -21,3 +22,8 @@ returns-clause-this_round c k items image came joined calls good begun few recen
     (length-map items (λ (i : Item). i.expected) ∙ sym (length-map items (asked image)))
     (each-of_map (λ (e : ℕ). e < 4096) (λ (i : Item). i.expected) items few) recent
     (calls-cycle items image came joined calls good)
+
+pub returns-clause-told : goal.returns-clause-told
+returns-clause-told c form items later image packets bytes calls =
+    let told = calls-told form image items 0 packets bytes later c.one_spelling.ensures calls in
+    (told.came, told.joined, told.given, told.spelt, told.calls, told.good, told.asks)
