@@ -1,1 +1,3 @@
+mod NumberLemmas
+mod SpeltLemmas
 mod WordLemmas

@@ -57,6 +57,29 @@ pub enum BenchCommand {
         /// How many.
         count: u32,
     },
+    /// `late A MILLISECONDS N` or `late B MILLISECONDS N`
+    Late {
+        /// At which end copies leave late.
+        at: Port,
+        /// By how much.
+        milliseconds: u32,
+        /// How many.
+        count: u32,
+    },
+    /// `double A N` or `double B N`
+    Double {
+        /// At which end copies leave twice.
+        at: Port,
+        /// How many.
+        count: u32,
+    },
+    /// `damage A N` or `damage B N`
+    Damage {
+        /// At which end copies leave damaged.
+        at: Port,
+        /// How many.
+        count: u32,
+    },
     /// `unplug A` or `unplug B`
     Unplug {
         /// At which end nobody has spoken from now on.
@@ -118,13 +141,16 @@ fn command_of(alloc: Global, words: &[&[u8]]) -> Result<BenchCommand, CommandFau
         "mem" => wanting("mem SLAVE ADDRESS BYTES", load(alloc, rest)),
         "state" => wanting("state SLAVE 1|2|4|8", state(rest)),
         "lose" => wanting("lose A|B N", lose(rest)),
+        "late" => wanting("late A|B MILLISECONDS N", late(rest)),
+        "double" => wanting("double A|B N", double(rest)),
+        "damage" => wanting("damage A|B N", damage(rest)),
         "unplug" => wanting("unplug A|B", unplug(rest)),
         "areas" => wanting("areas", alone(rest, BenchCommand::Areas)),
         "line" => wanting("line", alone(rest, BenchCommand::Line)),
         "counts" => wanting("counts", alone(rest, BenchCommand::Counts)),
         "quit" => wanting("quit", alone(rest, BenchCommand::Quit)),
         _ => wanting(
-            "link, mem, state, lose, unplug, areas, line, counts or quit",
+            "link, mem, state, lose, late, double, damage, unplug, areas, line, counts or quit",
             Err(Stop::Fault(LineFault::UnknownWord)),
         ),
     }
@@ -203,6 +229,49 @@ fn lose(words: &[&[u8]]) -> Result<BenchCommand, Stop>
     let at = end_of(end)?;
     let count = double_word(number(count)?)?;
     Ok(BenchCommand::Lose { at, count })
+}
+
+/// `late A MILLISECONDS N` or `late B MILLISECONDS N`
+fn late(words: &[&[u8]]) -> Result<BenchCommand, Stop>
+    ensures { CountsWords 3 words.now result }
+{
+    let [end, milliseconds, count] = words else {
+        return Err(Stop::Fault(LineFault::WrongCount));
+    };
+    let at = end_of(end)?;
+    let milliseconds = number(milliseconds)?;
+    let count = number(count)?;
+    let milliseconds = double_word(milliseconds)?;
+    let count = double_word(count)?;
+    Ok(BenchCommand::Late {
+        at,
+        milliseconds,
+        count,
+    })
+}
+
+/// `double A N` or `double B N`
+fn double(words: &[&[u8]]) -> Result<BenchCommand, Stop>
+    ensures { CountsWords 2 words.now result }
+{
+    let [end, count] = words else {
+        return Err(Stop::Fault(LineFault::WrongCount));
+    };
+    let at = end_of(end)?;
+    let count = double_word(number(count)?)?;
+    Ok(BenchCommand::Double { at, count })
+}
+
+/// `damage A N` or `damage B N`
+fn damage(words: &[&[u8]]) -> Result<BenchCommand, Stop>
+    ensures { CountsWords 2 words.now result }
+{
+    let [end, count] = words else {
+        return Err(Stop::Fault(LineFault::WrongCount));
+    };
+    let at = end_of(end)?;
+    let count = double_word(number(count)?)?;
+    Ok(BenchCommand::Damage { at, count })
 }
 
 /// `unplug A` or `unplug B`

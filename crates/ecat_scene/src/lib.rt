@@ -21,12 +21,16 @@
 //! What is promised: any bytes are taken; `TooLong` comes exactly of more than 65,536 bytes; and what is
 //! answered is in the ranges that its types state, the numbers of FMMUs and sync managers below 8, and loaded
 //! bytes inside the process memory. A line has text alone (`test_text`), and a record has each number as it
-//! is, or there is none (`fmmu_of`, `sync_man_of`). Which fault a text has is tested, also in `cases`.
+//! is, or there is none (`fmmu_of`, `sync_man_of`). A number is that of its digits ([`number`]), and what is
+//! written of a number is read as this number ([`numbers_read_back`]), as what is written of a line that
+//! describes a slave has its words ([`lines_read_back`]). Which fault a text has is tested, also in `cases`.
 //!
 //! - `scene`: what a scene is; `fault`: what can be wrong with its text.
 //! - `reader`: the lines in their order; `slave_lines`, `work_lines`: what each of them says.
 //! - `bench`: the commands by which a line is worked on while it is served, a line of text each.
 //! - `words`, `numbers`: the words of a line, and the numbers and rows of bytes among them.
+//! - `written`: lines that are written. [`put_line`] and its like put exactly the words of a line behind a
+//!   text (`specs/Lines.antt`).
 //!
 //! What helps a person with the text of a scene is `ecat_lint`, which reads lines by the same words.
 
@@ -38,13 +42,17 @@ mod scene;
 mod slave_lines;
 mod words;
 mod work_lines;
+mod written;
 
 pub use bench::{BenchCommand, CommandFault, SlaveName};
 pub use fault::{LineFault, SceneFault, Stop};
-pub use numbers::{number, test_bytes};
+pub use numbers::{number, numbers_read_back, test_bytes};
 pub use scene::{
     Action, FmmuSetting, Load, MAX_ACTIONS, MAX_ITEMS, MAX_SLAVES, MAX_STARTUP, MAX_TEXT,
     MAX_WEATHERS, Scene, SceneSlave, SceneWeather, Setting, StartupObject, SyncManSetting,
 };
 pub use slave_lines::{control_of, object_of, startup_of, sync_man_of};
 pub use words::{is_text, put_words, text_of, words_of};
+pub use written::{
+    AreaKind, SceneLine, Through, lines_read_back, put_item, put_line, put_row, put_startup,
+};

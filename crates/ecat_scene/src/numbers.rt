@@ -1,14 +1,18 @@
 //! Numbers and rows of bytes as a scene writes them.
 
-ghost use Rattle.std.specs.Prelude.{◌≡◌, ◌<◌, ◌^◌, IfSome};
+ghost use Rattle.std.specs.Prelude.{◌≡◌, ◌<◌, ◌^◌, ◌++◌, IfSome, ℕ, Ok, codes};
+ghost use Rattle.std.specs.Fmt.{decimal};
+ghost use Rattle.ecat_scene.specs.Lines.{hexadecimal};
 ghost use Rattle.ecat_scene.specs.Fields.{fitting};
+ghost use Rattle.ecat_scene.specs.Numbers.{after_digits, digit_of, number_of, row_number, with_digit};
 
 use crate::fault::LineFault;
 use std::alloc::{AllocError, Global};
 
 /// The value of a hexadecimal digit of either case.
 fn hex_digit(digit: u8) -> Option<u8>
-    ensures { IfSome result (λ value. value < 16) }
+    ensures value { result ≡ digit_of digit }
+    ensures below { IfSome result (λ value. value < 16) }
 {
     match digit {
         b'0'..=b'9' => Some(digit - b'0'),
@@ -18,27 +22,44 @@ fn hex_digit(digit: u8) -> Option<u8>
     }
 }
 
+/// A number with one digit more behind it, where the byte is one; past 64 bits the greatest.
+fn with_digit(base: u8, value: u64, byte: u8) -> Result<u64, LineFault>
+    ensures { result ≡ with_digit base value (digit_of byte) }
+{
+    match hex_digit(byte) {
+        None => Err(LineFault::BadNumber),
+        Some(digit) => {
+            if digit < base {
+                Ok(
+                    value
+                        .saturating_mul(u64::from(base))
+                        .saturating_add(u64::from(digit)),
+                )
+            } else {
+                Err(LineFault::BadNumber)
+            }
+        }
+    }
+}
+
 /// The value of a row of digits in a base; one past 64 bits is the greatest.
-fn digits(row: &[u8], base: u8) -> Result<u64, LineFault> {
+fn digits(row: &[u8], base: u8) -> Result<u64, LineFault>
+    ensures { result ≡ row_number base row.now }
+{
     if row.is_empty() {
         return Err(LineFault::BadNumber);
     }
     let mut value = 0u64;
     for byte in row {
-        match hex_digit(*byte) {
-            Some(digit) if digit < base => {
-                value = value
-                    .saturating_mul(u64::from(base))
-                    .saturating_add(u64::from(digit));
-            }
-            _ => return Err(LineFault::BadNumber),
-        }
+        value = with_digit(base, value, *byte)?;
     }
     Ok(value)
 }
 
 /// A number: decimal digits, or `0x` and hexadecimal digits. One past 64 bits is the greatest.
-pub fn number(word: &[u8]) -> Result<u64, LineFault> {
+pub fn number(word: &[u8]) -> Result<u64, LineFault>
+    ensures { result ≡ number_of word.now }
+{
     match word {
         [b'0', b'x', row @ ..] => digits(row, 16),
         row => digits(row, 10),
@@ -101,3 +122,10 @@ pub(crate) fn bytes(alloc: Global, word: &[u8]) -> Result<Vec<u8>, AllocError> {
     }
     Ok(row)
 }
+
+/// What is written of a number of 64 bits, decimal or hexadecimal with zeros in front, is read as this
+/// number.
+pub fn numbers_read_back()
+    ensures decimal { (n : ℕ) → n < 2 ^ 64 → number_of (decimal n) ≡ Ok n }
+    ensures hexadecimal { (width n : ℕ) → n < 2 ^ 64 → number_of (codes "0x" ++ hexadecimal width n) ≡ Ok n }
+{}

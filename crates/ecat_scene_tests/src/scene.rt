@@ -13,6 +13,7 @@ mod limits;
 mod refusals;
 pub(crate) mod shown;
 mod takes;
+mod written;
 
 /// The scene of a text, unless memory ran out.
 fn taken(rt: &(impl AllocGlobal + Abort), text: &[u8]) -> Option<Scene> {

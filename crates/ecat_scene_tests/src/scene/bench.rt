@@ -14,6 +14,10 @@ state 0x1001 0x4 | state Station(4097) SafeOp
 mem 1 0x1100 00fF | mem Place(1) 4352 [0, 255]
 lose A 3 | lose A 3
 lose B 4294967295 | lose B 4294967295
+late A 20 3 | late A 20 3
+late B 0x10 4294967295 | late B 16 4294967295
+double B 1 | double B 1
+damage A 2 | damage A 2
 unplug A | unplug A
 unplug B | unplug B
 areas | areas
@@ -33,6 +37,9 @@ link x | WrongCount
 mem 0 0x1000 | WrongCount
 state 0 | WrongCount
 lose A | WrongCount
+late A 20 | WrongCount
+double A | WrongCount
+damage A 1 2 | WrongCount
 unplug A B | WrongCount
 quit now | WrongCount
 link 1 open | BadNumber
@@ -40,12 +47,20 @@ link -1 up | BadNumber
 mem 0x10000 0x1000 0 | BadNumber
 state 0x10000 y | BadNumber
 lose C 4294967296 | BadNumber
+late A x 4294967296 | BadNumber
+late C 20 1 | BadNumber
+double A x | BadNumber
+damage a 1 | BadNumber
 unplug a | BadNumber
 mem 0x10000 0x1000 00 | OutOfRange
 mem 0 0x0fff 00 | OutOfRange
 mem 0 0x2fff 0000 | OutOfRange
 state 0 3 | OutOfRange
-lose B 4294967296 | OutOfRange";
+lose B 4294967296 | OutOfRange
+late A 4294967296 1 | OutOfRange
+late A 20 4294967296 | OutOfRange
+double B 4294967296 | OutOfRange
+damage B 4294967296 | OutOfRange";
 
 /// What a command says, as the tables write it.
 fn shown(alloc: Global, command: &BenchCommand) -> Result<String, AllocError> {
@@ -59,6 +74,13 @@ fn shown(alloc: Global, command: &BenchCommand) -> Result<String, AllocError> {
         }
         BenchCommand::State { slave, state } => format!(in alloc; "state {slave:?} {state:?}"),
         BenchCommand::Lose { at, count } => format!(in alloc; "lose {at:?} {count}"),
+        BenchCommand::Late {
+            at,
+            milliseconds,
+            count,
+        } => format!(in alloc; "late {at:?} {milliseconds} {count}"),
+        BenchCommand::Double { at, count } => format!(in alloc; "double {at:?} {count}"),
+        BenchCommand::Damage { at, count } => format!(in alloc; "damage {at:?} {count}"),
         BenchCommand::Unplug { at } => format!(in alloc; "unplug {at:?}"),
         BenchCommand::Areas => format!(in alloc; "areas"),
         BenchCommand::Line => format!(in alloc; "line"),

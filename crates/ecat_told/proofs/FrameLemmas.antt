@@ -1,0 +1,9 @@
+-- Frames of which no datagram is left.
+use Rattle.std.proofs.Common.{◌≡◌, ℕ, ◌≤◌, Bool, List, [], ◌∷◌, length, drop, refl, ap, ◌∙◌}
+use Rattle.ec_wire.specs.Datagram.{DatagramRecord}
+use Rattle.ecat_told.specs.Known.{KnownState, frame_returned}
+
+-- no datagram came
+pub none-came : (all : Bool) (ss : List DatagramRecord) (k : KnownState) → frame_returned all ss [] k ≡ k
+none-came all [] k = refl
+none-came all (s ∷ ss) k = refl
