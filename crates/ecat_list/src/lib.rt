@@ -19,6 +19,9 @@
 //! 2 0.001000 02:01:05:10:00:00 - fault Short at 12
 //! ```
 //!
+//! Of a packet that was cut when it was captured the datagrams are listed that are there whole, and behind
+//! the fault stands in which one it is cut.
+//!
 //! What is promised: what a byte and a decimal number put at the end of a text (`put_byte`, `put_decimal`),
 //! and what these and the digits of bytes put in front of the line under way (`Row`); what `Stats` counts, of
 //! each group of datagrams its working counters, how often each came and in which packet first, and how many
@@ -28,6 +31,7 @@
 
 mod address;
 mod columns;
+mod cut;
 mod line;
 mod listing;
 mod output;

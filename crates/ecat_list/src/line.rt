@@ -5,6 +5,7 @@ ghost use Rattle.ecat_list.specs.Shown.{kind_words};
 
 use crate::address::lead_address;
 use crate::columns::{put_datagram, put_head, put_nothing};
+use crate::cut::CutDatagram;
 use crate::row::Row;
 use crate::text::{digit_of, has_room, put_byte, put_decimal, put_row};
 use arrayvec::ArrayVec;
@@ -59,6 +60,8 @@ pub(crate) enum Note {
     BadLength,
     /// Its payload is no frame.
     Fault(WireFault),
+    /// It was cut when it was captured, in this datagram.
+    Cut(WireFault, CutDatagram),
 }
 
 impl Note {
@@ -66,7 +69,7 @@ impl Note {
     pub(crate) fn is_fault(self) -> bool {
         match self {
             Note::Type(_) | Note::Fragment => false,
-            Note::Short | Note::BadLength | Note::Fault(_) => true,
+            Note::Short | Note::BadLength | Note::Fault(_) | Note::Cut(_, _) => true,
         }
     }
 }
@@ -258,13 +261,20 @@ fn put_words(text: &mut Vec<u8>, note: Note) -> Result<(), AllocError> {
         Note::Fragment => text.extend_from_slice(b"fragment"),
         Note::Short => text.extend_from_slice(b"short"),
         Note::BadLength => text.extend_from_slice(b"bad length"),
-        Note::Fault(fault) => {
-            text.extend_from_slice(b"fault ")?;
-            text.extend_from_slice(name_of(fault.kind))?;
-            text.extend_from_slice(b" at ")?;
-            put_decimal(text, fault.at as u64)
+        Note::Fault(fault) => put_fault(text, fault),
+        Note::Cut(fault, datagram) => {
+            put_fault(text, fault)?;
+            datagram.put(text)
         }
     }
+}
+
+/// Puts the fault of a frame and its place.
+fn put_fault(text: &mut Vec<u8>, fault: WireFault) -> Result<(), AllocError> {
+    text.extend_from_slice(b"fault ")?;
+    text.extend_from_slice(name_of(fault.kind))?;
+    text.extend_from_slice(b" at ")?;
+    put_decimal(text, fault.at as u64)
 }
 
 /// The name of a kind of fault.

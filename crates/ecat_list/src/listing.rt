@@ -1,12 +1,13 @@
 //! `ecat list`: what is told of each packet of a capture.
 ghost use Rattle.std.specs.Prelude.{◌<◌, length};
 
+use crate::cut::{CutDatagram, refill_front};
 use crate::line::{CSV_HEAD, Head, Note, Since, Style, any_frame, put_datagrams, put_note};
 use crate::output::{Output, Stop};
 use crate::row::Row;
 use crate::stats::{Key, Passed, Stats};
 use crate::tally::Came;
-use ec_wire::{Form as Carrier, FrameBuf};
+use ec_wire::{FaultKind, Form as Carrier, FrameBuf, WireFault};
 use ecat_capture::{
     Capture, CaptureFault, CaptureFaultKind, Packet, Payload, Time, frame_type, payload_of,
 };
@@ -234,7 +235,28 @@ impl<'a, W: Write> Listing<'a, W> {
         }
         match self.frame.refill(payload, carrier) {
             Ok(()) => self.datagrams(head, packet),
+            Err(fault) if fault.kind == FaultKind::Short && packet.captured < packet.original => {
+                self.cut_frame(head, packet, payload, fault)
+            }
             Err(fault) => self.note(head, Note::Fault(fault)),
+        }
+    }
+
+    /// Takes a frame that was cut when it was captured: its datagrams that are there, and in which one it is
+    /// cut.
+    fn cut_frame(
+        &mut self,
+        head: &Head,
+        packet: &Packet,
+        payload: &[u8],
+        fault: WireFault,
+    ) -> Result<(), Stop> {
+        if refill_front(&mut self.frame, payload) {
+            self.datagrams(head, packet)?;
+        }
+        match CutDatagram::of(payload) {
+            Some(datagram) => self.note(head, Note::Cut(fault, datagram)),
+            None => self.note(head, Note::Fault(fault)),
         }
     }
 

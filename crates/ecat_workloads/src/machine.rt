@@ -146,6 +146,7 @@ fn run(ports: Machine, course: Course, cycles: u32) -> Option<u64> {
         recover: true,
         progress: false,
         log: true,
+        log_images: false,
         states: false,
         identities: &[],
         leave: None,
