@@ -6,6 +6,7 @@ ghost use Rattle.ecat_acts.specs.Failures.{refusal_status};
 
 use ecat_acts::failure::{Failure, report, report_file};
 use ecat_acts::hints::{Fronted, hint_capture, hint_odd_lines, hint_scene};
+use ecat_acts::learning::{asked_of, end_of_learning};
 use ecat_acts::listing::{Wanted, act_list};
 use ecat_acts::over_sockets::{Console, over_sockets};
 use ecat_acts::show::act_show;
@@ -14,6 +15,7 @@ use ecat_line::{LineFailure, unread};
 use ecat_scene::MAX_TEXT;
 use ecat_source::{Bytes, Counted, Source, read_all};
 use ecat_text::{BAD_ARGUMENTS, FAILED, GOOD};
+use ecat_told::{Asked, learn, learn_stream};
 use std::fmt::Display;
 use std::fs::OpenFile;
 use std::io::IsTerminal;
@@ -22,7 +24,7 @@ use std::process::ExitCode;
 use std::rt::{Clock, Env, Files, Stdin};
 use std::{env, fs, io};
 
-/// The name of the program and of this version, as `--version` prints it.
+/// The name of the program and of this version, as `--version` and `-V` print it.
 const VERSION: &str = "ecat 1.0";
 
 fn main(rt: HostRuntime) -> ExitCode {
@@ -62,7 +64,7 @@ where
             return report(&Failure::NoMemoryForWords, out, err);
         }
     }
-    if let [_, "--version"] = texts.as_slice() {
+    if let [_, "--version" | "-V"] = texts.as_slice() {
         return print_or_fail(format_args!("{VERSION}\n"), out, err);
     }
     match Args::read(rt.alloc(), texts.as_slice()) {
@@ -141,8 +143,19 @@ where
             faults,
             stats,
         } => {
-            let wanted = Wanted::of(*csv, *faults, *stats, console.is_watched);
-            return open_listing(rt, file, wanted, console.input, out, err);
+            return match Wanted::of(*csv, *faults, *stats, console.is_watched) {
+                Ok(wanted) => open_listing(rt, file, wanted, console.input, out, err),
+                Err(failure) => report(&failure, out, err),
+            };
+        }
+        Args::Learn {
+            file,
+            at,
+            asked,
+            values,
+        } => {
+            let asked = asked_of(*at, *asked, *values);
+            return open_learning(rt, file, asked, console.input, out, err);
         }
         Args::Show { file } => return open_capture(rt, file, console.is_read, out, err),
         Args::Check { scene }
@@ -222,6 +235,42 @@ fn is_plain<F: OpenFile>(file: &F) -> bool {
         Ok(known) => known.is_file(),
         Err(_) => false,
     }
+}
+
+/// Opens a capture, twice where it is a file, and writes the line that it shows.
+#[inline(never)]
+fn open_learning<R, W, V>(
+    rt: &R,
+    file: &str,
+    asked: Asked,
+    input: Stdin,
+    out: &mut W,
+    err: &mut V,
+) -> u8
+where
+    R: Files + AllocGlobal,
+    W: io::Write,
+    V: io::Write,
+{
+    let learned = if file == "-" {
+        learn_stream(rt.alloc(), Counted::new(input), &asked, out)
+    } else {
+        match (fs::open(rt, file), fs::open(rt, file)) {
+            (Ok(first), Ok(again)) => {
+                learn(
+                    rt.alloc(),
+                    Counted::new(first),
+                    Counted::new(again),
+                    &asked,
+                    out,
+                )
+            }
+            (Err(error), _) | (_, Err(error)) => {
+                return report_file(&Failure::Open, file, &error, out, err);
+            }
+        }
+    };
+    end_of_learning(learned, out, err)
 }
 
 /// Opens the capture of a listing, standard input where it is `-`, and lists it.

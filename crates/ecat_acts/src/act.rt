@@ -46,6 +46,7 @@ where
         }
         Args::Vectors => vectors(alloc, out),
         Args::List { .. }
+        | Args::Learn { .. }
         | Args::Udp { .. }
         | Args::Serve { .. }
         | Args::Master { .. }

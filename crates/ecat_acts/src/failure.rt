@@ -42,12 +42,22 @@ pub enum Failure {
     PcapOpen,
     /// The file of a capture is there, and was not to be overwritten.
     PcapExists,
+    /// The file of a scene that is written could not be made.
+    SceneOpen,
+    /// The file of a scene that is written is there, and was not to be overwritten.
+    SceneExists,
+    /// The file of a scene could not be written.
+    SceneWrite,
     /// The file of a master's outputs could not be opened.
     Outputs,
     /// The file of a master's outputs has none.
     Images(ImagesFault),
     /// It is not said where a line lies that is somewhere else, or it is said twice.
     Reach,
+    /// The ends of a line that is somewhere else are no hosts and ports.
+    At,
+    /// More than one form of a listing is asked for.
+    Forms,
     /// The descriptors of packet sockets are no numbers.
     Descriptors,
     /// The state in which slaves are to be left has another name.
@@ -96,11 +106,22 @@ pub fn report<W: Write, V: Write>(failure: &Failure, out: &mut W, err: &mut V) -
         Failure::Log => failed(err, b"log: Open\n"),
         Failure::PcapOpen => failed(err, b"pcap: Open\n"),
         Failure::PcapExists => failed(err, b"pcap: Exists\n"),
+        Failure::SceneOpen => failed(err, b"scene: Open\n"),
+        Failure::SceneExists => failed(err, b"scene: Exists\n"),
+        Failure::SceneWrite => failed(err, b"scene: Write\n"),
         Failure::Clock => failed(err, b"clock: Open\n"),
         Failure::Outputs => failed(err, b"outputs: Open\n"),
         Failure::Images(ImagesFault::NoMemory) => failed(err, b"outputs: NoMemory\n"),
         Failure::Images(fault) => refused(writeln!(out, "outputs: {fault}"), err),
         Failure::Reach => bad_argument(err, b"argument: --at or --raw is wanted, one of them\n"),
+        Failure::At => bad_argument(
+            err,
+            b"argument: --at wants HOST:PORT, or two of them with a comma between\n",
+        ),
+        Failure::Forms => bad_argument(
+            err,
+            b"argument: --csv, --faults and --stats are forms of a listing, of which it has one\n",
+        ),
         Failure::Descriptors => bad_argument(
             err,
             b"argument: --raw wants numbers, as 10 or 10,11\n",

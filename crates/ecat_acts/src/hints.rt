@@ -4,16 +4,17 @@
 use arrayvec::ArrayVec;
 use ec_app::Slave;
 use ec_app::roles::{ANSWER_MAILBOX, REQUEST_MAILBOX, is_answer_mailbox, is_request_mailbox};
-use ec_map::{MapFault, check as check_line, check_item};
+use ec_map::{Item, MapFault, check as check_line, check_item};
+use ec_regs::registers::SYNC_MANAGER_COUNT;
 use ec_regs::{LONGEST_MAILBOX, SHORTEST_MAILBOX, SyncMan};
 use ec_ring::{Links, MAX_LINKS, Ring, Travel};
 use ecat_args::Args;
 use ecat_line::ring_of;
-use ecat_lint::{explained, odd_lines};
+use ecat_lint::{Part, explained, line_of, odd_lines};
 use ecat_scene::{Scene, SceneFault};
 use ecat_simulation::where_broken;
 use ecat_source::{Bytes, Source, SourceFault};
-use ecat_text::REFUSED;
+use ecat_text::{GOOD, REFUSED};
 use std::alloc::Global;
 use std::io::Write;
 
@@ -90,7 +91,55 @@ pub fn hint_odd_lines<V: Write>(alloc: Global, path: &str, text: &[u8], err: &mu
     }
 }
 
-/// Tells `err` what helps where a command on the scene of this text was refused.
+/// Tells `err` of how many bytes it is said that a line is covered.
+fn hint_covered<V: Write>(alloc: Global, text: &[u8], err: &mut V) {
+    let Ok(scene) = Scene::read(alloc, text) else {
+        return;
+    };
+    let Ok(ring) = ring_of(alloc, scene.slaves, &[]) else {
+        return;
+    };
+    let mut outputs = 0u64;
+    let mut inputs = 0u64;
+    for slave in ring.slaves() {
+        let areas = areas_of(slave);
+        outputs = outputs.saturating_add(areas.outputs);
+        inputs = inputs.saturating_add(areas.inputs);
+    }
+    let count = ring.slaves().len();
+    let _ = writeln!(
+        err,
+        "slaves {count}, bytes in active areas: outputs {outputs}, inputs {inputs}"
+    );
+}
+
+/// How many bytes of process data a slave has in active areas.
+#[derive(Clone, Copy)]
+struct Areas {
+    outputs: u64,
+    inputs: u64,
+}
+
+/// How many bytes of process data a slave has in active areas.
+fn areas_of(slave: &Slave) -> Areas {
+    let mut areas = Areas {
+        outputs: 0,
+        inputs: 0,
+    };
+    for number in 0..SYNC_MANAGER_COUNT {
+        let manager = slave.controller().syncman(number);
+        let length = u64::from(manager.length);
+        if manager.guards_outputs() {
+            areas.outputs = areas.outputs.saturating_add(length);
+        } else if manager.guards_inputs() {
+            areas.inputs = areas.inputs.saturating_add(length);
+        }
+    }
+    areas
+}
+
+/// Tells `err` what helps where a command on the scene of this text was refused, and of a line that is
+/// covered how much it has.
 pub fn hint_scene<V: Write>(
     alloc: Global,
     args: &Args<'_>,
@@ -99,6 +148,9 @@ pub fn hint_scene<V: Write>(
     status: u8,
     err: &mut V,
 ) {
+    if status == GOOD && matches!(args, Args::Cover { .. }) {
+        hint_covered(alloc, text, err);
+    }
     if status != REFUSED {
         return;
     }
@@ -135,7 +187,14 @@ fn hint_line<V: Write>(
             ..
         } => hint_station(&ring, *station, err),
         Args::Check { .. } | Args::Cover { .. } | Args::Lint { .. } | Args::Sweep { .. } => {
-            hint_refusal(ring.slaves(), err);
+            if hint_refusal(path, text, ring.slaves(), err) {
+                hint_item(path, text, ring.slaves(), items.as_slice(), err);
+            }
+        }
+        Args::Master { .. } if !is_for_run_alone => {
+            if hint_refusal(path, text, ring.slaves(), err) {
+                hint_item(path, text, ring.slaves(), items.as_slice(), err);
+            }
         }
         Args::Udp { .. } | Args::Serve { .. } | Args::Master { .. } if is_for_run_alone => {
             let _ = writeln!(
@@ -144,10 +203,8 @@ fn hint_line<V: Write>(
             );
         }
         Args::Run { judge, .. } | Args::Udp { judge, .. } => {
-            let is_fit = hint_refusal(ring.slaves(), err)
-                && items
-                    .iter()
-                    .all(|item| check_item(ring.slaves(), item).is_ok());
+            let is_fit = hint_refusal(path, text, ring.slaves(), err)
+                && hint_item(path, text, ring.slaves(), items.as_slice(), err);
             if is_fit && !judge {
                 hint_cable(alloc, path, text, weathers, err);
             }
@@ -165,21 +222,104 @@ fn hint_cable<V: Write>(alloc: Global, path: &str, text: &[u8], weathers: usize,
     }
 }
 
-/// Tells where the bit of a refusal lies. Is the line accepted?
-fn hint_refusal<V: Write>(line: &[Slave], err: &mut V) -> bool {
-    let bit = match check_line(line) {
+/// Tells where the bit of a refusal lies, and which lines of the scene it is about. Is the line accepted?
+fn hint_refusal<V: Write>(path: &str, text: &[u8], line: &[Slave], err: &mut V) -> bool {
+    let fault = match check_line(line) {
         Ok(()) => return true,
-        Err(
-            MapFault::TwiceWritten { bit, .. }
-            | MapFault::TwiceRead { bit, .. }
-            | MapFault::ReadAndWritten { bit, .. },
-        ) => bit,
-        Err(_) => return false,
+        Err(fault) => fault,
     };
-    let byte = bit / 8;
-    let place = bit % 8;
-    let _ = writeln!(err, "bit {bit} is bit {place} of logical byte 0x{byte:08x}");
+    hint_bit(&fault, err);
+    let [first, second] = parts_of(&fault);
+    hint_line_of(path, text, first, err);
+    if first != second {
+        hint_line_of(path, text, second, err);
+    }
     false
+}
+
+/// Tells where the bit of a refusal lies, if it is about one.
+fn hint_bit<V: Write>(fault: &MapFault, err: &mut V) {
+    let _ = match *fault {
+        MapFault::TwiceWritten { bit, .. } => {
+            let byte = bit / 8;
+            let place = bit % 8;
+            writeln!(err, "bit {bit} is bit {place} of the byte 0x{byte:04x}")
+        }
+        MapFault::TwiceRead { bit, .. } | MapFault::ReadAndWritten { bit, .. } => {
+            let byte = bit / 8;
+            let place = bit % 8;
+            writeln!(err, "bit {bit} is bit {place} of logical byte 0x{byte:08x}")
+        }
+        _ => Ok(()),
+    };
+}
+
+/// What a refusal is about: two parts of a scene, or one of them twice.
+fn parts_of(fault: &MapFault) -> [Part; 2] {
+    match *fault {
+        MapFault::TwinStation { slave, later_slave } => {
+            [Part::Slave(slave), Part::Slave(later_slave)]
+        }
+        MapFault::BadFmmu { slave, fmmu } | MapFault::OutsideArea { slave, fmmu, .. } => {
+            [Part::Fmmu(slave, fmmu), Part::Fmmu(slave, fmmu)]
+        }
+        MapFault::AreasMeet {
+            slave,
+            sync_manager,
+            later_sync_manager,
+            ..
+        } => [
+            Part::SyncManager(slave, sync_manager),
+            Part::SyncManager(slave, later_sync_manager),
+        ],
+        MapFault::TwiceWritten {
+            slave,
+            fmmu,
+            later_fmmu,
+            ..
+        } => [Part::Fmmu(slave, fmmu), Part::Fmmu(slave, later_fmmu)],
+        MapFault::TwiceRead {
+            slave,
+            fmmu,
+            later_slave,
+            later_fmmu,
+            ..
+        } => [Part::Fmmu(slave, fmmu), Part::Fmmu(later_slave, later_fmmu)],
+        MapFault::ReadAndWritten {
+            reader,
+            reader_fmmu,
+            writer,
+            writer_fmmu,
+            ..
+        } => [
+            Part::Fmmu(reader, reader_fmmu),
+            Part::Fmmu(writer, writer_fmmu),
+        ],
+    }
+}
+
+/// Tells which line of a scene says something.
+fn hint_line_of<V: Write>(path: &str, text: &[u8], part: Part, err: &mut V) {
+    if let Some(line) = line_of(text, part) {
+        let _ = writeln!(err, "{path}:{line}: {part} is set here");
+    }
+}
+
+/// Tells which line has the first item that is refused. Are all accepted?
+fn hint_item<V: Write>(
+    path: &str,
+    text: &[u8],
+    line: &[Slave],
+    items: &[Item],
+    err: &mut V,
+) -> bool {
+    let refused = items
+        .iter()
+        .position(|item| check_item(line, item).is_err());
+    if let Some(item) = refused {
+        hint_line_of(path, text, Part::Item(item), err);
+    }
+    refused.is_none()
 }
 
 /// Tells why a slave has no mailbox that is reached, if that is so.

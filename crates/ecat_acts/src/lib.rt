@@ -3,9 +3,11 @@
 //! an input and a clock; and why a command ended, on standard error and as its exit status.
 //!
 //! - [`act`](act::act) does a command that needs its source alone; [`act_list`](listing::act_list) and
-//!   [`act_show`](show::act_show) go through a capture;
-//! - [`over_sockets`](over_sockets::over_sockets) does all others: it opens ports by `far`, `raw` and `udp`,
-//!   images by `images` and captures that are written by `tape`;
+//!   [`act_show`](show::act_show) go through a capture, and `learning` tells how `learn` ended;
+//! - [`over_sockets`](over_sockets::over_sockets) does all others: a master by `mastering` on the `course` of
+//!   its scene, what a line somewhere else is asked by `asking`, a service by `serving`. Ports are opened by
+//!   `far`, `raw` and `udp`, images by `images`, and what is written by `tape`;
+//! - `piped` is an output that its reader may close;
 //! - [`report`](failure::report) tells a [`Failure`](failure::Failure) by its fixed line, and `hints` what
 //!   helps a person behind it.
 //!
@@ -14,13 +16,20 @@
 
 pub mod act;
 mod asked;
+mod asking;
+mod course;
 pub mod failure;
 mod far;
+mod finding;
 pub mod hints;
 mod images;
+pub mod learning;
 pub mod listing;
+mod mastering;
 pub mod over_sockets;
+mod piped;
 mod raw;
+mod serving;
 pub mod show;
 mod tape;
 pub mod udp;

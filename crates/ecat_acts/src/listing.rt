@@ -1,12 +1,17 @@
 //! `ecat list`: the datagrams of a capture, a line each.
 
 use crate::failure::{Failure, report};
+use ecat_capture::CaptureFaultKind;
 use ecat_line::LineFailure;
 use ecat_list::{Asked, Form, Listed, list};
 use ecat_source::Source;
 use ecat_text::{FAILED, GOOD, REFUSED};
 use std::alloc::Global;
 use std::io::Write;
+
+/// What helps where a capture is not of Ethernet, as one of all interfaces at once.
+const NOT_ETHERNET: &[u8] =
+    b"not of Ethernet: capture at one interface, as tcpdump -i eth0 -w FILE; \"any\" has other headers\n";
 
 /// What the words of `list` say but for its file.
 #[derive(Clone, Copy)]
@@ -15,25 +20,22 @@ pub struct Wanted {
 }
 
 impl Wanted {
-    /// What is listed; of several forms the sums go before the faults, and those before values with commas.
-    /// Where somebody watches, he is told how far it is.
-    pub fn of(csv: bool, faults: bool, stats: bool, is_watched: bool) -> Wanted {
-        let form = if stats {
-            Form::Stats
-        } else if faults {
-            Form::Faults
-        } else if csv {
-            Form::Csv
-        } else {
-            Form::Lines
+    /// What is listed, unless several forms are asked for. Where somebody watches, he is told how far it is.
+    pub fn of(csv: bool, faults: bool, stats: bool, is_watched: bool) -> Result<Wanted, Failure> {
+        let form = match (csv, faults, stats) {
+            (false, false, false) => Form::Lines,
+            (true, false, false) => Form::Csv,
+            (false, true, false) => Form::Faults,
+            (false, false, true) => Form::Stats,
+            _ => return Err(Failure::Forms),
         };
-        Wanted {
+        Ok(Wanted {
             asked: Asked {
                 form,
                 live: false,
                 progress: is_watched,
             },
-        }
+        })
     }
 
     /// What is listed while the capture is still written: each packet at once.
@@ -60,6 +62,9 @@ where
         Listed::Whole | Listed::Closed => GOOD,
         Listed::Damaged(fault) => {
             let _ = writeln!(err, "capture: {fault}");
+            if fault.kind == CaptureFaultKind::LinkType {
+                let _ = err.write_all(NOT_ETHERNET);
+            }
             REFUSED
         }
         Listed::SourceFailed => report(&Failure::Line(LineFailure::Read), out, err),

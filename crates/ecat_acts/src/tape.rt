@@ -1,4 +1,5 @@
-//! `--pcap FILE`: a capture of each copy, as it leaves the master and as it arrives there.
+//! `--pcap FILE`: a capture of each copy, as it leaves the master and as it arrives there; and how a file is
+//! made that is kept where it is there.
 
 use crate::failure::{Failure, report, report_file};
 use ecat_tape::{Moments, Recorder};
@@ -10,6 +11,15 @@ use std::rt::Files;
 /// Where a capture is written.
 #[derive(Clone, Copy)]
 pub struct Pcap<'a> {
+    /// The path of its file.
+    pub path: &'a str,
+    /// Whether a file that is there is overwritten.
+    pub force: bool,
+}
+
+/// Where a scene is written.
+#[derive(Clone, Copy)]
+pub struct ToScene<'a> {
     /// The path of its file.
     pub path: &'a str,
     /// Whether a file that is there is overwritten.
@@ -33,28 +43,57 @@ where
     W: Write,
     V: Write,
 {
-    let made = if pcap.force {
-        fs::create(rt, pcap.path)
-    } else {
-        File::create_new(rt, pcap.path)
-    };
-    match made {
+    match made_at(rt, pcap.path, pcap.force) {
         Ok(file) => Ok(file),
-        Err(error) => Err(report_unmade(pcap.path, &error, out, err)),
+        Err(error) => {
+            let why = (Failure::PcapOpen, Failure::PcapExists);
+            Err(report_unmade(pcap.path, &why, &error, out, err))
+        }
     }
 }
 
-/// Reports that the file of a capture could not be made, and what helps.
+/// Makes the file of a scene, as `make` makes that of a capture.
+pub fn make_scene<R, W, V>(
+    rt: &R,
+    scene: ToScene<'_>,
+    out: &mut W,
+    err: &mut V,
+) -> Result<R::File, u8>
+where
+    R: Files,
+    W: Write,
+    V: Write,
+{
+    match made_at(rt, scene.path, scene.force) {
+        Ok(file) => Ok(file),
+        Err(error) => {
+            let why = (Failure::SceneOpen, Failure::SceneExists);
+            Err(report_unmade(scene.path, &why, &error, out, err))
+        }
+    }
+}
+
+/// Makes a file, in the place of one that is there if that is forced.
+fn made_at<R: Files>(rt: &R, path: &str, force: bool) -> io::Result<R::File> {
+    if force {
+        fs::create(rt, path)
+    } else {
+        File::create_new(rt, path)
+    }
+}
+
+/// Reports that a file could not be made, since it could not be opened or since it is there, and what helps.
 fn report_unmade<W: Write, V: Write>(
     path: &str,
+    why: &(Failure, Failure),
     error: &io::Error,
     out: &mut W,
     err: &mut V,
 ) -> u8 {
     if error.kind() != ErrorKind::AlreadyExists {
-        return report_file(&Failure::PcapOpen, path, error, out, err);
+        return report_file(&why.0, path, error, out, err);
     }
-    let status = report(&Failure::PcapExists, out, err);
+    let status = report(&why.1, out, err);
     let _ = writeln!(err, "{path}: it is kept; --force overwrites it");
     status
 }

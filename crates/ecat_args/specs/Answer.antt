@@ -6,12 +6,14 @@ use Rattle.clap.specs.declared.error.kind.ErrorKind.TheVariants.{OutOfMemory}
 use Rattle.ecat_args.specs.Given.{Given, IsComplete, IsNoAddress, LiesAt, control_in, force_in, forever_in}
 use Rattle.ecat_args.specs.Given.{index_in}
 use Rattle.ecat_args.specs.Given.{judge_in, log_in, many_in, port_in, station_in, sub_in, surely_in}
-use Rattle.ecat_args.specs.Given.{csv_in, every_in, faults_in, late_in, limit_in, once_in, recover_in}
-use Rattle.ecat_args.specs.Given.{stats_in, stop_in, value_in, word_in}
+use Rattle.ecat_args.specs.Given.{csv_in, every_in, faults_in, images_in, late_in, limit_in, once_in}
+use Rattle.ecat_args.specs.Given.{asked_in, data_in, packet_in, recover_in, stats_in, stop_in, value_in}
+use Rattle.ecat_args.specs.Given.{word_in}
 use Rattle.ecat_commands.specs.Commands.{line}
 use Rattle.ecat_args.specs.declared.args.Args.{Args}
 use Rattle.ecat_args.specs.declared.args.Args.TheVariants.{Show, Check, Cover, Lint, Where, Run, Sweep, Sdo}
 use Rattle.ecat_args.specs.declared.args.Args.TheVariants.{Udp, Serve, Vectors, List as Lists, Master, Scan}
+use Rattle.ecat_args.specs.declared.args.Args.TheVariants.{Learn}
 use Rattle.ecat_args.specs.declared.args.ArgsFault.{ArgsFault}
 use Rattle.ecat_args.specs.declared.args.ArgsFault.TheVariants.{Line, BadNumber, NoMemory}
 
@@ -22,6 +24,9 @@ Says (Show file) given =
 Says (Lists file csv faults stats) given =
     (given.0 ≡ codes "list") × (word_in given (codes "FILE") ≡ Some file.now)
     × (csv_in given ≡ csv) × (faults_in given ≡ faults) × (stats_in given ≡ stats)
+Says (Learn file packet asked values) given =
+    (given.0 ≡ codes "learn") × (word_in given (codes "FILE") ≡ Some file.now)
+    × (packet_in given ≡ Some packet) × (asked_in given ≡ asked) × (data_in given ≡ values)
 Says (Check scene) given =
     (given.0 ≡ codes "check") × (word_in given (codes "SCENE") ≡ Some scene.now)
 Says (Cover scene) given =
@@ -55,19 +60,22 @@ Says (Serve scene port packets address forever control log raw pcap force) given
     × (forever_in given ≡ forever) × (control_in given ≡ control) × (log_in given ≡ log)
     × (word_in given (codes "RAW") ≡ option_map (λ w. w.now) raw)
     × (word_in given (codes "PCAP") ≡ option_map (λ w. w.now) pcap) × (force_in given ≡ force)
-Says (Master scene place raw cycles every limit late outputs log stop recover leave) given =
+Says (Master scene place raw cycles every limit late outputs log images stop recover leave pcap force) given
+    =
     (given.0 ≡ codes "master") × (word_in given (codes "SCENE") ≡ Some scene.now)
     × (word_in given (codes "AT") ≡ option_map (λ w. w.now) place)
     × (word_in given (codes "RAW") ≡ option_map (λ w. w.now) raw) × (many_in given ≡ Some cycles)
     × (every_in given ≡ Some every) × (limit_in given ≡ Some limit) × (late_in given ≡ Some late)
     × (word_in given (codes "OUTPUTS") ≡ option_map (λ w. w.now) outputs)
-    × (word_in given (codes "LOG") ≡ option_map (λ w. w.now) log)
+    × (word_in given (codes "LOG") ≡ option_map (λ w. w.now) log) × (images_in given ≡ images)
     × (stop_in given ≡ stop) × (recover_in given ≡ recover)
     × (word_in given (codes "STATE") ≡ option_map (λ w. w.now) leave)
-Says (Scan place raw limit late) given =
+    × (word_in given (codes "PCAP") ≡ option_map (λ w. w.now) pcap) × (force_in given ≡ force)
+Says (Scan place raw limit late scene force) given =
     (given.0 ≡ codes "scan") × (word_in given (codes "AT") ≡ option_map (λ w. w.now) place)
     × (word_in given (codes "RAW") ≡ option_map (λ w. w.now) raw) × (limit_in given ≡ Some limit)
-    × (late_in given ≡ Some late)
+    × (late_in given ≡ Some late) × (word_in given (codes "SCENE") ≡ option_map (λ w. w.now) scene)
+    × (force_in given ≡ force)
 Says Vectors given = given.0 ≡ codes "vectors"
 
 -- a word of the command that has to be a number, a value or an address is none in its range
@@ -75,6 +83,7 @@ abbrev pub HasBadNumber : Given → Type 0
 HasBadNumber given =
     ((given.0 ≡ codes "sdo") × ((station_in given ≡ None) ⊎ (index_in given ≡ None)
     ⊎ (sub_in given ≡ None) ⊎ (value_in given ≡ None)))
+    ⊎ ((given.0 ≡ codes "learn") × (packet_in given ≡ None))
     ⊎ ((given.0 ≡ codes "udp") × (port_in given ≡ None))
     ⊎ ((given.0 ≡ codes "serve") × ((port_in given ≡ None) ⊎ (many_in given ≡ None)
     ⊎ IsNoAddress (word_in given (codes "ADDRESS"))))

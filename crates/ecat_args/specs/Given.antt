@@ -56,6 +56,10 @@ abbrev pub count_by : Option Text → Option (Option ℕ)
 count_by None = Some None
 count_by (Some word) = option_map (λ n. Some n) (number_within 1 4294967295 word)
 
+-- the packet in front of which `learn` tells the line
+abbrev pub packet_in : Given → Option (Option ℕ)
+packet_in given = count_by (word_in given (codes "PACKET"))
+
 -- how many packets `serve` takes, and how many cycles `master` makes
 abbrev pub many_in : Given → Option (Option ℕ)
 many_in given = count_by (word_in given (codes "N"))
@@ -98,6 +102,15 @@ force_in given = flag_by (word_in given (codes "force"))
 abbrev pub log_in : Given → Bool
 log_in given = flag_by (word_in given (codes "log"))
 
+abbrev pub images_in : Given → Bool
+images_in given = flag_by (word_in given (codes "log-images"))
+
+abbrev pub asked_in : Given → Bool
+asked_in given = flag_by (word_in given (codes "asked"))
+
+abbrev pub data_in : Given → Bool
+data_in given = flag_by (word_in given (codes "data"))
+
 abbrev pub csv_in : Given → Bool
 csv_in given = flag_by (word_in given (codes "csv"))
 
@@ -126,8 +139,8 @@ IsNoAddress (Some word) = (address : Ipv4Addr) → IsIpv4Text word address → �
 
 -- the names of the commands
 abbrev pub command_names : List Text
-command_names = codes "show" ∷ codes "list" ∷ codes "check" ∷ codes "cover" ∷ codes "lint" ∷ codes "where"
-    ∷ codes "run" ∷ codes "sweep" ∷ codes "sdo" ∷ codes "udp" ∷ codes "serve" ∷ codes "master"
+command_names = codes "show" ∷ codes "list" ∷ codes "learn" ∷ codes "check" ∷ codes "cover" ∷ codes "lint"
+    ∷ codes "where" ∷ codes "run" ∷ codes "sweep" ∷ codes "sdo" ∷ codes "udp" ∷ codes "serve" ∷ codes "master"
     ∷ codes "scan" ∷ codes "vectors" ∷ []
 
 -- the names of the words that a command needs
@@ -135,6 +148,7 @@ abbrev pub needed_words : Text → List Text
 needed_words command =
     if bytes_eq command (codes "show") then codes "FILE" ∷ []
     else if bytes_eq command (codes "list") then codes "FILE" ∷ []
+    else if bytes_eq command (codes "learn") then codes "FILE" ∷ []
     else if bytes_eq command (codes "check") then codes "SCENE" ∷ []
     else if bytes_eq command (codes "cover") then codes "SCENE" ∷ []
     else if bytes_eq command (codes "lint") then codes "SCENE" ∷ []
@@ -148,7 +162,7 @@ needed_words command =
     else if bytes_eq command (codes "master") then codes "SCENE" ∷ []
     else []
 
--- the command is one of the fourteen, and the words that it needs were given
+-- the command is one of the fifteen, and the words that it needs were given
 abbrev pub IsComplete : Given → Type 0
 IsComplete given = (list_any (bytes_eq given.0) command_names ≡ true)
     × (list_all (λ name. is_some (word_in given name)) (needed_words given.0) ≡ true)

@@ -46,6 +46,17 @@ pub enum Args<'a> {
         /// Whether working counters are counted instead.
         stats: bool,
     },
+    /// `learn FILE [--at PACKET] [--asked] [--data]`: writes the line that a capture shows as a scene.
+    Learn {
+        /// The path of the capture; `-` stands for standard input.
+        file: &'a str,
+        /// The number of the packet in front of which the line is told, from 1.
+        at: Option<u32>,
+        /// Whether what was sent counts as taken where there are no answers.
+        asked: bool,
+        /// Whether items and inputs have their last data.
+        values: bool,
+    },
     /// `check SCENE`: says whether the line of a scene is fit.
     Check {
         /// The path of the scene.
@@ -146,8 +157,8 @@ pub enum Args<'a> {
         force: bool,
     },
     /// `master SCENE [--at AT] [--raw RAW] [--cycles N] [--every MICROSECONDS] [--limit LIMIT] [--late LATE]
-    /// [--outputs OUTPUTS] [--log LOG] [--stop] [--recover] [--leave STATE]`: brings a line somewhere else to
-    /// Op, cycles on it, and leaves it in a state.
+    /// [--outputs OUTPUTS] [--log LOG] [--log-images] [--stop] [--recover] [--leave STATE] [--pcap PCAP]
+    /// [--force]`: brings a line somewhere else to Op, cycles on it, and leaves it in a state.
     Master {
         /// The path of the scene, what the slaves are to be told.
         scene: &'a str,
@@ -167,15 +178,21 @@ pub enum Args<'a> {
         outputs: Option<&'a str>,
         /// The path of a file that gets a line for each cycle.
         log: Option<&'a str>,
+        /// Whether that line has what the cycle sent and took.
+        log_images: bool,
         /// Whether it ends at the first cycle that is not good.
         stop: bool,
         /// Whether slaves are brought up again.
         recover: bool,
         /// The name of the state in which the slaves are left at the end.
         leave: Option<&'a str>,
+        /// The path of a capture that gets each copy, as it leaves and as it arrives.
+        pcap: Option<&'a str>,
+        /// Whether a capture that is there is overwritten.
+        force: bool,
     },
-    /// `scan [--at AT] [--raw RAW] [--limit LIMIT] [--late LATE]`: tells what slaves a line has that lies
-    /// somewhere else.
+    /// `scan [--at AT] [--raw RAW] [--limit LIMIT] [--late LATE] [--scene SCENE] [--force]`: tells what
+    /// slaves a line has that lies somewhere else.
     Scan {
         /// Where the line lies, if it is reached by UDP: the address of an end, or of both.
         at: Option<&'a str>,
@@ -185,6 +202,10 @@ pub enum Args<'a> {
         limit: Option<u32>,
         /// For how many milliseconds a missing copy may still come.
         late: Option<u32>,
+        /// The path of a file that gets the line as a scene.
+        scene: Option<&'a str>,
+        /// Whether a scene that is there is overwritten.
+        force: bool,
     },
     /// `vectors`: runs the worked rows.
     Vectors,
@@ -267,6 +288,7 @@ fn command<'a>(name: &str, given: &ArgMatches<'a>) -> Option<Args<'a>>
             file: text(given, "FILE"),
         }),
         "list" => Some(list(given)),
+        "learn" => learn(given),
         "check" => Some(Args::Check {
             scene: text(given, "SCENE"),
         }),
@@ -330,6 +352,21 @@ fn list<'a>(given: &ArgMatches<'a>) -> Args<'a>
         faults: flag(given, "faults"),
         stats: flag(given, "stats"),
     }
+}
+
+// What `learn` says, unless the number of the packet is bad.
+fn learn<'a>(given: &ArgMatches<'a>) -> Option<Args<'a>>
+    requires { IsComplete (codes "learn", rows_of (found_of given.now)) }
+    ensures { MatchOption result (HasBadNumber (codes "learn", rows_of (found_of given.now)))
+        (λ args. Says args (codes "learn", rows_of (found_of given.now))) }
+{
+    let at = count_given(given, "PACKET")?;
+    Some(Args::Learn {
+        file: text(given, "FILE"),
+        at,
+        asked: flag(given, "asked"),
+        values: flag(given, "data"),
+    })
 }
 
 // What `where` says.
@@ -449,9 +486,12 @@ fn master<'a>(given: &ArgMatches<'a>) -> Option<Args<'a>>
         late,
         outputs: word(given, "OUTPUTS"),
         log: word(given, "LOG"),
+        log_images: flag(given, "log-images"),
         stop: flag(given, "stop"),
         recover: flag(given, "recover"),
         leave: word(given, "STATE"),
+        pcap: word(given, "PCAP"),
+        force: flag(given, "force"),
     })
 }
 
@@ -468,6 +508,8 @@ fn scan<'a>(given: &ArgMatches<'a>) -> Option<Args<'a>>
         raw: word(given, "RAW"),
         limit,
         late,
+        scene: word(given, "SCENE"),
+        force: flag(given, "force"),
     })
 }
 

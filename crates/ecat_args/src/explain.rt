@@ -84,14 +84,25 @@ pub fn bad_word<'a>(words: &'a [&'a str]) -> Option<BadWord<'a>> {
     if is_sdo && let Some(bad) = bad_word_of_sdo(words) {
         return Some(bad);
     }
+    let is_learn = words.get(1).is_some_and(|word| *word == "learn");
+    if is_learn {
+        return bad_value(words, "--at", Form::Number(LEAST_COUNT, u32::MAX));
+    }
     for (name, form) in OPTIONS {
-        if let Some(text) = value_behind(words, name)
-            && !form.has(text)
-        {
-            return Some(BadWord { name, text, form });
+        if let Some(bad) = bad_value(words, name, form) {
+            return Some(bad);
         }
     }
     None
+}
+
+/// The value that an option of this name is given, where it has not the form that it has to have.
+fn bad_value<'a>(words: &'a [&'a str], name: &'static str, form: Form) -> Option<BadWord<'a>> {
+    let text = value_behind(words, name)?;
+    if form.has(text) {
+        return None;
+    }
+    Some(BadWord { name, text, form })
 }
 
 /// The first bad one of the words of `sdo` behind its scene.

@@ -1,4 +1,4 @@
--- The command line of `ecat`, in clap's own words: fourteen commands, of which one has to be given.
+-- The command line of `ecat`, in clap's own words: fifteen commands, of which one has to be given.
 use Rattle.std.specs.Prelude.{◌≡◌, ◌∷◌, List, [], Some, codes, false, fold, true}
 use Rattle.clap.specs.Words.{App, Rule, Text, app_of, new_app, new_rule, rule_of, with_rule, with_subcommand}
 use Rattle.clap.specs.declared.builder.action.ArgAction.TheVariants.{SetTrue}
@@ -95,6 +95,14 @@ list_words = needed_rule (codes "FILE") ∷ flag_rule (codes "csv")
 abbrev pub list_line : App
 list_line = with_rules (new_app (codes "list")) list_words
 
+-- `learn FILE [--at PACKET] [--asked] [--data]`
+abbrev pub learn_words : List Rule
+learn_words = needed_rule (codes "FILE") ∷ option_rule (codes "PACKET") (codes "at")
+    ∷ flag_rule (codes "asked") ∷ flag_rule (codes "data") ∷ []
+
+abbrev pub learn_line : App
+learn_line = with_rules (new_app (codes "learn")) learn_words
+
 -- `check SCENE`
 abbrev pub check_line : App
 check_line = with_rules (new_app (codes "check")) scene_word
@@ -153,20 +161,23 @@ abbrev pub serve_line : App
 serve_line = with_rules (new_app (codes "serve")) serve_words
 
 -- `master SCENE [--at AT] [--raw RAW] [--cycles N] [--every MICROSECONDS] [--limit LIMIT] [--late LATE]
--- [--outputs OUTPUTS] [--log LOG] [--stop] [--recover] [--leave STATE]`
+-- [--outputs OUTPUTS] [--log LOG] [--log-images] [--stop] [--recover] [--leave STATE] [--pcap PCAP]
+-- [--force]`
 abbrev pub master_words : List Rule
 master_words = scene_rule ∷ at_rule ∷ raw_rule
     ∷ option_rule (codes "N") (codes "cycles") ∷ option_rule (codes "MICROSECONDS") (codes "every")
     ∷ limit_rule ∷ late_rule ∷ option_rule (codes "OUTPUTS") (codes "outputs")
-    ∷ option_rule (codes "LOG") (codes "log") ∷ flag_rule (codes "stop") ∷ flag_rule (codes "recover")
-    ∷ option_rule (codes "STATE") (codes "leave") ∷ []
+    ∷ option_rule (codes "LOG") (codes "log") ∷ flag_rule (codes "log-images")
+    ∷ flag_rule (codes "stop") ∷ flag_rule (codes "recover") ∷ option_rule (codes "STATE") (codes "leave")
+    ∷ pcap_rule ∷ force_rule ∷ []
 
 abbrev pub master_line : App
 master_line = with_rules (new_app (codes "master")) master_words
 
--- `scan [--at AT] [--raw RAW] [--limit LIMIT] [--late LATE]`
+-- `scan [--at AT] [--raw RAW] [--limit LIMIT] [--late LATE] [--scene SCENE] [--force]`
 abbrev pub scan_words : List Rule
-scan_words = at_rule ∷ raw_rule ∷ limit_rule ∷ late_rule ∷ []
+scan_words = at_rule ∷ raw_rule ∷ limit_rule ∷ late_rule ∷ option_rule (codes "SCENE") (codes "scene")
+    ∷ force_rule ∷ []
 
 abbrev pub scan_line : App
 scan_line = with_rules (new_app (codes "scan")) scan_words
@@ -187,6 +198,6 @@ ecat_line = needs_command (new_app (codes "ecat"))
 
 -- the whole line
 unfoldable pub line : App
-line = fold (λ above below. with_subcommand above below.top) ecat_line (show_line ∷ list_line ∷ check_line
-    ∷ cover_line ∷ lint_line ∷ where_line ∷ run_line ∷ sweep_line ∷ sdo_line ∷ udp_line ∷ serve_line
-    ∷ master_line ∷ scan_line ∷ vectors_line ∷ [])
+line = fold (λ above below. with_subcommand above below.top) ecat_line (show_line ∷ list_line ∷ learn_line
+    ∷ check_line ∷ cover_line ∷ lint_line ∷ where_line ∷ run_line ∷ sweep_line ∷ sdo_line ∷ udp_line
+    ∷ serve_line ∷ master_line ∷ scan_line ∷ vectors_line ∷ [])

@@ -4,7 +4,7 @@ ghost use Rattle.clap.specs.Words.{App, Rule, new_app, new_rule, with_subcommand
 ghost use Rattle.ecat_commands.specs.Commands.{AreWords, Builds, IsWord, flag_rule, line};
 ghost use Rattle.ecat_commands.specs.Commands.{needed_rule, option_rule, at_rule, force_rule};
 ghost use Rattle.ecat_commands.specs.Commands.{judge_rule, late_rule, limit_rule, pcap_rule, port_rule};
-ghost use Rattle.ecat_commands.specs.Commands.{raw_rule, check_line, cover_line, lint_line};
+ghost use Rattle.ecat_commands.specs.Commands.{raw_rule, check_line, cover_line, learn_line, lint_line};
 ghost use Rattle.ecat_commands.specs.Commands.{list_line, master_line, run_line, scan_line, sdo_line};
 ghost use Rattle.ecat_commands.specs.Commands.{serve_line, show_line, sweep_line, udp_line};
 ghost use Rattle.ecat_commands.specs.Commands.{ecat_line, vectors_line, where_line, with_rules};
@@ -103,7 +103,7 @@ fn pcap<'a>(alloc: Global) -> Arg<'a>
 fn force<'a>(alloc: Global) -> Arg<'a>
     ensures { IsWord force_rule result }
 {
-    flag(alloc, "force", "Overwrites the capture where it is there")
+    flag(alloc, "force", "Overwrites the file where it is there")
 }
 
 // Whether the cycle is judged.
@@ -169,6 +169,27 @@ fn list<'a>(alloc: Global) -> Result<Command<'a>, AllocError>
         ),
     ]?;
     command(alloc, "list", about, help::LIST, words)
+}
+
+// `learn FILE [--at PACKET] [--asked] [--data]`
+fn learn<'a>(alloc: Global) -> Result<Command<'a>, AllocError>
+    ensures { IfOk result (Builds learn_line) }
+{
+    let about = "Writes the line that a capture shows as a scene";
+    let file = "The capture, a pcap or pcapng file; - for standard input";
+    let packet = "Tells the line as it was in front of this packet, 1 the first";
+    let asked = "Takes what was sent for taken where the capture has no answers";
+    let words = vec![in alloc;
+        needed(alloc, "FILE", file),
+        option(alloc, "PACKET", "at", packet),
+        flag(alloc, "asked", asked),
+        flag(
+            alloc,
+            "data",
+            "Writes the last data of the items and inputs; zeros if not given",
+        ),
+    ]?;
+    command(alloc, "learn", about, help::LEARN, words)
 }
 
 // `check SCENE`
@@ -293,7 +314,8 @@ fn serve<'a>(alloc: Global) -> Result<Command<'a>, AllocError>
 }
 
 // `master SCENE [--at AT] [--raw RAW] [--cycles N] [--every MICROSECONDS] [--limit LIMIT] [--late LATE]
-// [--outputs OUTPUTS] [--log LOG] [--stop] [--recover] [--leave STATE]`
+// [--outputs OUTPUTS] [--log LOG] [--log-images] [--stop] [--recover] [--leave STATE] [--pcap PCAP]
+// [--force]`
 fn master<'a>(alloc: Global) -> Result<Command<'a>, AllocError>
     ensures { IfOk result (Builds master_line) }
 {
@@ -303,6 +325,7 @@ fn master<'a>(alloc: Global) -> Result<Command<'a>, AllocError>
     let outputs =
         "The outputs: count, or a file with a line for each cycle; the scene's if not given";
     let log = "A file that gets a line for each cycle: its number, its verdict and its counters";
+    let images = "Writes to the log what each cycle sent and took, as hexadecimal digits";
     let recover = "Brings slaves up again that show an error or came back in Init";
     let leave = "Where slaves are left at the end: init, pre-op, safe-op, op; init if not given";
     let words = vec![in alloc;
@@ -315,19 +338,30 @@ fn master<'a>(alloc: Global) -> Result<Command<'a>, AllocError>
         late(alloc),
         option(alloc, "OUTPUTS", "outputs", outputs),
         option(alloc, "LOG", "log", log),
+        flag(alloc, "log-images", images),
         flag(alloc, "stop", "Ends at the first cycle that is not good"),
         flag(alloc, "recover", recover),
         option(alloc, "STATE", "leave", leave),
+        pcap(alloc),
+        force(alloc),
     ]?;
     command(alloc, "master", about, help::MASTER, words)
 }
 
-// `scan [--at AT] [--raw RAW] [--limit LIMIT] [--late LATE]`
+// `scan [--at AT] [--raw RAW] [--limit LIMIT] [--late LATE] [--scene SCENE] [--force]`
 fn scan<'a>(alloc: Global) -> Result<Command<'a>, AllocError>
     ensures { IfOk result (Builds scan_line) }
 {
     let about = "Tells what slaves a line somewhere else has";
-    let words = vec![in alloc; at(alloc), raw(alloc), limit(alloc), late(alloc)]?;
+    let scene = "A file that gets the line as a scene; it must not be there yet";
+    let words = vec![in alloc;
+        at(alloc),
+        raw(alloc),
+        limit(alloc),
+        late(alloc),
+        option(alloc, "SCENE", "scene", scene),
+        force(alloc),
+    ]?;
     command(alloc, "scan", about, help::SCAN, words)
 }
 
@@ -357,13 +391,14 @@ fn vectors<'a>(alloc: Global) -> Command<'a>
     plain(alloc, "vectors", "Runs the worked rows", help::VECTORS)
 }
 
-/// The definition of the whole command line: fourteen commands, of which one has to be given, each with its
+/// The definition of the whole command line: fifteen commands, of which one has to be given, each with its
 /// words, and the texts of their help.
 pub fn line<'a>(alloc: Global) -> Result<Command<'a>, AllocError>
     ensures { IfOk result (Builds line) }
 {
     let line = add(Ok(ecat(alloc)), show(alloc));
     let line = add(line, list(alloc));
+    let line = add(line, learn(alloc));
     let line = add(line, check(alloc));
     let line = add(line, cover(alloc));
     let line = add(line, lint(alloc));

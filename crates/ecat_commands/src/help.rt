@@ -17,6 +17,7 @@ digits, or 0x and hexadecimal digits. The help of a command has more.
 Examples:
   ecat show scenes/startup.pcap
   ecat list scenes/startup.pcap
+  ecat learn scenes/startup.pcap
   ecat check scenes/check/accepted.scene
   ecat cover scenes/check/accepted.scene
   ecat lint scenes/check/accepted.scene
@@ -55,6 +56,24 @@ each working counter that came, with the packet where it came first.
 Example:
   ecat list scenes/startup.pcap
   ecat list scenes/startup.pcap --stats";
+
+/// Of `learn`.
+pub(crate) const LEARN: &str = "\
+Prints a scene of the line that a capture of a master's frames shows: stations,
+AL states, sync managers and FMMUs as they were written and counted, or read;
+startup objects and objects by mailbox; and the items of the cycle, with how
+often they came back and with which counter. So check, cover, lint, sweep and
+run say of the user's own line what they say of a scene. What is a guess, what
+a scene cannot say and was changed or left out stands in comments. What the
+capture does not tell is a hole, as slave ?, which no command reads: then the
+status is 1. The line is that of the last cyclic datagram that was answered.
+With --at it is the one in front of a packet. With --asked what was sent counts
+as taken where the capture has no answers. With --data the items have their
+last data, and the slaves their inputs; else zeros: a plant's data are its own.
+
+Example:
+  ecat learn scenes/startup.pcap
+  ecat learn scenes/startup.pcap > line.scene; ecat check line.scene";
 
 /// Of `check`.
 pub(crate) const CHECK: &str = "\
@@ -102,8 +121,9 @@ Example:
 pub(crate) const RUN: &str = "\
 Does the actions of a scene, checks its line and items, and does one cycle.
 Prints each frame as it comes back; good, short K or over K, if the scene has
-weather; each item with its data and its working counter, as wkc 2 of 2; and
-each area that the master writes, in the memory and as the application sees it.
+weather, where K is the number of an item, 0 the first; each item with its data
+and its working counter, as wkc 2 of 2; and each area that the master writes,
+in the memory and as the application sees it.
 With --judge the verdict is always printed, and after it what is in the way:
 the items that are short, the frames whose copies are lost, where the cable is
 broken and which slaves are cut off; or that the redundancy is lost.
@@ -177,6 +197,9 @@ two packets and answered by ok, what it asks for and ok, or refused and why:
   mem SLAVE ADDRESS BYTES   loads process memory, as inputs
   state SLAVE 1|2|4|8       puts a slave into a state
   lose A|B N                loses the next N copies that arrive at an end
+  late A|B MILLISECONDS N   has the next N copies leave an end so much later
+  double A|B N              has them leave twice
+  damage A|B N              has them leave with one bit turned, as no frame
   unplug A|B                nobody has spoken at that end any more
   areas, line, counts       print the areas, the slaves, the packets
   quit                      ends it, as the end of the input does
@@ -208,6 +231,10 @@ of one cycle, and behind the last line it begins again at the first: the bytes
 of the items that write, item after item, two hexadecimal digits each.
 With --stop it ends at the first cycle that is not good. With --recover slaves
 that show an error, or came back in Init, are brought up again.
+With --log FILE each cycle has a line there; with --log-images beside it that
+line has what the cycle sent in its items, and what the items hold behind it.
+With --pcap each copy of a frame is kept in a capture, as it leaves a port and
+as it arrives at one, at the time of the clock.
 With --raw the line is reached by network interfaces, through packet sockets
 that tools/raw opens; port A has the first and port B the second one.
 
@@ -221,6 +248,9 @@ Asks the slaves of a line somewhere else what they are, and prints a line for
 each: its place, station, AL state and error, its active sync managers and
 FMMUs, and its identity where it has a mailbox. They are counted three times;
 counts that differ are told, and so is it where nobody answers.
+With --scene the line is written as a scene besides: stations, AL states, sync
+managers and FMMUs as they were read, and the identity as objects; so that
+check, cover and lint say of it what they say of a scene.
 
 Example:
   ecat scan --at 127.0.0.1:34980,127.0.0.1:34981";

@@ -6,6 +6,7 @@
 //!   `ecat_scene`.
 //! - [`odd_lines`] are the lines that set something twice, or something that is never used; process data that
 //!   no FMMU maps, areas that lie in the buffers of others, and items that nobody serves.
+//! - [`line_of`] is the line that says a slave, a record or an item, for a refusal that names them.
 //!
 //! What of a mapping is odd has exact contracts, by the words of specs/: `Mapping`, `Buffers` and `Items`.
 //! The texts, and that each slave and item is asked about, are tried by tests (`lint` of `ecat_scene_tests`)
@@ -18,7 +19,9 @@ mod items;
 mod lint;
 mod mapping;
 mod oddity;
+mod places;
 mod records;
 
 pub use explain::{Explanation, explained};
 pub use lint::{OddLine, odd_lines};
+pub use places::{Part, line_of};

@@ -17,6 +17,8 @@ udp a.scene --port 80 | \
     --port is \"80\"; it wants 1024 to 65534, as decimal digits or as 0x and hexadecimal ones
 serve a.scene --packets=0 | \
     --packets is \"0\"; it wants 1 to 4294967295, as decimal digits or as 0x and hexadecimal ones
+learn a.pcap --at 0 | \
+    --at is \"0\"; it wants 1 to 4294967295, as decimal digits or as 0x and hexadecimal ones
 serve a.scene --bind localhost | \
     --bind is \"localhost\"; it wants an IPv4 address, as 127.0.0.1";
 
@@ -24,6 +26,8 @@ serve a.scene --bind localhost | \
 const GOOD: &str = "\
 |
 udp a.scene --port 4000 |
+where a.scene --at a:1 |
+learn a.pcap --at 7 |
 sdo a.scene 1 2 3 |";
 
 /// Asserts of each row that what stands behind its bar is told of its line.

@@ -16,21 +16,34 @@ vectors | Ok(Vectors)
 show -- --help | Ok(Show { file: \"--help\" })
 list - --faults | Ok(List { file: \"-\", csv: false, faults: true, stats: false })
 list --csv a.pcap --stats | Ok(List { file: \"a.pcap\", csv: true, faults: false, stats: true })
+learn a.pcap | Ok(Learn { file: \"a.pcap\", at: None, asked: false, values: false })
+learn --asked - --at 0x10 --data | Ok(Learn { file: \"-\", at: Some(16), asked: true, values: true })
 where a.scene --at a:1,b:2 | Ok(Where { scene: \"a.scene\", at: Some(\"a:1,b:2\"), raw: None })
 where --raw=10 a.scene | Ok(Where { scene: \"a.scene\", at: None, raw: Some(\"10\") })
-scan --at=a:1,b:2 --limit 50 | Ok(Scan { at: Some(\"a:1,b:2\"), raw: None, limit: Some(50), late: None })
-scan --raw 10,11 | Ok(Scan { at: None, raw: Some(\"10,11\"), limit: None, late: None })
-scan --late 0x10 --at a:1 | Ok(Scan { at: Some(\"a:1\"), raw: None, limit: None, late: Some(16) })
+scan --at=a:1,b:2 --limit 50 | Ok(Scan { at: Some(\"a:1,b:2\"), raw: None, limit: Some(50), late: None, \
+    scene: None, force: false })
+scan --raw 10,11 | Ok(Scan { at: None, raw: Some(\"10,11\"), limit: None, late: None, \
+    scene: None, force: false })
+scan --at a:1 --scene found.scene --force | Ok(Scan { at: Some(\"a:1\"), raw: None, limit: None, late: None, \
+    scene: Some(\"found.scene\"), force: true })
+scan --late 0x10 --at a:1 | Ok(Scan { at: Some(\"a:1\"), raw: None, limit: None, late: Some(16), \
+    scene: None, force: false })
 master a.scene --at a:1 | \
     Ok(Master { scene: \"a.scene\", at: Some(\"a:1\"), raw: None, cycles: None, every: None, limit: None, \
-    late: None, outputs: None, log: None, stop: false, recover: false, leave: None })
+    late: None, outputs: None, log: None, log_images: false, stop: false, recover: false, leave: None, \
+    pcap: None, force: false })
 master a.scene --late 250 --leave safe-op | \
     Ok(Master { scene: \"a.scene\", at: None, raw: None, cycles: None, every: None, limit: None, \
-    late: Some(250), outputs: None, log: None, stop: false, recover: false, leave: Some(\"safe-op\") })
+    late: Some(250), outputs: None, log: None, log_images: false, stop: false, recover: false, \
+    leave: Some(\"safe-op\"), pcap: None, force: false })
 master a.scene --raw 10 --cycles 7 --every 1000 --limit 2000 --outputs count --log f --stop --recover | \
     Ok(Master { scene: \"a.scene\", at: None, raw: Some(\"10\"), cycles: Some(7), every: Some(1000), \
-    limit: Some(2000), late: None, outputs: Some(\"count\"), log: Some(\"f\"), stop: true, recover: true, \
-    leave: None })
+    limit: Some(2000), late: None, outputs: Some(\"count\"), log: Some(\"f\"), log_images: false, \
+    stop: true, recover: true, leave: None, pcap: None, force: false })
+master a.scene --at a:1 --log f --log-images --pcap a.pcap --force | \
+    Ok(Master { scene: \"a.scene\", at: Some(\"a:1\"), raw: None, cycles: None, every: None, limit: None, \
+    late: None, outputs: None, log: Some(\"f\"), log_images: true, stop: false, recover: false, leave: None, \
+    pcap: Some(\"a.pcap\"), force: true })
 sdo a.scene 0x1001 0x1018 1 | \
     Ok(Sdo { scene: \"a.scene\", station: 4097, index: 4120, sub: 1, value: None, surely: false, \
     once: false, at: None, raw: None })

@@ -6,7 +6,7 @@ use super::{ROOM, SERVICE, is_want_of_memory, written};
 use ec_master::PortFault;
 use ec_ring::Port;
 use ec_wire::PACKET_ROOM;
-use ecat_serve::{Arrived, Console, Ends, InputLine, LINE_ROOM};
+use ecat_serve::{Arrived, Console, Disturb, Disturbance, Ends, InputLine, LINE_ROOM};
 use ecat_service::{Service, control, line_to_serve};
 use ecat_source::Bytes;
 use std::io::Cursor;
@@ -47,6 +47,10 @@ impl Console for Typed<'_> {
         into[..line.len()].copy_from_slice(line);
         Some(InputLine::Whole(line.len()))
     }
+}
+
+impl Disturb for Typed<'_> {
+    fn disturb(&mut self, _at: Port, _disturbance: Disturbance, _count: u32) {}
 }
 
 /// Serves the line under these commands, and asserts what is printed between its first line and its counts

@@ -1,0 +1,228 @@
+//! `ecat master`: what its words say, and what it opens.
+
+use crate::course::{Course, act_master, course_of};
+use crate::failure::{Failure, report, report_file};
+use crate::far::{Reach, Waiting, far_ports, raw_ports};
+use crate::images::images_at;
+use crate::over_sockets::Console;
+use crate::tape::{Pcap, end, make};
+use ec_regs::AlState;
+use ec_run::{Image, Outputs};
+use ecat_master::Plan;
+use ecat_pace::{Beat, Ending};
+use ecat_source::Source;
+use ecat_tape::{Moments, Recorder, WallClock, unrecorded};
+use std::net::Net;
+use std::rt::{Clock, Files, Stdin};
+use std::time::Duration;
+use std::{fs, io};
+
+/// What the words of `master` say but for its scene.
+#[derive(Clone, Copy)]
+pub struct Running<'a> {
+    /// How the line is reached.
+    pub reach: Reach<'a>,
+    /// After how many cycles it ends; with the input where there is none.
+    pub cycles: Option<u32>,
+    /// How many microseconds lie between the beginnings of cycles.
+    pub every: Option<u32>,
+    /// How long copies are waited for.
+    pub waiting: Waiting,
+    /// What the outputs are: `count`, or the path of a file.
+    pub outputs: Option<&'a str>,
+    /// The path of a file that gets a line for each cycle.
+    pub log: Option<&'a str>,
+    /// Whether that line has what the cycle sent and took.
+    pub log_images: bool,
+    /// Whether it ends at the first cycle that is not good.
+    pub stop: bool,
+    /// Whether slaves are brought up again.
+    pub recover: bool,
+    /// Whether a line of progress is written each second.
+    pub progress: bool,
+    /// The state in which the slaves are left.
+    pub leave: Option<AlState>,
+    /// Where each copy is kept.
+    pub pcap: Option<Pcap<'a>>,
+}
+
+impl Running<'_> {
+    /// How a master runs that has these outputs.
+    fn plan<'a>(&self, outputs: Outputs<'a>) -> Plan<'a> {
+        Plan {
+            outputs,
+            stop: self.stop,
+            recover: self.recover,
+            progress: self.progress,
+            log: self.log.is_some(),
+            log_images: self.log_images,
+            states: false,
+            identities: &[],
+            leave: self.leave,
+        }
+    }
+}
+
+/// What the outputs of a master are to be: those of its scene, a number that grows, or these images.
+fn outputs_of<'a>(word: Option<&str>, images: &'a [Image]) -> Outputs<'a> {
+    match word {
+        None => Outputs::Kept,
+        Some(word) if word == "count" => Outputs::Count,
+        Some(_) => Outputs::Images(images),
+    }
+}
+
+/// The images of so many bytes that a word names by a file, if it names one; the exit status where they could
+/// not be had.
+fn images_of<R, W, V>(
+    rt: &R,
+    word: Option<&str>,
+    length: usize,
+    out: &mut W,
+    err: &mut V,
+) -> Result<Vec<Image>, u8>
+where
+    R: Files + AllocGlobal,
+    W: io::Write,
+    V: io::Write,
+{
+    match word {
+        Some(path) if path != "count" => images_at(rt, path, length, out, err),
+        _ => Ok(Vec::new(rt.alloc())),
+    }
+}
+
+/// Brings the line of a scene to Op, where it lies, and cycles on it. The sockets and the log are opened once
+/// it is known that there is something to cycle on, and what the outputs are.
+pub fn master_at<R, S, W, V>(
+    rt: &R,
+    running: Running<'_>,
+    console: Console,
+    source: &mut S,
+    out: &mut W,
+    err: &mut V,
+) -> u8
+where
+    R: Clock + Files + Net + AllocGlobal,
+    S: Source,
+    W: io::Write,
+    V: io::Write,
+{
+    let course = match course_of(rt.alloc(), source, out, err) {
+        Ok(course) => course,
+        Err(status) => return status,
+    };
+    let images = match images_of(rt, running.outputs, course.image_length(), out, err) {
+        Ok(images) => images,
+        Err(status) => return status,
+    };
+    let plan = running.plan(outputs_of(running.outputs, images.as_slice()));
+    let Some(pcap) = running.pcap else {
+        let recorder = &mut unrecorded();
+        return master_logged(rt, course, running, &plan, console, recorder, out, err);
+    };
+    match make(rt, pcap, out, err) {
+        Ok(file) => {
+            let mut recorder = Recorder::new(file, WallClock::new(rt));
+            let status = master_logged(
+                rt,
+                course,
+                running,
+                &plan,
+                console,
+                &mut recorder,
+                out,
+                err,
+            );
+            end(&mut recorder, status, err)
+        }
+        Err(status) => status,
+    }
+}
+
+/// Opens the log of a master, if it has one, and has it run.
+fn master_logged<R, T, M, W, V>(
+    rt: &R,
+    course: Course,
+    running: Running<'_>,
+    plan: &Plan<'_>,
+    console: Console,
+    recorder: &mut Recorder<T, M>,
+    out: &mut W,
+    err: &mut V,
+) -> u8
+where
+    R: Clock + Files + Net + AllocGlobal,
+    T: io::Write,
+    M: Moments,
+    W: io::Write,
+    V: io::Write,
+{
+    let Some(path) = running.log else {
+        let log = &mut io::sink();
+        return run_master(rt, course, running, plan, console, recorder, out, err, log);
+    };
+    match fs::create(rt, path) {
+        Ok(mut log) => run_master(
+            rt, course, running, plan, console, recorder, out, err, &mut log,
+        ),
+        Err(error) => report_file(&Failure::Log, path, &error, out, err),
+    }
+}
+
+/// Opens the sockets and the clock of a master, and has it run.
+fn run_master<R, T, M, W, V, L>(
+    rt: &R,
+    course: Course,
+    running: Running<'_>,
+    plan: &Plan<'_>,
+    console: Console,
+    recorder: &mut Recorder<T, M>,
+    out: &mut W,
+    err: &mut V,
+    log: &mut L,
+) -> u8
+where
+    R: Clock + Net + AllocGlobal,
+    T: io::Write,
+    M: Moments,
+    W: io::Write,
+    V: io::Write,
+    L: io::Write,
+{
+    let Ok(mut beat) = beat_of(rt, running, console.input) else {
+        return report(&Failure::Clock, out, err);
+    };
+    match running.reach {
+        Reach::At(at) => match far_ports(rt, at, running.waiting, console.notes, recorder) {
+            Ok(ports) => act_master(course, ports, plan, &mut beat, out, err, log),
+            Err(failure) => report(&failure, out, err),
+        },
+        Reach::Raw(descriptors) => match raw_ports(
+            rt,
+            descriptors,
+            running.waiting,
+            console.notes,
+            recorder,
+        ) {
+            Ok(ports) => act_master(course, ports, plan, &mut beat, out, err, log),
+            Err(failure) => report(&failure, out, err),
+        },
+    }
+}
+
+/// The beat of a master's cycles, which end after as many as the words say, or with the input.
+fn beat_of<'a, R>(rt: &'a R, running: Running<'_>, input: Stdin) -> io::Result<Beat<'a, R, Stdin>>
+where
+    R: Clock + Net + AllocGlobal,
+{
+    let ending = match running.cycles {
+        Some(_) => None,
+        None => Some(Ending::of(rt, rt.alloc(), input)?),
+    };
+    let every = match running.every {
+        Some(micros) => Some(Duration::from_micros(u64::from(micros))),
+        None => None,
+    };
+    Beat::new(rt, every, running.cycles, ending)
+}

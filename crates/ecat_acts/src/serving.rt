@@ -1,0 +1,167 @@
+//! `ecat serve`: the ends that it opens, and who works on the line.
+
+use crate::failure::{Failure, report, status_of, unbound};
+use crate::over_sockets::report_unbound;
+use crate::tape::{Pcap, end, make};
+use ecat_far::{ClockTimer, Timer};
+use ecat_raw::{Descriptors, RawEnds};
+use ecat_serve::{Console as LineConsole, Disturbed, Served, TimedEnds, Times, UdpEnds};
+use ecat_service::{Service, control, line_to_serve, serve};
+use ecat_source::Source;
+use ecat_tape::{Moments, Recorder, TapedEnds, WallClock, unrecorded};
+use std::io;
+use std::net::Net;
+use std::rt::{Clock, Files, Stdin};
+
+/// Serves the line of a scene. Its ends are opened once it is known that there is one. The service ends with
+/// the input where that has commands, or where it is not left alone.
+pub fn serve_at<R, S, W, V>(
+    rt: &R,
+    service: Service,
+    pcap: Option<Pcap<'_>>,
+    input: Stdin,
+    source: &mut S,
+    out: &mut W,
+    err: &mut V,
+) -> u8
+where
+    R: Clock + Files + Net + AllocGlobal,
+    S: Source,
+    W: io::Write,
+    V: io::Write,
+{
+    let served = match line_to_serve(rt.alloc(), source) {
+        Ok(served) => served,
+        Err(failure) => return report(&Failure::Line(failure), out, err),
+    };
+    let Some(pcap) = pcap else {
+        return serve_taped(rt, service, input, served, &mut unrecorded(), out, err);
+    };
+    match make(rt, pcap, out, err) {
+        Ok(file) => {
+            let mut recorder = Recorder::new(file, WallClock::new(rt));
+            let status = serve_taped(rt, service, input, served, &mut recorder, out, err);
+            end(&mut recorder, status, err)
+        }
+        Err(status) => status,
+    }
+}
+
+/// Serves a line, and records each copy at its ends, if anybody wants it.
+fn serve_taped<R, T, M, W, V>(
+    rt: &R,
+    service: Service,
+    input: Stdin,
+    served: Served,
+    recorder: &mut Recorder<T, M>,
+    out: &mut W,
+    err: &mut V,
+) -> u8
+where
+    R: Clock + Net + AllocGlobal,
+    T: io::Write,
+    M: Moments,
+    W: io::Write,
+    V: io::Write,
+{
+    let awaited = if service.awaits_input() {
+        Some(input)
+    } else {
+        None
+    };
+    if let Some(descriptors) = service.raw {
+        return serve_raw(
+            rt,
+            service,
+            descriptors,
+            awaited,
+            served,
+            recorder,
+            out,
+            err,
+        );
+    }
+    let mut ends = match UdpEnds::bind(rt, rt.alloc(), service.address, service.port, awaited) {
+        Ok(ends) => ends,
+        Err(fault) => {
+            return report_unbound(&unbound(fault), service.address, service.port, out, err);
+        }
+    };
+    if service.control {
+        ends.keep_lines();
+        let mut ends = TapedEnds::new(&mut ends, recorder);
+        control_disturbed(rt, served, service, &mut ends, out, err)
+    } else {
+        let mut ends = TapedEnds::new(&mut ends, recorder);
+        status_of(serve(served, service, &mut ends, out, err), out, err)
+    }
+}
+
+/// Serves a line at packet sockets.
+fn serve_raw<R, T, M, W, V>(
+    rt: &R,
+    service: Service,
+    descriptors: Descriptors,
+    awaited: Option<Stdin>,
+    served: Served,
+    recorder: &mut Recorder<T, M>,
+    out: &mut W,
+    err: &mut V,
+) -> u8
+where
+    R: Clock + Net + AllocGlobal,
+    T: io::Write,
+    M: Moments,
+    W: io::Write,
+    V: io::Write,
+{
+    let mut ends = match RawEnds::open(rt, rt.alloc(), descriptors, awaited) {
+        Ok(ends) => ends,
+        Err(fault) => return report(&Failure::Raw(fault), out, err),
+    };
+    if service.control {
+        ends.keep_lines();
+        let mut ends = TapedEnds::new(&mut ends, recorder);
+        control_disturbed(rt, served, service, &mut ends, out, err)
+    } else {
+        let mut ends = TapedEnds::new(&mut ends, recorder);
+        status_of(serve(served, service, &mut ends, out, err), out, err)
+    }
+}
+
+/// The clock by which copies of a served line are late.
+#[derive(Drop)]
+struct ServedTimes<'a, R: Clock> {
+    timer: ClockTimer<'a, R>,
+}
+
+impl<R: Clock> Times for ServedTimes<'_, R> {
+    fn now(&mut self) -> u64 {
+        self.timer.now()
+    }
+}
+
+/// Serves a line under commands, which may have copies leave its ends late, twice or damaged.
+fn control_disturbed<R, E, W, V>(
+    rt: &R,
+    served: Served,
+    service: Service,
+    ends: &mut E,
+    out: &mut W,
+    err: &mut V,
+) -> u8
+where
+    R: Clock + AllocGlobal,
+    E: LineConsole + TimedEnds,
+    W: io::Write,
+    V: io::Write,
+{
+    let Ok(timer) = ClockTimer::new(rt) else {
+        return report(&Failure::Clock, out, err);
+    };
+    let Ok(mut ends) = Disturbed::new(rt.alloc(), ends, ServedTimes { timer }) else {
+        return report(&Failure::NoMemoryForSockets, out, err);
+    };
+    let done = control(rt.alloc(), served, service, &mut ends, out, err);
+    status_of(done, out, err)
+}
