@@ -1,0 +1,73 @@
+//! The frame of a packet, and what trips look at of the rest.
+
+use arrayvec::ArrayVec;
+use ec_wire::{Command, Datagram, Form, FrameBuf};
+use ecat_capture::{Packet, Payload, payload_of};
+use ecat_trips::{Outline, Ports, Source as Sender};
+
+/// A frame that asks nothing, in whose place those of packets come.
+pub fn any_frame() -> FrameBuf {
+    FrameBuf::of(&Datagram {
+        command: Command::Nop,
+        index: 0,
+        address: 0,
+        circulating: false,
+        irq: 0,
+        payload: ArrayVec::new(),
+        counter: 0,
+    })
+}
+
+/// The source address of a packet, as a number of 48 bits whose highest byte is the first.
+fn address_of(bytes: &[u8]) -> u64 {
+    match bytes {
+        [_, _, _, _, _, _, a, b, c, d, e, f, ..] => {
+            u64::from_be_bytes([0, 0, *a, *b, *c, *d, *e, *f])
+        }
+        _ => 0,
+    }
+}
+
+/// The ports of the UDP header in front of a place.
+fn ports_of(bytes: &[u8], from: usize) -> Option<Ports> {
+    let at = from.checked_sub(8)?;
+    match bytes.get(at..)? {
+        [a, b, c, d, ..] => Some(Ports {
+            from: u16::from_be_bytes([*a, *b]),
+            to: u16::from_be_bytes([*c, *d]),
+        }),
+        _ => None,
+    }
+}
+
+/// What trips look at of a packet beside its frame.
+fn outline_of(packet: &Packet, bytes: &[u8], ports: Option<Ports>) -> Outline {
+    Outline {
+        number: packet.number,
+        time: packet.time.map(|time| {
+            time.seconds
+                .saturating_mul(1_000_000_000)
+                .saturating_add(time.nanoseconds)
+        }),
+        interface: packet.interface,
+        source: Sender::of(address_of(bytes)),
+        ports,
+    }
+}
+
+/// Reads the frame of a packet whose bytes these are, if it has one, into the place of another one, and tells
+/// the rest of the packet: its number, its time in nanoseconds of the epoch, its interface, who sent it, and
+/// its UDP ports. Where there is none, the frame in that place means nothing.
+pub fn read_packet(packet: &Packet, bytes: &[u8], frame: &mut FrameBuf) -> Option<Outline> {
+    match payload_of(bytes) {
+        Payload::Ethernet { from, to } => match frame.refill(&bytes[from..to], Form::Ethernet) {
+            Ok(()) => Some(outline_of(packet, bytes, None)),
+            Err(_) => None,
+        },
+        Payload::Udp { from, to } => match frame.refill(&bytes[from..to], Form::Udp) {
+            Ok(()) => Some(outline_of(packet, bytes, ports_of(bytes, from))),
+            Err(_) => None,
+        },
+        Payload::Fragment | Payload::Short | Payload::BadLength | Payload::Other => None,
+    }
+}
