@@ -1,4 +1,4 @@
--- Where clap's definition of the line finds no fault, the words name one of the fifteen commands and
+-- Where clap's definition of the line finds no fault, the words name one of the sixteen commands and
 -- give it what it needs.
 use Rattle.std.proofs.Common.{◌≡◌, ◌∙◌, Bool, true, false, cond, List, [], ◌∷◌, Option, Some, None, refl, sym}
 use Rattle.std.proofs.Common.{ap, codes, is_some, IfSome, true≢false}
@@ -56,6 +56,8 @@ unfolding line
 subs_complete p other = (
   λ met e. let all = leaf_given _ p.1 refl refl e in (refl, and_from _ _ (all.0 refl) refl),
   (
+  λ met e. let all = leaf_given _ p.1 refl refl e in (refl, and_from _ _ (all.0 refl) refl),
+  (
     λ met e. let all = leaf_given _ p.1 refl refl e in (refl, and_from _ _ (all.0 refl) refl),
     (
       λ met e. let all = leaf_given _ p.1 refl refl e in (refl, and_from _ _ (all.0 refl) refl),
@@ -86,6 +88,7 @@ subs_complete p other = (
         ),
       ),
     ),
+  ),
   ),
 )
 

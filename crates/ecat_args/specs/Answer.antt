@@ -4,7 +4,7 @@ use Rattle.clap.specs.Words.{IsAmong, Text, fault_of, kind_of, subcommand_of, ta
 use Rattle.clap.specs.declared.error.Error.{Error}
 use Rattle.clap.specs.declared.error.kind.ErrorKind.TheVariants.{OutOfMemory}
 use Rattle.ecat_args.specs.Given.{Given, IsComplete, IsNoAddress, LiesAt, control_in, force_in, forever_in}
-use Rattle.ecat_args.specs.Given.{index_in}
+use Rattle.ecat_args.specs.Given.{by_index_in, index_in, lines_in}
 use Rattle.ecat_args.specs.Given.{judge_in, log_in, many_in, port_in, station_in, sub_in, surely_in}
 use Rattle.ecat_args.specs.Given.{csv_in, every_in, faults_in, images_in, late_in, limit_in, once_in}
 use Rattle.ecat_args.specs.Given.{asked_in, data_in, packet_in, recover_in, stats_in, stop_in, value_in}
@@ -13,7 +13,7 @@ use Rattle.ecat_commands.specs.Commands.{line}
 use Rattle.ecat_args.specs.declared.args.Args.{Args}
 use Rattle.ecat_args.specs.declared.args.Args.TheVariants.{Show, Check, Cover, Lint, Where, Run, Sweep, Sdo}
 use Rattle.ecat_args.specs.declared.args.Args.TheVariants.{Udp, Serve, Vectors, List as Lists, Master, Scan}
-use Rattle.ecat_args.specs.declared.args.Args.TheVariants.{Learn}
+use Rattle.ecat_args.specs.declared.args.Args.TheVariants.{Judge, Learn}
 use Rattle.ecat_args.specs.declared.args.ArgsFault.{ArgsFault}
 use Rattle.ecat_args.specs.declared.args.ArgsFault.TheVariants.{Line, BadNumber, NoMemory}
 
@@ -21,12 +21,17 @@ use Rattle.ecat_args.specs.declared.args.ArgsFault.TheVariants.{Line, BadNumber,
 abbrev pub Says : Args → Given → Type 0
 Says (Show file) given =
     (given.0 ≡ codes "show") × (word_in given (codes "FILE") ≡ Some file.now)
-Says (Lists file csv faults stats) given =
+Says (Lists file csv faults stats by_index) given =
     (given.0 ≡ codes "list") × (word_in given (codes "FILE") ≡ Some file.now)
     × (csv_in given ≡ csv) × (faults_in given ≡ faults) × (stats_in given ≡ stats)
+    × (by_index_in given ≡ by_index)
 Says (Learn file packet asked values) given =
     (given.0 ≡ codes "learn") × (word_in given (codes "FILE") ≡ Some file.now)
     × (packet_in given ≡ Some packet) × (asked_in given ≡ asked) × (data_in given ≡ values)
+Says (Judge file scene csv lines) given =
+    (given.0 ≡ codes "judge") × (word_in given (codes "FILE") ≡ Some file.now)
+    × (word_in given (codes "SCENE") ≡ option_map (λ w. w.now) scene)
+    × (csv_in given ≡ csv) × (lines_in given ≡ Some lines)
 Says (Check scene) given =
     (given.0 ≡ codes "check") × (word_in given (codes "SCENE") ≡ Some scene.now)
 Says (Cover scene) given =
@@ -84,6 +89,7 @@ HasBadNumber given =
     ((given.0 ≡ codes "sdo") × ((station_in given ≡ None) ⊎ (index_in given ≡ None)
     ⊎ (sub_in given ≡ None) ⊎ (value_in given ≡ None)))
     ⊎ ((given.0 ≡ codes "learn") × (packet_in given ≡ None))
+    ⊎ ((given.0 ≡ codes "judge") × (lines_in given ≡ None))
     ⊎ ((given.0 ≡ codes "udp") × (port_in given ≡ None))
     ⊎ ((given.0 ≡ codes "serve") × ((port_in given ≡ None) ⊎ (many_in given ≡ None)
     ⊎ IsNoAddress (word_in given (codes "ADDRESS"))))

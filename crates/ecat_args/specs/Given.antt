@@ -60,6 +60,10 @@ count_by (Some word) = option_map (λ n. Some n) (number_within 1 4294967295 wor
 abbrev pub packet_in : Given → Option (Option ℕ)
 packet_in given = count_by (word_in given (codes "PACKET"))
 
+-- how many lines of runs `judge` prints
+abbrev pub lines_in : Given → Option (Option ℕ)
+lines_in given = count_by (word_in given (codes "LINES"))
+
 -- how many packets `serve` takes, and how many cycles `master` makes
 abbrev pub many_in : Given → Option (Option ℕ)
 many_in given = count_by (word_in given (codes "N"))
@@ -120,6 +124,9 @@ faults_in given = flag_by (word_in given (codes "faults"))
 abbrev pub stats_in : Given → Bool
 stats_in given = flag_by (word_in given (codes "stats"))
 
+abbrev pub by_index_in : Given → Bool
+by_index_in given = flag_by (word_in given (codes "index"))
+
 abbrev pub stop_in : Given → Bool
 stop_in given = flag_by (word_in given (codes "stop"))
 
@@ -139,9 +146,9 @@ IsNoAddress (Some word) = (address : Ipv4Addr) → IsIpv4Text word address → �
 
 -- the names of the commands
 abbrev pub command_names : List Text
-command_names = codes "show" ∷ codes "list" ∷ codes "learn" ∷ codes "check" ∷ codes "cover" ∷ codes "lint"
-    ∷ codes "where" ∷ codes "run" ∷ codes "sweep" ∷ codes "sdo" ∷ codes "udp" ∷ codes "serve" ∷ codes "master"
-    ∷ codes "scan" ∷ codes "vectors" ∷ []
+command_names = codes "show" ∷ codes "list" ∷ codes "learn" ∷ codes "judge" ∷ codes "check" ∷ codes "cover"
+    ∷ codes "lint" ∷ codes "where" ∷ codes "run" ∷ codes "sweep" ∷ codes "sdo" ∷ codes "udp" ∷ codes "serve"
+    ∷ codes "master" ∷ codes "scan" ∷ codes "vectors" ∷ []
 
 -- the names of the words that a command needs
 abbrev pub needed_words : Text → List Text
@@ -149,6 +156,7 @@ needed_words command =
     if bytes_eq command (codes "show") then codes "FILE" ∷ []
     else if bytes_eq command (codes "list") then codes "FILE" ∷ []
     else if bytes_eq command (codes "learn") then codes "FILE" ∷ []
+    else if bytes_eq command (codes "judge") then codes "FILE" ∷ []
     else if bytes_eq command (codes "check") then codes "SCENE" ∷ []
     else if bytes_eq command (codes "cover") then codes "SCENE" ∷ []
     else if bytes_eq command (codes "lint") then codes "SCENE" ∷ []
@@ -162,7 +170,7 @@ needed_words command =
     else if bytes_eq command (codes "master") then codes "SCENE" ∷ []
     else []
 
--- the command is one of the fifteen, and the words that it needs were given
+-- the command is one of the sixteen, and the words that it needs were given
 abbrev pub IsComplete : Given → Type 0
 IsComplete given = (list_any (bytes_eq given.0) command_names ≡ true)
     × (list_all (λ name. is_some (word_in given name)) (needed_words given.0) ≡ true)

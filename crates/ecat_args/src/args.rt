@@ -35,7 +35,7 @@ pub enum Args<'a> {
         /// The path of the capture.
         file: &'a str,
     },
-    /// `list FILE [--csv] [--faults] [--stats]`: lists the datagrams of a capture.
+    /// `list FILE [--csv] [--faults] [--stats] [--index]`: lists the datagrams of a capture.
     List {
         /// The path of the capture; `-` stands for standard input.
         file: &'a str,
@@ -45,6 +45,8 @@ pub enum Args<'a> {
         faults: bool,
         /// Whether working counters are counted instead.
         stats: bool,
+        /// Whether datagrams are told apart by their index too.
+        by_index: bool,
     },
     /// `learn FILE [--at PACKET] [--asked] [--data]`: writes the line that a capture shows as a scene.
     Learn {
@@ -56,6 +58,17 @@ pub enum Args<'a> {
         asked: bool,
         /// Whether items and inputs have their last data.
         values: bool,
+    },
+    /// `judge FILE [SCENE] [--csv] [--limit LINES]`: says which cycles of a capture were not good.
+    Judge {
+        /// The path of the capture; `-` stands for standard input.
+        file: &'a str,
+        /// The path of the scene; without it the line is the one that the capture shows.
+        scene: Option<&'a str>,
+        /// Whether values are separated by commas.
+        csv: bool,
+        /// How many lines of runs are printed, one at least.
+        lines: Option<u32>,
     },
     /// `check SCENE`: says whether the line of a scene is fit.
     Check {
@@ -289,6 +302,7 @@ fn command<'a>(name: &str, given: &ArgMatches<'a>) -> Option<Args<'a>>
         }),
         "list" => Some(list(given)),
         "learn" => learn(given),
+        "judge" => judge(given),
         "check" => Some(Args::Check {
             scene: text(given, "SCENE"),
         }),
@@ -351,6 +365,7 @@ fn list<'a>(given: &ArgMatches<'a>) -> Args<'a>
         csv: flag(given, "csv"),
         faults: flag(given, "faults"),
         stats: flag(given, "stats"),
+        by_index: flag(given, "index"),
     }
 }
 
@@ -366,6 +381,21 @@ fn learn<'a>(given: &ArgMatches<'a>) -> Option<Args<'a>>
         at,
         asked: flag(given, "asked"),
         values: flag(given, "data"),
+    })
+}
+
+// What `judge` says, unless the number of lines is bad.
+fn judge<'a>(given: &ArgMatches<'a>) -> Option<Args<'a>>
+    requires { IsComplete (codes "judge", rows_of (found_of given.now)) }
+    ensures { MatchOption result (HasBadNumber (codes "judge", rows_of (found_of given.now)))
+        (λ args. Says args (codes "judge", rows_of (found_of given.now))) }
+{
+    let lines = count_given(given, "LINES")?;
+    Some(Args::Judge {
+        file: text(given, "FILE"),
+        scene: word(given, "SCENE"),
+        csv: flag(given, "csv"),
+        lines,
     })
 }
 

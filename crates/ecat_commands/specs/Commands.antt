@@ -1,4 +1,4 @@
--- The command line of `ecat`, in clap's own words: fifteen commands, of which one has to be given.
+-- The command line of `ecat`, in clap's own words: sixteen commands, of which one has to be given.
 use Rattle.std.specs.Prelude.{◌≡◌, ◌∷◌, List, [], Some, codes, false, fold, true}
 use Rattle.clap.specs.Words.{App, Rule, Text, app_of, new_app, new_rule, rule_of, with_rule, with_subcommand}
 use Rattle.clap.specs.declared.builder.action.ArgAction.TheVariants.{SetTrue}
@@ -87,10 +87,10 @@ show_words = needed_rule (codes "FILE") ∷ []
 abbrev pub show_line : App
 show_line = with_rules (new_app (codes "show")) show_words
 
--- `list FILE [--csv] [--faults] [--stats]`
+-- `list FILE [--csv] [--faults] [--stats] [--index]`
 abbrev pub list_words : List Rule
 list_words = needed_rule (codes "FILE") ∷ flag_rule (codes "csv")
-    ∷ flag_rule (codes "faults") ∷ flag_rule (codes "stats") ∷ []
+    ∷ flag_rule (codes "faults") ∷ flag_rule (codes "stats") ∷ flag_rule (codes "index") ∷ []
 
 abbrev pub list_line : App
 list_line = with_rules (new_app (codes "list")) list_words
@@ -102,6 +102,14 @@ learn_words = needed_rule (codes "FILE") ∷ option_rule (codes "PACKET") (codes
 
 abbrev pub learn_line : App
 learn_line = with_rules (new_app (codes "learn")) learn_words
+
+-- `judge FILE [SCENE] [--csv] [--limit LINES]`
+abbrev pub judge_words : List Rule
+judge_words = needed_rule (codes "FILE") ∷ new_rule (codes "SCENE")
+    ∷ flag_rule (codes "csv") ∷ option_rule (codes "LINES") (codes "limit") ∷ []
+
+abbrev pub judge_line : App
+judge_line = with_rules (new_app (codes "judge")) judge_words
 
 -- `check SCENE`
 abbrev pub check_line : App
@@ -166,13 +174,17 @@ serve_line = with_rules (new_app (codes "serve")) serve_words
 abbrev pub master_words : List Rule
 master_words = scene_rule ∷ at_rule ∷ raw_rule
     ∷ option_rule (codes "N") (codes "cycles") ∷ option_rule (codes "MICROSECONDS") (codes "every")
-    ∷ limit_rule ∷ late_rule ∷ option_rule (codes "OUTPUTS") (codes "outputs")
+    ∷ limit_rule ∷ late_rule ∷ []
+
+-- its other words
+abbrev pub course_words : List Rule
+course_words = option_rule (codes "OUTPUTS") (codes "outputs")
     ∷ option_rule (codes "LOG") (codes "log") ∷ flag_rule (codes "log-images")
     ∷ flag_rule (codes "stop") ∷ flag_rule (codes "recover") ∷ option_rule (codes "STATE") (codes "leave")
     ∷ pcap_rule ∷ force_rule ∷ []
 
 abbrev pub master_line : App
-master_line = with_rules (new_app (codes "master")) master_words
+master_line = with_rules (with_rules (new_app (codes "master")) master_words) course_words
 
 -- `scan [--at AT] [--raw RAW] [--limit LIMIT] [--late LATE] [--scene SCENE] [--force]`
 abbrev pub scan_words : List Rule
@@ -196,8 +208,22 @@ needs_command app = record app { top = record app.top { subcommand_required = tr
 abbrev pub ecat_line : App
 ecat_line = needs_command (new_app (codes "ecat"))
 
+-- a line with these commands, in their order
+abbrev pub with_commands : App → List App → App
+with_commands = fold (λ above below. with_subcommand above below.top)
+
+-- the commands on captures
+abbrev pub capture_lines : List App
+capture_lines = show_line ∷ list_line ∷ learn_line ∷ judge_line ∷ []
+
+-- the commands on the line of a scene
+abbrev pub scene_lines : List App
+scene_lines = check_line ∷ cover_line ∷ lint_line ∷ where_line ∷ run_line ∷ sweep_line ∷ sdo_line ∷ []
+
+-- the commands over sockets, and the worked rows
+abbrev pub socket_lines : List App
+socket_lines = udp_line ∷ serve_line ∷ master_line ∷ scan_line ∷ vectors_line ∷ []
+
 -- the whole line
 unfoldable pub line : App
-line = fold (λ above below. with_subcommand above below.top) ecat_line (show_line ∷ list_line ∷ learn_line
-    ∷ check_line ∷ cover_line ∷ lint_line ∷ where_line ∷ run_line ∷ sweep_line ∷ sdo_line ∷ udp_line
-    ∷ serve_line ∷ master_line ∷ scan_line ∷ vectors_line ∷ [])
+line = with_commands (with_commands (with_commands ecat_line capture_lines) scene_lines) socket_lines

@@ -2,6 +2,8 @@
 ghost use Rattle.std.specs.Prelude.{◌≡◌, List, IfOk, codes};
 ghost use Rattle.clap.specs.Words.{App, Rule, new_app, new_rule, with_subcommand};
 ghost use Rattle.ecat_commands.specs.Commands.{AreWords, Builds, IsWord, flag_rule, line};
+ghost use Rattle.ecat_commands.specs.Commands.{capture_lines, course_words, scene_lines, socket_lines};
+ghost use Rattle.ecat_commands.specs.Commands.{judge_line, with_commands};
 ghost use Rattle.ecat_commands.specs.Commands.{needed_rule, option_rule, at_rule, force_rule};
 ghost use Rattle.ecat_commands.specs.Commands.{judge_rule, late_rule, limit_rule, pcap_rule, port_rule};
 ghost use Rattle.ecat_commands.specs.Commands.{raw_rule, check_line, cover_line, learn_line, lint_line};
@@ -139,6 +141,14 @@ fn command<'a>(
     plain(alloc, name, about, text).args(words)
 }
 
+// A command with these words more, in their order.
+fn more<'a>(command: Command<'a>, words: Vec<Arg<'a>>) -> Result<Command<'a>, AllocError>
+    ensures { (line : App) (rules : List Rule) → Builds line command.entry → AreWords rules words.entry.items
+        → IfOk result (Builds (with_rules line rules)) }
+{
+    command.args(words)
+}
+
 // `show FILE`
 fn show<'a>(alloc: Global) -> Result<Command<'a>, AllocError>
     ensures { IfOk result (Builds show_line) }
@@ -148,7 +158,7 @@ fn show<'a>(alloc: Global) -> Result<Command<'a>, AllocError>
     command(alloc, "show", about, help::SHOW, words)
 }
 
-// `list FILE [--csv] [--faults] [--stats]`
+// `list FILE [--csv] [--faults] [--stats] [--index]`
 fn list<'a>(alloc: Global) -> Result<Command<'a>, AllocError>
     ensures { IfOk result (Builds list_line) }
 {
@@ -166,6 +176,11 @@ fn list<'a>(alloc: Global) -> Result<Command<'a>, AllocError>
             alloc,
             "stats",
             "Counts each working counter of datagrams that are alike",
+        ),
+        flag(
+            alloc,
+            "index",
+            "Tells datagrams apart by their index too, with --stats",
         ),
     ]?;
     command(alloc, "list", about, help::LIST, words)
@@ -190,6 +205,23 @@ fn learn<'a>(alloc: Global) -> Result<Command<'a>, AllocError>
         ),
     ]?;
     command(alloc, "learn", about, help::LEARN, words)
+}
+
+// `judge FILE [SCENE] [--csv] [--limit LINES]`
+fn judge_capture<'a>(alloc: Global) -> Result<Command<'a>, AllocError>
+    ensures { IfOk result (Builds judge_line) }
+{
+    let about = "Says which cycles of a capture were not good, and which slaves were missing";
+    let file = "The capture, a pcap or pcapng file; - for standard input, with a SCENE";
+    let scene = "A file with the slaves and their work; learned of the capture if not given";
+    let lines = "How many runs of cycles are told; 1000 if not given";
+    let words = vec![in alloc;
+        needed(alloc, "FILE", file),
+        optional(alloc, "SCENE", scene),
+        flag(alloc, "csv", "Separates by commas, below a line of names"),
+        option(alloc, "LINES", "limit", lines),
+    ]?;
+    command(alloc, "judge", about, help::JUDGE, words)
 }
 
 // `check SCENE`
@@ -322,12 +354,6 @@ fn master<'a>(alloc: Global) -> Result<Command<'a>, AllocError>
     let about = "Brings the line of a scene to Op, somewhere else, and cycles on it";
     let cycles = "After how many cycles it ends, 1 to 4294967295; at the input's end if not given";
     let every = "How far apart the cycles begin; back to back if not given";
-    let outputs =
-        "The outputs: count, or a file with a line for each cycle; the scene's if not given";
-    let log = "A file that gets a line for each cycle: its number, its verdict and its counters";
-    let images = "Writes to the log what each cycle sent and took, as hexadecimal digits";
-    let recover = "Brings slaves up again that show an error or came back in Init";
-    let leave = "Where slaves are left at the end: init, pre-op, safe-op, op; init if not given";
     let words = vec![in alloc;
         scene(alloc),
         at(alloc),
@@ -336,6 +362,25 @@ fn master<'a>(alloc: Global) -> Result<Command<'a>, AllocError>
         option(alloc, "MICROSECONDS", "every", every),
         limit(alloc),
         late(alloc),
+    ]?;
+    let master = command(alloc, "master", about, help::MASTER, words)?;
+    let course = course_of_master(alloc)?;
+    more(master, course)
+}
+
+// `[--outputs OUTPUTS] [--log LOG] [--log-images] [--stop] [--recover] [--leave STATE] [--pcap PCAP]
+// [--force]`, apart so that not all words of `master` stand on the stack at once
+#[inline(never)]
+fn course_of_master<'a>(alloc: Global) -> Result<Vec<Arg<'a>>, AllocError>
+    ensures { IfOk result (λ words. AreWords course_words words.items) }
+{
+    let outputs =
+        "The outputs: count, or a file with a line for each cycle; the scene's if not given";
+    let log = "A file that gets a line for each cycle: its number, its verdict and its counters";
+    let images = "Writes to the log what each cycle sent and took, as hexadecimal digits";
+    let recover = "Brings slaves up again that show an error or came back in Init";
+    let leave = "Where slaves are left at the end: init, pre-op, safe-op, op; init if not given";
+    Ok(vec![in alloc;
         option(alloc, "OUTPUTS", "outputs", outputs),
         option(alloc, "LOG", "log", log),
         flag(alloc, "log-images", images),
@@ -344,8 +389,7 @@ fn master<'a>(alloc: Global) -> Result<Command<'a>, AllocError>
         option(alloc, "STATE", "leave", leave),
         pcap(alloc),
         force(alloc),
-    ]?;
-    command(alloc, "master", about, help::MASTER, words)
+    ]?)
 }
 
 // `scan [--at AT] [--raw RAW] [--limit LIMIT] [--late LATE] [--scene SCENE] [--force]`
@@ -391,24 +435,62 @@ fn vectors<'a>(alloc: Global) -> Command<'a>
     plain(alloc, "vectors", "Runs the worked rows", help::VECTORS)
 }
 
-/// The definition of the whole command line: fifteen commands, of which one has to be given, each with its
-/// words, and the texts of their help.
-pub fn line<'a>(alloc: Global) -> Result<Command<'a>, AllocError>
-    ensures { IfOk result (Builds line) }
+// The line with the commands on captures. The commands come in three parts, so that not all of them stand on
+// the stack at once.
+#[inline(never)]
+fn add_on_captures<'a>(
+    alloc: Global,
+    line: Result<Command<'a>, AllocError>,
+) -> Result<Command<'a>, AllocError>
+    ensures { (above : App) → IfOk line.entry (Builds above)
+        → IfOk result (Builds (with_commands above capture_lines)) }
 {
-    let line = add(Ok(ecat(alloc)), show(alloc));
+    let line = add(line, show(alloc));
     let line = add(line, list(alloc));
     let line = add(line, learn(alloc));
+    add(line, judge_capture(alloc))
+}
+
+// The line with the commands on the line of a scene.
+#[inline(never)]
+fn add_on_scenes<'a>(
+    alloc: Global,
+    line: Result<Command<'a>, AllocError>,
+) -> Result<Command<'a>, AllocError>
+    ensures { (above : App) → IfOk line.entry (Builds above)
+        → IfOk result (Builds (with_commands above scene_lines)) }
+{
     let line = add(line, check(alloc));
     let line = add(line, cover(alloc));
     let line = add(line, lint(alloc));
     let line = add(line, where_broken(alloc));
     let line = add(line, run(alloc));
     let line = add(line, sweep(alloc));
-    let line = add(line, sdo(alloc));
+    add(line, sdo(alloc))
+}
+
+// The line with the commands over sockets, and the worked rows.
+#[inline(never)]
+fn add_over_sockets<'a>(
+    alloc: Global,
+    line: Result<Command<'a>, AllocError>,
+) -> Result<Command<'a>, AllocError>
+    ensures { (above : App) → IfOk line.entry (Builds above)
+        → IfOk result (Builds (with_commands above socket_lines)) }
+{
     let line = add(line, udp(alloc));
     let line = add(line, serve(alloc));
     let line = add(line, master(alloc));
     let line = add(line, scan(alloc));
     add(line, Ok(vectors(alloc)))
+}
+
+/// The definition of the whole command line: sixteen commands, of which one has to be given, each with its
+/// words, and the texts of their help.
+pub fn line<'a>(alloc: Global) -> Result<Command<'a>, AllocError>
+    ensures { IfOk result (Builds line) }
+{
+    let line = add_on_captures(alloc, Ok(ecat(alloc)));
+    let line = add_on_scenes(alloc, line);
+    add_over_sockets(alloc, line)
 }

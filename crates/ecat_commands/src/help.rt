@@ -50,8 +50,9 @@ The capture is a pcap or pcapng file of Ethernet; frames are those of type
 0x88A4, behind VLAN tags too, and those of UDP port 34980.
 With --csv values are separated by commas, below a line of names. With --faults
 only packets are listed that are damaged or cut short, and why. With --stats
-datagrams that are alike in command, address, length and index are counted, by
-each working counter that came, with the packet where it came first.
+frames that were sent are matched with what came back of them, and datagrams
+that are alike in command, address and length, and with --index in their index,
+are counted: sent, back, lost, and by how much their counters moved.
 
 Example:
   ecat list scenes/startup.pcap
@@ -74,6 +75,21 @@ last data, and the slaves their inputs; else zeros: a plant's data are its own.
 Example:
   ecat learn scenes/startup.pcap
   ecat learn scenes/startup.pcap > line.scene; ecat check line.scene";
+
+/// Of `judge`.
+pub(crate) const JUDGE: &str = "\
+Says of a capture which cycles were not good, a run of like ones a line: the
+packets, their times, the working counter of each item and the one that the
+scene makes expected, and which slaves explain it where they alone were missing.
+Lost frames have lines of their own. Then come sums of each item: how many were
+sent, good, short, over and lost, how far apart, and how long they were out.
+The line is that of SCENE, or else the one that the capture itself shows, as
+learn tells it. Datagrams that are no items of the scene are not judged, but
+counted. Prints no more than so many lines of runs as --limit says. The status
+is 0 where each cycle was good and none was lost.
+
+Example:
+  ecat judge scenes/startup.pcap";
 
 /// Of `check`.
 pub(crate) const CHECK: &str = "\

@@ -15,7 +15,7 @@
 //! ```
 //!
 //! The file is read twice, since the addresses of all packets tell which ways they went (`ecat_trips`); of a
-//! stream ([`learn_stream`]) the first 4,096 frames are held, and decide.
+//! stream ([`learn_stream`]) the first 4,096 frames are held, and decide (`ecat_frames`).
 //!
 //! What is promised:
 //!
@@ -60,7 +60,7 @@ mod whom;
 pub use byte::{Byte, Gate, How};
 pub use found::{ENTRIES, Found, scene_of};
 pub use known::{Known, KnownFault, MAX_SLAVES};
-pub use reading::{Asked, HELD, Learned, learn, learn_stream};
+pub use reading::{Asked, Learned, learn, learn_stream};
 pub use registers::{FMMU_PLACE, KEPT, STATION_PLACE, STATUS_PLACE, SYNC_MANAGER_PLACE};
 pub use slave::Slave;
 pub use whom::Whom;
