@@ -6,11 +6,14 @@ ghost use Rattle.ecat_acts.specs.Failures.{refusal_status};
 
 use ecat_acts::failure::{Failure, report, report_file};
 use ecat_acts::hints::{Fronted, hint_capture, hint_odd_lines, hint_scene};
+use ecat_acts::judging::{asked_of_judge, end_of_judging, frames_of, judge_by, judge_by_itself};
 use ecat_acts::learning::{asked_of, end_of_learning};
 use ecat_acts::listing::{Wanted, act_list};
 use ecat_acts::over_sockets::{Console, over_sockets};
 use ecat_acts::show::act_show;
 use ecat_args::{Args, ArgsFault, bad_word};
+use ecat_frames::Frames;
+use ecat_judge::{Asked as AskedOfJudge, Judged};
 use ecat_line::{LineFailure, unread};
 use ecat_scene::MAX_TEXT;
 use ecat_source::{Bytes, Counted, Source, read_all};
@@ -142,6 +145,7 @@ where
             csv,
             faults,
             stats,
+            ..
         } => {
             return match Wanted::of(*csv, *faults, *stats, console.is_watched) {
                 Ok(wanted) => open_listing(rt, file, wanted, console.input, out, err),
@@ -156,6 +160,18 @@ where
         } => {
             let asked = asked_of(*at, *asked, *values);
             return open_learning(rt, file, asked, console.input, out, err);
+        }
+        Args::Judge {
+            file,
+            scene,
+            csv,
+            lines,
+        } => {
+            let asked = asked_of_judge(*csv, *lines);
+            return match *scene {
+                Some(path) => judge_by_scene(rt, args, file, path, asked, console.input, out, err),
+                None => judge_alone(rt, file, asked, out, err),
+            };
         }
         Args::Show { file } => return open_capture(rt, file, console.is_read, out, err),
         Args::Check { scene }
@@ -271,6 +287,96 @@ where
         }
     };
     end_of_learning(learned, out, err)
+}
+
+/// Opens a scene, and the capture that is to be judged by it, twice where it is a file, and judges it.
+#[inline(never)]
+fn judge_by_scene<R, W, V>(
+    rt: &R,
+    args: &Args<'_>,
+    file: &str,
+    path: &str,
+    asked: AskedOfJudge,
+    input: Stdin,
+    out: &mut W,
+    err: &mut V,
+) -> u8
+where
+    R: Files + AllocGlobal,
+    W: io::Write,
+    V: io::Write,
+{
+    let text = match fs::open(rt, path) {
+        Ok(scene) => read_all(rt.alloc(), &mut Counted::new(scene), MAX_TEXT),
+        Err(error) => return report_file(&Failure::Open, path, &error, out, err),
+    };
+    let text = match text {
+        Ok(text) => text,
+        Err(fault) => return report(&Failure::Line(unread(fault)), out, err),
+    };
+    let text = text.as_slice();
+    let status = if file == "-" {
+        match Frames::of_stream(rt.alloc(), Counted::new(input), None) {
+            Ok(mut frames) => judge_by(rt.alloc(), text, &mut frames, &asked, out, err),
+            Err(_) => end_of_judging(Judged::NoMemory, out, err),
+        }
+    } else {
+        match frames_at(rt, file, out, err) {
+            Ok(mut frames) => judge_by(rt.alloc(), text, &mut frames, &asked, out, err),
+            Err(status) => return status,
+        }
+    };
+    hint_scene(rt.alloc(), args, path, text, status, err);
+    status
+}
+
+/// Opens a capture, and judges it by the line that it shows itself.
+#[inline(never)]
+fn judge_alone<R, W, V>(rt: &R, file: &str, asked: AskedOfJudge, out: &mut W, err: &mut V) -> u8
+where
+    R: Files + AllocGlobal,
+    W: io::Write,
+    V: io::Write,
+{
+    if file == "-" {
+        return report(&Failure::NeedsScene, out, err);
+    }
+    let mut frames = match frames_at(rt, file, out, err) {
+        Ok(frames) => frames,
+        Err(status) => return status,
+    };
+    match fs::open(rt, file) {
+        Ok(again) => {
+            let again = Counted::new(again);
+            judge_by_itself(rt.alloc(), &mut frames, again, &asked, out, err)
+        }
+        Err(error) => report_file(&Failure::Open, file, &error, out, err),
+    }
+}
+
+/// Opens a capture twice, and looks at all its packets; else tells why not, and answers the exit status.
+fn frames_at<R, W, V>(
+    rt: &R,
+    file: &str,
+    out: &mut W,
+    err: &mut V,
+) -> Result<Frames<Counted<R::File>>, u8>
+where
+    R: Files + AllocGlobal,
+    W: io::Write,
+    V: io::Write,
+{
+    match (fs::open(rt, file), fs::open(rt, file)) {
+        (Ok(first), Ok(again)) => {
+            match frames_of(rt.alloc(), Counted::new(first), Counted::new(again)) {
+                Ok(frames) => Ok(frames),
+                Err(judged) => Err(end_of_judging(judged, out, err)),
+            }
+        }
+        (Err(error), _) | (_, Err(error)) => {
+            Err(report_file(&Failure::Open, file, &error, out, err))
+        }
+    }
 }
 
 /// Opens the capture of a listing, standard input where it is `-`, and lists it.

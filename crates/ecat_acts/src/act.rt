@@ -14,7 +14,7 @@ use ecat_tape::unrecorded;
 use std::alloc::Global;
 use std::io::Write;
 
-/// Does a command but `list` and those that go over packets, whose file is open as `source`, and answers the
+/// Does a command but `list`, `learn`, `judge` and those that go over packets, whose file is open as `source`, and answers the
 /// exit status. Each command is a function that is not put in line: the frame here would else be as large as
 /// that of the command with the largest works, and each would pay for it.
 #[inline(never)]
@@ -47,6 +47,7 @@ where
         Args::Vectors => vectors(alloc, out),
         Args::List { .. }
         | Args::Learn { .. }
+        | Args::Judge { .. }
         | Args::Udp { .. }
         | Args::Serve { .. }
         | Args::Master { .. }

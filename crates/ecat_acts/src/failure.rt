@@ -58,6 +58,8 @@ pub enum Failure {
     At,
     /// More than one form of a listing is asked for.
     Forms,
+    /// A stream is to be judged, and no scene is named: a stream is read once, and its line learned of it all.
+    NeedsScene,
     /// The descriptors of packet sockets are no numbers.
     Descriptors,
     /// The state in which slaves are to be left has another name.
@@ -94,6 +96,14 @@ pub fn unbound(fault: BindFault) -> Failure
     }
 }
 
+/// Writes the line of a refusal, and answers the exit status.
+pub(crate) fn refuse<W: Write, V: Write>(line: &str, out: &mut W, err: &mut V) -> u8 {
+    match out.write_all(line.as_bytes()) {
+        Ok(()) => REFUSED,
+        Err(_) => report(&Failure::Line(LineFailure::Output), out, err),
+    }
+}
+
 /// Writes the line of a failure, to the output where the content was refused and to `err` else, and
 /// answers the exit status.
 pub fn report<W: Write, V: Write>(failure: &Failure, out: &mut W, err: &mut V) -> u8 {
@@ -122,6 +132,7 @@ pub fn report<W: Write, V: Write>(failure: &Failure, out: &mut W, err: &mut V) -
             err,
             b"argument: --csv, --faults and --stats are forms of a listing, of which it has one\n",
         ),
+        Failure::NeedsScene => bad_argument(err, b"argument: NeedsScene\n"),
         Failure::Descriptors => bad_argument(
             err,
             b"argument: --raw wants numbers, as 10 or 10,11\n",

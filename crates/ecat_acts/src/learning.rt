@@ -1,6 +1,6 @@
 //! `ecat learn`: the line that a capture shows, as a scene.
 
-use crate::failure::{Failure, report};
+use crate::failure::{Failure, refuse, report};
 use ecat_line::LineFailure;
 use ecat_text::{FAILED, GOOD, REFUSED};
 use ecat_told::{Asked, Learned};
@@ -33,13 +33,5 @@ pub fn end_of_learning<W: Write, V: Write>(learned: Learned, out: &mut W, err: &
             let _ = err.write_all(b"capture: NoMemory\n");
             FAILED
         }
-    }
-}
-
-/// Writes why nothing was learned, and answers the exit status.
-fn refuse<W: Write, V: Write>(line: &str, out: &mut W, err: &mut V) -> u8 {
-    match out.write_all(line.as_bytes()) {
-        Ok(()) => REFUSED,
-        Err(_) => report(&Failure::Line(LineFailure::Output), out, err),
     }
 }

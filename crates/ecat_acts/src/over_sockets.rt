@@ -195,7 +195,9 @@ where
             }
         }
         // They take their sources whole (`open_listing`, `open_learning`), and have none here.
-        Args::List { .. } | Args::Learn { .. } => report(&Failure::Open, out, err),
+        Args::List { .. } | Args::Learn { .. } | Args::Judge { .. } => {
+            report(&Failure::Open, out, err)
+        }
         _ => act(rt.alloc(), args, source, out, err),
     }
 }

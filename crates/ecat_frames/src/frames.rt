@@ -90,6 +90,15 @@ impl<S: Source + Drop> Frames<S> {
         Ok(frames)
     }
 
+    /// Begins again with another reading of the same capture.
+    pub fn begin_again(&mut self, alloc: Global, source: S) {
+        self.capture = Capture::new(alloc, source);
+        self.held.clear();
+        self.given = 0;
+        self.is_read = false;
+        self.ended = None;
+    }
+
     /// Holds the first frames, and looks at them.
     fn hold(&mut self, looked: &mut Looked) -> Result<(), AllocError> {
         for _ in 0..HELD {

@@ -60,7 +60,7 @@ mod whom;
 pub use byte::{Byte, Gate, How};
 pub use found::{ENTRIES, Found, scene_of};
 pub use known::{Known, KnownFault, MAX_SLAVES};
-pub use reading::{Asked, Learned, learn, learn_stream};
+pub use reading::{Asked, Learned, learn, learn_frames, learn_stream};
 pub use registers::{FMMU_PLACE, KEPT, STATION_PLACE, STATUS_PLACE, SYNC_MANAGER_PLACE};
 pub use slave::Slave;
 pub use whom::Whom;

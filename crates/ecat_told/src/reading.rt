@@ -101,8 +101,8 @@ pub fn learn_stream<S: Source + Drop, W: Write>(
     }
 }
 
-/// Learns of frames.
-fn learn_frames<S: Source + Drop, W: Write>(
+/// Learns of the frames that a capture has ahead. The scene goes to `out`.
+pub fn learn_frames<S: Source + Drop, W: Write>(
     alloc: Global,
     frames: &mut Frames<S>,
     asked: &Asked,

@@ -1,0 +1,129 @@
+//! `ecat judge`: which cycles of a capture were not good, by a scene or by the line that it shows itself.
+
+use crate::failure::{Failure, refuse, report};
+use crate::learning::end_of_learning;
+use ecat_frames::{End, Frames, Looked, look};
+use ecat_judge::{Asked, Judged, judge};
+use ecat_line::{LineFailure, scene_of, slaves_of};
+use ecat_source::{Bytes, Source};
+use ecat_text::{FAILED, GOOD, REFUSED};
+use ecat_told::{Asked as AskedOfLine, Learned, learn_frames};
+use std::alloc::Global;
+use std::io::Write;
+
+/// How many lines of runs are printed where the words do not say it.
+const LINES: u32 = 1000;
+
+/// What the words of `judge` say but for its files.
+pub fn asked_of_judge(csv: bool, lines: Option<u32>) -> Asked {
+    Asked {
+        csv,
+        limit: u64::from(lines.unwrap_or(LINES)),
+    }
+}
+
+/// The frames of a capture that is open twice, since the addresses of all packets tell their ways; else how
+/// judging ends.
+pub fn frames_of<S: Source + Drop>(alloc: Global, first: S, again: S) -> Result<Frames<S>, Judged> {
+    let mut looked = Looked::new();
+    match look(alloc, first, &mut looked) {
+        End::SourceFailed => Err(Judged::SourceFailed),
+        End::NoMemory => Err(Judged::NoMemory),
+        End::Whole | End::Damaged(_) => Ok(Frames::of_file(alloc, again, looked.marks(), None)),
+    }
+}
+
+/// Judges a capture by the scene of this text, and answers the exit status.
+pub fn judge_by<S, W, V>(
+    alloc: Global,
+    text: &[u8],
+    frames: &mut Frames<S>,
+    asked: &Asked,
+    out: &mut W,
+    err: &mut V,
+) -> u8
+where
+    S: Source + Drop,
+    W: Write,
+    V: Write,
+{
+    let scene = match scene_of(alloc, &mut Bytes::new(text)) {
+        Ok(scene) => scene,
+        Err(failure) => return report(&Failure::Line(failure), out, err),
+    };
+    let items = scene.items;
+    match slaves_of(alloc, scene.slaves) {
+        Ok(slaves) => {
+            let judged = judge(
+                alloc,
+                frames,
+                slaves.as_slice(),
+                items.as_slice(),
+                asked,
+                out,
+            );
+            end_of_judging(judged, out, err)
+        }
+        Err(failure) => report(&Failure::Line(failure), out, err),
+    }
+}
+
+/// Judges a capture, which `again` has once more, by the line that it shows itself, and answers the exit
+/// status. Where the capture does not tell the whole line, `err` is told so.
+pub fn judge_by_itself<S, W, V>(
+    alloc: Global,
+    frames: &mut Frames<S>,
+    again: S,
+    asked: &Asked,
+    out: &mut W,
+    err: &mut V,
+) -> u8
+where
+    S: Source + Drop,
+    W: Write,
+    V: Write,
+{
+    let line = AskedOfLine {
+        at: None,
+        asked: false,
+        values: false,
+    };
+    let mut text = Vec::new(alloc);
+    let learned = learn_frames(alloc, frames, &line, &mut text);
+    match learned {
+        Learned::Whole | Learned::Damaged(_) => {}
+        Learned::Holes => {
+            let _ = err.write_all(HOLES);
+        }
+        Learned::Closed | Learned::OutputFailed => {
+            return end_of_learning(Learned::NoMemory, out, err);
+        }
+        ended => return end_of_learning(ended, out, err),
+    }
+    frames.begin_again(alloc, again);
+    judge_by(alloc, text.as_slice(), frames, asked, out, err)
+}
+
+/// What helps where a line is not told whole.
+const HOLES: &[u8] = b"the capture does not tell the whole line: ecat learn shows what is missing\n";
+
+/// Tells how judging ended, and answers the exit status: that of a refusal where a cycle was not good or
+/// lost, and where nothing could be judged. Whoever reads the output may close it.
+pub fn end_of_judging<W: Write, V: Write>(judged: Judged, out: &mut W, err: &mut V) -> u8 {
+    match judged {
+        Judged::Good | Judged::Closed => GOOD,
+        Judged::NotGood => REFUSED,
+        Judged::Damaged(fault) => {
+            let _ = writeln!(err, "capture: {fault}");
+            REFUSED
+        }
+        Judged::NoFrames => refuse("judge: NoFrames\n", out, err),
+        Judged::NoItems => refuse("judge: NoItems\n", out, err),
+        Judged::SourceFailed => report(&Failure::Line(LineFailure::Read), out, err),
+        Judged::OutputFailed => report(&Failure::Line(LineFailure::Output), out, err),
+        Judged::NoMemory => {
+            let _ = err.write_all(b"capture: NoMemory\n");
+            FAILED
+        }
+    }
+}

@@ -1,0 +1,5 @@
+pub mod Share
+pub mod Evidence
+pub mod Verdict
+pub mod Sums
+pub mod Without
