@@ -188,7 +188,8 @@ fn first_left<S: Mapped, I: Asking>(
     requires area { 1 ≤ area.count }
     requires last { 1 ≤ last.count }
     ensures { IsLowest
-        (LeavesBytes (controllers_by S.controller line.now) (items_by I.item items.now) slave area last) result }
+        (LeavesBytes (controllers_by S.controller line.now) (items_by I.item items.now) slave area last)
+        result }
 {
     for k in 0..items.len() {
         if leaves(line, &items[k], slave, area, last) {
@@ -209,7 +210,8 @@ fn leaves<S: Mapped, I: Asking>(
     requires slave { slave < length line.now }
     requires area { 1 ≤ area.count }
     requires last { 1 ≤ last.count }
-    ensures { (result ≡ true) ↔ Leaves (controllers_by S.controller line.now) slave area last (I.item item.now) }
+    ensures { (result ≡ true)
+        ↔ Leaves (controllers_by S.controller line.now) slave area last (I.item item.now) }
 {
     writes_some(line, slave, item, area) && !writes_some(line, slave, item, last)
 }
