@@ -3,7 +3,7 @@
  *
  * Four calls, in the order of a cycle, two that tell the copies of one trip from all others, a reader, a
  * call that says where the cable is broken, three that are a cycle by turns, one that makes the frames of a
- * start-up, and four that check the slaves' records and the items before the first cycle. Between the calls
+ * start-up, and five that check the slaves' records and the items before the first cycle. Between the calls
  * of a cycle the master does what it likes: it sends each frame both ways round the ring, works, and
  * receives. With one array for the joined bytes of each frame k, and two seals for each trip:
  *
@@ -100,7 +100,10 @@ enum rmp_code {
     RMP_OTHER_FRAME = 31,   /* by command, index, length or address, or since one of the frames ends there */
     RMP_OTHER_COUNTER = 32, /* by its counter, which is not 0 to 1,023 past that of the seal */
     RMP_NOT_BROADCAST = 33, /* of rmp_where: the frame does not begin with a BRD that goes out */
-    RMP_BAD_COMMAND = 34    /* of rmp_single: there is no such command */
+    RMP_BAD_COMMAND = 34,   /* of rmp_single: there is no such command */
+    /* of rmp_shown, `at` and `sync_manager` being those of an area of outputs that FMMUs map: */
+    RMP_LEFT_BY = 35,         /* item `item` writes a byte of the area and not its last one */
+    RMP_NEVER_COMPLETED = 36  /* no item writes the last byte of the area */
 };
 
 /* What an item does: the codes of its commands on the wire (IEC 61158-4-12). */
@@ -275,6 +278,15 @@ struct rmp_gap {
     uint64_t bit;  /* the logical bit, 8 * byte address + bit */
     uint32_t way;  /* 0 where the master reads through the FMMU, 1 where it writes */
     uint32_t code; /* RMP_GOOD, RMP_NOT_ASKED, RMP_BAD_KIND, RMP_BAD_LENGTH or RMP_BAD_RANGE */
+};
+
+/* What rmp_shown answers. */
+struct rmp_not_shown {
+    size_t at;           /* the slave of the area; of RMP_BAD_.. the item */
+    size_t sync_manager; /* the number of the area's sync manager, from 0 */
+    size_t item;         /* of RMP_LEFT_BY the first item that writes the area and leaves it so, else 0 */
+    uint32_t code; /* RMP_GOOD, RMP_LEFT_BY, RMP_NEVER_COMPLETED, RMP_BAD_KIND, RMP_BAD_LENGTH or
+                      RMP_BAD_RANGE */
 };
 
 /* How far a cycle is. */
@@ -486,13 +498,12 @@ struct rmp_located rmp_where(uint32_t form, const uint8_t *sent, size_t sent_siz
  *
  * Proved: the answer is RMP_FIT exactly where no rule is broken, and else the first rule that is, with the
  * smallest numbers from left to right and the lowest address or bit. Of fit lines alone the promises about
- * cycles hold. Of more than RMP_MAX_SLAVES slaves it is RMP_LONG_LINE. What this call and the three below
+ * cycles hold. Of more than RMP_MAX_SLAVES slaves it is RMP_LONG_LINE. What this call and the four below
  * find by records that were read back of the slaves is so of the line, of `counter` where the line is fit and
  * the item goes where a cycle may.
  *
- * Not looked at: whether an area is written to its last byte (where it is not, a slave counts, and its
- * application is never shown these outputs), and the two further buffers that a controller keeps behind a
- * buffered area.
+ * Not looked at: whether an area is written to its last byte (rmp_shown says so of a cycle's items), and the
+ * two further buffers that a controller keeps behind a buffered area.
  */
 struct rmp_mapping rmp_check(const struct rmp_records *line, size_t slaves);
 
@@ -526,6 +537,21 @@ struct rmp_expectation rmp_expected(const struct rmp_records *line, size_t slave
  */
 struct rmp_gap rmp_covered(const struct rmp_records *line, size_t slaves, const struct rmp_item *items,
                            size_t n);
+
+/*
+ * Says whether the items of a cycle hand each area of outputs that FMMUs map to its application. A controller
+ * hands a buffered area on when its last byte is written: where no item writes that byte, or one writes
+ * others of the area without it, the slave counts all the same, and its application is not shown these
+ * outputs. An item writes what FMMUs for writing map to its logical bytes (LWR, LRW), or its own range at the
+ * slave of its station (FPWR).
+ *
+ * Proved: RMP_GOOD exactly where each item that writes a byte of such an area writes its last one too, and
+ * some item does; else the first area where it is not so, by slave and sync manager, with the first item that
+ * leaves it (RMP_LEFT_BY), or RMP_NEVER_COMPLETED where none leaves it and none completes it. The first item
+ * that is none is named before.
+ */
+struct rmp_not_shown rmp_shown(const struct rmp_records *line, size_t slaves, const struct rmp_item *items,
+                               size_t n);
 
 /* What a code says, in a few words, or "no such code". Written by hand, here alone. */
 static inline const char *rmp_code_text(uint32_t code) {
@@ -565,6 +591,8 @@ static inline const char *rmp_code_text(uint32_t code) {
         "the packet is no copy under this seal: its counter is another",
         "the frame does not begin with a broadcast read",
         "no such command",
+        "an item writes an area of outputs without its last byte",
+        "no item writes the last byte of an area of outputs",
     };
     return code < sizeof texts / sizeof texts[0] ? texts[code] : "no such code";
 }
@@ -633,6 +661,11 @@ RMP_ASSERT(offsetof(struct rmp_gap, fmmu) == 8, "fmmu");
 RMP_ASSERT(offsetof(struct rmp_gap, bit) == 16, "bit");
 RMP_ASSERT(offsetof(struct rmp_gap, way) == 24, "way");
 RMP_ASSERT(offsetof(struct rmp_gap, code) == 28, "code");
+RMP_ASSERT(sizeof(struct rmp_not_shown) == 32, "size of rmp_not_shown");
+RMP_ASSERT(offsetof(struct rmp_not_shown, at) == 0, "at");
+RMP_ASSERT(offsetof(struct rmp_not_shown, sync_manager) == 8, "sync_manager");
+RMP_ASSERT(offsetof(struct rmp_not_shown, item) == 16, "item");
+RMP_ASSERT(offsetof(struct rmp_not_shown, code) == 24, "code");
 RMP_ASSERT(sizeof(struct rmp_cycle) == 16, "size of rmp_cycle");
 RMP_ASSERT(offsetof(struct rmp_cycle, first) == 0, "first");
 RMP_ASSERT(offsetof(struct rmp_cycle, form) == 8, "form");

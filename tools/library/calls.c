@@ -377,7 +377,7 @@ static void singles(void) {
 
 /* Each code has a text of its own. */
 static void texts(void) {
-    for (uint32_t code = 0; code <= RMP_BAD_COMMAND; code++)
+    for (uint32_t code = 0; code <= RMP_NEVER_COMPLETED; code++)
         for (uint32_t other = 0; other < code; other++)
             CHECK(strcmp(rmp_code_text(code), rmp_code_text(other)) != 0);
     CHECK(strcmp(rmp_code_text(RMP_GOOD), "good") == 0);
@@ -385,7 +385,9 @@ static void texts(void) {
     CHECK(strcmp(rmp_code_text(RMP_FAULT_SHORT), "the bytes end before the frame does") == 0);
     CHECK(strcmp(rmp_code_text(RMP_NOT_UNDER_WAY), "the cycle is done or ended") == 0);
     CHECK(strcmp(rmp_code_text(RMP_BAD_COMMAND), "no such command") == 0);
-    CHECK(strcmp(rmp_code_text(RMP_BAD_COMMAND + 1), "no such code") == 0);
+    CHECK(strcmp(rmp_code_text(RMP_NEVER_COMPLETED),
+                 "no item writes the last byte of an area of outputs") == 0);
+    CHECK(strcmp(rmp_code_text(RMP_NEVER_COMPLETED + 1), "no such code") == 0);
 }
 
 /* A byte more than a frame holds goes onto the next one. */
@@ -541,6 +543,46 @@ static void coverage(void) {
     map();
 }
 
+static void shown(const struct rmp_item *asked, size_t n, uint32_t code, size_t at, size_t sync_manager,
+                  size_t item) {
+    struct rmp_not_shown found = rmp_shown(line, 2, asked, n);
+    CHECK(found.code == code && found.at == at && found.sync_manager == sync_manager && found.item == item);
+}
+
+/* Which mapped area of outputs is not shown whole: an area of four bytes, of which FMMUs map some. */
+static void showing(void) {
+    struct rmp_item asked[2] = {{0x00010000, 0, 1, RMP_LRW, 0, 0, 0, 0},
+                                {0x10031001, 0, 1, RMP_FPWR, 0, 0, 0, 0}};
+    map();
+    shown(asked, 1, RMP_LEFT_BY, 0, 2, 0);          /* it writes byte 0 of 0 to 3 */
+    shown(asked, 2, RMP_LEFT_BY, 0, 2, 0);          /* that another writes the last one is no help */
+    shown(asked + 1, 1, RMP_GOOD, 0, 0, 0);         /* a write to the station completes it */
+    shown(NULL, 0, RMP_NEVER_COMPLETED, 0, 2, 0);   /* nobody writes it */
+    asked[1].address = 0x10021001;                  /* the byte before the last one */
+    shown(asked + 1, 1, RMP_LEFT_BY, 0, 2, 0);
+    asked[1].address = 0x10031002;                  /* of another station */
+    shown(asked + 1, 1, RMP_NEVER_COMPLETED, 0, 2, 0);
+    asked[1].kind = 3;
+    shown(asked, 2, RMP_BAD_KIND, 1, 0, 0);
+    maps(0, 2, 0x00010003, 0x1003, 2); /* the last byte too */
+    shown(asked, 1, RMP_LEFT_BY, 0, 2, 0);
+    asked[0].length = 4;
+    shown(asked, 1, RMP_GOOD, 0, 0, 0);
+    asked[0].kind = RMP_LRD;
+    shown(asked, 1, RMP_NEVER_COMPLETED, 0, 2, 0);
+    asked[0].kind = RMP_LWR;
+    area(1, 5, 0x1200, 1, 0x04); /* the second slave's, of one byte */
+    maps(1, 4, 0x00010009, 0x1200, 2);
+    shown(asked, 1, RMP_NEVER_COMPLETED, 1, 5, 0);
+    asked[1] = asked[0];
+    asked[1].address = 0x00010006;
+    shown(asked, 2, RMP_GOOD, 0, 0, 0);
+    area(1, 5, 0x1200, 2, 0x04);
+    shown(asked, 2, RMP_LEFT_BY, 1, 5, 1);
+    CHECK(rmp_shown(NULL, 0, NULL, 0).code == RMP_GOOD);
+    map();
+}
+
 /* A full line, each slave with all its FMMUs in use, and the time that its check takes. */
 static void full_line(void) {
     enum { SLAVES = RMP_MAX_SLAVES, ROUNDS = 20 };
@@ -581,6 +623,7 @@ static struct rmp_located located;
 static struct rmp_mapping mapped;
 static struct rmp_expectation awaited;
 static struct rmp_gap gap_found;
+static struct rmp_not_shown area_found;
 static struct rmp_cycle begun;
 static struct rmp_turn turned;
 static uint8_t waiting[6];
@@ -614,6 +657,7 @@ static const struct rmp_item read_one = {0x11001001, 0, 4, RMP_FPRD, 0, 0, 0, 0}
 static void call_check_item(void) { told = rmp_check_item(line, 2, &read_one); }
 static void call_expected(void) { awaited = rmp_expected(line, 2, items); }
 static void call_covered(void) { gap_found = rmp_covered(line, 2, items, 2); }
+static void call_shown(void) { area_found = rmp_shown(line, 2, items, 2); }
 
 static void call_next(void) {
     begun = rmp_cycle_begin(RMP_UDP);
@@ -665,6 +709,7 @@ int main(void) {
     mappings();
     items_on_a_line();
     coverage();
+    showing();
     full_line();
     begin();
     measure("rmp_frame", call_frame);
@@ -680,6 +725,7 @@ int main(void) {
     measure("rmp_check_item", call_check_item);
     measure("rmp_expected", call_expected);
     measure("rmp_covered", call_covered);
+    measure("rmp_shown", call_shown);
     measure("rmp_cycle_next", call_next);
     measure("rmp_cycle_came", call_came);
     puts(failed ? "calls: not as they should be" : "calls: as they should be");

@@ -41,7 +41,8 @@
 mod mapping;
 mod seals;
 
-pub use mapping::{check, check_item, covered, expected, Gap, Outside, Party, Records, Unfit};
+pub use mapping::{check, check_item, covered, expected, shown};
+pub use mapping::{Gap, NotShown, Outside, Party, Records, Unfit, WhyNotShown};
 pub use seals::{open, seal, single, SEALS, TRIPS};
 
 /// What an item does, by the standard's codes (IEC 61158-4-12).

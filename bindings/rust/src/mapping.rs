@@ -69,6 +69,24 @@ pub struct Gap {
     pub bit: u64,
 }
 
+/// Why the application of a slave is not shown what the items write.
+#[derive(Clone, Copy, PartialEq, Eq, Debug)]
+pub enum WhyNotShown {
+    /// This item writes a byte of the area and not its last one.
+    LeftBy(usize),
+    /// No item writes the last byte of the area.
+    NeverCompleted,
+}
+
+/// An area of outputs that FMMUs map and that the items do not hand to its application.
+#[derive(Clone, Copy, PartialEq, Eq, Debug)]
+pub struct NotShown {
+    /// The sync manager of the area.
+    pub sync_manager: Party,
+    /// Why its application is not shown it.
+    pub why: WhyNotShown,
+}
+
 #[repr(C)]
 struct Mapping {
     slave: usize,
@@ -94,18 +112,28 @@ struct GapAnswer {
     code: u32,
 }
 
+#[repr(C)]
+struct ShownAnswer {
+    at: usize,
+    sync_manager: usize,
+    item: usize,
+    code: u32,
+}
+
 extern "C" {
     fn rmp_check(line: *const Records, slaves: usize) -> Mapping;
     fn rmp_check_item(line: *const Records, slaves: usize, item: *const Item) -> Answer;
     fn rmp_expected(line: *const Records, slaves: usize, item: *const Item) -> Expectation;
     fn rmp_covered(line: *const Records, slaves: usize, items: *const Item, n: usize) -> GapAnswer;
+    fn rmp_shown(line: *const Records, slaves: usize, items: *const Item, n: usize) -> ShownAnswer;
 }
 
 /// Is the line mapped as a cycle needs it? If not, the first fault: that of the first rule that is broken, of
 /// the smallest numbers from left to right, and of the lowest address or bit.
 ///
 /// ```
-/// use rummymaple::{check, covered, expected, Gap, Item, Kind, Party, Records, Unfit};
+/// use rummymaple::{check, covered, expected, shown, Gap, Item, Kind, NotShown, Party, Records, Unfit};
+/// use rummymaple::WhyNotShown;
 ///
 /// // A slave with one byte of outputs at 0x1000, written from the logical byte 0x00010000.
 /// let mut slave = Records { station: 0x1001, ..Records::default() };
@@ -115,10 +143,19 @@ extern "C" {
 /// let write = Item::new(Kind::Lwr, 0x0001_0000, 0, 1, 1);
 /// assert_eq!(expected(&[slave], &write), Ok(1));
 /// assert_eq!(covered(&[slave], &[write]), Ok(None));
+/// assert_eq!(shown(&[slave], &[write]), Ok(None));
 /// let read = Item::new(Kind::Lrd, 0x0001_0000, 0, 1, 0);
 /// let fmmu = Party { slave: 0, number: 0 };
 /// assert_eq!(covered(&[slave], &[read]), Ok(Some(Gap { fmmu, writes: true, bit: 524288 })));
 /// assert_eq!(check(&[slave, slave]), Err(Unfit::TwinStation(0, 1)));
+///
+/// // With two bytes of outputs, of which the second one is not written, its application is shown neither.
+/// slave.sync_managers[2][2] = 2;
+/// let sync_manager = Party { slave: 0, number: 2 };
+/// let why = WhyNotShown::LeftBy(0);
+/// assert_eq!(shown(&[slave], &[write]), Ok(Some(NotShown { sync_manager, why })));
+/// let why = WhyNotShown::NeverCompleted;
+/// assert_eq!(shown(&[slave], &[read]), Ok(Some(NotShown { sync_manager, why })));
 /// ```
 pub fn check(line: &[Records]) -> Result<(), Unfit> {
     // SAFETY: the pointer is that of a slice of that length.
@@ -174,7 +211,23 @@ pub fn covered(line: &[Records], items: &[Item]) -> Result<Option<Gap>, Fault> {
     }
 }
 
+/// The first mapped area of outputs of which an item writes a byte and not the last one, or else of which no
+/// item writes the last byte: a controller hands an area to its application when the last byte is written.
+pub fn shown(line: &[Records], items: &[Item]) -> Result<Option<NotShown>, Fault> {
+    // SAFETY: each pointer is that of a slice of that length.
+    let told = unsafe { rmp_shown(line.as_ptr(), line.len(), items.as_ptr(), items.len()) };
+    let sync_manager = Party { slave: told.at, number: told.sync_manager };
+    let why = match told.code {
+        0 => return Ok(None),
+        35 => WhyNotShown::LeftBy(told.item),
+        36 => WhyNotShown::NeverCompleted,
+        code => return Err(fault(code, told.at)),
+    };
+    Ok(Some(NotShown { sync_manager, why }))
+}
+
 const _: () = assert!(core::mem::size_of::<Records>() == 194);
 const _: () = assert!(core::mem::size_of::<Mapping>() == 48);
 const _: () = assert!(core::mem::size_of::<Expectation>() == 8);
 const _: () = assert!(core::mem::size_of::<GapAnswer>() == 32);
+const _: () = assert!(core::mem::size_of::<ShownAnswer>() == 32);

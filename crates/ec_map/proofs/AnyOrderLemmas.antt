@@ -1,5 +1,5 @@
 -- Whether an item is placed on a fit line does not hang on the order of its slaves.
-use Rattle.std.proofs.Common.{◌≡◌, ℕ, ◌<◌, List, length, get_or, sym, ◌∙◌, ap, refl}
+use Rattle.std.proofs.Common.{◌≡◌, ℕ, ◌<◌, List, length, sym, ◌∙◌, ap}
 use Rattle.std.specs.List.Sorted.{IsPermutation}
 use Rattle.ec_esc.specs.State.{ControllerState, word_at}
 use Rattle.ec_regs.specs.declared.registers.TheConstants.{STATION_ADDRESS}

@@ -1,10 +1,8 @@
 -- Gaps of a line, number by number.
 use Rattle.std.proofs.Common.{◌≡◌, ℕ, ◌+◌, ◌-◌, ◌<◌, ◌≤◌, true, false, List, [], ◌∷◌, length, refl, arith}
-use Rattle.std.proofs.Common.{Option, None, Some, leb, ltb, ap, ◌∙◌, ◌*◌}
-use Rattle.std.specs.List.{list_any}
+use Rattle.std.proofs.Common.{Option, None, Some, leb, ltb, ◌*◌}
 use Rattle.std.specs.Cmp.Derive.{both_true}
 use Rattle.std.proofs.lemmas.Bool.{and_parts, leb-true, ltb-true, le-leb, lt-ltb}
-use Rattle.std.proofs.lemmas.List.Folds.{list_any_at}
 use Rattle.ec_regs.specs.declared.registers.TheConstants.{FMMU_COUNT}
 use Rattle.ec_regs.specs.Pairs.{first_logical, first_physical, pair_count}
 use Rattle.ec_regs.specs.declared.fmmu.Fmmu.{Fmmu}

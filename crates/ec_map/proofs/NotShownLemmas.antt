@@ -1,10 +1,12 @@
 -- Areas of outputs that are not shown, number by number.
 use Rattle.std.proofs.Common.{◌≡◌, ⊎_elim, ℕ, ◌+◌, ◌*◌, ◌/◌, ◌<◌, ◌≤◌, Bool, true, false, cond, ◌&&◌, ◌||◌}
-use Rattle.std.proofs.Common.{leb, List, [], ◌∷◌, length, get_or, Some, None, refl, sym, ◌∙◌, arith}
+use Rattle.std.proofs.Common.{leb, List, [], ◌∷◌, length, get_or, Some, None, refl, sym, ap, ◌∙◌, arith}
 use Rattle.std.specs.List.{slice_get}
-use Rattle.std.proofs.lemmas.Bool.{and_parts, cases_lt}
+use Rattle.std.proofs.lemmas.Bool.{and_parts}
 use Rattle.std.proofs.lemmas.Bool.Decides.{nat_tests}
-use Rattle.std.proofs.lemmas.Option.{slice_get_past, slice_get_read, get_or_from_slice_get}
+use Rattle.std.specs.Option.{option_map}
+use Rattle.std.proofs.lemmas.List.{get_or-map, length-map}
+use Rattle.std.proofs.lemmas.Option.{slice_get-map, slice_get_read, slice_get_within, get_or_from_slice_get}
 use Rattle.ec_regs.specs.declared.address_range.AddressRange.{AddressRange}
 use Rattle.ec_regs.specs.declared.fmmu.Fmmu.{Fmmu}
 use Rattle.ec_regs.specs.declared.registers.TheConstants.{SYNC_MANAGER_COUNT, MEMORY_SIZE}
@@ -17,7 +19,7 @@ use Rattle.ec_areas.proofs.Laws.{active_place}
 use Rattle.ec_esc.specs.State.{ControllerState}
 use Rattle.ec_check.specs.Line.{fmmu_of, sync_manager_of, HasSyncManager}
 use Rattle.ec_check.specs.Order.{IsBefore, IsLowest}
-use Rattle.ec_map.specs.Item.{ItemRecord}
+use Rattle.ec_map.specs.Item.{ItemRecord, items_by}
 use Rattle.ec_map.specs.First.{HasNone, IsFirst, IsFirstOf}
 use Rattle.ec_map.specs.NotShown.{IsNotShown, not_shown_numbers, why_numbers, IsWhy, IsMappedArea, IsLeftBy}
 use Rattle.ec_map.specs.NotShown.{LeavesBytes, WritesBytes}
@@ -87,20 +89,22 @@ IsFirstOf-why line items found area why = record {
 -- ---- why
 
 -- the item that is read under a number is the one of the list
-pub item_there : (items : List ItemRecord) (k : ℕ) (r : ItemRecord) → slice_get items k ≡ Some r
-    → k < length items
-item_there items k r is =
-    ⊎_elim (λ (inside : k < length items). inside)
-    (λ (past : length items ≤ k). absurd (let none = slice_get_past items k past in cc))
-    (cases_lt k (length items))
+pub item_there : {I : Type 0} (item : I → ItemRecord) (items : List I) (k : ℕ) (r : ItemRecord)
+    → slice_get (items_by item items) k ≡ Some r → k < length items
+item_there item items k r is =
+    omega (arith, slice_get_within (items_by item items) k r is, length-map items item)
 
-pub item_same : (items : List ItemRecord) (k : ℕ) (r other : ItemRecord) → r ≡ get_or items k r
-    → slice_get items k ≡ Some other → other ≡ r
-item_same items k r other is at = sym (get_or_from_slice_get items k other r at) ∙ sym is
+pub item_same : {I : Type 0} (item : I → ItemRecord) (items : List I) (k : ℕ) (i : I) (other : ItemRecord)
+    → i ≡ get_or items k i → slice_get (items_by item items) k ≡ Some other → other ≡ item i
+item_same item items k i other is at =
+    sym (get_or_from_slice_get (items_by item items) k other other at)
+    ∙ get_or-map item items k i other (item_there item items k other at)
+    ∙ ap item (sym is)
 
-pub item_at : (items : List ItemRecord) (k : ℕ) (r : ItemRecord) → k < length items → r ≡ get_or items k r
-    → slice_get items k ≡ Some r
-item_at items k r inside is = slice_get_read items (length items) k r refl inside is
+pub item_at : {I : Type 0} (item : I → ItemRecord) (items : List I) (k : ℕ) (i : I) → k < length items
+    → i ≡ get_or items k i → slice_get (items_by item items) k ≡ Some (item i)
+item_at item items k i inside is =
+    slice_get-map item items k ∙ ap (option_map item) (slice_get_read items (length items) k i refl inside is)
 
 -- an area of outputs has a byte
 pub outputs_size : (s : SyncMan) → guards_outputs s ≡ true → 1 ≤ s.length

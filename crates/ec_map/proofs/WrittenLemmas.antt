@@ -5,6 +5,7 @@ use Rattle.std.proofs.lemmas.Bool.{and_parts, cases_lt}
 use Rattle.std.proofs.lemmas.Bool.Decides.{nat_tests}
 use Rattle.ec_regs.specs.AddressRange.{within, share_a_byte}
 use Rattle.ec_regs.specs.Pairs.{first_logical, first_physical}
+use Rattle.ec_regs.specs.declared.address_range.AddressRange.{AddressRange}
 use Rattle.ec_regs.specs.declared.fmmu.Fmmu.{Fmmu}
 use Rattle.ec_wire.specs.declared.kind.Kind.{Kind}
 use Rattle.ec_wire.specs.declared.kind.Kind.TheVariants.{Fpwr}
@@ -13,7 +14,7 @@ use Rattle.ec_check.specs.Line.{station_of, fmmu_of}
 use Rattle.ec_map.specs.Item.{ItemRecord, is_bit_of}
 use Rattle.ec_map.specs.Place.{station_named, ado_named}
 use Rattle.ec_map.specs.Covered.{asks}
-use Rattle.ec_map.specs.Written.{WritesSome, WritesMapped, WritesNamed, PairsRuns}
+use Rattle.ec_map.specs.Written.{WritesSome, WritesMapped, WritesNamed, PairsRuns, ShareByte}
 use Rattle.ec_map.specs.declared.covered.Way.TheVariants.{Writes}
 
 -- ---- ranges of bytes
@@ -121,28 +122,29 @@ runs_from_writes line slave first n r kind some =
 
 -- ---- writes to a station
 
-pub writes_from_range : (line : List ControllerState) (slave first n : ℕ) (r : ItemRecord) → r.kind ≡ Fpwr
-    → station_of line slave ≡ station_named r → 1 ≤ n → 1 ≤ length r.payload
-    → share_a_byte first n (ado_named r) (length r.payload) ≡ true → WritesSome line slave first n r
-writes_from_range line slave first n r kind station some more share =
-    let both = shared_byte first n (ado_named r) (length r.payload) some more share in
-    record {
-      address = both.0;
-      inside = both.1;
-      written = inr (record { kind = kind; station = station; range = both.2 });
-    }
+-- a byte that both ranges have is one that the item writes
+pub writes_from_range : (line : List ControllerState) (slave : ℕ) (bytes range : AddressRange) (r : ItemRecord)
+    → r.kind ≡ Fpwr → station_of line slave ≡ station_named r → range.first ≡ ado_named r
+    → range.count ≡ length r.payload → ShareByte bytes range
+    → WritesSome line slave bytes.first bytes.count r
+writes_from_range line slave bytes range r kind station first count share = record {
+  address = share.address;
+  inside = share.inside;
+  written = inr (record { kind = kind; station = station; range = rw (← first, ← count) share.there });
+}
 
 -- what a write to a station writes it writes there, and in its range
-pub range_from_writes : (line : List ControllerState) (slave first n : ℕ) (r : ItemRecord) → r.kind ≡ Fpwr
-    → WritesSome line slave first n r
-    → (station_of line slave ≡ station_named r) × (share_a_byte first n (ado_named r) (length r.payload) ≡ true)
-range_from_writes line slave first n r kind some =
+pub range_from_writes : (line : List ControllerState) (slave : ℕ) (bytes range : AddressRange) (r : ItemRecord)
+    → r.kind ≡ Fpwr → range.first ≡ ado_named r → range.count ≡ length r.payload
+    → WritesSome line slave bytes.first bytes.count r
+    → (station_of line slave ≡ station_named r) × ShareByte bytes range
+range_from_writes line slave bytes range r kind first count some =
     ⊎_elim
     (λ (mapped : WritesMapped line slave some.address r).
     let parts = and_parts (asks Writes r.kind) (is_bit_of r.address (length r.payload) mapped.bit) mapped.asked in
     absurd (not_named r.kind parts.0 kind))
     (λ (named : WritesNamed line slave some.address r). (
       named.station,
-      share_from_byte first n (ado_named r) (length r.payload) some.address some.inside named.range,
+      record { address = some.address; inside = some.inside; there = rw (first, count) named.range },
     ))
     some.written

@@ -4,6 +4,7 @@
 use Rattle.std.specs.Prelude.{◌≡◌, ◌⊎◌, ℕ, ◌+◌, ◌*◌, ◌/◌, ◌<◌, ◌≤◌, true, List, length}
 use Rattle.ec_regs.specs.AddressRange.{within}
 use Rattle.ec_regs.specs.Pairs.{writes, first_logical, first_physical, pair_count, IsPair}
+use Rattle.ec_regs.specs.declared.address_range.AddressRange.{AddressRange}
 use Rattle.ec_regs.specs.declared.fmmu.Fmmu.{Fmmu}
 use Rattle.ec_wire.specs.declared.kind.Kind.TheVariants.{Fpwr}
 use Rattle.ec_esc.specs.State.{ControllerState}
@@ -46,6 +47,12 @@ pub record WritesSome (line : List ControllerState) (slave from n : ℕ) (r : It
   pub written : WritesByte line slave address r
 
 -- ---- by runs
+
+-- a byte lies in both ranges
+pub record ShareByte (bytes range : AddressRange) : Type 0 where
+  pub address : ℕ
+  pub inside : within bytes.first bytes.count address ≡ true
+  pub there : within range.first range.count address ≡ true
 
 -- the FMMU's pair number j has its physical bit in the run
 pub record IsPairInRun (f : Fmmu) (physical : BitRun) (j : ℕ) : Type 0 where

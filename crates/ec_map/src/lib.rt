@@ -53,7 +53,7 @@ pub use ec_wire::Kind;
 pub use item::Item;
 pub use kind::ItemFault;
 pub use lasting::{placed_in_any_order, shares_by_mapping};
-pub use not_shown::{NotShown, WhyNotShown, first_not_shown};
+pub use not_shown::{NotShown, WhyNotShown, first_area_not_shown, first_not_shown};
 pub use place::{PlaceFault, check_item, placed_item};
 pub use promises::{
     accepted_items, placed_by_mapping, same_shares, shares_by_kind, shares_by_pairs,

@@ -8,9 +8,11 @@ ghost use Rattle.ec_areas.specs.Showing.{last_byte};
 ghost use Rattle.ec_check.specs.Line.{controllers_by, sync_manager_of};
 ghost use Rattle.ec_check.specs.Order.{IsBefore, IsLowest};
 ghost use Rattle.ec_map.specs.First.{Answers, IsFirst};
+ghost use Rattle.ec_map.specs.Item.{items_by};
 ghost use Rattle.ec_map.specs.NotShown.{IsNotShown, AreShown, not_shown_numbers, IsMappedArea, IsWhy};
 ghost use Rattle.ec_map.specs.NotShown.{why_numbers, Leaves, LeavesBytes, WritesBytes};
 
+use crate::asking::Asking;
 use crate::item::Item;
 use crate::line::sync_manager_of;
 use crate::written::{maps_some, writes_some};
@@ -46,12 +48,14 @@ pub struct NotShown {
 /// that an item writes without its last byte, or else whose last byte no item writes: a controller hands an
 /// area to its application when the last byte is written. `None` says that each item which writes such an
 /// area completes it, and that one does.
-pub fn first_not_shown<S: Mapped>(line: &[S], items: &[Item]) -> Option<NotShown>
-    ensures not_shown { IfSome result (IsNotShown (controllers_by S.controller line.now) items.now) }
+pub fn first_area_not_shown<S: Mapped, I: Asking>(line: &[S], items: &[I]) -> Option<NotShown>
+    ensures not_shown { IfSome result
+        (IsNotShown (controllers_by S.controller line.now) (items_by I.item items.now)) }
     ensures first { IfSome result (λ found. (other : NotShown)
-        → IsNotShown (controllers_by S.controller line.now) items.now other
+        → IsNotShown (controllers_by S.controller line.now) (items_by I.item items.now) other
         → ¬ IsBefore (not_shown_numbers other) (not_shown_numbers found)) }
-    ensures shown { IfNone result (AreShown (controllers_by S.controller line.now) items.now) }
+    ensures shown { IfNone result
+        (AreShown (controllers_by S.controller line.now) (items_by I.item items.now)) }
 {
     for slave in 0..line.len() {
         match not_shown_of_slave(line, items, slave) {
@@ -62,11 +66,27 @@ pub fn first_not_shown<S: Mapped>(line: &[S], items: &[Item]) -> Option<NotShown
     None
 }
 
+/// The first area of outputs that is mapped and not shown whole, as [`first_area_not_shown`] says it, of a
+/// master's items.
+pub fn first_not_shown<S: Mapped>(line: &[S], items: &[Item]) -> Option<NotShown>
+    ensures not_shown { IfSome result (IsNotShown (controllers_by S.controller line.now) items.now) }
+    ensures first { IfSome result (λ found. (other : NotShown)
+        → IsNotShown (controllers_by S.controller line.now) items.now other
+        → ¬ IsBefore (not_shown_numbers other) (not_shown_numbers found)) }
+    ensures shown { IfNone result (AreShown (controllers_by S.controller line.now) items.now) }
+{
+    first_area_not_shown(line, items)
+}
+
 /// The first area of a slave.
-fn not_shown_of_slave<S: Mapped>(line: &[S], items: &[Item], slave: usize) -> Option<NotShown>
+fn not_shown_of_slave<S: Mapped, I: Asking>(
+    line: &[S],
+    items: &[I],
+    slave: usize,
+) -> Option<NotShown>
     requires { slave < length line.now }
-    ensures { Answers not_shown_numbers (IsNotShown (controllers_by S.controller line.now) items.now)
-        (slave ∷ []) result }
+    ensures { Answers not_shown_numbers
+        (IsNotShown (controllers_by S.controller line.now) (items_by I.item items.now)) (slave ∷ []) result }
 {
     for number in 0..SYNC_MANAGER_COUNT {
         match not_shown_of_area(line, items, slave, number) {
@@ -78,15 +98,16 @@ fn not_shown_of_slave<S: Mapped>(line: &[S], items: &[Item], slave: usize) -> Op
 }
 
 /// An area of a slave, if it is not shown.
-fn not_shown_of_area<S: Mapped>(
+fn not_shown_of_area<S: Mapped, I: Asking>(
     line: &[S],
-    items: &[Item],
+    items: &[I],
     slave: usize,
     sync_manager: usize,
 ) -> Option<NotShown>
     requires slave { slave < length line.now }
     requires number { sync_manager < SYNC_MANAGER_COUNT }
-    ensures { Answers not_shown_numbers (IsNotShown (controllers_by S.controller line.now) items.now)
+    ensures { Answers not_shown_numbers
+        (IsNotShown (controllers_by S.controller line.now) (items_by I.item items.now))
         (slave ∷ sync_manager ∷ []) result }
 {
     if !is_mapped_area(line, slave, sync_manager) {
@@ -113,9 +134,9 @@ fn is_mapped_area<S: Mapped>(line: &[S], slave: usize, number: usize) -> bool
 }
 
 /// Why an area of outputs is not shown, if it is not.
-fn why_not_shown<S: Mapped>(
+fn why_not_shown<S: Mapped, I: Asking>(
     line: &[S],
-    items: &[Item],
+    items: &[I],
     slave: usize,
     number: usize,
 ) -> Option<WhyNotShown>
@@ -124,8 +145,10 @@ fn why_not_shown<S: Mapped>(
     requires outputs { guards_outputs
         (sync_manager_of (controllers_by S.controller line.now) slave number) ≡ true }
     ensures { MatchOption result
-        ((why : WhyNotShown) → ¬ IsWhy (controllers_by S.controller line.now) items.now slave number why)
-        (IsFirst why_numbers (IsWhy (controllers_by S.controller line.now) items.now slave number)) }
+        ((why : WhyNotShown)
+        → ¬ IsWhy (controllers_by S.controller line.now) (items_by I.item items.now) slave number why)
+        (IsFirst why_numbers
+        (IsWhy (controllers_by S.controller line.now) (items_by I.item items.now) slave number)) }
 {
     let manager = sync_manager_of(line, slave, number);
     let last = last_byte(&manager);
@@ -154,9 +177,9 @@ fn last_byte(manager: &SyncMan) -> AddressRange
 }
 
 /// The first item that writes one of some bytes of the slave, and none of others.
-fn first_left<S: Mapped>(
+fn first_left<S: Mapped, I: Asking>(
     line: &[S],
-    items: &[Item],
+    items: &[I],
     slave: usize,
     area: AddressRange,
     last: AddressRange,
@@ -164,7 +187,9 @@ fn first_left<S: Mapped>(
     requires slave { slave < length line.now }
     requires area { 1 ≤ area.count }
     requires last { 1 ≤ last.count }
-    ensures { IsLowest (LeavesBytes (controllers_by S.controller line.now) items.now slave area last) result }
+    ensures { IsLowest
+        (LeavesBytes (controllers_by S.controller line.now) (items_by I.item items.now) slave area last)
+        result }
 {
     for k in 0..items.len() {
         if leaves(line, &items[k], slave, area, last) {
@@ -175,9 +200,9 @@ fn first_left<S: Mapped>(
 }
 
 /// Does the item write one of some bytes of the slave, and none of others?
-fn leaves<S: Mapped>(
+fn leaves<S: Mapped, I: Asking>(
     line: &[S],
-    item: &Item,
+    item: &I,
     slave: usize,
     area: AddressRange,
     last: AddressRange,
@@ -185,19 +210,27 @@ fn leaves<S: Mapped>(
     requires slave { slave < length line.now }
     requires area { 1 ≤ area.count }
     requires last { 1 ≤ last.count }
-    ensures { (result ≡ true) ↔ Leaves (controllers_by S.controller line.now) slave area last item.now }
+    ensures { (result ≡ true)
+        ↔ Leaves (controllers_by S.controller line.now) slave area last (I.item item.now) }
 {
     writes_some(line, slave, item, area) && !writes_some(line, slave, item, last)
 }
 
 /// Does an item write one of these bytes of the slave?
-fn is_written<S: Mapped>(line: &[S], items: &[Item], slave: usize, bytes: AddressRange) -> bool
+fn is_written<S: Mapped, I: Asking>(
+    line: &[S],
+    items: &[I],
+    slave: usize,
+    bytes: AddressRange,
+) -> bool
     requires slave { slave < length line.now }
     requires some { 1 ≤ bytes.count }
     ensures yes { IsTrue result
-        → (k : ℕ) × WritesBytes (controllers_by S.controller line.now) items.now slave bytes k }
+        → (k : ℕ)
+        × WritesBytes (controllers_by S.controller line.now) (items_by I.item items.now) slave bytes k }
     ensures no { IsFalse result
-        → (k : ℕ) → ¬ WritesBytes (controllers_by S.controller line.now) items.now slave bytes k }
+        → (k : ℕ)
+        → ¬ WritesBytes (controllers_by S.controller line.now) (items_by I.item items.now) slave bytes k }
 {
     for k in 0..items.len() {
         if writes_some(line, slave, &items[k], bytes) {

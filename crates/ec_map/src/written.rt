@@ -6,10 +6,10 @@ ghost use Rattle.ec_check.specs.Line.{controllers_by};
 ghost use Rattle.ec_wire.specs.declared.kind.Kind.TheVariants.{Fpwr};
 ghost use Rattle.ec_map.specs.Covered.{asks};
 ghost use Rattle.ec_map.specs.Written.{WritesSome, WritesRun, WritesRuns};
-ghost use Rattle.ec_map.specs.Written.{MapsRun, PairsRuns};
+ghost use Rattle.ec_map.specs.Written.{MapsRun, PairsRuns, ShareByte};
 ghost use Rattle.ec_map.specs.declared.covered.Way.TheVariants.{Writes};
 
-use crate::item::Item;
+use crate::asking::Asking;
 use crate::line::{fmmu_of, station_of};
 use ec_check::Mapped;
 use ec_regs::registers::FMMU_COUNT;
@@ -37,16 +37,17 @@ fn bits_of(bytes: AddressRange) -> BitRun
 }
 
 /// Does the item write one of the bytes, of which there are some?
-pub(crate) fn writes_some<S: Mapped>(
+pub(crate) fn writes_some<S: Mapped, I: Asking>(
     line: &[S],
     slave: usize,
-    item: &Item,
+    item: &I,
     bytes: AddressRange,
 ) -> bool
     requires slave { slave < length line.now }
     requires some { 1 ≤ bytes.count }
     ensures { (result ≡ true)
-        ↔ WritesSome (controllers_by S.controller line.now) slave bytes.first bytes.count item.now }
+        ↔ WritesSome (controllers_by S.controller line.now) slave bytes.first bytes.count
+        (I.item item.now) }
 {
     match item.kind() {
         Kind::Lwr | Kind::Lrw => writes_mapped(line, slave, item, bytes),
@@ -56,33 +57,53 @@ pub(crate) fn writes_some<S: Mapped>(
 }
 
 /// Does the logical item write one of the bytes through FMMUs of the slave?
-fn writes_mapped<S: Mapped>(line: &[S], slave: usize, item: &Item, bytes: AddressRange) -> bool
+fn writes_mapped<S: Mapped, I: Asking>(
+    line: &[S],
+    slave: usize,
+    item: &I,
+    bytes: AddressRange,
+) -> bool
     requires slave { slave < length line.now }
-    requires kind { asks Writes item.now.kind ≡ true }
+    requires kind { asks Writes (I.item item.now).kind ≡ true }
     ensures { (result ≡ true)
-        ↔ WritesSome (controllers_by S.controller line.now) slave bytes.first bytes.count item.now }
+        ↔ WritesSome (controllers_by S.controller line.now) slave bytes.first bytes.count
+        (I.item item.now) }
 {
     let first = 8 * u64::from(item.address());
     let logical = BitRun {
         from: first,
-        to: first + 8 * item.len() as u64,
+        to: first + 8 * u64::from(item.count()),
     };
     pairs_runs(line, slave, logical, bits_of(bytes))
 }
 
 /// Does the write to a station write one of the bytes?
-fn writes_named<S: Mapped>(line: &[S], slave: usize, item: &Item, bytes: AddressRange) -> bool
+fn writes_named<S: Mapped, I: Asking>(
+    line: &[S],
+    slave: usize,
+    item: &I,
+    bytes: AddressRange,
+) -> bool
     requires slave { slave < length line.now }
     requires some { 1 ≤ bytes.count }
-    requires kind { item.now.kind ≡ Fpwr }
+    requires kind { (I.item item.now).kind ≡ Fpwr }
     ensures { (result ≡ true)
-        ↔ WritesSome (controllers_by S.controller line.now) slave bytes.first bytes.count item.now }
+        ↔ WritesSome (controllers_by S.controller line.now) slave bytes.first bytes.count
+        (I.item item.now) }
 {
     let range = AddressRange {
         first: ado_of(item.address()),
-        count: item.len() as u16,
+        count: item.count(),
     };
-    station_of(line, slave) == adp_of(item.address()) && bytes.meets(&range)
+    station_of(line, slave) == adp_of(item.address()) && share_a_byte(bytes, range)
+}
+
+/// Do two ranges share a byte, where the first one has some?
+fn share_a_byte(bytes: AddressRange, range: AddressRange) -> bool
+    requires { 1 ≤ bytes.count }
+    ensures { (result ≡ true) ↔ ShareByte bytes range }
+{
+    range.count > 0 && bytes.meets(&range)
 }
 
 /// Does an FMMU for writing of the slave map one of the bytes?

@@ -13,5 +13,6 @@ pub mod SealLemmas
 pub mod ImageLemmas
 pub mod TurnImageLemmas
 pub mod SameLineLemmas
+pub mod SameAreaLemmas
 pub mod PacketLemmas
 pub mod CallLemmas

@@ -58,7 +58,7 @@ fmmu_read r c i are there =
     (omega (arith, there)))
 
 -- each sync manager
-sync_manager_read : (r : Records) (c : ControllerState) (i : ℕ) → AreOf r c → i < 8
+pub sync_manager_read : (r : Records) (c : ControllerState) (i : ℕ) → AreOf r c → i < 8
     → sync_manager_at (memory_of r) i ≡ sync_manager_at c.memory i
 unfolding sync_manager_at
 sync_manager_read r c i are there =

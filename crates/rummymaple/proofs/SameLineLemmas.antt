@@ -8,10 +8,10 @@ use Rattle.std.specs.List.{list_any}
 use Rattle.ec_regs.specs.declared.fmmu.Fmmu.{Fmmu}
 use Rattle.ec_regs.specs.declared.registers.TheConstants.{PROCESS_MEMORY}
 use Rattle.ec_wire.specs.Datagram.{adp_of, ado_of}
-use Rattle.ec_areas.specs.Records.{fmmu_at, sync_managers_of}
+use Rattle.ec_areas.specs.Records.{fmmu_at, sync_manager_at, sync_managers_of}
 use Rattle.ec_esc.specs.State.{ControllerState}
 use Rattle.ec_check.specs.Fit.{IsFit}
-use Rattle.ec_check.specs.Line.{controller_of, station_of, fmmu_of}
+use Rattle.ec_check.specs.Line.{controller_of, station_of, fmmu_of, sync_manager_of}
 use Rattle.ec_check.specs.Records.{controller_with}
 use Rattle.ec_check.specs.Rules.{MapsLogical}
 use Rattle.ec_check.specs.declared.records.Records.{Records}
@@ -33,7 +33,7 @@ use Rattle.rummymaple.specs.ReadBack.{AreOf, AreOfLine}
 use Rattle.rummymaple.specs.declared.item.Item.{Item}
 use Rattle.rummymaple.proofs.ImageLemmas.{length-range}
 use Rattle.rummymaple.proofs.ItemLemmas.{taken}
-use Rattle.rummymaple.proofs.ReadBackLemmas.{fmmu_read, sync_managers_read, line_read}
+use Rattle.rummymaple.proofs.ReadBackLemmas.{fmmu_read, sync_manager_read, sync_managers_read, line_read}
 
 -- ---- lines of which the checks find the same
 
@@ -43,13 +43,15 @@ pub record SameLine (x y : List ControllerState) : Type 0 where
   pub managers : (k : ℕ) → k < length x
       → sync_managers_of (controller_of x k).memory ≡ sync_managers_of (controller_of y k).memory
   pub fmmu : (k n : ℕ) → k < length x → n < 8 → fmmu_of x k n ≡ fmmu_of y k n
+  pub manager : (k n : ℕ) → k < length x → n < 8 → sync_manager_of x k n ≡ sync_manager_of y k n
 
-same-back : (x y : List ControllerState) → SameLine x y → SameLine y x
+pub same-back : (x y : List ControllerState) → SameLine x y → SameLine y x
 same-back x y same = record {
   count = sym same.count;
   station = λ k. sym (same.station k);
   managers = λ k inside. sym (same.managers k (omega (arith, inside, same.count)));
   fmmu = λ k n inside there. sym (same.fmmu k n (omega (arith, inside, same.count)) there);
+  manager = λ k n inside there. sym (same.manager k n (omega (arith, inside, same.count)) there);
 }
 
 -- a slave of the line, and its records
@@ -76,6 +78,14 @@ same-fmmu rs line k n are inside there =
     ap (λ (c : ControllerState). fmmu_at c.memory n) read.is
     ∙ fmmu_read read.own (controller_of line k) n read.of there
 
+same-manager : (rs : List Records) (line : List ControllerState) (k n : ℕ) → AreOfLine rs line → k < length line
+    → n < 8 → sync_manager_of (line_of rs) k n ≡ sync_manager_of line k n
+unfolding sync_manager_of
+same-manager rs line k n are inside there =
+    let read : SlaveRead rs line k = slave-read rs line k are inside in
+    ap (λ (c : ControllerState). sync_manager_at c.memory n) read.is
+    ∙ sync_manager_read read.own (controller_of line k) n read.of there
+
 pub same-line : (rs : List Records) (line : List ControllerState) → AreOfLine rs line → SameLine (line_of rs) line
 same-line rs line are =
     let count : length (line_of rs) ≡ length line = same_length line (line_of rs) (line_read rs line are) in
@@ -87,6 +97,7 @@ same-line rs line are =
           ap (λ (c : ControllerState). sync_managers_of c.memory) read.is
           ∙ sync_managers_read read.own (controller_of line k) read.of;
       fmmu = λ k n inside there. same-fmmu rs line k n are (omega (arith, inside, count)) there;
+      manager = λ k n inside there. same-manager rs line k n are (omega (arith, inside, count)) there;
     }
 
 -- ---- where an item may go
@@ -132,7 +143,7 @@ asks-same image i is = record {
       ∙ sym (length-replicate i.length 0);
 }
 
-asks-back : (r s : ItemRecord) → AsksTheSame r s → AsksTheSame s r
+pub asks-back : (r s : ItemRecord) → AsksTheSame r s → AsksTheSame s r
 asks-back r s asks =
     record { kind = sym asks.kind; address = sym asks.address; size = sym asks.size }
 

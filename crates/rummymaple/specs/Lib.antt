@@ -18,4 +18,5 @@ pub mod Image
 pub mod Calls
 pub mod Mapping
 pub mod Asked
+pub mod Shown
 pub mod ReadBack

@@ -14,7 +14,8 @@ use Rattle.rummymaple.specs.declared.numbers.Code.TheVariants.{FaultTooLong, Fau
 use Rattle.rummymaple.specs.declared.numbers.Code.TheVariants.{FaultMoreAtEnd, FaultLeftOver, FaultTrailing}
 use Rattle.rummymaple.specs.declared.numbers.Code.TheVariants.{NotUnderWay, OutsideRead, OutsideWrite}
 use Rattle.rummymaple.specs.declared.numbers.Code.TheVariants.{NotAsked, BadSeal, OtherFrame, OtherCounter}
-use Rattle.rummymaple.specs.declared.numbers.Code.TheVariants.{NotBroadcast, BadCommand}
+use Rattle.rummymaple.specs.declared.numbers.Code.TheVariants.{NotBroadcast, BadCommand, LeftBy}
+use Rattle.rummymaple.specs.declared.numbers.Code.TheVariants.{NeverCompleted}
 use Rattle.rummymaple.specs.declared.numbers.Copy.{Copy}
 use Rattle.rummymaple.specs.declared.numbers.Copy.TheVariants.{Lost, Came, NoFrame}
 
@@ -55,6 +56,8 @@ number_of OtherFrame = 31
 number_of OtherCounter = 32
 number_of NotBroadcast = 33
 number_of BadCommand = 34
+number_of LeftBy = 35
+number_of NeverCompleted = 36
 
 -- the code of a fault of bytes that are no frame
 abbrev pub fault_code : FaultKind → Code

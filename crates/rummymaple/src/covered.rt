@@ -109,7 +109,7 @@ fn request_fault(item: &Item) -> Option<Code>
 }
 
 /// The first item that is none.
-fn first_none(items: &[Item]) -> Option<Refused>
+pub(crate) fn first_none(items: &[Item]) -> Option<Refused>
     ensures { MatchOption result (AreItems items.now) (λ none. IsFirstNone items.now none.at none.why) }
 {
     for k in 0..items.len() {

@@ -33,21 +33,22 @@
 //!   fault with its place (`ec_wire`, `IsFirstFault`);
 //! - [`rmp_where`]: what is known of the links is exactly that the packets can arrive so (`ec_diag`,
 //!   `Tells`), and over a trip it is so ([`what_is_told_is_so`]);
-//! - [`rmp_check`], [`rmp_check_item`], [`rmp_expected`] and [`rmp_covered`]: before the first cycle, by the
-//!   slaves' records alone, whether the line is mapped as a cycle needs it (`ec_check`, `IsFit`), where an
-//!   item may go, by how much its counter moves, and whether all that is mapped is asked for (`ec_map`); of
-//!   records that were read back it is so of the line itself ([`records_are_the_line`]);
+//! - [`rmp_check`], [`rmp_check_item`], [`rmp_expected`], [`rmp_covered`] and [`rmp_shown`]: before the first
+//!   cycle, by the slaves' records alone, whether the line is mapped as a cycle needs it (`ec_check`,
+//!   `IsFit`), where an item may go, by how much its counter moves, whether all that is mapped is asked for,
+//!   and whether each mapped area of outputs is shown whole to its application (`ec_map`); of records that
+//!   were read back it is so of the line itself ([`records_are_the_line`]);
 //! - [`rmp_cycle_next`] and [`rmp_cycle_came`]: the cycle as a state machine over a struct of the caller's;
 //!   its image stays as it is until the last frame is good, and its turns are calls ([`turns_are_a_cycle`]);
 //! - [`calls_are_a_cycle`]: where every verdict is good, the calls in their order are a good cycle of
 //!   `ec_master::run_cycle` over ports that give what came, with all that this certifies.
 //!
 //! Each export answers by a struct of numbers, and its contract says of which end they are the numbers
-//! (`Join`, `Seals`, `Single`, `Frame`, `Judge`, `Read`, `Cable`, `Turn`, `Mapping` and `Asked` of specs/).
-//! What an item is stands in `Items`, the controller of a slave's records in `ec_check` (`Records`), what a
-//! joined frame gives an item in `Answers`, the calls in their order in `Cycle`, and turns in `Turns`. A call
-//! needs less than 8 KB of stack: nothing that has the size of a frame is moved or made twice where it can
-//! stay in its place.
+//! (`Join`, `Seals`, `Single`, `Frame`, `Judge`, `Read`, `Cable`, `Turn`, `Mapping`, `Asked` and `Shown` of
+//! specs/). What an item is stands in `Items`, the controller of a slave's records in `ec_check` (`Records`),
+//! what a joined frame gives an item in `Answers`, the calls in their order in `Cycle`, and turns in `Turns`.
+//! A call needs less than 8 KB of stack: nothing that has the size of a frame is moved or made twice where it
+//! can stay in its place.
 
 mod answered;
 mod asked;
@@ -69,6 +70,7 @@ mod promises;
 mod read;
 mod room;
 mod seal;
+mod shown;
 mod single;
 mod spell;
 mod store;
@@ -95,6 +97,7 @@ pub use promises::{
 };
 pub use read::{DatagramPlace, ReadAnswer, ReadEnd, rmp_read};
 pub use seal::{SealEnd, rmp_seal};
+pub use shown::{ShownAnswer, ShownEnd, rmp_shown};
 pub use single::{SingleEnd, rmp_single};
 pub use store::{StoreEnd, rmp_store};
 

@@ -78,6 +78,10 @@ pub enum Code {
     NotBroadcast,
     /// The code of a command is none.
     BadCommand,
+    /// An item writes a byte of a mapped area of outputs and not its last one.
+    LeftBy,
+    /// No item writes the last byte of a mapped area of outputs.
+    NeverCompleted,
 }
 
 impl Code {

@@ -12,9 +12,11 @@ ghost use Rattle.ec_check.specs.Fit.{IsFit};
 ghost use Rattle.ec_check.specs.Mapping.{mapping};
 ghost use Rattle.ec_map.specs.Covered.{IsGap};
 ghost use Rattle.ec_map.specs.Item.{IsItem};
+ghost use Rattle.ec_map.specs.NotShown.{IsNotShown};
 ghost use Rattle.ec_map.specs.Place.{IsPlaced, IsPlaceFault};
 ghost use Rattle.ec_map.specs.Share.{expected_of};
 ghost use Rattle.ec_map.specs.declared.covered.Gap.{Gap};
+ghost use Rattle.ec_map.specs.declared.not_shown.NotShown.{NotShown};
 ghost use Rattle.ec_map.specs.declared.place.PlaceFault.{PlaceFault};
 ghost use Rattle.ec_ring.specs.Arrivals.{arrivals_of};
 ghost use Rattle.ec_ring.specs.declared.port.Port.TheVariants.{A, B};
@@ -169,8 +171,9 @@ pub fn image_has_the_answers()
 /// an image, goes where a cycle may not on the line exactly where it does by the records, at the slave that
 /// they name (`outside`, [`rmp_check_item`](crate::rmp_check_item)); where it does not, and the records are
 /// fit, the line adds to its counter what is expected by the records (`expected`,
-/// [`rmp_expected`](crate::rmp_expected)); and the same mapped bits are asked for by no item (`gaps`,
-/// [`rmp_covered`](crate::rmp_covered)).
+/// [`rmp_expected`](crate::rmp_expected)); the same mapped bits are asked for by no item (`gaps`,
+/// [`rmp_covered`](crate::rmp_covered)); and the same mapped areas of outputs are not shown whole (`areas`,
+/// [`rmp_shown`](crate::rmp_shown)).
 pub fn records_are_the_line()
     ensures mapping { (records : List Records) (line : List ControllerState) → AreOfLine records line
         → mapping (line_of records) ≡ mapping line }
@@ -188,6 +191,10 @@ pub fn records_are_the_line()
     ensures gaps { (records : List Records) (line : List ControllerState) (image : List ℕ)
         (items : List Item) (gap : Gap) → AreOfLine records line → AreTaken (length image) items
         → IsGap (line_of records) (requests items) gap ↔ IsGap line (map (asked image) items) gap }
+    ensures areas { (records : List Records) (line : List ControllerState) (image : List ℕ)
+        (items : List Item) (found : NotShown) → AreOfLine records line → AreTaken (length image) items
+        → IsNotShown (line_of records) (requests items) found
+        ↔ IsNotShown line (map (asked image) items) found }
 {}
 
 /// A packet opens under one seal alone, and as what arrives of the frame without it. What [`rmp_open`] opens

@@ -2,7 +2,7 @@
 //! mapped to the logical byte 0x00010000.
 
 use super::asserts::assert_same;
-use crate::{Item, Records, rmp_check, rmp_check_item, rmp_covered, rmp_expected};
+use crate::{Item, Records, rmp_check, rmp_check_item, rmp_covered, rmp_expected, rmp_shown};
 use std::process::Abort;
 
 /// The records of the slave.
@@ -76,4 +76,19 @@ fn what_is_written_alone_is_not_covered(rt: HostRuntime) {
     assert_same(&rt, (gap.code, gap.fmmu, gap.way), (29, 1, 0));
     assert_same(&rt, rmp_covered(&[slave(0x1001)], &[logical(12)]).code, 0);
     assert_same(&rt, rmp_check_item(&[slave(0x1001)], &logical(12)).code, 0);
+}
+
+#[test]
+fn an_area_is_shown_by_its_last_byte(rt: HostRuntime) {
+    assert_same(&rt, rmp_shown(&[slave(0x1001)], &[logical(12)]).code, 0);
+    let unwritten = rmp_shown(&[slave(0x1001)], &[logical(10)]);
+    assert_same(
+        &rt,
+        (unwritten.code, unwritten.at, unwritten.sync_manager),
+        (36, 0, 2),
+    );
+    let mut longer = slave(0x1001);
+    longer.sync_managers[18] = 2;
+    let left = rmp_shown(&[longer], &[logical(10), logical(12)]);
+    assert_same(&rt, (left.code, left.sync_manager, left.item), (35, 2, 1));
 }

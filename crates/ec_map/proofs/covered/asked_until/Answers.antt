@@ -1,7 +1,7 @@
-use Rattle.std.proofs.Common.{◌≡◌, ◌<◌, ℕ, List, [], true, false, get_or, length, refl, sym, ap, ◌∙◌, arith}
+use Rattle.std.proofs.Common.{◌≡◌, ◌<◌, ℕ, List, [], false, get_or, length, refl, sym, ap, ◌∙◌, arith}
 use Rattle.std.proofs.lemmas.List.{get_or-map, length-map}
 use Rattle.std.proofs.lemmas.List.Folds.{list_any_more, list_any_at}
-use Rattle.ec_map.specs.Covered.{asks_bit, is_asked}
+use Rattle.ec_map.specs.Covered.{asks_bit}
 use Rattle.ec_map.specs.Item.{ItemRecord, items_by, new_item}
 use Rattle.ec_map.proofs.CoveredLemmas.{asked_run}
 use Rattle.ec_map.proofs.covered.asked_until.Goals as goal

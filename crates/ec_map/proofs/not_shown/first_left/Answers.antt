@@ -7,15 +7,15 @@ pub loop-k-preserved : goal.loop-k-preserved
 loop-k-preserved g c =
     below_more _ _ c.loop-k.invariant
     (λ left.
-    let same = item_same c.args.items.now c.loop-k.k c.index-items-k.result left.item c.index-items-k.is
+    let same = item_same g.I.Asking.item c.args.items.now c.loop-k.k c.index-items-k.result left.item c.index-items-k.is
     left.is in
     both_ways c.leaves.result c.if-leaves.false (c.leaves.ensures.1 (rw (← same) left.leaves)))
 
 pub returns-then-leaves : goal.returns-then-leaves
 returns-then-leaves g c = (
   record {
-    item = c.index-items-k.result;
-    is = item_at c.args.items.now c.loop-k.k c.index-items-k.result (omega arith) c.index-items-k.is;
+    item = g.I.Asking.item c.index-items-k.result;
+    is = item_at g.I.Asking.item c.args.items.now c.loop-k.k c.index-items-k.result (omega arith) c.index-items-k.is;
     leaves = c.leaves.ensures.0 c.if-leaves.true;
   },
   λ m left.
@@ -25,5 +25,5 @@ returns-then-leaves g c = (
 
 pub returns : goal.returns
 returns g c = λ k left.
-    let inside = item_there c.args.items.now k left.item left.is in
+    let inside = item_there g.I.Asking.item c.args.items.now k left.item left.is in
     c.loop-k.invariant k (omega arith) left

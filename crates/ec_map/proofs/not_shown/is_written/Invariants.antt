@@ -1,7 +1,8 @@
 use Rattle.std.proofs.Common.{ℕ, ◌<◌}
 use Rattle.ec_check.specs.Line.{controllers_by}
+use Rattle.ec_map.specs.Item.{items_by}
 use Rattle.ec_map.specs.NotShown.{WritesBytes}
 use Rattle.ec_map.proofs.not_shown.is_written.Given as goal
 
 abbrev pub invariant-loop-k : goal.invariant-loop-k
-invariant-loop-k g l = (n : ℕ) → n < l.k → ¬ WritesBytes (controllers_by g.S.Mapped.controller l.line) l.items l.slave l.bytes n
+invariant-loop-k g l = (n : ℕ) → n < l.k → ¬ WritesBytes (controllers_by g.S.Mapped.controller l.line) (items_by g.I.Asking.item l.items) l.slave l.bytes n

@@ -1,6 +1,7 @@
 use Rattle.std.proofs.Common.{◌≡◌, ap, ◌∙◌, refl}
 use Rattle.ec_regs.specs.SyncMan.{guards_outputs}
 use Rattle.ec_check.specs.Line.{controllers_by, sync_manager_of}
+use Rattle.ec_map.specs.Item.{items_by}
 use Rattle.ec_map.proofs.NotShownLemmas.{area_of, last_of, outputs_size, outputs_end, IsFirst-left}
 use Rattle.ec_map.proofs.NotShownLemmas.{IsFirst-never, no_why}
 use Rattle.ec_map.proofs.not_shown.why_not_shown.Goals as goal
@@ -28,7 +29,7 @@ returns-in-Some g c =
     c.area.ensures ∙ ap area_of is in
     let last : c.last_byte-last.result ≡ last_of (sync_manager_of line c.args.slave c.args.number) =
     c.last_byte-last.ensures ∙ ap last_of is in
-    IsFirst-left line c.args.items.now c.args.slave c.args.number c.in-Some.item
+    IsFirst-left line (items_by g.I.Asking.item c.args.items.now) c.args.slave c.args.number c.in-Some.item
     (rw (← area, ← last) c.in-Some.ensures)
 
 pub returns-then-is_written : goal.returns-then-is_written
@@ -39,7 +40,7 @@ returns-then-is_written g c =
     c.area.ensures ∙ ap area_of is in
     let last : c.last_byte-last.result ≡ last_of (sync_manager_of line c.args.slave c.args.number) =
     c.last_byte-last.ensures ∙ ap last_of is in
-    no_why line c.args.items.now c.args.slave c.args.number (rw (← area, ← last) c.in-None.ensures)
+    no_why line (items_by g.I.Asking.item c.args.items.now) c.args.slave c.args.number (rw (← area, ← last) c.in-None.ensures)
     (rw (← last) (c.if-is_written.ensures.yes refl))
 
 pub returns-else-is_written : goal.returns-else-is_written
@@ -50,5 +51,5 @@ returns-else-is_written g c =
     c.area.ensures ∙ ap area_of is in
     let last : c.last_byte-last.result ≡ last_of (sync_manager_of line c.args.slave c.args.number) =
     c.last_byte-last.ensures ∙ ap last_of is in
-    IsFirst-never line c.args.items.now c.args.slave c.args.number (rw (← area, ← last) c.in-None.ensures)
+    IsFirst-never line (items_by g.I.Asking.item c.args.items.now) c.args.slave c.args.number (rw (← area, ← last) c.in-None.ensures)
     (rw (← last) (c.if-is_written.ensures.no refl))

@@ -1,5 +1,6 @@
 use Rattle.rummymaple.proofs.ReadBackLemmas.{line_read, fit_read, fit_told}
 use Rattle.rummymaple.proofs.SameLineLemmas.{outside-same, expected-same, gaps-same}
+use Rattle.rummymaple.proofs.SameAreaLemmas.{areas-same}
 use Rattle.rummymaple.proofs.promises.records_are_the_line.Goals as goal
 
 pub returns-clause-mapping : goal.returns-clause-mapping
@@ -19,3 +20,6 @@ returns-clause-expected c = expected-same
 
 pub returns-clause-gaps : goal.returns-clause-gaps
 returns-clause-gaps c = gaps-same
+
+pub returns-clause-areas : goal.returns-clause-areas
+returns-clause-areas c = areas-same
