@@ -1,0 +1,167 @@
+//! The judging of a capture.
+
+use crate::page::Page;
+use crate::trial::Trial;
+use ec_map::{Item, Mapped};
+use ecat_capture::CaptureFault;
+use ecat_frames::{End, Frames};
+use ecat_source::Source;
+use std::alloc::{AllocError, Global};
+use std::io::{self, ErrorKind, Write};
+
+/// How many bytes are gathered before they are written.
+const PIECE: usize = 65_536;
+
+/// What is asked of a capture.
+#[derive(Clone, Copy, Debug, PartialEq, Eq)]
+pub struct Asked {
+    /// Runs and losses are rows of columns; the sums are left out.
+    pub csv: bool,
+    /// How many lines of runs and losses are told. Further ones are counted.
+    pub limit: u64,
+}
+
+/// How the judging of a capture ended.
+#[derive(Clone, Copy, Debug, PartialEq, Eq)]
+pub enum Judged {
+    /// All items came back, with the counters that the line gives.
+    Good,
+    /// Not all did.
+    NotGood,
+    /// What stands in front of the place where the capture is damaged was judged.
+    Damaged(CaptureFault),
+    /// The capture has no frame.
+    NoFrames,
+    /// No item of the scene went by with a counter that moved.
+    NoItems,
+    /// A read of the source failed.
+    SourceFailed,
+    /// Who read the output has closed it.
+    Closed,
+    /// A write to the output failed.
+    OutputFailed,
+    /// Memory ran out.
+    NoMemory,
+}
+
+/// Why judging stops in front of its end.
+#[derive(Clone, Copy)]
+enum Stop {
+    Closed,
+    OutputFailed,
+    NoMemory,
+}
+
+impl From<AllocError> for Stop {
+    fn from(_failed: AllocError) -> Stop {
+        Stop::NoMemory
+    }
+}
+
+/// Writes what is gathered.
+fn flush<W: Write>(page: &mut Page, out: &mut W) -> Result<(), Stop> {
+    if page.text.is_empty() {
+        return Ok(());
+    }
+    let written = write_all(out, page.text.as_str().as_bytes());
+    page.text.clear();
+    written
+}
+
+/// Writes and flushes all of a text.
+fn write_all<W: Write>(out: &mut W, text: &[u8]) -> Result<(), Stop> {
+    match out.write_all(text) {
+        Ok(()) => {}
+        Err(error) => return Err(failed(&error)),
+    }
+    match out.flush() {
+        Ok(()) => Ok(()),
+        Err(error) => Err(failed(&error)),
+    }
+}
+
+/// Why a write failed.
+fn failed(error: &io::Error) -> Stop {
+    if error.kind() == ErrorKind::BrokenPipe {
+        Stop::Closed
+    } else {
+        Stop::OutputFailed
+    }
+}
+
+/// Takes all frames of a capture; how many were there?
+fn take_all<S: Source + Drop, W: Write>(
+    frames: &mut Frames<S>,
+    trial: &mut Trial,
+    out: &mut W,
+) -> Result<u64, Stop> {
+    for taken in 0..u64::MAX {
+        let Some(packet) = frames.next() else {
+            return Ok(taken);
+        };
+        trial.take(frames.marks(), &packet, frames.frame())?;
+        if PIECE <= trial.page.text.len() {
+            flush(&mut trial.page, out)?;
+        }
+    }
+    Ok(u64::MAX)
+}
+
+/// Judges a capture.
+fn judge_frames<S: Source + Drop, M: Mapped, W: Write>(
+    alloc: Global,
+    frames: &mut Frames<S>,
+    line: &[M],
+    items: &[Item],
+    asked: &Asked,
+    out: &mut W,
+) -> Result<Judged, Stop> {
+    let mut page = Page::new(alloc, asked.csv, asked.limit);
+    page.put_head()?;
+    let mut trial = Trial::new(alloc, line, items, frames.marks().two, page)?;
+    let taken = take_all(frames, &mut trial, out)?;
+    let fault = match frames.end() {
+        End::Whole => None,
+        End::Damaged(fault) => Some(fault),
+        End::SourceFailed => return Ok(Judged::SourceFailed),
+        End::NoMemory => return Ok(Judged::NoMemory),
+    };
+    if 0 < taken {
+        trial.end()?;
+    }
+    flush(&mut trial.page, out)?;
+    Ok(match fault {
+        Some(fault) => Judged::Damaged(fault),
+        None => verdict(taken, &trial),
+    })
+}
+
+/// The verdict of a capture that was read to its end.
+fn verdict(taken: u64, trial: &Trial) -> Judged {
+    if taken == 0 {
+        Judged::NoFrames
+    } else if trial.is_empty() {
+        Judged::NoItems
+    } else if trial.is_good() {
+        Judged::Good
+    } else {
+        Judged::NotGood
+    }
+}
+
+/// Judges the frames of a capture by the line and the items of a scene. The lines go to `out`.
+pub fn judge<S: Source + Drop, M: Mapped, W: Write>(
+    alloc: Global,
+    frames: &mut Frames<S>,
+    line: &[M],
+    items: &[Item],
+    asked: &Asked,
+    out: &mut W,
+) -> Judged {
+    match judge_frames(alloc, frames, line, items, asked, out) {
+        Ok(judged) => judged,
+        Err(Stop::Closed) => Judged::Closed,
+        Err(Stop::OutputFailed) => Judged::OutputFailed,
+        Err(Stop::NoMemory) => Judged::NoMemory,
+    }
+}

@@ -1,0 +1,474 @@
+//! The lines that are written of a judged capture.
+
+use crate::candidates::Candidates;
+use crate::evidence::{Class, Evidence};
+use crate::run::{Kind, Run};
+use crate::sets::{MOST_SETS, sets_of};
+use crate::share::Missing;
+use crate::strangers::{MAX_GROUPS, Strangers};
+use crate::sums::Sums;
+use crate::table::{Entry, Key, Table, is_logical};
+use crate::times::{At, Spread, Times};
+use ec_wire::{Command, ado_of, adp_of};
+use std::alloc::{AllocError, Global};
+use std::fmt;
+
+/// How many members of a class are told by name.
+const NAMED: usize = 4;
+
+/// The lines that are gathered and not written yet, and how the ones to come are written.
+#[derive(Drop)]
+pub(crate) struct Page {
+    /// The lines.
+    pub text: String,
+    /// Are they rows of columns?
+    pub csv: bool,
+    /// How many lines of runs and losses are told.
+    pub limit: u64,
+    /// How many were told.
+    pub told: u64,
+    /// How many were not.
+    pub not_told: u64,
+    /// The time of the first frame, from which times are told.
+    pub start: Option<u64>,
+    /// Does the capture count finer than microseconds?
+    pub fine: bool,
+}
+
+/// Nanoseconds as seconds.
+#[derive(Clone, Copy)]
+struct Seconds {
+    nanoseconds: u64,
+    fine: bool,
+}
+
+impl fmt::Display for Seconds {
+    fn fmt<W: fmt::Write>(&self, f: &mut fmt::Formatter<W>) -> fmt::Result {
+        let seconds = self.nanoseconds / 1_000_000_000;
+        let behind = self.nanoseconds % 1_000_000_000;
+        if self.fine {
+            write!(f, "{seconds}.{behind:09}")
+        } else {
+            let microseconds = behind / 1000;
+            write!(f, "{seconds}.{microseconds:06}")
+        }
+    }
+}
+
+/// A datagram by its command, address and length.
+#[derive(Clone, Copy)]
+struct KeyText(Key);
+
+impl fmt::Display for KeyText {
+    fn fmt<W: fmt::Write>(&self, f: &mut fmt::Formatter<W>) -> fmt::Result {
+        let name = self.0.command.name();
+        let address = self.0.address;
+        let length = self.0.length;
+        if is_logical(self.0.command) {
+            write!(f, "{name} 0x{address:08x} {length} bytes")
+        } else if self.0.command == Command::Brd {
+            write!(f, "{name} 0x{address:04x} {length} bytes")
+        } else {
+            let adp = adp_of(address);
+            let ado = ado_of(address);
+            write!(f, "{name} 0x{adp:04x}:0x{ado:04x} {length} bytes")
+        }
+    }
+}
+
+impl Page {
+    /// Nothing is written. So many lines of runs and losses are told.
+    pub(crate) fn new(alloc: Global, csv: bool, limit: u64) -> Page {
+        Page {
+            text: String::new(alloc),
+            csv,
+            limit,
+            told: 0,
+            not_told: 0,
+            start: None,
+            fine: false,
+        }
+    }
+
+    /// Looks at the time of a packet.
+    pub(crate) fn look(&mut self, time: Option<u64>) {
+        match time {
+            None => {}
+            Some(time) => {
+                if self.start.is_none() {
+                    self.start = Some(time);
+                }
+                self.fine = self.fine || time % 1000 != 0;
+            }
+        }
+    }
+
+    /// The time from the first frame on.
+    fn seconds(&self, time: Option<u64>) -> Option<Seconds> {
+        let time = time?;
+        let start = self.start?;
+        Some(Seconds {
+            nanoseconds: time.saturating_sub(start),
+            fine: self.fine,
+        })
+    }
+
+    /// Is one more line of a run or of losses told? If not, it is counted.
+    fn may_tell(&mut self) -> bool {
+        if self.told < self.limit {
+            self.told = self.told.saturating_add(1);
+            true
+        } else {
+            self.not_told = self.not_told.saturating_add(1);
+            false
+        }
+    }
+
+    /// Puts the head of the columns.
+    pub(crate) fn put_head(&mut self) -> Result<(), AllocError> {
+        if self.csv {
+            self.text
+                .push_str("first,last,from,to,times,counters,passed,verdict\n")?;
+        }
+        Ok(())
+    }
+
+    // ---- what runs and losses begin with
+
+    /// Puts a time, or nothing.
+    fn put_time(&mut self, time: Option<u64>) -> Result<(), AllocError> {
+        match self.seconds(time) {
+            None => Ok(()),
+            Some(seconds) => write!(self.text, "{seconds}"),
+        }
+    }
+
+    /// Puts a time behind some words, if it is known.
+    fn put_time_behind(&mut self, words: &str, time: Option<u64>) -> Result<(), AllocError> {
+        match self.seconds(time) {
+            None => Ok(()),
+            Some(seconds) => write!(self.text, "{words}{seconds}"),
+        }
+    }
+
+    /// Puts the packets, the times and how many there were.
+    fn put_packets(&mut self, first: At, last: At, times: u64) -> Result<(), AllocError> {
+        let from = first.packet;
+        let to = last.packet;
+        if self.csv {
+            write!(self.text, "{from},{to},")?;
+            self.put_time(first.time)?;
+            self.text.push_str(",")?;
+            self.put_time(last.time)?;
+            return write!(self.text, ",{times},");
+        }
+        if times == 1 {
+            write!(self.text, "packet {from}")?;
+            return self.put_time_behind(", ", first.time);
+        }
+        write!(self.text, "packets {from} to {to}")?;
+        self.put_time_behind(", ", first.time)?;
+        self.put_time_behind(" to ", last.time)?;
+        write!(self.text, ", {times} times")
+    }
+
+    /// Puts the losses of trips that were sent one after the other.
+    pub(crate) fn put_losses(&mut self, first: At, last: At, times: u64) -> Result<(), AllocError> {
+        if !self.may_tell() {
+            return Ok(());
+        }
+        self.put_packets(first, last, times)?;
+        self.text
+            .push_str(if self.csv { ",,lost\n" } else { ": lost\n" })
+    }
+
+    // ---- runs
+
+    /// Puts a run of trips of which some were bad.
+    pub(crate) fn put_run(
+        &mut self,
+        run: &Run,
+        table: &Table,
+        evidence: &Evidence,
+    ) -> Result<(), AllocError> {
+        if !self.may_tell() {
+            return Ok(());
+        }
+        self.put_packets(run.first, run.last, run.times)?;
+        self.put_counters(run, table)?;
+        self.put_passed(run, table.stations.len())?;
+        self.text.push_str(if self.csv { ",\"" } else { ": " })?;
+        match run.kind {
+            Kind::Alone => self.text.push_str("one copy alone")?,
+            Kind::More => self.text.push_str("more than the slaves of the scene")?,
+            Kind::Missing => self.put_missing(run.class, table, evidence)?,
+        }
+        self.text.push_str(if self.csv { "\"\n" } else { "\n" })
+    }
+
+    /// Puts the counters of a run that are not those of the line.
+    fn put_counters(&mut self, run: &Run, table: &Table) -> Result<(), AllocError> {
+        let mut some = false;
+        for (item, entry) in table.entries.iter().enumerate() {
+            if let Some(counter) = run.counter_of(item)
+                && counter != entry.expected
+            {
+                let words = if !self.csv {
+                    ", "
+                } else if some {
+                    "; "
+                } else {
+                    ""
+                };
+                let expected = entry.expected;
+                write!(self.text, "{words}item {item} wkc {counter} of {expected}")?;
+                some = true;
+            }
+        }
+        Ok(())
+    }
+
+    /// Puts how many slaves the trips of a run passed, where an ADP tells.
+    fn put_passed(&mut self, run: &Run, slaves: usize) -> Result<(), AllocError> {
+        if self.csv {
+            self.text.push_str(",")?;
+        }
+        match run.grown {
+            None => Ok(()),
+            Some(grown) => {
+                let words = if self.csv { "" } else { ", passed " };
+                write!(self.text, "{words}{grown} of {slaves}")
+            }
+        }
+    }
+
+    // ---- what was missing
+
+    /// Puts what was missing, by the first class of which any fits.
+    fn put_missing(
+        &mut self,
+        class: Class,
+        table: &Table,
+        evidence: &Evidence,
+    ) -> Result<(), AllocError> {
+        let candidates = candidates_of(class, &table.candidates);
+        let count = evidence.count(candidates);
+        if class == Class::Other {
+            self.put_sets(evidence)
+        } else if count <= NAMED {
+            self.put_named(candidates, table, evidence)
+        } else {
+            match class {
+                Class::Slave => write!(self.text, "without one of {count} slaves"),
+                Class::Neighbours => write!(self.text, "without one of {count} sets of slaves"),
+                Class::Half => write!(
+                    self.text,
+                    "without inputs or outputs of one of {count} slaves"
+                ),
+                Class::Other => Ok(()),
+            }
+        }
+    }
+
+    /// Puts how many sets of slaves fit.
+    fn put_sets(&mut self, evidence: &Evidence) -> Result<(), AllocError> {
+        match sets_of(evidence) {
+            0 => self.text.push_str("no set of slaves explains it"),
+            1 => self.text.push_str("without one set of slaves"),
+            count => {
+                if count < MOST_SETS {
+                    write!(self.text, "without one of {count} sets of slaves")
+                } else {
+                    let most = MOST_SETS - 1;
+                    write!(self.text, "without one of more than {most} sets of slaves")
+                }
+            }
+        }
+    }
+
+    /// Puts each of these that fits.
+    fn put_named(
+        &mut self,
+        candidates: &[Missing],
+        table: &Table,
+        evidence: &Evidence,
+    ) -> Result<(), AllocError> {
+        let mut words = "without ";
+        for missing in candidates {
+            if evidence.fits(*missing) {
+                self.text.push_str(words)?;
+                self.put_one(*missing, table)?;
+                words = " or ";
+            }
+        }
+        Ok(())
+    }
+
+    /// Puts what may be missing.
+    fn put_one(&mut self, missing: Missing, table: &Table) -> Result<(), AllocError> {
+        match missing {
+            Missing::Inputs(slave) => {
+                let station = station_of(table, slave);
+                write!(self.text, "inputs of slave {slave} (0x{station:04x})")
+            }
+            Missing::Outputs(slave) => {
+                let station = station_of(table, slave);
+                write!(self.text, "outputs of slave {slave} (0x{station:04x})")
+            }
+            Missing::Slaves(from, to) => {
+                let last = to.saturating_sub(1);
+                let first_station = station_of(table, from);
+                let last_station = station_of(table, last);
+                if from == last {
+                    write!(self.text, "slave {from} (0x{first_station:04x})")
+                } else {
+                    let parted = if to.saturating_sub(from) == 2 {
+                        ", "
+                    } else {
+                        " to "
+                    };
+                    write!(
+                        self.text,
+                        "slaves {from}..{last} (0x{first_station:04x}{parted}0x{last_station:04x})"
+                    )
+                }
+            }
+        }
+    }
+
+    // ---- sums
+
+    /// Puts the sums of an item.
+    pub(crate) fn put_sums(
+        &mut self,
+        item: usize,
+        entry: &Entry,
+        sums: &Sums,
+        times: &Times,
+    ) -> Result<(), AllocError> {
+        let key = KeyText(entry.key);
+        write!(self.text, "item {item} {key}:")?;
+        self.put_counts(sums)?;
+        self.text.push_str("\n")?;
+        self.put_range(times)?;
+        if 0 < times.every.count {
+            self.put_spread("  every ", &times.every)?;
+            let jitter = Seconds {
+                nanoseconds: times.every.greatest.saturating_sub(times.every.least),
+                fine: self.fine,
+            };
+            write!(self.text, ", jitter {jitter}")?;
+            self.text.push_str("\n")?;
+        }
+        if 0 < times.back.count {
+            self.put_spread("  back in ", &times.back)?;
+            self.text.push_str("\n")?;
+        }
+        Ok(())
+    }
+
+    /// Puts how often an item was sent, and what became of it.
+    fn put_counts(&mut self, sums: &Sums) -> Result<(), AllocError> {
+        let sent = sums.sent;
+        let good = sums.good;
+        let short = sums.short;
+        let over = sums.over;
+        let lost = sums.lost;
+        write!(
+            self.text,
+            " sent {sent} good {good} short {short} over {over} lost {lost}"
+        )?;
+        if 0 < sums.on_the_way {
+            let on_the_way = sums.on_the_way;
+            write!(self.text, " on the way {on_the_way}")?;
+        }
+        if 0 < sums.unpaired {
+            let unpaired = sums.unpaired;
+            write!(self.text, " unpaired {unpaired}")?;
+        }
+        Ok(())
+    }
+
+    /// Puts the first and the last packet of an item.
+    fn put_range(&mut self, times: &Times) -> Result<(), AllocError> {
+        let Some(first) = times.first else {
+            return Ok(());
+        };
+        let Some(last) = times.last else {
+            return Ok(());
+        };
+        let from = first.packet;
+        let to = last.packet;
+        write!(self.text, "  packets {from} to {to}")?;
+        self.put_time_behind(", ", first.time)?;
+        self.put_time_behind(" to ", last.time)?;
+        self.text.push_str("\n")
+    }
+
+    /// Puts the least, the mean and the greatest of some times.
+    fn put_spread(&mut self, words: &str, spread: &Spread) -> Result<(), AllocError> {
+        let fine = self.fine;
+        let least = Seconds {
+            nanoseconds: spread.least,
+            fine,
+        };
+        let mean = Seconds {
+            nanoseconds: spread.mean(),
+            fine,
+        };
+        let greatest = Seconds {
+            nanoseconds: spread.greatest,
+            fine,
+        };
+        write!(self.text, "{words}{least} {mean} {greatest} s")
+    }
+
+    /// Puts what no item of the scene asks for.
+    pub(crate) fn put_strangers(&mut self, strangers: &Strangers) -> Result<(), AllocError> {
+        let groups = strangers.groups();
+        let datagrams = strangers.datagrams;
+        if datagrams == 0 {
+            Ok(())
+        } else if strangers.more {
+            write!(
+                self.text,
+                "not in the scene: more than {MAX_GROUPS} groups, {datagrams} datagrams\n"
+            )
+        } else {
+            write!(
+                self.text,
+                "not in the scene: {groups} groups, {datagrams} datagrams\n"
+            )
+        }
+    }
+
+    /// Puts how many lines were not told.
+    pub(crate) fn put_rest(&mut self) -> Result<(), AllocError> {
+        let not_told = self.not_told;
+        if not_told == 0 {
+            Ok(())
+        } else if self.csv {
+            write!(self.text, ",,,,{not_told},,,not told\n")
+        } else {
+            write!(self.text, "not told: {not_told} lines\n")
+        }
+    }
+}
+
+/// The candidates of a class.
+fn candidates_of(class: Class, candidates: &Candidates) -> &[Missing] {
+    match class {
+        Class::Slave => candidates.slaves.as_slice(),
+        Class::Neighbours => candidates.neighbours.as_slice(),
+        Class::Half => candidates.halves.as_slice(),
+        Class::Other => &[],
+    }
+}
+
+/// The station address of a slave; of none that is not there.
+fn station_of(table: &Table, slave: usize) -> u16 {
+    match table.stations.get(slave) {
+        Some(station) => *station,
+        None => 0,
+    }
+}

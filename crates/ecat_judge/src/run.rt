@@ -1,0 +1,131 @@
+//! Trips, one after the other, in which each item has one counter.
+
+use crate::evidence::Class;
+use crate::times::At;
+use crate::verdict::Counted;
+use std::alloc::{AllocError, Global};
+
+/// What is told of the bad trips of a run.
+#[derive(Clone, Copy, PartialEq, Eq, Debug)]
+pub(crate) enum Kind {
+    /// What was missing.
+    Missing,
+    /// That one of two copies did not come back.
+    Alone,
+    /// That more counted than the slaves of the scene.
+    More,
+}
+
+/// A run of trips.
+#[derive(Drop)]
+pub(crate) struct Run {
+    /// How far the counter of each item moved in it; `None` of an item that no trip had.
+    counters: Vec<Option<u16>>,
+    /// What is told of its bad trips.
+    pub kind: Kind,
+    /// What fits.
+    pub class: Class,
+    /// How many slaves its bad trips passed, where an ADP tells.
+    pub grown: Option<u16>,
+    /// The first bad trip.
+    pub first: At,
+    /// The last one.
+    pub last: At,
+    /// How many were bad.
+    pub times: u64,
+}
+
+/// No packet.
+const NOWHERE: At = At {
+    packet: 0,
+    time: None,
+};
+
+impl Run {
+    /// A run of so many items that has no trip yet.
+    pub(crate) fn new(alloc: Global, items: usize) -> Result<Run, AllocError> {
+        let mut counters = Vec::new(alloc);
+        for _ in 0..items {
+            counters.push(None)?;
+        }
+        Ok(Run {
+            counters,
+            kind: Kind::Missing,
+            class: Class::Other,
+            grown: None,
+            first: NOWHERE,
+            last: NOWHERE,
+            times: 0,
+        })
+    }
+
+    /// Begins anew.
+    pub(crate) fn clear(&mut self) {
+        for counter in self.counters.iter_mut() {
+            *counter = None;
+        }
+        self.kind = Kind::Missing;
+        self.class = Class::Other;
+        self.grown = None;
+        self.times = 0;
+    }
+
+    /// How far the counter of an item moved, if a trip had it.
+    pub(crate) fn counter_of(&self, item: usize) -> Option<u16> {
+        match self.counters.get(item) {
+            Some(counter) => *counter,
+            None => None,
+        }
+    }
+
+    /// Has a trip the counters of the run?
+    pub(crate) fn agrees(&self, found: &[Counted]) -> bool {
+        for counted in found {
+            if let Some(counter) = self.counter_of(counted.item)
+                && counter != counted.moved
+            {
+                return false;
+            }
+        }
+        true
+    }
+
+    /// May a bad trip of which this is told be one of the run?
+    pub(crate) fn is_of(&self, kind: Kind, grown: Option<u16>) -> bool {
+        if self.times == 0 {
+            return true;
+        }
+        if self.kind != kind {
+            return false;
+        }
+        match self.grown {
+            None => true,
+            Some(before) => match grown {
+                None => true,
+                Some(now) => before == now,
+            },
+        }
+    }
+
+    /// Takes the counters of a trip.
+    pub(crate) fn take(&mut self, found: &[Counted]) {
+        for counted in found {
+            if let Some(counter) = self.counters.get_mut(counted.item) {
+                *counter = Some(counted.moved);
+            }
+        }
+    }
+
+    /// Takes a bad trip.
+    pub(crate) fn take_bad(&mut self, at: At, kind: Kind, grown: Option<u16>) {
+        if self.times == 0 {
+            self.first = at;
+            self.kind = kind;
+        }
+        if grown.is_some() {
+            self.grown = grown;
+        }
+        self.last = at;
+        self.times = self.times.saturating_add(1);
+    }
+}
