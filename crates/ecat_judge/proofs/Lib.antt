@@ -1,2 +1,3 @@
+pub mod CandidateLemmas
 pub mod SumLemmas
 pub mod WithoutLemmas

@@ -1,5 +1,6 @@
 -- Sums and tests over the places below a number.
-use Rattle.std.proofs.Common.{◌≡◌, ⊎_elim, ℕ, zero, suc, ◌+◌, ◌-◌, ◌<◌, ◌≤◌, ◌||◌, Bool, true, false, refl, sym, ap}
+use Rattle.std.proofs.Common.{◌≡◌, ⊎_elim, ℕ, zero, suc, ◌+◌, ◌<◌, ◌≤◌, ◌||◌, Bool, true, false, refl, sym}
+use Rattle.std.proofs.Common.{ap}
 use Rattle.std.proofs.Common.{◌∙◌, ◌≢◌, arith, eqb, eq-eqb}
 use Rattle.std.proofs.lemmas.Bool.{cases_lt, ne_eqb}
 use Rattle.std.proofs.lemmas.Bool.Decides.{eqb_tells}
@@ -58,7 +59,7 @@ or-true false = refl
 
 -- some place below n passes
 pub any_at : (test : ℕ → Bool) (k n : ℕ) → k < n → test k ≡ true → any_below test n ≡ true
-any_at test k zero h passes = omega (arith, h)
+any_at test k zero h passes = absurd (omega (arith, h))
 any_at test k (suc n) h passes =
     ⊎_elim
     (λ (lt : k < n). any_suc test n ∙ ap (λ b. b || test n) (any_at test k n lt passes))

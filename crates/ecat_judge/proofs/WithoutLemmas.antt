@@ -1,6 +1,7 @@
 -- What lacks of a counter is what the whole line gives less what the others give.
-use Rattle.std.proofs.Common.{◌≡◌, ℕ, zero, suc, ◌+◌, ◌-◌, ◌*◌, ◌%◌, ◌<◌, ◌≤◌, ◌&&◌, Bool, true, false, not, cond}
-use Rattle.std.proofs.Common.{Option, None, Some, List, map, length, take, get_or, refl, sym, ap, ◌∙◌, arith, eq-eqb}
+use Rattle.std.proofs.Common.{◌≡◌, ℕ, zero, suc, ◌+◌, ◌-◌, ◌*◌, ◌<◌, ◌≤◌, ◌&&◌, Bool, true, false, not, cond}
+use Rattle.std.proofs.Common.{Option, None, Some, List, length, take, get_or, refl, sym, ap, ◌∙◌, arith}
+use Rattle.std.proofs.Common.{eq-eqb}
 use Rattle.std.specs.List.{sum, sum_by, list_all}
 use Rattle.std.proofs.lemmas.List.{take_all}
 use Rattle.std.proofs.lemmas.List.Sums.{sum-map, sum_by_more, list_all-from_AllPass}
@@ -14,7 +15,7 @@ use Rattle.ecat_judge.specs.declared.share.Missing.TheVariants.{Slaves, Inputs, 
 use Rattle.ecat_judge.specs.declared.evidence.Row.{Row}
 use Rattle.ecat_judge.specs.declared.evidence.Evidence.{Evidence}
 use Rattle.ecat_judge.specs.Share.{whole, no_share, share_at, part, part_at, lacking, sum_below}
-use Rattle.ecat_judge.specs.Evidence.{explains, explains_by, fits, has_size, was_seen}
+use Rattle.ecat_judge.specs.Evidence.{explains, explains_by, fits, was_seen}
 use Rattle.ecat_judge.specs.Without.{AreShares, IsShortOf, WentWithout, rest, rest_at}
 use Rattle.ecat_judge.proofs.SumLemmas.{sum_none, sum_suc}
 
@@ -97,7 +98,8 @@ lacking_is line item missing shares size are =
 
 -- ---- what trips tell
 
-explains_short : (line : List ControllerState) (item : ItemRecord) (missing : Missing) (row : Row) (o : Option ℕ)
+explains_short : (line : List ControllerState) (item : ItemRecord) (missing : Missing) (row : Row)
+    (o : Option ℕ)
     → 3 * length line < 65536 → AreShares line item row.shares.items → IsShortOf line item missing row
     → row.short ≡ o → explains_by o missing row.shares.items ≡ true
 explains_short line item missing row None size are is e = refl
@@ -109,8 +111,9 @@ explains_all : (line : List ControllerState) (items : ℕ → ItemRecord) (missi
     → WentWithout line items missing e → list_all (explains missing) e.rows.items ≡ true
 explains_all line items missing e went =
     list_all-from_AllPass (explains missing) e.rows.items
-    (λ k d inside. explains_short line (items k) missing (get_or e.rows.items k d) (get_or e.rows.items k d).short
-      went.size (went.shares k d inside) (went.counters k d inside) refl)
+    (λ k d inside. let row = get_or e.rows.items k d in
+    explains_short line (items k) missing row row.short went.size (went.shares k d inside)
+    (went.counters k d inside) refl)
 
 -- what is missing fits to what is told by trips that passed the line without it
 pub fits_without : (line : List ControllerState) (items : ℕ → ItemRecord) (missing : Missing) (e : Evidence)

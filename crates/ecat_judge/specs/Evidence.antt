@@ -1,6 +1,7 @@
 -- What bad trips tell of what was missing: how short each item was, which slaves were seen, and how many were
 -- gone.
-use Rattle.std.specs.Prelude.{ℕ, zero, suc, ◌-◌, ◌==◌, ◌&&◌, ◌||◌, Bool, true, false, not, if◌then◌else◌, Option, None, Some}
+use Rattle.std.specs.Prelude.{ℕ, zero, suc, ◌-◌, ◌==◌, ◌&&◌, ◌||◌, Bool, true, false, not}
+use Rattle.std.specs.Prelude.{if◌then◌else◌, Option, None, Some}
 use Rattle.std.specs.Prelude.{List, length, slice_index_or}
 use Rattle.std.specs.List.{list_all, list_any}
 use Rattle.ecat_judge.specs.declared.share.Share.{Share}
@@ -8,7 +9,7 @@ use Rattle.ecat_judge.specs.declared.share.Missing.{Missing}
 use Rattle.ecat_judge.specs.declared.share.Missing.TheVariants.{Slaves, Inputs, Outputs}
 use Rattle.ecat_judge.specs.declared.evidence.Row.{Row}
 use Rattle.ecat_judge.specs.declared.evidence.Evidence.{Evidence}
-use Rattle.ecat_judge.specs.declared.evidence.Candidates.{Candidates}
+use Rattle.ecat_judge.specs.declared.candidates.Candidates.{Candidates}
 use Rattle.ecat_judge.specs.declared.evidence.Class.{Class}
 use Rattle.ecat_judge.specs.declared.evidence.Class.TheVariants.{Slave, Neighbours, Half, Other}
 use Rattle.ecat_judge.specs.Share.{has_inputs_of, lacking}
@@ -46,7 +47,8 @@ has_size missing (Some gone) = size_of missing == gone
 -- this fits as what is missing
 abbrev pub fits : Missing → Evidence → Bool
 fits missing e =
-    has_size missing e.gone && not (was_seen missing e.passed.items) && list_all (explains missing) e.rows.items
+    has_size missing e.gone && not (was_seen missing e.passed.items)
+    && list_all (explains missing) e.rows.items
 
 -- the first class of which any fits
 abbrev pub any_fits : Evidence → List Missing → Bool

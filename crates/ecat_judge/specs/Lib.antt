@@ -1,4 +1,5 @@
 pub mod Share
+pub mod Candidates
 pub mod Evidence
 pub mod Verdict
 pub mod Sums

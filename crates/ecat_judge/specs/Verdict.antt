@@ -1,5 +1,5 @@
 -- The verdict of a trip: each counter is the one that the line gives, or it is short of it, or over it.
-use Rattle.std.specs.Prelude.{ℕ, ◌-◌, ◌==◌, Bool, nat_lt, if◌then◌else◌, List}
+use Rattle.std.specs.Prelude.{ℕ, ◌-◌, ◌==◌, Bool, not, nat_lt, if◌then◌else◌, List, bit_and, bit_xor}
 use Rattle.std.specs.List.{list_all}
 use Rattle.ecat_judge.specs.declared.verdict.Counted.{Counted}
 use Rattle.ecat_judge.specs.declared.verdict.Standing.{Standing}
@@ -20,3 +20,7 @@ standing c =
 -- a trip is good where all of its counters are
 abbrev pub is_good : List Counted → Bool
 is_good counters = list_all counts_well counters
+
+-- one of these bits of a byte changed on its way
+abbrev pub has_changed : ℕ → ℕ → ℕ → Bool
+has_changed mask before after = not (bit_and (bit_xor before after) mask == 0)

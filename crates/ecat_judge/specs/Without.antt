@@ -1,5 +1,5 @@
 -- A trip that passed a line without what is missing: each counter moved as far as all the other shares give.
-use Rattle.std.specs.Prelude.{◌≡◌, ℕ, ◌-◌, ◌*◌, ◌<◌, true, false, Option, Some, List, map, length}
+use Rattle.std.specs.Prelude.{◌≡◌, ℕ, ◌-◌, ◌*◌, ◌<◌, true, false, Some, List, map, length}
 use Rattle.std.specs.Prelude.{slice_index_or}
 use Rattle.ec_esc.specs.State.{ControllerState}
 use Rattle.ec_map.specs.Item.{ItemRecord}
@@ -27,10 +27,10 @@ abbrev pub IsShortOf : List ControllerState → ItemRecord → Missing → Row �
 IsShortOf line item missing row =
     (n : ℕ) → row.short ≡ Some n → n ≡ expected_of line item - rest missing row.shares.items
 
--- what bad trips tell that all passed the line without what is missing: the items are short by what the others
--- give, no slave whose inputs are missing changed a bit, and an ADP tells as many as are missing
-pub record WentWithout (line : List ControllerState) (items : ℕ → ItemRecord) (missing : Missing) (e : Evidence)
-    : Type 0 where
+-- what bad trips tell that all passed the line without what is missing: the items are short by what the
+-- others give, no slave whose inputs are missing changed a bit, and an ADP tells as many as are missing
+pub record WentWithout (line : List ControllerState) (items : ℕ → ItemRecord) (missing : Missing)
+    (e : Evidence) : Type 0 where
   pub size : 3 * length line < 65536
   pub shares : (k : ℕ) (d : Row) → k < length e.rows.items
       → AreShares line (items k) (slice_index_or e.rows.items k d).shares.items

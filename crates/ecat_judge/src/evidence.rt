@@ -4,6 +4,7 @@ ghost use Rattle.std.specs.Prelude.{◌≡◌, ◌<◌, length};
 ghost use Rattle.std.specs.List.{count_by, list_all, list_any};
 ghost use Rattle.ecat_judge.specs.Evidence.{class_of, explains, fits, has_size, is_seen_at, was_seen};
 
+use crate::candidates::Candidates;
 use crate::share::{Missing, Share, lacks};
 
 /// An item, as bad trips had it.
@@ -37,17 +38,6 @@ pub enum Class {
     Half,
     /// None of these fits.
     Other,
-}
-
-/// What is tried, by classes.
-#[derive(Drop)]
-pub struct Candidates {
-    /// Each slave alone.
-    pub slaves: Vec<Missing>,
-    /// The runs of neighbours that a broken line may lack.
-    pub neighbours: Vec<Missing>,
-    /// The inputs and the outputs alone of each slave.
-    pub halves: Vec<Missing>,
 }
 
 impl Row {

@@ -1,6 +1,75 @@
 #![tactic(auto)]
 //! Which cycle of a capture was not good, which slaves were missing, and what was lost.
+//!
+//! A machine stopped, and somebody has a capture of its bus and a scene of its line. A working counter that
+//! is too small says that slaves were missing, not which; inputs that still moved and a count of the slaves
+//! say more. One use, which `ends.rt` of `ecat_judge_tests` tries:
+//!
+//! ```text
+//! let mut looked = Looked::new();
+//! let _ = look(rt.alloc(), first, &mut looked);
+//! let mut frames = Frames::of_file(rt.alloc(), again, looked.marks(), None);
+//! let asked = Asked { csv: false, limit: 1000 };
+//! match judge(rt.alloc(), &mut frames, line, items, &asked, &mut out) {
+//!     Judged::Good => {}       // all items came back, with the counters that the line gives
+//!     Judged::NotGood => {}    // not all did
+//!     ended => {}
+//! }
+//! ```
+//!
+//! ```text
+//! packet 2141, 0.958718045: lost
+//! packets 3233 to 4230, 1.504731462 to 2.003861647, 499 times, item 0 wkc 2 of 5: without slave 2 (0x1003)
+//! item 0 LRW 0x00000000 30 bytes: sent 2003 good 1502 short 499 over 0 lost 2
+//! ```
+//!
+//! A trip ([`ecat_trips`]) with items is good where each of their counters moved as far as [`ec_map`] expects
+//! of the line. Trips are judged from the first one on in which a logical item moved. Bad ones that follow
+//! each other with one counter of each item, and that something missing explains together, are one line: a
+//! run. What is told of it is the first of these that fits, by up to four names:
+//!
+//! - one slave; all slaves from one on, and of a master with two ports any run of neighbours; the inputs
+//!   alone or the outputs alone of one slave; else how many sets of slaves fit the item that is short most;
+//! - `one copy alone`, where one of two sent copies did not come back, and `more than the slaves of the
+//!   scene`.
+//!
+//! With [`Asked::csv`] each run, and each row of losses, is a row of columns, and nothing else is written:
+//!
+//! ```text
+//! first,last,from,to,times,counters,passed,verdict
+//! 6,8,0.003000,0.004000,2,item 0 wkc 3 of 9; item 1 wkc 1 of 3,1 of 3,"without slave 2 (0x1003)"
+//! ```
+//!
+//! `first` and `last` are packets, `from` and `to` when they were captured, in seconds from the first frame
+//! on, `times` how many bad trips there were. `counters` has the items that were not good, parted by `; `,
+//! and `passed` how many slaves an ADP tells to have been passed. The verdict is `lost`, or what the line
+//! says. Behind [`Asked::limit`] lines or rows further ones are counted alone, and a last one tells how many.
+//!
+//! What is promised:
+//!
+//! - [`is_good`], [`Counted`]: the verdict of a trip and how far a counter is short (`specs/Verdict.antt`);
+//! - [`Evidence::fits`]: this explains what bad trips tell of counters, inputs and ADPs; [`Evidence::class`]:
+//!   the first class of which any does; [`Evidence::count`]: how many do (`specs/Evidence.antt`);
+//! - [`Candidates::new`]: what is tried, by classes (`specs/Candidates.antt`);
+//! - [`missing_fits`]: what is missing is among what fits, so where one alone fits, that is it
+//!   (`specs/Without.antt`);
+//! - [`Sums::count`]: what became of each datagram of an item is counted once (`specs/Sums.antt`);
+//! - any bytes are taken, and all calls end.
+//!
+//! Only tested: which trips make a run, which bits a slave reads, how many sets fit where no class does,
+//! texts and their order.
+//!
+//! It cannot tell equal slaves apart where inputs stand still and no ADP is counted, nor two slaves that are
+//! missing by turns from one.
+//!
+//! - `share`, `evidence`, `candidates`: what a counter lacks, what fits, what is tried; `sets`: any sets.
+//! - `verdict`, `sums`, `times`: of one trip, of all.
+//! - `table`: the line and its items; `strangers`: what no item asks for.
+//! - `run`, `trial`: packet after packet; `page`: the lines; `door`: the whole capture.
+//!
+//! It takes what `ecat_trips` takes, and 400 KB for 256 slaves and 32 items; of two ports 1 MB more.
 
+mod candidates;
 mod door;
 mod evidence;
 mod page;
@@ -15,8 +84,9 @@ mod times;
 mod trial;
 mod verdict;
 
+pub use candidates::Candidates;
 pub use door::{Asked, Judged, judge};
-pub use evidence::{Candidates, Class, Evidence, Row};
+pub use evidence::{Class, Evidence, Row};
 pub use promises::{missing_fits, missing_lacks};
 pub use share::{Missing, Share, lacks};
 pub use sums::{Outcome, Sums};

@@ -1,6 +1,7 @@
 //! The lines that are written of a judged capture.
 
-use crate::evidence::{Candidates, Class, Evidence};
+use crate::candidates::Candidates;
+use crate::evidence::{Class, Evidence};
 use crate::run::{Kind, Run};
 use crate::sets::{MOST_SETS, sets_of};
 use crate::share::Missing;

@@ -86,8 +86,8 @@ struct Wanted {
 }
 
 impl Wanted {
-    /// In how many ways slaves with a share of 0 make up what is gone, where so many others are missing. Where
-    /// it is not known how many are gone, they are left out.
+    /// In how many ways slaves with a share of 0 make up what is gone, where so many others are missing.
+    /// Where it is not known how many are gone, they are left out.
     fn idle(&self, others: usize) -> u64 {
         match self.gone {
             None => 1,

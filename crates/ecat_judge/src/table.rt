@@ -6,9 +6,11 @@ ghost use Rattle.ec_check.specs.Line.{controllers_by};
 ghost use Rattle.ec_map.specs.Share.{expected_of, share};
 ghost use Rattle.ec_map.specs.Item.{wire_address};
 ghost use Rattle.ecat_judge.specs.Share.{whole};
+ghost use Rattle.ecat_judge.specs.Verdict.{has_changed};
 
-use crate::evidence::{Candidates, Row};
-use crate::share::{Missing, Share};
+use crate::candidates::Candidates;
+use crate::evidence::Row;
+use crate::share::Share;
 use ec_map::{Item, Mapped, expected};
 use ec_regs::Fmmu;
 use ec_regs::registers::{FMMU_COUNT, PROCESS_MEMORY};
@@ -35,6 +37,15 @@ pub(crate) struct Window {
     pub byte: usize,
     /// The bits.
     pub mask: u8,
+}
+
+impl Window {
+    /// Did the slave change a bit that it reads of a byte that was sent and came back?
+    pub(crate) fn has_changed(&self, before: u8, after: u8) -> bool
+        ensures { result ≡ has_changed self.now.mask before after }
+    {
+        (before ^ after) & self.mask != 0
+    }
 }
 
 /// An item as it is judged.
@@ -188,51 +199,6 @@ fn windows_of<M: Mapped>(
     Ok(windows)
 }
 
-/// Each slave alone.
-fn slaves_of(alloc: Global, count: usize) -> Result<Vec<Missing>, AllocError> {
-    let mut all = Vec::new(alloc);
-    for place in 0..count {
-        all.push(Missing::Slaves(place, place + 1))?;
-    }
-    Ok(all)
-}
-
-/// Puts the runs of two slaves and more from a place on, in front of each place up to the end, or of the end
-/// alone.
-fn put_neighbours(
-    all: &mut Vec<Missing>,
-    from: usize,
-    count: usize,
-    any: bool,
-) -> Result<(), AllocError> {
-    for to in from.saturating_add(2)..count.saturating_add(1) {
-        if any || to == count {
-            all.push(Missing::Slaves(from, to))?;
-        }
-    }
-    Ok(())
-}
-
-/// The runs of neighbours that a broken line may lack: all slaves from one on, and of a master with two ports
-/// any.
-fn neighbours_of(alloc: Global, count: usize, two: bool) -> Result<Vec<Missing>, AllocError> {
-    let mut all = Vec::new(alloc);
-    for from in 0..count {
-        put_neighbours(&mut all, from, count, two)?;
-    }
-    Ok(all)
-}
-
-/// The inputs and the outputs alone of each slave.
-fn halves_of(alloc: Global, count: usize) -> Result<Vec<Missing>, AllocError> {
-    let mut all = Vec::new(alloc);
-    for place in 0..count {
-        all.push(Missing::Inputs(place))?;
-        all.push(Missing::Outputs(place))?;
-    }
-    Ok(all)
-}
-
 /// The station address of each slave.
 fn stations_of<M: Mapped>(alloc: Global, line: &[M]) -> Result<Vec<u16>, AllocError> {
     let mut stations = Vec::new(alloc);
@@ -292,15 +258,10 @@ impl Table {
             logical = logical || is_logical(entry.key.command);
             entries.push(entry)?;
         }
-        let candidates = Candidates {
-            slaves: slaves_of(alloc, line.len())?,
-            neighbours: neighbours_of(alloc, line.len(), two)?,
-            halves: halves_of(alloc, line.len())?,
-        };
         Ok(Table {
+            candidates: Candidates::new(alloc, line.len(), two)?,
             stations: stations_of(alloc, line)?,
             entries,
-            candidates,
             logical,
         })
     }

@@ -421,7 +421,7 @@ impl Trial {
         for window in entry.windows.as_slice() {
             if let Some(before) = before.get(window.byte)
                 && let Some(after) = after.get(window.byte)
-                && (*before ^ *after) & window.mask != 0
+                && window.has_changed(*before, *after)
                 && let Some(seen) = self.seen.get_mut(window.slave)
             {
                 *seen = true;
@@ -429,8 +429,8 @@ impl Trial {
         }
     }
 
-    /// Adds what a bad trip tells to what the run tells. Where nothing fits to both any more, the run ends and
-    /// another one begins.
+    /// Adds what a bad trip tells to what the run tells. Where nothing fits to both any more, the run ends
+    /// and another one begins.
     fn weigh(&mut self, grown: Option<u16>) -> Result<(), AllocError> {
         let slaves = self.table.stations.len() as u64;
         let before = self.evidence.gone;
@@ -462,7 +462,7 @@ impl Trial {
     /// Adds the slaves that were seen.
     fn add_seen(&mut self) -> Result<(), AllocError> {
         for place in 0..self.seen.len() {
-            if self.seen[place]
+            if self.is_seen(place)
                 && let Some(passed) = self.evidence.passed.get_mut(place)
                 && !*passed
             {
@@ -471,6 +471,14 @@ impl Trial {
             }
         }
         Ok(())
+    }
+
+    /// Was the slave at a place seen?
+    fn is_seen(&self, place: usize) -> bool {
+        match self.seen.get(place) {
+            Some(seen) => *seen,
+            None => false,
+        }
     }
 
     /// Adds how far the items are short.

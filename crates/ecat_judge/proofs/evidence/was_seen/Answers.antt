@@ -1,5 +1,5 @@
-use Rattle.std.proofs.Common.{◌≡◌, ◌+◌, ◌||◌, length, true, false, arith, sym, ap, ◌∙◌}
-use Rattle.ecat_judge.specs.Evidence.{any_below, is_seen_at}
+use Rattle.std.proofs.Common.{◌||◌, length, sym, ap, ◌∙◌}
+use Rattle.ecat_judge.specs.Evidence.{is_seen_at}
 use Rattle.ecat_judge.proofs.SumLemmas.{any_none, any_more, any_at}
 use Rattle.ecat_judge.proofs.evidence.was_seen.Goals as goal
 

@@ -1,4 +1,4 @@
-use Rattle.std.proofs.Common.{◌≡◌, ◌≢◌, ◌+◌, ◌<◌, ◌≤◌, length, arith, ap}
+use Rattle.std.proofs.Common.{◌≡◌, ◌+◌, ◌<◌, length, arith, ap}
 use Rattle.ecat_judge.specs.Share.{lacking, part_at, sum_below}
 use Rattle.ecat_judge.proofs.SumLemmas.{sum_none, sum_more, sum_grows, none_left}
 use Rattle.ecat_judge.proofs.share.lacks.Goals as goal
