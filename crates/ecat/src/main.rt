@@ -8,7 +8,7 @@ use ecat_acts::failure::{Failure, report, report_file};
 use ecat_acts::hints::{Fronted, hint_capture, hint_odd_lines, hint_scene};
 use ecat_acts::judging::{asked_of_judge, end_of_judging, frames_of, judge_by, judge_by_itself};
 use ecat_acts::learning::{asked_of, end_of_learning};
-use ecat_acts::listing::{Wanted, act_list};
+use ecat_acts::listing::{Wanted, act_list, act_list_file};
 use ecat_acts::over_sockets::{Console, over_sockets};
 use ecat_acts::show::act_show;
 use ecat_args::{Args, ArgsFault, bad_word};
@@ -145,9 +145,9 @@ where
             csv,
             faults,
             stats,
-            ..
+            by_index,
         } => {
-            return match Wanted::of(*csv, *faults, *stats, console.is_watched) {
+            return match Wanted::of(*csv, *faults, *stats, *by_index, console.is_watched) {
                 Ok(wanted) => open_listing(rt, file, wanted, console.input, out, err),
                 Err(failure) => report(&failure, out, err),
             };
@@ -253,7 +253,7 @@ fn is_plain<F: OpenFile>(file: &F) -> bool {
     }
 }
 
-/// Opens a capture, twice where it is a file, and writes the line that it shows.
+/// Opens a capture, twice where it is a plain file, and writes the line that it shows.
 #[inline(never)]
 fn open_learning<R, W, V>(
     rt: &R,
@@ -268,23 +268,23 @@ where
     W: io::Write,
     V: io::Write,
 {
-    let learned = if file == "-" {
-        learn_stream(rt.alloc(), Counted::new(input), &asked, out)
-    } else {
-        match (fs::open(rt, file), fs::open(rt, file)) {
-            (Ok(first), Ok(again)) => {
-                learn(
-                    rt.alloc(),
-                    Counted::new(first),
-                    Counted::new(again),
-                    &asked,
-                    out,
-                )
-            }
-            (Err(error), _) | (_, Err(error)) => {
-                return report_file(&Failure::Open, file, &error, out, err);
-            }
+    if file == "-" {
+        let learned = learn_stream(rt.alloc(), Counted::new(input), &asked, out);
+        return end_of_learning(learned, out, err);
+    }
+    let first = match fs::open(rt, file) {
+        Ok(first) => first,
+        Err(error) => return report_file(&Failure::Open, file, &error, out, err),
+    };
+    let is_plain = is_plain(&first);
+    let first = Counted::new(first);
+    let learned = if is_plain {
+        match fs::open(rt, file) {
+            Ok(again) => learn(rt.alloc(), first, Counted::new(again), &asked, out),
+            Err(error) => return report_file(&Failure::Open, file, &error, out, err),
         }
+    } else {
+        learn_stream(rt.alloc(), first, &asked, out)
     };
     end_of_learning(learned, out, err)
 }
@@ -341,20 +341,22 @@ where
     if file == "-" {
         return report(&Failure::NeedsScene, out, err);
     }
-    let mut frames = match frames_at(rt, file, out, err) {
-        Ok(frames) => frames,
-        Err(status) => return status,
+    let again = match fs::open(rt, file) {
+        Ok(again) => again,
+        Err(error) => return report_file(&Failure::Open, file, &error, out, err),
     };
-    match fs::open(rt, file) {
-        Ok(again) => {
-            let again = Counted::new(again);
-            judge_by_itself(rt.alloc(), &mut frames, again, &asked, out, err)
-        }
-        Err(error) => report_file(&Failure::Open, file, &error, out, err),
+    if !is_plain(&again) {
+        return report(&Failure::NeedsScene, out, err);
+    }
+    let again = Counted::new(again);
+    match frames_at(rt, file, out, err) {
+        Ok(mut frames) => judge_by_itself(rt.alloc(), &mut frames, again, &asked, out, err),
+        Err(status) => status,
     }
 }
 
-/// Opens a capture twice, and looks at all its packets; else tells why not, and answers the exit status.
+/// Opens a capture, and tells the ways of its packets: of a plain file, which is opened twice, by all of them,
+/// and else by the first ones; or tells why not, and answers the exit status.
 fn frames_at<R, W, V>(
     rt: &R,
     file: &str,
@@ -366,20 +368,28 @@ where
     W: io::Write,
     V: io::Write,
 {
-    match (fs::open(rt, file), fs::open(rt, file)) {
-        (Ok(first), Ok(again)) => {
-            match frames_of(rt.alloc(), Counted::new(first), Counted::new(again)) {
-                Ok(frames) => Ok(frames),
-                Err(judged) => Err(end_of_judging(judged, out, err)),
-            }
-        }
-        (Err(error), _) | (_, Err(error)) => {
-            Err(report_file(&Failure::Open, file, &error, out, err))
-        }
+    let first = match fs::open(rt, file) {
+        Ok(first) => first,
+        Err(error) => return Err(report_file(&Failure::Open, file, &error, out, err)),
+    };
+    if !is_plain(&first) {
+        return match Frames::of_stream(rt.alloc(), Counted::new(first), None) {
+            Ok(frames) => Ok(frames),
+            Err(_) => Err(end_of_judging(Judged::NoMemory, out, err)),
+        };
+    }
+    let first = Counted::new(first);
+    match fs::open(rt, file) {
+        Ok(again) => match frames_of(rt.alloc(), first, Counted::new(again)) {
+            Ok(frames) => Ok(frames),
+            Err(judged) => Err(end_of_judging(judged, out, err)),
+        },
+        Err(error) => Err(report_file(&Failure::Open, file, &error, out, err)),
     }
 }
 
-/// Opens the capture of a listing, standard input where it is `-`, and lists it.
+/// Opens the capture of a listing, standard input where it is `-`, and lists it. A plain file is opened twice
+/// where it is read twice; what is none has its packets once.
 #[inline(never)]
 fn open_listing<R, W, V>(
     rt: &R,
@@ -397,8 +407,16 @@ where
     if file == "-" {
         return act_list(rt.alloc(), wanted.live(), Counted::new(input), out, err);
     }
+    let first = match fs::open(rt, file) {
+        Ok(first) => first,
+        Err(error) => return report_file(&Failure::Open, file, &error, out, err),
+    };
+    if !wanted.reads_twice() || !is_plain(&first) {
+        return act_list(rt.alloc(), wanted, Counted::new(first), out, err);
+    }
+    let first = Counted::new(first);
     match fs::open(rt, file) {
-        Ok(file) => act_list(rt.alloc(), wanted, Counted::new(file), out, err),
+        Ok(again) => act_list_file(rt.alloc(), wanted, first, Counted::new(again), out, err),
         Err(error) => report_file(&Failure::Open, file, &error, out, err),
     }
 }

@@ -60,6 +60,8 @@ pub enum Failure {
     Forms,
     /// A stream is to be judged, and no scene is named: a stream is read once, and its line learned of it all.
     NeedsScene,
+    /// Sums by index are asked for, and no sums.
+    IndexAlone,
     /// The descriptors of packet sockets are no numbers.
     Descriptors,
     /// The state in which slaves are to be left has another name.
@@ -133,6 +135,7 @@ pub fn report<W: Write, V: Write>(failure: &Failure, out: &mut W, err: &mut V) -
             b"argument: --csv, --faults and --stats are forms of a listing, of which it has one\n",
         ),
         Failure::NeedsScene => bad_argument(err, b"argument: NeedsScene\n"),
+        Failure::IndexAlone => bad_argument(err, b"argument: --index is of --stats\n"),
         Failure::Descriptors => bad_argument(
             err,
             b"argument: --raw wants numbers, as 10 or 10,11\n",

@@ -8,7 +8,7 @@ use Rattle.ecat_args.specs.Given.{by_index_in, index_in, lines_in}
 use Rattle.ecat_args.specs.Given.{judge_in, log_in, many_in, port_in, station_in, sub_in, surely_in}
 use Rattle.ecat_args.specs.Given.{csv_in, every_in, faults_in, images_in, late_in, limit_in, once_in}
 use Rattle.ecat_args.specs.Given.{asked_in, data_in, packet_in, recover_in, stats_in, stop_in, value_in}
-use Rattle.ecat_args.specs.Given.{word_in}
+use Rattle.ecat_args.specs.Given.{by_index_in, word_in}
 use Rattle.ecat_commands.specs.Commands.{line}
 use Rattle.ecat_args.specs.declared.args.Args.{Args}
 use Rattle.ecat_args.specs.declared.args.Args.TheVariants.{Show, Check, Cover, Lint, Where, Run, Sweep, Sdo}

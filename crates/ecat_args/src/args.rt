@@ -45,7 +45,7 @@ pub enum Args<'a> {
         faults: bool,
         /// Whether working counters are counted instead.
         stats: bool,
-        /// Whether datagrams are told apart by their index too.
+        /// Whether the datagrams of each index are counted apart.
         by_index: bool,
     },
     /// `learn FILE [--at PACKET] [--asked] [--data]`: writes the line that a capture shows as a scene.

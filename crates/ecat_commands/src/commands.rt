@@ -175,7 +175,12 @@ fn list<'a>(alloc: Global) -> Result<Command<'a>, AllocError>
         flag(
             alloc,
             "stats",
-            "Counts each working counter of datagrams that are alike",
+            "Counts what was sent, came back and was lost of datagrams that are alike",
+        ),
+        flag(
+            alloc,
+            "index",
+            "With --stats, counts the datagrams of each index apart",
         ),
         flag(
             alloc,

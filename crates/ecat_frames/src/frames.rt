@@ -3,7 +3,7 @@
 ghost use Rattle.std.specs.Prelude.{◌<◌, ◌≤◌, length};
 
 use crate::looking::Looked;
-use crate::packet::{any_frame, read_packet};
+use crate::packet::{any_frame, read_packet, time_of};
 use ec_wire::FrameBuf;
 use ecat_capture::{Capture, CaptureFault, CaptureFaultKind, Packet};
 use ecat_source::Source;
@@ -42,6 +42,34 @@ struct HeldFrame {
     frame: FrameBuf,
 }
 
+/// What is told of all packets that were read, also of those without a frame.
+#[derive(Clone, Copy)]
+struct Packets {
+    count: u64,
+    first_time: Option<u64>,
+    is_fine: bool,
+}
+
+impl Packets {
+    /// No packet was read.
+    fn new() -> Packets {
+        Packets {
+            count: 0,
+            first_time: None,
+            is_fine: false,
+        }
+    }
+
+    /// One more packet was read.
+    fn take(&mut self, packet: &Packet) {
+        self.count = self.count.saturating_add(1);
+        if self.first_time.is_none() {
+            self.first_time = time_of(packet);
+        }
+        self.is_fine = self.is_fine || packet.time.is_some_and(|time| time.fine);
+    }
+}
+
 /// The frames that a capture has ahead, each with its packet.
 #[derive(Drop)]
 pub struct Frames<S: Source> {
@@ -57,6 +85,7 @@ pub struct Frames<S: Source> {
     is_read: bool,
     /// How the reading ended, if it has.
     ended: Option<End>,
+    packets: Packets,
 }
 
 impl<S: Source + Drop> Frames<S> {
@@ -72,6 +101,7 @@ impl<S: Source + Drop> Frames<S> {
             frame: any_frame(),
             is_read: false,
             ended: None,
+            packets: Packets::new(),
         }
     }
 
@@ -97,6 +127,7 @@ impl<S: Source + Drop> Frames<S> {
         self.given = 0;
         self.is_read = false;
         self.ended = None;
+        self.packets = Packets::new();
     }
 
     /// Holds the first frames, and looks at them.
@@ -133,6 +164,7 @@ impl<S: Source + Drop> Frames<S> {
                     if !self.is_asked(&packet) {
                         break;
                     }
+                    self.packets.take(&packet);
                     match read_packet(&packet, self.capture.bytes(), &mut self.frame) {
                         Some(outline) => return Some(outline),
                         None => {}
@@ -178,6 +210,21 @@ impl<S: Source + Drop> Frames<S> {
     /// What tells the ways of the packets.
     pub fn marks(&self) -> &Marks {
         &self.marks
+    }
+
+    /// How many packets were read, with a frame or without; of a stream those of the held frames at first.
+    pub fn packets(&self) -> u64 {
+        self.packets.count
+    }
+
+    /// When the first packet that has a time was captured, in nanoseconds of the epoch.
+    pub fn first_time(&self) -> Option<u64> {
+        self.packets.first_time
+    }
+
+    /// Does some packet that was read have a time in nanoseconds?
+    pub fn is_fine(&self) -> bool {
+        self.packets.is_fine
     }
 
     /// How the reading ended; before it has, [`End::Whole`].

@@ -3,10 +3,11 @@
 ghost use Rattle.std.specs.Prelude.{◌<◌, ◌≤◌, length};
 
 use crate::frames::{End, end_of};
-use crate::packet::{any_frame, read_packet};
-use ecat_capture::Capture;
+use crate::packet::{any_frame, read_packet, sender_of};
+use ec_wire::FrameBuf;
+use ecat_capture::{Capture, Packet};
 use ecat_source::Source;
-use ecat_trips::{Bases, Marks, Outline};
+use ecat_trips::{Bases, Marks, Outline, Source as Sender};
 use std::alloc::Global;
 
 /// The addresses and the interfaces of packets, as far as they were looked at.
@@ -38,6 +39,30 @@ impl Looked {
         }
     }
 
+    /// Was a packet from there looked at that came the same way? One more tells nothing new.
+    fn knows(&self, source: Sender, interface: u32) -> bool {
+        (self.interfaces || self.interface == Some(interface))
+            && self.bases.told.iter().any(|known| {
+                known.base == source.base
+                    && (if source.marked {
+                        known.marked
+                    } else {
+                        known.plain
+                    })
+            })
+    }
+
+    /// Looks at a packet, if it has a frame; whether it has is read where it would tell something new alone.
+    fn look_at(&mut self, packet: &Packet, bytes: &[u8], frame: &mut FrameBuf) {
+        if self.knows(sender_of(bytes), packet.interface) {
+            return;
+        }
+        match read_packet(packet, bytes, frame) {
+            Some(outline) => self.take(&outline),
+            None => {}
+        }
+    }
+
     /// What that tells of the ways.
     pub fn marks(self) -> Marks {
         Marks::of(self.bases, self.interfaces)
@@ -50,10 +75,7 @@ pub fn look<S: Source + Drop>(alloc: Global, source: S, looked: &mut Looked) -> 
     let mut frame = any_frame();
     for _ in 0..u64::MAX {
         match capture.next() {
-            Ok(Some(packet)) => match read_packet(&packet, capture.bytes(), &mut frame) {
-                Some(outline) => looked.take(&outline),
-                None => {}
-            },
+            Ok(Some(packet)) => looked.look_at(&packet, capture.bytes(), &mut frame),
             Ok(None) => return End::Whole,
             Err(fault) => return end_of(fault),
         }

@@ -40,17 +40,27 @@ fn ports_of(bytes: &[u8], from: usize) -> Option<Ports> {
     }
 }
 
+/// Who sent a packet whose bytes these are.
+pub(crate) fn sender_of(bytes: &[u8]) -> Sender {
+    Sender::of(address_of(bytes))
+}
+
+/// When a packet was captured, in nanoseconds of the epoch, where the capture tells it.
+pub(crate) fn time_of(packet: &Packet) -> Option<u64> {
+    packet.time.map(|time| {
+        time.seconds
+            .saturating_mul(1_000_000_000)
+            .saturating_add(time.nanoseconds)
+    })
+}
+
 /// What trips look at of a packet beside its frame.
 fn outline_of(packet: &Packet, bytes: &[u8], ports: Option<Ports>) -> Outline {
     Outline {
         number: packet.number,
-        time: packet.time.map(|time| {
-            time.seconds
-                .saturating_mul(1_000_000_000)
-                .saturating_add(time.nanoseconds)
-        }),
+        time: time_of(packet),
         interface: packet.interface,
-        source: Sender::of(address_of(bytes)),
+        source: sender_of(bytes),
         ports,
     }
 }

@@ -1,3 +1,4 @@
 mod HexLemmas
+mod PassedLemmas
 mod StatsLemmas
 mod TallyLemmas

@@ -11,14 +11,15 @@ use Rattle.std.proofs.lemmas.List.{append-nil, map-append}
 use Rattle.std.proofs.lemmas.List.Elements.{filter-append}
 use Rattle.std.proofs.lemmas.Map.Made.{lookup_key_passes}
 use Rattle.indexmap.specs.IndexMap.{get_key_by, index_map_len}
-use Rattle.ecat_list.specs.Stats.{IsAt, IsTold, datagrams_of, group_of, is_left_out, same_key}
-use Rattle.ecat_list.specs.Tally.{IsTally}
+use Rattle.ecat_list.specs.Stats.{IsAt, IsGroup, IsTold, came_of, datagrams_of, group_of, is_left_out}
+use Rattle.ecat_list.specs.Stats.{same_key, with_passed}
+use Rattle.ecat_list.specs.declared.group.Group.{Group}
+use Rattle.ecat_list.specs.declared.passed.Key.{Key}
+use Rattle.ecat_list.specs.declared.passed.Passed.{Passed}
+use Rattle.ecat_list.specs.declared.passed.What.{What}
 use Rattle.ecat_list.specs.declared.stats.TheConstants.{MAX_GROUPS}
-use Rattle.ecat_list.specs.declared.stats.Group.{Group}
-use Rattle.ecat_list.specs.declared.stats.Key.{Key}
-use Rattle.ecat_list.specs.declared.stats.Passed.{Passed}
 use Rattle.ecat_list.specs.declared.stats.Stats.{Stats}
-use Rattle.ecat_list.specs.declared.tally.Came.{Came}
+use Rattle.ecat_list.specs.declared.counters.Came.{Came}
 use Rattle.ecat_list.proofs.TallyLemmas as tallies
 
 -- ---- keys
@@ -73,43 +74,57 @@ key_laws = record {
 -- ---- the datagrams of a key
 
 module _ (all : List Passed) (p : Passed) (key : Key) where
-  abbrev of_key : Passed → Bool
-  of_key x = same_key x.key key
+  abbrev of_key : (What → Bool) → Passed → Bool
+  of_key is x = same_key x.key key && is x.seen.what
 
-  split : datagrams_of key (all ++ p ∷ [])
-      ≡ datagrams_of key all ++ map (λ (x : Passed). x.came) (filter of_key (p ∷ []))
-  split = ap (map (λ (x : Passed). x.came)) (filter-append of_key all (p ∷ []))
-      ∙ map-append (λ (x : Passed). x.came) (filter of_key all) (filter of_key (p ∷ []))
+  split : (is : What → Bool) → datagrams_of key (all ++ p ∷ []) is
+      ≡ datagrams_of key all is ++ map came_of (filter (of_key is) (p ∷ []))
+  split is = ap (map came_of) (filter-append (of_key is) all (p ∷ []))
+      ∙ map-append came_of (filter (of_key is) all) (filter (of_key is) (p ∷ []))
 
   -- one more of them
   datagrams_more : same_key p.key key ≡ true
-      → datagrams_of key (all ++ p ∷ []) ≡ datagrams_of key all ++ p.came ∷ []
-  datagrams_more same = split
-      ∙ ap (λ b. datagrams_of key all ++ map (λ (x : Passed). x.came) (cond b (p ∷ []) [])) same
+      → datagrams_of key (all ++ p ∷ []) ≡ with_passed p (datagrams_of key all)
+  datagrams_more same = λ i is. more is i
+    where
+      by : (xs : List Came) (b : Bool)
+          → xs ++ map came_of (cond b (p ∷ []) []) ≡ cond b (xs ++ came_of p ∷ []) xs
+      by xs true = refl
+      by xs false = append-nil xs
+
+      more : (is : What → Bool)
+          → datagrams_of key (all ++ p ∷ []) is ≡ with_passed p (datagrams_of key all) is
+      more is = split is
+          ∙ ap (λ b. datagrams_of key all is ++ map came_of (cond (b && is p.seen.what) (p ∷ []) [])) same
+          ∙ by (datagrams_of key all is) (is p.seen.what)
 
   -- one more of another key
   datagrams_same : same_key p.key key ≡ false → datagrams_of key (all ++ p ∷ []) ≡ datagrams_of key all
-  datagrams_same other = split
-      ∙ ap (λ b. datagrams_of key all ++ map (λ (x : Passed). x.came) (cond b (p ∷ []) [])) other
-      ∙ append-nil (datagrams_of key all)
+  datagrams_same other = λ i is. same is i
+    where
+      same : (is : What → Bool) → datagrams_of key (all ++ p ∷ []) is ≡ datagrams_of key all is
+      same is = split is
+          ∙ ap (λ b. datagrams_of key all is ++ map came_of (cond (b && is p.seen.what) (p ∷ []) [])) other
+          ∙ append-nil (datagrams_of key all is)
 
 -- ---- what has no group
 
 -- where each datagram has a group, none has a key that has none
 nobody_has : (s : Stats) (key : Key) (all : List Passed) → count_by (is_left_out s) all ≡ 0
-    → group_of s key ≡ None → datagrams_of key all ≡ []
-nobody_has s key [] none absent = refl
-nobody_has s key (x ∷ xs) none absent =
-    by (same_key x.key key) refl (nobody_has s key xs (omega (arith, parted)) absent)
+    → group_of s key ≡ None → (is : What → Bool) → datagrams_of key all is ≡ []
+nobody_has s key [] none absent is = refl
+nobody_has s key (x ∷ xs) none absent is =
+    by (same_key x.key key && is x.seen.what) refl (nobody_has s key xs (omega (arith, parted)) absent is)
   where
     parted : cond (is_left_out s x) 1 0 + count_by (is_left_out s) xs ≡ 0
     parted = sym (tallies.count_cons (is_left_out s) x xs) ∙ none
 
-    by : (b : Bool) → same_key x.key key ≡ b → datagrams_of key xs ≡ []
-        → map (λ (y : Passed). y.came) (cond b (x ∷ filter (λ y. same_key y.key key) xs)
-        (filter (λ y. same_key y.key key) xs)) ≡ []
+    by : (b : Bool) → (same_key x.key key && is x.seen.what) ≡ b → datagrams_of key xs is ≡ []
+        → map came_of (cond b (x ∷ filter (λ y. same_key y.key key && is y.seen.what) xs)
+        (filter (λ y. same_key y.key key && is y.seen.what) xs)) ≡ []
     by true e more =
-        let here : group_of s x.key ≡ None = ap (group_of s) (key_is x.key key e) ∙ absent in
+        let same = (and_parts (same_key x.key key) (is x.seen.what) e).0 in
+        let here : group_of s x.key ≡ None = ap (group_of s) (key_is x.key key same) ∙ absent in
         absurd (omega (arith, parted, ap {B = ℕ} (λ (o : Option Group). cond (is_none o) 1 0) here))
     by false e more = more
 
@@ -134,24 +149,24 @@ fewer_left_out s later keeps (x ∷ xs) none =
 module _ (all : List Passed) (p : Passed) (s later : Stats) (h : IsTold all s) (w : Group)
     (at : (key : Key) → group_of later key ≡ cond (same_key p.key key) (Some w) (group_of s key)) where
   -- the groups of all, where the datagram's own group has its tally
-  groups_told : IsTally (datagrams_of p.key all ++ p.came ∷ []) w.tally → (key : Key) (g : Group)
-      → group_of later key ≡ Some g → IsTally (datagrams_of key (all ++ p ∷ [])) g.tally
+  groups_told : IsGroup (with_passed p (datagrams_of p.key all)) w → (key : Key) (g : Group)
+      → group_of later key ≡ Some g → IsGroup (datagrams_of key (all ++ p ∷ [])) g
   groups_told own key g is = by (same_key p.key key) refl
     where
       some_is : (x y : Group) → Some x ≡ Some y → x ≡ y
       some_is x y e = cc
 
-      by : (b : Bool) → same_key p.key key ≡ b → IsTally (datagrams_of key (all ++ p ∷ [])) g.tally
+      by : (b : Bool) → same_key p.key key ≡ b → IsGroup (datagrams_of key (all ++ p ∷ [])) g
       by true e =
           let same : Some w ≡ Some g = sym (at key ∙ ap (λ b. cond b (Some w) (group_of s key)) e) ∙ is in
           let group : w ≡ g = some_is w g same in
-          subst (λ (x : Group). IsTally (datagrams_of key (all ++ p ∷ [])) x.tally) group
-          (subst (λ xs. IsTally xs w.tally) (sym (datagrams_more all p key e))
-          (subst (λ k. IsTally (datagrams_of k all ++ p.came ∷ []) w.tally) (key_is p.key key e) own))
+          subst (λ (x : Group). IsGroup (datagrams_of key (all ++ p ∷ [])) x) group
+          (subst (λ xs. IsGroup xs w) (sym (datagrams_more all p key e))
+          (subst (λ k. IsGroup (with_passed p (datagrams_of k all)) w) (key_is p.key key e) own))
       by false e =
           let still : group_of s key ≡ Some g =
           sym (at key ∙ ap (λ b. cond b (Some w) (group_of s key)) e) ∙ is in
-          subst (λ xs. IsTally xs g.tally) (sym (datagrams_same all p key e)) (h.groups key g still)
+          subst (λ xs. IsGroup xs g) (sym (datagrams_same all p key e)) (h.groups key g still)
 
   -- the datagram has a group now
   has_one : is_left_out later p ≡ false
@@ -172,7 +187,7 @@ module _ (all : List Passed) (p : Passed) (s later : Stats) (h : IsTold all s) (
   -- one more of a group that there is
   pub told_again : (g : Group) → group_of s p.key ≡ Some g → later.left_out ≡ s.left_out
       → index_map_len later.groups ≡ index_map_len s.groups
-      → ((xs : List Came) → IsTally xs g.tally → IsTally (xs ++ p.came ∷ []) w.tally)
+      → ((xs : (What → Bool) → List Came) → IsGroup xs g → IsGroup (with_passed p xs) w)
       → IsTold (all ++ p ∷ []) later
   told_again g is left len counted =
       record {
@@ -195,17 +210,19 @@ module _ (all : List Passed) (p : Passed) (s later : Stats) (h : IsTold all s) (
 
   -- the first of a group
   pub told_first : group_of s p.key ≡ None → later.left_out ≡ s.left_out → index_map_len s.groups < MAX_GROUPS
-      → IsTally (p.came ∷ []) w.tally → IsTold (all ++ p ∷ []) later
+      → IsGroup (with_passed p (λ (is : What → Bool). [])) w → IsTold (all ++ p ∷ []) later
   told_first absent left room first =
       record {
-        groups = groups_told (subst (λ xs. IsTally (xs ++ p.came ∷ []) w.tally)
-            (sym (nobody_has s p.key all none absent)) first);
+        groups = groups_told (subst (λ xs. IsGroup (with_passed p xs) w) nobody first);
         left_out = left ∙ h.left_out ∙ ap u64_saturate (none ∙ sym still);
         all_told = λ less. still;
       }
     where
       none : count_by (is_left_out s) all ≡ 0
       none = h.all_told room
+
+      nobody : (λ (is : What → Bool). []) ≡ datagrams_of p.key all
+      nobody = λ i is. sym (nobody_has s p.key all none absent is) i
 
       still : count_by (is_left_out later) (all ++ p ∷ []) ≡ 0
       still = left_out_push ∙ fewer_left_out s later keeps_one all none
@@ -224,11 +241,11 @@ told_left_out all p s h absent full =
     }
   where
     by : (key : Key) (g : Group) → group_of s key ≡ Some g → (b : Bool) → same_key p.key key ≡ b
-        → IsTally (datagrams_of key (all ++ p ∷ [])) g.tally
+        → IsGroup (datagrams_of key (all ++ p ∷ [])) g
     by key g is true e =
         let wrong : None ≡ Some g = sym absent ∙ ap (group_of s) (key_is p.key key e) ∙ is in
         absurd (cc)
-    by key g is false e = subst (λ xs. IsTally xs g.tally) (sym (datagrams_same all p key e)) (h.groups key g is)
+    by key g is false e = subst (λ xs. IsGroup xs g) (sym (datagrams_same all p key e)) (h.groups key g is)
 
 -- ---- a place
 

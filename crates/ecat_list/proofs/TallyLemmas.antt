@@ -7,14 +7,17 @@ use Rattle.std.specs.Option.{option_map, option_or}
 use Rattle.std.specs.Io.Iter.{u64_saturate}
 use Rattle.std.proofs.lemmas.Bool.Decides.{nat_tests}
 use Rattle.std.proofs.lemmas.List.Sums.{sum_by-append, sum_by-cons}
-use Rattle.std.proofs.lemmas.List.{take_at, length-append, length-map, length-take-le, append_assoc, drop_more}
-use Rattle.std.proofs.lemmas.List.{get_or_at, set_at, map_more}
+use Rattle.std.proofs.lemmas.List.{take_at, length-map, length-take, length-take-le, append_assoc, drop_more}
+use Rattle.std.proofs.lemmas.List.{get_or_at, set_at, map_more, map-append, length_push, take-append-drop}
+use Rattle.std.proofs.lemmas.List.{take-append-le, take_all}
 use Rattle.std.proofs.lemmas.List.Folds.{find-append, list_any-append}
 use Rattle.ecat_list.specs.Counts.{TallyRecord}
-use Rattle.ecat_list.specs.Tally.{IsCounted, IsTally, came_with, counts_again, has_counter, is_other}
-use Rattle.ecat_list.specs.declared.tally.Came.{Came}
-use Rattle.ecat_list.specs.declared.tally.Count.{Count}
-use Rattle.ecat_list.specs.declared.tally.TheConstants.{MAX_COUNTERS}
+use Rattle.ecat_list.specs.Tally.{IsCounted, IsTally, came_with, counters_behind, counters_of, counts_again}
+use Rattle.ecat_list.specs.Tally.{has_counter, is_other, with_counter}
+use Rattle.ecat_list.specs.declared.counters.Came.{Came}
+use Rattle.ecat_list.specs.declared.counters.Place.{Place}
+use Rattle.ecat_list.specs.declared.counters.Count.{Count}
+use Rattle.ecat_list.specs.declared.counters.TheConstants.{MAX_COUNTERS}
 
 -- ---- going through a list
 
@@ -73,8 +76,8 @@ saturated_more n = grind arith
 -- ---- one counter
 
 -- the first datagram that came with a counter stays the first
-first_stays : (found more : Option Came) (n : ℕ) → option_map (λ (x : Came). x.packet) found ≡ Some n
-    → option_map (λ (x : Came). x.packet) (option_or found more) ≡ Some n
+first_stays : (found more : Option Came) (n : Place) → option_map (λ (x : Came). x.at) found ≡ Some n
+    → option_map (λ (x : Came). x.at) (option_or found more) ≡ Some n
 first_stays None more n h = absurd (cc)
 first_stays (Some x) more n h = h
 
@@ -87,7 +90,7 @@ comes_again all p c h same =
           ap (λ n. u64_saturate (n + 1)) h.times ∙ saturated_more _
           ∙ sym (ap u64_saturate (count_push (came_with c.counter) all p
           ∙ ap (λ b. count_by (came_with c.counter) all + cond b 1 0) (eqb_comm p.counter c.counter ∙ same)));
-      first = ap (option_map (λ (x : Came). x.packet)) (find-append (came_with c.counter) all (p ∷ []))
+      first = ap (option_map (λ (x : Came). x.at)) (find-append (came_with c.counter) all (p ∷ []))
           ∙ first_stays (find (came_with c.counter) all) _ c.first h.first;
     }
 
@@ -101,7 +104,7 @@ comes_not all p c h other =
           ∙ sym (ap u64_saturate (count_push (came_with c.counter) all p
           ∙ ap (λ b. count_by (came_with c.counter) all + cond b 1 0) (eqb_comm p.counter c.counter ∙ other)
           ∙ omega arith));
-      first = ap (option_map (λ (x : Came). x.packet)) (find-append (came_with c.counter) all (p ∷ []))
+      first = ap (option_map (λ (x : Came). x.at)) (find-append (came_with c.counter) all (p ∷ []))
           ∙ first_stays (find (came_with c.counter) all) _ c.first h.first;
     }
 
@@ -201,7 +204,7 @@ others_fewer told c (x ∷ xs) none =
 pub counted_new : (all : List Came) (p : Came) (told : List Count) → AllByRecursion (IsCounted all) told
     → list_any (has_counter p.counter) told ≡ false → count_by (is_other told) all ≡ 0
     → AllByRecursion (IsCounted (all ++ p ∷ []))
-    (told ++ record { counter = p.counter; times = 1; first = p.packet } ∷ [])
+    (told ++ record { counter = p.counter; times = 1; first = p.at } ∷ [])
 counted_new all p told h free none =
     pushed told (counted_without all p told h free)
   where
@@ -211,21 +214,57 @@ counted_new all p told h free none =
     itself : eqb p.counter p.counter ≡ true
     itself = grind (arith, nat_tests)
 
-    new : IsCounted (all ++ p ∷ []) (record { counter = p.counter; times = 1; first = p.packet })
+    new : IsCounted (all ++ p ∷ []) (record { counter = p.counter; times = 1; first = p.at })
     new = record {
       times = sym (ap u64_saturate (count_push (came_with p.counter) all p
           ∙ ap (λ n. n + cond (eqb p.counter p.counter) 1 0) absent.0
           ∙ ap (λ b. 0 + cond b 1 0) itself));
-      first = ap (option_map (λ (x : Came). x.packet)) (find-append (came_with p.counter) all (p ∷ [])
+      first = ap (option_map (λ (x : Came). x.at)) (find-append (came_with p.counter) all (p ∷ [])
           ∙ ap (λ o. option_or o (find (came_with p.counter) (p ∷ []))) absent.1
           ∙ ap (λ b. cond b (Some p) None) itself);
     }
 
     pushed : (cs : List Count) → AllByRecursion (IsCounted (all ++ p ∷ [])) cs
         → AllByRecursion (IsCounted (all ++ p ∷ []))
-        (cs ++ record { counter = p.counter; times = 1; first = p.packet } ∷ [])
+        (cs ++ record { counter = p.counter; times = 1; first = p.at } ∷ [])
     pushed [] g = (new, g)
     pushed (c ∷ cs) g = (g.0, pushed cs g.1)
+
+-- ---- the counters in their order
+
+-- the number of what is counted
+abbrev number_of : Count → ℕ
+number_of c = c.counter
+
+-- counters of one datagram more
+counters_push : (known : List ℕ) (xs : List Came) (p : Came)
+    → counters_behind known (xs ++ p ∷ []) ≡ with_counter (counters_behind known xs) p.counter
+counters_push known [] p = refl
+counters_push known (x ∷ xs) p = counters_push (with_counter known x.counter) xs p
+
+-- what is told apart has a counter where its number is among the numbers
+told_numbers : (k : ℕ) (told : List Count)
+    → list_any (λ c. eqb c k) (map number_of told) ≡ list_any (has_counter k) told
+told_numbers k [] = refl
+told_numbers k (c ∷ cs) = ap (λ b. eqb c.counter k || b) (told_numbers k cs)
+
+-- what is among the first of some is among them
+any_of_first : {X : Type 0} (p : X → Bool) (n : ℕ) (xs : List X) → list_any p (take n xs) ≡ true
+    → list_any p xs ≡ true
+any_of_first p n xs is =
+    ap (list_any p) (sym (take-append-drop n xs)) ∙ list_any-append p (take n xs) (drop n xs)
+    ∙ ap (λ b. b || list_any p (drop n xs)) is
+
+-- counting again leaves the numbers
+numbers_again : (k : ℕ) (told : List Count) → map number_of (map (counts_again k) told) ≡ map number_of told
+numbers_again k [] = refl
+numbers_again k (c ∷ cs) =
+    ap (λ n. n ∷ map number_of (map (counts_again k) cs)) (by (eqb c.counter k))
+    ∙ ap (λ ns. c.counter ∷ ns) (numbers_again k cs)
+  where
+    by : (b : Bool) → number_of (cond b (record c { times = u64_saturate (c.times + 1) }) c) ≡ c.counter
+    by true = refl
+    by false = refl
 
 -- ---- the whole tally
 
@@ -236,18 +275,44 @@ module _ (all : List Came) (p : Came) (t : TallyRecord) (h : IsTally all t) wher
       ≡ count_by (is_other told) all + cond (not (list_any (has_counter p.counter) told)) 1 0
   other_push told = count_push (is_other told) all p
 
+  -- there is one more
+  one_more : u64_saturate (t.times + 1) ≡ u64_saturate (length (all ++ p ∷ []))
+  one_more = ap (λ n. u64_saturate (n + 1)) h.times ∙ saturated_more (length all)
+      ∙ ap u64_saturate (sym (length_push all p))
+
+  -- is a number that of the datagram
+  abbrev is_its : ℕ → Bool
+  is_its c = eqb c p.counter
+
+  counters_more : counters_of (all ++ p ∷ []) ≡ with_counter (counters_of all) p.counter
+  counters_more = counters_push [] all p
+
+  as_many : length t.told ≡ min MAX_COUNTERS (length (counters_of all))
+  as_many = sym (length-map t.told number_of) ∙ ap length h.order ∙ length-take MAX_COUNTERS (counters_of all)
+
   -- a counter that is told apart came again
   pub tally_again : list_any (has_counter p.counter) t.told ≡ true
-      → IsTally (all ++ p ∷ []) (record { told = map (counts_again p.counter) t.told; others = t.others })
+      → IsTally (all ++ p ∷ []) (record {
+        told = map (counts_again p.counter) t.told;
+        others = t.others;
+        times = u64_saturate (t.times + 1);
+      })
   tally_again is =
       record {
-        room = subst (λ n. n ≤ MAX_COUNTERS) (sym (length-map t.told (counts_again p.counter))) h.room;
+        order = numbers_again p.counter t.told ∙ h.order
+            ∙ sym (ap (take MAX_COUNTERS) (counters_more
+            ∙ ap (λ b. cond b (counters_of all) (counters_of all ++ p.counter ∷ [])) known));
         told = counted_again all p t.told h.told;
         others = h.others ∙ sym (ap u64_saturate (as_before));
         first_eight = λ less. as_before ∙ h.first_eight
             (subst (λ n. n < MAX_COUNTERS) (length-map t.told (counts_again p.counter)) less);
+        times = one_more;
       }
     where
+      known : list_any is_its (counters_of all) ≡ true
+      known = any_of_first is_its MAX_COUNTERS (counters_of all)
+          (ap (list_any is_its) (sym h.order) ∙ told_numbers p.counter t.told ∙ is)
+
       as_before : count_by (is_other (map (counts_again p.counter) t.told)) (all ++ p ∷ [])
           ≡ count_by (is_other t.told) all
       as_before =
@@ -256,33 +321,66 @@ module _ (all : List Came) (p : Came) (t : TallyRecord) (h : IsTally all t) wher
 
   -- another one than those told apart came, of which there are eight
   pub tally_others : list_any (has_counter p.counter) t.told ≡ false → MAX_COUNTERS ≤ length t.told
-      → IsTally (all ++ p ∷ []) (record { told = t.told; others = u64_saturate (t.others + 1) })
+      → IsTally (all ++ p ∷ []) (record {
+        told = t.told;
+        others = u64_saturate (t.others + 1);
+        times = u64_saturate (t.times + 1);
+      })
   tally_others isnt full =
       record {
-        room = h.room;
+        order = h.order ∙ sym (ap (take MAX_COUNTERS) counters_more
+            ∙ first_stay (list_any is_its (counters_of all)));
         told = counted_without all p t.told h.told isnt;
         others = ap (λ n. u64_saturate (n + 1)) h.others ∙ saturated_more _
             ∙ sym (ap u64_saturate (other_push t.told
             ∙ ap (λ b. count_by (is_other t.told) all + cond (not b) 1 0) isnt));
         first_eight = λ less. absurd (omega (arith, full, less));
+        times = one_more;
       }
+    where
+      long : MAX_COUNTERS ≤ length (counters_of all)
+      long = omega (arith, full, as_many)
+
+      first_stay : (b : Bool)
+          → take MAX_COUNTERS (cond b (counters_of all) (counters_of all ++ p.counter ∷ []))
+          ≡ take MAX_COUNTERS (counters_of all)
+      first_stay true = refl
+      first_stay false = take-append-le MAX_COUNTERS (counters_of all) (p.counter ∷ []) long
 
   -- a counter came that is told apart from now on
   pub tally_new : list_any (has_counter p.counter) t.told ≡ false → length t.told < MAX_COUNTERS
       → IsTally (all ++ p ∷ []) (record {
-        told = t.told ++ record { counter = p.counter; times = 1; first = p.packet } ∷ [];
+        told = t.told ++ record { counter = p.counter; times = 1; first = p.at } ∷ [];
         others = t.others;
+        times = u64_saturate (t.times + 1);
       })
   tally_new isnt less =
       record {
-        room = subst (λ n. n ≤ MAX_COUNTERS) (sym (length-append t.told (new ∷ []))) (omega (arith, less));
+        order = map-append number_of t.told (new ∷ [])
+            ∙ ap (λ xs. xs ++ p.counter ∷ []) (h.order ∙ whole)
+            ∙ sym (ap (take MAX_COUNTERS) (counters_more
+            ∙ ap (λ b. cond b (counters_of all) (counters_of all ++ p.counter ∷ [])) unknown) ∙ longer);
         told = counted_new all p t.told h.told isnt none;
         others = h.others ∙ ap u64_saturate (none ∙ sym still);
         first_eight = λ lesser. still;
+        times = one_more;
       }
     where
       new : Count
-      new = record { counter = p.counter; times = 1; first = p.packet }
+      new = record { counter = p.counter; times = 1; first = p.at }
+
+      short : length (counters_of all) < MAX_COUNTERS
+      short = omega (arith, less, as_many)
+
+      whole : take MAX_COUNTERS (counters_of all) ≡ counters_of all
+      whole = take_all MAX_COUNTERS (counters_of all) (omega (arith, short))
+
+      longer : take MAX_COUNTERS (counters_of all ++ p.counter ∷ []) ≡ counters_of all ++ p.counter ∷ []
+      longer = take_all MAX_COUNTERS (counters_of all ++ p.counter ∷ [])
+          (omega (arith, short, length_push (counters_of all) p.counter))
+
+      unknown : list_any is_its (counters_of all) ≡ false
+      unknown = ap (list_any is_its) (sym (h.order ∙ whole)) ∙ told_numbers p.counter t.told ∙ isnt
 
       none : count_by (is_other t.told) all ≡ 0
       none = h.first_eight less

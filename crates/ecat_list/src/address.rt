@@ -4,6 +4,7 @@ ghost use Rattle.std.specs.Prelude.{◌≡◌, ◌≤◌, ◌+◌};
 use crate::row::Row;
 use crate::text::{four_digits, put_byte, put_decimal, put_hex};
 use ec_wire::{Command, ado_of, adp_of};
+use ecat_trips::moves_adp;
 use std::alloc::AllocError;
 
 /// How a command's address is read.
@@ -48,6 +49,21 @@ pub(crate) fn put_address(
             put_hex(text, &adp_of(address).to_be_bytes())?;
             put_register(text, address)
         }
+    }
+}
+
+/// Puts the address of a group: as a datagram's, or `0x0130` of a command whose ADP slaves count up, where it
+/// is the ADO alone.
+pub(crate) fn put_group_address(
+    text: &mut Vec<u8>,
+    command: Command,
+    address: u32,
+) -> Result<(), AllocError> {
+    if moves_adp(command) {
+        text.extend_from_slice(b"0x")?;
+        put_hex(text, &((address % 65536) as u16).to_be_bytes())
+    } else {
+        put_address(text, command, address)
     }
 }
 

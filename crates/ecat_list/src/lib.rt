@@ -31,15 +31,22 @@
 
 mod address;
 mod columns;
+mod counters;
 mod cut;
+mod date;
+mod group;
+mod group_lines;
 mod line;
 mod listing;
 mod output;
+mod passed;
 mod row;
 mod shown;
 mod stats;
-mod tally;
+mod tallying;
 mod text;
+mod ways;
 
 pub use listing::{Asked, Form, Listed, list};
 pub use shown::{Shown, show};
+pub use tallying::{Sums, tally, tally_stream};

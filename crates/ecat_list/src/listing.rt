@@ -1,12 +1,8 @@
 //! `ecat list`: what is told of each packet of a capture.
-ghost use Rattle.std.specs.Prelude.{◌<◌, length};
-
 use crate::cut::{CutDatagram, refill_front};
 use crate::line::{CSV_HEAD, Head, Note, Since, Style, any_frame, put_datagrams, put_note};
 use crate::output::{Output, Stop};
 use crate::row::Row;
-use crate::stats::{Key, Passed, Stats};
-use crate::tally::Came;
 use ec_wire::{FaultKind, Form as Carrier, FrameBuf, WireFault};
 use ecat_capture::{
     Capture, CaptureFault, CaptureFaultKind, Packet, Payload, Time, frame_type, payload_of,
@@ -24,8 +20,6 @@ pub enum Form {
     Csv,
     /// The packets alone that are damaged or cut short.
     Faults,
-    /// How often each datagram went by, with which counters, and how far apart.
-    Stats,
 }
 
 /// How a capture is listed.
@@ -58,7 +52,7 @@ pub enum Listed {
 }
 
 /// After how many packets it is told how many were read.
-const PROGRESS_STEP: u64 = 100_000;
+pub(crate) const PROGRESS_STEP: u64 = 100_000;
 
 /// Lists the capture that the source has ahead: the texts go to `out`, and where progress is asked for to
 /// `err` how many packets were read. A write to `err` that fails is passed over.
@@ -85,7 +79,7 @@ pub fn list<S: Source + Drop, W: Write, V: Write>(
 }
 
 /// How a listing ended that was stopped.
-fn listed_of(stop: Stop) -> Listed {
+pub(crate) fn listed_of(stop: Stop) -> Listed {
     match stop {
         Stop::Closed => Listed::Closed,
         Stop::OutputFailed => Listed::OutputFailed,
@@ -120,7 +114,6 @@ struct Listing<'a, W> {
     asked: Asked,
     output: Output<'a, W>,
     frame: FrameBuf,
-    stats: Option<Stats>,
     first: Option<u64>,
     /// What the lines of a packet begin with.
     head: Row,
@@ -135,16 +128,10 @@ impl<'a, W: Write> Listing<'a, W> {
         if asked.form == Form::Csv {
             output.text.extend_from_slice(CSV_HEAD)?;
         }
-        let stats = if asked.form == Form::Stats {
-            Some(Stats::new(alloc))
-        } else {
-            None
-        };
         Ok(Listing {
             asked,
             output,
             frame: any_frame(),
-            stats,
             first: None,
             head: Row::new(),
             row: Row::new(),
@@ -169,10 +156,7 @@ impl<'a, W: Write> Listing<'a, W> {
     /// Tells now and then how many packets were read.
     fn tell_progress<V: Write>(&self, packets: u64, err: &mut V) {
         if self.asked.progress && packets % PROGRESS_STEP == 0 {
-            let mut digits = itoa::Buffer::new();
-            let _ = err.write_all(digits.format(packets).as_bytes());
-            let _ = err.write_all(b" packets\r");
-            let _ = err.flush();
+            tell_progress(packets, err);
         }
     }
 
@@ -234,7 +218,7 @@ impl<'a, W: Write> Listing<'a, W> {
             return self.note(head, Note::Type(number));
         }
         match self.frame.refill(payload, carrier) {
-            Ok(()) => self.datagrams(head, packet),
+            Ok(()) => self.datagrams(head),
             Err(fault) if fault.kind == FaultKind::Short && packet.captured < packet.original => {
                 self.cut_frame(head, packet, payload, fault)
             }
@@ -252,7 +236,7 @@ impl<'a, W: Write> Listing<'a, W> {
         fault: WireFault,
     ) -> Result<(), Stop> {
         if refill_front(&mut self.frame, payload) {
-            self.datagrams(head, packet)?;
+            self.datagrams(head)?;
         }
         match CutDatagram::of(payload) {
             Some(datagram) => self.note(head, Note::Cut(fault, datagram)),
@@ -261,12 +245,11 @@ impl<'a, W: Write> Listing<'a, W> {
     }
 
     /// Takes the datagrams of the frame that was read.
-    fn datagrams(&mut self, head: &Head, packet: &Packet) -> Result<(), Stop> {
+    fn datagrams(&mut self, head: &Head) -> Result<(), Stop> {
         match self.asked.form {
             Form::Lines => self.datagram_lines(Style::Words, head),
             Form::Csv => self.datagram_lines(Style::Csv, head),
             Form::Faults => Ok(()),
-            Form::Stats => self.count_datagrams(packet),
         }
     }
 
@@ -284,17 +267,6 @@ impl<'a, W: Write> Listing<'a, W> {
         Ok(())
     }
 
-    /// Counts each datagram.
-    fn count_datagrams(&mut self, packet: &Packet) -> Result<(), Stop> {
-        let Some(stats) = &mut self.stats else {
-            return Ok(());
-        };
-        for k in 0..self.frame.count() {
-            stats.take(&passed_of(&self.frame, k, packet))?;
-        }
-        Ok(())
-    }
-
     /// Takes a packet that has no datagrams to show.
     fn note(&mut self, head: &Head, note: Note) -> Result<(), Stop> {
         match self.asked.form {
@@ -305,22 +277,22 @@ impl<'a, W: Write> Listing<'a, W> {
                     put_note(&mut self.output.text, Style::Words, head, note)?;
                 }
             }
-            Form::Stats => {}
         }
         Ok(())
     }
 
     /// Writes what is left to write.
     fn finish(&mut self) -> Result<(), Stop> {
-        if let Some(stats) = &self.stats {
-            for place in 0..stats.count() {
-                stats.put(&mut self.output.text, place)?;
-                self.output.settle()?;
-            }
-            stats.put_left_out(&mut self.output.text)?;
-        }
         self.output.flush()
     }
+}
+
+/// Tells how many packets were read.
+pub(crate) fn tell_progress<V: Write>(packets: u64, err: &mut V) {
+    let mut digits = itoa::Buffer::new();
+    let _ = err.write_all(digits.format(packets).as_bytes());
+    let _ = err.write_all(b" packets\r");
+    let _ = err.flush();
 }
 
 /// The type of a frame that is told by it alone: 4 has network variables, 5 is of the mailbox gateway.
@@ -344,27 +316,4 @@ fn nanoseconds_of(time: Time) -> u64 {
     time.seconds
         .saturating_mul(1_000_000_000)
         .saturating_add(time.nanoseconds)
-}
-
-/// What is counted of datagram `k` of a frame.
-fn passed_of(frame: &FrameBuf, k: usize, packet: &Packet) -> Passed
-    requires { k < length frame.now }
-{
-    let time = packet.time;
-    let command = frame.command(k);
-    Passed {
-        key: Key {
-            code: command.code(),
-            address: frame.address(k),
-            length: frame.data(k).len() as u16,
-            index: frame.index(k),
-        },
-        command,
-        came: Came {
-            counter: frame.counter(k),
-            packet: packet.number,
-        },
-        time: time.map(nanoseconds_of),
-        fine: time.is_some_and(|time| time.fine),
-    }
 }

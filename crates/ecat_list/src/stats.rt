@@ -1,17 +1,16 @@
-//! How often each datagram went by, with which counters and how far apart.
+//! What is counted of the datagrams of a capture, each group apart.
 
 ghost use Rattle.std.specs.Prelude.{◌≡◌, ◌<◌, [], ◌∷◌, ◌++◌, List, None, OnOk, IfSome, IsTrue};
 ghost use Rattle.indexmap.specs.IndexMap.{index_map_len};
-ghost use Rattle.ecat_list.specs.declared.stats.Passed.{Passed};
+ghost use Rattle.ecat_list.specs.declared.passed.Passed.{Passed};
 ghost use Rattle.ecat_list.specs.declared.stats.TheConstants.{MAX_GROUPS};
-ghost use Rattle.ecat_list.specs.declared.tally.Came.{Came};
+ghost use Rattle.ecat_list.specs.Passed.{all_of, ended, fated, happened, seen_in};
 ghost use Rattle.ecat_list.specs.Stats.{IsAt, IsTold, group_of};
-ghost use Rattle.ecat_list.specs.Tally.{IsTally};
 
-use crate::address::put_address;
-use crate::tally::{Came, Count, Tally};
-use crate::text::{put_byte, put_decimal, put_seconds};
-use ec_wire::Command;
+use crate::group::Group;
+use crate::passed::{Key, Passed, Seen, What, came_in, passed_of, place_of, seen_in};
+use ec_wire::FrameBuf;
+use ecat_trips::{Fate, Outline, Step, Trip};
 use indexmap::IndexMap;
 use std::alloc::{AllocError, Global};
 
@@ -20,51 +19,6 @@ const MAX_GROUPS: usize = 4096;
 
 /// How many groups are kept where they were found last.
 const RECENT: usize = 4096;
-
-/// What datagrams of one group have in common.
-#[derive(Clone, Copy, PartialEq, Eq, Hash)]
-pub(crate) struct Key {
-    /// The code of the command.
-    pub code: u8,
-    /// The address.
-    pub address: u32,
-    /// How many bytes of data.
-    pub length: u16,
-    /// The index that the master gave it.
-    pub index: u8,
-}
-
-/// A datagram that went by.
-#[derive(Clone, Copy)]
-pub(crate) struct Passed {
-    /// What it has in common with others.
-    pub key: Key,
-    /// Its command.
-    pub command: Command,
-    /// Its working counter, and its packet.
-    pub came: Came,
-    /// When it was captured, in nanoseconds since the epoch.
-    pub time: Option<u64>,
-    /// Does the file count nanoseconds?
-    pub fine: bool,
-}
-
-/// The least and the greatest time between two datagrams of a group.
-#[derive(Clone, Copy)]
-struct Gaps {
-    least: u64,
-    greatest: u64,
-}
-
-/// Datagrams that have their key in common.
-#[derive(Drop)]
-struct Group {
-    command: Command,
-    tally: Tally,
-    last: Option<u64>,
-    gaps: Option<Gaps>,
-    fine: bool,
-}
 
 /// The groups of the datagrams that went by, in the order of their first datagrams, and how many datagrams of
 /// further groups were left out.
@@ -76,110 +30,13 @@ pub(crate) struct Stats {
     recent: [u16; RECENT],
 }
 
-impl Group {
-    /// A group of which nothing went by yet.
-    fn new(command: Command) -> Group
-        ensures { IsTally [] result.tally }
-    {
-        Group {
-            command,
-            tally: Tally::new(),
-            last: None,
-            gaps: None,
-            fine: false,
-        }
-    }
-
-    /// Takes a datagram of this group.
-    fn take(&mut self, passed: &Passed)
-        ensures { (all : List Came) → IsTally all self.old.tally
-            → IsTally (all ++ passed.now.came ∷ []) self.new.tally }
-    {
-        self.tally.count(passed.came);
-        if let Some(time) = passed.time {
-            self.gaps = gaps_with(self.gaps, self.last, time);
-            self.last = Some(time);
-        }
-        self.fine = passed.fine;
-    }
-
-    /// Puts the line of this group.
-    fn put(&self, text: &mut Vec<u8>, key: &Key) -> Result<(), AllocError> {
-        text.extend_from_slice(self.command.name().as_bytes())?;
-        put_byte(text, b' ')?;
-        put_address(text, self.command, key.address)?;
-        put_byte(text, b' ')?;
-        put_decimal(text, u64::from(key.length))?;
-        text.extend_from_slice(b" bytes: ")?;
-        put_counts(text, &self.tally)?;
-        text.extend_from_slice(b", index ")?;
-        put_decimal(text, u64::from(key.index))?;
-        self.put_gaps(text)?;
-        put_byte(text, b'\n')
-    }
-
-    /// Puts the least and the greatest time between two.
-    fn put_gaps(&self, text: &mut Vec<u8>) -> Result<(), AllocError> {
-        let Some(gaps) = self.gaps else {
-            return Ok(());
-        };
-        text.extend_from_slice(b", ")?;
-        put_seconds(text, gaps.least, self.fine)?;
-        text.extend_from_slice(b" to ")?;
-        put_seconds(text, gaps.greatest, self.fine)?;
-        text.extend_from_slice(b" s apart")
-    }
-}
-
-/// Puts how often each counter came: the most frequent one, and then the others with their first packet.
-fn put_counts(text: &mut Vec<u8>, tally: &Tally) -> Result<(), AllocError> {
-    let told = tally.told();
-    let best = most_frequent(told);
-    if let Some(count) = told.get(best) {
-        put_count(text, count)?;
-    }
-    for k in 0..told.len() {
-        if k != best {
-            text.extend_from_slice(b", ")?;
-            put_count(text, &told[k])?;
-            text.extend_from_slice(b" (first in packet ")?;
-            put_decimal(text, told[k].first)?;
-            put_byte(text, b')')?;
-        }
-    }
-    if tally.others() > 0 {
-        text.extend_from_slice(b", ")?;
-        put_decimal(text, tally.others())?;
-        text.extend_from_slice(b" of other counters")?;
-    }
-    Ok(())
-}
-
-/// The place of the counter that came most often, the first of several.
-fn most_frequent(told: &[Count]) -> usize {
-    let mut best = 0;
-    let mut times = 0;
-    for (k, count) in told.iter().enumerate() {
-        if times < count.times {
-            best = k;
-            times = count.times;
-        }
-    }
-    best
-}
-
-/// Puts how often a counter came.
-fn put_count(text: &mut Vec<u8>, count: &Count) -> Result<(), AllocError> {
-    put_decimal(text, count.times)?;
-    text.extend_from_slice(b" of wkc ")?;
-    put_decimal(text, u64::from(count.counter))
-}
-
 /// A number below 4,096 that is made of a key, by which keys of a capture seldom meet.
 fn number_of(key: &Key) -> usize
     ensures { result < RECENT }
 {
-    let rest = u32::from(key.code) | u32::from(key.index) << 8 | u32::from(key.length) << 16;
+    let rest = u32::from(key.code)
+        | u32::from(key.index) << 8
+        | ((key.length % 65536) as u32) << 16;
     let mixed = key.address.wrapping_mul(0x9E37_79B1) ^ rest.wrapping_mul(0x85EB_CA6B);
     (mixed / 0x0010_0000) as usize
 }
@@ -187,24 +44,6 @@ fn number_of(key: &Key) -> usize
 /// A place as a number of sixteen bits, which each place of a group is.
 fn short(place: usize) -> u16 {
     (place % 65536) as u16
-}
-
-/// The least and greatest time, with the one between the last datagram and this.
-fn gaps_with(gaps: Option<Gaps>, last: Option<u64>, time: u64) -> Option<Gaps> {
-    let Some(last) = last else {
-        return gaps;
-    };
-    let gap = time.max(last) - time.min(last);
-    match gaps {
-        Some(gaps) => Some(Gaps {
-            least: gaps.least.min(gap),
-            greatest: gaps.greatest.max(gap),
-        }),
-        None => Some(Gaps {
-            least: gap,
-            greatest: gap,
-        }),
-    }
 }
 
 impl Stats {
@@ -316,20 +155,108 @@ impl Stats {
         self.groups.len()
     }
 
-    /// Puts the line of a group.
-    pub(crate) fn put(&self, text: &mut Vec<u8>, place: usize) -> Result<(), AllocError> {
-        match self.groups.get_index(place) {
-            Some((key, group)) => group.put(text, key),
-            None => Ok(()),
+    /// The key and the group at a place, in the order of their first datagrams.
+    pub(crate) fn group(&self, place: usize) -> Option<(&Key, &Group)> {
+        self.groups.get_index(place)
+    }
+
+    /// How many datagrams were left out, up to 2^64 - 1: of a trip one that was sent, and one that ended.
+    pub(crate) fn left_out(&self) -> u64 {
+        self.left_out
+    }
+
+    /// Takes the datagrams of a frame, as it was sent and as it came.
+    fn take_frame(
+        &mut self,
+        by_index: bool,
+        seen: &Seen,
+        sent: &FrameBuf,
+        came: &FrameBuf,
+    ) -> Result<(), AllocError>
+        ensures { OnOk result ((all : List Passed) → IsTold all self.old
+            → IsTold (all ++ all_of by_index seen.now sent.now came.now) self.new) }
+    {
+        let shared = sent.count().min(came.count());
+        for k in 0..shared {
+            self.take(&passed_of(by_index, seen, sent, came, k))?;
+        }
+        Ok(())
+    }
+
+    /// Takes a trip that ended.
+    pub(crate) fn take_trip(&mut self, by_index: bool, trip: &Trip) -> Result<(), AllocError>
+        ensures { OnOk result ((all : List Passed) → IsTold all self.old
+            → IsTold (all ++ ended by_index trip.now) self.new) }
+    {
+        match &trip.came {
+            Some(came) => {
+                let seen = Seen {
+                    what: What::Returned,
+                    at: place_of(&came_in(trip)),
+                    began: trip.first.time,
+                };
+                self.take_frame(by_index, &seen, &trip.sent.frame, came)
+            }
+            None => {
+                let seen = seen_in(What::Lost, &trip.first);
+                self.take_frame(by_index, &seen, &trip.sent.frame, &trip.sent.frame)
+            }
         }
     }
 
-    /// Puts how many datagrams were left out, if any.
-    pub(crate) fn put_left_out(&self, text: &mut Vec<u8>) -> Result<(), AllocError> {
-        if self.left_out == 0 {
-            return Ok(());
+    /// Takes a frame of which something is seen in its packet.
+    fn take_packet(
+        &mut self,
+        by_index: bool,
+        what: What,
+        packet: &Outline,
+        frame: &FrameBuf,
+    ) -> Result<(), AllocError>
+        ensures { OnOk result ((all : List Passed) → IsTold all self.old
+            → IsTold (all ++ all_of by_index (seen_in what packet.now) frame.now frame.now) self.new) }
+    {
+        let seen = seen_in(what, packet);
+        self.take_frame(by_index, &seen, frame, frame)
+    }
+
+    /// Takes what became of a packet.
+    fn take_fate(
+        &mut self,
+        by_index: bool,
+        packet: &Outline,
+        frame: &FrameBuf,
+        fate: &Fate,
+    ) -> Result<(), AllocError>
+        ensures { OnOk result ((all : List Passed) → IsTold all self.old
+            → IsTold (all ++ fated by_index packet.now frame.now fate.now) self.new) }
+    {
+        match fate {
+            Fate::Begins => self.take_packet(by_index, What::Sent, packet, frame),
+            Fate::Replaces(kept) => {
+                self.take_trip(by_index, kept.trip())?;
+                self.take_packet(by_index, What::Sent, packet, frame)
+            }
+            Fate::Second(_) | Fate::Back(_) => Ok(()),
+            Fate::Closes(kept) => self.take_trip(by_index, kept.trip()),
+            Fate::Late => self.take_packet(by_index, What::CameLate, packet, frame),
+            Fate::Stray => self.take_packet(by_index, What::CameAstray, packet, frame),
         }
-        put_decimal(text, self.left_out)?;
-        text.extend_from_slice(b" datagrams of further groups left out\n")
+    }
+
+    /// Takes what happened to a packet.
+    pub(crate) fn take_step(
+        &mut self,
+        by_index: bool,
+        packet: &Outline,
+        frame: &FrameBuf,
+        step: &Step,
+    ) -> Result<(), AllocError>
+        ensures { OnOk result ((all : List Passed) → IsTold all self.old
+            → IsTold (all ++ happened by_index packet.now frame.now step.now) self.new) }
+    {
+        match step {
+            Step::Ended(kept) => self.take_trip(by_index, kept.trip()),
+            Step::Taken(_, fate) => self.take_fate(by_index, packet, frame, fate),
+        }
     }
 }

@@ -12,7 +12,7 @@ use ec_wire::{Command, FrameBuf};
 const ONE_ADO: u32 = 0x0001_0000;
 
 /// May slaves count up the ADP of a command?
-pub(crate) fn moves_adp(command: Command) -> bool
+pub fn moves_adp(command: Command) -> bool
     ensures { result ≡ moves_adp command }
 {
     matches!(
@@ -27,8 +27,9 @@ pub(crate) fn moves_adp(command: Command) -> bool
     )
 }
 
-/// The part of an address that slaves leave as it is.
-fn kept_address(command: Command, address: u32) -> u32
+/// The part of an address that slaves leave as it is: without the ADP, and so the ADO alone, where they count
+/// it up.
+pub fn kept_address(command: Command, address: u32) -> u32
     ensures { result ≡ kept_address command address }
 {
     if moves_adp(command) {

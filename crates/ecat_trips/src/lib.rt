@@ -55,7 +55,7 @@ mod trip;
 mod trips;
 mod way;
 
-pub use alike::{has_counted, is_still, same_frame, same_key};
+pub use alike::{has_counted, is_still, kept_address, moves_adp, same_frame, same_key};
 pub use bases::{Base, Bases, MAX_BASES};
 pub use copies::{grown, moved};
 pub use lost::MAX_LOST;

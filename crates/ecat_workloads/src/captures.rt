@@ -3,7 +3,7 @@
 use crate::chance::Chance;
 use crate::digest::Digest;
 use crate::packets::{Model, models};
-use ecat_list::{Asked, Form, Listed, list};
+use ecat_list::{Asked, Form, Listed, Sums, list, tally};
 use ecat_source::Counted;
 use std::alloc::{AllocError, Global};
 use std::io::{self, ErrorKind, Read};
@@ -162,27 +162,41 @@ impl Read for Tape {
     }
 }
 
-/// `ecat list` of a classic capture of so many packets.
+/// The digest of `ecat list` of a classic capture of so many packets.
 pub(crate) fn listed(alloc: Global, seed: u32, packets: u64) -> Option<u64> {
-    told(alloc, seed, packets, false, Form::Lines)
-}
-
-/// `ecat list --stats` of a capture of so many packets in blocks.
-pub(crate) fn tallied(alloc: Global, seed: u32, packets: u64) -> Option<u64> {
-    told(alloc, seed, packets, true, Form::Stats)
-}
-
-/// The digest of what is told of a capture.
-fn told(alloc: Global, seed: u32, packets: u64, blocks: bool, form: Form) -> Option<u64> {
-    let tape = Tape::new(alloc, seed, packets, blocks).ok()?;
+    let tape = Tape::new(alloc, seed, packets, false).ok()?;
     let asked = Asked {
-        form,
+        form: Form::Lines,
         live: false,
         progress: false,
     };
     let mut out = Digest::new();
     let mut err = Digest::new();
     match list(alloc, Counted::new(tape), asked, &mut out, &mut err) {
+        Listed::Whole => Some(out.value()),
+        _ => None,
+    }
+}
+
+/// The digest of `ecat list --stats` of a capture of so many packets in blocks, which is made twice.
+pub(crate) fn tallied(alloc: Global, seed: u32, packets: u64) -> Option<u64> {
+    let first = Tape::new(alloc, seed, packets, true).ok()?;
+    let again = Tape::new(alloc, seed, packets, true).ok()?;
+    let asked = Sums {
+        by_index: false,
+        progress: false,
+    };
+    let mut out = Digest::new();
+    let mut err = Digest::new();
+    let listed = tally(
+        alloc,
+        Counted::new(first),
+        Counted::new(again),
+        asked,
+        &mut out,
+        &mut err,
+    );
+    match listed {
         Listed::Whole => Some(out.value()),
         _ => None,
     }

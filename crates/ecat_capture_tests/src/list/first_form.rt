@@ -9,8 +9,6 @@ mod address;
 mod line;
 mod listing;
 mod output;
-mod stats;
-mod tally;
 mod text;
 
 pub(super) use listing::list as list_at_first;

@@ -4,7 +4,7 @@
 //! same bytes, hand them on at the same places, and end alike.
 
 use super::first_form::list_at_first;
-use super::made::{cycles, long_lines, many_groups, mixed};
+use super::made::{long_lines, mixed};
 use super::refused::Refusal;
 use ecat_list::{Asked, Form, Listed, list};
 use ecat_source::FailsAt;
@@ -15,11 +15,8 @@ use std::process::Abort;
 /// How many captures of packets of every kind are made.
 const MIXED: u32 = 36;
 
-/// How many captures of cycles are made.
-const OF_CYCLES: u32 = 60;
-
 /// All forms of a listing.
-pub(super) const FORMS: [Form; 4] = [Form::Lines, Form::Csv, Form::Faults, Form::Stats];
+pub(super) const FORMS: [Form; 3] = [Form::Lines, Form::Csv, Form::Faults];
 
 /// What stands in what was gathered where it was flushed: a byte that no text of a listing has.
 const FLUSHED: u8 = 0;
@@ -220,41 +217,6 @@ fn packets_of_every_kind_are_listed_as_at_first(rt: HostRuntime) {
     }
 }
 
-/// The datagrams of a made capture of cycles are counted as in the first form.
-fn compare_cycles(rt: &impl Abort, alloc: Global, number: u32) -> Result<(), AllocError> {
-    let file = cycles(alloc, number)?;
-    compare(rt, alloc, &Case::whole(&file, Form::Stats, false))?;
-    compare(rt, alloc, &Case::whole(&file, Form::Stats, true))?;
-    Ok(())
-}
-
-#[test]
-fn cycles_in_each_order_are_counted_as_at_first(rt: HostRuntime) {
-    for number in 0..OF_CYCLES {
-        if compare_cycles(&rt, rt.alloc(), number).is_err()
-            && compare_cycles(&rt, rt.alloc(), number).is_err()
-        {
-            assert_no_memory(&rt, rt.alloc());
-        }
-    }
-}
-
-/// The datagrams of more groups than are told apart are counted as in the first form.
-fn compare_many_groups(rt: &impl Abort, alloc: Global) -> Result<(), AllocError> {
-    let file = many_groups(alloc)?;
-    compare(rt, alloc, &Case::whole(&file, Form::Stats, false))?;
-    Ok(())
-}
-
-#[test]
-fn more_groups_than_are_told_apart_are_counted_as_at_first(rt: HostRuntime) {
-    if compare_many_groups(&rt, rt.alloc()).is_err()
-        && compare_many_groups(&rt, rt.alloc()).is_err()
-    {
-        assert_no_memory(&rt, rt.alloc());
-    }
-}
-
 /// Where an output fails: at once, within the first lines, and on both sides of a piece of 64 KiB.
 const ROOMS: [usize; 14] = [
     0, 1, 2, 62, 63, 64, 65, 100, 1000, 65_535, 65_536, 65_537, 70_000, 131_072,
@@ -284,14 +246,13 @@ fn compare_failing(
     Ok(())
 }
 
-/// An output that fails at this place is told as in the first form, in lines that are long and in counts.
+/// An output that fails at this place is told as in the first form, in lines that are long.
 fn compare_room(rt: &impl Abort, alloc: Global, room: usize) -> Result<(), AllocError> {
     let long = long_lines(alloc)?;
     compare_failing(rt, alloc, &long, Form::Lines, room)?;
     compare_failing(rt, alloc, &long, Form::Csv, room)?;
     let any = mixed(alloc, 0)?;
-    compare_failing(rt, alloc, &any, Form::Faults, room)?;
-    compare_failing(rt, alloc, &any, Form::Stats, room)
+    compare_failing(rt, alloc, &any, Form::Faults, room)
 }
 
 #[test]

@@ -1,10 +1,6 @@
 //! `ecat list`: what is told of each packet of a capture.
-ghost use Rattle.std.specs.Prelude.{◌<◌, length};
-
 use super::line::{CSV_HEAD, Head, Note, Since, Style, any_frame, put_datagrams, put_note};
 use super::output::{Output, Stop};
-use super::stats::{Key, Passed, Stats};
-use super::tally::Came;
 use ec_wire::{Form as Carrier, FrameBuf};
 use ecat_capture::{
     Capture, CaptureFault, CaptureFaultKind, Packet, Payload, Time, frame_type, payload_of,
@@ -77,7 +73,6 @@ struct Listing<'a, W> {
     asked: Asked,
     output: Output<'a, W>,
     frame: FrameBuf,
-    stats: Option<Stats>,
     first: Option<u64>,
 }
 
@@ -88,16 +83,10 @@ impl<'a, W: Write> Listing<'a, W> {
         if asked.form == Form::Csv {
             output.text.extend_from_slice(CSV_HEAD)?;
         }
-        let stats = if asked.form == Form::Stats {
-            Some(Stats::new(alloc))
-        } else {
-            None
-        };
         Ok(Listing {
             asked,
             output,
             frame: any_frame(),
-            stats,
             first: None,
         })
     }
@@ -132,11 +121,9 @@ impl<'a, W: Write> Listing<'a, W> {
         let head = self.head_of(packet, bytes);
         match payload_of(bytes) {
             Payload::Ethernet { from, to } => {
-                self.frame(&head, packet, &bytes[from..to], Carrier::Ethernet)?
+                self.frame(&head, &bytes[from..to], Carrier::Ethernet)?
             }
-            Payload::Udp { from, to } => {
-                self.frame(&head, packet, &bytes[from..to], Carrier::Udp)?
-            }
+            Payload::Udp { from, to } => self.frame(&head, &bytes[from..to], Carrier::Udp)?,
             Payload::Fragment => self.note(&head, Note::Fragment)?,
             Payload::Short => self.note(&head, Note::Short)?,
             Payload::BadLength => self.note(&head, Note::BadLength)?,
@@ -174,46 +161,28 @@ impl<'a, W: Write> Listing<'a, W> {
     }
 
     /// Takes a packet's payload.
-    fn frame(
-        &mut self,
-        head: &Head,
-        packet: &Packet,
-        payload: &[u8],
-        carrier: Carrier,
-    ) -> Result<(), Stop> {
+    fn frame(&mut self, head: &Head, payload: &[u8], carrier: Carrier) -> Result<(), Stop> {
         if let Some(number) = other_type(payload) {
             return self.note(head, Note::Type(number));
         }
         match self.frame.refill(payload, carrier) {
-            Ok(()) => self.datagrams(head, packet),
+            Ok(()) => self.datagrams(head),
             Err(fault) => self.note(head, Note::Fault(fault)),
         }
     }
 
     /// Takes the datagrams of the frame that was read.
-    fn datagrams(&mut self, head: &Head, packet: &Packet) -> Result<(), Stop> {
+    fn datagrams(&mut self, head: &Head) -> Result<(), Stop> {
         match self.asked.form {
             Form::Lines => self.datagram_lines(Style::Words, head),
             Form::Csv => self.datagram_lines(Style::Csv, head),
             Form::Faults => Ok(()),
-            Form::Stats => self.count_datagrams(packet),
         }
     }
 
     /// Puts a line for each datagram.
     fn datagram_lines(&mut self, style: Style, head: &Head) -> Result<(), Stop> {
         put_datagrams(&mut self.output.text, style, head, &self.frame)?;
-        Ok(())
-    }
-
-    /// Counts each datagram.
-    fn count_datagrams(&mut self, packet: &Packet) -> Result<(), Stop> {
-        let Some(stats) = &mut self.stats else {
-            return Ok(());
-        };
-        for k in 0..self.frame.count() {
-            stats.take(&passed_of(&self.frame, k, packet))?;
-        }
         Ok(())
     }
 
@@ -227,20 +196,12 @@ impl<'a, W: Write> Listing<'a, W> {
                     put_note(&mut self.output.text, Style::Words, head, note)?;
                 }
             }
-            Form::Stats => {}
         }
         Ok(())
     }
 
     /// Writes what is left to write.
     fn finish(&mut self) -> Result<(), Stop> {
-        if let Some(stats) = &self.stats {
-            for place in 0..stats.count() {
-                stats.put(&mut self.output.text, place)?;
-                self.output.settle()?;
-            }
-            stats.put_left_out(&mut self.output.text)?;
-        }
         self.output.flush()
     }
 }
@@ -266,27 +227,4 @@ fn nanoseconds_of(time: Time) -> u64 {
     time.seconds
         .saturating_mul(1_000_000_000)
         .saturating_add(time.nanoseconds)
-}
-
-/// What is counted of datagram `k` of a frame.
-fn passed_of(frame: &FrameBuf, k: usize, packet: &Packet) -> Passed
-    requires { k < length frame.now }
-{
-    let time = packet.time;
-    let command = frame.command(k);
-    Passed {
-        key: Key {
-            code: command.code(),
-            address: frame.address(k),
-            length: frame.data(k).len() as u16,
-            index: frame.index(k),
-        },
-        command,
-        came: Came {
-            counter: frame.counter(k),
-            packet: packet.number,
-        },
-        time: time.map(nanoseconds_of),
-        fine: time.is_some_and(|time| time.fine),
-    }
 }

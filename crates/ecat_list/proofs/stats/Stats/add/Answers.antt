@@ -1,4 +1,5 @@
-use Rattle.std.proofs.Common.{[], refl}
+use Rattle.std.proofs.Common.{Bool, [], refl}
+use Rattle.ecat_list.specs.declared.passed.What.{What}
 use Rattle.ecat_list.proofs.StatsLemmas as stats
 use Rattle.ecat_list.proofs.stats.Stats.add.Goals as goal
 
@@ -6,4 +7,4 @@ pub returns-in-Ok : goal.returns-in-Ok
 returns-in-Ok c = λ all h.
     stats.told_first all c.args.passed.now c.args.self.now _ h c.take.new.self
     c.in-Ok.ensures.updates.0 c.requires.absent refl c.requires.room
-    (c.take.ensures [] c.new-group.ensures)
+    (c.take.ensures (λ (is : What → Bool). []) c.new-group.ensures)

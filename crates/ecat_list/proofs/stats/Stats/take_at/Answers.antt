@@ -1,8 +1,8 @@
 use Rattle.std.proofs.Common.{◌≡◌, refl, sym, ◌∙◌, subst}
 use Rattle.std.proofs.lemmas.Option.{slice_get_within}
 use Rattle.indexmap.proofs.CallerLemmas.{updates-with_value_at, index_map_len-with_value_at}
-use Rattle.ecat_list.specs.Tally.{IsTally}
-use Rattle.ecat_list.specs.declared.stats.Group.{Group}
+use Rattle.ecat_list.specs.Stats.{IsGroup}
+use Rattle.ecat_list.specs.declared.group.Group.{Group}
 use Rattle.ecat_list.proofs.StatsLemmas as stats
 use Rattle.ecat_list.proofs.stats.Stats.take_at.Goals as goal
 
@@ -19,4 +19,4 @@ returns c = λ all h.
     (updates-with_value_at s.groups c.args.place w stats.key_laws c.pair_mut-known.ensures.unique _ _
     c.requires.stands).0
     c.requires.group c.requires.has refl (index_map_len-with_value_at s.groups c.args.place w)
-    (λ xs t. c.take.ensures xs (subst (λ (x : Group). IsTally xs x.tally) same t))
+    (λ xs t. c.take.ensures xs (subst (λ (x : Group). IsGroup xs x) same t))

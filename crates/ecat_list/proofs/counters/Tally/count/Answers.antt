@@ -4,7 +4,7 @@ use Rattle.std.specs.List.{list_any, refill}
 use Rattle.ecat_list.specs.Counts.{TallyRecord}
 use Rattle.ecat_list.specs.Tally.{IsTally, counts_again, has_counter}
 use Rattle.ecat_list.proofs.TallyLemmas as tallies
-use Rattle.ecat_list.proofs.tally.Tally.count.Goals as goal
+use Rattle.ecat_list.proofs.counters.Tally.count.Goals as goal
 
 pub returns-then-tells : goal.returns-then-tells
 returns-then-tells c =
@@ -15,23 +15,20 @@ returns-then-tells c =
     let refilled : refill (length told) told c.count_again.new.told ≡ map again told =
     ap (refill (length told) told) written ∙ tallies.refill-map again told in
     λ all h.
-    rw refilled
+    rw (refilled, c.saturating_add-self-inside.ensures)
     (tallies.tally_again all c.args.came _ (subst (IsTally all) (sym c.self.view_is) h)
-    (ap (λ (t : TallyRecord). list_any (has_counter c.args.came.counter) t.told) c.self.view_is
-    ∙ sym c.tells.ensures ∙ c.if-tells.true))
+    (sym c.tells.ensures ∙ c.if-tells.true))
 
 pub returns-then-is_full : goal.returns-then-is_full
 returns-then-is_full c = λ all h.
-    rw c.saturating_add-self-inside.ensures
+    rw (c.saturating_add-self-inside.ensures, c.saturating_add-self-inside-then-is_full.ensures)
     (tallies.tally_others all c.args.came _ (subst (IsTally all) (sym c.self.view_is) h)
-    (ap (λ (t : TallyRecord). list_any (has_counter c.args.came.counter) t.told) c.self.view_is
-    ∙ sym c.tells.ensures ∙ c.if-tells.false)
+    (sym c.tells.ensures ∙ c.if-tells.false)
     (grind (arith, nat_tests, sym c.is_full.ensures.value ∙ c.if-is_full.true)))
 
 pub returns-else-is_full : goal.returns-else-is_full
 returns-else-is_full c = λ all h.
-    rw c.push.ensures.items
+    rw (c.push.ensures.items, c.saturating_add-self-inside.ensures)
     (tallies.tally_new all c.args.came _ (subst (IsTally all) (sym c.self.view_is) h)
-    (ap (λ (t : TallyRecord). list_any (has_counter c.args.came.counter) t.told) c.self.view_is
-    ∙ sym c.tells.ensures ∙ c.if-tells.false)
+    (sym c.tells.ensures ∙ c.if-tells.false)
     (grind (arith, nat_tests, c.is_full.ensures.fits, sym c.is_full.ensures.value ∙ c.if-is_full.false)))

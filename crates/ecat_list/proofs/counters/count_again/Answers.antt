@@ -1,7 +1,7 @@
 use Rattle.std.proofs.Common.{ap, ◌∙◌, set}
 use Rattle.ecat_list.specs.Tally.{counts_again}
 use Rattle.ecat_list.proofs.TallyLemmas.{set_mapped}
-use Rattle.ecat_list.proofs.tally.count_again.Goals as goal
+use Rattle.ecat_list.proofs.counters.count_again.Goals as goal
 
 pub loop-count-preserved : goal.loop-count-preserved
 loop-count-preserved c =

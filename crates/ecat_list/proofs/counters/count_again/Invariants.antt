@@ -1,6 +1,6 @@
 use Rattle.std.proofs.Common.{◌≡◌, ◌++◌, map, take, drop}
 use Rattle.ecat_list.specs.Tally.{counts_again}
-use Rattle.ecat_list.proofs.tally.count_again.Given as goal
+use Rattle.ecat_list.proofs.counters.count_again.Given as goal
 
 abbrev pub invariant-loop-count : goal.invariant-loop-count
 invariant-loop-count l =

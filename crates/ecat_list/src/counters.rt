@@ -1,8 +1,8 @@
-//! With which working counters the datagrams of one group came, and how often.
+//! With which working counters some datagrams came, and how often.
 
 ghost use Rattle.std.specs.Prelude.{◌≡◌, [], ◌∷◌, ◌++◌, List, map};
 ghost use Rattle.std.specs.List.{list_any};
-ghost use Rattle.ecat_list.specs.declared.tally.Came.{Came};
+ghost use Rattle.ecat_list.specs.declared.counters.Came.{Came};
 ghost use Rattle.ecat_list.specs.Tally.{IsTally, counts_again, has_counter};
 
 use arrayvec::ArrayVec;
@@ -11,13 +11,22 @@ use std::marker::Model;
 /// How many working counters of a group are told apart.
 const MAX_COUNTERS: usize = 8;
 
+/// Where something is in a capture.
+#[derive(Clone, Copy, Default)]
+pub(crate) struct Place {
+    /// The number of the packet.
+    pub packet: u64,
+    /// When it was captured, in nanoseconds since the epoch, where the capture tells it.
+    pub time: Option<u64>,
+}
+
 /// How a datagram of a group came.
 #[derive(Clone, Copy)]
 pub(crate) struct Came {
     /// Its working counter.
     pub counter: u16,
-    /// The number of its packet.
-    pub packet: u64,
+    /// Where it came.
+    pub at: Place,
 }
 
 /// A working counter that datagrams of a group came with.
@@ -27,8 +36,8 @@ pub(crate) struct Count {
     pub counter: u16,
     /// How often it came, up to 2^64 - 1.
     pub times: u64,
-    /// The number of the first packet that it came in.
-    pub first: u64,
+    /// Where it came first.
+    pub first: Place,
 }
 
 impl Count {
@@ -42,12 +51,13 @@ impl Count {
     }
 }
 
-/// The working counters of a group: eight apart, in the order in which they came first, and of how many
-/// datagrams the counter is another one.
+/// The working counters of some datagrams: eight apart, in the order in which they came first, of how many
+/// datagrams the counter is another one, and how many datagrams there are.
 #[derive(Drop)]
 pub(crate) struct Tally {
     told: ArrayVec<Count, MAX_COUNTERS>,
     others: u64,
+    times: u64,
 }
 
 impl Model for Tally {
@@ -55,7 +65,7 @@ impl Model for Tally {
 
     ghost Value = { TallyRecord };
 
-    ghost view = { λ t. record { told = t.told.items; others = t.others } };
+    ghost view = { λ t. record { told = t.told.items; others = t.others; times = t.times } };
 }
 
 impl Tally {
@@ -66,6 +76,7 @@ impl Tally {
         Tally {
             told: ArrayVec::new(),
             others: 0,
+            times: 0,
         }
     }
 
@@ -73,6 +84,7 @@ impl Tally {
     pub(crate) fn count(&mut self, came: Came)
         ensures { (all : List Came) → IsTally all self.old → IsTally (all ++ came ∷ []) self.new }
     {
+        self.times = self.times.saturating_add(1);
         if self.tells(came.counter) {
             count_again(self.told.as_mut_slice(), came.counter);
         } else if self.told.is_full() {
@@ -81,7 +93,7 @@ impl Tally {
             self.told.push(Count {
                 counter: came.counter,
                 times: 1,
-                first: came.packet,
+                first: came.at,
             });
         }
     }
@@ -98,6 +110,13 @@ impl Tally {
         ensures { result.now ≡ self.now.told }
     {
         self.told.as_slice()
+    }
+
+    /// How many datagrams there are, up to 2^64 - 1.
+    pub(crate) fn times(&self) -> u64
+        ensures { result ≡ self.now.times }
+    {
+        self.times
     }
 
     /// How many datagrams had another counter than those, up to 2^64 - 1.
