@@ -6,4 +6,5 @@ mod OutputLemmas
 mod TravelsLemmas
 mod EndLemmas
 mod CycleTripsLemmas
+mod TallyLemmas
 pub mod Laws

@@ -1,5 +1,6 @@
 pub mod Ask
 pub mod Watched
+pub mod Tally
 pub mod Wanted
 pub mod Counting
 pub mod StartupObjects

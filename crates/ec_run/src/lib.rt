@@ -21,7 +21,7 @@
 //!   images of a text, a line for each cycle ([`read_images`]).
 //! - [`recover`] looks at a slave and brings it up again; [`Seen::remedy`] is the table of what is done.
 //! - [`states_item`] reads the states of all slaves in each cycle; [`leave`] asks all of them for a state.
-//! - [`Watched`] are ports that keep where copies arrived.
+//! - [`Watched`] are ports that keep what the copies of their frames told ([`Tally`]).
 //!
 //! What is promised:
 //!
@@ -34,12 +34,14 @@
 //!   that the table has for what is seen are done with it in their order, until one fails. So one that is
 //!   said to be brought to Op has answered that it is there; that it is there then is a law over rings
 //!   (`ec_over_ring`, `recovered`). So many trips as `specs/Travels` says are the most.
+//! - [`Tally::take`]: of one frame more is kept how its copies came back, at which ports, and how far each
+//!   working counter moved, in copy A and in both together.
 //! - [`tells_all_in_op`]: the byte that the last item brought back says Op and nothing else. Which states the
 //!   slaves had then is a law over rings (`ec_over_ring`, `all_in_op`).
 //!
 //! What the contracts speak of stands in specs/: `Step`, `Phase` and `StartupObjects` (start-up), `Wanted`,
 //! `Cycles` and `Outputs`, `Recovery`, `Travels` (trips, counted), `States`, `Watched` (ports that tell where
-//! copies arrive, as ports of a master), `Ask` and `Counting` (one question).
+//! copies arrive, as ports of a master), `Tally` (what copies told), `Ask` and `Counting` (one question).
 
 mod ask;
 mod counting;
@@ -52,6 +54,7 @@ mod phase;
 mod recovery;
 mod states;
 mod step;
+mod tally;
 mod wanted;
 mod watched;
 
@@ -66,5 +69,6 @@ pub use phase::{PHASES, Phase, StepFault, bring, bring_line};
 pub use recovery::{Outcome, Remedy, Seen, look_at, look_for, recover, tells_places};
 pub use states::{add_states, leave, states_item, tells_all_in_op};
 pub use step::{Step, startup_number};
+pub use tally::{Signs, Tally, Ways};
 pub use wanted::{MAX_STARTUP, StartupObject, Wanted, wanted_of};
-pub use watched::{Signs, Watched, Ways};
+pub use watched::Watched;
