@@ -5,8 +5,8 @@ use crate::play::{ALL, BASE, Gram, Packet, assert_drives, capture, drives, excha
 use ec_wire::Command::Lrw;
 use ecat_judge::Judged;
 use ecat_judge::Judged::{Closed, Damaged, Good, NoFrames, NoMemory, OutputFailed};
+use std::alloc::Global;
 use std::io::{self, ErrorKind, Write};
-use std::process::Abort;
 
 /// One exchange with a drive.
 const ONE: [Gram; 1] = [Gram(Lrw, BASE, &[0, 0], &[0, 7], 3, 0)];
@@ -30,9 +30,8 @@ fn a_capture_without_frames(rt: HostRuntime) {
 }
 
 /// How the cycle is judged whose last bytes are cut off, or that is written to this output.
-fn judged<W: Write>(rt: &impl Abort, alloc: std::alloc::Global, cut: usize, out: &mut W) -> Judged {
-    let _ = rt;
-    let Some(bytes) = capture(alloc, &CYCLE) else {
+fn judged<W: Write>(alloc: Global, cut: usize, out: &mut W) -> Judged {
+    let Some(bytes) = capture(alloc, &CYCLE, false) else {
         return NoMemory;
     };
     let Some(line) = drives(alloc, 1) else {
@@ -57,7 +56,7 @@ item 0 LRW 0x00010000 2 bytes: sent 0 good 0 short 0 over 0 lost 0
 #[test]
 fn a_damaged_capture_is_judged_in_front(rt: HostRuntime) {
     let mut out = Vec::new(rt.alloc());
-    let found = judged(&rt, rt.alloc(), 5, &mut out);
+    let found = judged(rt.alloc(), 5, &mut out);
     if found != NoMemory && found != OutputFailed {
         assert!(rt; matches!(&found, Damaged(_)), "{found:?}");
         assert!(rt; out.as_slice() == CUT_TEXT.as_bytes(), "{out:?}");
@@ -90,7 +89,7 @@ const FAILURES: [(ErrorKind, Judged); 2] = [
 fn an_output_may_fail(rt: HostRuntime) {
     for (kind, wanted) in FAILURES {
         let mut out = Fails { kind };
-        let found = judged(&rt, rt.alloc(), 0, &mut out);
+        let found = judged(rt.alloc(), 0, &mut out);
         if found != NoMemory {
             assert_eq!(rt; found, wanted);
         }

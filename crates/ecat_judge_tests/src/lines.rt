@@ -1,7 +1,9 @@
 //! Columns, and how many lines are told.
 
 use crate::play::Packet::{Back, Sent};
-use crate::play::{BASE, Gram, Packet, assert_judged, drives, exchange, status};
+use crate::play::{
+    ALL, BASE, Gram, Packet, assert_bytes, assert_judged, capture, drives, exchange, status,
+};
 use ec_wire::Command::{Brd, Lrw};
 use ecat_judge::Asked;
 use ecat_judge::Judged::NotGood;
@@ -86,4 +88,52 @@ fn rows_and_limits(rt: HostRuntime) {
             text,
         );
     }
+}
+
+/// A capture that counts nanoseconds.
+const FINE: [Packet; 4] = [
+    Sent(0, 0, &GOOD),
+    Back(10_123, 0, &GOOD),
+    Sent(1_000_007, 0, &BAD),
+    Back(1_010_009, 0, &BAD),
+];
+
+const FINE_TEXT: &str = "\
+packet 3, 0.001000007, item 0 wkc 3 of 9, item 1 wkc 1 of 3, passed 1 of 3: \
+without slaves 1..2 (0x1002, 0x1003)
+item 0 LRW 0x00010000 6 bytes: sent 2 good 1 short 1 over 0 lost 0
+  packets 1 to 3, 0.000000000 to 0.001000007
+  every 0.001000007 0.001000007 0.001000007 s, jitter 0.000000000
+  back in 0.000010002 0.000010062 0.000010123 s
+item 1 BRD 0x0130 2 bytes: sent 2 good 1 short 1 over 0 lost 0
+  packets 1 to 3, 0.000000000 to 0.001000007
+  every 0.001000007 0.001000007 0.001000007 s, jitter 0.000000000
+  back in 0.000010002 0.000010062 0.000010123 s
+";
+
+#[test]
+fn nanoseconds_are_told_where_they_are_counted(rt: HostRuntime) {
+    let Some(bytes) = capture(rt.alloc(), &FINE, true) else {
+        return;
+    };
+    let Some(line) = drives(rt.alloc(), 3) else {
+        return;
+    };
+    let Some(item) = exchange(&[0; 6]) else {
+        return;
+    };
+    let Some(read) = status() else {
+        return;
+    };
+    let items = [item, read];
+    assert_bytes(
+        &rt,
+        rt.alloc(),
+        bytes.as_slice(),
+        line.as_slice(),
+        &items,
+        &ALL,
+        NotGood,
+        FINE_TEXT,
+    );
 }

@@ -219,6 +219,37 @@ fn outputs_alone_may_be_missing(rt: HostRuntime) {
     );
 }
 
+/// Only the first one's inputs moved, and 1 lacks: the inputs of the other one.
+const UNREAD: [Gram; 1] = [Gram(Lrw, BASE, &[1, 1, 0, 0], &[1, 1, 7, 0], 5, 0)];
+
+const INPUTS: [Packet; 4] = [
+    Sent(0, 0, &BOTH),
+    Back(10, 0, &BOTH),
+    Sent(1000, 0, &UNREAD),
+    Back(1010, 0, &UNREAD),
+];
+
+const INPUTS_TEXT: &str = "\
+packet 3, 0.001000, item 0 wkc 5 of 6: without inputs of slave 1 (0x1002)
+item 0 LRW 0x00010000 4 bytes: sent 2 good 1 short 1 over 0 lost 0
+  packets 1 to 3, 0.000000 to 0.001000
+  every 0.001000 0.001000 0.001000 s, jitter 0.000000
+  back in 0.000010 0.000010 0.000010 s
+";
+
+#[test]
+fn inputs_alone_may_be_missing(rt: HostRuntime) {
+    assert_drives(
+        &rt,
+        rt.alloc(),
+        2,
+        &[1, 1, 0, 0],
+        &INPUTS,
+        NotGood,
+        INPUTS_TEXT,
+    );
+}
+
 /// An ADP tells how many slaves were passed.
 const ALL_PASSED: [Gram; 2] = [
     Gram(Lrw, BASE, &[1, 1, 0, 0], &[1, 1, 7, 7], 6, 0),

@@ -24,7 +24,7 @@ pub struct Gram(
     pub u16,
 );
 
-/// What is captured of a frame: packets of a master's port at a time in microseconds.
+/// What is captured of a frame: packets of a master's port at a time in the capture's unit.
 #[derive(Clone, Copy)]
 pub enum Packet {
     /// As it was sent.
@@ -70,17 +70,25 @@ fn put_number(file: &mut Vec<u8>, number: u64) -> Result<(), AllocError> {
     file.extend_from_slice(&bytes[..4])
 }
 
-/// Puts a packet of a port, marked or not, at a time.
+/// Puts a time, in nanoseconds or in microseconds.
+fn put_time(file: &mut Vec<u8>, time: u64, fine: bool) -> Result<(), AllocError> {
+    if fine {
+        put_number(file, time / 1_000_000_000)?;
+        put_number(file, time % 1_000_000_000)
+    } else {
+        put_number(file, time / 1_000_000)?;
+        put_number(file, time % 1_000_000)
+    }
+}
+
+/// Puts a packet of a port, marked or not, behind its time.
 fn put_packet(
     file: &mut Vec<u8>,
-    time: u64,
     port: u8,
     marked: bool,
     frame: &FrameBuf,
 ) -> Result<(), AllocError> {
     let length = 14u64.saturating_add(frame.bytes().len() as u64);
-    put_number(file, time / 1_000_000)?;
-    put_number(file, time % 1_000_000)?;
     put_number(file, length)?;
     put_number(file, length)?;
     file.extend_from_slice(&[0xff; 6])?;
@@ -89,8 +97,8 @@ fn put_packet(
     file.extend_from_slice(frame.bytes())
 }
 
-/// Puts what is captured.
-fn put(file: &mut Vec<u8>, packet: &Packet) -> Option<()> {
+/// Puts what is captured, its time in nanoseconds or in microseconds.
+fn put(file: &mut Vec<u8>, packet: &Packet, fine: bool) -> Option<()> {
     let (time, port, back, counter, grams) = match *packet {
         Packet::Sent(time, port, grams) => (time, port, false, 0, grams),
         Packet::Back(time, port, grams) => (time, port, true, 0, grams),
@@ -98,18 +106,25 @@ fn put(file: &mut Vec<u8>, packet: &Packet) -> Option<()> {
         Packet::HighBack(time, grams) => (time, 0, true, 0xffff, grams),
     };
     let frame = frame_of(grams, back, counter)?;
-    put_packet(file, time, port, back, &frame).ok()
+    put_time(file, time, fine).ok()?;
+    put_packet(file, port, back, &frame).ok()
 }
 
-/// The bytes of a capture that counts microseconds.
-pub fn capture(alloc: Global, packets: &[Packet]) -> Option<Vec<u8>> {
+/// The bytes of a capture that counts microseconds, or nanoseconds where it is a fine one.
+pub fn capture(alloc: Global, packets: &[Packet], fine: bool) -> Option<Vec<u8>> {
     let mut file = Vec::new(alloc);
-    file.extend_from_slice(&[0xd4, 0xc3, 0xb2, 0xa1, 2, 0, 4, 0, 0, 0, 0, 0, 0, 0, 0, 0])
+    let magic = if fine {
+        [0x4d, 0x3c, 0xb2, 0xa1]
+    } else {
+        [0xd4, 0xc3, 0xb2, 0xa1]
+    };
+    file.extend_from_slice(&magic).ok()?;
+    file.extend_from_slice(&[2, 0, 4, 0, 0, 0, 0, 0, 0, 0, 0, 0])
         .ok()?;
     file.extend_from_slice(&[0xff, 0xff, 0, 0, 1, 0, 0, 0])
         .ok()?;
     for packet in packets {
-        put(&mut file, packet)?;
+        put(&mut file, packet, fine)?;
     }
     Some(file)
 }
@@ -177,13 +192,53 @@ pub fn judge_into<W: Write>(
     judge(alloc, &mut frames, line, items, asked, out)
 }
 
+/// Judges a capture that is read as a stream.
+fn judge_stream<W: Write>(
+    alloc: Global,
+    bytes: &[u8],
+    line: &[Records],
+    items: &[Item],
+    asked: &Asked,
+    out: &mut W,
+) -> Judged {
+    match Frames::of_stream(alloc, Bytes::new(bytes), None) {
+        Ok(mut frames) => judge(alloc, &mut frames, line, items, asked, out),
+        Err(_) => Judged::NoMemory,
+    }
+}
+
 /// What is told as text, as far as anybody reads.
 pub const ALL: Asked = Asked {
     csv: false,
     limit: 1000,
 };
 
-/// Asserts how a capture is judged and what is written of it, unless memory runs out.
+/// Asserts how the bytes of a capture are judged and what is written of it, unless memory runs out.
+pub fn assert_bytes(
+    rt: &impl Abort,
+    alloc: Global,
+    bytes: &[u8],
+    line: &[Records],
+    items: &[Item],
+    asked: &Asked,
+    wanted: Judged,
+    text: &str,
+) {
+    for streams in [false, true] {
+        let mut out = Vec::new(alloc);
+        let judged = if streams {
+            judge_stream(alloc, bytes, line, items, asked, &mut out)
+        } else {
+            judge_into(alloc, bytes, line, items, asked, &mut out)
+        };
+        if judged != Judged::NoMemory && judged != Judged::OutputFailed {
+            assert!(rt; out.as_slice() == text.as_bytes(), "{out:?}");
+            assert_eq!(rt; judged, wanted);
+        }
+    }
+}
+
+/// Asserts how a capture that counts microseconds is judged and what is written of it, unless memory runs out.
 pub fn assert_judged(
     rt: &impl Abort,
     alloc: Global,
@@ -194,14 +249,18 @@ pub fn assert_judged(
     wanted: Judged,
     text: &str,
 ) {
-    let Some(bytes) = capture(alloc, packets) else {
-        return;
-    };
-    let mut out = Vec::new(alloc);
-    let judged = judge_into(alloc, bytes.as_slice(), line, items, asked, &mut out);
-    if judged != Judged::NoMemory && judged != Judged::OutputFailed {
-        assert!(rt; out.as_slice() == text.as_bytes(), "{out:?}");
-        assert_eq!(rt; judged, wanted);
+    match capture(alloc, packets, false) {
+        Some(bytes) => assert_bytes(
+            rt,
+            alloc,
+            bytes.as_slice(),
+            line,
+            items,
+            asked,
+            wanted,
+            text,
+        ),
+        None => {}
     }
 }
 
