@@ -7,7 +7,7 @@ ghost use Rattle.ecat_acts.specs.Failures.{refusal_status};
 use ecat_acts::failure::{Failure, report, report_file};
 use ecat_acts::hints::{Fronted, hint_capture, hint_odd_lines, hint_scene};
 use ecat_acts::learning::{asked_of, end_of_learning};
-use ecat_acts::listing::{Wanted, act_list};
+use ecat_acts::listing::{Wanted, act_list, act_list_file};
 use ecat_acts::over_sockets::{Console, over_sockets};
 use ecat_acts::show::act_show;
 use ecat_args::{Args, ArgsFault, bad_word};
@@ -142,8 +142,9 @@ where
             csv,
             faults,
             stats,
+            by_index,
         } => {
-            return match Wanted::of(*csv, *faults, *stats, console.is_watched) {
+            return match Wanted::of(*csv, *faults, *stats, *by_index, console.is_watched) {
                 Ok(wanted) => open_listing(rt, file, wanted, console.input, out, err),
                 Err(failure) => report(&failure, out, err),
             };
@@ -273,7 +274,8 @@ where
     end_of_learning(learned, out, err)
 }
 
-/// Opens the capture of a listing, standard input where it is `-`, and lists it.
+/// Opens the capture of a listing, standard input where it is `-`, and lists it. A plain file is opened twice
+/// where it is read twice; what is none has its packets once.
 #[inline(never)]
 fn open_listing<R, W, V>(
     rt: &R,
@@ -291,8 +293,16 @@ where
     if file == "-" {
         return act_list(rt.alloc(), wanted.live(), Counted::new(input), out, err);
     }
+    let first = match fs::open(rt, file) {
+        Ok(first) => first,
+        Err(error) => return report_file(&Failure::Open, file, &error, out, err),
+    };
+    if !wanted.reads_twice() || !is_plain(&first) {
+        return act_list(rt.alloc(), wanted, Counted::new(first), out, err);
+    }
+    let first = Counted::new(first);
     match fs::open(rt, file) {
-        Ok(file) => act_list(rt.alloc(), wanted, Counted::new(file), out, err),
+        Ok(again) => act_list_file(rt.alloc(), wanted, first, Counted::new(again), out, err),
         Err(error) => report_file(&Failure::Open, file, &error, out, err),
     }
 }

@@ -5,7 +5,7 @@ use Rattle.ecat_args.specs.declared.args.Args.TheVariants.{List as Lists, Learn,
 
 -- is the command `list` or `learn`, or does it speak with a line over packets whatever its words say
 abbrev pub has_a_way_of_its_own : Args → Bool
-has_a_way_of_its_own (Lists file csv faults stats) = true
+has_a_way_of_its_own (Lists file csv faults stats by_index) = true
 has_a_way_of_its_own (Learn file at asked values) = true
 has_a_way_of_its_own (Udp scene port judge pcap force) = true
 has_a_way_of_its_own (Serve scene port packets address forever control log raw pcap force) = true

@@ -58,6 +58,8 @@ pub enum Failure {
     At,
     /// More than one form of a listing is asked for.
     Forms,
+    /// Sums by index are asked for, and no sums.
+    IndexAlone,
     /// The descriptors of packet sockets are no numbers.
     Descriptors,
     /// The state in which slaves are to be left has another name.
@@ -122,6 +124,7 @@ pub fn report<W: Write, V: Write>(failure: &Failure, out: &mut W, err: &mut V) -
             err,
             b"argument: --csv, --faults and --stats are forms of a listing, of which it has one\n",
         ),
+        Failure::IndexAlone => bad_argument(err, b"argument: --index is of --stats\n"),
         Failure::Descriptors => bad_argument(
             err,
             b"argument: --raw wants numbers, as 10 or 10,11\n",

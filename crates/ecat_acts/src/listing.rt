@@ -1,9 +1,9 @@
-//! `ecat list`: the datagrams of a capture, a line each.
+//! `ecat list`: the datagrams of a capture, a line each, or the sums of its trips.
 
 use crate::failure::{Failure, report};
 use ecat_capture::CaptureFaultKind;
 use ecat_line::LineFailure;
-use ecat_list::{Asked, Form, Listed, list};
+use ecat_list::{Asked, Form, Listed, Sums, list, tally, tally_stream};
 use ecat_source::Source;
 use ecat_text::{FAILED, GOOD, REFUSED};
 use std::alloc::Global;
@@ -15,37 +15,65 @@ const NOT_ETHERNET: &[u8] =
 
 /// What the words of `list` say but for its file.
 #[derive(Clone, Copy)]
-pub struct Wanted {
-    asked: Asked,
+pub enum Wanted {
+    /// The packets, in this form.
+    Packets(Asked),
+    /// The sums of the trips.
+    Trips(Sums),
 }
 
 impl Wanted {
-    /// What is listed, unless several forms are asked for. Where somebody watches, he is told how far it is.
-    pub fn of(csv: bool, faults: bool, stats: bool, is_watched: bool) -> Result<Wanted, Failure> {
+    /// What is listed, unless several forms are asked for, or the index without the sums. Where somebody
+    /// watches, he is told how far it is.
+    pub fn of(
+        csv: bool,
+        faults: bool,
+        stats: bool,
+        by_index: bool,
+        is_watched: bool,
+    ) -> Result<Wanted, Failure> {
         let form = match (csv, faults, stats) {
             (false, false, false) => Form::Lines,
             (true, false, false) => Form::Csv,
             (false, true, false) => Form::Faults,
-            (false, false, true) => Form::Stats,
+            (false, false, true) => {
+                return Ok(Wanted::Trips(Sums {
+                    by_index,
+                    progress: is_watched,
+                }));
+            }
             _ => return Err(Failure::Forms),
         };
-        Ok(Wanted {
-            asked: Asked {
-                form,
-                live: false,
-                progress: is_watched,
-            },
-        })
+        if by_index {
+            return Err(Failure::IndexAlone);
+        }
+        Ok(Wanted::Packets(Asked {
+            form,
+            live: false,
+            progress: is_watched,
+        }))
     }
 
-    /// What is listed while the capture is still written: each packet at once.
+    /// What is listed while the capture is still written: each packet at once, or the sums at its end.
     pub fn live(self) -> Wanted {
-        Wanted {
-            asked: Asked {
+        match self {
+            Wanted::Packets(asked) => Wanted::Packets(Asked {
                 live: true,
                 progress: false,
-                ..self.asked
-            },
+                ..asked
+            }),
+            Wanted::Trips(sums) => Wanted::Trips(Sums {
+                progress: false,
+                ..sums
+            }),
+        }
+    }
+
+    /// Is a file read twice for it?
+    pub fn reads_twice(self) -> bool {
+        match self {
+            Wanted::Packets(_) => false,
+            Wanted::Trips(_) => true,
         }
     }
 }
@@ -58,7 +86,39 @@ where
     W: Write,
     V: Write,
 {
-    match list(alloc, source, wanted.asked, out, err) {
+    let listed = match wanted {
+        Wanted::Packets(asked) => list(alloc, source, asked, out, err),
+        Wanted::Trips(sums) => tally_stream(alloc, source, sums, out, err),
+    };
+    end_of_listing(listed, out, err)
+}
+
+/// Lists the capture of a file, which `first` and `again` hold from its beginning, and answers the exit
+/// status.
+pub fn act_list_file<S, T, W, V>(
+    alloc: Global,
+    wanted: Wanted,
+    first: S,
+    again: T,
+    out: &mut W,
+    err: &mut V,
+) -> u8
+where
+    S: Source + Drop,
+    T: Source + Drop,
+    W: Write,
+    V: Write,
+{
+    let listed = match wanted {
+        Wanted::Packets(asked) => list(alloc, first, asked, out, err),
+        Wanted::Trips(sums) => tally(alloc, first, again, sums, out, err),
+    };
+    end_of_listing(listed, out, err)
+}
+
+/// Tells how a listing ended, and answers the exit status.
+fn end_of_listing<W: Write, V: Write>(listed: Listed, out: &mut W, err: &mut V) -> u8 {
+    match listed {
         Listed::Whole | Listed::Closed => GOOD,
         Listed::Damaged(fault) => {
             let _ = writeln!(err, "capture: {fault}");

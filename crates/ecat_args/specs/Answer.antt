@@ -8,7 +8,7 @@ use Rattle.ecat_args.specs.Given.{index_in}
 use Rattle.ecat_args.specs.Given.{judge_in, log_in, many_in, port_in, station_in, sub_in, surely_in}
 use Rattle.ecat_args.specs.Given.{csv_in, every_in, faults_in, images_in, late_in, limit_in, once_in}
 use Rattle.ecat_args.specs.Given.{asked_in, data_in, packet_in, recover_in, stats_in, stop_in, value_in}
-use Rattle.ecat_args.specs.Given.{word_in}
+use Rattle.ecat_args.specs.Given.{by_index_in, word_in}
 use Rattle.ecat_commands.specs.Commands.{line}
 use Rattle.ecat_args.specs.declared.args.Args.{Args}
 use Rattle.ecat_args.specs.declared.args.Args.TheVariants.{Show, Check, Cover, Lint, Where, Run, Sweep, Sdo}
@@ -21,9 +21,10 @@ use Rattle.ecat_args.specs.declared.args.ArgsFault.TheVariants.{Line, BadNumber,
 abbrev pub Says : Args → Given → Type 0
 Says (Show file) given =
     (given.0 ≡ codes "show") × (word_in given (codes "FILE") ≡ Some file.now)
-Says (Lists file csv faults stats) given =
+Says (Lists file csv faults stats by_index) given =
     (given.0 ≡ codes "list") × (word_in given (codes "FILE") ≡ Some file.now)
     × (csv_in given ≡ csv) × (faults_in given ≡ faults) × (stats_in given ≡ stats)
+    × (by_index_in given ≡ by_index)
 Says (Learn file packet asked values) given =
     (given.0 ≡ codes "learn") × (word_in given (codes "FILE") ≡ Some file.now)
     × (packet_in given ≡ Some packet) × (asked_in given ≡ asked) × (data_in given ≡ values)

@@ -120,6 +120,9 @@ faults_in given = flag_by (word_in given (codes "faults"))
 abbrev pub stats_in : Given → Bool
 stats_in given = flag_by (word_in given (codes "stats"))
 
+abbrev pub by_index_in : Given → Bool
+by_index_in given = flag_by (word_in given (codes "index"))
+
 abbrev pub stop_in : Given → Bool
 stop_in given = flag_by (word_in given (codes "stop"))
 

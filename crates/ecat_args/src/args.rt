@@ -35,7 +35,7 @@ pub enum Args<'a> {
         /// The path of the capture.
         file: &'a str,
     },
-    /// `list FILE [--csv] [--faults] [--stats]`: lists the datagrams of a capture.
+    /// `list FILE [--csv] [--faults] [--stats] [--index]`: lists the datagrams of a capture.
     List {
         /// The path of the capture; `-` stands for standard input.
         file: &'a str,
@@ -45,6 +45,8 @@ pub enum Args<'a> {
         faults: bool,
         /// Whether working counters are counted instead.
         stats: bool,
+        /// Whether the datagrams of each index are counted apart.
+        by_index: bool,
     },
     /// `learn FILE [--at PACKET] [--asked] [--data]`: writes the line that a capture shows as a scene.
     Learn {
@@ -351,6 +353,7 @@ fn list<'a>(given: &ArgMatches<'a>) -> Args<'a>
         csv: flag(given, "csv"),
         faults: flag(given, "faults"),
         stats: flag(given, "stats"),
+        by_index: flag(given, "index"),
     }
 }
 

@@ -2,7 +2,7 @@
 //!
 //! ```text
 //! ecat show FILE
-//! ecat list FILE [--csv] [--faults] [--stats]
+//! ecat list FILE [--csv] [--faults] [--stats] [--index]
 //! ecat check SCENE
 //! ecat cover SCENE
 //! ecat lint SCENE

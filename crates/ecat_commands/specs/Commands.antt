@@ -87,10 +87,10 @@ show_words = needed_rule (codes "FILE") ∷ []
 abbrev pub show_line : App
 show_line = with_rules (new_app (codes "show")) show_words
 
--- `list FILE [--csv] [--faults] [--stats]`
+-- `list FILE [--csv] [--faults] [--stats] [--index]`
 abbrev pub list_words : List Rule
 list_words = needed_rule (codes "FILE") ∷ flag_rule (codes "csv")
-    ∷ flag_rule (codes "faults") ∷ flag_rule (codes "stats") ∷ []
+    ∷ flag_rule (codes "faults") ∷ flag_rule (codes "stats") ∷ flag_rule (codes "index") ∷ []
 
 abbrev pub list_line : App
 list_line = with_rules (new_app (codes "list")) list_words

@@ -148,7 +148,7 @@ fn show<'a>(alloc: Global) -> Result<Command<'a>, AllocError>
     command(alloc, "show", about, help::SHOW, words)
 }
 
-// `list FILE [--csv] [--faults] [--stats]`
+// `list FILE [--csv] [--faults] [--stats] [--index]`
 fn list<'a>(alloc: Global) -> Result<Command<'a>, AllocError>
     ensures { IfOk result (Builds list_line) }
 {
@@ -165,7 +165,12 @@ fn list<'a>(alloc: Global) -> Result<Command<'a>, AllocError>
         flag(
             alloc,
             "stats",
-            "Counts each working counter of datagrams that are alike",
+            "Counts what was sent, came back and was lost of datagrams that are alike",
+        ),
+        flag(
+            alloc,
+            "index",
+            "With --stats, counts the datagrams of each index apart",
         ),
     ]?;
     command(alloc, "list", about, help::LIST, words)

@@ -50,8 +50,11 @@ The capture is a pcap or pcapng file of Ethernet; frames are those of type
 0x88A4, behind VLAN tags too, and those of UDP port 34980.
 With --csv values are separated by commas, below a line of names. With --faults
 only packets are listed that are damaged or cut short, and why. With --stats
-datagrams that are alike in command, address, length and index are counted, by
-each working counter that came, with the packet where it came first.
+each frame that was sent is paired with what came back of it, and datagrams that
+are alike in command, address and length are counted: how many were sent, came
+back and were lost, how far their working counters moved, with the packet where
+each counter came first, and how often and how soon. With --index as well those
+of each index are counted apart. A file is then read twice.
 
 Example:
   ecat list scenes/startup.pcap

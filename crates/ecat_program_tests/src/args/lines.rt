@@ -14,8 +14,11 @@ where a.scene | Ok(Where { scene: \"a.scene\", at: None, raw: None })
 sweep a.scene | Ok(Sweep { scene: \"a.scene\" })
 vectors | Ok(Vectors)
 show -- --help | Ok(Show { file: \"--help\" })
-list - --faults | Ok(List { file: \"-\", csv: false, faults: true, stats: false })
-list --csv a.pcap --stats | Ok(List { file: \"a.pcap\", csv: true, faults: false, stats: true })
+list - --faults | Ok(List { file: \"-\", csv: false, faults: true, stats: false, by_index: false })
+list --csv a.pcap --stats | Ok(List { file: \"a.pcap\", csv: true, faults: false, stats: true, \
+    by_index: false })
+list --index --stats a.pcap | Ok(List { file: \"a.pcap\", csv: false, faults: false, stats: true, \
+    by_index: true })
 learn a.pcap | Ok(Learn { file: \"a.pcap\", at: None, asked: false, values: false })
 learn --asked - --at 0x10 --data | Ok(Learn { file: \"-\", at: Some(16), asked: true, values: true })
 where a.scene --at a:1,b:2 | Ok(Where { scene: \"a.scene\", at: Some(\"a:1,b:2\"), raw: None })
