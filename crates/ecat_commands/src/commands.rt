@@ -182,11 +182,6 @@ fn list<'a>(alloc: Global) -> Result<Command<'a>, AllocError>
             "index",
             "With --stats, counts the datagrams of each index apart",
         ),
-        flag(
-            alloc,
-            "index",
-            "Tells datagrams apart by their index too, with --stats",
-        ),
     ]?;
     command(alloc, "list", about, help::LIST, words)
 }
