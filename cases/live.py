@@ -4,10 +4,12 @@ Each is a function of a `Stage`. It gives what `cases/try` compares: a name, wha
 """
 import contextlib
 import os
+import pty
 import re
 import select
 import shutil
 import socket
+import struct
 import subprocess
 import time
 
@@ -1134,3 +1136,457 @@ def a_master_gets_by_with_little_stack(stage):
         ]:
             ample, little = (last_lines(within(stage, limits, words), 1) for limits in ([], [f"-s {stack}"]))
             yield f"{words[0]}: stack", ample, little
+
+
+# A capture of one frame that asks all slaves for their AL status, as `list` has it.
+FRAME = bytes.fromhex("00000000 00000000 1e000000 1e000000 ffffffffffff 105240500000 88a4") + ASKED
+
+
+@case
+def list_of_a_live_pipe_comes_at_once(stage):
+    """Each packet is listed though the input goes on, as `tcpdump -w - | ecat list -` wants it."""
+    with stage.start("list", "-", stdin=subprocess.PIPE) as listing:
+        listing.process.stdin.write(CAPTURE)
+        for number in range(1, 4):
+            listing.process.stdin.write(FRAME)
+            row = f"{number} 0.000000 10:52:40:50:00:00 0 BRD 0x0000:0x0130 2 wkc 0 0000\n"
+            yield "line", row, listing.line()
+        listing.process.stdin.close()
+        listing.process.stdin = None
+        yield "end", "0\n", listing.end()
+
+
+@case
+def list_and_scan_are_well_where_nobody_reads_on(stage):
+    """Whoever reads may close the output, as `head` does."""
+    stage.file("c", (CAPTURE + FRAME).decode("latin-1"))
+    words = ("list", "c"), ("list", "c", "--csv"), ("list", "c", "--stats"), ("scan", "--at", "127.0.0.1:9")
+    for line in words:
+        ours, theirs = os.pipe()
+        os.close(ours)
+        with os.fdopen(theirs, "wb") as closed:
+            yield " ".join(line), "0\n", stage.ends(*line, stdout=closed)
+
+
+@contextlib.contextmanager
+def terminal():
+    """What a program writes to a terminal, and that terminal."""
+    outer, inner = pty.openpty()
+    with os.fdopen(outer, "rb", buffering=0) as written, os.fdopen(inner, "wb", buffering=0) as screen:
+        yield written, screen
+
+
+def seen_on(written, limit, is_enough):
+    """What is written to a terminal until it is enough, or the time is over."""
+    text, until = "", time.monotonic() + limit
+    while not is_enough(text) and time.monotonic() < until:
+        if select.select([written], [], [], 0.1)[0]:
+            text += os.read(written.fileno(), 4096).decode("latin-1")
+    return text
+
+
+@case
+def list_tells_a_terminal_how_far_it_is(stage):
+    """Every 100,000 packets, on standard error alone."""
+    stage.file("c", (CAPTURE + RECORD * 200001).decode("latin-1"))
+    with terminal() as (written, screen):
+        yield "output", "0\n", stage.ends("list", "c", stderr=screen)
+        os.write(screen.fileno(), b"end")
+        told = seen_on(written, stage.limit, lambda text: "end" in text)
+        yield "error", "100000 packets\r200000 packets\rend", told
+    with terminal() as (written, screen):
+        yield "no terminal", "0\n", stage.ends("list", "c", stdout=screen)
+
+
+# A line of progress of a master, and the greatest time of a cycle that it tells.
+PROGRESS = (
+    r"cycles \d+ good \d+ short \d+ over 0 fault 0 not-in-op 0, "
+    r"cycle time least \d+ mean \d+ greatest (\d+) microseconds\r\n"
+)
+
+
+@case
+def a_master_tells_a_terminal_of_each_second_anew(stage):
+    """The times are those of the cycles since the last line: a long cycle is in one line alone. Where standard
+    output is the terminal and standard error is none, nothing is told."""
+    def greatest(text):
+        return [int(micros) for micros in re.findall(PROGRESS, text)]
+
+    def has_a_long_one(text):
+        return any(micros >= 600000 for micros in greatest(text))
+
+    def has_none(text):
+        return any(micros < 600000 for micros in greatest(text))
+
+    with controlled(stage, MACHINE) as line:
+        stage.file("m", MACHINE)
+        words = ("master", "m", "--at", both_ends(stage), "--every", "2000")
+        with terminal() as (written, screen):
+            more = {"stdin": subprocess.PIPE, "stderr": screen}
+            with stage.start(*words, "--limit", "10000000", **more) as master:
+                for wanted in STARTED.splitlines(True):
+                    yield "start", wanted, master.line()
+                # By then the look behind the first cycle is over, which may take the late copy too.
+                seen = seen_on(written, stage.limit, greatest)
+                yield "late", "ok\n", command(line, "late B 600 1")
+                seen = seen_on(written, stage.limit, has_a_long_one)
+                yield "a long one", "", "" if has_a_long_one(seen) else seen
+                seen = seen_on(written, stage.limit, has_none)
+                yield "none", "", "" if has_none(seen) else seen
+        with terminal() as (_written, screen):
+            words = (*words, "--cycles", "600", "--leave", "op", *PATIENCE)
+            yield "no terminal", "0\n", stage.ends(*words, stdout=screen)
+
+
+@case
+def a_scan_waits_as_long_as_it_is_told(stage):
+    """Each copy is late by more than what a scan waits that is not told."""
+    with controlled(stage, "slave 7\n") as line:
+        for end in "AB":
+            yield "late", "ok\n", command(line, f"late {end} 40 100000")
+        yield "scan", "slaves 1\nring whole\nslave 0 station 0x0007 state Init\n0\n", stage.ends(
+            "scan", "--at", both_ends(stage), *PATIENCE
+        )
+
+
+@case
+def a_copy_is_waited_for_20_milliseconds(stage):
+    """Where nothing else is said. That it is not less is seen by how long so many trips take to which nobody
+    answers, of each of which one packet comes."""
+    with stage.master() as silent:
+        at = f"127.0.0.1:{silent.getsockname()[1]}"
+        began = time.monotonic()
+        yield "scan", "nobody answers at A\n1\n", stage.ends("scan", "--at", at)
+        took, trips = time.monotonic() - began, 0
+        while select.select([silent], [], [], 0)[0]:
+            silent.recv(2000)
+            trips += 1
+        yield "trips", "True", str(trips > 1)
+        yield "time", "True", str(took > trips * 0.019)
+
+
+@case
+def a_master_stops_though_it_recovers(stage):
+    """Of `--stop` and `--recover` neither takes the other away."""
+    with controlled(stage, MACHINE) as line:
+        stage.file("m", MACHINE)
+        words = ("master", "m", "--at", both_ends(stage), "--stop", "--recover", "--every", "2000", *PATIENCE)
+        with stage.start(*words, stdin=subprocess.PIPE) as master:
+            for wanted in STARTED.splitlines(True):
+                yield "start", wanted, master.line()
+            yield "state", "ok\n", command(line, "state 1 4")
+            yield "out of Op", "cycle N: not all in Op\n", told(master.line())
+            yield "left", LEFT, master.line()
+            yield "not in Op", "not-in-op 1\n", master.line()[-12:]
+            yield "status", "1", str(master.process.wait(stage.limit))
+
+
+@case
+def a_log_has_lines_of_more_than_4096_bytes(stage):
+    """A frame of 124 datagrams, each of which has a text of some 40 bytes."""
+    datagrams = [bytes.fromhex("00000000 0000 0080 0000 0000") for _ in range(124)]
+    datagrams[-1] = bytes.fromhex("00000000 0000 0000 0000 0000")
+    packet = (12 * 124 | 0x1000).to_bytes(2, "little") + b"".join(datagrams)
+    with stage.serve("slave 1\n", "--log", "--packets", "1") as line, stage.master() as master:
+        yield "answer", packet.hex(), asked(master, stage.port, packet)
+        texts = ["NOP adp 0000 ado 0000 length 0 counter 0>0"] * 124
+        speaker = f"speaker A 127.0.0.1:{master.getsockname()[1]}\n"
+        told = f"{speaker}packet 0 A size {len(packet)} frame {', '.join(texts)} left A\n"
+        yield "end", f"packets 1 frames 1 dropped 0\n{told}0\n", line.end()
+
+
+def packets_of(stage, name):
+    """Of each packet of a capture the microseconds since the epoch, and the bytes."""
+    with open(os.path.join(stage.folder, name), "rb") as file:
+        capture = file.read()
+    at = 24
+    while at < len(capture):
+        seconds, micros, length, _whole = struct.unpack_from("<IIII", capture, at)
+        yield 1000000 * seconds + micros, capture[at + 16:at + 16 + length]
+        at += 16 + length
+
+
+@case
+def captures_have_the_time_of_day(stage):
+    """To the microsecond, of a master and of a line that is served."""
+    with stage.serve(MACHINE, "--forever", "--pcap", "of_line") as line:
+        stage.file("m", MACHINE)
+        before = time.time_ns() // 1000
+        words = ("master", "m", "--at", both_ends(stage), "--cycles", "20", "--pcap", "of_master", *PATIENCE)
+        yield "master", "0", stage.ends(*words).splitlines()[-1]
+        after = time.time_ns() // 1000
+        line.process.terminate()
+        line.process.wait(stage.limit)
+    for name in ("of_master", "of_line"):
+        times = [moment for moment, _ in packets_of(stage, name)]
+        yield f"{name}: packets", "True", str(len(times) > 80)
+        yield f"{name}: in order", "True", str(times == sorted(times))
+        yield f"{name}: times", "True", str(before <= times[0] and times[-1] <= after)
+
+
+@case
+def capture_of_a_service_has_what_leaves_its_master_and_what_arrives_there(stage):
+    """What comes in at an end has left the master's port there, and what leaves an end arrives at it."""
+    with stage.serve("slave 1\n", "--packets", "3", "--pcap", "c") as line:
+        with stage.master() as one, stage.master() as other:
+            yield "at A", ONE, asked(one, stage.port)
+            other.sendto(ASKED, ("127.0.0.1", stage.port + 1))
+            yield "from B, at A", ASKED.hex(), one.recv(2000).hex()
+            one.sendto(ASKED, ("127.0.0.1", stage.port))
+            yield "from A, at B", ONE, other.recv(2000).hex()
+            yield "end", "packets 3 frames 3 dropped 0\n0\n", line.end()
+    left_a, came_a, left_b, came_b = (f"{byte}:52:4d:50:00:0{end}" for end in "ab" for byte in ("10", "12"))
+    asks, tells = "0 BRD 0x0000:0x0130 2 wkc 0 0000", "0 BRD 0x0001:0x0130 2 wkc 1 0100"
+    wanted = [f"{left_a} {asks}", f"{came_a} {tells}", f"{left_b} {asks}", f"{came_a} {asks}"]
+    wanted += [f"{left_a} {asks}", f"{came_b} {tells}"]
+    rows = stage.ends("list", "c").splitlines()
+    yield "status", "0", rows.pop()
+    yield "packets", "\n".join(wanted), "\n".join(row.split(" ", 2)[2] for row in rows)
+
+
+@case
+def packet_sockets_of_another_type_or_of_no_interface_are_refused(stage):
+    """Where no packet socket can be had there is nothing to see."""
+    stage.file("s", "slave 1\n")
+    bound_elsewhere = "raw: no packet socket of type 0x88A4 for end A\n"
+    who = "tools/raw A [B] -- COMMAND.. opens them at interfaces, as descriptors 10 and 11\n"
+    for what, interface, number in (("another type", "lo", 0x88A5), ("no interface", None, 0x88A4)):
+        try:
+            packets = socket.socket(socket.AF_PACKET, socket.SOCK_RAW, socket.htons(number))
+        except (AttributeError, OSError):
+            return
+        with packets:
+            if interface:
+                packets.bind((interface, number))
+            given = {"pass_fds": (packets.fileno(),)}
+            for words in (("scan",), ("serve", "s", "--forever")):
+                told = stage.ends(*words, "--raw", str(packets.fileno()), **given)
+                yield f"{words[0]}: {what}", f"{bound_elsewhere}{who}3\n", told
+
+
+@case
+def a_port_that_fails_is_told_with_the_status_of_a_failure(stage):
+    """A first packet that cannot be sent. Where strace is not to be had there is nothing to see."""
+    quiet = {"stderr": subprocess.DEVNULL}
+    if not shutil.which("strace") or subprocess.run([*NO_WAITS, "true"], **quiet).returncode:
+        return
+    stage.file("m", MACHINE)
+    fails = ["strace", "-qq", "-o", "/dev/null", "-e", "inject=sendto,sendmsg:error=ENETDOWN", stage.ecat]
+    for words, wanted in [
+        (("master", "m", "--at", "127.0.0.1:9", "--cycles", "5"), "fault: Port\n"),
+        (("scan", "--at", "127.0.0.1:9"), "cycle: Port\n"),
+    ]:
+        streams = {"stdin": subprocess.DEVNULL, "capture_output": True, "text": True}
+        done = subprocess.run([*fails, *words], cwd=stage.folder, timeout=stage.limit, **streams)
+        yield words[0], wanted, done.stdout + done.stderr
+        yield f"{words[0]}: status", "3", str(done.returncode)
+
+
+@case
+def a_log_has_the_port_that_failed(stage):
+    """One packet of all cannot be sent, of a cycle: the start takes fewer. Where strace is not to be had there
+    is nothing to see."""
+    quiet = {"stderr": subprocess.DEVNULL}
+    if not shutil.which("strace") or subprocess.run([*NO_WAITS, "true"], **quiet).returncode:
+        return
+    stage.file("m", MACHINE)
+    fault = "inject=sendto,sendmsg:error=ENETDOWN:when=1000"
+    fails = ["strace", "-qq", "-o", "/dev/null", "-e", "trace=sendto,sendmsg", "-e", fault, stage.ecat]
+    words = ("master", "m", "--at", both_ends(stage), "--cycles", "600", "--log", "log", *PATIENCE)
+    with stage.serve(MACHINE, "--forever"):
+        streams = {"stdin": subprocess.DEVNULL, "capture_output": True, "text": True}
+        done = subprocess.run([*fails, *words], cwd=stage.folder, timeout=stage.limit, **streams)
+    failed = "cycle N: a port failed\ncycle N: good again after M cycles\n"
+    seen = done.stdout.removeprefix(STARTED).splitlines(True)
+    yield "told", failed, "".join(told(text) for text in seen[:2])
+    yield "sums", "cycles 600 good 599 short 0 over 0 fault 1 not-in-op 0\n", "".join(seen[3:4])
+    yield "status", "0", str(done.returncode)
+    with open(os.path.join(stage.folder, "log"), encoding="latin-1") as log:
+        rows = [re.sub(r"^cycle \d+ ", "", row) for row in log]
+    yield "log", "fault Port counts\n", "".join(row for row in rows if row != "good counts 9 3\n")
+    yield "rows", "600", str(len(rows))
+
+
+@case
+def a_service_that_is_gone_is_no_failure_of_a_port(stage):
+    """What was sent to nobody is a lost copy, and the cycles are good again once somebody serves the line."""
+    stage.file("m", TERMINALS)
+    words = ("master", "m", "--at", both_ends(stage), "--every", "2000", "--recover", "--limit", "20000")
+    line = stage.serve(TERMINALS, "--forever")
+    with stage.start(*words, stdin=subprocess.PIPE) as master:
+        for wanted in STARTED.splitlines(True):
+            yield "start", wanted, master.line()
+        line.process.terminate()
+        line.process.wait(stage.limit)
+        seen, until = [], time.monotonic() + stage.limit
+        while "came 0 of" not in "".join(seen) and time.monotonic() < until:
+            seen.append(master.line())
+        time.sleep(0.2)
+        with stage.serve(TERMINALS, "--forever"):
+            while "good again" not in "".join(seen) and time.monotonic() < until:
+                seen.append(master.line())
+            yield "good again", "True", str("good again" in "".join(seen))
+            master.process.stdin.close()
+            master.process.stdin = None
+            seen.append(master.end())
+    text = "".join(seen)
+    yield "no failure", "False", str("a port failed" in text)
+    yield "sums", "fault 0", (re.search("fault [0-9]+", text) or [""])[0]
+
+
+@case
+def each_slave_that_cannot_be_brought_up_again_is_told(stage):
+    """The service is started anew, with two slaves that are others by now and go to Safe-Op no more."""
+    stage.file("m", MACHINE)
+    one, *others = re.split("(?=slave)", MACHINE)[1:]
+    anew = one + "".join(others).replace("areas 1 1\n", "")
+    words = ("master", "m", "--at", both_ends(stage), "--every", "2000", "--recover", *PATIENCE)
+    line = stage.serve(MACHINE, "--forever")
+    with stage.start(*words, stdin=subprocess.PIPE) as master:
+        for wanted in STARTED.splitlines(True):
+            yield "start", wanted, master.line()
+        line.process.terminate()
+        line.process.wait(stage.limit)
+        why = "Safe-Op: refused 0x001d invalid output configuration\n"
+        wanted = [f"cycle N: slave {k} ({0x1001 + k:#x}): {why}" for k in (1, 2)]
+        with stage.serve(anew, "--forever"):
+            seen, until = set(), time.monotonic() + stage.limit
+            while not seen.issuperset(wanted) and time.monotonic() < until:
+                seen.add(told(master.line()))
+            yield "told", "".join(wanted), "".join(text for text in wanted if text in seen)
+
+
+A, B = 0, 1
+LRW = 12
+
+
+class Between:
+    """What stands between both ports of a master and the line that the stage serves: it hands on each packet,
+    and gives its answer back, or what else is wanted in its place.
+
+    A trip begins with each packet that the master sends from port A. Its place is the number of the cycle, -1
+    before the first, and how many trips had begun since: (7, 0) is the trip of cycle 7, and (7, 1) the look
+    behind it. `begins(place)` is called before it is handed on; `gives(place, sent, leaves, packet)` answers
+    what is given at the port where an answer leaves, of a packet that was sent from a port."""
+
+    def __init__(self, stage, begins=lambda place: None, gives=lambda place, sent, leaves, packet: [packet]):
+        self.limit, self.begins, self.gives = stage.limit, begins, gives
+        self.near, self.far = ([stage.master() for _ in (A, B)] for _ in (A, B))
+        for end in (A, B):
+            self.far[end].connect(("127.0.0.1", stage.port + end))
+        self.speakers, self.cycle, self.trips, self.places = [None, None], -1, -1, []
+
+    def __enter__(self):
+        return self
+
+    def __exit__(self, *_fault):
+        for one in self.near + self.far:
+            one.close()
+
+    def ends(self):
+        """Where its ends lie, in the words of a master."""
+        return ",".join(f"127.0.0.1:{one.getsockname()[1]}" for one in self.near)
+
+    def until_the_end_of(self, master):
+        """Hands on until the master ends, and answers what that printed, and its status."""
+        until = time.monotonic() + self.limit
+        while master.process.poll() is None and time.monotonic() < until:
+            for ready in select.select(self.near, [], [], 0.05)[0]:
+                self.take(self.near.index(ready))
+        return master.end()
+
+    def take(self, sent):
+        packet, self.speakers[sent] = self.near[sent].recvfrom(2000)
+        if sent == A:
+            self.cycle, self.trips = (self.cycle + 1, 0) if packet[2] == LRW else (self.cycle, self.trips + 1)
+            self.places.append((self.cycle, self.trips))
+            self.begins(self.places[-1])
+        self.far[sent].send(packet)
+        for ready in select.select(self.far, [], [], self.limit)[0]:
+            leaves = self.far.index(ready)
+            for given in self.gives(self.places[-1], sent, leaves, ready.recv(2000)):
+                self.near[leaves].sendto(given, self.speakers[leaves])
+
+
+@contextlib.contextmanager
+def master_behind(stage, cycles, *words, **acts):
+    """A master that makes so many cycles on the machine, somebody who stands between, and the machine."""
+    with controlled(stage, MACHINE) as line:
+        stage.file("m", MACHINE)
+        with Between(stage, **acts) as between:
+            words = ("master", "m", "--at", between.ends(), "--cycles", str(cycles), *words)
+            with stage.start(*words) as master:
+                yield line, between, master
+
+
+@case
+def lost_copies_are_asked_for_again_at_the_start(stage):
+    """Twice while the slaves are counted, and twice while the cable is looked at."""
+    def gives(place, sent, leaves, packet):
+        return [] if sent == A and place in ((-1, 1), (-1, 2), (-1, 4), (-1, 5)) else [packet]
+
+    with master_behind(stage, 1, "--limit", "300000", gives=gives) as (_line, between, master):
+        end = between.until_the_end_of(master)
+        yield "start", STARTED, "".join(end.splitlines(True)[:7])
+
+
+@case
+def a_look_that_found_something_new_is_made_again(stage):
+    """A link is down while the cable is looked at behind a cycle that lost a copy, and in no cycle. The next
+    cycle shows just what this one did, and tells the cable anew."""
+    commands = {(5, 1): "link 1 down", (6, 0): "link 1 up"}
+
+    def gives(place, sent, leaves, packet):
+        return [] if sent == A and place in ((5, 0), (6, 0)) else [packet]
+
+    def begins(place):
+        if place in commands:
+            command(line, commands[place])
+
+    with master_behind(stage, 10, *PATIENCE, gives=gives, begins=begins) as (line, between, master):
+        wanted = STARTED + (
+            "cycle 5: item 0: came 0 of 9; link 1 down: between slave 0 (0x1001) and slave 1 (0x1002)\n"
+            "cycle 6: other than before, which lasted 1 cycles\n"
+            "cycle 6: item 0: came 0 of 9; ring whole\n"
+            "cycle 7: good again after 1 cycles\n"
+        )
+        wanted += LEFT + "cycles 10 good 8 short 2 over 0 fault 0 not-in-op 0\ncycle time N\n" + ITEMS + "0\n"
+        yield "master", wanted, timed(between.until_the_end_of(master))
+
+
+@case
+def another_count_is_told_though_the_cable_is_the_same(stage):
+    """A cycle whose item was counted three times less is told, and so is the next one, where it was six times
+    less."""
+    less = {(5, 0): 3, (6, 0): 6}
+
+    def gives(place, sent, leaves, packet):
+        if sent == B or place not in less:
+            return [packet]
+        counter = int.from_bytes(packet[15:17], "little") - less[place]
+        return [packet[:15] + counter.to_bytes(2, "little") + packet[17:]]
+
+    with master_behind(stage, 10, *PATIENCE, gives=gives) as (_line, between, master):
+        wanted = STARTED + (
+            "cycle 5: item 0: came 6 of 9; ring whole\n"
+            "cycle 6: other than before, which lasted 1 cycles\n"
+            "cycle 6: item 0: came 3 of 9; ring whole\n"
+            "cycle 7: good again after 1 cycles\n"
+        )
+        wanted += LEFT + "cycles 10 good 8 short 2 over 0 fault 0 not-in-op 0\ncycle time N\n" + ITEMS + "0\n"
+        yield "master", wanted, timed(between.until_the_end_of(master))
+
+
+@case
+def late_packets_are_dropped_before_a_trip(stage):
+    """Of two cycles the copy at port A is lost, and what comes at port B is all that is wanted. Behind the
+    second one more packets come there than a port passes over, and the next cycle is good all the same."""
+    def gives(place, sent, leaves, packet):
+        if sent == B and place in ((5, 0), (6, 0)):
+            return []
+        return [packet] + 200 * [b"late"] if leaves == B and place == (6, 0) else [packet]
+
+    with master_behind(stage, 10, "--log", "log", *PATIENCE, gives=gives) as (_line, between, master):
+        yield "status", "0", between.until_the_end_of(master).splitlines()[-1]
+    with open(os.path.join(stage.folder, "log"), encoding="latin-1") as log:
+        yield "log", "".join(f"cycle {k} good counts 9 3\n" for k in range(10)), log.read()
