@@ -21,6 +21,9 @@ list --index --stats a.pcap | Ok(List { file: \"a.pcap\", csv: false, faults: fa
     by_index: true })
 learn a.pcap | Ok(Learn { file: \"a.pcap\", at: None, asked: false, values: false })
 learn --asked - --at 0x10 --data | Ok(Learn { file: \"-\", at: Some(16), asked: true, values: true })
+judge a.pcap | Ok(Judge { file: \"a.pcap\", scene: None, csv: false, lines: None })
+judge a.pcap --csv a.scene --limit 7 | \
+    Ok(Judge { file: \"a.pcap\", scene: Some(\"a.scene\"), csv: true, lines: Some(7) })
 where a.scene --at a:1,b:2 | Ok(Where { scene: \"a.scene\", at: Some(\"a:1,b:2\"), raw: None })
 where --raw=10 a.scene | Ok(Where { scene: \"a.scene\", at: None, raw: Some(\"10\") })
 scan --at=a:1,b:2 --limit 50 | Ok(Scan { at: Some(\"a:1,b:2\"), raw: None, limit: Some(50), late: None, \

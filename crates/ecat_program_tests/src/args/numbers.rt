@@ -88,6 +88,8 @@ serve a.scene --packets 0xffffffff | \
     Ok(Serve { scene: \"a.scene\", port: 34980, packets: Some(4294967295), address: 127.0.0.1, \
     forever: false, control: false, log: false, raw: None, pcap: None, force: false })
 learn a.pcap --at 0 | Err(BadNumber)
+judge a.pcap --limit 0 | Err(BadNumber)
+judge a.pcap --limit 4294967296 | Err(BadNumber)
 serve s --port 1 --packets 1 | Err(BadNumber)
 serve s --port 4000 --packets 0 | Err(BadNumber)
 serve a.scene --bind 0.0.0.0 | \
