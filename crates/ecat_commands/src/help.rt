@@ -18,6 +18,7 @@ Examples:
   ecat show scenes/startup.pcap
   ecat list scenes/startup.pcap
   ecat learn scenes/startup.pcap
+  ecat judge scenes/startup.pcap
   ecat check scenes/check/accepted.scene
   ecat cover scenes/check/accepted.scene
   ecat lint scenes/check/accepted.scene
