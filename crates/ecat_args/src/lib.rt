@@ -3,6 +3,8 @@
 //! ```text
 //! ecat show FILE
 //! ecat list FILE [--csv] [--faults] [--stats] [--index]
+//! ecat learn FILE [--at PACKET] [--asked] [--data]
+//! ecat judge FILE [SCENE] [--csv] [--limit LINES]
 //! ecat check SCENE
 //! ecat cover SCENE
 //! ecat lint SCENE
@@ -14,16 +16,17 @@
 //! ecat serve SCENE [--port P] [--packets N] [--bind ADDRESS] [--forever] [--control] [--log] [--raw RAW]
 //!     [--pcap PCAP] [--force]
 //! ecat master SCENE [--at AT] [--raw RAW] [--cycles N] [--every MICROSECONDS] [--limit LIMIT] [--late LATE]
-//!     [--outputs OUTPUTS] [--log LOG] [--stop] [--recover] [--leave STATE]
-//! ecat scan [--at AT] [--raw RAW] [--limit LIMIT] [--late LATE]
+//!     [--outputs OUTPUTS] [--log LOG] [--log-images] [--stop] [--recover] [--leave STATE] [--pcap PCAP]
+//!     [--force]
+//! ecat scan [--at AT] [--raw RAW] [--limit LIMIT] [--late LATE] [--scene SCENE] [--force]
 //! ecat vectors
 //! ```
 //!
 //! A number is decimal digits, or `0x` and hexadecimal digits of either case. `VALUE` is `0x` and exactly 2,
 //! 4 or 8 hexadecimal digits, which give its size. `ADDRESS` is an IPv4 address, as 127.0.0.1. `AT` is where
 //! a line lies, `HOST:PORT` of its end A or those of both ends with a comma between them; `RAW` are the
-//! descriptors of packet sockets, one or two; `STATE` is the name of a state. These are
-//! handed on as they stand.
+//! descriptors of packet sockets, one or two; `STATE` is the name of a state. These are handed on as they
+//! stand.
 //!
 //! A use, which the test `words_are_read_as_the_page_shows` tries; `rt` is what `main` is given:
 //!
