@@ -11,6 +11,7 @@ import shutil
 import socket
 import struct
 import subprocess
+import sys
 import time
 
 CASES = []
@@ -1364,43 +1365,92 @@ def packet_sockets_of_another_type_or_of_no_interface_are_refused(stage):
                 yield f"{words[0]}: {what}", f"{bound_elsewhere}{who}3\n", told
 
 
+# Runs a program at the loopback of a network of its own, through a packet socket whose descriptor stands in the
+# place of {}. It prints what that printed, its status, how many packets it sent and how many microseconds lay
+# between two of them at the least, by the stamp that the system puts on each (SO_TIMESTAMPNS).
+AT_LOOPBACK = """
+import fcntl, socket, struct, subprocess, sys
+with socket.socket(type=socket.SOCK_DGRAM) as any_one:
+    fcntl.ioctl(any_one, 0x8914, struct.pack("16sh14x", b"lo", 1))
+used, watching = (socket.socket(socket.AF_PACKET, socket.SOCK_RAW, socket.htons(0x88A4)) for _ in range(2))
+watching.setsockopt(socket.SOL_SOCKET, 35, 1)
+for one in used, watching:
+    one.bind(("lo", 0x88A4))
+words = [word.replace("{}", str(used.fileno())) for word in sys.argv[1:]]
+done = subprocess.run(words, pass_fds=[used.fileno()], stdout=subprocess.PIPE, stderr=subprocess.STDOUT, text=True)
+watching.setblocking(False)
+sent = []
+try:
+    while True:
+        sent.append(struct.unpack("qq", watching.recvmsg(2000, 200)[1][0][2]))
+except BlockingIOError:
+    pass
+sent = [1000000 * seconds + nanoseconds // 1000 for seconds, nanoseconds in sent]
+print(f"{done.stdout}{done.returncode}\\n{len(sent)} {min((b - a for a, b in zip(sent, sent[1:])), default=0)}")
+"""
+
+
 @case
-def a_port_that_fails_is_told_with_the_status_of_a_failure(stage):
-    """A first packet that cannot be sent. Where strace is not to be had there is nothing to see."""
+def a_limit_below_a_millisecond_is_waited_for(stage):
+    """Over a packet socket too, whose waits are of whole milliseconds. Where no network of its own can be had
+    there is nothing to see."""
+    apart = ["unshare", "-rn", sys.executable, "-c", AT_LOOPBACK]
+    if not shutil.which("unshare") or subprocess.run([*apart, "true"], capture_output=True).returncode:
+        return
+    words = [stage.ecat, "scan", "--raw", "{}", "--limit", "900", "--late", "1"]
+    told = subprocess.run([*apart, *words], stdout=subprocess.PIPE, text=True, timeout=stage.limit).stdout
+    *rows, trips = told.splitlines()
+    yield "scan", "nobody answers at A\n1", "\n".join(rows)
+    count, least = (int(number) for number in trips.split())
+    yield "trips", "True", str(count > 1)
+    yield "time between two", "True", str(least >= 900)
+
+
+def has_faults():
+    """Can faults be injected into what a program calls? It takes strace, and leave to trace."""
     quiet = {"stderr": subprocess.DEVNULL}
-    if not shutil.which("strace") or subprocess.run([*NO_WAITS, "true"], **quiet).returncode:
+    return bool(shutil.which("strace")) and not subprocess.run([*NO_WAITS, "true"], **quiet).returncode
+
+
+def unsent(stage, when, words):
+    """What a program prints of whose packets these cannot be sent, and its status."""
+    fault = f"inject=sendto,sendmsg:error=ENETDOWN:when={when}"
+    fails = ["strace", "-qq", "-o", "/dev/null", "-e", "trace=sendto,sendmsg", "-e", fault, stage.ecat]
+    streams = {"stdin": subprocess.DEVNULL, "stdout": subprocess.PIPE, "stderr": subprocess.STDOUT}
+    done = subprocess.run([*fails, *words], cwd=stage.folder, timeout=stage.limit, text=True, **streams)
+    return f"{done.stdout}{done.returncode}\n"
+
+
+@case
+def a_port_that_fails_has_the_status_of_a_failure(stage):
+    """Of the packets of a master the first two ask for nothing, with two the slaves are counted, and with two
+    the cable is looked at. Where strace is not to be had there is nothing to see."""
+    if not has_faults():
         return
     stage.file("m", MACHINE)
-    fails = ["strace", "-qq", "-o", "/dev/null", "-e", "inject=sendto,sendmsg:error=ENETDOWN", stage.ecat]
-    for words, wanted in [
-        (("master", "m", "--at", "127.0.0.1:9", "--cycles", "5"), "fault: Port\n"),
-        (("scan", "--at", "127.0.0.1:9"), "cycle: Port\n"),
-    ]:
-        streams = {"stdin": subprocess.DEVNULL, "capture_output": True, "text": True}
-        done = subprocess.run([*fails, *words], cwd=stage.folder, timeout=stage.limit, **streams)
-        yield words[0], wanted, done.stdout + done.stderr
-        yield f"{words[0]}: status", "3", str(done.returncode)
+    words = ("master", "m", "--at", both_ends(stage), "--cycles", "5", *PATIENCE)
+    with stage.serve(MACHINE, "--forever"):
+        yield "slaves are counted", "fault: Port\n3\n", unsent(stage, "3+", words)
+        yield "the cable is looked at", "slaves 3\nfault: Port\n3\n", unsent(stage, "5+", words)
+        station = "slaves 3\nring whole\nfault: slave 0 (0x1001): station: Port\n3\n"
+        yield "a station is given", station, unsent(stage, "7+", words)
+        yield "scan", "cycle: Port\n3\n", unsent(stage, "3+", ("scan", "--at", both_ends(stage)))
 
 
 @case
 def a_log_has_the_port_that_failed(stage):
     """One packet of all cannot be sent, of a cycle: the start takes fewer. Where strace is not to be had there
     is nothing to see."""
-    quiet = {"stderr": subprocess.DEVNULL}
-    if not shutil.which("strace") or subprocess.run([*NO_WAITS, "true"], **quiet).returncode:
+    if not has_faults():
         return
     stage.file("m", MACHINE)
-    fault = "inject=sendto,sendmsg:error=ENETDOWN:when=1000"
-    fails = ["strace", "-qq", "-o", "/dev/null", "-e", "trace=sendto,sendmsg", "-e", fault, stage.ecat]
     words = ("master", "m", "--at", both_ends(stage), "--cycles", "600", "--log", "log", *PATIENCE)
     with stage.serve(MACHINE, "--forever"):
-        streams = {"stdin": subprocess.DEVNULL, "capture_output": True, "text": True}
-        done = subprocess.run([*fails, *words], cwd=stage.folder, timeout=stage.limit, **streams)
-    failed = "cycle N: a port failed\ncycle N: good again after M cycles\n"
-    seen = done.stdout.removeprefix(STARTED).splitlines(True)
-    yield "told", failed, "".join(told(text) for text in seen[:2])
-    yield "sums", "cycles 600 good 599 short 0 over 0 fault 1 not-in-op 0\n", "".join(seen[3:4])
-    yield "status", "0", str(done.returncode)
+        seen = unsent(stage, "1000", words).removeprefix(STARTED).splitlines(True)
+    failed = "cycle N: a port failed\ncycle N: good again after 1 cycles\n"
+    yield "told", failed, "".join(re.sub(r"^cycle \d+", "cycle N", row) for row in seen[:2])
+    end = LEFT + "cycles 600 good 599 short 0 over 0 fault 1 not-in-op 0\ncycle time N\n" + ITEMS + "0\n"
+    yield "end", end, timed("".join(seen[2:]))
     with open(os.path.join(stage.folder, "log"), encoding="latin-1") as log:
         rows = [re.sub(r"^cycle \d+ ", "", row) for row in log]
     yield "log", "fault Port counts\n", "".join(row for row in rows if row != "good counts 9 3\n")
