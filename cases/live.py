@@ -1517,9 +1517,10 @@ class Between:
     A trip begins with each packet that the master sends from port A. Its place is the number of the cycle, -1
     before the first, and how many trips had begun since: (7, 0) is the trip of cycle 7, and (7, 1) the look
     behind it. `begins(place)` is called before it is handed on; `gives(place, sent, leaves, packet)` answers
-    what is given at the port where an answer leaves, of a packet that was sent from a port."""
+    what is given in the place of an answer that leaves at a port, of what was sent from a port: the packets,
+    each behind its port."""
 
-    def __init__(self, stage, begins=lambda place: None, gives=lambda place, sent, leaves, packet: [packet]):
+    def __init__(self, stage, gives, begins=lambda place: None):
         self.limit, self.begins, self.gives = stage.limit, begins, gives
         self.near, self.far = ([stage.master() for _ in (A, B)] for _ in (A, B))
         for end in (A, B):
@@ -1554,8 +1555,8 @@ class Between:
         self.far[sent].send(packet)
         for ready in select.select(self.far, [], [], self.limit)[0]:
             leaves = self.far.index(ready)
-            for given in self.gives(self.places[-1], sent, leaves, ready.recv(2000)):
-                self.near[leaves].sendto(given, self.speakers[leaves])
+            for port, given in self.gives(self.places[-1], sent, leaves, ready.recv(2000)):
+                self.near[port].sendto(given, self.speakers[port])
 
 
 @contextlib.contextmanager
@@ -1573,7 +1574,7 @@ def master_behind(stage, cycles, *words, **acts):
 def lost_copies_are_asked_for_again_at_the_start(stage):
     """Twice while the slaves are counted, and twice while the cable is looked at."""
     def gives(place, sent, leaves, packet):
-        return [] if sent == A and place in ((-1, 1), (-1, 2), (-1, 4), (-1, 5)) else [packet]
+        return [] if sent == A and place in ((-1, 1), (-1, 2), (-1, 4), (-1, 5)) else [(leaves, packet)]
 
     with master_behind(stage, 1, "--limit", "300000", gives=gives) as (_line, between, master):
         end = between.until_the_end_of(master)
@@ -1587,7 +1588,7 @@ def a_look_that_found_something_new_is_made_again(stage):
     commands = {(5, 1): "link 1 down", (6, 0): "link 1 up"}
 
     def gives(place, sent, leaves, packet):
-        return [] if sent == A and place in ((5, 0), (6, 0)) else [packet]
+        return [] if sent == A and place in ((5, 0), (6, 0)) else [(leaves, packet)]
 
     def begins(place):
         if place in commands:
@@ -1612,9 +1613,9 @@ def another_count_is_told_though_the_cable_is_the_same(stage):
 
     def gives(place, sent, leaves, packet):
         if sent == B or place not in less:
-            return [packet]
+            return [(leaves, packet)]
         counter = int.from_bytes(packet[15:17], "little") - less[place]
-        return [packet[:15] + counter.to_bytes(2, "little") + packet[17:]]
+        return [(leaves, packet[:15] + counter.to_bytes(2, "little") + packet[17:])]
 
     with master_behind(stage, 10, *PATIENCE, gives=gives) as (_line, between, master):
         wanted = STARTED + (
@@ -1629,14 +1630,23 @@ def another_count_is_told_though_the_cable_is_the_same(stage):
 
 @case
 def late_packets_are_dropped_before_a_trip(stage):
-    """Of two cycles the copy at port A is lost, and what comes at port B is all that is wanted. Behind the
-    second one more packets come there than a port passes over, and the next cycle is good all the same."""
-    def gives(place, sent, leaves, packet):
-        if sent == B and place in ((5, 0), (6, 0)):
-            return []
-        return [packet] + 200 * [b"late"] if leaves == B and place == (6, 0) else [packet]
+    """Of two cycles the copy at port A is lost, and what comes at port B is all that is wanted. With the second
+    one more packets come than a port passes over: none is in the way of the next cycle, of which both copies
+    are taken. So there the cable is looked at once more, and at no other cycle behind the first loss."""
+    for noisy in (A, B):
+        noise = 200 * [(noisy, b"late")]
 
-    with master_behind(stage, 10, "--log", "log", *PATIENCE, gives=gives) as (_line, between, master):
-        yield "status", "0", between.until_the_end_of(master).splitlines()[-1]
-    with open(os.path.join(stage.folder, "log"), encoding="latin-1") as log:
-        yield "log", "".join(f"cycle {k} good counts 9 3\n" for k in range(10)), log.read()
+        def gives(place, sent, leaves, packet):
+            if sent == B and place in ((5, 0), (6, 0)):
+                return []
+            if place != (6, 0):
+                return [(leaves, packet)]
+            # The master waits at port A first, and then here at B: all has come before the trip is over.
+            return noise + [(leaves, packet)] if noisy == A else [(leaves, packet)] + noise
+
+        with master_behind(stage, 10, "--log", "log", *PATIENCE, gives=gives) as (_line, between, master):
+            yield "status", "0", between.until_the_end_of(master).splitlines()[-1]
+            looks = [place for place in between.places if place[0] >= 5 and place[1] == 1]
+            yield "looks", "[(5, 1), (7, 1)]", str([place for place in looks if place[0] < 9])
+        with open(os.path.join(stage.folder, "log"), encoding="latin-1") as log:
+            yield "log", "".join(f"cycle {k} good counts 9 3\n" for k in range(10)), log.read()
