@@ -835,8 +835,9 @@ def a_master_sees_cables_break_and_heal(stage):
         def tells(words):
             """Reads on to a line with these words. A cycle that met a change between its two copies may have
             another counter: its line tells of the cable too, and the next one that it is good again."""
-            seen = told(master.line())
-            while words not in seen and re.search("came|good again|other than before|lost: links", seen):
+            seen, until = told(master.line()), time.monotonic() + stage.limit
+            others = "came|good again|other than before|lost: links"
+            while words not in seen and re.search(others, seen) and time.monotonic() < until:
                 seen = told(master.line())
             if "came" in seen and "came" not in words:
                 master.line()
@@ -855,8 +856,8 @@ def a_master_sees_cables_break_and_heal(stage):
         yield "two breaks", short, after("link 2 down", short)
         line.process.stdin.write(b"link 2 up\n")
         line.line()
-        seen = ""
-        while "good again" not in seen or lost not in seen:
+        seen, until = "", time.monotonic() + stage.limit
+        while ("good again" not in seen or lost not in seen) and time.monotonic() < until:
             # At the limit there is no line: what is missing is told below.
             if not (line_told := told(master.line())):
                 break
