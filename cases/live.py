@@ -11,6 +11,7 @@ import shutil
 import socket
 import struct
 import subprocess
+import sys
 import time
 
 CASES = []
@@ -834,8 +835,9 @@ def a_master_sees_cables_break_and_heal(stage):
         def tells(words):
             """Reads on to a line with these words. A cycle that met a change between its two copies may have
             another counter: its line tells of the cable too, and the next one that it is good again."""
-            seen = told(master.line())
-            while words not in seen and re.search("came|good again|other than before|lost: links", seen):
+            seen, until = told(master.line()), time.monotonic() + stage.limit
+            others = "came|good again|other than before|lost: links"
+            while words not in seen and re.search(others, seen) and time.monotonic() < until:
                 seen = told(master.line())
             if "came" in seen and "came" not in words:
                 master.line()
@@ -854,8 +856,8 @@ def a_master_sees_cables_break_and_heal(stage):
         yield "two breaks", short, after("link 2 down", short)
         line.process.stdin.write(b"link 2 up\n")
         line.line()
-        seen = ""
-        while "good again" not in seen or lost not in seen:
+        seen, until = "", time.monotonic() + stage.limit
+        while ("good again" not in seen or lost not in seen) and time.monotonic() < until:
             # At the limit there is no line: what is missing is told below.
             if not (line_told := told(master.line())):
                 break
@@ -1276,7 +1278,9 @@ def a_master_stops_though_it_recovers(stage):
                 yield "start", wanted, master.line()
             yield "state", "ok\n", command(line, "state 1 4")
             yield "out of Op", "cycle N: not all in Op\n", told(master.line())
-            yield "left", LEFT, master.line()
+            next_line = master.line()
+            # The slave that is looked at in this cycle may be that one.
+            yield "left", LEFT, master.line() if "brought to Op" in next_line else next_line
             yield "not in Op", "not-in-op 1\n", master.line()[-12:]
             yield "status", "1", str(master.process.wait(stage.limit))
 
@@ -1364,43 +1368,92 @@ def packet_sockets_of_another_type_or_of_no_interface_are_refused(stage):
                 yield f"{words[0]}: {what}", f"{bound_elsewhere}{who}3\n", told
 
 
+# Runs a program at the loopback of a network of its own, through a packet socket whose descriptor stands in the
+# place of {}. It prints what that printed, its status, how many packets it sent and how many microseconds lay
+# between two of them at the least, by the stamp that the system puts on each (SO_TIMESTAMPNS).
+AT_LOOPBACK = """
+import fcntl, socket, struct, subprocess, sys
+with socket.socket(type=socket.SOCK_DGRAM) as any_one:
+    fcntl.ioctl(any_one, 0x8914, struct.pack("16sh14x", b"lo", 1))
+used, watching = (socket.socket(socket.AF_PACKET, socket.SOCK_RAW, socket.htons(0x88A4)) for _ in range(2))
+watching.setsockopt(socket.SOL_SOCKET, 35, 1)
+for one in used, watching:
+    one.bind(("lo", 0x88A4))
+words = [word.replace("{}", str(used.fileno())) for word in sys.argv[1:]]
+done = subprocess.run(words, pass_fds=[used.fileno()], stdout=subprocess.PIPE, stderr=subprocess.STDOUT, text=True)
+watching.setblocking(False)
+sent = []
+try:
+    while True:
+        sent.append(struct.unpack("qq", watching.recvmsg(2000, 200)[1][0][2]))
+except BlockingIOError:
+    pass
+sent = [1000000 * seconds + nanoseconds // 1000 for seconds, nanoseconds in sent]
+print(f"{done.stdout}{done.returncode}\\n{len(sent)} {min((b - a for a, b in zip(sent, sent[1:])), default=0)}")
+"""
+
+
 @case
-def a_port_that_fails_is_told_with_the_status_of_a_failure(stage):
-    """A first packet that cannot be sent. Where strace is not to be had there is nothing to see."""
+def a_limit_below_a_millisecond_is_waited_for(stage):
+    """Over a packet socket too, whose waits are of whole milliseconds. Where no network of its own can be had
+    there is nothing to see."""
+    apart = ["unshare", "-rn", sys.executable, "-c", AT_LOOPBACK]
+    if not shutil.which("unshare") or subprocess.run([*apart, "true"], capture_output=True).returncode:
+        return
+    words = [stage.ecat, "scan", "--raw", "{}", "--limit", "900", "--late", "1"]
+    told = subprocess.run([*apart, *words], stdout=subprocess.PIPE, text=True, timeout=stage.limit).stdout
+    *rows, trips = told.splitlines()
+    yield "scan", "nobody answers at A\n1", "\n".join(rows)
+    count, least = (int(number) for number in trips.split())
+    yield "trips", "True", str(count > 1)
+    yield "time between two", "True", str(least >= 900)
+
+
+def has_faults():
+    """Can faults be injected into what a program calls? It takes strace, and leave to trace."""
     quiet = {"stderr": subprocess.DEVNULL}
-    if not shutil.which("strace") or subprocess.run([*NO_WAITS, "true"], **quiet).returncode:
+    return bool(shutil.which("strace")) and not subprocess.run([*NO_WAITS, "true"], **quiet).returncode
+
+
+def unsent(stage, when, words):
+    """What a program prints of whose packets these cannot be sent, and its status."""
+    fault = f"inject=sendto,sendmsg:error=ENETDOWN:when={when}"
+    fails = ["strace", "-qq", "-o", "/dev/null", "-e", "trace=sendto,sendmsg", "-e", fault, stage.ecat]
+    streams = {"stdin": subprocess.DEVNULL, "stdout": subprocess.PIPE, "stderr": subprocess.STDOUT}
+    done = subprocess.run([*fails, *words], cwd=stage.folder, timeout=stage.limit, text=True, **streams)
+    return f"{done.stdout}{done.returncode}\n"
+
+
+@case
+def a_port_that_fails_has_the_status_of_a_failure(stage):
+    """Of the packets of a master the first two ask for nothing, with two the slaves are counted, and with two
+    the cable is looked at. Where strace is not to be had there is nothing to see."""
+    if not has_faults():
         return
     stage.file("m", MACHINE)
-    fails = ["strace", "-qq", "-o", "/dev/null", "-e", "inject=sendto,sendmsg:error=ENETDOWN", stage.ecat]
-    for words, wanted in [
-        (("master", "m", "--at", "127.0.0.1:9", "--cycles", "5"), "fault: Port\n"),
-        (("scan", "--at", "127.0.0.1:9"), "cycle: Port\n"),
-    ]:
-        streams = {"stdin": subprocess.DEVNULL, "capture_output": True, "text": True}
-        done = subprocess.run([*fails, *words], cwd=stage.folder, timeout=stage.limit, **streams)
-        yield words[0], wanted, done.stdout + done.stderr
-        yield f"{words[0]}: status", "3", str(done.returncode)
+    words = ("master", "m", "--at", both_ends(stage), "--cycles", "5", *PATIENCE)
+    with stage.serve(MACHINE, "--forever"):
+        yield "slaves are counted", "fault: Port\n3\n", unsent(stage, "3+", words)
+        yield "the cable is looked at", "slaves 3\nfault: Port\n3\n", unsent(stage, "5+", words)
+        station = "slaves 3\nring whole\nfault: slave 0 (0x1001): station: Port\n3\n"
+        yield "a station is given", station, unsent(stage, "7+", words)
+        yield "scan", "cycle: Port\n3\n", unsent(stage, "3+", ("scan", "--at", both_ends(stage)))
 
 
 @case
 def a_log_has_the_port_that_failed(stage):
     """One packet of all cannot be sent, of a cycle: the start takes fewer. Where strace is not to be had there
     is nothing to see."""
-    quiet = {"stderr": subprocess.DEVNULL}
-    if not shutil.which("strace") or subprocess.run([*NO_WAITS, "true"], **quiet).returncode:
+    if not has_faults():
         return
     stage.file("m", MACHINE)
-    fault = "inject=sendto,sendmsg:error=ENETDOWN:when=1000"
-    fails = ["strace", "-qq", "-o", "/dev/null", "-e", "trace=sendto,sendmsg", "-e", fault, stage.ecat]
     words = ("master", "m", "--at", both_ends(stage), "--cycles", "600", "--log", "log", *PATIENCE)
     with stage.serve(MACHINE, "--forever"):
-        streams = {"stdin": subprocess.DEVNULL, "capture_output": True, "text": True}
-        done = subprocess.run([*fails, *words], cwd=stage.folder, timeout=stage.limit, **streams)
-    failed = "cycle N: a port failed\ncycle N: good again after M cycles\n"
-    seen = done.stdout.removeprefix(STARTED).splitlines(True)
-    yield "told", failed, "".join(told(text) for text in seen[:2])
-    yield "sums", "cycles 600 good 599 short 0 over 0 fault 1 not-in-op 0\n", "".join(seen[3:4])
-    yield "status", "0", str(done.returncode)
+        seen = unsent(stage, "1000", words).removeprefix(STARTED).splitlines(True)
+    failed = "cycle N: a port failed\ncycle N: good again after 1 cycles\n"
+    yield "told", failed, "".join(re.sub(r"^cycle \d+", "cycle N", row) for row in seen[:2])
+    end = LEFT + "cycles 600 good 599 short 0 over 0 fault 1 not-in-op 0\ncycle time N\n" + ITEMS + "0\n"
+    yield "end", end, timed("".join(seen[2:]))
     with open(os.path.join(stage.folder, "log"), encoding="latin-1") as log:
         rows = [re.sub(r"^cycle \d+ ", "", row) for row in log]
     yield "log", "fault Port counts\n", "".join(row for row in rows if row != "good counts 9 3\n")
@@ -1467,9 +1520,10 @@ class Between:
     A trip begins with each packet that the master sends from port A. Its place is the number of the cycle, -1
     before the first, and how many trips had begun since: (7, 0) is the trip of cycle 7, and (7, 1) the look
     behind it. `begins(place)` is called before it is handed on; `gives(place, sent, leaves, packet)` answers
-    what is given at the port where an answer leaves, of a packet that was sent from a port."""
+    what is given in the place of an answer that leaves at a port, of what was sent from a port: the packets,
+    each behind its port."""
 
-    def __init__(self, stage, begins=lambda place: None, gives=lambda place, sent, leaves, packet: [packet]):
+    def __init__(self, stage, gives, begins=lambda place: None):
         self.limit, self.begins, self.gives = stage.limit, begins, gives
         self.near, self.far = ([stage.master() for _ in (A, B)] for _ in (A, B))
         for end in (A, B):
@@ -1504,8 +1558,8 @@ class Between:
         self.far[sent].send(packet)
         for ready in select.select(self.far, [], [], self.limit)[0]:
             leaves = self.far.index(ready)
-            for given in self.gives(self.places[-1], sent, leaves, ready.recv(2000)):
-                self.near[leaves].sendto(given, self.speakers[leaves])
+            for port, given in self.gives(self.places[-1], sent, leaves, ready.recv(2000)):
+                self.near[port].sendto(given, self.speakers[port])
 
 
 @contextlib.contextmanager
@@ -1523,7 +1577,7 @@ def master_behind(stage, cycles, *words, **acts):
 def lost_copies_are_asked_for_again_at_the_start(stage):
     """Twice while the slaves are counted, and twice while the cable is looked at."""
     def gives(place, sent, leaves, packet):
-        return [] if sent == A and place in ((-1, 1), (-1, 2), (-1, 4), (-1, 5)) else [packet]
+        return [] if sent == A and place in ((-1, 1), (-1, 2), (-1, 4), (-1, 5)) else [(leaves, packet)]
 
     with master_behind(stage, 1, "--limit", "300000", gives=gives) as (_line, between, master):
         end = between.until_the_end_of(master)
@@ -1537,7 +1591,7 @@ def a_look_that_found_something_new_is_made_again(stage):
     commands = {(5, 1): "link 1 down", (6, 0): "link 1 up"}
 
     def gives(place, sent, leaves, packet):
-        return [] if sent == A and place in ((5, 0), (6, 0)) else [packet]
+        return [] if sent == A and place in ((5, 0), (6, 0)) else [(leaves, packet)]
 
     def begins(place):
         if place in commands:
@@ -1562,9 +1616,9 @@ def another_count_is_told_though_the_cable_is_the_same(stage):
 
     def gives(place, sent, leaves, packet):
         if sent == B or place not in less:
-            return [packet]
+            return [(leaves, packet)]
         counter = int.from_bytes(packet[15:17], "little") - less[place]
-        return [packet[:15] + counter.to_bytes(2, "little") + packet[17:]]
+        return [(leaves, packet[:15] + counter.to_bytes(2, "little") + packet[17:])]
 
     with master_behind(stage, 10, *PATIENCE, gives=gives) as (_line, between, master):
         wanted = STARTED + (
@@ -1579,14 +1633,23 @@ def another_count_is_told_though_the_cable_is_the_same(stage):
 
 @case
 def late_packets_are_dropped_before_a_trip(stage):
-    """Of two cycles the copy at port A is lost, and what comes at port B is all that is wanted. Behind the
-    second one more packets come there than a port passes over, and the next cycle is good all the same."""
-    def gives(place, sent, leaves, packet):
-        if sent == B and place in ((5, 0), (6, 0)):
-            return []
-        return [packet] + 200 * [b"late"] if leaves == B and place == (6, 0) else [packet]
+    """Of two cycles the copy at port A is lost, and what comes at port B is all that is wanted. With the second
+    one more packets come than a port passes over: none is in the way of the next cycle, of which both copies
+    are taken. So there the cable is looked at once more, and at no other cycle behind the first loss."""
+    for noisy in (A, B):
+        noise = 200 * [(noisy, b"late")]
 
-    with master_behind(stage, 10, "--log", "log", *PATIENCE, gives=gives) as (_line, between, master):
-        yield "status", "0", between.until_the_end_of(master).splitlines()[-1]
-    with open(os.path.join(stage.folder, "log"), encoding="latin-1") as log:
-        yield "log", "".join(f"cycle {k} good counts 9 3\n" for k in range(10)), log.read()
+        def gives(place, sent, leaves, packet):
+            if sent == B and place in ((5, 0), (6, 0)):
+                return []
+            if place != (6, 0):
+                return [(leaves, packet)]
+            # The master waits at port A first, and then here at B: all has come before the trip is over.
+            return noise + [(leaves, packet)] if noisy == A else [(leaves, packet)] + noise
+
+        with master_behind(stage, 10, "--log", "log", *PATIENCE, gives=gives) as (_line, between, master):
+            yield "status", "0", between.until_the_end_of(master).splitlines()[-1]
+            looks = [place for place in between.places if place[0] >= 5 and place[1] == 1]
+            yield "looks", "[(5, 1), (7, 1)]", str([place for place in looks if place[0] < 9])
+        with open(os.path.join(stage.folder, "log"), encoding="latin-1") as log:
+            yield "log", "".join(f"cycle {k} good counts 9 3\n" for k in range(10)), log.read()
