@@ -7,7 +7,7 @@ use crate::asserts::assert_found;
 use arrayvec::ArrayVec;
 use ec_master::PortFault;
 use ec_regs::{AlState, AlStatus};
-use ec_ring::{Arrivals, HeardPorts, Ring, Travel, Weather};
+use ec_ring::{Arrival, Arrivals, HeardPorts, Port, Ring, Travel, Weather};
 use ec_run::{Outputs, StartupObject, Wanted};
 use ec_wire::{Command, Datagram, FrameBuf, address_of};
 use ecat_master::{Pace, Plan, master};
@@ -29,7 +29,24 @@ pub enum Event {
     Forgets(usize),
     /// The ports fail for this frame.
     Fault,
+    /// A copy comes at port B that is none of the frame, in the place of both.
+    Stranger,
 }
+
+/// What befalls a frame.
+#[derive(Clone, Copy)]
+struct Fate {
+    loses_a: bool,
+    fails: bool,
+    is_strange: bool,
+}
+
+/// Nothing befalls it.
+const CALM: Fate = Fate {
+    loses_a: false,
+    fails: false,
+    is_strange: false,
+};
 
 /// Ports to a ring whose slaves take a step after each frame.
 #[derive(Drop)]
@@ -56,17 +73,17 @@ impl<'a> Stage<'a> {
         &self.ring
     }
 
-    /// Lets an event happen, and answers whether copy A is lost and whether the ports fail.
-    fn happens(&mut self, event: Event) -> (bool, bool) {
+    /// Lets an event happen, and puts into the fate of the frame what befalls it.
+    fn happens(&mut self, event: Event, fate: &mut Fate) {
         match event {
             Event::Link(number, up) => self.sets_link(number, up),
-            Event::LoseA => return (true, false),
+            Event::LoseA => fate.loses_a = true,
             Event::Error(place, state) => self.falls(place, state, true),
             Event::Falls(place, state) => self.falls(place, state, false),
             Event::Forgets(place) => self.forgets(place),
-            Event::Fault => return (false, true),
+            Event::Fault => fate.fails = true,
+            Event::Stranger => fate.is_strange = true,
         }
-        (false, false)
     }
 
     /// Mends or breaks a link, where there is one.
@@ -109,29 +126,46 @@ impl<'a> Stage<'a> {
     }
 
     /// Lets happen what happens before the frame of the next cycle.
-    fn begin_cycle(&mut self) -> (bool, bool) {
-        let mut lost = false;
-        let mut fails = false;
+    fn begin_cycle(&mut self) -> Fate {
+        let mut fate = CALM;
         let events = self.events;
         for k in 0..events.len() {
             let (cycle, event) = events[k];
             if cycle == self.cycles {
-                let (loses, faults) = self.happens(event);
-                lost = lost || loses;
-                fails = fails || faults;
+                self.happens(event, &mut fate);
             }
         }
         self.cycles = self.cycles.saturating_add(1);
-        (lost, fails)
+        fate
     }
 
     /// Does the next frame belong to a cycle, and what happens before it?
-    fn before(&mut self, sent: &FrameBuf) -> (bool, bool) {
+    fn before(&mut self, sent: &FrameBuf) -> Fate {
         if sent.count() > 0 && sent.command(0) == Command::Lrw {
             self.begin_cycle()
         } else {
-            (false, false)
+            CALM
         }
+    }
+}
+
+/// A copy of no frame of the master, at port B.
+fn stranger(sent: &FrameBuf) -> Arrivals {
+    let mut payload = ArrayVec::new();
+    payload.push(0);
+    let other = Datagram {
+        command: Command::Nop,
+        index: 0,
+        address: 0,
+        circulating: false,
+        irq: 0,
+        payload,
+        counter: if sent.count() > 0 { sent.counter(0) } else { 0 },
+    };
+    let frame = FrameBuf::of(&other);
+    Arrivals {
+        a: Some(Arrival { frame, at: Port::B }),
+        b: None,
     }
 }
 
@@ -142,14 +176,17 @@ impl<'a> HeardPorts for Stage<'a> {
 
     fn trip_heard(&mut self, sent: &FrameBuf) -> Result<Arrivals, PortFault> {
         let before = self.failed;
-        let (lost, fails) = self.before(sent);
+        let fate = self.before(sent);
         self.failed = before;
-        if fails && before < u64::MAX {
+        if fate.fails && before < u64::MAX {
             self.failed = before + 1;
             return Err(PortFault);
         }
+        if fate.is_strange {
+            return Ok(stranger(sent));
+        }
         let mut weather = Weather::calm(self.ring.links());
-        weather.lost_a = lost;
+        weather.lost_a = fate.loses_a;
         let came = self.ring.arrivals(sent, &weather);
         self.ring.step_all();
         Ok(came)

@@ -35,6 +35,19 @@ fn packets_go_to_the_end_that_is_named_and_back(rt: HostRuntime) {
 }
 
 #[test]
+fn a_send_behind_one_to_nobody_is_silence(rt: HostRuntime) {
+    let ends = FarEnds {
+        a: "127.0.0.1:9",
+        b: None,
+    };
+    let mut carrier = UdpCarrier::open(&rt, ends).ok().expect(&rt, "sockets");
+    for _send in 0..4usize {
+        assert_same(&rt, carrier.send(Port::A, b"out"), Ok(()));
+    }
+    assert_same(&rt, carrier.failures(), 0);
+}
+
+#[test]
 fn an_end_that_cannot_be_is_named(rt: HostRuntime) {
     let ends = FarEnds {
         a: "127.0.0.1:9",

@@ -1,0 +1,76 @@
+//! Progress, by a time that goes on.
+
+use super::line::{EXPECTED, work};
+use super::stage::{PLAN, ROOM, Stage, Told, ring_with, wanted_with, written};
+use crate::asserts::assert_found;
+use ecat_master::{Pace, master};
+use std::io::Cursor;
+
+/// What each cycle takes, in microseconds.
+const TOOK: [u64; 4] = [900_000, 400_000, 100, 1_000_000];
+
+/// What is told behind the second of them, and behind the last.
+const PROGRESS: &str = "\
+cycles 2 good 2 short 0 over 0 fault 0 not-in-op 0, cycle time least 400000 mean 650000 greatest \
+    900000 microseconds
+cycles 4 good 4 short 0 over 0 fault 0 not-in-op 0, cycle time least 100 mean 500050 greatest \
+    1000000 microseconds
+";
+
+/// So many cycles, each of which asks for the time at its beginning and at its end.
+#[derive(Drop)]
+struct Timed {
+    next: usize,
+    at: u64,
+    has_begun: bool,
+}
+
+impl Pace for Timed {
+    fn next(&mut self) -> bool {
+        self.next < TOOK.len()
+    }
+
+    fn late(&mut self) -> Option<u64> {
+        None
+    }
+
+    fn now(&mut self) -> u64 {
+        if self.has_begun && self.next < TOOK.len() {
+            self.at = self.at.saturating_add(TOOK[self.next]);
+            self.next = self.next.saturating_add(1);
+        }
+        self.has_begun = !self.has_begun;
+        self.at
+    }
+}
+
+#[test]
+fn progress_has_the_times_since_the_last_line(rt: HostRuntime) {
+    let ports = Stage::new(ring_with(&rt, 3, &[]), &[]);
+    let line = wanted_with(&rt, Told::Same);
+    let mut plan = PLAN;
+    plan.progress = true;
+    let mut pace = Timed {
+        next: 0,
+        at: 0,
+        has_begun: false,
+    };
+    let mut out = Cursor::new([0u8; ROOM]);
+    let mut err = Cursor::new([0u8; ROOM]);
+    let mut log = Cursor::new([0u8; ROOM]);
+    let work = work(&rt);
+    assert!(&rt; work.len() == EXPECTED.len());
+    let status = master(
+        ports,
+        line.as_slice(),
+        work,
+        &EXPECTED,
+        &plan,
+        &mut pace,
+        &mut out,
+        &mut err,
+        &mut log,
+    );
+    assert_found(&rt, "the status", status, 0);
+    assert_found(&rt, "progress", written(&err), PROGRESS);
+}
