@@ -1488,8 +1488,9 @@ def a_service_that_is_gone_is_no_failure_of_a_port(stage):
 
 
 @case
-def each_slave_that_cannot_be_brought_up_again_is_told(stage):
-    """The service is started anew, with two slaves that are others by now and go to Safe-Op no more."""
+def each_slave_that_cannot_be_brought_up_again_is_told_once(stage):
+    """The service is started anew, with two slaves that are others by now and go to Safe-Op no more: of each it
+    is told once."""
     stage.file("m", MACHINE)
     one, *others = re.split("(?=slave)", MACHINE)[1:]
     anew = one + "".join(others).replace("areas 1 1\n", "")
@@ -1507,6 +1508,8 @@ def each_slave_that_cannot_be_brought_up_again_is_told(stage):
             while not seen.issuperset(wanted) and time.monotonic() < until:
                 seen.add(told(master.line()))
             yield "told", "".join(wanted), "".join(text for text in wanted if text in seen)
+            time.sleep(0.3)  # Each is looked at again meanwhile, in turn.
+            yield "once", "0", str(master.end().count(why))
 
 
 A, B = 0, 1

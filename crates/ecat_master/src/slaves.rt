@@ -19,6 +19,8 @@ pub(crate) struct SlaveStates {
     cycles: u64,
     /// What was last told of each slave, by its place.
     told: [Seen; MAX_SLAVES],
+    /// Of which slaves it was told since then that they cannot be brought up again, by their places.
+    failed: [bool; MAX_SLAVES],
 }
 
 impl SlaveStates {
@@ -29,6 +31,7 @@ impl SlaveStates {
             since: 0,
             cycles: 0,
             told: [Seen::In(AlState::Op); MAX_SLAVES],
+            failed: [false; MAX_SLAVES],
         }
     }
 
@@ -61,6 +64,7 @@ impl SlaveStates {
         put_cycle(cycle, lines)?;
         if in_op {
             self.told = [Seen::In(AlState::Op); MAX_SLAVES];
+            self.failed = [false; MAX_SLAVES];
             lines.text(format_args!("all in Op again after {lasted} cycles"))?;
         } else {
             lines.text("not all in Op")?;
@@ -82,10 +86,31 @@ impl SlaveStates {
             return Ok(());
         }
         self.told[at] = seen;
+        self.failed[at] = false;
         put_cycle(cycle, lines)?;
         lines.text(End::AtSlave(at, station))?;
         put_seen(seen, lines)?;
         lines.end()
+    }
+}
+
+impl SlaveStates {
+    /// A slave cannot be brought up again: is that to be told? Once, until something else is told of it.
+    pub(crate) fn fails(&mut self, place: u16) -> bool {
+        let at = usize::from(place);
+        if at >= MAX_SLAVES || self.failed[at] {
+            return false;
+        }
+        self.failed[at] = true;
+        true
+    }
+
+    /// All is well with a slave, or it was brought up again.
+    pub(crate) fn is_well(&mut self, place: u16) {
+        let at = usize::from(place);
+        if at < MAX_SLAVES {
+            self.failed[at] = false;
+        }
     }
 }
 

@@ -87,7 +87,6 @@ pub struct Teller<'a, W, V, L> {
     times: Times,
     due: u64,
     next: u16,
-    failed: Option<StepFault>,
 }
 
 impl<'a, W: Write, V: Write, L: Write> Teller<'a, W, V, L> {
@@ -111,7 +110,6 @@ impl<'a, W: Write, V: Write, L: Write> Teller<'a, W, V, L> {
             times: Times::none(),
             due: SECOND,
             next: 0,
-            failed: None,
         }
     }
 
@@ -246,7 +244,7 @@ impl<'a, W: Write, V: Write, L: Write> Teller<'a, W, V, L> {
         self.tell_recovery(cycle, place, wanted, outcome)
     }
 
-    /// Tells what became of a slave that was looked at; a failure is told once.
+    /// Tells what became of a slave that was looked at; of each slave a failure is told once.
     fn tell_recovery(
         &mut self,
         cycle: u64,
@@ -255,15 +253,20 @@ impl<'a, W: Write, V: Write, L: Write> Teller<'a, W, V, L> {
         outcome: Outcome,
     ) -> io::Result<()> {
         match outcome {
-            Outcome::Left => Ok(()),
+            Outcome::Left => {
+                self.states.is_well(place);
+                Ok(())
+            }
             Outcome::Brought(seen) => {
-                self.failed = None;
+                self.states.is_well(place);
                 put_recovered(cycle, place, wanted.station, seen, &mut self.out)
             }
-            Outcome::Failed(fault) if self.failed == Some(fault) => Ok(()),
             Outcome::Failed(fault) => {
-                self.failed = Some(fault);
-                put_unrecovered(cycle, &fault, wanted, &mut self.out)
+                if self.states.fails(place) {
+                    put_unrecovered(cycle, &fault, wanted, &mut self.out)
+                } else {
+                    Ok(())
+                }
             }
         }
     }
