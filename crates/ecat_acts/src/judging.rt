@@ -105,7 +105,8 @@ where
 }
 
 /// What helps where a line is not told whole.
-const HOLES: &[u8] = b"the capture does not tell the whole line: ecat learn shows what is missing\n";
+const HOLES: &[u8] =
+    b"the capture does not tell the whole line: ecat learn shows what is missing\n";
 
 /// Tells how judging ended, and answers the exit status: that of a refusal where a cycle was not good or
 /// lost, and where nothing could be judged. Whoever reads the output may close it.

@@ -56,8 +56,6 @@ unfolding line
 subs_complete p other = (
   λ met e. let all = leaf_given _ p.1 refl refl e in (refl, and_from _ _ (all.0 refl) refl),
   (
-  λ met e. let all = leaf_given _ p.1 refl refl e in (refl, and_from _ _ (all.0 refl) refl),
-  (
     λ met e. let all = leaf_given _ p.1 refl refl e in (refl, and_from _ _ (all.0 refl) refl),
     (
       λ met e. let all = leaf_given _ p.1 refl refl e in (refl, and_from _ _ (all.0 refl) refl),
@@ -74,12 +72,15 @@ subs_complete p other = (
                 (
                   λ met e. let all = leaf_given _ p.1 refl refl e in (refl, and_from _ _ (all.0 refl) refl),
                   (
-                    λ met e. let all = leaf_given _ p.1 refl refl e in (
-                      refl,
-                      and_from _ _ (all.0 refl)
-                          (and_from _ _ (all.1.0 refl) (and_from _ _ (all.1.1.0 refl) (and_from _ _ (all.1.1.1.0 refl) refl))),
+                    λ met e. let all = leaf_given _ p.1 refl refl e in (refl, and_from _ _ (all.0 refl) refl),
+                    (
+                      λ met e. let all = leaf_given _ p.1 refl refl e in (
+                        refl,
+                        and_from _ _ (all.0 refl)
+                            (and_from _ _ (all.1.0 refl) (and_from _ _ (all.1.1.0 refl) (and_from _ _ (all.1.1.1.0 refl) refl))),
+                      ),
+                      (λ met e. let all = leaf_given _ p.1 refl refl e in (refl, and_from _ _ (all.0 refl) refl), (λ met e. let all = leaf_given _ p.1 refl refl e in (refl, and_from _ _ (all.0 refl) refl), (λ met e. let all = leaf_given _ p.1 refl refl e in (refl, and_from _ _ (all.0 refl) refl), (λ met e. (refl, refl), (λ met e. (refl, refl), (λ met e. absurd (no_help p.0 met other), tt)))))),
                     ),
-                    (λ met e. let all = leaf_given _ p.1 refl refl e in (refl, and_from _ _ (all.0 refl) refl), (λ met e. let all = leaf_given _ p.1 refl refl e in (refl, and_from _ _ (all.0 refl) refl), (λ met e. let all = leaf_given _ p.1 refl refl e in (refl, and_from _ _ (all.0 refl) refl), (λ met e. (refl, refl), (λ met e. (refl, refl), (λ met e. absurd (no_help p.0 met other), tt)))))),
                   ),
                 ),
               ),
@@ -88,7 +89,6 @@ subs_complete p other = (
         ),
       ),
     ),
-  ),
   ),
 )
 
