@@ -37,13 +37,14 @@
 //!
 //! ```text
 //! first,last,from,to,times,counters,passed,verdict
-//! 6,8,0.003000,0.004000,2,item 0 wkc 3 of 9; item 1 wkc 1 of 3,1 of 3,"without slave 2 (0x1003)"
+//! 6,9,0.003000,0.004010,2,item 0 wkc 3 of 9; item 1 wkc 1 of 3,1 of 3,"without slave 2 (0x1003)"
 //! ```
 //!
-//! `first` and `last` are packets, `from` and `to` when they were captured, in seconds from the first frame
-//! on, `times` how many bad trips there were. `counters` has the items that were not good, parted by `; `,
-//! and `passed` how many slaves an ADP tells to have been passed. The verdict is `lost`, or what the line
-//! says. Behind [`Asked::limit`] lines or rows further ones are counted alone, and a last one tells how many.
+//! `first` is the packet in which the first bad trip was sent, `last` the one in which the last came back,
+//! `from` and `to` when that was, in seconds from the first frame on, `times` how many bad trips there were;
+//! of losses both are sent packets. `counters` has the items that were not good, parted by `; `, and `passed`
+//! how many slaves an ADP tells to have been passed. The verdict is `lost`, or what the line says. Behind
+//! [`Asked::limit`] lines or rows further ones are counted alone, and a last one tells how many.
 //!
 //! What is promised:
 //!

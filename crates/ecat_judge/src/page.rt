@@ -151,7 +151,7 @@ impl Page {
         }
     }
 
-    /// Puts the packets, the times and how many there were.
+    /// Puts the packets, their times and how many trips there were.
     fn put_packets(&mut self, first: At, last: At, times: u64) -> Result<(), AllocError> {
         let from = first.packet;
         let to = last.packet;
@@ -162,14 +162,17 @@ impl Page {
             self.put_time(last.time)?;
             return write!(self.text, ",{times},");
         }
-        if times == 1 {
-            write!(self.text, "packet {from}")?;
-            return self.put_time_behind(", ", first.time);
-        }
         write!(self.text, "packets {from} to {to}")?;
         self.put_time_behind(", ", first.time)?;
         self.put_time_behind(" to ", last.time)?;
         write!(self.text, ", {times} times")
+    }
+
+    /// Puts one packet and its time.
+    fn put_packet(&mut self, at: At) -> Result<(), AllocError> {
+        let packet = at.packet;
+        write!(self.text, "packet {packet}")?;
+        self.put_time_behind(", ", at.time)
     }
 
     /// Puts the losses of trips that were sent one after the other.
@@ -177,7 +180,11 @@ impl Page {
         if !self.may_tell() {
             return Ok(());
         }
-        self.put_packets(first, last, times)?;
+        if times == 1 && !self.csv {
+            self.put_packet(first)?;
+        } else {
+            self.put_packets(first, last, times)?;
+        }
         self.text
             .push_str(if self.csv { ",,lost\n" } else { ": lost\n" })
     }

@@ -27,9 +27,9 @@ pub(crate) struct Run {
     pub class: Class,
     /// How many slaves its bad trips passed, where an ADP tells.
     pub grown: Option<u16>,
-    /// The first bad trip.
+    /// The packet in which the first bad trip was sent.
     pub first: At,
-    /// The last one.
+    /// The packet in which the last one came back.
     pub last: At,
     /// How many were bad.
     pub times: u64,
@@ -116,16 +116,16 @@ impl Run {
         }
     }
 
-    /// Takes a bad trip.
-    pub(crate) fn take_bad(&mut self, at: At, kind: Kind, grown: Option<u16>) {
+    /// Takes a bad trip, which was sent and came back in these packets.
+    pub(crate) fn take_bad(&mut self, sent: At, back: At, kind: Kind, grown: Option<u16>) {
         if self.times == 0 {
-            self.first = at;
+            self.first = sent;
             self.kind = kind;
         }
         if grown.is_some() {
             self.grown = grown;
         }
-        self.last = at;
+        self.last = back;
         self.times = self.times.saturating_add(1);
     }
 }

@@ -112,11 +112,14 @@ fn is_whole(trip: &Trip) -> bool {
     trip.back.is_some() && (trip.second.is_none() || trip.again.is_some())
 }
 
-/// When the last copy of a trip came back.
-fn back_of(trip: &Trip) -> Option<u64> {
+/// The packet in which a trip came back last; in which it was sent, where it did not.
+fn back_of(trip: &Trip) -> At {
     match trip.again {
-        Some(again) => again.time,
-        None => trip.back?.time,
+        Some(again) => at(&again),
+        None => match trip.back {
+            Some(back) => at(&back),
+            None => at(&trip.first),
+        },
     }
 }
 
@@ -194,13 +197,8 @@ impl Trial {
     /// Takes what becomes of a packet.
     fn take_fate(&mut self, frame: &FrameBuf, fate: &Fate) -> Result<(), AllocError> {
         match fate {
-            Fate::Begins => self.take_strangers(frame),
-            Fate::Replaces(kept) => {
-                self.take_trip(kept.trip())?;
-                self.take_strangers(frame)
-            }
-            Fate::Closes(kept) => self.take_trip(kept.trip()),
-            Fate::Second(_) | Fate::Back(_) => Ok(()),
+            Fate::Replaces(kept) | Fate::Closes(kept) => self.take_trip(kept.trip()),
+            Fate::Begins | Fate::Second(_) | Fate::Back(_) => Ok(()),
             Fate::Late => {
                 self.take_unpaired(frame);
                 Ok(())
@@ -286,20 +284,28 @@ impl Trial {
 
     // ---- trips that came back
 
-    /// Finds the items of a trip and their counters.
+    /// Finds the items of a trip and their counters, and counts what no item asks for.
     fn find(&mut self, sent: &FrameBuf, came: &FrameBuf) -> Result<(), AllocError> {
         self.found.clear();
         let shared = sent.count().min(came.count());
         for k in 0..shared {
-            if let Some(item) = self.table.item_of(key_of(sent, k))
-                && let Some(entry) = self.table.entries.get(item)
-            {
-                self.found.push(Counted {
-                    item,
-                    moved: moved(sent, came, k),
-                    expected: entry.expected,
-                })?;
+            let key = key_of(sent, k);
+            match self.table.item_of(key) {
+                Some(item) => self.find_at(item, moved(sent, came, k))?,
+                None => self.strangers.take(key)?,
             }
+        }
+        Ok(())
+    }
+
+    /// Takes how far the counter of an item moved.
+    fn find_at(&mut self, item: usize, moved: u16) -> Result<(), AllocError> {
+        if let Some(entry) = self.table.entries.get(item) {
+            self.found.push(Counted {
+                item,
+                moved,
+                expected: entry.expected,
+            })?;
         }
         Ok(())
     }
@@ -345,7 +351,7 @@ impl Trial {
 
     /// Counts the items of a trip that came back.
     fn count_found(&mut self, trip: &Trip) {
-        let back = back_of(trip);
+        let back = back_of(trip).time;
         for counted in self.found.as_slice() {
             if let Some(account) = self.accounts.get_mut(counted.item) {
                 let outcome = match counted.standing() {
@@ -388,7 +394,8 @@ impl Trial {
             self.weigh(grown)?;
         }
         self.run.take(self.found.as_slice());
-        self.run.take_bad(at(&trip.first), kind, grown);
+        self.run
+            .take_bad(at(&trip.first), back_of(trip), kind, grown);
         Ok(())
     }
 

@@ -34,7 +34,7 @@ const CAPTURE: [Packet; 9] = [
 const ROWS: &str = "\
 first,last,from,to,times,counters,passed,verdict
 3,3,0.001000,0.001000,1,,,lost
-6,8,0.003000,0.004000,2,item 0 wkc 3 of 9; item 1 wkc 1 of 3,1 of 3,\"without slaves 1..2 (0x1002, 0x1003)\"
+6,9,0.003000,0.004010,2,item 0 wkc 3 of 9; item 1 wkc 1 of 3,1 of 3,\"without slaves 1..2 (0x1002, 0x1003)\"
 ";
 
 const ONE_ROW: &str = "\
@@ -99,7 +99,7 @@ const FINE: [Packet; 4] = [
 ];
 
 const FINE_TEXT: &str = "\
-packet 3, 0.001000007, item 0 wkc 3 of 9, item 1 wkc 1 of 3, passed 1 of 3: \
+packets 3 to 4, 0.001000007 to 0.001010009, 1 times, item 0 wkc 3 of 9, item 1 wkc 1 of 3, passed 1 of 3: \
 without slaves 1..2 (0x1002, 0x1003)
 item 0 LRW 0x00010000 6 bytes: sent 2 good 1 short 1 over 0 lost 0
   packets 1 to 3, 0.000000000 to 0.001000007

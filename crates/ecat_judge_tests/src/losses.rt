@@ -28,7 +28,7 @@ const LOSSY: [Packet; 11] = [
 const LOSSY_TEXT: &str = "\
 packets 3 to 4, 0.001000 to 0.002000, 2 times: lost
 packet 7, 0.004000: lost
-packets 5 to 8, 0.003000 to 0.005000, 2 times, item 0 wkc 6 of 9: without slave 2 (0x1003)
+packets 5 to 9, 0.003000 to 0.005014, 2 times, item 0 wkc 6 of 9: without slave 2 (0x1003)
 item 0 LRW 0x00010000 6 bytes: sent 7 good 2 short 2 over 0 lost 3
   packets 1 to 10, 0.000000 to 0.006000
   every 0.001000 0.001000 0.001000 s, jitter 0.000000
@@ -60,7 +60,6 @@ item 0 LRW 0x00010000 6 bytes: sent 2 good 1 short 0 over 0 lost 0 on the way 1
   packets 3 to 5, 0.001000 to 0.002000
   every 0.001000 0.001000 0.001000 s, jitter 0.000000
   back in 0.000010 0.000010 0.000010 s
-not in the scene: 1 groups, 1 datagrams
 ";
 
 #[test]
@@ -151,8 +150,8 @@ const BROKEN: [Packet; 18] = [
 ];
 
 const BROKEN_TEXT: &str = "\
-packet 9, 0.002000, item 0 wkc 6 of 12: without slaves 1..2 (0x1002, 0x1003)
-packet 13, 0.003000, item 0 wkc 3 of 12: one copy alone
+packets 9 to 12, 0.002000 to 0.002011, 1 times, item 0 wkc 6 of 12: without slaves 1..2 (0x1002, 0x1003)
+packets 13 to 15, 0.003000 to 0.003010, 1 times, item 0 wkc 3 of 12: one copy alone
 item 0 LRW 0x00010000 8 bytes: sent 5 good 2 short 2 over 0 lost 0 on the way 1
   packets 1 to 16, 0.000000 to 0.004000
   every 0.001000 0.001000 0.001000 s, jitter 0.000000

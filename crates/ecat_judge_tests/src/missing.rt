@@ -27,8 +27,8 @@ const BY_TURNS: [Packet; 8] = [
 ];
 
 const BY_TURNS_TEXT: &str = "\
-packets 3 to 5, 0.001000 to 0.002000, 2 times, item 0 wkc 3 of 6: without slave 1 (0x1002)
-packet 7, 0.003000, item 0 wkc 3 of 6: without slave 0 (0x1001)
+packets 3 to 6, 0.001000 to 0.002010, 2 times, item 0 wkc 3 of 6: without slave 1 (0x1002)
+packets 7 to 8, 0.003000 to 0.003010, 1 times, item 0 wkc 3 of 6: without slave 0 (0x1001)
 item 0 LRW 0x00010000 4 bytes: sent 4 good 1 short 3 over 0 lost 0
   packets 1 to 7, 0.000000 to 0.003000
   every 0.001000 0.001000 0.001000 s, jitter 0.000000
@@ -59,7 +59,7 @@ const EQUAL: [Packet; 4] = [
 ];
 
 const EQUAL_TEXT: &str = "\
-packet 3, 0.001000, item 0 wkc 3 of 6: without slave 0 (0x1001) or slave 1 (0x1002)
+packets 3 to 4, 0.001000 to 0.001010, 1 times, item 0 wkc 3 of 6: without slave 0 (0x1001) or slave 1 (0x1002)
 item 0 LRW 0x00010000 4 bytes: sent 2 good 1 short 1 over 0 lost 0
   packets 1 to 3, 0.000000 to 0.001000
   every 0.001000 0.001000 0.001000 s, jitter 0.000000
@@ -92,7 +92,7 @@ const ONE_OF_FIVE: [Packet; 4] = [
 ];
 
 const ONE_OF_FIVE_TEXT: &str = "\
-packet 3, 0.001000, item 0 wkc 12 of 15: without one of 5 slaves
+packets 3 to 4, 0.001000 to 0.001010, 1 times, item 0 wkc 12 of 15: without one of 5 slaves
 item 0 LRW 0x00010000 10 bytes: sent 2 good 1 short 1 over 0 lost 0
   packets 1 to 3, 0.000000 to 0.001000
   every 0.001000 0.001000 0.001000 s, jitter 0.000000
@@ -131,8 +131,8 @@ const CUT: [Packet; 8] = [
 ];
 
 const CUT_TEXT: &str = "\
-packet 3, 0.001000, item 0 wkc 6 of 12: without slaves 2..3 (0x1003, 0x1004)
-packet 7, 0.003000, item 0 wkc 6 of 12: without one of 3 sets of slaves
+packets 3 to 4, 0.001000 to 0.001010, 1 times, item 0 wkc 6 of 12: without slaves 2..3 (0x1003, 0x1004)
+packets 7 to 8, 0.003000 to 0.003010, 1 times, item 0 wkc 6 of 12: without one of 3 sets of slaves
 item 0 LRW 0x00010000 8 bytes: sent 4 good 2 short 2 over 0 lost 0
   packets 1 to 7, 0.000000 to 0.003000
   every 0.001000 0.001000 0.001000 s, jitter 0.000000
@@ -159,8 +159,8 @@ const STRANGE: [Packet; 6] = [
 ];
 
 const STRANGE_TEXT: &str = "\
-packet 3, 0.001000, item 0 wkc 7 of 6: more than the slaves of the scene
-packet 5, 0.002000, item 0 wkc 5 of 6: no set of slaves explains it
+packets 3 to 4, 0.001000 to 0.001010, 1 times, item 0 wkc 7 of 6: more than the slaves of the scene
+packets 5 to 6, 0.002000 to 0.002010, 1 times, item 0 wkc 5 of 6: no set of slaves explains it
 item 0 LRW 0x00010000 4 bytes: sent 3 good 1 short 1 over 1 lost 0
   packets 1 to 5, 0.000000 to 0.002000
   every 0.001000 0.001000 0.001000 s, jitter 0.000000
@@ -193,7 +193,7 @@ const OUTPUTS: [Packet; 4] = [
 ];
 
 const OUTPUTS_TEXT: &str = "\
-packet 3, 0.001000, item 0 wkc 2 of 4: without outputs of slave 1 (0x1002)
+packets 3 to 4, 0.001000 to 0.001010, 1 times, item 0 wkc 2 of 4: without outputs of slave 1 (0x1002)
 item 0 LRW 0x00010000 3 bytes: sent 2 good 1 short 1 over 0 lost 0
   packets 1 to 3, 0.000000 to 0.001000
   every 0.001000 0.001000 0.001000 s, jitter 0.000000
@@ -230,7 +230,7 @@ const INPUTS: [Packet; 4] = [
 ];
 
 const INPUTS_TEXT: &str = "\
-packet 3, 0.001000, item 0 wkc 5 of 6: without inputs of slave 1 (0x1002)
+packets 3 to 4, 0.001000 to 0.001010, 1 times, item 0 wkc 5 of 6: without inputs of slave 1 (0x1002)
 item 0 LRW 0x00010000 4 bytes: sent 2 good 1 short 1 over 0 lost 0
   packets 1 to 3, 0.000000 to 0.001000
   every 0.001000 0.001000 0.001000 s, jitter 0.000000
@@ -271,7 +271,7 @@ const PASSED: [Packet; 6] = [
 ];
 
 const PASSED_TEXT: &str = "\
-packets 3 to 5, 0.001000 to 0.002000, 2 times, item 0 wkc 3 of 6, item 1 wkc 1 of 2, passed 1 of 2: \
+packets 3 to 6, 0.001000 to 0.002010, 2 times, item 0 wkc 3 of 6, item 1 wkc 1 of 2, passed 1 of 2: \
 without slave 1 (0x1002)
 item 0 LRW 0x00010000 4 bytes: sent 3 good 1 short 2 over 0 lost 0
   packets 1 to 5, 0.000000 to 0.002000

@@ -238,7 +238,7 @@ pub fn assert_bytes(
     }
 }
 
-/// Asserts how a capture that counts microseconds is judged and what is written of it, unless memory runs out.
+/// Asserts how a capture of microseconds is judged and what is written of it, unless memory runs out.
 pub fn assert_judged(
     rt: &impl Abort,
     alloc: Global,
