@@ -156,7 +156,7 @@ def what_is_installed_lies_below_destdir(ecat, folder, _limit):
         (("sw",), "sweep"),
         (("--v",), "--version"),
         (("help", "sc"), "scan"),
-        (("list", "--"), "--csv --faults --stats --help"),
+        (("list", "--"), "--csv --faults --stats --index --help"),
         (("master", "x.scene", "--re"), "--recover"),
         (("run", "sc"), ""),
     ]:

@@ -79,7 +79,7 @@ fn put(file: &mut Vec<u8>, packet: &Packet) -> Result<(), AllocError> {
     if let Some(two) = &packet.two {
         let _ = frame.push(&datagram(two));
     }
-    let length = ((frame.bytes().len() + 14) as u32).to_le_bytes();
+    let length = (frame.bytes().len().min(1500) as u32 + 14).to_le_bytes();
     file.extend_from_slice(&(BEGINS + packet.at / 1_000_000).to_le_bytes())?;
     file.extend_from_slice(&(packet.at % 1_000_000).to_le_bytes())?;
     file.extend_from_slice(&length)?;

@@ -45,17 +45,16 @@ fn indexes_are_told_apart_where_they_are_asked_for(rt: HostRuntime) {
     }
 }
 
-/// A read of the AL status of all slaves, and with it an exchange that was sent with the counter 3.
-fn rounds(at: u32, back: bool, passed: u16) -> Packet {
+/// A read of the AL status of all slaves, which so many have passed, and with it an exchange with a counter.
+fn rounds(at: u32, back: bool, passed: u16, counter: u16) -> Packet {
     let one = One {
         command: Command::Brd,
         index: 9,
         address: 0x0130_0000 + u32::from(passed),
         counter: passed,
     };
-    let two = lrw(9, 3 + 2 * passed);
     Packet {
-        two: Some(two),
+        two: Some(lrw(9, counter)),
         ..single(at, back, one)
     }
 }
@@ -63,10 +62,10 @@ fn rounds(at: u32, back: bool, passed: u16) -> Packet {
 #[test]
 fn what_slaves_count_up_is_no_part_of_a_group_and_sent_counters_are_taken_off(rt: HostRuntime) {
     let packets = [
-        rounds(0, false, 0),
-        rounds(20, true, 3),
-        rounds(500, false, 0),
-        rounds(521, true, 3),
+        rounds(0, false, 0, 3),
+        rounds(20, true, 3, 9),
+        rounds(500, false, 0, 3),
+        rounds(521, true, 3, 9),
     ];
     if let Ok(file) = capture(rt.alloc(), &packets) {
         let text = "packets 4, first at 2025-06-15T15:06:40.000000Z\n\
