@@ -1,6 +1,6 @@
 #![tactic(auto)]
-//! The texts of `ecat list`: the datagrams of a capture, a line each, or what is wrong in it, or how often
-//! each datagram went by.
+//! The texts of `ecat list`: the datagrams of a capture, a line each, or what is wrong in it, or the sums of
+//! its trips: of datagrams that are alike how many were sent, came back and were lost ([`tally`]).
 //!
 //! Whoever looks for the one wrong working counter among a million has grep, awk and a spreadsheet; they want
 //! columns. One use, which `list/lines.rt` of `ecat_capture_tests` tries:
@@ -24,10 +24,11 @@
 //!
 //! What is promised: what a byte and a decimal number put at the end of a text (`put_byte`, `put_decimal`),
 //! and what these and the digits of bytes put in front of the line under way (`Row`); what `Stats` counts, of
-//! each group of datagrams its working counters, how often each came and in which packet first, and how many
-//! datagrams are of further groups than are told apart (`specs/Stats.antt`); and that no bytes, times or
-//! counters make any of this crate fail but for memory and the output. The order of the columns, the times
-//! between datagrams and how a listing ends are tried by tests alone.
+//! each group of datagrams apart those that were sent, came back, were lost, came late and are stray, each
+//! with its working counters in the order in which they came first, how often and where first, and how many
+//! datagrams are of further groups than are told apart (`specs/Stats.antt`, `specs/Passed.antt`); and that no
+//! bytes, times or counters make any of this crate fail but for memory and the output. The order of the
+//! columns, the times and how a listing ends are tried by tests alone.
 
 mod address;
 mod columns;

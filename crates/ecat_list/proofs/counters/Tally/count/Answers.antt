@@ -1,8 +1,7 @@
-use Rattle.std.proofs.Common.{◌≡◌, ◌++◌, ◌∷◌, [], List, map, length, ap, sym, subst, ◌∙◌, arith}
+use Rattle.std.proofs.Common.{◌≡◌, map, length, ap, sym, subst, ◌∙◌, arith}
 use Rattle.std.proofs.lemmas.Bool.Decides.{nat_tests}
-use Rattle.std.specs.List.{list_any, refill}
-use Rattle.ecat_list.specs.Counts.{TallyRecord}
-use Rattle.ecat_list.specs.Tally.{IsTally, counts_again, has_counter}
+use Rattle.std.specs.List.{refill}
+use Rattle.ecat_list.specs.Tally.{IsTally, counts_again}
 use Rattle.ecat_list.proofs.TallyLemmas as tallies
 use Rattle.ecat_list.proofs.counters.Tally.count.Goals as goal
 

@@ -15,7 +15,8 @@ returns-in_ok-take_trip-in-Replaces c =
     on_ok_weaker c.take_packet-in-Replaces.result
     (λ more all told.
     subst (λ xs. IsTold xs c.take_packet-in-Replaces.new.self)
-    (append_assoc all first second ∙ ap (λ xs. all ++ xs) (ap (λ t. ended c.args.by_index t ++ second) c.trip.ensures
+    (append_assoc all first second
+    ∙ ap (λ xs. all ++ xs) (ap (λ t. ended c.args.by_index t ++ second) c.trip.ensures
     ∙ sym (ap (fated c.args.by_index c.args.packet.now frame) c.in-Replaces.is)))
     (more (all ++ first) (c.in_ok-take_trip-in-Replaces.ensures all told)))
     c.take_packet-in-Replaces.ensures
