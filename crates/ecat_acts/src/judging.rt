@@ -4,7 +4,7 @@ use crate::failure::{Failure, refuse, report};
 use crate::learning::end_of_learning;
 use ecat_frames::{End, Frames, Looked, look};
 use ecat_judge::{Asked, Judged, judge};
-use ecat_line::{LineFailure, scene_of, slaves_of};
+use ecat_line::{LineFailure, records_of, scene_of};
 use ecat_source::{Bytes, Source};
 use ecat_text::{FAILED, GOOD, REFUSED};
 use ecat_told::{Asked as AskedOfLine, Learned, learn_frames};
@@ -51,17 +51,10 @@ where
         Ok(scene) => scene,
         Err(failure) => return report(&Failure::Line(failure), out, err),
     };
-    let items = scene.items;
-    match slaves_of(alloc, scene.slaves) {
-        Ok(slaves) => {
-            let judged = judge(
-                alloc,
-                frames,
-                slaves.as_slice(),
-                items.as_slice(),
-                asked,
-                out,
-            );
+    match records_of(alloc, scene.slaves.as_slice()) {
+        Ok(line) => {
+            let items = scene.items.as_slice();
+            let judged = judge(alloc, frames, line.as_slice(), items, asked, out);
             end_of_judging(judged, out, err)
         }
         Err(failure) => report(&Failure::Line(failure), out, err),
