@@ -1092,16 +1092,18 @@ SCENES = os.path.join(os.path.dirname(os.path.abspath(__file__)), "..", "scenes"
 # Commands, and the KB of stack and of address space that each has to get by with: hardly more than it took
 # before its works were lent from cycle to cycle.
 ROOMS = [
-    ("check check/accepted.scene", 152, 4736),
-    ("cover cover/left_out.scene", 152, 4736),
-    ("lint check/accepted.scene", 152, 4736),
-    ("where where/one_link_down.scene", 168, 4736),
+    ("check check/accepted.scene", 104, 4736),
+    ("cover cover/left_out.scene", 104, 4736),
+    ("lint check/accepted.scene", 104, 4736),
+    ("where where/one_link_down.scene", 104, 4736),
     ("run first.scene", 184, 4736),
     ("run first.scene --judge", 184, 4736),
     ("sweep sweep/two_slaves.scene", 320, 4736),
-    ("sdo sdo/lost_answer.scene 0x1001 0x1018 1 --surely", 200, 4736),
-    ("show startup.pcap", 120, 4736),
-    ("list startup.pcap --stats", 120, 4736),
+    ("sdo sdo/lost_answer.scene 0x1001 0x1018 1 --surely", 104, 4736),
+    ("show startup.pcap", 104, 4736),
+    ("list startup.pcap --stats", 104, 4736),
+    ("learn startup.pcap", 104, 4736),
+    ("judge startup.pcap", 104, 4736),
     ("vectors", 512, 4736),
 ]
 
