@@ -18,6 +18,7 @@ use Rattle.ec_line.specs.Answers.{Meets}
 use Rattle.ec_line.specs.Claims.{claim, gain}
 use Rattle.ec_line.specs.Fit.{IsFitAlone}
 use Rattle.ec_line.specs.Memory.{SameMemories, AllBetween, reached_after}
+use Rattle.ec_line.specs.Moving.{front_of, back_of}
 use Rattle.ec_line.specs.Run.{CountsWhole, IsWholeTrip}
 use Rattle.ec_line.specs.Request.{Request}
 use Rattle.ec_line.specs.Trip.{Trip, passed, joined_of, returned, front_after, back_after, visited}
@@ -37,7 +38,7 @@ abbrev pub between : {S : Type 0} → ℕ → ℕ → List S → List S
 between p q xs = take (q - p) (drop p xs)
 
 -- what is left behind a piece counts no more than all
-sum_drop_le : {S : Type 0} (f : S → ℕ) (q : ℕ) (xs : List S) → sum_by f (drop q xs) ≤ sum_by f xs
+pub sum_drop_le : {S : Type 0} (f : S → ℕ) (q : ℕ) (xs : List S) → sum_by f (drop q xs) ≤ sum_by f xs
 sum_drop_le f q xs = omega (arith, sum_by-take-drop f xs q)
 
 -- where a front and a back count as much as all, those between them count nothing
@@ -83,7 +84,7 @@ between-any P (suc p) zero (x ∷ xs) f = tt
 between-any P (suc p) (suc q) (x ∷ xs) f = between-any P p q xs f
 
 -- within two places lies what lies within two that are further apart
-between-inner : {S : Type 0} (P : S → Type 0) (p q front back : ℕ) (xs : List S) → p ≤ front → back ≤ q
+pub between-inner : {S : Type 0} (P : S → Type 0) (p q front back : ℕ) (xs : List S) → p ≤ front → back ≤ q
     → AllBetween P p q xs
     → AllBetween P front back xs
 between-inner P p q front back [] starts ends all = tt
@@ -111,15 +112,8 @@ whole-pieces P (suc p) (suc q) (x ∷ xs) front back gap = (front.0, whole-piece
 
 -- ---- the places of the copies that came back
 
-pub front_back : Trip → ℕ
-front_back t = cond t.lost_a 0 t.front
-
-pub back_back : {S : Type 0} → Trip → List S → ℕ
-back_back t xs = cond t.lost_b (length xs + t.back) t.back
-
-returned_pieces : {S : Type 0} (t : Trip) (xs : List S)
-    → returned t xs ≡ take (front_back t) xs ++ drop (back_back t xs) xs
-unfolding front_back back_back
+pub returned_pieces : {S : Type 0} (t : Trip) (xs : List S)
+    → returned t xs ≡ take (front_of t) xs ++ drop (back_of t (length xs)) xs
 returned_pieces t xs =
     let front : cond t.lost_a [] (take t.front xs) ≡ take (cond t.lost_a 0 t.front) xs =
     elim t.lost_a as (λ b. cond b [] (take t.front xs) ≡ take (cond b 0 t.front) xs)
@@ -144,7 +138,7 @@ broadcast_sum a n (x ∷ xs) accepts =
     omega (arith, sum_by-cons (gain r) x xs, broadcast_gain a n x accepts.0, broadcast_sum a n xs accepts.1)
 
 -- so its ADP has moved as far as its counter
-moved_whole_kind : (k : Kind) (a n : ℕ) (xs ys : List ControllerState) (address : ℕ)
+pub moved_whole_kind : (k : Kind) (a n : ℕ) (xs ys : List ControllerState) (address : ℕ)
     → AllByRecursion (Accepts (record { kind = k; address = a; count = n })) xs
     → AllByRecursion (Accepts (record { kind = k; address = a; count = n })) ys
     → sum_by (gain (record { kind = k; address = a; count = n })) ys
@@ -226,7 +220,7 @@ PiecesCountAll es xs p q =
     ≡ sum_by (gain e.request) xs) es
 
 -- what holds of each entry and member holds of each member and entry
-accepts_each : (e : Entry) (es : List Entry) (xs : List ControllerState)
+pub accepts_each : (e : Entry) (es : List Entry) (xs : List ControllerState)
     → AllByRecursion (AcceptsAll (e ∷ es)) xs
     → AllByRecursion (Accepts e.request) xs × AllByRecursion (AcceptsAll es) xs
 accepts_each e es [] all = (tt, tt)
@@ -245,7 +239,7 @@ frame_counts (e ∷ es) xs p q (g ∷ gs) room entries answered good = (
   frame_counts es xs p q gs room entries.1 answered.1 good.1,
 )
 
-frame_whole : (es : List Entry) (xs : List ControllerState) (p q : ℕ) (gs : List DatagramRecord)
+pub frame_whole : (es : List Entry) (xs : List ControllerState) (p q : ℕ) (gs : List DatagramRecord)
     → AllByRecursion (AcceptsAll es) xs
     → AnsweredFrame es (take p xs ++ drop q xs) gs → PiecesCountAll es xs p q → AnsweredFrame es xs gs
 frame_whole [] xs p q [] accepts answered same = tt
@@ -258,7 +252,7 @@ frame_whole (e ∷ es) xs p q (g ∷ gs) accepts answered same =
     )
 
 -- those between the two pieces are silent at each entry
-gap_silent : (es : List Entry) (xs : List ControllerState) (p q : ℕ) → PiecesCountAll es xs p q
+pub gap_silent : (es : List Entry) (xs : List ControllerState) (p q : ℕ) → PiecesCountAll es xs p q
     → AllBetween (IsSilentAt es) p q xs
 gap_silent [] xs p q same = between-any (IsSilentAt []) p q xs (λ x. tt)
 gap_silent (e ∷ es) xs p q same =
@@ -296,11 +290,11 @@ memories-after es (x ∷ xs) (y ∷ ys) (z ∷ zs) fit accepts one two same = (
 )
 
 -- nobody lies between places in the wrong order
-between-end : {S : Type 0} (P : S → Type 0) (xs : List S) → AllBetween P zero zero xs
+pub between-end : {S : Type 0} (P : S → Type 0) (xs : List S) → AllBetween P zero zero xs
 between-end P [] = tt
 between-end P (x ∷ xs) = tt
 
-between-back : {S : Type 0} (P : S → Type 0) (p : ℕ) (xs : List S) → AllBetween P p zero xs
+pub between-back : {S : Type 0} (P : S → Type 0) (p : ℕ) (xs : List S) → AllBetween P p zero xs
 between-back P p [] = tt
 between-back P zero (x ∷ xs) = tt
 between-back P (suc p) (x ∷ xs) = tt
@@ -406,11 +400,10 @@ reached_silent es (x ∷ xs) (y ∷ ys) (suc p) (suc q) fit later gap =
 pub good_reached : (t : Trip) (xs ys : List ControllerState) → length xs ≤ MOST → IsReady t.entries xs ys
     → CountsWhole t.entries xs (joined_of t (passed t ys))
     → reached_after (after_frame t.entries) t.front t.back ys ≡ map (after_frame t.entries) ys
-unfolding front_back back_back
 good_reached t xs ys room ready good =
     let es = t.entries in
-    let p = front_back t in
-    let q = back_back t xs in
+    let p = front_of t in
+    let q = back_of t (length xs) in
     let joined = joined_of t (passed t ys) in
     let answered : AnsweredFrame es (take p xs ++ drop q xs) joined =
     subst (λ (l : List ControllerState). AnsweredFrame es l joined) (returned_pieces t xs)
@@ -430,8 +423,8 @@ pub good_trip : (t : Trip) (xs ys : List ControllerState) → length xs ≤ MOST
     × SameMemories (passed t ys).line (map (after_frame t.entries) ys)
 good_trip t xs ys room ready good =
     let es = t.entries in
-    let p = front_back t in
-    let q = back_back t xs in
+    let p = front_of t in
+    let q = back_of t (length xs) in
     let joined = joined_of t (passed t ys) in
     let done = core t xs ys ready in
     let answered : AnsweredFrame es (take p xs ++ drop q xs) joined =

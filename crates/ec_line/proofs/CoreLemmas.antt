@@ -114,7 +114,7 @@ all_agree r (x ∷ xs) apart =
     )
 
 -- members chosen by a condition
-pub chosen : {S : Type 0} → Bool → List S → List S
+unfoldable pub chosen : {S : Type 0} → Bool → List S → List S
 chosen lost xs = cond lost [] xs
 
 each-chosen : {S : Type 0} (P : S → Type 0) (b : Bool) (xs : List S) → AllByRecursion P xs
@@ -146,7 +146,7 @@ agree_pieces r xs p q a b apart =
     )
 
 -- about every entry
-agree_entries : (es : List Entry) (xs : List ControllerState) (p q : ℕ) (a b : Bool) → AllApart xs
+pub agree_entries : (es : List Entry) (xs : List ControllerState) (p q : ℕ) (a b : Bool) → AllApart xs
     → AgreeAll es (chosen a (take p xs)) (chosen b (drop q xs))
 unfolding AgreeAll
 agree_entries [] xs p q a b apart = tt
@@ -163,7 +163,7 @@ pub record IsReady (es : List Entry) (xs ys : List ControllerState) : Type 0 whe
   pub later : IsLater xs ys
 
 -- a copy that passes a first piece
-front_copy : (es : List Entry) (xs ys : List ControllerState) (n : ℕ) (ds : List DatagramRecord)
+pub front_copy : (es : List Entry) (xs ys : List ControllerState) (n : ℕ) (ds : List DatagramRecord)
     → IsReady es xs ys → AnsweredFrame es [] ds
     → AnsweredFrame es (take n xs) (front_pass n ys ds).frame
     × ((front_pass n ys ds).line ≡ front_after (after_frame es) n ys)
@@ -175,7 +175,7 @@ front_copy es xs ys n ds ready sent =
     (done.0, ap (λ (l : List ControllerState). l ++ drop n ys) done.1)
 
 -- and one that passes a last piece
-back_copy : (es : List Entry) (xs ys : List ControllerState) (n : ℕ) (ds : List DatagramRecord)
+pub back_copy : (es : List Entry) (xs ys : List ControllerState) (n : ℕ) (ds : List DatagramRecord)
     → IsReady es xs ys → AnsweredFrame es [] ds
     → AnsweredFrame es (drop n xs) (back_pass n ys ds).frame
     × ((back_pass n ys ds).line ≡ back_after (after_frame es) n ys)
@@ -216,7 +216,7 @@ turned_nobody (e ∷ es) entries = (
   turned_nobody es entries.1,
 )
 
-starts_b : (t : Trip) → AllByRecursion IsEntry t.entries → AnsweredFrame t.entries [] (sent_b t)
+pub starts_b : (t : Trip) → AllByRecursion IsEntry t.entries → AnsweredFrame t.entries [] (sent_b t)
 starts_b t entries =
     elim t.turned as
     (λ b. AnsweredFrame t.entries [] (cond b (circulated (sent_of t.entries)) (sent_of t.entries))) [

@@ -26,6 +26,8 @@ use Rattle.ec_line.specs.Trip.{line_pass, Trip, passed, returned}
 use Rattle.ec_line.specs.Steady.{is_input, is_steady, SameSteady, IsLater}
 use Rattle.ec_line.specs.Fit.{Reads, Writes, IsFitAlone, AllApart, IsFitLine}
 use Rattle.ec_line.specs.Memory.{SameMemories}
+use Rattle.ec_line.specs.Moving.{AllAlike, Visit, MovingTrips, joined_on_each, behind, CountsReturned}
+use Rattle.ec_line.specs.Moving.{AnsweredAtMoments, SameWritten, SameShownWritten}
 use Rattle.ec_line.specs.Run.{trips_run, TripsReady, AnsweredTrips, CountsWholeAll, after_trips}
 use Rattle.ec_line.specs.Run.{reached_trips, visited_trips, IsWholeTrip}
 use Rattle.ec_line.specs.Shown.{ShowsLastInRun, SameShownWhere, NoAreaTwice, ShowsLast}
@@ -45,6 +47,10 @@ use Rattle.ec_line.proofs.RunLemmas as runs
 use Rattle.ec_line.proofs.ShownLemmas as shown
 use Rattle.ec_line.proofs.ShownRunLemmas as shown_runs
 use Rattle.ec_line.proofs.MemoryLemmas as memories
+use Rattle.ec_line.proofs.AlikeLemmas as alike
+use Rattle.ec_line.proofs.MovingRunLemmas as moving_runs
+use Rattle.ec_line.proofs.MovingWrittenLemmas as moving_written
+use Rattle.ec_line.proofs.MovingShownLemmas as moving_shown_runs
 
 -- ---- one pass, one copy
 
@@ -349,3 +355,53 @@ pub twice_is_once : (es : List Entry) (c : ControllerState) → IsController c �
     → (after_frame es (after_frame es c)).memory ≡ (after_frame es c).memory
 twice_is_once es c controller accepts =
     memories.twice_is_once es c c controller controller (steady.same_steady_refl c) accepts
+
+-- ---- the trips of a cycle over a line that moves
+
+-- where each slave moves between the passages, leaving its mapping and its outputs, each counter of a joined
+-- frame has moved as those count whom the copies passed that came back
+pub counts_returned : (ts : List Trip) (line : List ControllerState) (runs : List (List Visit))
+    → TripsReady ts line → MovingTrips ts runs line → CountsReturned ts line (joined_on_each ts runs)
+counts_returned ts line runs ready moving =
+    moving_runs.run_counts ts line line runs ready (alike.all_alike-refl line) moving
+
+-- where the counters have moved as the whole line counts each joined frame is the answer of the line's members,
+-- each as it was at one moment
+pub good_moments : (ts : List Trip) (line : List ControllerState) (runs : List (List Visit))
+    → length line ≤ MOST_CONTROLLERS → TripsReady ts line → MovingTrips ts runs line
+    → CountsWholeAll ts line (joined_on_each ts runs)
+    → AnsweredAtMoments ts line runs (joined_on_each ts runs)
+good_moments ts line runs room ready moving good =
+    moving_runs.run_moments ts line line runs room ready (alike.all_alike-refl line) moving good
+
+-- then each bit that an accepted request writes is as if each frame had passed each member once
+pub moving_outputs : (ts : List Trip) (line : List ControllerState) (runs : List (List Visit))
+    → length line ≤ MOST_CONTROLLERS → TripsReady ts line → MovingTrips ts runs line
+    → CountsWholeAll ts line (joined_on_each ts runs) → SameWritten line (behind runs line) (after_trips ts line)
+moving_outputs ts line runs room ready moving good =
+    let all = alike.all_alike-refl line in
+    moving_written.run_written ts line line runs room ready all
+    (moving_runs.run_alike ts line line runs ready all moving) moving good
+
+-- and the applications are shown each such bit so, where in each frame the last entry that shows its byte is
+-- the last that writes it
+pub moving_shown : (ts : List Trip) (line : List ControllerState) (runs : List (List Visit))
+    → length line ≤ MOST_CONTROLLERS → TripsReady ts line → MovingTrips ts runs line
+    → CountsWholeAll ts line (joined_on_each ts runs)
+    → SameShownWritten ts line (behind runs line) (after_trips ts line)
+moving_shown ts line runs room ready moving good =
+    let all = alike.all_alike-refl line in
+    moving_shown_runs.run_shown ts line line runs room ready all
+    (moving_runs.run_alike ts line line runs ready all moving) moving good
+
+-- whatever the counters, each member is alike to what it was at first
+pub moving_alike : (ts : List Trip) (line : List ControllerState) (runs : List (List Visit))
+    → TripsReady ts line → MovingTrips ts runs line → AllAlike line (behind runs line)
+moving_alike ts line runs ready moving =
+    moving_runs.run_alike ts line line runs ready (alike.all_alike-refl line) moving
+
+-- each run of trips over a line is one over a line that moves, at which nothing moves
+pub still_lines : (ts : List Trip) (line : List ControllerState) → (runs : List (List Visit))
+    × MovingTrips ts runs line × (joined_on_each ts runs ≡ (trips_run ts line).joined)
+    × (behind runs line ≡ (trips_run ts line).line)
+still_lines = moving_runs.still_run

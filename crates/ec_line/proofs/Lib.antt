@@ -7,6 +7,12 @@ pub mod FrameLemmas
 pub mod JoinLemmas
 pub mod CoreLemmas
 pub mod MemoryLemmas
+pub mod AlikeLemmas
+pub mod MovingLemmas
+pub mod SeenLemmas
+pub mod MovingRunLemmas
+pub mod MovingWrittenLemmas
+pub mod MovingShownLemmas
 pub mod CertificateLemmas
 pub mod RunLemmas
 pub mod ShownLemmas

@@ -28,7 +28,7 @@ use Rattle.ec_line.proofs.FrameLemmas.{after_frame_keeps}
 -- ---- the bit that stands behind a frame
 
 -- the value that the last entry which writes a memory bit has sent for it, if one writes it
-pub last_sent : List Entry → ControllerState → ℕ → Option ℕ
+unfoldable pub last_sent : List Entry → ControllerState → ℕ → Option ℕ
 last_sent [] x p = None
 last_sent (e ∷ es) x p = later (option_map (bit e.sent.payload) (taken e.request x p)) (last_sent es x p)
 
@@ -92,7 +92,7 @@ same_memory_after es x y z was y_is z_is y_same z_same accepts memory =
     ∙ sym (bit_after_frame es x z p was z_is z_same accepts below))
 
 -- a frame twice is a frame once
-settled_or : (o : Option ℕ) (v : ℕ) → unwrap_or o (unwrap_or o v) ≡ unwrap_or o v
+pub settled_or : (o : Option ℕ) (v : ℕ) → unwrap_or o (unwrap_or o v) ≡ unwrap_or o v
 settled_or None v = refl
 settled_or (Some w) v = refl
 

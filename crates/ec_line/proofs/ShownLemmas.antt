@@ -164,7 +164,7 @@ shown_same es x y z k was y_is z_is y_same z_same accepts inside last memory sho
 -- ---- no area is written by two entries
 
 -- what is shown anew lies in an area of outputs, whose last byte was written
-shown_anew_area : (f : ℕ → Bool) (managers : List SyncMan) (a : ℕ) (P : SyncMan → Type 0)
+pub shown_anew_area : (f : ℕ → Bool) (managers : List SyncMan) (a : ℕ) (P : SyncMan → Type 0)
     → is_shown_anew f managers managers a ≡ true
     → AllByRecursion P managers
     → (s : SyncMan) × P s × (guards s a ≡ true) × (is_buffered s ≡ true) × (master_writes s ≡ true)

@@ -11,3 +11,4 @@ pub mod Memory
 pub mod Run
 pub mod Shown
 pub mod Moved
+pub mod Moving

@@ -19,6 +19,13 @@
 //!   memories;
 //! - `claims_by_pairs`, `takes_by_pairs`: logical requests, by the sets of pairs.
 //!
+//! In [`moving`], of lines whose slaves act while a frame is on its way:
+//!
+//! - `moving_trips`: the counters move as those count whom the copies passed that came back;
+//! - `good_moments`: where they moved as the whole line counts, each slave's answer is of one moment, and the
+//!   outputs are taken as they were sent;
+//! - `still_lines`: a line that stands still is one that moves, at which nothing moves.
+//!
 //! The rest is definitions (specs/) and proofs:
 //!
 //! - `Request`: what an item asks, whatever its data. `Claims`: which data bits a controller claims for
@@ -29,5 +36,8 @@
 //!   controller after an item and after a frame.
 //! - `Trip`, `Run`: copy A passes a first piece of the line, copy B a last piece, what comes back is joined;
 //!   and the trips of a cycle one after the other. `Memory`, `Shown`: what they leave.
+//! - `Moving`: what an application may do between two passages, each slave as each copy meets it, and the
+//!   moments of which an answer is.
 
+pub mod moving;
 pub mod promises;
