@@ -11,11 +11,11 @@ use Rattle.ec_areas.specs.Records.{fmmu_at, fmmus_of, sync_manager_at, sync_mana
 use Rattle.ec_esc.specs.Application.{put_inputs_fault, with_al, with_inputs}
 use Rattle.ec_esc.specs.State.{ControllerState, IsController}
 use Rattle.ec_esc.proofs.Laws.{get_or-with_run_beside, length-with_run, inputs_place}
+use Rattle.ec_line.specs.Mapping.{without_status, mapping_of}
 use Rattle.ec_app.specs.Left.{SameLeft}
 use Rattle.ec_app.specs.Slave.{step}
 use Rattle.ec_app.specs.State.{SlaveState}
 use Rattle.ec_app.proofs.Laws.{step_leaves, al_left}
-use Rattle.ec_check.specs.Mapping.{without_status, mapping_of}
 
 -- ---- the registers of a mapping
 

@@ -5,17 +5,16 @@ use Rattle.std.specs.List.{AllByRecursion}
 use Rattle.std.specs.List.Sorted.{IsPermutation}
 use Rattle.ec_regs.specs.Bits.{AreBytes}
 use Rattle.ec_regs.specs.Fmmu.{fmmu_of}
-use Rattle.ec_regs.specs.SyncMan.{is_active, sync_man_of}
+use Rattle.ec_regs.specs.SyncMan.{sync_man_of}
 use Rattle.ec_regs.specs.declared.registers.TheConstants.{STATION_ADDRESS}
-use Rattle.ec_regs.specs.declared.sync_man.SyncMan.{SyncMan}
 use Rattle.ec_areas.specs.Records.{fmmu_at, sync_manager_at}
 use Rattle.ec_esc.specs.Application.{put_inputs_fault, with_inputs}
 use Rattle.ec_esc.specs.State.{ControllerState, IsController, word_at}
 use Rattle.ec_line.specs.Fit.{IsFitLine}
+use Rattle.ec_line.specs.Mapping.{mapping_of, mapping}
 use Rattle.ec_app.specs.Slave.{step}
 use Rattle.ec_app.specs.State.{SlaveState}
 use Rattle.ec_check.specs.Line.{controllers, controllers_by, controller_of, station_of}
-use Rattle.ec_check.specs.Mapping.{without_status, mapping_of, mapping}
 use Rattle.ec_check.specs.Fit.{IsFit}
 use Rattle.ec_check.specs.Records.{controller_with, memory_of}
 use Rattle.ec_check.specs.declared.records.Records.{Records}
@@ -70,15 +69,6 @@ same_station = mappings.same_station
 pub fit_by_mapping : (line later : List ControllerState) → mapping later ≡ mapping line → IsFit line
     → IsFit later
 fit_by_mapping = mappings.fit_by_mapping
-
--- controllers with one mapping have the same sync manager under each number, but for its status byte
-pub manager_by_mapping : (c d : ControllerState) (number : ℕ) → mapping_of d ≡ mapping_of c → number < 8
-    → without_status (sync_manager_at d.memory number) ≡ without_status (sync_manager_at c.memory number)
-manager_by_mapping = mappings.manager_by_mapping
-
--- whether a sync manager is active does not hang on its status byte
-pub active_without : (s : SyncMan) → is_active (without_status s) ≡ is_active s
-active_without = mappings.active_without
 
 -- a step of a slave leaves the mapping of its controller
 pub mapping_step : (s : SlaveState) → IsController s.controller

@@ -1,5 +1,5 @@
 -- Lines with one mapping break the same rules.
-use Rattle.std.proofs.Common.{◌≡◌, inl, inr, ℕ, ◌<◌, true, sym, subst, ◌∙◌, ap, refl, arith}
+use Rattle.std.proofs.Common.{◌≡◌, inl, inr, ℕ, ◌<◌, true, sym, subst, ◌∙◌, ap, arith}
 use Rattle.std.proofs.Common.{List, length, get_or}
 use Rattle.std.proofs.Math.ListN.{get_or-map}
 use Rattle.std.proofs.lemmas.List.{length-map}
@@ -7,12 +7,13 @@ use Rattle.ec_regs.specs.Pairs.{is_switched_on, reads, writes}
 use Rattle.ec_regs.specs.SyncMan.{is_active}
 use Rattle.ec_regs.specs.declared.fmmu.Fmmu.{Fmmu}
 use Rattle.ec_regs.specs.declared.sync_man.SyncMan.{SyncMan}
-use Rattle.ec_areas.specs.Records.{fmmu_at, sync_manager_at, sync_managers_of}
-use Rattle.ec_areas.proofs.Laws.{get_or-fmmus_of, get_or-sync_managers_of}
+use Rattle.ec_areas.specs.Records.{fmmu_at}
+use Rattle.ec_areas.proofs.Laws.{get_or-fmmus_of}
 use Rattle.ec_esc.specs.State.{ControllerState}
+use Rattle.ec_line.specs.Mapping.{without_status, Mapping, mapping_of, mapping}
+use Rattle.ec_line.proofs.Laws.{manager_by_mapping}
 use Rattle.ec_check.specs.Fit.{Breaks, IsFit}
 use Rattle.ec_check.specs.Line.{controller_of, no_controller, station_of, fmmu_of, sync_manager_of, HasFmmu}
-use Rattle.ec_check.specs.Mapping.{without_status, Mapping, mapping_of, mapping}
 use Rattle.ec_check.specs.Rules.{MapsLogical, MapsPhysical, ReadsLogical, WritesLogical, WritesPhysical}
 use Rattle.ec_check.specs.Rules.{IsGoodFmmu, IsInArea, Area}
 use Rattle.ec_check.specs.Rules.{HoldsAllOf, suits, IsAreaFor}
@@ -51,18 +52,6 @@ same_fmmu line later slave number alike below =
     ∙ ap (λ (m : Mapping). get_or m.fmmus number d) (same_mapping line later slave alike)
     ∙ get_or-fmmus_of before d number below
 
--- of two controllers
-pub manager_by_mapping : (c d : ControllerState) (number : ℕ) → mapping_of d ≡ mapping_of c → number < 8
-    → without_status (sync_manager_at d.memory number) ≡ without_status (sync_manager_at c.memory number)
-unfolding mapping_of
-manager_by_mapping c d number same below =
-    let e : SyncMan = sync_manager_at c.memory number in
-    ap without_status (sym (get_or-sync_managers_of d.memory e number below))
-    ∙ sym (get_or-map without_status (sync_managers_of d.memory) number e)
-    ∙ ap (λ (m : Mapping). get_or m.sync_managers number (without_status e)) same
-    ∙ get_or-map without_status (sync_managers_of c.memory) number e
-    ∙ ap without_status (get_or-sync_managers_of c.memory e number below)
-
 same_manager : (line later : List ControllerState) (slave number : ℕ) → mapping later ≡ mapping line
     → number < 8
     → without_status (sync_manager_of later slave number) ≡ without_status (sync_manager_of line slave number)
@@ -73,21 +62,14 @@ same_manager line later slave number alike below =
 
 -- ---- the status byte plays no part
 
-pub active_without : (s : SyncMan) → is_active (without_status s) ≡ is_active s
-unfolding is_active
-active_without s = refl
-
-suits_without : (s : SyncMan) (f : Fmmu) → suits (without_status s) f ≡ suits s f
-unfolding is_active
-suits_without s f = refl
-
 in_area : (s t : SyncMan) (address : ℕ) → without_status t ≡ without_status s → IsInArea t address
     → IsInArea s address
+unfolding is_active
 in_area s t address same inside =
     let start : t.start ≡ s.start = ap (λ (x : SyncMan). x.start) same in
     let size : t.length ≡ s.length = ap (λ (x : SyncMan). x.length) same in
     record {
-      active = sym (active_without s) ∙ ap is_active (sym same) ∙ active_without t ∙ inside.active;
+      active = ap is_active (sym same) ∙ inside.active;
       from = omega (arith, inside.from, start);
       to = omega (arith, inside.to, start, size);
     }
@@ -133,15 +115,13 @@ writes_physical line later slave fmmu p alike w =
 
 area_for : (line later : List ControllerState) (slave : ℕ) (f : Fmmu) (area : Area)
     → mapping later ≡ mapping line → IsAreaFor later slave f area → IsAreaFor line slave f area
+unfolding is_active
 area_for line later slave f area alike (inl g) =
     let same = same_manager line later slave g.number alike g.there in
     inl (record {
       number = g.number;
       there = g.there;
-      suitable =
-          sym (suits_without (sync_manager_of line slave g.number) f)
-          ∙ ap (λ (s : SyncMan). suits s f) (sym same)
-          ∙ suits_without (sync_manager_of later slave g.number) f ∙ g.suitable;
+      suitable = ap (λ (s : SyncMan). suits s f) (sym same) ∙ g.suitable;
       from = g.from ∙ ap (λ (s : SyncMan). s.start) same;
       to = omega (
         arith,

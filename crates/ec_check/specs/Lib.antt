@@ -6,5 +6,4 @@ pub mod Fit
 pub mod Search
 pub mod Hulls
 pub mod Facts
-pub mod Mapping
 pub mod Records

@@ -11,10 +11,10 @@ ghost use Rattle.ec_esc.specs.State.{ControllerState, IsController};
 ghost use Rattle.ec_app.specs.Slave.{step};
 ghost use Rattle.ec_app.specs.State.{SlaveState};
 ghost use Rattle.ec_line.specs.Fit.{IsFitLine};
+ghost use Rattle.ec_line.specs.Mapping.{mapping, mapping_of};
 ghost use Rattle.ec_check.specs.Line.{fmmu_of, HasFmmu};
 ghost use Rattle.ec_check.specs.Fit.{IsFit};
 ghost use Rattle.ec_check.specs.Facts.{IsWellPlaced};
-ghost use Rattle.ec_check.specs.Mapping.{mapping, mapping_of};
 
 /// Each active FMMU of a fit line is good and lies in one area of its kind; and the line has the facts that
 /// the promises about cycles take.

@@ -1,21 +1,20 @@
 -- Controllers that are alike: what a pass leaves is alike, and alike lines are fit, apart and count the same.
-use Rattle.std.proofs.Common.{◌≡◌, ◌≢◌, ℕ, zero, suc, ◌+◌, List, [], ◌∷◌, ◌++◌, take, drop, length, map}
-use Rattle.std.proofs.Common.{Option, None, Some, sym, subst, ◌∙◌, ap, refl, arith}
+use Rattle.std.proofs.Common.{◌≡◌, ℕ, zero, suc, List, [], ◌∷◌, ◌++◌, take, drop, length}
+use Rattle.std.proofs.Common.{Option, sym, subst, ◌∙◌, ap, refl, arith}
 use Rattle.std.specs.List.{AllByRecursion, sum_by}
 use Rattle.std.proofs.lemmas.List.{take-append-drop}
 use Rattle.std.proofs.lemmas.List.Sums.{sum_by-cons}
 use Rattle.ec_regs.proofs.Laws.{each-map}
-use Rattle.ec_regs.specs.declared.registers.TheConstants.{STATION_ADDRESS}
 use Rattle.ec_regs.specs.declared.sync_man.SyncMan.{SyncMan}
 use Rattle.ec_wire.specs.Datagram.{DatagramRecord}
-use Rattle.ec_esc.specs.State.{ControllerState, IsController, word_at}
+use Rattle.ec_esc.specs.State.{ControllerState, IsController}
 use Rattle.ec_esc.specs.Pass.{pass, frame_pass}
 use Rattle.ec_esc.specs.Writing.{is_shown_anew}
 use Rattle.ec_line.specs.Accepted.{Accepts, AcceptsAll}
 use Rattle.ec_line.specs.After.{Entry, after}
 use Rattle.ec_line.specs.Answered.{AnsweredFrame}
-use Rattle.ec_line.specs.Claims.{taken, gain}
-use Rattle.ec_line.specs.Fit.{Reads, Writes, IsFitAlone, AreApart, AllApart, IsFitLine}
+use Rattle.ec_line.specs.Claims.{gain}
+use Rattle.ec_line.specs.Fit.{IsFitAlone, AreApart, AllApart, IsFitLine}
 use Rattle.ec_line.specs.Moving.{IsAlike, AllAlike, HasMoved}
 use Rattle.ec_line.specs.Request.{Request, OnWay}
 use Rattle.ec_line.specs.Steady.{SameSteady}
@@ -67,6 +66,17 @@ alike_steady x y was controller same = record {
 -- an application that does nothing
 pub moved-refl : (x : ControllerState) → HasMoved x x
 moved-refl x = record { alike = alike-refl x; shown = refl; kept = λ r p i accepts takes. refl }
+
+-- and one that moves twice has moved
+pub moved-trans : (x y z : ControllerState) → HasMoved x y → HasMoved y z → HasMoved x z
+moved-trans x y z one two = record {
+  alike = alike-trans x y z one.alike two.alike;
+  shown = two.shown ∙ one.shown;
+  kept = λ r p i accepts takes.
+      two.kept r p i (one.alike.accepts r accepts)
+      (ap (λ (f : ℕ → Option ℕ). f p) (one.alike.takes r accepts) ∙ takes)
+      ∙ one.kept r p i accepts takes;
+}
 
 -- ---- what a pass leaves
 

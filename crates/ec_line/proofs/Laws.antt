@@ -1,8 +1,8 @@
 -- The laws of a line: what each law of src/promises.rt promises, clause by clause, and what crates above cite
 -- besides of steady bytes, of claims and of gains.
 use Rattle.std.proofs.Common.{◌≡◌, ℕ, ◌+◌, ◌*◌, ◌<◌, ◌≤◌, true, cond, List, [], ◌∷◌, length, None, Some, eqb}
-use Rattle.std.proofs.Common.{◌++◌, map, drop}
-use Rattle.std.specs.Prelude.{◌↔◌}
+use Rattle.std.proofs.Common.{◌++◌, map, drop, false}
+use Rattle.std.specs.Prelude.{◌↔◌, slice_index}
 use Rattle.std.specs.List.{sum_by, AllByRecursion, Contains}
 use Rattle.std.specs.Option.{option_map}
 use Rattle.ec_regs.specs.Bits.{bit}
@@ -11,13 +11,16 @@ use Rattle.ec_regs.specs.declared.registers.TheConstants.{PROCESS_MEMORY, PROCES
 use Rattle.ec_regs.specs.declared.registers.TheConstants.{STATION_ADDRESS}
 use Rattle.ec_wire.specs.Datagram.{DatagramRecord, ado_of}
 use Rattle.ec_merge.specs.Frames.{IsOwn, joined_record}
-use Rattle.ec_areas.specs.Records.{fmmus_of, sync_managers_of}
+use Rattle.ec_areas.specs.Areas.{is_locked}
+use Rattle.ec_areas.specs.Records.{fmmus_of, sync_manager_at, sync_managers_of}
 use Rattle.ec_esc.specs.State.{ControllerState, IsController, word_at}
 use Rattle.ec_esc.specs.Pass.{serves_range_read, pass}
 use Rattle.ec_line.specs.Answers.{Answers, AllAgree}
 use Rattle.ec_line.specs.Answered.{Answered, sent_of, AnsweredFrame}
 use Rattle.ec_line.specs.Claims.{effect_of, claim, gain, taken}
+use Rattle.ec_line.specs.Mapping.{without_status, mapping_of}
 use Rattle.ec_line.specs.Moved.{AllMoved}
+use Rattle.ec_line.specs.Moving.{IsAlike, HasMoved}
 use Rattle.ec_line.specs.Request.{Request, OnWay}
 use Rattle.ec_wire.specs.declared.kind.Kind.TheVariants.{Lrd, Lwr, Lrw, Brd}
 use Rattle.ec_line.specs.Accepted.{Accepts, AcceptsAll}
@@ -51,6 +54,7 @@ use Rattle.ec_line.proofs.AlikeLemmas as alike
 use Rattle.ec_line.proofs.MovingRunLemmas as moving_runs
 use Rattle.ec_line.proofs.MovingWrittenLemmas as moving_written
 use Rattle.ec_line.proofs.MovingShownLemmas as moving_shown_runs
+use Rattle.ec_line.proofs.MappingLemmas as mappings
 
 -- ---- one pass, one copy
 
@@ -355,6 +359,43 @@ pub twice_is_once : (es : List Entry) (c : ControllerState) → IsController c �
     → (after_frame es (after_frame es c)).memory ≡ (after_frame es c).memory
 twice_is_once es c controller accepts =
     memories.twice_is_once es c c controller controller (steady.same_steady_refl c) accepts
+
+-- ---- what hangs on the mapping
+
+-- controllers with one mapping have the same sync manager under each number, but for its status byte
+pub manager_by_mapping : (c d : ControllerState) (number : ℕ) → mapping_of d ≡ mapping_of c → number < 8
+    → without_status (sync_manager_at d.memory number) ≡ without_status (sync_manager_at c.memory number)
+manager_by_mapping = mappings.manager_by_mapping
+
+-- they count an accepted request alike
+pub gain_by_mapping : (r : Request) (c d : ControllerState) → mapping_of d ≡ mapping_of c → Accepts r c
+    → gain r d ≡ gain r c
+gain_by_mapping = mappings.gain_by_mapping
+
+-- and are alike
+pub alike_by_mapping : (c d : ControllerState) → mapping_of d ≡ mapping_of c → IsController d → IsAlike c d
+alike_by_mapping = mappings.alike_by_mapping
+
+-- where also what is shown is as it was, and each byte that no area of inputs and no mailbox locks, the
+-- controller has moved
+pub moved_by_mapping : (c d : ControllerState) → mapping_of d ≡ mapping_of c → IsController d
+    → d.shown ≡ c.shown
+    → ((a : ℕ) → PROCESS_MEMORY ≤ a → is_locked (sync_managers_of c.memory) a ≡ false
+    → slice_index d.memory a ≡ slice_index c.memory a)
+    → HasMoved c d
+moved_by_mapping = mappings.moved_by_mapping
+
+-- the same sync managers guard a byte of inputs or of a mailbox
+pub locked_by_mapping : (c d : ControllerState) (a : ℕ) → mapping_of d ≡ mapping_of c
+    → is_locked (sync_managers_of d.memory) a ≡ is_locked (sync_managers_of c.memory) a
+locked_by_mapping = mappings.locked_by_mapping
+
+-- a controller that does nothing has moved, and so has one that moves twice
+pub moved-refl : (x : ControllerState) → HasMoved x x
+moved-refl = alike.moved-refl
+
+pub moved-trans : (x y z : ControllerState) → HasMoved x y → HasMoved y z → HasMoved x z
+moved-trans = alike.moved-trans
 
 -- ---- the trips of a cycle over a line that moves
 

@@ -19,4 +19,5 @@ pub mod ShownLemmas
 pub mod ShownRunLemmas
 pub mod SetLemmas
 pub mod OwnLemmas
+pub mod MappingLemmas
 pub mod Laws

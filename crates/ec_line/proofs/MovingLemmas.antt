@@ -1,10 +1,9 @@
 -- A trip over a line that moves: each copy is the answer of the slaves as it met them, the counters of the
 -- join move by those of the copies that came back, and where they are good the join is the answer of each
 -- slave at one moment.
-use Rattle.std.proofs.Common.{◌≡◌, ◌⊎◌, ℕ, zero, suc, ◌+◌, ◌%◌, ◌<◌, ◌≤◌, true, false, cond, List, [], ◌∷◌}
-use Rattle.std.proofs.Common.{◌++◌, length, take, drop, map, Option, None, sym, subst, ◌∙◌, ap, refl, arith, ⊎_elim}
+use Rattle.std.proofs.Common.{◌≡◌, ℕ, zero, suc, ◌+◌, ◌%◌, ◌<◌, ◌≤◌, true, false, cond, List, [], ◌∷◌}
+use Rattle.std.proofs.Common.{◌++◌, length, take, drop, None, sym, subst, ◌∙◌, ap, refl, arith, ⊎_elim}
 use Rattle.std.specs.List.{AllByRecursion, sum_by}
-use Rattle.std.proofs.lemmas.Bool.{cases_lt}
 use Rattle.std.proofs.lemmas.List.{drop_all}
 use Rattle.std.proofs.lemmas.List.Sums.{sum_by-cons, sum_by-append, sum_by-take-le}
 use Rattle.ec_regs.specs.Bits.{bit}
@@ -20,8 +19,8 @@ use Rattle.ec_line.specs.Claims.{claim, gain}
 use Rattle.ec_line.specs.Fit.{IsFitAlone, IsFitLine}
 use Rattle.ec_line.specs.Memory.{AllBetween}
 use Rattle.ec_line.specs.Moving.{IsAlike, AllAlike, Visit, AllMove, befores, when_a, when_b, laters}
-use Rattle.ec_line.specs.Moving.{copy_a, copy_b, joined_moving, seen, front_of, back_of, IsPassedOnce}
-use Rattle.ec_line.specs.Moving.{IsAnsweredAtMoments, Moves}
+use Rattle.ec_line.specs.Moving.{copy_a, copy_b, joined_moving, front_of, back_of, IsPassedOnce}
+use Rattle.ec_line.specs.Moving.{Moves}
 use Rattle.ec_line.specs.Request.{Request, OnWay}
 use Rattle.ec_line.specs.Run.{CountsWhole}
 use Rattle.ec_line.specs.Trip.{Trip, returned, front_after, back_after, sent_b}
@@ -30,11 +29,11 @@ use Rattle.ec_line.proofs.AlikeLemmas.{twice_alike, alike-take, alike-drop, alik
 use Rattle.ec_line.proofs.AlikeLemmas.{accepts_line, sum_alike, all_alike-trans}
 use Rattle.ec_line.proofs.AnswersLemmas.{SameClaims, answers_same}
 use Rattle.ec_line.proofs.CertificateLemmas.{MOST, sum_bound, sum_drop_le, gap_counts_nothing, PiecesCountAll}
-use Rattle.ec_line.proofs.CertificateLemmas.{returned_pieces, accepts_each, frame_whole, moved_whole_kind}
+use Rattle.ec_line.proofs.CertificateLemmas.{returned_pieces, accepts_each, moved_whole_kind}
 use Rattle.ec_line.proofs.CertificateLemmas.{between-map}
-use Rattle.ec_line.proofs.CoreLemmas.{IsReady, later-refl, front_copy, back_copy, starts_b, agree_entries, chosen}
+use Rattle.ec_line.proofs.CoreLemmas.{IsReady, later-refl, front_copy, back_copy, starts_b}
 use Rattle.ec_line.proofs.FitLemmas.{silent}
-use Rattle.ec_line.proofs.JoinLemmas.{IsEntry, AgreeAll, frame_joined, frame_nobody}
+use Rattle.ec_line.proofs.JoinLemmas.{IsEntry, frame_nobody}
 
 -- ---- the states of all slaves on a trip
 

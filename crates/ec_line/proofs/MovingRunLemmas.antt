@@ -1,39 +1,24 @@
 -- A run of trips over a line that moves: its counters, its moments, and the outputs that it leaves; and that a
 -- line at which nothing moves is one that does.
-use Rattle.std.proofs.Common.{◌≡◌, ◌⊎◌, inl, inr, ℕ, zero, suc, ◌+◌, ◌*◌, ◌<◌, ◌≤◌, Bool, true, false, cond}
-use Rattle.std.proofs.Common.{List, [], ◌∷◌, ◌++◌, length, take, drop, map, Option, None, Some}
-use Rattle.std.proofs.Common.{sym, subst, ◌∙◌, ap, refl, arith, ⊎_elim}
-use Rattle.std.specs.List.{AllByRecursion, sum_by}
+use Rattle.std.proofs.Common.{◌≡◌, inl, inr, ℕ, suc, ◌≤◌, Bool, true, false, cond}
+use Rattle.std.proofs.Common.{List, [], ◌∷◌, length, take, drop}
+use Rattle.std.proofs.Common.{sym, subst, ◌∙◌, ap, refl, arith}
 use Rattle.std.proofs.lemmas.List.{length-append, take-append-drop}
 use Rattle.ec_wire.specs.Datagram.{DatagramRecord}
-use Rattle.ec_esc.specs.State.{ControllerState, IsController}
-use Rattle.ec_line.specs.Accepted.{Accepts, AcceptsAll}
-use Rattle.ec_line.specs.After.{Entry, after_frame}
+use Rattle.ec_esc.specs.State.{ControllerState}
 use Rattle.ec_line.specs.Answered.{sent_of}
-use Rattle.ec_line.specs.Claims.{taken, gain}
-use Rattle.ec_line.specs.Fit.{IsFitAlone, IsFitLine}
-use Rattle.ec_line.specs.Memory.{AllBetween}
-use Rattle.ec_line.specs.Moving.{IsAlike, AllAlike, HasMoved, Visit, Moves, AllMove, befores, when_a, when_b}
+use Rattle.ec_line.specs.Moving.{AllAlike, Visit, AllMove, befores, when_a, when_b}
 use Rattle.ec_line.specs.Moving.{laters, copy_a, copy_b, joined_moving, IsMovingTrip, MovingTrips}
-use Rattle.ec_line.specs.Moving.{joined_on_each, behind, CountsReturned, AnsweredAtMoments, SameWritten}
-use Rattle.ec_line.specs.Moving.{front_of, back_of}
-use Rattle.ec_line.specs.Request.{Request}
-use Rattle.ec_line.specs.Run.{trips_run, TripsReady, CountsWhole, CountsWholeAll, after_trips}
+use Rattle.ec_line.specs.Moving.{joined_on_each, behind, CountsReturned, AnsweredAtMoments}
+use Rattle.ec_line.specs.Run.{trips_run, TripsReady, CountsWholeAll}
 use Rattle.ec_line.specs.Trip.{Trip, Passed, PassedLine, line_pass, front_pass, back_pass, sent_b, joined_of}
-use Rattle.ec_line.specs.Trip.{passed, passed_by_a_first, passed_by_b_first, returned, front_after, back_after}
-use Rattle.ec_line.proofs.AlikeLemmas.{alike-refl, alike-trans, moved-refl, alike_steady, all_alike-refl}
-use Rattle.ec_line.proofs.AlikeLemmas.{all_alike-trans, all_accepted, fit_line}
-use Rattle.ec_line.proofs.CertificateLemmas.{MOST, PiecesCountAll, gap_silent, between-inner, between-end}
-use Rattle.ec_line.proofs.CertificateLemmas.{between-back}
-use Rattle.ec_line.proofs.FitLemmas.{silent}
-use Rattle.ec_line.proofs.FrameLemmas.{after_frame_keeps}
+use Rattle.ec_line.specs.Trip.{passed, passed_by_a_first, passed_by_b_first}
+use Rattle.ec_line.proofs.AlikeLemmas.{moved-refl}
+use Rattle.ec_line.proofs.CertificateLemmas.{MOST}
 use Rattle.ec_line.proofs.JoinLemmas.{IsEntry}
-use Rattle.ec_line.proofs.MemoryLemmas.{last_sent, bit_after_frame, IsSilentAt}
-use Rattle.ec_line.proofs.MovingLemmas.{IsMovingReady, AreAlike, visits_alike, copies_moved, trip_returned}
-use Rattle.ec_line.proofs.MovingLemmas.{trip_counts, pieces_count}
+use Rattle.ec_line.proofs.MovingLemmas.{IsMovingReady, visits_alike, trip_returned}
 use Rattle.ec_line.proofs.RunLemmas.{rest_ready}
 use Rattle.ec_line.proofs.SeenLemmas.{trip_moments}
-use Rattle.ec_line.proofs.SteadyLemmas.{same_steady_refl}
 
 -- ---- the first trip and the rest
 

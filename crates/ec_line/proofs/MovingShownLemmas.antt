@@ -1,7 +1,7 @@
 -- Behind a run over a line that moves, whose counters are good, the applications are shown each bit that an
 -- accepted request writes as if each slave had been passed once by each frame, where in each frame the last
 -- entry that shows the bit's byte is the last that writes it.
-use Rattle.std.proofs.Common.{◌≡◌, ◌⊎◌, ℕ, zero, suc, ◌+◌, ◌-◌, ◌*◌, ◌/◌, ◌%◌, ◌<◌, ◌≤◌, Bool, true, false, ◌||◌}
+use Rattle.std.proofs.Common.{◌≡◌, ℕ, ◌+◌, ◌-◌, ◌*◌, ◌/◌, ◌%◌, ◌<◌, ◌≤◌, Bool, true, false, ◌||◌}
 use Rattle.std.proofs.Common.{cond, List, [], ◌∷◌, length, get_or, map, Option, None, Some}
 use Rattle.std.proofs.Common.{sym, subst, ◌∙◌, ap, refl, arith, ⊎_elim}
 use Rattle.std.specs.Int.{bit_at}
@@ -21,12 +21,11 @@ use Rattle.ec_line.specs.Accepted.{Accepts, AcceptsAll}
 use Rattle.ec_line.specs.After.{Entry, after_frame}
 use Rattle.ec_line.specs.Claims.{taken}
 use Rattle.ec_line.specs.Fit.{IsFitAlone}
-use Rattle.ec_line.specs.Moving.{IsAlike, AllAlike, HasMoved, Visit, Moves, befores, laters, MovingTrips}
+use Rattle.ec_line.specs.Moving.{IsAlike, AllAlike, HasMoved, Visit, befores, laters, MovingTrips}
 use Rattle.ec_line.specs.Moving.{joined_on_each, behind, SameShownWritten}
 use Rattle.ec_line.specs.Request.{Request}
 use Rattle.ec_line.specs.Run.{TripsReady, CountsWholeAll, after_trips}
 use Rattle.ec_line.specs.Shown.{writes_byte, shows_byte, some_shows, ShowsLast, ShowsLastInRun}
-use Rattle.ec_line.specs.Steady.{is_steady}
 use Rattle.ec_line.specs.Trip.{Trip}
 use Rattle.ec_line.proofs.AlikeLemmas.{all_accepted}
 use Rattle.ec_line.proofs.CertificateLemmas.{MOST}

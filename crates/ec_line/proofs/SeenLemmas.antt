@@ -1,7 +1,7 @@
 -- Each slave as the copy met it that counted it: where the counters are good the joined frame is their answer.
-use Rattle.std.proofs.Common.{◌≡◌, ℕ, zero, suc, ◌+◌, ◌<◌, ◌≤◌, false, List, [], ◌∷◌, ◌++◌, length}
+use Rattle.std.proofs.Common.{◌≡◌, ℕ, zero, suc, ◌<◌, ◌≤◌, false, List, [], ◌∷◌, length}
 use Rattle.std.proofs.Common.{take, drop, sym, subst, ◌∙◌, ap, refl, arith, ⊎_elim}
-use Rattle.std.specs.List.{AllByRecursion, sum_by}
+use Rattle.std.specs.List.{AllByRecursion}
 use Rattle.std.proofs.lemmas.Bool.{cases_lt}
 use Rattle.ec_regs.proofs.Laws.{each-take, each-drop}
 use Rattle.ec_wire.specs.Datagram.{DatagramRecord}
@@ -11,9 +11,9 @@ use Rattle.ec_line.specs.Accepted.{Accepts, AcceptsAll}
 use Rattle.ec_line.specs.After.{Entry}
 use Rattle.ec_line.specs.Answered.{AnsweredFrame, sent_of}
 use Rattle.ec_line.specs.Claims.{gain}
-use Rattle.ec_line.specs.Fit.{AllApart, IsFitLine}
+use Rattle.ec_line.specs.Fit.{IsFitLine}
 use Rattle.ec_line.specs.Memory.{AllBetween}
-use Rattle.ec_line.specs.Moving.{IsAlike, AllAlike, Visit, when_a, when_b, seen, front_of, back_of}
+use Rattle.ec_line.specs.Moving.{AllAlike, Visit, when_a, when_b, seen, front_of, back_of}
 use Rattle.ec_line.specs.Moving.{joined_moving, IsPassedOnce, IsAnsweredAtMoments}
 use Rattle.ec_line.specs.Run.{CountsWhole}
 use Rattle.ec_line.specs.Trip.{Trip}

@@ -402,16 +402,6 @@ claim_lasts r x y i fit accepts same =
 
 -- ---- what is taken is not steady
 
-fmmu_unsteady : (a n : ℕ) (c : ControllerState) (p i : ℕ)
-    → write_map (sync_managers_of c.memory) (fmmus_of c.memory) (8 * a) (8 * n) p ≡ Some i
-    → is_steady (sync_managers_of c.memory) (p / 8) ≡ false
-fmmu_unsteady a n c p i e =
-    let managers = sync_managers_of c.memory in
-    let found = (NamesPairs-write_map managers (fmmus_of c.memory) (8 * a) (8 * n)).is_paired p i e in
-    let pair = found.1 in
-    let parts = writable_parts managers (p / 8) pair.4.allowed in
-    unlocked_unsteady managers (p / 8) parts.0 parts.2
-
 -- a write that is served and fills no mailbox meets no area that is locked
 open_write : (memory : List ℕ) (managers : List SyncMan) (from n : ℕ)
     → serves_physical_write memory managers from n ≡ true
@@ -444,20 +434,31 @@ range_some c from n p i e =
     let high : ltb (p / 8) (from + n) ≡ true = ends.1 in
     (grind (arith, nat_tests), grind (arith, nat_tests))
 
-taken_unsteady_kind : (k : Kind) (a n : ℕ) (c : ControllerState) (p i : ℕ)
+-- a byte that a write through FMMUs reaches lies in process memory, and no area locks it
+by_fmmu : (a n : ℕ) (c : ControllerState) (p i : ℕ)
+    → write_map (sync_managers_of c.memory) (fmmus_of c.memory) (8 * a) (8 * n) p ≡ Some i
+    → (PROCESS_MEMORY ≤ p / 8) × (is_locked (sync_managers_of c.memory) (p / 8) ≡ false)
+by_fmmu a n c p i e =
+    let managers = sync_managers_of c.memory in
+    let found = (NamesPairs-write_map managers (fmmus_of c.memory) (8 * a) (8 * n)).is_paired p i e in
+    let parts = writable_parts managers (p / 8) found.1.4.allowed in
+    (parts.0, parts.2)
+
+-- so does a byte that an accepted request writes
+pub written_free : (k : Kind) (a n : ℕ) (c : ControllerState) (p i : ℕ)
     → Accepts (record { kind = k; address = a; count = n }) c
-    → (effect (command_of k) c a n).writing.places p ≡ Some i → is_steady (sync_managers_of c.memory) (p / 8)
-    ≡ false
-taken_unsteady_kind Lrd a n c p i accepts e = absurd (cc)
-taken_unsteady_kind Lwr a n c p i accepts e =
-    fmmu_unsteady a n c p i
+    → (effect (command_of k) c a n).writing.places p ≡ Some i
+    → (PROCESS_MEMORY ≤ p / 8) × (is_locked (sync_managers_of c.memory) (p / 8) ≡ false)
+written_free Lrd a n c p i accepts e = absurd (cc)
+written_free Lwr a n c p i accepts e =
+    by_fmmu a n c p i
     (where_some (serves_write c a n) (record { places = write_sources c a n; gain = 1; mail = None }) p i e).1
-taken_unsteady_kind Lrw a n c p i accepts e =
-    fmmu_unsteady a n c p i
+written_free Lrw a n c p i accepts e =
+    by_fmmu a n c p i
     (where_some (serves_write c a n) (record { places = write_sources c a n; gain = 2; mail = None }) p i e).1
-taken_unsteady_kind Brd a n c p i accepts e = absurd (cc)
-taken_unsteady_kind Fprd a n c p i accepts e = absurd (cc)
-taken_unsteady_kind Fpwr a n c p i accepts e =
+written_free Brd a n c p i accepts e = absurd (cc)
+written_free Fprd a n c p i accepts e = absurd (cc)
+written_free Fpwr a n c p i accepts e =
     let from = ado_of a in
     let managers = sync_managers_of c.memory in
     let station = eqb (adp_of a) (word_at c.memory 16) in
@@ -471,12 +472,14 @@ taken_unsteady_kind Fpwr a n c p i accepts e =
     let free = unlocked_in_range managers from n (p / 8)
     (open_write c.memory managers from n served.1 (filled_buffered managers from n lies)) inside.0
     inside.1 in
-    unlocked_unsteady managers (p / 8) (omega (arith, place.0, inside.0)) free
+    (omega (arith, place.0, inside.0), free)
 
 pub taken_unsteady : (r : Request) (c : ControllerState) (p i : ℕ) → Accepts r c → taken r c p ≡ Some i
     → is_steady (sync_managers_of c.memory) (p / 8) ≡ false
 unfolding taken
-taken_unsteady r c p i accepts e = taken_unsteady_kind r.kind r.address r.count c p i accepts e
+taken_unsteady r c p i accepts e =
+    let free = written_free r.kind r.address r.count c p i accepts e in
+    unlocked_unsteady (sync_managers_of c.memory) (p / 8) free.0 free.1
 
 -- ---- a controller after an item
 

@@ -11,4 +11,5 @@ pub mod Memory
 pub mod Run
 pub mod Shown
 pub mod Moved
+pub mod Mapping
 pub mod Moving

@@ -1,12 +1,13 @@
 //! The laws of a line, each the contract of a function that does nothing.
 
 ghost use Rattle.std.specs.Prelude.{◌≡◌, ◌≤◌, ◌<◌, ◌+◌, ◌*◌, ℕ, None};
-ghost use Rattle.std.specs.Prelude.{Some, List, [], ◌∷◌, ◌++◌, ◌↔◌, length, map};
+ghost use Rattle.std.specs.Prelude.{Some, List, [], ◌∷◌, ◌++◌, ◌↔◌, length, map, false, slice_index};
 ghost use Rattle.ec_regs.specs.Bits.{bit};
 ghost use Rattle.std.specs.List.{AllByRecursion, Contains};
 ghost use Rattle.ec_regs.specs.declared.registers.TheConstants.{PROCESS_MEMORY, PROCESS_MEMORY_SIZE};
 ghost use Rattle.ec_wire.specs.Datagram.{DatagramRecord};
 ghost use Rattle.ec_merge.specs.Frames.{IsOwn, joined_record};
+ghost use Rattle.ec_areas.specs.Areas.{is_locked};
 ghost use Rattle.ec_areas.specs.Records.{fmmus_of, sync_managers_of};
 ghost use Rattle.ec_esc.specs.State.{ControllerState, IsController};
 ghost use Rattle.ec_esc.specs.Pass.{pass};
@@ -19,7 +20,9 @@ ghost use Rattle.ec_line.specs.Claims.{claim, taken, gain};
 ghost use Rattle.ec_line.specs.Fit.{IsFitAlone, IsFitLine, Reads, Writes};
 ghost use Rattle.ec_wire.specs.declared.kind.Kind.TheVariants.{Lrd, Lwr, Lrw};
 ghost use Rattle.ec_line.specs.Memory.{SameMemories};
+ghost use Rattle.ec_line.specs.Mapping.{mapping_of};
 ghost use Rattle.ec_line.specs.Moved.{AllMoved};
+ghost use Rattle.ec_line.specs.Moving.{IsAlike, HasMoved};
 ghost use Rattle.ec_line.specs.Request.{Request, OnWay};
 ghost use Rattle.ec_line.specs.Run.{trips_run, TripsReady, AnsweredTrips, CountsWholeAll};
 ghost use Rattle.ec_line.specs.Run.{after_trips, reached_trips, visited_trips, IsWholeTrip};
@@ -206,4 +209,19 @@ pub fn own_copies()
     ensures moved_b { (t : Trip) (line : List ControllerState)
         → AllByRecursion (λ e. OnWay e.request e.sent) t.entries
         → AllMoved (3 * length line) (sent_of t.entries) (passed t line).b }
+{}
+
+/// An application may change whatever leaves the mapping (the station address, the FMMUs, and the sync
+/// managers but for their status bytes): then the controller reads, writes, accepts, counts, takes and shows
+/// as before, and stays fit. It has moved as an application may where what it shows is also as it was, and
+/// each byte of process memory that no sync manager of inputs or of a mailbox guards: no bit that an accepted
+/// request writes is among the others.
+pub fn moves_by_mapping()
+    ensures alike { (c later : ControllerState) → mapping_of later ≡ mapping_of c → IsController later
+        → IsAlike c later }
+    ensures moved { (c later : ControllerState) → mapping_of later ≡ mapping_of c → IsController later
+        → later.shown ≡ c.shown
+        → ((a : ℕ) → PROCESS_MEMORY ≤ a → is_locked (sync_managers_of c.memory) a ≡ false
+        → slice_index later.memory a ≡ slice_index c.memory a)
+        → HasMoved c later }
 {}

@@ -7,14 +7,13 @@ use Rattle.ec_regs.specs.declared.sync_man.SyncMan.{SyncMan}
 use Rattle.ec_wire.specs.declared.datagram.TheConstants.{MAX_DATA}
 use Rattle.ec_esc.specs.State.{ControllerState}
 use Rattle.ec_line.specs.Accepted.{Accepts}
+use Rattle.ec_line.specs.Mapping.{mapping}
 use Rattle.ec_check.specs.Fit.{IsFit}
-use Rattle.ec_check.specs.Mapping.{mapping}
 use Rattle.ec_map.specs.Item.{ItemRecord, IsItem, AsksTheSame, is_in_range}
 use Rattle.ec_map.specs.Place.{IsPlaced}
 use Rattle.ec_map.specs.Share.{share, request_of, expected_of}
 use Rattle.ec_map.proofs.ItemLemmas as items
 use Rattle.ec_map.proofs.AnyOrderLemmas as orders
-use Rattle.ec_map.proofs.LastingLemmas as lasting
 use Rattle.ec_map.proofs.LawLemmas as checked
 use Rattle.ec_map.proofs.MappingLemmas as mappings
 use Rattle.ec_map.proofs.NotShownLemmas as areas
@@ -50,7 +49,7 @@ share_asked = mappings.share_asked
 -- what a fit line adds to the counter of a placed item hangs on the line's mapping
 pub expected_by_mapping : (line later : List ControllerState) (r : ItemRecord) → mapping later ≡ mapping line
     → IsFit line → IsItem r → IsPlaced line r → expected_of later r ≡ expected_of line r
-expected_by_mapping = lasting.expected_by_mapping
+expected_by_mapping = mappings.expected_by_mapping
 
 -- an item that is placed on a fit line is placed in any order of its slaves
 pub placed_in_any_order : (line later : List ControllerState) (r : ItemRecord) → IsPermutation line later

@@ -7,6 +7,5 @@ pub mod FirstLemmas
 pub mod CoveredLemmas
 pub mod WrittenLemmas
 pub mod NotShownLemmas
-pub mod LastingLemmas
 pub mod AnyOrderLemmas
 pub mod Laws

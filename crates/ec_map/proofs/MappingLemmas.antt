@@ -1,10 +1,11 @@
--- Where items may go hangs on the line's mapping and on what they ask, and so do shares on the latter.
-use Rattle.std.proofs.Common.{◌≡◌, ℕ, ◌+◌, ◌||◌, Bool, cond, leb, sym, ◌∙◌, ap, refl, arith}
-use Rattle.std.proofs.Common.{List, [], ◌∷◌, length, map}
-use Rattle.std.specs.List.{list_any}
+-- Where items may go hangs on the line's mapping and on what they ask, and so does what is expected of them.
+use Rattle.std.proofs.Common.{◌≡◌, ℕ, ◌+◌, ◌%◌, ◌||◌, cond, leb, sym, ◌∙◌, ap, refl, arith}
+use Rattle.std.proofs.Common.{List, [], ◌∷◌, length, get_or, drop}
+use Rattle.std.specs.Prelude.{sum_by}
+use Rattle.std.specs.List.{AllByRecursion, list_any}
+use Rattle.std.proofs.lemmas.List.Sums.{sum_by-cons}
 use Rattle.ec_regs.specs.SyncMan.{is_active}
 use Rattle.ec_regs.specs.declared.registers.TheConstants.{PROCESS_MEMORY}
-use Rattle.ec_regs.specs.declared.sync_man.SyncMan.{SyncMan}
 use Rattle.ec_wire.specs.Datagram.{adp_of, ado_of}
 use Rattle.ec_wire.specs.declared.command.Addressing.TheVariants.{ConfiguredStation}
 use Rattle.ec_wire.specs.declared.kind.Kind.{Kind}
@@ -13,50 +14,33 @@ use Rattle.ec_areas.specs.Records.{sync_managers_of}
 use Rattle.ec_esc.specs.Pass.{serves_reading, serves_writing}
 use Rattle.ec_esc.specs.Pass.{serves_read as reads_bits, serves_write as writes_bits}
 use Rattle.ec_esc.specs.State.{ControllerState}
+use Rattle.ec_line.specs.Accepted.{Accepts}
+use Rattle.ec_line.specs.Mapping.{Mapping, mapping_of, mapping}
+use Rattle.ec_line.proofs.Laws.{gain_by_mapping}
+use Rattle.ec_check.specs.Fit.{IsFit}
 use Rattle.ec_check.specs.Line.{controller_of}
-use Rattle.ec_check.specs.Mapping.{without_status, Mapping, mapping_of, mapping}
 use Rattle.ec_check.proofs.Laws.{same_length, same_mapping, same_station}
 use Rattle.ec_map.specs.Item.{ItemRecord, IsItem, AsksTheSame}
 use Rattle.ec_map.specs.Place.{ado_named, is_input_run, is_output_run, may_read, may_write}
 use Rattle.ec_map.specs.Place.{IsFirstOfStation, IsPlaceFault, IsPlaced}
-use Rattle.ec_map.specs.Share.{share}
+use Rattle.ec_map.specs.Share.{share, request_of, expected_of}
 use Rattle.ec_map.specs.declared.place.PlaceFault.{PlaceFault}
 use Rattle.ec_map.specs.declared.place.PlaceFault.TheVariants.{OutsideRead, OutsideWrite}
-use Rattle.ec_map.proofs.LawLemmas.{share_lrd, share_lwr, share_lrw, share_brd, share_fprd, share_fpwr}
+use Rattle.ec_map.proofs.LawLemmas.{Accepts-IsPlaced, share_lrd, share_lwr, share_lrw, share_brd, share_fprd}
+use Rattle.ec_map.proofs.LawLemmas.{share_fpwr}
 
--- a test that no status byte plays a part in holds of some sync manager as it does without them
-pub any_without : (test : SyncMan → Bool) (ss : List SyncMan)
-    → ((s : SyncMan) → test (without_status s) ≡ test s)
-    → list_any test (map without_status ss) ≡ list_any test ss
-any_without test [] same = refl
-any_without test (s ∷ ss) same = (λ i. same s i || any_without test ss same i)
-
-input_without : (from n : ℕ) (s : SyncMan) → is_input_run from n (without_status s) ≡ is_input_run from n s
-unfolding is_active
-input_without from n s = refl
-
-output_without : (from n : ℕ) (s : SyncMan) → is_output_run from n (without_status s) ≡ is_output_run from n s
-unfolding is_active
-output_without from n s = refl
-
-pub some_same : (test : SyncMan → Bool) (c d : ControllerState)
-    → ((s : SyncMan) → test (without_status s) ≡ test s) → mapping_of d ≡ mapping_of c
-    → list_any test (sync_managers_of d.memory) ≡ list_any test (sync_managers_of c.memory)
-unfolding mapping_of
-some_same test c d without same =
-    sym (any_without test (sync_managers_of d.memory) without)
-    ∙ ap (λ (m : Mapping). list_any test m.sync_managers) same
-    ∙ any_without test (sync_managers_of c.memory) without
+-- ---- places
 
 read_same : (c d : ControllerState) (from n : ℕ) → mapping_of d ≡ mapping_of c
     → may_read d from n ≡ may_read c from n
+unfolding mapping_of sync_managers_of is_active
 read_same c d from n same =
-    ap (λ (some : Bool). leb (from + n) PROCESS_MEMORY || some)
-    (some_same (is_input_run from n) c d (input_without from n) same)
+    ap (λ (m : Mapping). leb (from + n) PROCESS_MEMORY || list_any (is_input_run from n) m.sync_managers) same
 
 write_same : (c d : ControllerState) (from n : ℕ) → mapping_of d ≡ mapping_of c
     → may_write d from n ≡ may_write c from n
-write_same c d from n same = some_same (is_output_run from n) c d (output_without from n) same
+unfolding mapping_of sync_managers_of is_active
+write_same c d from n same = ap (λ (m : Mapping). list_any (is_output_run from n) m.sync_managers) same
 
 first_same : (line later : List ControllerState) (a b slave : ℕ) → mapping later ≡ mapping line → b ≡ a
     → IsFirstOfStation later b slave → IsFirstOfStation line a slave
@@ -121,3 +105,27 @@ share_asked r s c item_r item_s asks = by_kind r.kind refl
         share_fpwr s c (asks.kind ∙ is)
         ∙ (λ i. cond (serves_writing ConfiguredStation c (asks.address i) (asks.size i)) 1 0)
         ∙ sym (share_fpwr r c is)
+
+-- ---- what is expected
+
+shares_by_mapping : (r : ItemRecord) (line later : List ControllerState) → mapping later ≡ mapping line
+    → AllByRecursion (Accepts (request_of r)) line → sum_by (share r) later ≡ sum_by (share r) line
+shares_by_mapping r [] [] alike accepts = refl
+shares_by_mapping r [] (d ∷ ds) alike accepts = absurd (omega (arith, same_length [] (d ∷ ds) alike))
+shares_by_mapping r (c ∷ cs) [] alike accepts = absurd (omega (arith, same_length (c ∷ cs) [] alike))
+shares_by_mapping r (c ∷ cs) (d ∷ ds) alike accepts =
+    let first : mapping_of d ≡ mapping_of c =
+    ap (λ (ms : List Mapping). get_or ms 0 (mapping_of c)) alike in
+    let rest : mapping ds ≡ mapping cs = ap (λ (ms : List Mapping). drop 1 ms) alike in
+    omega (
+      arith,
+      sum_by-cons (share r) d ds,
+      sum_by-cons (share r) c cs,
+      gain_by_mapping (request_of r) c d first accepts.0,
+      shares_by_mapping r cs ds rest accepts.1,
+    )
+
+pub expected_by_mapping : (line later : List ControllerState) (r : ItemRecord) → mapping later ≡ mapping line
+    → IsFit line → IsItem r → IsPlaced line r → expected_of later r ≡ expected_of line r
+expected_by_mapping line later r alike fit item placed =
+    ap (λ (n : ℕ). n % 65536) (shares_by_mapping r line later alike (Accepts-IsPlaced line r fit item placed))

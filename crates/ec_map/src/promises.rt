@@ -6,8 +6,8 @@ ghost use Rattle.ec_wire.specs.declared.kind.Kind.TheVariants.{Lrd, Lwr, Lrw, Br
 ghost use Rattle.ec_esc.specs.Pass.{serves_read as reads_bits, serves_write as writes_bits};
 ghost use Rattle.ec_esc.specs.State.{ControllerState};
 ghost use Rattle.ec_line.specs.Accepted.{Accepts};
+ghost use Rattle.ec_line.specs.Mapping.{mapping};
 ghost use Rattle.ec_check.specs.Fit.{IsFit};
-ghost use Rattle.ec_check.specs.Mapping.{mapping};
 ghost use Rattle.ec_map.specs.Item.{ItemRecord, IsItem, AsksTheSame};
 ghost use Rattle.ec_map.specs.Place.{IsPlaced};
 ghost use Rattle.ec_map.specs.Share.{share, request_of, serves_read, serves_write, ReadsBit, WritesBit};

@@ -4,10 +4,10 @@ use Rattle.std.specs.List.{AllByRecursion, sum_by}
 use Rattle.std.proofs.lemmas.List.Sums.{sum_by-cons}
 use Rattle.ec_esc.specs.State.{ControllerState, IsController}
 use Rattle.ec_line.specs.Claims.{gain}
+use Rattle.ec_line.specs.Mapping.{without_status, mapping_of, mapping}
 use Rattle.ec_line.specs.Request.{Request}
 use Rattle.ec_line.specs.Steady.{SameSteady, IsLater}
 use Rattle.ec_line.proofs.Laws.{station_lasts, managers_last, fmmus_last, gain_lasts}
-use Rattle.ec_check.specs.Mapping.{without_status, mapping_of, mapping}
 use Rattle.ec_check.proofs.Laws.{fit_by_mapping}
 use Rattle.ec_map.specs.Item.{ItemRecord, IsItem, AsksTheSame}
 use Rattle.ec_map.specs.Place.{IsPlaced}

@@ -8,12 +8,12 @@ use Rattle.ec_areas.specs.Records.{sync_manager_at}
 use Rattle.ec_esc.specs.Application.{put_inputs_fault, with_inputs}
 use Rattle.ec_esc.specs.State.{ControllerState, IsController}
 use Rattle.ec_esc.proofs.Laws.{inputs_controller}
+use Rattle.ec_line.specs.Mapping.{mapping_of, mapping}
 use Rattle.ec_app.specs.Lending.{with_controller}
 use Rattle.ec_app.specs.Slave.{step}
 use Rattle.ec_app.specs.State.{SlaveState}
 use Rattle.ec_check.specs.Fit.{IsFit}
 use Rattle.ec_check.specs.Line.{controllers}
-use Rattle.ec_check.specs.Mapping.{mapping_of, mapping}
 use Rattle.ec_check.proofs.Laws.{fit_by_mapping, mapping_step, mapping_inputs}
 use Rattle.ec_map.specs.Item.{ItemRecord, IsItem, AsksTheSame, is_broadcast}
 use Rattle.ec_map.specs.Place.{IsPlaced}

@@ -9,8 +9,8 @@ use Rattle.ec_regs.specs.declared.fmmu.Fmmu.{Fmmu}
 use Rattle.ec_regs.specs.declared.sync_man.SyncMan.{SyncMan}
 use Rattle.ec_areas.specs.Records.{fmmu_at, fmmus_of, sync_manager_at, sync_managers_of}
 use Rattle.ec_esc.specs.State.{ControllerState, word_at}
+use Rattle.ec_line.specs.Mapping.{Mapping, mapping, mapping_of, without_status}
 use Rattle.ec_check.specs.Fit.{IsFit}
-use Rattle.ec_check.specs.Mapping.{Mapping, mapping, mapping_of, without_status}
 use Rattle.ec_check.proofs.Laws.{fit_by_mapping, fmmu-records, run_of_middle, station-records}
 use Rattle.ec_check.proofs.Laws.{sync_manager-records}
 use Rattle.rummymaple.specs.Mapping.{line_of}
