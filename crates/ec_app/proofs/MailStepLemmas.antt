@@ -74,7 +74,7 @@ al_status-taken : (m : List ℕ) (v : ℕ) → get_or (set m 2053 v) 304 0 ≡ g
 al_status-taken m v = get_or-set_other m 2053 304 v 0 (omega arith)
 
 -- and so is the record of the mailbox of answers
-sync_manager_at-taken : (m : List ℕ) (v : ℕ) → sync_manager_at (set m 2053 v) 1 ≡ sync_manager_at m 1
+pub sync_manager_at-taken : (m : List ℕ) (v : ℕ) → sync_manager_at (set m 2053 v) 1 ≡ sync_manager_at m 1
 unfolding sync_manager_at
 sync_manager_at-taken m v = rw (drop-set-lt 2056 m 2053 v (omega arith)) refl
 

@@ -5,7 +5,7 @@ use Rattle.std.specs.Int.{w16, from_le_bytes}
 use Rattle.std.proofs.lemmas.List.{ext_get_or, length-take-le, length-drop}
 use Rattle.ec_regs.specs.Fmmu.{fmmu_of}
 use Rattle.ec_regs.specs.declared.al.AlStatus.{AlStatus}
-use Rattle.ec_regs.specs.declared.registers.TheConstants.{PROCESS_MEMORY}
+use Rattle.ec_regs.specs.declared.registers.TheConstants.{MEMORY_SIZE, PROCESS_MEMORY}
 use Rattle.ec_regs.proofs.Laws.{get_or-run}
 use Rattle.ec_areas.specs.Records.{fmmu_at, fmmus_of, sync_manager_at, sync_managers_of}
 use Rattle.ec_esc.specs.Application.{put_inputs_fault, with_al, with_inputs}
@@ -162,19 +162,19 @@ mapped_left before after room left = record {
   });
 }
 
+pub mapping_left : (c d : ControllerState) → length c.memory ≡ MEMORY_SIZE → SameLeft c.memory d.memory
+    → mapping_of d ≡ mapping_of c
+mapping_left c d size left = mapping_same c d (mapped_left c.memory d.memory (omega (arith, size)) left)
+
 pub mapping_step : (s : SlaveState) → IsController s.controller
     → mapping_of (step s).controller ≡ mapping_of s.controller
 mapping_step s is =
-    mapping_same s.controller (step s).controller
-    (mapped_left s.controller.memory (step s).controller.memory (omega (arith, is.memory_size))
-    (step_leaves s is.memory_size))
+    mapping_left s.controller (step s).controller is.memory_size (step_leaves s is.memory_size)
 
 pub mapping_al : (c : ControllerState) (status : AlStatus) (code : ℕ) → IsController c
     → mapping_of (with_al c status code) ≡ mapping_of c
 mapping_al c status code is =
-    mapping_same c (with_al c status code)
-    (mapped_left c.memory (with_al c status code).memory (omega (arith, is.memory_size))
-    (al_left c status code is.memory_size))
+    mapping_left c (with_al c status code) is.memory_size (al_left c status code is.memory_size)
 
 pub mapping_inputs : (c : ControllerState) (i : ℕ) (bytes : List ℕ) → IsController c
     → put_inputs_fault (sync_manager_at c.memory i) bytes ≡ None

@@ -6,12 +6,13 @@ use Rattle.std.specs.List.Sorted.{IsPermutation}
 use Rattle.ec_regs.specs.Bits.{AreBytes}
 use Rattle.ec_regs.specs.Fmmu.{fmmu_of}
 use Rattle.ec_regs.specs.SyncMan.{sync_man_of}
-use Rattle.ec_regs.specs.declared.registers.TheConstants.{STATION_ADDRESS}
+use Rattle.ec_regs.specs.declared.registers.TheConstants.{MEMORY_SIZE, STATION_ADDRESS}
 use Rattle.ec_areas.specs.Records.{fmmu_at, sync_manager_at}
 use Rattle.ec_esc.specs.Application.{put_inputs_fault, with_inputs}
 use Rattle.ec_esc.specs.State.{ControllerState, IsController, word_at}
 use Rattle.ec_line.specs.Fit.{IsFitLine}
 use Rattle.ec_line.specs.Mapping.{mapping_of, mapping}
+use Rattle.ec_app.specs.Left.{SameLeft}
 use Rattle.ec_app.specs.Slave.{step}
 use Rattle.ec_app.specs.State.{SlaveState}
 use Rattle.ec_check.specs.Line.{controllers, controllers_by, controller_of, station_of}
@@ -74,6 +75,11 @@ fit_by_mapping = mappings.fit_by_mapping
 pub mapping_step : (s : SlaveState) → IsController s.controller
     → mapping_of (step s).controller ≡ mapping_of s.controller
 mapping_step = lasts.mapping_step
+
+-- so does all that leaves the registers which no step writes
+pub mapping_left : (c d : ControllerState) → length c.memory ≡ MEMORY_SIZE → SameLeft c.memory d.memory
+    → mapping_of d ≡ mapping_of c
+mapping_left = lasts.mapping_left
 
 -- and so do inputs that are put
 pub mapping_inputs : (c : ControllerState) (i : ℕ) (bytes : List ℕ) → IsController c

@@ -1,2 +1,4 @@
 pub mod ShownLemmas
+pub mod AreaLemmas
 pub mod LeftLemmas
+pub mod StepLemmas
