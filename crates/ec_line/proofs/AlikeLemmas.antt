@@ -283,8 +283,13 @@ sum_alike r [] [] alike all = refl
 sum_alike r [] (y ∷ ys) alike all = absurd alike
 sum_alike r (x ∷ xs) [] alike all = absurd alike
 sum_alike r (x ∷ xs) (y ∷ ys) alike all =
-    omega (arith, sum_by-cons (gain r) x xs, sum_by-cons (gain r) y ys, alike.0.gains r all.0,
-    sum_alike r xs ys alike.1 all.1)
+    omega (
+      arith,
+      sum_by-cons (gain r) x xs,
+      sum_by-cons (gain r) y ys,
+      alike.0.gains r all.0,
+      sum_alike r xs ys alike.1 all.1,
+    )
 
 pub all_alike-trans : (xs ys zs : List ControllerState) → AllAlike xs ys → AllAlike ys zs → AllAlike xs zs
 all_alike-trans [] [] [] one two = tt

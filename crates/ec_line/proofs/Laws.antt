@@ -406,8 +406,8 @@ pub counts_returned : (ts : List Trip) (line : List ControllerState) (runs : Lis
 counts_returned ts line runs ready moving =
     moving_runs.run_counts ts line line runs ready (alike.all_alike-refl line) moving
 
--- where the counters have moved as the whole line counts each joined frame is the answer of the line's members,
--- each as it was at one moment
+-- where the counters have moved as the whole line counts each joined frame is the answer of the line's
+-- members, each as it was at one moment
 pub good_moments : (ts : List Trip) (line : List ControllerState) (runs : List (List Visit))
     → length line ≤ MOST_CONTROLLERS → TripsReady ts line → MovingTrips ts runs line
     → CountsWholeAll ts line (joined_on_each ts runs)

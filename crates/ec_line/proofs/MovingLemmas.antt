@@ -253,8 +253,7 @@ pieces_alike (e ∷ es) p q xs ys zs accepts one two =
     let front : sum_by (gain r) (take p ys) ≡ sum_by (gain r) (take p xs) =
     sum_alike r (take p xs) (take p ys) (alike-take p xs ys one) (each-take (Accepts r) p xs each.0) in
     let back : sum_by (gain r) (drop q zs) ≡ sum_by (gain r) (drop q xs) =
-    sum_alike r (drop q xs) (drop q zs) (alike-drop q xs zs two) (each-drop (Accepts r) q xs each.0) in
-    (
+    sum_alike r (drop q xs) (drop q zs) (alike-drop q xs zs two) (each-drop (Accepts r) q xs each.0) in (
       omega (
         arith,
         front,
@@ -330,8 +329,7 @@ pub passed_once : (es : List Entry) (t : Trip) (xs : List ControllerState)
 passed_once [] t xs same = tt
 passed_once (e ∷ es) t xs same =
     let p = front_of t in
-    let q = back_of t (length xs) in
-    (
+    let q = back_of t (length xs) in (
       record {
         some = gap_counts_nothing (gain e.request) p q xs same.0;
         one = overlap_counts_nothing (gain e.request) p q xs same.0;
@@ -409,8 +407,7 @@ frame_behind [] q p ys [] before accepts gap answered = tt
 frame_behind [] q p ys (g ∷ gs) before accepts gap answered = absurd answered
 frame_behind (e ∷ es) q p ys [] before accepts gap answered = absurd answered
 frame_behind (e ∷ es) q p ys (g ∷ gs) before accepts gap answered =
-    let each = accepts_each e es ys accepts in
-    (
+    let each = accepts_each e es ys accepts in (
       answered_behind e.request q p ys e.sent g before each.0 gap.0 answered.0,
       frame_behind es q p ys gs before each.1 gap.1 answered.1,
     )

@@ -1,5 +1,5 @@
--- A run of trips over a line that moves: its counters, its moments, and the outputs that it leaves; and that a
--- line at which nothing moves is one that does.
+-- A run of trips over a line that moves: its counters, its moments and its mappings; and that a line at which
+-- nothing moves is one that does.
 use Rattle.std.proofs.Common.{◌≡◌, inl, inr, ℕ, suc, ◌≤◌, Bool, true, false, cond}
 use Rattle.std.proofs.Common.{List, [], ◌∷◌, length, take, drop}
 use Rattle.std.proofs.Common.{sym, subst, ◌∙◌, ap, refl, arith}
@@ -42,8 +42,7 @@ run_counts [] xs line runs ready alike moving = tt
 run_counts (t ∷ ts) xs line [] ready alike moving = absurd moving
 run_counts (t ∷ ts) xs line (vs ∷ rest) ready alike moving =
     let is_ready = first_moving t ts xs line vs ready alike moving.0 in
-    let all = visits_alike t xs vs is_ready in
-    (
+    let all = visits_alike t xs vs is_ready in (
       trip_returned t xs vs is_ready,
       run_counts ts xs (laters vs) rest (rest_ready t ts xs ready) all.later moving.1,
     )
@@ -56,8 +55,7 @@ run_moments [] xs line (vs ∷ rest) room ready alike moving good = absurd movin
 run_moments (t ∷ ts) xs line [] room ready alike moving good = absurd moving
 run_moments (t ∷ ts) xs line (vs ∷ rest) room ready alike moving good =
     let is_ready = first_moving t ts xs line vs ready alike moving.0 in
-    let all = visits_alike t xs vs is_ready in
-    (
+    let all = visits_alike t xs vs is_ready in (
       trip_moments t xs vs room is_ready good.0,
       run_moments ts xs (laters vs) rest room (rest_ready t ts xs ready) all.later moving.1 good.1,
     )
@@ -283,8 +281,7 @@ still_run [] line = ([], tt, refl, refl)
 still_run (t ∷ ts) line =
     let first = still_trip t line in
     let next : List ControllerState = (passed t line).line in
-    let rest = still_run ts next in
-    (
+    let rest = still_run ts next in (
       first.visits ∷ rest.0,
       (
         first.moving,

@@ -260,8 +260,7 @@ shown_trip C es [] (z ∷ zs) vs last alike visited same shown = absurd alike
 shown_trip C es (x ∷ xs) [] vs last alike visited same shown = absurd alike
 shown_trip C es (x ∷ xs) (z ∷ zs) [] last alike visited same shown = absurd shown
 shown_trip C es (x ∷ xs) (z ∷ zs) (v ∷ vs) last alike visited same shown =
-    let is = visited.0 in
-    (
+    let is = visited.0 in (
       record {
         bits = λ r p i accepted takes inside c.
             let s : Bool = some_shows x (p / 8) es in
@@ -309,8 +308,7 @@ shown_all ts (x ∷ xs) [] zs fit one two same = absurd one
 shown_all ts (x ∷ xs) (y ∷ ys) [] fit one two same = absurd two
 shown_all ts (x ∷ xs) (y ∷ ys) (z ∷ zs) fit one two same =
     let y_size = (one.0.fit fit.0).controller.shown_size in
-    let z_size = (two.0.fit fit.0).controller.shown_size in
-    (
+    let z_size = (two.0.fit fit.0).controller.shown_size in (
       λ r p i accepts takes last.
           ⊎_elim
           (λ (inside : p < 8 * MEMORY_SIZE). same.0.bits r p i accepts takes inside last)

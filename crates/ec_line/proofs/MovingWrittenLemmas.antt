@@ -1,5 +1,5 @@
--- Behind a run over a line that moves, whose counters are good, each bit that an accepted request writes is as
--- if each slave had been passed once by each frame.
+-- Behind a run over a line that moves, whose counters are good, each bit that an accepted request writes is
+-- as if each slave had been passed once by each frame.
 use Rattle.std.proofs.Common.{◌≡◌, ℕ, zero, suc, ◌+◌, ◌*◌, ◌<◌, ◌≤◌, Bool, true, false, cond}
 use Rattle.std.proofs.Common.{List, [], ◌∷◌, length, map, Option, None, Some}
 use Rattle.std.proofs.Common.{sym, subst, ◌∙◌, ap, refl, arith, ⊎_elim}
@@ -266,8 +266,7 @@ passed_alike es (x ∷ xs) [] fit accepts alike = absurd alike
 passed_alike es (x ∷ xs) (y ∷ ys) fit accepts alike =
     let controller = (alike.0.fit fit.0).controller in
     let kept = after_frame_keeps es y y controller controller (same_steady_refl y)
-    (all_accepted es x y alike.0 accepts.0) in
-    (
+    (all_accepted es x y alike.0 accepts.0) in (
       alike-trans x y (after_frame es y) alike.0 (alike_steady y (after_frame es y) controller kept.0 kept.1),
       passed_alike es xs ys fit.1 accepts.1 alike.1,
     )
@@ -300,8 +299,7 @@ inside_trip es [] (z ∷ zs) vs alike visited same = absurd alike
 inside_trip es (x ∷ xs) [] vs alike visited same = absurd alike
 inside_trip es (x ∷ xs) (z ∷ zs) [] alike visited same = absurd same
 inside_trip es (x ∷ xs) (z ∷ zs) (v ∷ vs) alike visited same =
-    let is = visited.0 in
-    (
+    let is = visited.0 in (
       record {
         bits = λ r p i accepts takes inside.
             visit_written es x v r p i is accepts takes inside
@@ -339,8 +337,7 @@ written_all (x ∷ xs) [] zs fit one two same = absurd one
 written_all (x ∷ xs) (y ∷ ys) [] fit one two same = absurd two
 written_all (x ∷ xs) (y ∷ ys) (z ∷ zs) fit one two same =
     let y_size = (one.0.fit fit.0).controller.memory_size in
-    let z_size = (two.0.fit fit.0).controller.memory_size in
-    (
+    let z_size = (two.0.fit fit.0).controller.memory_size in (
       λ r p i accepts takes.
           ⊎_elim
           (λ (inside : p < 8 * MEMORY_SIZE). same.0.bits r p i accepts takes inside)

@@ -1,4 +1,5 @@
--- Each slave as the copy met it that counted it: where the counters are good the joined frame is their answer.
+-- Each slave as the copy met it that counted it: where the counters are good the joined frame is their
+-- answer.
 use Rattle.std.proofs.Common.{◌≡◌, ℕ, zero, suc, ◌<◌, ◌≤◌, false, List, [], ◌∷◌, length}
 use Rattle.std.proofs.Common.{take, drop, sym, subst, ◌∙◌, ap, refl, arith, ⊎_elim}
 use Rattle.std.specs.List.{AllByRecursion}
@@ -57,8 +58,7 @@ pieces_seen : (es : List Entry) (p q : ℕ) (xs zs : List ControllerState) → A
 pieces_seen [] p q xs zs accepts alike same = tt
 pieces_seen (e ∷ es) p q xs zs accepts alike same =
     let r = e.request in
-    let each = accepts_each e es xs accepts in
-    (
+    let each = accepts_each e es xs accepts in (
       omega (
         arith,
         same.0,
@@ -88,8 +88,7 @@ overlap_alike : (es : List Entry) (t : Trip) (xs ys : List ControllerState)
     → SilentBetween es (back_of t (length xs)) (front_of t) ys
 overlap_alike [] t xs ys accepts alike once = tt
 overlap_alike (e ∷ es) t xs ys accepts alike once =
-    let each = accepts_each e es xs accepts in
-    (
+    let each = accepts_each e es xs accepts in (
       silent_alike e (back_of t (length xs)) (front_of t) xs ys each.0 alike once.0.one,
       overlap_alike es t xs ys each.1 alike once.1,
     )

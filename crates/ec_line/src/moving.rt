@@ -1,5 +1,5 @@
-//! The laws of a line whose slaves move while a cycle is on its way, each the contract of a function that does
-//! nothing.
+//! The laws of a line whose slaves move while a cycle is on its way, each the contract of a function that
+//! does nothing.
 
 ghost use Rattle.std.specs.Prelude.{◌≡◌, ◌≤◌, List, length};
 ghost use Rattle.ec_esc.specs.State.{ControllerState};

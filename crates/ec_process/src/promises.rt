@@ -27,10 +27,10 @@ pub fn acting_leaves()
         → HasMemory before → KeepsAllElse before after }
 {}
 
-/// A step of a slave, and what its application does, are moves that may come between two passages of a cycle's
-/// copies: they leave what the controller reads, writes, accepts, counts, takes and shows, each bit that an
-/// accepted request writes, and what the application is shown. So a line whose slaves step and whose inputs
-/// count keeps the premise under which a good cycle is of one moment of each slave
+/// A step of a slave, and what its application does, are moves that may come between two passages of a
+/// cycle's copies: they leave what the controller reads, writes, accepts, counts, takes and shows, each bit
+/// that an accepted request writes, and what the application is shown. So a line whose slaves step and whose
+/// inputs count keeps the premise under which a good cycle is of one moment of each slave
 /// (`ec_line::moving::good_moments`).
 pub fn moves_between_passages()
     ensures step { (s : SlaveState) → IsController s.controller → IsController (step s).controller
