@@ -1,5 +1,5 @@
 -- Controllers that are alike: what a pass leaves is alike, and alike lines are fit, apart and count the same.
-use Rattle.std.proofs.Common.{◌≡◌, ℕ, zero, suc, List, [], ◌∷◌, ◌++◌, take, drop, length}
+use Rattle.std.proofs.Common.{◌≡◌, ℕ, zero, suc, List, [], ◌∷◌, ◌++◌, take, drop, length, map}
 use Rattle.std.proofs.Common.{Option, sym, subst, ◌∙◌, ap, refl, arith}
 use Rattle.std.specs.List.{AllByRecursion, sum_by}
 use Rattle.std.proofs.lemmas.List.{take-append-drop}
@@ -15,12 +15,13 @@ use Rattle.ec_line.specs.After.{Entry, after}
 use Rattle.ec_line.specs.Answered.{AnsweredFrame}
 use Rattle.ec_line.specs.Claims.{gain}
 use Rattle.ec_line.specs.Fit.{IsFitAlone, AreApart, AllApart, IsFitLine}
+use Rattle.ec_line.specs.Mapping.{without_status, mapping_of, mapping}
 use Rattle.ec_line.specs.Moving.{IsAlike, AllAlike, HasMoved}
 use Rattle.ec_line.specs.Request.{Request, OnWay}
 use Rattle.ec_line.specs.Steady.{SameSteady}
 use Rattle.ec_line.specs.Trip.{line_pass, front_pass, back_pass}
 use Rattle.ec_line.proofs.AcceptedLemmas.{after_pass}
-use Rattle.ec_line.proofs.SteadyLemmas.{managers_last, station_lasts, taken_lasts, gain_lasts, reads_last, writes_last}
+use Rattle.ec_line.proofs.SteadyLemmas.{managers_last, fmmus_last, station_lasts, taken_lasts, gain_lasts, reads_last, writes_last}
 use Rattle.ec_line.proofs.SteadyLemmas.{fit_lasts, accepts_lasts, after_steady, after_controller}
 use Rattle.ec_line.proofs.StepLemmas.{step}
 
@@ -28,6 +29,7 @@ use Rattle.ec_line.proofs.StepLemmas.{step}
 
 pub alike-refl : (x : ControllerState) → IsAlike x x
 alike-refl x = record {
+  mapping = refl;
   fit = λ fit. fit;
   station = refl;
   reads = λ l p pair. pair;
@@ -40,6 +42,7 @@ alike-refl x = record {
 
 pub alike-trans : (x y z : ControllerState) → IsAlike x y → IsAlike y z → IsAlike x z
 alike-trans x y z one two = record {
+  mapping = two.mapping ∙ one.mapping;
   fit = λ fit. two.fit (one.fit fit);
   station = two.station ∙ one.station;
   reads = λ l p pair. one.reads l p (two.reads l p pair);
@@ -50,9 +53,23 @@ alike-trans x y z one two = record {
   shows = λ f a. two.shows f a ∙ one.shows f a;
 }
 
--- the same steady bytes make controllers alike
+-- the same steady bytes have one mapping
+pub mapping_steady : (x y : ControllerState) → IsController x → SameSteady x y → mapping_of y ≡ mapping_of x
+unfolding mapping_of
+mapping_steady x y was same =
+    let station = station_lasts x y was same in
+    let fmmus = fmmus_last x y was same in
+    let managers = managers_last x y was same in
+    (λ i. record {
+      station = station i;
+      fmmus = fmmus i;
+      sync_managers = map without_status (managers i);
+    })
+
+-- and make controllers alike
 pub alike_steady : (x y : ControllerState) → IsController x → IsController y → SameSteady x y → IsAlike x y
 alike_steady x y was controller same = record {
+  mapping = mapping_steady x y was same;
   fit = λ fit. fit_lasts x y fit controller same;
   station = station_lasts x y was same;
   reads = λ l p pair. reads_last x y l p was same pair;
@@ -228,6 +245,13 @@ alike-length [] [] alike = refl
 alike-length [] (y ∷ ys) alike = absurd alike
 alike-length (x ∷ xs) [] alike = absurd alike
 alike-length (x ∷ xs) (y ∷ ys) alike = ap suc (alike-length xs ys alike.1)
+
+-- alike lines have one mapping
+pub mapping_alike : (xs ys : List ControllerState) → AllAlike xs ys → mapping ys ≡ mapping xs
+mapping_alike [] [] alike = refl
+mapping_alike [] (y ∷ ys) alike = absurd alike
+mapping_alike (x ∷ xs) [] alike = absurd alike
+mapping_alike (x ∷ xs) (y ∷ ys) alike = (λ i. alike.0.mapping i ∷ mapping_alike xs ys alike.1 i)
 
 -- members that are apart stay so
 apart_alike : (x y u v : ControllerState) → IsAlike x u → IsAlike y v → AreApart x y → AreApart u v

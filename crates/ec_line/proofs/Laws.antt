@@ -18,7 +18,7 @@ use Rattle.ec_esc.specs.Pass.{serves_range_read, pass}
 use Rattle.ec_line.specs.Answers.{Answers, AllAgree}
 use Rattle.ec_line.specs.Answered.{Answered, sent_of, AnsweredFrame}
 use Rattle.ec_line.specs.Claims.{effect_of, claim, gain, taken}
-use Rattle.ec_line.specs.Mapping.{without_status, mapping_of}
+use Rattle.ec_line.specs.Mapping.{without_status, mapping_of, mapping}
 use Rattle.ec_line.specs.Moved.{AllMoved}
 use Rattle.ec_line.specs.Moving.{IsAlike, HasMoved}
 use Rattle.ec_line.specs.Request.{Request, OnWay}
@@ -362,6 +362,10 @@ twice_is_once es c controller accepts =
 
 -- ---- what hangs on the mapping
 
+-- the same steady bytes have one mapping
+pub mapping_steady : (x y : ControllerState) → IsController x → SameSteady x y → mapping_of y ≡ mapping_of x
+mapping_steady = alike.mapping_steady
+
 -- controllers with one mapping have the same sync manager under each number, but for its status byte
 pub manager_by_mapping : (c d : ControllerState) (number : ℕ) → mapping_of d ≡ mapping_of c → number < 8
     → without_status (sync_manager_at d.memory number) ≡ without_status (sync_manager_at c.memory number)
@@ -440,6 +444,12 @@ pub moving_alike : (ts : List Trip) (line : List ControllerState) (runs : List (
     → TripsReady ts line → MovingTrips ts runs line → AllAlike line (behind runs line)
 moving_alike ts line runs ready moving =
     moving_runs.run_alike ts line line runs ready (alike.all_alike-refl line) moving
+
+-- and so the line has the mapping that it had
+pub moving_mapping : (ts : List Trip) (line : List ControllerState) (runs : List (List Visit))
+    → TripsReady ts line → MovingTrips ts runs line → mapping (behind runs line) ≡ mapping line
+moving_mapping ts line runs ready moving =
+    alike.mapping_alike line (behind runs line) (moving_alike ts line runs ready moving)
 
 -- each run of trips over a line is one over a line that moves, at which nothing moves
 pub still_lines : (ts : List Trip) (line : List ControllerState) → (runs : List (List Visit))

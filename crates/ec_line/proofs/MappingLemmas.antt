@@ -392,6 +392,7 @@ taken_by_mapping r c d same accepts = taken_kind r.kind r.address r.count c d sa
 
 pub alike_by_mapping : (c d : ControllerState) → mapping_of d ≡ mapping_of c → IsController d → IsAlike c d
 alike_by_mapping c d same controller = record {
+  mapping = same;
   fit = fit_by_mapping c d same controller;
   station = station_by_mapping c d same;
   reads = λ l p. reads_back c d l p same;

@@ -15,6 +15,7 @@ use Rattle.ec_line.specs.After.{Entry}
 use Rattle.ec_line.specs.Answered.{AnsweredFrame, sent_of}
 use Rattle.ec_line.specs.Claims.{taken, gain}
 use Rattle.ec_line.specs.Fit.{Reads, Writes, IsFitAlone}
+use Rattle.ec_line.specs.Mapping.{mapping_of}
 use Rattle.ec_line.specs.Memory.{AllBetween}
 use Rattle.ec_line.specs.Request.{Request}
 use Rattle.ec_line.specs.Run.{CountsWhole}
@@ -23,9 +24,10 @@ use Rattle.ec_line.specs.Trip.{Trip, PassedLine, front_pass, back_pass, sent_b, 
 
 -- ---- how a slave may move
 
--- a later state y of the controller x, whatever its bytes are: it reads, writes, accepts, counts, takes and
--- shows where x does, and is fit if x is
+-- a later state y of the controller x, whatever its bytes are: it has the mapping of x, and so it reads,
+-- writes, accepts, counts, takes and shows where x does, and is fit if x is
 pub record IsAlike (x y : ControllerState) : Type 0 where
+  pub mapping : mapping_of y ≡ mapping_of x
   pub fit : IsFitAlone x → IsFitAlone y
   pub station : word_at y.memory STATION_ADDRESS ≡ word_at x.memory STATION_ADDRESS
   pub reads : (l p : ℕ) → Reads y l p → Reads x l p

@@ -3,6 +3,7 @@
 
 ghost use Rattle.std.specs.Prelude.{◌≡◌, ◌≤◌, List, length};
 ghost use Rattle.ec_esc.specs.State.{ControllerState};
+ghost use Rattle.ec_line.specs.Mapping.{mapping};
 ghost use Rattle.ec_line.specs.Moving.{AllAlike, Visit, MovingTrips, joined_on_each, behind, CountsReturned};
 ghost use Rattle.ec_line.specs.Moving.{AnsweredAtMoments, SameWritten, SameShownWritten};
 ghost use Rattle.ec_line.specs.Run.{trips_run, TripsReady, CountsWholeAll, after_trips};
@@ -12,13 +13,16 @@ use ec_esc::MOST_CONTROLLERS;
 
 /// Over a fit line whose slaves move between the passages of a cycle's copies, each leaving its mapping, its
 /// outputs and what it is shown: the working counters of each joined frame have moved as those count whom
-/// the copies passed that came back, and behind the trips each controller reads, writes, accepts, counts and
-/// takes where it did at first. Which copy comes first may differ from slave to slave.
+/// the copies passed that came back, and behind the trips each controller has its mapping, and so reads,
+/// writes, accepts, counts and takes where it did at first. Which copy comes first may differ from slave to
+/// slave.
 pub fn moving_trips()
     ensures counts { (ts : List Trip) (line : List ControllerState) (runs : List (List Visit))
         → TripsReady ts line → MovingTrips ts runs line → CountsReturned ts line (joined_on_each ts runs) }
     ensures alike { (ts : List Trip) (line : List ControllerState) (runs : List (List Visit))
         → TripsReady ts line → MovingTrips ts runs line → AllAlike line (behind runs line) }
+    ensures mapping_stays { (ts : List Trip) (line : List ControllerState) (runs : List (List Visit))
+        → TripsReady ts line → MovingTrips ts runs line → mapping (behind runs line) ≡ mapping line }
 {}
 
 /// Where the counters of such a line have moved as the whole line counts, whatever was lost or passed twice,
