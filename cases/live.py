@@ -805,6 +805,31 @@ def a_master_brings_slaves_without_a_mailbox_to_op(stage):
         yield "counts", "True", str(bool(seen[0] and seen[1] and seen[0][1] != seen[1][1]))
 
 
+# Two slaves whose inputs are words that count, one item that reads both, and a broken cable between them.
+COUNTING = "".join(
+    f"slave {0x1001 + k:#x}\nsimple\nareas 0 2\nsm 3 0x1100 2 read\n"
+    f"fmmu 0 {0x20000 + 2 * k:#x} 2 0 7 0x1100 0 read\ncount 3\n"
+    for k in range(2)
+) + "link 1 down\nlrd 0x20000 00000000\nbrd 0x0130 0000\n"
+
+
+@case
+def a_word_that_counts_is_never_torn(stage):
+    """Slaves step behind every packet, and each is passed by one copy: its word is of that moment."""
+    with stage.serve(COUNTING, "--forever") as _line:
+        stage.file("m", COUNTING)
+        words = ("master", "m", "--at", both_ends(stage), "--cycles", "2000", *PATIENCE)
+        yield "master", "0", stage.ends(*words, "--log", "log", "--log-images").splitlines()[-1]
+    with open(os.path.join(stage.folder, "log"), encoding="latin-1") as log:
+        images = re.findall(r"^cycle \d+ good .* image (\w{8}),", log.read(), re.M)
+    rows = [struct.unpack("<2H", bytes.fromhex(image)) for image in images]
+    yield "good cycles", "2000", str(len(rows))
+    rises = {(later - before) % 65536 for a, b in zip(rows, rows[1:]) for before, later in zip(a, b)}
+    yield "rises", "True", str(rises <= {1, 2, 3, 4})
+    yield "apart", "True", str(all((a - b) % 65536 in (0, 1, 2, 65534, 65535) for a, b in rows))
+    yield "high bytes", "True", str(len({a // 256 for a, _ in rows}) > 8)
+
+
 @case
 def a_master_with_one_port_cycles(stage):
     with stage.serve(MACHINE, "--forever") as _line:
