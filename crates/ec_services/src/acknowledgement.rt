@@ -84,8 +84,9 @@ fn await_no_error<P: Ports>(ports: &mut P, station: u16, limit: u32) -> Result<A
 /// is served no more. Before `request_state` this keeps a refusal of an earlier request from being taken for
 /// one of the next.
 ///
-/// A trip that fails is `Port`, and a copy of another frame `Stranger`. `NoSlave`: no slave took the write or
-/// answered a read; `BadAnswer`: more than one did; `NoAnswer`: `limit` reads found the error bit set.
+/// A trip that fails is `Port`, and a copy of another frame `Stranger`. `NoSlave`: the write or a read came
+/// back with the working counter 0; `BadAnswer`: with more than 1; `NoAnswer`: `limit` reads found the error
+/// bit set.
 pub fn acknowledge<P: Ports>(
     ports: &mut P,
     station: u16,

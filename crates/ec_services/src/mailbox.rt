@@ -85,7 +85,7 @@ pub(crate) fn mail_write(peer: &Peer, sdo: &Sdo) -> Datagram
     request(Command::Fpwr, address, &area[..usize::from(peer.to.length)])
 }
 
-/// Moves the peer's counter where one slave took the request.
+/// Moves the peer's counter where the request came back with the working counter 1.
 fn count_request(peer: &mut Peer, back: &Back) -> Result<(), MasterFault>
     requires one { length back.now.joined ≡ 1 }
     requires counter { peer.old.counter ≤ 7 }

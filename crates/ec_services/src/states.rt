@@ -98,9 +98,9 @@ fn await_state<P: Ports>(
 /// error that stands; then reads AL status at most `limit` times, until the slave is in that state. It takes
 /// no memory.
 ///
-/// A trip that fails is `Port`, and a copy of another frame `Stranger`. `NoSlave`: no slave took the write or
-/// answered a read; `BadAnswer`: more than one did; `Refused`: the slave's error bit is set; `NoAnswer`:
-/// `limit` reads found the slave in another state.
+/// A trip that fails is `Port`, and a copy of another frame `Stranger`. `NoSlave`: the write or a read came
+/// back with the working counter 0; `BadAnswer`: with more than 1; `Refused`: the slave's error bit is set;
+/// `NoAnswer`: `limit` reads found the slave in another state.
 pub fn request_state<P: Ports>(
     ports: &mut P,
     station: u16,

@@ -81,8 +81,8 @@ fn write_station<P: Ports>(ports: &mut P, place: u16, station: u16) -> Result<()
 ///
 /// A trip that fails is `Port`, and a copy of another frame `Stranger`. Then, by the broadcast read: `Broken`
 /// where a copy is missing or slaves counted on both, `NoSlave` where none counted, `BadAnswer` where more
-/// than 256 did. By the write to a slave: `NoSlave` where none took it, `BadAnswer` where more than one did;
-/// those before it have their addresses.
+/// than 256 did. By the write to a slave: `NoSlave` where it came back with the working counter 0,
+/// `BadAnswer` where with more than 1; those before it were counted once each.
 pub fn assign_stations<P: Ports>(ports: &mut P, first: u16) -> Result<u16, MasterFault>
     requires { first ≤ 65000 }
     ensures service { AreAssigned P.trips ports.old first result ports.new }

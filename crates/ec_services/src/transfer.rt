@@ -75,9 +75,10 @@ fn exchange<P: Ports>(
 /// mailbox, then reads its other mailbox at most `limit` times, until a mail is there. It takes no memory.
 /// The peer's counter moves on exactly where the write of the request came back with the working counter 1.
 ///
-/// A trip that fails is `Port`, and a copy of another frame `Stranger`. `NoSlave`: no slave took the request,
-/// as where the mailbox is full; `Abort`: the slave ended the transfer; `NoAnswer`: `limit` reads found no
-/// mail; `BadAnswer`: more than one slave answered, or the mail is no answer to this request.
+/// A trip that fails is `Port`, and a copy of another frame `Stranger`. `NoSlave`: the request came back
+/// with the working counter 0, as where the mailbox is full; `Abort`: the slave ended the transfer;
+/// `NoAnswer`: `limit` reads found no mail; `BadAnswer`: the request or a read came back with a working
+/// counter above 1, or the mail is no answer to this request.
 ///
 /// Nothing but its counter, its index and its subindex tells an answer from that to an earlier request, so
 /// that `Ok` may bring what was answered before. An answer that comes after `limit` reads stays in the
