@@ -401,6 +401,21 @@ moved-refl = alike.moved-refl
 pub moved-trans : (x y z : ControllerState) → HasMoved x y → HasMoved y z → HasMoved x z
 moved-trans = alike.moved-trans
 
+-- ---- alike lines
+
+-- a line that is alike to a fit one is fit
+pub alike_fit : (xs ys : List ControllerState) → AllAlike xs ys → IsFitLine xs → IsFitLine ys
+alike_fit = alike.fit_line
+
+-- and accepts what that one accepts
+pub alike_accepts : (es : List Entry) (xs ys : List ControllerState) → AllAlike xs ys
+    → AllByRecursion (AcceptsAll es) xs → AllByRecursion (AcceptsAll es) ys
+alike_accepts = alike.accepts_line
+
+-- and is as long
+pub alike_length : (xs ys : List ControllerState) → AllAlike xs ys → length ys ≡ length xs
+alike_length = alike.alike-length
+
 -- ---- the trips of a cycle over a line that moves
 
 -- where each slave moves between the passages, leaving its mapping and its outputs, each counter of a joined

@@ -4,10 +4,10 @@ use Rattle.std.specs.List.{AllByRecursion, sum_by}
 use Rattle.std.proofs.lemmas.List.Sums.{sum_by-cons}
 use Rattle.ec_esc.specs.State.{ControllerState, IsController}
 use Rattle.ec_line.specs.Claims.{gain}
-use Rattle.ec_line.specs.Mapping.{without_status, mapping_of, mapping}
+use Rattle.ec_line.specs.Mapping.{mapping}
 use Rattle.ec_line.specs.Request.{Request}
-use Rattle.ec_line.specs.Steady.{SameSteady, IsLater}
-use Rattle.ec_line.proofs.Laws.{station_lasts, managers_last, fmmus_last, gain_lasts}
+use Rattle.ec_line.specs.Steady.{IsLater}
+use Rattle.ec_line.proofs.Laws.{mapping_steady, gain_lasts}
 use Rattle.ec_check.proofs.Laws.{fit_by_mapping}
 use Rattle.ec_map.specs.Item.{ItemRecord, IsItem, AsksTheSame}
 use Rattle.ec_map.specs.Place.{IsPlaced}
@@ -24,22 +24,13 @@ use Rattle.ec_master.proofs.VerdictLemmas.{sum-same}
 
 -- ---- a later line
 
-mapping_lasts : (x y : ControllerState) → IsController x → SameSteady x y → mapping_of y ≡ mapping_of x
-unfolding mapping_of
-mapping_lasts x y is same =
-    (λ i. record {
-      station = station_lasts x y is same i;
-      fmmus = fmmus_last x y is same i;
-      sync_managers = map without_status (managers_last x y is same i);
-    })
-
 mapping-later : (xs ys : List ControllerState) → AllByRecursion IsController xs → IsLater xs ys
     → mapping ys ≡ mapping xs
 mapping-later [] [] are later = refl
 mapping-later [] (y ∷ ys) are later = absurd later
 mapping-later (x ∷ xs) [] are later = absurd later
 mapping-later (x ∷ xs) (y ∷ ys) are later =
-    (λ i. mapping_lasts x y are.0 later.0.0 i ∷ mapping-later xs ys are.1 later.1 i)
+    (λ i. mapping_steady x y are.0 later.0.0 i ∷ mapping-later xs ys are.1 later.1 i)
 
 controllers-later : (xs ys : List ControllerState) → IsLater xs ys → AllByRecursion IsController ys
 controllers-later [] [] later = tt

@@ -26,4 +26,8 @@ pub mod CoveredLemmas
 pub mod CoveredLineLemmas
 pub mod ShownLineLemmas
 pub mod CoveredGoodLemmas
+pub mod MomentLemmas
+pub mod MomentAgainLemmas
+pub mod MomentCycleLemmas
+pub mod BroughtLemmas
 pub mod Laws

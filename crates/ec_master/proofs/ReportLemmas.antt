@@ -27,7 +27,8 @@ use Rattle.ec_master.specs.Cut.{concat, entries_from, frames_of}
 use Rattle.ec_master.specs.Ports.{Trips, Outcome, Sends, IsPortCycle, came_or}
 use Rattle.ec_master.specs.Report.{moved_in, added, counts_of, ReportRecord, no_report, with_trip, with_trips}
 use Rattle.ec_master.specs.Report.{Reported, ReportedTrips, CycleIsTold, counts_by_passes}
-use Rattle.ec_master.specs.Suffice.{AllThatCame, Brings, in_turn, GivenBy, AllGivenBy, FramesSuffice}
+use Rattle.ec_master.specs.Given.{AllThatCame, in_turn}
+use Rattle.ec_master.specs.Suffice.{Brings, GivenBy, AllGivenBy, FramesSuffice}
 use Rattle.ec_master.specs.Travelled.{trips_under, run_under, answers_under}
 use Rattle.ec_master.specs.Unordered.{IsAccepted}
 use Rattle.ec_master.specs.declared.cycle.CycleFault.{CycleFault}
@@ -36,8 +37,8 @@ use Rattle.ec_master.specs.declared.work.TheConstants.{MAX_ITEMS}
 use Rattle.ec_master.proofs.CutLemmas.{length-entries}
 use Rattle.ec_master.proofs.SlaveLemmas.{trips_ready}
 use Rattle.ec_master.proofs.SufficeLemmas.{OnWays, own_given, comes-given, first-given, Behind, frames-trips}
-use Rattle.ec_master.proofs.VerdictLemmas.{AnsweredBy, answered-each, entries_carried, entries_under}
-use Rattle.ec_master.proofs.VerdictLemmas.{returned_answers, line_room, count-moved}
+use Rattle.ec_master.proofs.VerdictLemmas.{CountsBy, counts-each, counts-returned, entries_carried}
+use Rattle.ec_master.proofs.VerdictLemmas.{entries_under, returned_answers, line_room, count-moved}
 
 -- ---- one frame, datagram by datagram
 
@@ -304,16 +305,16 @@ moved_on-all who (t ∷ ts) line answered =
 -- of items that the slaves answer who were passed, the counts are those of the passes
 moved-passes : (j : ℕ) (items : List ItemRecord) (us : List Trip) (gs : List DatagramRecord)
     (line : List ControllerState) → length line ≤ 256 → AllByRecursion IsItem items
-    → AnsweredBy (λ t. returned t line) (entries_from j items) us gs
+    → CountsBy line (entries_from j items) us gs
     → moved_in (sent_of (entries_from j items)) gs ≡ counts_by_passes items us line
 unfolding moved_in counts_by_passes entries_from
-moved-passes j [] us gs line room items answered = refl
-moved-passes j (r ∷ rs) [] gs line room items answered = absurd answered
-moved-passes j (r ∷ rs) (u ∷ us) [] line room items answered = absurd answered
-moved-passes j (r ∷ rs) (u ∷ us) (g ∷ gs) line room items answered =
+moved-passes j [] us gs line room items counts = refl
+moved-passes j (r ∷ rs) [] gs line room items counts = absurd counts
+moved-passes j (r ∷ rs) (u ∷ us) [] line room items counts = absurd counts
+moved-passes j (r ∷ rs) (u ∷ us) (g ∷ gs) line room items counts =
     ap (λ (n : ℕ). n ∷ moved_in (sent_of (entries_from (suc j) rs)) gs)
-    (count-moved r j u line g room items.0 answered.0)
-    ∙ ap (λ (l : List ℕ). count_of r u line ∷ l) (moved-passes (suc j) rs us gs line room items.1 answered.1)
+    (count-moved r u line g.counter room items.0 counts.0)
+    ∙ ap (λ (l : List ℕ). count_of r u line ∷ l) (moved-passes (suc j) rs us gs line room items.1 counts.1)
 
 -- where a ring's trips would have given what came, each count is that of the slaves that were passed
 counts-passes : (items : List ItemRecord) (expected : List ℕ) (came : AllThatCame)
@@ -331,9 +332,10 @@ counts-passes items expected came result items_later are few cycle ws r room acc
     let gs : List DatagramRecord = answers_under ws r items in
     let answered : AnsweredTrips ts who (run_under ws r items).joined =
     returned_answers ws r items accepted are in
-    let each : AnsweredBy who (entries_from 0 items) (carriers ts) gs =
-    subst (λ (es : List Entry). AnsweredBy who es (carriers ts) gs) (entries_under ws r items)
-    (answered-each who ts (run_under ws r items).joined answered) in
+    let each : CountsBy line (entries_from 0 items) (carriers ts) gs =
+    subst (λ (es : List Entry). CountsBy line es (carriers ts) gs) (entries_under ws r items)
+    (counts-each line ts (run_under ws r items).joined
+    (counts-returned ts line (run_under ws r items).joined answered)) in
     let sends : Sends in_turn came frames cycle.outcome [] =
     subst (λ (fs : List (List DatagramRecord)). Sends in_turn came fs cycle.outcome [])
     (sym (frames-trips ws r items)) cycle.sends in

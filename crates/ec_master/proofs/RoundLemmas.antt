@@ -26,7 +26,7 @@ use Rattle.ec_master.specs.Cut.{concat, cut, entries_from, frames_of}
 use Rattle.ec_master.specs.Ports.{came_or, ComesTo, PortTrip, Outcome, with_first, Sends, EndsIn}
 use Rattle.ec_master.specs.Ports.{IsPortCycle}
 use Rattle.ec_master.specs.Rounds.{round_counter, IsOfRound, CopyOfRound, IsRecent, AreRecent, AreOfRound}
-use Rattle.ec_master.specs.Suffice.{AllThatCame, in_turn}
+use Rattle.ec_master.specs.Given.{AllThatCame, in_turn}
 use Rattle.ec_master.specs.Verdict.{verdict, verdict_from}
 use Rattle.ec_master.specs.declared.cycle.CycleFault.{CycleFault}
 use Rattle.ec_master.specs.declared.verdict.Verdict.{Verdict}

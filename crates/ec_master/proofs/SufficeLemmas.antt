@@ -24,10 +24,11 @@ use Rattle.ec_ring.specs.declared.weather.Came.{Came}
 use Rattle.ec_ring.specs.declared.weather.Weather.{Weather}
 use Rattle.ec_master.specs.Certificate.{verdict_under}
 use Rattle.ec_master.specs.Cut.{frames_of}
-use Rattle.ec_master.specs.Ports.{came_or, ComesTo, Trips, PortTrip, Outcome, with_first, Sends, taken_on}
+use Rattle.ec_master.specs.Ports.{came_or, ComesTo, Outcome, with_first, Sends, taken_on}
 use Rattle.ec_master.specs.Ports.{EndsIn, IsPortCycle}
-use Rattle.ec_master.specs.Suffice.{AllThatCame, Brings, in_turn, exchanged, GivenBy, AllGivenBy, SaysOf}
-use Rattle.ec_master.specs.Suffice.{SaysOfEach, FramesSuffice}
+use Rattle.ec_master.specs.Given.{AllThatCame, in_turn, exchanged, Gives}
+use Rattle.ec_master.specs.Suffice.{GivenBy, AllGivenBy, SaysOf}
+use Rattle.ec_master.specs.Suffice.{SaysOfEach}
 use Rattle.ec_master.specs.Travelled.{trips_under, run_under, answers_under}
 use Rattle.ec_master.specs.Again.{AskTheSame}
 use Rattle.ec_master.specs.Unordered.{by_station, AreAnswers, IsAccepted}
@@ -40,7 +41,6 @@ use Rattle.ec_master.specs.declared.verdict.Verdict.TheVariants.{Good, Short, Ov
 use Rattle.ec_master.proofs.AgainLemmas.{again, still_expected, asks-itself, asks-answers}
 use Rattle.ec_master.proofs.CarryLemmas.{either, own_itself}
 use Rattle.ec_master.proofs.CertificateLemmas.{good_answers, good_memories, good_shows}
-use Rattle.ec_master.proofs.RoundLemmas as rounds
 use Rattle.ec_master.proofs.SlaveLemmas.{entries-trips_of, trips_ready}
 use Rattle.ec_master.proofs.VerdictLemmas.{verdict-counts}
 
@@ -51,12 +51,12 @@ abbrev pub OnWays : Trip → Type 0
 OnWays t = AllByRecursion (λ (e : Entry). OnWay e.request e.sent) t.entries
 
 -- copies that are no strangers, and are joined as the trip's are
-pub record JoinsAs (t : Trip) (line : List ControllerState) (came : Came) : Type 0 where
+pub record JoinsAs (t : Trip) (p : Passed) (came : Came) : Type 0 where
   pub own_a : IsOwn (sent_of t.entries) (came_or came.a (sent_of t.entries))
   pub own_b : IsOwn (sent_of t.entries) (came_or came.b (sent_of t.entries))
   pub joined : joined_frame (sent_of t.entries) (came_or came.a (sent_of t.entries))
       (came_or came.b (sent_of t.entries))
-      ≡ joined_of t (passed t line)
+      ≡ joined_of t p
 
 stands_for : (lost : Bool) (sent copy : List DatagramRecord)
     → came_or (cond lost None (Some copy)) sent ≡ cond lost sent copy
@@ -64,24 +64,22 @@ stands_for true sent copy = refl
 stands_for false sent copy = refl
 
 -- those that the trip gives, in their places and exchanged
-own_gives : (t : Trip) (line : List ControllerState) → OnWays t
-    → JoinsAs t line (as_trip t (passed t line)).came
-own_gives t line ways =
+own_gives : (t : Trip) (p : Passed) → IsOwn (sent_of t.entries) p.a → IsOwn (sent_of t.entries) p.b
+    → JoinsAs t p (as_trip t p).came
+own_gives t p is_own_a is_own_b =
     let s : List DatagramRecord = sent_of t.entries in
-    let p : Passed = passed t line in
     let is_a = stands_for t.lost_a s p.a in
     let is_b = stands_for t.lost_b s p.b in
     record {
-      own_a = subst (IsOwn s) (sym is_a) (either (IsOwn s) t.lost_a s p.a (own_itself s) (own_a t line ways));
-      own_b = subst (IsOwn s) (sym is_b) (either (IsOwn s) t.lost_b s p.b (own_itself s) (own_b t line ways));
+      own_a = subst (IsOwn s) (sym is_a) (either (IsOwn s) t.lost_a s p.a (own_itself s) is_own_a);
+      own_b = subst (IsOwn s) (sym is_b) (either (IsOwn s) t.lost_b s p.b (own_itself s) is_own_b);
       joined =
           ap (λ (x : List DatagramRecord). joined_frame s x (came_or (cond t.lost_b None (Some p.b)) s)) is_a
           ∙ ap (λ (y : List DatagramRecord). joined_frame s (cond t.lost_a s p.a) y) is_b;
     }
 
-own_exchanged : (t : Trip) (line : List ControllerState) (came : Came) → JoinsAs t line came
-    → JoinsAs t line (exchanged came)
-own_exchanged t line came is =
+own_exchanged : (t : Trip) (p : Passed) (came : Came) → JoinsAs t p came → JoinsAs t p (exchanged came)
+own_exchanged t p came is =
     let s : List DatagramRecord = sent_of t.entries in
     record {
       own_a = is.own_b;
@@ -89,23 +87,36 @@ own_exchanged t line came is =
       joined = joined_frame_symmetric s (came_or came.b s) (came_or came.a s) ∙ is.joined;
     }
 
+joins : (t : Trip) (p : Passed) (came : Came) → JoinsAs t p (as_trip t p).came → Gives t p (Ok came)
+    → JoinsAs t p came
+joins t p came is (inl same) = subst (JoinsAs t p) (sym same) is
+joins t p came is (inr other) =
+    subst (JoinsAs t p) (sym other) (own_exchanged t p (as_trip t p).came is)
+
 pub own_given : (t : Trip) (line : List ControllerState) (came : Came) → OnWays t → GivenBy t line (Ok came)
-    → JoinsAs t line came
-own_given t line came ways (inl same) = subst (JoinsAs t line) (sym same) (own_gives t line ways)
-own_given t line came ways (inr other) =
-    subst (JoinsAs t line) (sym other)
-    (own_exchanged t line (as_trip t (passed t line)).came (own_gives t line ways))
+    → JoinsAs t (passed t line) came
+own_given t line came ways given =
+    let p : Passed = passed t line in
+    joins t p came (own_gives t p (own_a t line ways) (own_b t line ways)) given
 
 -- so they come to the joined frame of the trip
+pub comes-joined : (t : Trip) (p : Passed) (came : Result Came PortFault)
+    (answer : Result (List DatagramRecord) CycleFault) → IsOwn (sent_of t.entries) p.a
+    → IsOwn (sent_of t.entries) p.b → Gives t p came → ComesTo (sent_of t.entries) came answer
+    → answer ≡ Ok (joined_of t p)
+comes-joined t p (Err failed) answer is_own_a is_own_b given comes = absurd given
+comes-joined t p (Ok came) (Err fault) is_own_a is_own_b given comes =
+    let is = joins t p came (own_gives t p is_own_a is_own_b) given in
+    absurd (own_no_fault (sent_of t.entries) _ _ is.own_a is.own_b comes.1 comes.2)
+comes-joined t p (Ok came) (Ok joined) is_own_a is_own_b given comes =
+    let is = joins t p came (own_gives t p is_own_a is_own_b) given in
+    ap (λ (f : List DatagramRecord). Ok f) (comes.2 ∙ is.joined)
+
 pub comes-given : (t : Trip) (line : List ControllerState) (came : Result Came PortFault)
     (answer : Result (List DatagramRecord) CycleFault) → OnWays t → GivenBy t line came
     → ComesTo (sent_of t.entries) came answer → answer ≡ Ok (joined_of t (passed t line))
-comes-given t line (Err failed) answer ways given comes = absurd given
-comes-given t line (Ok came) (Err fault) ways given comes =
-    let is = own_given t line came ways given in
-    absurd (own_no_fault (sent_of t.entries) _ _ is.own_a is.own_b comes.1 comes.2)
-comes-given t line (Ok came) (Ok joined) ways given comes =
-    let is = own_given t line came ways given in ap (λ (f : List DatagramRecord). Ok f) (comes.2 ∙ is.joined)
+comes-given t line came answer ways given comes =
+    comes-joined t (passed t line) came answer (own_a t line ways) (own_b t line ways) given comes
 
 -- ---- the frames of a cycle
 
@@ -123,7 +134,7 @@ Behind between rest outcome (Err fault) = (outcome ≡ Err fault) × ([] ≡ bet
 Behind between rest outcome (Ok joined) =
     (others : Outcome) × Sends in_turn between rest others [] × (outcome ≡ with_first joined others)
 
-behind-joined : (between : AllThatCame) (rest : List (List DatagramRecord)) (outcome : Outcome)
+pub behind-joined : (between : AllThatCame) (rest : List (List DatagramRecord)) (outcome : Outcome)
     (answer : Result (List DatagramRecord) CycleFault) (joined : List DatagramRecord)
     (js : List (List DatagramRecord))
     → answer ≡ Ok joined → ((others : Outcome) → Sends in_turn between rest others [] → others ≡ Ok js)
@@ -225,76 +236,3 @@ frames-suffice items expected came result items_later are cycle ws r room accept
     sends in
     says ws r items expected result items_later room accepted are counts
     (subst (λ (o : Outcome). EndsIn items expected o result items_later) joined cycle.ends)
-
--- ---- a run by what came back
-
--- frames that go out over ports come to what they come to by what came back alone
-pub record ByWhatCame {P : Type 0} (trips : Trips P) (before : P) (frames : List (List DatagramRecord))
-    (outcome : Outcome) (later : P)
-    : Type 0 where
-  pub came : AllThatCame
-  pub brought : Brings trips before frames came later
-  pub sends : Sends in_turn came frames outcome []
-
--- what one frame comes to over ports, and the others behind it
-abbrev Continues : {P : Type 0} → Trips P → P → List (List DatagramRecord) → Outcome → P
-    → Result (List DatagramRecord) CycleFault → Type 0
-Continues trips between rest outcome later (Err fault) = (outcome ≡ Err fault) × (later ≡ between)
-Continues trips between rest outcome later (Ok joined) =
-    (others : Outcome) × Sends trips between rest others later × (outcome ≡ with_first joined others)
-
-by-first : {P : Type 0} (trips : Trips P) (before between later : P) (sent : List DatagramRecord)
-    (rest : List (List DatagramRecord))
-    (outcome : Outcome) (answer : Result (List DatagramRecord) CycleFault)
-    → PortTrip trips before sent answer between
-    → ((others : Outcome) → Sends trips between rest others later
-    → ByWhatCame trips between rest others later)
-    → Continues trips between rest outcome later answer → ByWhatCame trips before (sent ∷ rest) outcome later
-unfolding Sends Brings
-by-first trips before between later sent rest outcome (Err fault) trip more ends = record {
-  came = trip.came ∷ [];
-  brought = (between, trip.made, ends.1);
-  sends = (Err fault, [], record { came = trip.came; made = refl; comes = trip.comes }, (ends.0, refl));
-}
-by-first trips before between later sent rest outcome (Ok joined) trip more goes_on =
-    let others = more goes_on.0 goes_on.1 in
-    record {
-      came = trip.came ∷ others.came;
-      brought = (between, trip.made, others.brought);
-      sends = (
-        Ok joined,
-        others.came,
-        record { came = trip.came; made = refl; comes = trip.comes },
-        (goes_on.0, others.sends, goes_on.2),
-      );
-    }
-
-by_what_came : {P : Type 0} (trips : Trips P) (before later : P) (frames : List (List DatagramRecord))
-    (outcome : Outcome)
-    → Sends trips before frames outcome later → ByWhatCame trips before frames outcome later
-unfolding Sends Brings
-by_what_came trips before later [] outcome sends =
-    record { came = []; brought = sends.1; sends = (sends.0, refl) }
-by_what_came trips before later (sent ∷ rest) outcome sends =
-    by-first trips before sends.1 later sent rest outcome sends.0 sends.2
-    (λ others more. by_what_came trips sends.1 later rest others more) sends.3
-
-pub cycle-suffices : {P : Type 0} (trips : Trips P) (before later : P) (items : List ItemRecord)
-    (expected : List ℕ)
-    (result : Result Verdict CycleFault) (items_later : List ItemRecord) → AllByRecursion IsItem items
-    → length expected ≡ length items → IsPortCycle trips before items expected result items_later later
-    → FramesSuffice trips before items expected result items_later later
-cycle-suffices trips before later items expected result items_later are counts cycle =
-    let by = by_what_came trips before later (map sent_of (frames_of items)) cycle.outcome cycle.sends in
-    let alone : IsPortCycle in_turn by.came items expected result items_later [] =
-    record { outcome = cycle.outcome; sends = by.sends; ends = cycle.ends } in
-    record {
-      came = by.came;
-      brought = by.brought;
-      cycle = alone;
-      says = frames-suffice items expected by.came result items_later are alone;
-      this_round = λ k good begun few recent.
-          rounds.this_round k items expected by.came items_later begun counts few recent
-          (subst (λ (x : Result Verdict CycleFault). IsPortCycle in_turn by.came items expected x items_later [])
-          good alone);
-    }

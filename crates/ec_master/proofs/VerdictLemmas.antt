@@ -1,6 +1,7 @@
 -- The verdict of a cycle is that of the counts of passes; what a good one says of the counters; and that it
 -- is good where each slave is passed once.
-use Rattle.std.proofs.Common.{◌≡◌, ℕ, zero, suc, ◌+◌, ◌*◌, ◌%◌, ◌<◌, ◌≤◌, Bool, true, false, cond, eqb, ltb, ◌||◌}
+use Rattle.std.proofs.Common.{◌≡◌, ℕ, zero, suc, ◌+◌, ◌*◌, ◌%◌, ◌<◌, ◌≤◌, ◌||◌}
+use Rattle.std.proofs.Common.{Bool, true, false, cond, eqb, ltb}
 use Rattle.std.proofs.Common.{List, [], ◌∷◌, ◌++◌, length, map, take, drop, Option, None, Some}
 use Rattle.std.proofs.Common.{sym, subst, ◌∙◌, ap, refl, arith}
 use Rattle.std.specs.Prelude.{is_none, unwrap_or}
@@ -12,12 +13,13 @@ use Rattle.ec_wire.specs.Datagram.{DatagramRecord}
 use Rattle.ec_merge.specs.Rule.{distance}
 use Rattle.ec_esc.specs.State.{ControllerState}
 use Rattle.ec_line.specs.After.{Entry}
-use Rattle.ec_line.specs.Answered.{Answered, AnsweredFrame}
+use Rattle.ec_line.specs.Answered.{AnsweredFrame}
 use Rattle.ec_line.specs.Claims.{gain}
+use Rattle.ec_line.specs.Moving.{CountsReturned}
 use Rattle.ec_line.specs.Run.{AnsweredTrips, CountsWhole, CountsWholeAll}
 use Rattle.ec_line.specs.Trip.{Trip, returned}
 use Rattle.ec_line.proofs.Laws.{trips_answered, sum_bound}
-use Rattle.ec_map.specs.Item.{ItemRecord, IsItem, datagram_of}
+use Rattle.ec_map.specs.Item.{ItemRecord, IsItem}
 use Rattle.ec_map.specs.Share.{share, expected_of, request_of}
 use Rattle.ec_ring.specs.Links.{is_up, last_down}
 use Rattle.ec_ring.specs.Reach.{front, back, arrival_a, arrival_b}
@@ -31,45 +33,63 @@ use Rattle.ec_ring.proofs.Laws.{front-is-back, lost-front, lost-back, length-con
 use Rattle.ec_master.specs.Certificate.{carriers, count_of, whole_count, counts_from, verdict_by_counts}
 use Rattle.ec_master.specs.Certificate.{verdict_under, IsOneDown}
 use Rattle.ec_master.specs.Cut.{concat, entries_from, frames_of}
-use Rattle.ec_master.specs.Travelled.{trips_of, trips_under, run_under, answers_under}
+use Rattle.ec_master.specs.Travelled.{trips_of, trips_under, run_under}
 use Rattle.ec_master.specs.Travelled.{weathers_of, weathers_under}
 use Rattle.ec_ring.specs.Weather.{calm}
 use Rattle.ec_master.specs.Unordered.{IsAccepted}
-use Rattle.ec_master.specs.Verdict.{verdict_from}
+use Rattle.ec_master.specs.Verdict.{verdict_from, verdict}
 use Rattle.ec_master.specs.declared.verdict.Verdict.{Verdict}
 use Rattle.ec_master.specs.declared.verdict.Verdict.TheVariants.{Good, Short, Over}
 use Rattle.ec_master.proofs.SlaveLemmas.{concat-cut, entries-trips_of, trips_ready}
 
 -- ---- trips, entry by entry
 
--- each entry's answer, by the trip that carries it
-abbrev pub AnsweredBy : (Trip → List ControllerState) → List Entry → List Trip → List DatagramRecord → Type 0
-AnsweredBy who [] [] [] = Unit {0}
-AnsweredBy who (e ∷ es) (t ∷ ts) (g ∷ gs) = Answered e.request (who t) e.sent g × AnsweredBy who es ts gs
-AnsweredBy who _ _ _ = ⊥
+-- each entry's counter has moved as those count whom the copies passed that came back of its trip
+abbrev pub CountsBy : List ControllerState → List Entry → List Trip → List DatagramRecord → Type 0
+CountsBy line [] [] [] = Unit {0}
+CountsBy line (e ∷ es) (t ∷ ts) (g ∷ gs) =
+    (g.counter ≡ (e.sent.counter + sum_by (gain e.request) (returned t line)) % 65536)
+    × CountsBy line es ts gs
+CountsBy line _ _ _ = ⊥
 
-answered-first : (who : Trip → List ControllerState) (t : Trip) (es rest : List Entry) (us : List Trip)
-    (gs hs : List DatagramRecord) → AnsweredFrame es (who t) gs → AnsweredBy who rest us hs
-    → AnsweredBy who (es ++ rest) (map (λ (e : Entry). t) es ++ us) (gs ++ hs)
-answered-first who t [] rest us [] hs first behind = behind
-answered-first who t [] rest us (g ∷ gs) hs first behind = absurd first
-answered-first who t (e ∷ es) rest us [] hs first behind = absurd first
-answered-first who t (e ∷ es) rest us (g ∷ gs) hs first behind =
-    (first.0, answered-first who t es rest us gs hs first.1 behind)
+counts-first : (line : List ControllerState) (t : Trip) (es rest : List Entry) (us : List Trip)
+    (gs hs : List DatagramRecord) → CountsWhole es (returned t line) gs → CountsBy line rest us hs
+    → CountsBy line (es ++ rest) (map (λ (e : Entry). t) es ++ us) (gs ++ hs)
+counts-first line t [] rest us [] hs first behind = behind
+counts-first line t [] rest us (g ∷ gs) hs first behind = absurd first
+counts-first line t (e ∷ es) rest us [] hs first behind = absurd first
+counts-first line t (e ∷ es) rest us (g ∷ gs) hs first behind =
+    (first.0, counts-first line t es rest us gs hs first.1 behind)
 
 -- the entries of trips, end to end
 abbrev pub entries_carried : List Trip → List Entry
 entries_carried ts = concat (map (λ (t : Trip). t.entries) ts)
 
-pub answered-each : (who : Trip → List ControllerState) (ts : List Trip) (joined : List (List DatagramRecord))
-    → AnsweredTrips ts who joined → AnsweredBy who (entries_carried ts) (carriers ts) (concat joined)
+pub counts-each : (line : List ControllerState) (ts : List Trip) (joined : List (List DatagramRecord))
+    → CountsReturned ts line joined → CountsBy line (entries_carried ts) (carriers ts) (concat joined)
 unfolding carriers
-answered-each who [] [] answered = tt
-answered-each who [] (g ∷ gs) answered = absurd answered
-answered-each who (t ∷ ts) [] answered = absurd answered
-answered-each who (t ∷ ts) (g ∷ gs) answered =
-    answered-first who t t.entries (entries_carried ts) (carriers ts) g (concat gs) answered.0
-    (answered-each who ts gs answered.1)
+counts-each line [] [] counts = tt
+counts-each line [] (g ∷ gs) counts = absurd counts
+counts-each line (t ∷ ts) [] counts = absurd counts
+counts-each line (t ∷ ts) (g ∷ gs) counts =
+    counts-first line t t.entries (entries_carried ts) (carriers ts) g (concat gs) counts.0
+    (counts-each line ts gs counts.1)
+
+-- the counters of answers
+counts-answered : (es : List Entry) (xs : List ControllerState) (gs : List DatagramRecord)
+    → AnsweredFrame es xs gs → CountsWhole es xs gs
+counts-answered [] xs [] answered = tt
+counts-answered [] xs (g ∷ gs) answered = absurd answered
+counts-answered (e ∷ es) xs [] answered = absurd answered
+counts-answered (e ∷ es) xs (g ∷ gs) answered = (answered.0.counter, counts-answered es xs gs answered.1)
+
+pub counts-returned : (ts : List Trip) (line : List ControllerState) (joined : List (List DatagramRecord))
+    → AnsweredTrips ts (λ t. returned t line) joined → CountsReturned ts line joined
+counts-returned [] line [] answered = tt
+counts-returned [] line (g ∷ gs) answered = absurd answered
+counts-returned (t ∷ ts) line [] answered = absurd answered
+counts-returned (t ∷ ts) line (g ∷ gs) answered =
+    (counts-answered t.entries (returned t line) g answered.0, counts-returned ts line gs answered.1)
 
 -- ---- counts
 
@@ -93,11 +113,10 @@ length-returned t xs =
     omega (arith, both, a, b, length-take t.front xs, length-drop t.back xs)
 
 -- a counter has moved by the count
-pub count-moved : (r : ItemRecord) (j : ℕ) (t : Trip) (line : List ControllerState) (g : DatagramRecord)
-    → length line ≤ 256 → IsItem r → Answered (request_of r) (returned t line) (datagram_of r j) g
-    → distance r.counter g.counter ≡ count_of r t line
-count-moved r j t line g room item answered =
-    let counted : g.counter ≡ (r.counter + count_of r t line) % 65536 = answered.counter in
+pub count-moved : (r : ItemRecord) (t : Trip) (line : List ControllerState) (counter : ℕ)
+    → length line ≤ 256 → IsItem r → counter ≡ (r.counter + count_of r t line) % 65536
+    → distance r.counter counter ≡ count_of r t line
+count-moved r t line counter room item counted =
     let bound : count_of r t line ≤ 3 * length (returned t line) =
     sum_bound (request_of r) (returned t line) in
     let size = length-returned t line in
@@ -114,23 +133,23 @@ expected-whole r line room =
 
 verdict-counts-from : (j k : ℕ) (items : List ItemRecord) (us : List Trip) (gs : List DatagramRecord)
     (line : List ControllerState) → length line ≤ 256 → AllByRecursion IsItem items
-    → AnsweredBy (λ t. returned t line) (entries_from j items) us gs
+    → CountsBy line (entries_from j items) us gs
     → verdict_from k items gs (map (expected_of line) items) ≡ counts_from k items us line
 unfolding verdict_from counts_from entries_from
-verdict-counts-from j k [] us gs line room items answered = refl
-verdict-counts-from j k (r ∷ rs) [] gs line room items answered = absurd answered
-verdict-counts-from j k (r ∷ rs) (u ∷ us) [] line room items answered = absurd answered
-verdict-counts-from j k (r ∷ rs) (u ∷ us) (g ∷ gs) line room items answered =
+verdict-counts-from j k [] us gs line room items counts = refl
+verdict-counts-from j k (r ∷ rs) [] gs line room items counts = absurd counts
+verdict-counts-from j k (r ∷ rs) (u ∷ us) [] line room items counts = absurd counts
+verdict-counts-from j k (r ∷ rs) (u ∷ us) (g ∷ gs) line room items counts =
     let m : ℕ = distance r.counter g.counter in
     let e : ℕ = expected_of line r in
     let count : ℕ = count_of r u line in
     let whole : ℕ = whole_count r line in
     let rest : Verdict = verdict_from (suc k) rs gs (map (expected_of line) rs) in
     let V : ℕ → ℕ → Verdict → Verdict = λ a b v. cond (eqb a b) v (cond (ltb a b) (Short k) (Over k)) in
-    ap (λ (a : ℕ). V a e rest) (count-moved r j u line g room items.0 answered.0)
+    ap (λ (a : ℕ). V a e rest) (count-moved r u line g.counter room items.0 counts.0)
     ∙ ap (λ (b : ℕ). V count b rest) (expected-whole r line room)
     ∙ ap (λ (v : Verdict). V count whole v)
-    (verdict-counts-from (suc j) (suc k) rs us gs line room items.1 answered.1)
+    (verdict-counts-from (suc j) (suc k) rs us gs line room items.1 counts.1)
 
 -- the entries of a work's trips
 pub entries_under : (ws : List Weather) (r : RingState) (items : List ItemRecord)
@@ -152,18 +171,32 @@ returned_answers ws r items accepted are_items =
 pub line_room : (r : RingState) → length r.slaves ≤ 256 → length (line_of r) ≤ 256
 line_room r room = omega (arith, length-controllers r.slaves, room)
 
+-- the verdict on frames whose counters have moved so is that by counts
+pub verdict-moved : (ws : List Weather) (r : RingState) (items : List ItemRecord)
+    (joined : List (List DatagramRecord)) → length r.slaves ≤ 256 → AllByRecursion IsItem items
+    → CountsReturned (trips_under ws r items) (line_of r) joined
+    → verdict items (concat joined) (map (expected_of (line_of r)) items)
+    ≡ verdict_by_counts (trips_under ws r items) items (line_of r)
+verdict-moved ws r items joined room are_items counts =
+    let line : List ControllerState = line_of r in
+    let ts : List Trip = trips_under ws r items in
+    verdict-counts-from 0 0 items (carriers ts) (concat joined) line (line_room r room) are_items
+    (subst (λ (es : List Entry). CountsBy line es (carriers ts) (concat joined)) (entries_under ws r items)
+    (counts-each line ts joined counts))
+
+returned_counts : (ws : List Weather) (r : RingState) (items : List ItemRecord)
+    → IsAccepted r.slaves items → AllByRecursion IsItem items
+    → CountsReturned (trips_under ws r items) (line_of r) (run_under ws r items).joined
+returned_counts ws r items accepted are_items =
+    counts-returned (trips_under ws r items) (line_of r) (run_under ws r items).joined
+    (returned_answers ws r items accepted are_items)
+
 pub verdict-counts : (ws : List Weather) (r : RingState) (items : List ItemRecord) → length r.slaves ≤ 256
     → IsAccepted r.slaves items → AllByRecursion IsItem items
     → verdict_under ws r items ≡ verdict_by_counts (trips_under ws r items) items (line_of r)
 verdict-counts ws r items room accepted are_items =
-    let line : List ControllerState = line_of r in
-    let ts : List Trip = trips_under ws r items in
-    let who : Trip → List ControllerState = λ t. returned t line in
-    let gs : List DatagramRecord = answers_under ws r items in
-    let each : AnsweredBy who (entries_carried ts) (carriers ts) gs =
-    answered-each who ts (run_under ws r items).joined (returned_answers ws r items accepted are_items) in
-    verdict-counts-from 0 0 items (carriers ts) gs line (line_room r room) are_items
-    (subst (λ (es : List Entry). AnsweredBy who es (carriers ts) gs) (entries_under ws r items) each)
+    verdict-moved ws r items (run_under ws r items).joined room are_items
+    (returned_counts ws r items accepted are_items)
 
 -- ---- a good verdict
 
@@ -184,20 +217,20 @@ good-step false false v k good = absurd (cc)
 
 good-equal : (j k : ℕ) (items : List ItemRecord) (us : List Trip) (gs : List DatagramRecord)
     (line : List ControllerState) → AllByRecursion IsItem items
-    → AnsweredBy (λ t. returned t line) (entries_from j items) us gs → counts_from k items us line ≡ Good
+    → CountsBy line (entries_from j items) us gs → counts_from k items us line ≡ Good
     → EqualBy line (entries_from j items) us
 unfolding counts_from entries_from
-good-equal j k [] [] gs line items answered good = tt
-good-equal j k [] (u ∷ us) gs line items answered good = absurd answered
-good-equal j k (r ∷ rs) [] gs line items answered good = absurd answered
-good-equal j k (r ∷ rs) (u ∷ us) [] line items answered good = absurd answered
-good-equal j k (r ∷ rs) (u ∷ us) (g ∷ gs) line items answered good =
+good-equal j k [] [] gs line items counts good = tt
+good-equal j k [] (u ∷ us) gs line items counts good = absurd counts
+good-equal j k (r ∷ rs) [] gs line items counts good = absurd counts
+good-equal j k (r ∷ rs) (u ∷ us) [] line items counts good = absurd counts
+good-equal j k (r ∷ rs) (u ∷ us) (g ∷ gs) line items counts good =
     let count : ℕ = count_of r u line in
     let whole : ℕ = whole_count r line in
     let step = good-step (eqb count whole) (ltb count whole) (counts_from (suc k) rs us line) k good in
     let same : count ≡ whole = eqb-true count whole step.0 in (
       same,
-      good-equal (suc j) (suc k) rs us gs line items.1 answered.1 step.1,
+      good-equal (suc j) (suc k) rs us gs line items.1 counts.1 step.1,
     )
 
 equal-split : (line : List ControllerState) (t : Trip) (es rest : List Entry) (us : List Trip)
@@ -216,46 +249,51 @@ equal-trips line (t ∷ ts) equal =
     (parts.0, equal-trips line ts parts.1)
 
 counts-frame : (line : List ControllerState) (t : Trip) (es : List Entry) (gs : List DatagramRecord)
-    → AnsweredFrame es (returned t line) gs → AllByRecursion (λ e. CountsEqual line e t) es
+    → CountsWhole es (returned t line) gs → AllByRecursion (λ e. CountsEqual line e t) es
     → CountsWhole es line gs
-counts-frame line t [] [] answered equal = tt
-counts-frame line t [] (g ∷ gs) answered equal = absurd answered
-counts-frame line t (e ∷ es) [] answered equal = absurd answered
-counts-frame line t (e ∷ es) (g ∷ gs) answered equal = (
-  answered.0.counter ∙ ap (λ (n : ℕ). (e.sent.counter + n) % 65536) equal.0,
-  counts-frame line t es gs answered.1 equal.1,
+counts-frame line t [] [] counts equal = tt
+counts-frame line t [] (g ∷ gs) counts equal = absurd counts
+counts-frame line t (e ∷ es) [] counts equal = absurd counts
+counts-frame line t (e ∷ es) (g ∷ gs) counts equal = (
+  counts.0 ∙ ap (λ (n : ℕ). (e.sent.counter + n) % 65536) equal.0,
+  counts-frame line t es gs counts.1 equal.1,
 )
 
 counts-trips : (line : List ControllerState) (ts : List Trip) (joined : List (List DatagramRecord))
-    → AnsweredTrips ts (λ t. returned t line) joined
+    → CountsReturned ts line joined
     → AllByRecursion (λ t. AllByRecursion (λ e. CountsEqual line e t) t.entries) ts
     → CountsWholeAll ts line joined
-counts-trips line [] [] answered equal = tt
-counts-trips line [] (g ∷ gs) answered equal = absurd answered
-counts-trips line (t ∷ ts) [] answered equal = absurd answered
-counts-trips line (t ∷ ts) (g ∷ gs) answered equal =
-    (counts-frame line t t.entries g answered.0 equal.0, counts-trips line ts gs answered.1 equal.1)
+counts-trips line [] [] counts equal = tt
+counts-trips line [] (g ∷ gs) counts equal = absurd counts
+counts-trips line (t ∷ ts) [] counts equal = absurd counts
+counts-trips line (t ∷ ts) (g ∷ gs) counts equal =
+    (counts-frame line t t.entries g counts.0 equal.0, counts-trips line ts gs counts.1 equal.1)
 
--- where the verdict is good the counters have moved as the whole line counts
+-- where the verdict by counts is good the counters have moved as the whole line counts
+pub good_moved : (ws : List Weather) (r : RingState) (items : List ItemRecord)
+    (joined : List (List DatagramRecord)) → AllByRecursion IsItem items
+    → CountsReturned (trips_under ws r items) (line_of r) joined
+    → verdict_by_counts (trips_under ws r items) items (line_of r) ≡ Good
+    → CountsWholeAll (trips_under ws r items) (line_of r) joined
+good_moved ws r items joined are_items counts good =
+    let line : List ControllerState = line_of r in
+    let ts : List Trip = trips_under ws r items in
+    let gs : List DatagramRecord = concat joined in
+    let each : CountsBy line (entries_from 0 items) (carriers ts) gs =
+    subst (λ (es : List Entry). CountsBy line es (carriers ts) gs) (entries_under ws r items)
+    (counts-each line ts joined counts) in
+    let equal : EqualBy line (entries_carried ts) (carriers ts) =
+    subst (λ (es : List Entry). EqualBy line es (carriers ts)) (sym (entries_under ws r items))
+    (good-equal 0 0 items (carriers ts) gs line are_items each good) in
+    counts-trips line ts joined counts (equal-trips line ts equal)
+
 pub good_counts : (ws : List Weather) (r : RingState) (items : List ItemRecord) → length r.slaves ≤ 256
     → IsAccepted r.slaves items → AllByRecursion IsItem items → verdict_under ws r items ≡ Good
     → CountsWholeAll (trips_under ws r items) (line_of r) (run_under ws r items).joined
 good_counts ws r items room accepted are_items good =
-    let line : List ControllerState = line_of r in
-    let ts : List Trip = trips_under ws r items in
-    let who : Trip → List ControllerState = λ t. returned t line in
-    let gs : List DatagramRecord = answers_under ws r items in
-    let joined : List (List DatagramRecord) = (run_under ws r items).joined in
-    let answered : AnsweredTrips ts who joined = returned_answers ws r items accepted are_items in
-    let each : AnsweredBy who (entries_from 0 items) (carriers ts) gs =
-    subst (λ (es : List Entry). AnsweredBy who es (carriers ts) gs) (entries_under ws r items)
-    (answered-each who ts joined answered) in
-    let counts : verdict_by_counts ts items line ≡ Good =
-    sym (verdict-counts ws r items room accepted are_items) ∙ good in
-    let equal : EqualBy line (entries_carried ts) (carriers ts) =
-    subst (λ (es : List Entry). EqualBy line es (carriers ts)) (sym (entries_under ws r items))
-    (good-equal 0 0 items (carriers ts) gs line are_items each counts) in
-    counts-trips line ts joined answered (equal-trips line ts equal)
+    good_moved ws r items (run_under ws r items).joined are_items
+    (returned_counts ws r items accepted are_items)
+    (sym (verdict-counts ws r items room accepted are_items) ∙ good)
 
 -- ---- at most one link down, and nothing lost
 
@@ -347,12 +385,11 @@ once-good k (r ∷ rs) (u ∷ us) line once =
     (eq-eqb count whole same)
     ∙ once-good (suc k) rs us line once.1
 
--- so the verdict is good
-pub one_down_good : (ws : List Weather) (r : RingState) (items : List ItemRecord) → length r.slaves ≤ 256
-    → IsAccepted r.slaves items → AllByRecursion IsItem items
+-- so the verdict by counts is good
+pub one_down_counts : (ws : List Weather) (r : RingState) (items : List ItemRecord)
     → AllByRecursion (IsOneDown (length r.slaves)) (weathers_under ws r items)
-    → verdict_under ws r items ≡ Good
-one_down_good ws r items room accepted are_items down =
+    → verdict_by_counts (trips_under ws r items) items (line_of r) ≡ Good
+one_down_counts ws r items down =
     let line : List ControllerState = line_of r in
     let size : length r.slaves ≡ length line = sym (length-controllers r.slaves) in
     let ts : List Trip = trips_under ws r items in
@@ -362,5 +399,11 @@ one_down_good ws r items room accepted are_items down =
     let under : AllByRecursion (PassesOnce line) ts =
     subst (λ (n : ℕ). AllByRecursion (PassesOnce line) (trips_of ws r.links n (frames_of items))) (sym size)
     once in
-    verdict-counts ws r items room accepted are_items
-    ∙ once-good 0 items (carriers ts) line (carriers-each (PassesOnce line) ts under)
+    once-good 0 items (carriers ts) line (carriers-each (PassesOnce line) ts under)
+
+pub one_down_good : (ws : List Weather) (r : RingState) (items : List ItemRecord) → length r.slaves ≤ 256
+    → IsAccepted r.slaves items → AllByRecursion IsItem items
+    → AllByRecursion (IsOneDown (length r.slaves)) (weathers_under ws r items)
+    → verdict_under ws r items ≡ Good
+one_down_good ws r items room accepted are_items down =
+    verdict-counts ws r items room accepted are_items ∙ one_down_counts ws r items down

@@ -17,7 +17,8 @@ use Rattle.ec_ring.specs.declared.weather.Came.{Came}
 use Rattle.ec_ring.specs.declared.weather.Weather.{Weather}
 use Rattle.ec_ring.proofs.Laws.{length-controllers}
 use Rattle.ec_master.specs.Cut.{frames_of}
-use Rattle.ec_master.specs.Suffice.{AllThatCame, Brings, GivenBy, AllGivenBy}
+use Rattle.ec_master.specs.Given.{AllThatCame}
+use Rattle.ec_master.specs.Suffice.{Brings, GivenBy, AllGivenBy}
 use Rattle.ec_master.specs.Travelled.{trips_of}
 use Rattle.ec_master.specs.WeatherTrips.{InWeather, WeatherTrips, next_weather, behind_next}
 use Rattle.ec_master.proofs.CarryLemmas.{travelled-frame}

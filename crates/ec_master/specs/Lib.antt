@@ -7,7 +7,9 @@ pub mod Verdict
 pub mod Certificate
 pub mod Checked
 pub mod Ports
+pub mod Given
 pub mod Suffice
+pub mod Moments
 pub mod RingTrips
 pub mod Again
 pub mod Rounds

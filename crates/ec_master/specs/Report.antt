@@ -16,7 +16,8 @@ use Rattle.ec_ring.specs.declared.weather.Weather.{Weather}
 use Rattle.ec_master.specs.Certificate.{carriers, count_of}
 use Rattle.ec_master.specs.Cut.{frames_of}
 use Rattle.ec_master.specs.Ports.{came_or, Trips, IsPortCycle}
-use Rattle.ec_master.specs.Suffice.{AllThatCame, Brings, in_turn, AllGivenBy, SaysOfEach}
+use Rattle.ec_master.specs.Given.{AllThatCame, in_turn}
+use Rattle.ec_master.specs.Suffice.{Brings, AllGivenBy, SaysOfEach}
 use Rattle.ec_master.specs.Travelled.{trips_under}
 use Rattle.ec_master.specs.Unordered.{IsAccepted}
 use Rattle.ec_master.specs.declared.cycle.CycleFault.{CycleFault}

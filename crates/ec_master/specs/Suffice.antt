@@ -1,7 +1,6 @@
 -- Of ports only what came back of each frame counts: where it is what a ring's trips give, the end of a cycle
 -- says of that ring all that a cycle over the ring says.
-use Rattle.std.specs.Prelude.{◌≡◌, ◌≢◌, ◌≤◌, ◌<◌, ◌+◌, ◌⊎◌, ℕ, List, [], ◌∷◌, length, map, Result, Ok}
-use Rattle.std.specs.Prelude.{Err, Some}
+use Rattle.std.specs.Prelude.{◌≡◌, ◌≢◌, ◌≤◌, ◌<◌, ◌+◌, ℕ, List, [], ◌∷◌, length, map, Result, Ok, Some}
 use Rattle.std.specs.List.{AllByRecursion}
 use Rattle.ec_wire.specs.Datagram.{DatagramRecord}
 use Rattle.ec_regs.specs.declared.registers.TheConstants.{PROCESS_MEMORY, PROCESS_MEMORY_SIZE}
@@ -13,13 +12,14 @@ use Rattle.ec_line.specs.Trip.{Trip, passed}
 use Rattle.ec_map.specs.Item.{ItemRecord, IsItem}
 use Rattle.ec_map.specs.Share.{expected_of}
 use Rattle.ec_ring.specs.Ring.{RingState, line_of}
-use Rattle.ec_ring.specs.Travel.{as_trip}
 use Rattle.ec_ring.specs.declared.links.TheConstants.{MAX_SLAVES}
 use Rattle.ec_ring.specs.declared.weather.Came.{Came}
 use Rattle.ec_ring.specs.declared.weather.Weather.{Weather}
 use Rattle.ec_master.specs.Again.{AskTheSame}
 use Rattle.ec_master.specs.Certificate.{verdict_by_counts, memory_at, shown_at}
 use Rattle.ec_master.specs.Cut.{frames_of}
+use Rattle.ec_master.specs.Given.{AllThatCame, in_turn, Gives}
+use Rattle.ec_master.specs.Moments.{SaysOfEachMoving}
 use Rattle.ec_master.specs.Ports.{Trips, IsPortCycle}
 use Rattle.ec_master.specs.Rounds.{round_counter, AreRecent, AreOfRound}
 use Rattle.ec_master.specs.Travelled.{trips_under, ring_under}
@@ -31,10 +31,6 @@ use Rattle.ec_master.specs.declared.verdict.Verdict.TheVariants.{Good}
 
 -- ---- what came back
 
--- what came back of each frame that went out, one after the other
-abbrev pub AllThatCame : Type 0
-AllThatCame = List (Result Came PortFault)
-
 -- frames go out from these ports on, and this comes back of them; the last ones may not have gone out
 unfoldable pub Brings : {P : Type 0} → Trips P → P → List (List DatagramRecord) → AllThatCame → P → Type 0
 Brings trips before sent [] later = later ≡ before
@@ -42,21 +38,11 @@ Brings trips before [] (came ∷ more) later = ⊥
 Brings {P} trips before (sent ∷ rest) (came ∷ more) later =
     (between : P) × trips before sent came between × Brings trips between rest more later
 
--- the trips of no port at all: each gives what is next of all that came
-abbrev pub in_turn : Trips AllThatCame
-in_turn before sent came later = before ≡ came ∷ later
-
 -- ---- what a ring gives
-
--- the copies in the other places
-abbrev pub exchanged : Came → Came
-exchanged came = record { a = came.b; b = came.a }
 
 -- the trip over a line gives these copies, in either place
 abbrev pub GivenBy : Trip → List ControllerState → Result Came PortFault → Type 0
-GivenBy t line (Err failed) = ⊥
-GivenBy t line (Ok came) =
-    let gives = (as_trip t (passed t line)).came in (came ≡ gives) ⊎ (came ≡ exchanged gives)
+GivenBy t line came = Gives t (passed t line) came
 
 -- each trip over the line, as those before left it, gives what came; the last ones may not have been made
 unfoldable pub AllGivenBy : List Trip → List ControllerState → AllThatCame → Type 0
@@ -98,9 +84,9 @@ SaysOfEach items expected came result items_later =
     → expected ≡ map (expected_of (line_of r)) items → AllGivenBy (trips_under ws r items) (line_of r) came
     → SaysOf ws r items result items_later
 
--- the cycle over ports is that of what its trips brought, and says so of each such ring. Where the items
--- began a round and every copy is of that round or of one of the fifteen before it, a good verdict rests on
--- none of these
+-- the cycle over ports is that of what its trips brought, and says so of each such ring, whether it is still
+-- or moves while the frames travel. Where the items began a round and every copy is of that round or of one
+-- of the fifteen before it, a good verdict rests on none of these
 pub record FramesSuffice {P : Type 0} (trips : Trips P) (before : P) (items : List ItemRecord)
     (expected : List ℕ) (result : Result Verdict CycleFault) (items_later : List ItemRecord) (later : P)
     : Type 0 where
@@ -108,6 +94,7 @@ pub record FramesSuffice {P : Type 0} (trips : Trips P) (before : P) (items : Li
   pub brought : Brings trips before (map sent_of (frames_of items)) came later
   pub cycle : IsPortCycle in_turn came items expected result items_later []
   pub says : SaysOfEach items expected came result items_later
+  pub says_moving : SaysOfEachMoving items expected came result items_later
   pub this_round : (k : ℕ) → result ≡ Ok Good
       → AllByRecursion (λ (r : ItemRecord). r.counter ≡ round_counter k) items
       → AllByRecursion (λ (e : ℕ). e < 4096) expected → AllByRecursion (AreRecent k) came

@@ -25,7 +25,8 @@ ghost use Rattle.ec_master.specs.Certificate.{verdict_under, verdict_by_counts, 
 ghost use Rattle.ec_master.specs.Certificate.{memory_at, application_at, shown_at};
 ghost use Rattle.ec_master.specs.Cut.{frames_of};
 ghost use Rattle.ec_master.specs.Ports.{IsPortCycle};
-ghost use Rattle.ec_master.specs.Suffice.{AllThatCame, AllGivenBy, Brings, in_turn, SaysOfEach};
+ghost use Rattle.ec_master.specs.Given.{AllThatCame, in_turn};
+ghost use Rattle.ec_master.specs.Suffice.{AllGivenBy, Brings, SaysOfEach};
 ghost use Rattle.ec_master.specs.WeatherTrips.{InWeather, WeatherTrips};
 ghost use Rattle.ec_line.specs.Answered.{sent_of};
 ghost use Rattle.ec_master.specs.Travelled.{trips_under, answers_under, ring_under, weathers_under};

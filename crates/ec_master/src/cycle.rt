@@ -87,7 +87,8 @@ pub fn run_cycle_in<P: Ports>(
 /// without a verdict. It is handed no allocator, so it takes no memory but what the ports' own calls take.
 ///
 /// Nothing else is known of what came; but of each ring that would have given it, all is known that a cycle
-/// over the ring says, memories included (`frames_suffice`). Where each cycle begins its round
+/// over the ring says, memories included, and of each whose applications act meanwhile what
+/// `good_at_one_moment` says (`frames_suffice`). Where each cycle begins its round
 /// (`Work::begin_round`), each counter is expected below 4,096, and no copy is late by more than fifteen
 /// rounds or gained more than 1,023, a good verdict rests on no late copy (`this_round` of `frames_suffice`).
 pub fn run_cycle<P: Ports>(

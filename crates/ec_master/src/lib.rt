@@ -43,7 +43,7 @@
 //!
 //! Inside, `work` is what a master asks, and what answers give it; `cut` the frames that a work goes out in;
 //! `ring`, `weather` and `cycle` the three cycles; `ports` what the third goes out over; `verdict` what the
-//! counters say; `promises`, `certificate` and `between` laws over any ring and weathers.
+//! counters say; `promises`, `certificate`, `moments` and `between` laws over any ring and weathers.
 //!
 //! What the contracts speak of stands in specs/: the cycle in no order (`Unordered`), what comes back of
 //! frames (`Travelled`), what counters say (`Verdict`, `Certificate`), what frames alone say (`Suffice`), and
@@ -56,6 +56,7 @@ mod checked;
 pub mod covered;
 mod cut;
 mod cycle;
+pub mod moments;
 mod ports;
 pub mod promises;
 mod report;

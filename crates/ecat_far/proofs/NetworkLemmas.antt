@@ -30,7 +30,8 @@ use Rattle.ec_seal.specs.Opened.{opened_sealed, sealed_trip}
 use Rattle.ec_seal.specs.declared.seals.TheConstants.{TRIPS}
 use Rattle.ec_seal.proofs.Laws.{brings_own, line_behind}
 use Rattle.ec_master.specs.Cut.{entries_from, fits_frame, cut_onto, cut, frames_of}
-use Rattle.ec_master.specs.Suffice.{AllThatCame, Brings, exchanged, GivenBy, AllGivenBy}
+use Rattle.ec_master.specs.Given.{AllThatCame, exchanged}
+use Rattle.ec_master.specs.Suffice.{Brings, GivenBy, AllGivenBy}
 use Rattle.ec_master.specs.Suffice.{SaysOfEach}
 use Rattle.ec_master.specs.Travelled.{trips_of}
 use Rattle.ec_master.specs.Unordered.{IsAccepted}

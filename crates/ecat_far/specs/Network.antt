@@ -14,7 +14,8 @@ use Rattle.ec_ring.specs.declared.weather.Weather.{Weather}
 use Rattle.ec_seal.specs.Opened.{sealed_trip}
 use Rattle.ec_seal.specs.declared.seals.TheConstants.{TRIPS}
 use Rattle.ec_master.specs.Cut.{frames_of}
-use Rattle.ec_master.specs.Suffice.{AllThatCame, AllGivenBy, SaysOf}
+use Rattle.ec_master.specs.Given.{AllThatCame}
+use Rattle.ec_master.specs.Suffice.{AllGivenBy, SaysOf}
 use Rattle.ec_master.specs.Travelled.{trips_under, run_under, ring_under}
 use Rattle.ec_master.specs.declared.cycle.CycleFault.{CycleFault}
 use Rattle.ec_master.specs.declared.verdict.Verdict.{Verdict}

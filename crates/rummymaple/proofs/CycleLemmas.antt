@@ -14,7 +14,7 @@ use Rattle.ec_map.specs.Item.{ItemRecord}
 use Rattle.ec_ring.specs.declared.weather.Came.{Came}
 use Rattle.ec_master.specs.Cut.{concat, entry_of, entries_from, fits_frame, filled, cut_onto, cut, frame_at}
 use Rattle.ec_master.specs.Ports.{Sends, IsPortCycle, taken_on}
-use Rattle.ec_master.specs.Suffice.{in_turn}
+use Rattle.ec_master.specs.Given.{in_turn}
 use Rattle.ec_master.specs.Verdict.{verdict, verdict_from}
 use Rattle.ec_master.specs.Work.{with_answers, no_item}
 use Rattle.ec_master.specs.declared.verdict.Verdict.{Verdict}

@@ -8,7 +8,7 @@ use Rattle.ec_map.specs.Item.{ItemRecord}
 use Rattle.ec_ring.specs.declared.weather.Came.{Came}
 use Rattle.ec_master.specs.Cut.{frame_at}
 use Rattle.ec_master.specs.Ports.{came_or}
-use Rattle.ec_master.specs.Suffice.{AllThatCame}
+use Rattle.ec_master.specs.Given.{AllThatCame}
 use Rattle.ec_master.specs.declared.verdict.Verdict.TheVariants.{Good}
 use Rattle.rummymaple.specs.Answers.{verdict_on}
 use Rattle.rummymaple.specs.declared.item.Item.{Item}

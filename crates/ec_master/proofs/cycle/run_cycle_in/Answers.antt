@@ -1,7 +1,7 @@
 use Rattle.std.proofs.Common.{◌∙◌, ap, length, Ok, Err, rules}
 use Rattle.ec_master.specs.Cut.{concat}
 use Rattle.ec_master.proofs.WorkLemmas.{length-with_answers}
-use Rattle.ec_master.proofs.SufficeLemmas.{cycle-suffices}
+use Rattle.ec_master.proofs.BroughtLemmas.{cycle-suffices}
 use Rattle.ec_master.proofs.cycle.run_cycle_in.Goals as goal
 
 pub conclude-requires-clause-taken : goal.conclude-requires-clause-taken
