@@ -827,6 +827,7 @@ def a_word_that_counts_is_never_torn(stage):
     rises = {(later - before) % 65536 for a, b in zip(rows, rows[1:]) for before, later in zip(a, b)}
     yield "rises", "True", str(rises <= {1, 2, 3, 4})
     yield "apart", "True", str(all((a - b) % 65536 in (0, 1, 2, 65534, 65535) for a, b in rows))
+    yield "two moments", "True", str(any(a != b for a, b in rows))
     yield "high bytes", "True", str(len({a // 256 for a, _ in rows}) > 8)
 
 
