@@ -1615,6 +1615,16 @@ def lost_copies_are_asked_for_again_at_the_start(stage):
         yield "start", STARTED, "".join(end.splitlines(True)[:7])
 
 
+def two_short_cycles(fifth, sixth):
+    """What a master prints of ten cycles, of which the fifth and the sixth are told so."""
+    return STARTED + (
+        f"cycle 5: item 0: {fifth}\n"
+        "cycle 6: other than before, which lasted 1 cycles\n"
+        f"cycle 6: item 0: {sixth}\n"
+        "cycle 7: good again after 1 cycles\n"
+    ) + LEFT + "cycles 10 good 8 short 2 over 0 fault 0 not-in-op 0\ncycle time N\n" + ITEMS + "0\n"
+
+
 @case
 def a_look_that_found_something_new_is_made_again(stage):
     """A link is down while the cable is looked at behind a cycle that lost a copy, and in no cycle. The next
@@ -1629,13 +1639,8 @@ def a_look_that_found_something_new_is_made_again(stage):
             command(line, commands[place])
 
     with master_behind(stage, 10, *PATIENCE, gives=gives, begins=begins) as (line, between, master):
-        wanted = STARTED + (
-            "cycle 5: item 0: came 0 of 9; link 1 down: between slave 0 (0x1001) and slave 1 (0x1002)\n"
-            "cycle 6: other than before, which lasted 1 cycles\n"
-            "cycle 6: item 0: came 0 of 9; ring whole\n"
-            "cycle 7: good again after 1 cycles\n"
-        )
-        wanted += LEFT + "cycles 10 good 8 short 2 over 0 fault 0 not-in-op 0\ncycle time N\n" + ITEMS + "0\n"
+        fifth = "came 0 of 9; link 1 down: between slave 0 (0x1001) and slave 1 (0x1002)"
+        wanted = two_short_cycles(fifth, "came 0 of 9; ring whole")
         yield "master", wanted, timed(between.until_the_end_of(master))
 
 
@@ -1652,13 +1657,7 @@ def another_count_is_told_though_the_cable_is_the_same(stage):
         return [(leaves, packet[:15] + counter.to_bytes(2, "little") + packet[17:])]
 
     with master_behind(stage, 10, *PATIENCE, gives=gives) as (_line, between, master):
-        wanted = STARTED + (
-            "cycle 5: item 0: came 6 of 9; ring whole\n"
-            "cycle 6: other than before, which lasted 1 cycles\n"
-            "cycle 6: item 0: came 3 of 9; ring whole\n"
-            "cycle 7: good again after 1 cycles\n"
-        )
-        wanted += LEFT + "cycles 10 good 8 short 2 over 0 fault 0 not-in-op 0\ncycle time N\n" + ITEMS + "0\n"
+        wanted = two_short_cycles("came 6 of 9; ring whole", "came 3 of 9; ring whole")
         yield "master", wanted, timed(between.until_the_end_of(master))
 
 

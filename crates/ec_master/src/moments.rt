@@ -38,8 +38,8 @@ ghost use Rattle.ec_master.specs.declared.verdict.Verdict.TheVariants.{Good};
 ///   it was then. A slave that counts an item was passed by exactly one of the copies that came back. Between
 ///   two slaves, and between two frames, the moments may differ;
 /// - `outputs`: on a good one each bit that an accepted request writes is afterwards the one sent last;
-/// - `shown`: and so it is shown to the application, where in each frame the last entry that shows its byte is
-///   the last that writes it;
+/// - `shown`: and so it is shown to the application, where in each frame the last entry that shows its byte
+///   is the last that writes it;
 /// - `again`, `still_expected`: on every verdict the ring as it then is accepts items that ask the same, and
 ///   the same is expected of their counters, so that cycle may follow cycle;
 /// - `over_ports`: what is said of ports by what came back (`run_cycle`) is said so of each such ring that

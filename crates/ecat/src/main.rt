@@ -355,8 +355,8 @@ where
     }
 }
 
-/// Opens a capture, and tells the ways of its packets: of a plain file, which is opened twice, by all of them,
-/// and else by the first ones; or tells why not, and answers the exit status.
+/// Opens a capture, and tells the ways of its packets: of a plain file, which is opened twice, by all of
+/// them, and else by the first ones; or tells why not, and answers the exit status.
 fn frames_at<R, W, V>(
     rt: &R,
     file: &str,

@@ -1,7 +1,8 @@
 -- Which commands have a way of their own: they take their source whole, or go over packets.
 use Rattle.std.specs.Prelude.{Bool, true, false}
 use Rattle.ecat_args.specs.declared.args.Args.{Args}
-use Rattle.ecat_args.specs.declared.args.Args.TheVariants.{List as Lists, Learn, Judge, Udp, Serve, Master, Scan}
+use Rattle.ecat_args.specs.declared.args.Args.TheVariants.{List as Lists, Learn, Judge}
+use Rattle.ecat_args.specs.declared.args.Args.TheVariants.{Udp, Serve, Master, Scan}
 
 -- is the command `list`, `learn` or `judge`, or does it speak with a line over packets whatever its words say
 abbrev pub has_a_way_of_its_own : Args → Bool

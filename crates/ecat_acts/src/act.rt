@@ -14,9 +14,9 @@ use ecat_tape::unrecorded;
 use std::alloc::Global;
 use std::io::Write;
 
-/// Does a command but `list`, `learn`, `judge` and those that go over packets, whose file is open as `source`, and answers the
-/// exit status. Each command is a function that is not put in line: the frame here would else be as large as
-/// that of the command with the largest works, and each would pay for it.
+/// Does a command but `list`, `learn`, `judge` and those that go over packets, whose file is open as
+/// `source`, and answers the exit status. Each command is a function that is not put in line: the frame here
+/// would else be as large as that of the command with the largest works, and each would pay for it.
 #[inline(never)]
 pub fn act<S, W, V>(alloc: Global, args: &Args<'_>, source: &mut S, out: &mut W, err: &mut V) -> u8
 where

@@ -58,7 +58,7 @@ pub enum Failure {
     At,
     /// More than one form of a listing is asked for.
     Forms,
-    /// A stream is to be judged, and no scene is named: a stream is read once, and its line learned of it all.
+    /// A stream is to be judged, and no scene is named: it is read once, and its line is learned of it all.
     NeedsScene,
     /// Sums by index are asked for, and no sums.
     IndexAlone,

@@ -3,8 +3,8 @@
 //! an input and a clock; and why a command ended, on standard error and as its exit status.
 //!
 //! - [`act`](act::act) does a command that needs its source alone; [`act_list`](listing::act_list) and
-//!   [`act_show`](show::act_show) go through a capture, `learning` tells how `learn` ended, and `judging` judges a
-//!   capture by a scene or by the line that it shows;
+//!   [`act_show`](show::act_show) go through a capture, `learning` tells how `learn` ended, and `judging`
+//!   judges a capture by a scene or by the line that it shows;
 //! - [`over_sockets`](over_sockets::over_sockets) does all others: a master by `mastering` on the `course` of
 //!   its scene, what a line somewhere else is asked by `asking`, a service by `serving`. Ports are opened by
 //!   `far`, `raw` and `udp`, images by `images`, and what is written by `tape`;

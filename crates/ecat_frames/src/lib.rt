@@ -2,7 +2,7 @@
 //! The frames of a capture, each with what trips look at of its packet.
 //!
 //! Which way a packet went hangs on the addresses of all packets (`ecat_trips`). So a file is read twice: the
-//! first reading ([`look`]) gathers the addresses, the second one ([`Frames::of_file`]) gives the frames. Of a
+//! first reading ([`look`]) gathers the addresses, the second ([`Frames::of_file`]) gives the frames. Of a
 //! stream ([`Frames::of_stream`]) the first 4,096 frames are held, and decide. One use:
 //!
 //! ```text

@@ -1,5 +1,6 @@
 pub mod Pairs
 pub mod NumberLemmas
+pub mod LostLemmas
 pub mod BasesLemmas
 pub mod ZippedLemmas
 pub mod SetLemmas

@@ -2,6 +2,7 @@
 
 ghost use Rattle.std.specs.Prelude.{◌≡◌, ◌<◌, [], IfOk, IfSome, remove, position, length};
 
+use crate::alike::first_number;
 use crate::trip::SentFrame;
 use ec_wire::FrameBuf;
 use std::alloc::{AllocError, Global};
@@ -15,6 +16,8 @@ pub const MAX_LOST: usize = 64;
 #[derive(Drop)]
 pub(crate) struct Lost {
     frames: VecDeque<SentFrame>,
+    /// What is told fast of the key of each: numbers that lie together are looked through much sooner.
+    numbers: VecDeque<u64>,
 }
 
 impl Model for Lost {
@@ -27,7 +30,11 @@ impl Model for Lost {
 
     ghost view = { λ l. l.frames.items };
 
-    ghost invariant = { λ l. (MAX_LOST ≤ deque_capacity l.frames) × (length l.frames.items ≤ MAX_LOST) };
+    ghost use Rattle.std.specs.Prelude.{◌≡◌, map};
+    ghost use Rattle.ecat_trips.specs.Lost.{number_of};
+
+    ghost invariant = { λ l. (MAX_LOST ≤ deque_capacity l.frames) × (length l.frames.items ≤ MAX_LOST)
+        × (MAX_LOST ≤ deque_capacity l.numbers) × (l.numbers.items ≡ map number_of l.frames.items) };
 }
 
 impl Lost {
@@ -39,7 +46,8 @@ impl Lost {
         ensures { IfOk result (λ lost. lost ≡ []) }
     {
         let frames = VecDeque::with_capacity(alloc, MAX_LOST)?;
-        Ok(Lost { frames })
+        let numbers = VecDeque::with_capacity(alloc, MAX_LOST)?;
+        Ok(Lost { frames, numbers })
     }
 
     /// Takes the sent frame of a trip that is lost; the oldest one is forgotten.
@@ -48,7 +56,9 @@ impl Lost {
     {
         if self.frames.len() == MAX_LOST {
             let _ = self.frames.pop_back();
+            let _ = self.numbers.pop_back();
         }
+        self.numbers.push_front_reserved(first_number(&sent.frame));
         self.frames.push_front_reserved(sent);
     }
 
@@ -57,7 +67,11 @@ impl Lost {
         ensures value { result ≡ position (bears frame.now) self.now }
         ensures within { IfSome result (λ i. i < length self.now) }
     {
-        self.frames.iter().position(|sent| sent.bears(frame))
+        if self.numbers.contains(&first_number(frame)) {
+            self.frames.iter().position(|sent| sent.bears(frame))
+        } else {
+            None
+        }
     }
 
     /// Forgets the one at a place, since a copy of it came.
@@ -66,5 +80,6 @@ impl Lost {
         ensures { self.new ≡ remove self.old i }
     {
         let _ = self.frames.remove(i);
+        let _ = self.numbers.remove(i);
     }
 }

@@ -124,6 +124,20 @@ fn two_copies_are_one_trip_that_is_back_with_the_second(rt: HostRuntime) {
 }
 
 #[test]
+fn what_a_late_packet_tells_holds_of_all(rt: HostRuntime) {
+    // More are sent in front of the first one that is marked than are held of a file.
+    let mut packets = [copy(0, 0x10, 0); 71];
+    packets[70] = copy(30, 0x12, 3);
+    if let Ok(file) = capture(rt.alloc(), &packets) {
+        let text = "packets 71, first at 2025-06-15T15:06:40.000000Z\n\
+            sent 70, returned 1; told by mark 71\n\
+            LRW 0x00000000 2 bytes: 70 sent, 1 back of wkc 3, 69 lost (first in packet 1, 0.000000)\n\
+            \x20 every 0.000000 0.000000 0.000000 s\n";
+        tallies(&rt, rt.alloc(), false, &file, text);
+    }
+}
+
+#[test]
 fn what_came_back_of_nothing_has_its_counters(rt: HostRuntime) {
     if let Ok(file) = file_of(rt.alloc(), Sample::WrongCounter) {
         let text = "packets 9, first at 1970-01-01T00:00:00.000000Z\n\

@@ -32,5 +32,5 @@ returns c =
           ∙ fits 63 c.len.result old (c.len.ensures ∙ c.self.inside.frames.ok.0) c.self.invariant.1
           w.if-len-eq-MAX_LOST.false
     ] in
-    c.push_front_reserved.ensures.items ∙ with_room 63 old _ rest c.args.sent
+    c.push_front_reserved-2.ensures.items ∙ with_room 63 old _ rest c.args.sent
     ∙ ap (λ (l : List SentFrame). take 64 (c.args.sent ∷ l)) c.self.view_is
