@@ -12,21 +12,22 @@ use Rattle.ec_line.specs.Moving.{Visit, CountsReturned, joined_on_each, joined_m
 use Rattle.ec_line.specs.Moving.{when_a, when_b, copy_a, copy_b}
 use Rattle.ec_line.specs.Run.{CountsWholeAll}
 use Rattle.ec_line.specs.Trip.{Trip, passed}
-use Rattle.ec_line.proofs.Laws.{own_a, own_b, counts_returned, good_moments, moving_outputs, moving_shown}
+use Rattle.ec_line.proofs.Laws.{own_a, own_b, counts_returned, good_moments, moving_outputs, moving_shown, still_lines}
 use Rattle.ec_map.specs.Item.{ItemRecord, IsItem}
 use Rattle.ec_map.specs.Share.{expected_of}
-use Rattle.ec_ring.specs.Ring.{RingState, line_of}
+use Rattle.ec_ring.specs.Ring.{RingState, line_of, with_line}
 use Rattle.ec_ring.specs.declared.links.TheConstants.{MAX_SLAVES}
 use Rattle.ec_ring.specs.declared.port.PortFault.{PortFault}
 use Rattle.ec_ring.specs.declared.weather.Came.{Came}
 use Rattle.ec_ring.specs.declared.weather.Weather.{Weather}
 use Rattle.ec_master.specs.Certificate.{verdict_by_counts, IsOneDown}
+use Rattle.ec_master.specs.Cut.{concat}
 use Rattle.ec_master.specs.Given.{AllThatCame, in_turn}
 use Rattle.ec_master.specs.Moments.{IsMovingCycle, answers_moving, verdict_moving, FramesAtMoments}
-use Rattle.ec_master.specs.Moments.{OutputsLast, OutputsShown, copies_moving, GivenByMoving, AllGivenByMoving, SaysOfMoving}
+use Rattle.ec_master.specs.Moments.{OutputsLast, OutputsShown, ring_moving, copies_moving, GivenByMoving, AllGivenByMoving, SaysOfMoving}
 use Rattle.ec_master.specs.Moments.{SaysOfEachMoving}
 use Rattle.ec_master.specs.Ports.{Outcome, Sends, EndsIn, IsPortCycle}
-use Rattle.ec_master.specs.Travelled.{trips_under, weathers_under}
+use Rattle.ec_master.specs.Travelled.{trips_under, weathers_under, answers_under, ring_under}
 use Rattle.ec_master.specs.Unordered.{IsAccepted}
 use Rattle.ec_master.specs.Verdict.{verdict}
 use Rattle.ec_master.specs.Work.{with_answers}
@@ -104,6 +105,16 @@ outputs_shown ws r items runs room accepted are moving good =
     moving_shown (trips_under ws r items) (line_of r) runs (line_room r room)
     (trips_ready ws r items accepted are) moving
     (moving_whole ws r items runs room accepted are moving good)
+
+-- ---- still rings
+
+-- a cycle over a ring that stands still is one over a ring that moves, at which nothing moves
+pub still_cycle : (ws : List Weather) (r : RingState) (items : List ItemRecord) → (runs : List (List Visit))
+    × IsMovingCycle ws r items runs × (answers_moving ws r items runs ≡ answers_under ws r items)
+    × (ring_moving r runs ≡ ring_under ws r items)
+still_cycle ws r items =
+    let still = still_lines (trips_under ws r items) (line_of r) in
+    (still.0, still.1, ap concat still.2, ap (with_line r) still.3)
 
 -- ---- over ports
 

@@ -373,6 +373,7 @@ cycle_is_told trips before later items expected result items_later are few anew 
       brought = tells.brought;
       cycle = says.cycle;
       says = says.says;
+      says_moving = says.says_moving;
       told = told;
       passes = λ ws r room accepted given. ap (λ (x : ReportRecord). x.counts) told
           ∙ counts-passes items expected says.came result items_later are few says.cycle ws r room accepted

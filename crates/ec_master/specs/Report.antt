@@ -17,6 +17,7 @@ use Rattle.ec_master.specs.Certificate.{carriers, count_of}
 use Rattle.ec_master.specs.Cut.{frames_of}
 use Rattle.ec_master.specs.Ports.{came_or, Trips, IsPortCycle}
 use Rattle.ec_master.specs.Given.{AllThatCame, in_turn}
+use Rattle.ec_master.specs.Moments.{SaysOfEachMoving}
 use Rattle.ec_master.specs.Suffice.{Brings, AllGivenBy, SaysOfEach}
 use Rattle.ec_master.specs.Travelled.{trips_under}
 use Rattle.ec_master.specs.Unordered.{IsAccepted}
@@ -95,7 +96,7 @@ counts_by_passes _ _ line = []
 
 -- a cycle over ports and what is told of it. The frames that went out brought what came, the cycle is that of
 -- what came, and the report has it; of each ring, in any weathers, that would have given what came, all is
--- said that a cycle over the ring says, and each count is that of the slaves that were passed
+-- said that a cycle over the ring says, still or moving, and each count is that of the slaves passed
 pub record CycleIsTold {P : Type 0} (trips : Trips P) (before : P) (items : List ItemRecord)
     (expected : List ℕ) (result : Result Verdict CycleFault) (items_later : List ItemRecord)
     (report : ReportRecord) (later : P) : Type 0 where
@@ -103,6 +104,7 @@ pub record CycleIsTold {P : Type 0} (trips : Trips P) (before : P) (items : List
   pub brought : Brings trips before (map sent_of (frames_of items)) came later
   pub cycle : IsPortCycle in_turn came items expected result items_later []
   pub says : SaysOfEach items expected came result items_later
+  pub says_moving : SaysOfEachMoving items expected came result items_later
   pub told : report ≡ with_trips no_report (map sent_of (frames_of items)) came
   pub passes : (ws : List Weather) (r : RingState) → length r.slaves ≤ MAX_SLAVES → IsAccepted r.slaves items
       → AllGivenBy (trips_under ws r items) (line_of r) came

@@ -16,7 +16,7 @@ ghost use Rattle.ec_master.specs.Given.{AllThatCame, in_turn};
 ghost use Rattle.ec_master.specs.Moments.{IsMovingCycle, answers_moving, verdict_moving, FramesAtMoments};
 ghost use Rattle.ec_master.specs.Moments.{OutputsLast, OutputsShown, ring_moving, SaysOfEachMoving};
 ghost use Rattle.ec_master.specs.Ports.{IsPortCycle};
-ghost use Rattle.ec_master.specs.Travelled.{trips_under, weathers_under};
+ghost use Rattle.ec_master.specs.Travelled.{trips_under, weathers_under, answers_under, ring_under};
 ghost use Rattle.ec_master.specs.Unordered.{IsAccepted};
 ghost use Rattle.ec_master.specs.Work.{with_answers};
 ghost use Rattle.ec_master.specs.declared.cycle.CycleFault.{CycleFault};
@@ -45,7 +45,8 @@ ghost use Rattle.ec_master.specs.declared.verdict.Verdict.TheVariants.{Good};
 /// - `over_ports`: what is said of ports by what came back (`run_cycle`) is said so of each such ring that
 ///   would have given it; on another verdict the items are as they were.
 ///
-/// Where no application acts during the cycle, `good_image` tells more.
+/// Where no application acts during the cycle, `good_image` tells more; such a cycle is one of these, at which
+/// nothing moves (`still`).
 pub fn good_at_one_moment()
     ensures verdict { (ws : List Weather) (r : RingState) (items : List ItemRecord)
         (runs : List (List Visit)) → length r.slaves ≤ MAX_SLAVES → IsAccepted r.slaves items
@@ -78,6 +79,10 @@ pub fn good_at_one_moment()
         (runs : List (List Visit)) → IsAccepted r.slaves items → AllByRecursion IsItem items
         → AllByRecursion IsItem others → IsMovingCycle ws r items runs → AskTheSame items others
         → map (expected_of (line_of (ring_moving r runs))) others ≡ map (expected_of (line_of r)) items }
+    ensures still { (ws : List Weather) (r : RingState) (items : List ItemRecord)
+        → (runs : List (List Visit)) × IsMovingCycle ws r items runs
+        × (answers_moving ws r items runs ≡ answers_under ws r items)
+        × (ring_moving r runs ≡ ring_under ws r items) }
     ensures over_ports { (items : List ItemRecord) (expected : List ℕ) (came : AllThatCame)
         (result : Result Verdict CycleFault) (items_later : List ItemRecord) → AllByRecursion IsItem items
         → IsPortCycle in_turn came items expected result items_later []

@@ -1,4 +1,5 @@
 pub mod Commands
+pub mod Exits
 pub mod Failures
 pub mod Raw
 pub mod Values

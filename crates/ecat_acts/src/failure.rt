@@ -1,9 +1,11 @@
 //! Why a command ends before its output does, and how that is told.
 
-ghost use Rattle.std.specs.Prelude.{◌≡◌};
+ghost use Rattle.std.specs.Prelude.{◌≡◌, IfOk};
+ghost use Rattle.ecat_acts.specs.Exits.{IsExit, IsLineExit, IsRefusal};
 ghost use Rattle.ecat_acts.specs.Failures.{unbound};
 ghost use Rattle.ecat_acts.specs.declared.failure.Failure.TheVariants.{Line};
 ghost use Rattle.ecat_line.specs.declared.failure.LineFailure.TheVariants.{Output};
+ghost use Rattle.ecat_text.specs.declared.status.TheConstants.{BAD_ARGUMENTS, FAILED};
 
 use crate::raw::RawFaultText;
 use ec_run::ImagesFault;
@@ -99,7 +101,9 @@ pub fn unbound(fault: BindFault) -> Failure
 }
 
 /// Writes the line of a refusal, and answers the exit status.
-pub(crate) fn refuse<W: Write, V: Write>(line: &str, out: &mut W, err: &mut V) -> u8 {
+pub(crate) fn refuse<W: Write, V: Write>(line: &str, out: &mut W, err: &mut V) -> u8
+    ensures { IsRefusal result }
+{
     match out.write_all(line.as_bytes()) {
         Ok(()) => REFUSED,
         Err(_) => report(&Failure::Line(LineFailure::Output), out, err),
@@ -108,7 +112,9 @@ pub(crate) fn refuse<W: Write, V: Write>(line: &str, out: &mut W, err: &mut V) -
 
 /// Writes the line of a failure, to the output where the content was refused and to `err` else, and
 /// answers the exit status.
-pub fn report<W: Write, V: Write>(failure: &Failure, out: &mut W, err: &mut V) -> u8 {
+pub fn report<W: Write, V: Write>(failure: &Failure, out: &mut W, err: &mut V) -> u8
+    ensures { IsExit failure.now result }
+{
     match failure {
         Failure::Line(failure) => report_line(failure, out, err),
         Failure::NoMemoryForWords => failed(err, b"arguments: NoMemory\n"),
@@ -163,7 +169,9 @@ pub fn report<W: Write, V: Write>(failure: &Failure, out: &mut W, err: &mut V) -
 }
 
 /// Writes the line of packet sockets that are of no use, and who would have opened those that are missing.
-fn report_raw<V: Write>(fault: RawFault, err: &mut V) -> u8 {
+fn report_raw<V: Write>(fault: RawFault, err: &mut V) -> u8
+    ensures { result ≡ FAILED }
+{
     let text = RawFaultText(fault);
     let _ = writeln!(err, "raw: {text}");
     match fault {
@@ -182,14 +190,18 @@ pub fn report_file<W: Write, V: Write>(
     error: &io::Error,
     out: &mut W,
     err: &mut V,
-) -> u8 {
+) -> u8
+    ensures { IsExit failure.now result }
+{
     let status = report(failure, out, err);
     let _ = writeln!(err, "{path}: {error}");
     status
 }
 
 /// Writes the line of a command that ended on the line of a scene, as `report` does.
-fn report_line<W: Write, V: Write>(failure: &LineFailure, out: &mut W, err: &mut V) -> u8 {
+fn report_line<W: Write, V: Write>(failure: &LineFailure, out: &mut W, err: &mut V) -> u8
+    ensures { IsLineExit failure.now result }
+{
     match failure {
         LineFailure::Scene(SceneFault::NoMemory) | LineFailure::NoMemory => failed(
             err,
@@ -211,6 +223,7 @@ where
     Failure: From<E>,
     W: Write,
     V: Write,
+    ensures { IfOk done (λ status. result ≡ status) }
 {
     match done {
         Ok(status) => status,
@@ -219,19 +232,25 @@ where
 }
 
 /// Writes a line to `err` that says what is wrong with the words of the command line.
-fn bad_argument<V: Write>(err: &mut V, line: &[u8]) -> u8 {
+fn bad_argument<V: Write>(err: &mut V, line: &[u8]) -> u8
+    ensures { result ≡ BAD_ARGUMENTS }
+{
     let _ = err.write_all(line);
     BAD_ARGUMENTS
 }
 
 /// Writes a line to `err`; a fault of that is passed over.
-fn failed<V: Write>(err: &mut V, line: &[u8]) -> u8 {
+fn failed<V: Write>(err: &mut V, line: &[u8]) -> u8
+    ensures { result ≡ FAILED }
+{
     let _ = err.write_all(line);
     FAILED
 }
 
 /// The status once the line of a refusal was written.
-fn refused<V: Write>(written: io::Result<()>, err: &mut V) -> u8 {
+fn refused<V: Write>(written: io::Result<()>, err: &mut V) -> u8
+    ensures { IsRefusal result }
+{
     match written {
         Ok(()) => REFUSED,
         Err(_) => failed(err, b"output: Write\n"),

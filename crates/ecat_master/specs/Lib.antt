@@ -1,4 +1,5 @@
 pub mod Last
+pub mod Exits
 pub mod Course
 pub mod Start
 pub mod GoodRun

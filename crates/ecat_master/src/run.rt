@@ -5,10 +5,12 @@ ghost use Rattle.ec_run.specs.Cycles.{AddUp, IsRun};
 ghost use Rattle.ec_run.specs.Travels.{IsWithin};
 ghost use Rattle.ec_run.specs.Watched.{WatchedTrips};
 ghost use Rattle.ecat_master.specs.Course.{IsCourse, round_trips};
+ghost use Rattle.ecat_master.specs.Exits.{start_status};
 ghost use Rattle.ecat_master.specs.GoodRun.{EndsGood, IsGoodRun};
 ghost use Rattle.ecat_master.specs.Last.{IsLast, in_op, status_told};
 ghost use Rattle.ecat_master.specs.Start.{IsStarted};
 ghost use Rattle.ecat_master.specs.declared.run.StartFailure.TheVariants.{Told};
+ghost use Rattle.ecat_master.specs.declared.startup.StartFault.{StartFault};
 ghost use Rattle.ecat_master.specs.declared.run.TheConstants.{FAILED, GOOD};
 
 use crate::identity::{Identity, OtherSlave};
@@ -148,7 +150,8 @@ fn status_where(last: Option<Result<Verdict, CycleFault>>, left: Left, in_op: bo
 
 /// The exit status of a line that could not be started.
 fn status_of_start(fault: &StartFault) -> u8
-    ensures { result ≢ GOOD }
+    ensures status { result ≡ start_status fault.now }
+    ensures never_good { result ≢ GOOD }
 {
     match fault {
         StartFault::Ask(MasterFault::Port) => FAILED,
@@ -233,6 +236,8 @@ fn begin<P: HeardPorts, W: Write>(
 ) -> Result<Located, StartFailure>
     ensures started { IfOk result (λ cable. IsStarted P.trips ports.old line.now cable ports.new) }
     ensures told { (status : ℕ) → result ≡ Err (Told status) → status ≢ GOOD }
+    ensures by_fault { (status : ℕ) → result ≡ Err (Told status)
+        → (fault : StartFault) × (status ≡ start_status fault) }
 {
     match start(ports, line, identities, lines) {
         Ok(cable) => Ok(cable),

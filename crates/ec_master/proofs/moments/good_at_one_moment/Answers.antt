@@ -23,5 +23,8 @@ returns-clause-again c = again.moving_again
 pub returns-clause-still_expected : goal.returns-clause-still_expected
 returns-clause-still_expected c = again.moving_expected
 
+pub returns-clause-still : goal.returns-clause-still
+returns-clause-still c = lemmas.still_cycle
+
 pub returns-clause-over_ports : goal.returns-clause-over_ports
 returns-clause-over_ports c = lemmas.moving_suffices
