@@ -1,7 +1,8 @@
 //! Why a command ends before its output does, and how that is told.
 
 ghost use Rattle.std.specs.Prelude.{◌≡◌, IfOk};
-ghost use Rattle.ecat_acts.specs.Exits.{IsExit, IsLineExit, IsRefusal};
+ghost use Rattle.ecat_acts.specs.Exits.{IsExit, IsAskedExit, IsCaptureExit, IsImagesExit, IsLineExit};
+ghost use Rattle.ecat_acts.specs.Exits.{IsRefusal};
 ghost use Rattle.ecat_acts.specs.Failures.{unbound};
 ghost use Rattle.ecat_acts.specs.declared.failure.Failure.TheVariants.{Line};
 ghost use Rattle.ecat_line.specs.declared.failure.LineFailure.TheVariants.{Output};
@@ -129,8 +130,7 @@ pub fn report<W: Write, V: Write>(failure: &Failure, out: &mut W, err: &mut V) -
         Failure::SceneWrite => failed(err, b"scene: Write\n"),
         Failure::Clock => failed(err, b"clock: Open\n"),
         Failure::Outputs => failed(err, b"outputs: Open\n"),
-        Failure::Images(ImagesFault::NoMemory) => failed(err, b"outputs: NoMemory\n"),
-        Failure::Images(fault) => refused(writeln!(out, "outputs: {fault}"), err),
+        Failure::Images(fault) => report_images(fault, out, err),
         Failure::Reach => bad_argument(err, b"argument: --at or --raw is wanted, one of them\n"),
         Failure::At => bad_argument(
             err,
@@ -157,14 +157,55 @@ pub fn report<W: Write, V: Write>(failure: &Failure, out: &mut W, err: &mut V) -
             let _ = writeln!(err, "end {end}: {error}");
             FAILED
         }
-        Failure::Asked(MasterFault::Port) => failed(err, b"cycle: Port\n"),
-        Failure::Asked(fault) => {
-            let fault = FaultText(*fault);
+        Failure::Asked(fault) => report_asked(*fault, out, err),
+        Failure::Capture(fault) => report_capture(fault, out, err),
+    }
+}
+
+/// Writes the line of a file of outputs that has none.
+fn report_images<W: Write, V: Write>(fault: &ImagesFault, out: &mut W, err: &mut V) -> u8
+    ensures { IsImagesExit fault.now result }
+{
+    match fault {
+        ImagesFault::NoMemory => failed(err, b"outputs: NoMemory\n"),
+        ImagesFault::TooLong | ImagesFault::Empty | ImagesFault::Line(..) => refused(
+            writeln!(out, "outputs: {fault}"),
+            err,
+        ),
+    }
+}
+
+/// Writes the line of what was asked of a line somewhere else and has no answer.
+fn report_asked<W: Write, V: Write>(fault: MasterFault, out: &mut W, err: &mut V) -> u8
+    ensures { IsAskedExit fault result }
+{
+    match fault {
+        MasterFault::Port => failed(err, b"cycle: Port\n"),
+        MasterFault::NoSlave
+        | MasterFault::Refused(_)
+        | MasterFault::Abort(_)
+        | MasterFault::NoAnswer
+        | MasterFault::BadAnswer
+        | MasterFault::Broken
+        | MasterFault::Stranger => {
+            let fault = FaultText(fault);
             refused(writeln!(out, "{fault}"), err)
         }
-        Failure::Capture(PcapFault::Read) => failed(err, b"capture: Read\n"),
-        Failure::Capture(PcapFault::NoMemory) => failed(err, b"capture: NoMemory\n"),
-        Failure::Capture(fault) => refused(writeln!(out, "capture: {fault}"), err),
+    }
+}
+
+/// Writes the line of a capture that is damaged, or whose source or memory failed.
+fn report_capture<W: Write, V: Write>(fault: &PcapFault, out: &mut W, err: &mut V) -> u8
+    ensures { IsCaptureExit fault.now result }
+{
+    match fault {
+        PcapFault::Read => failed(err, b"capture: Read\n"),
+        PcapFault::NoMemory => failed(err, b"capture: NoMemory\n"),
+        PcapFault::Short
+        | PcapFault::NotPcap
+        | PcapFault::Version
+        | PcapFault::LinkType
+        | PcapFault::TooLong => refused(writeln!(out, "capture: {fault}"), err),
     }
 }
 

@@ -5,7 +5,7 @@ ghost use Rattle.ec_run.specs.Cycles.{AddUp, IsRun};
 ghost use Rattle.ec_run.specs.Travels.{IsWithin};
 ghost use Rattle.ec_run.specs.Watched.{WatchedTrips};
 ghost use Rattle.ecat_master.specs.Course.{IsCourse, round_trips};
-ghost use Rattle.ecat_master.specs.Exits.{start_status};
+ghost use Rattle.ecat_master.specs.Exits.{asked_status, start_status};
 ghost use Rattle.ecat_master.specs.GoodRun.{EndsGood, IsGoodRun};
 ghost use Rattle.ecat_master.specs.Last.{IsLast, in_op, status_told};
 ghost use Rattle.ecat_master.specs.Start.{IsStarted};
@@ -13,7 +13,7 @@ ghost use Rattle.ecat_master.specs.declared.run.StartFailure.TheVariants.{Told};
 ghost use Rattle.ecat_master.specs.declared.startup.StartFault.{StartFault};
 ghost use Rattle.ecat_master.specs.declared.run.TheConstants.{FAILED, GOOD};
 
-use crate::identity::{Identity, OtherSlave};
+use crate::identity::Identity;
 use crate::leaving::{Left, leave_line, put_left};
 use crate::pace::Pace;
 use crate::startup::{StartEnd, StartFault, put_start_fault, start};
@@ -23,7 +23,7 @@ use ec_diag::Located;
 use ec_master::{CycleFault, Verdict, Work};
 use ec_regs::AlState;
 use ec_ring::{HeardPorts, MAX_SLAVES};
-use ec_run::{Cycles, MOST_CYCLES, Outputs, Rooms, StepFault, Wanted, Watched, tells_all_in_op};
+use ec_run::{Cycles, MOST_CYCLES, Outputs, Rooms, Wanted, Watched, tells_all_in_op};
 use ec_services::MasterFault;
 use ecat_text::Lines;
 use std::io::{self, Write};
@@ -148,26 +148,36 @@ fn status_where(last: Option<Result<Verdict, CycleFault>>, left: Left, in_op: bo
     status_of(last, left.is_well() && in_op)
 }
 
+/// The exit status of a question without an answer.
+fn asked_status(fault: MasterFault) -> u8
+    ensures status { result ≡ asked_status fault }
+    ensures never_good { result ≢ GOOD }
+{
+    match fault {
+        MasterFault::Port => FAILED,
+        MasterFault::NoSlave
+        | MasterFault::Refused(_)
+        | MasterFault::Abort(_)
+        | MasterFault::NoAnswer
+        | MasterFault::BadAnswer
+        | MasterFault::Broken
+        | MasterFault::Stranger => REFUSED,
+    }
+}
+
 /// The exit status of a line that could not be started.
 fn status_of_start(fault: &StartFault) -> u8
     ensures status { result ≡ start_status fault.now }
     ensures never_good { result ≢ GOOD }
 {
     match fault {
-        StartFault::Ask(MasterFault::Port) => FAILED,
-        StartFault::Step(
-            StepFault {
-                fault: MasterFault::Port,
-                ..
-            },
-        ) => FAILED,
-        StartFault::Identity(
-            OtherSlave {
-                found: Err(MasterFault::Port),
-                ..
-            },
-        ) => FAILED,
-        _ => REFUSED,
+        StartFault::Ask(fault) => asked_status(*fault),
+        StartFault::Step(failed) => asked_status(failed.fault),
+        StartFault::Identity(slave) => match slave.found {
+            Ok(_) => REFUSED,
+            Err(fault) => asked_status(fault),
+        },
+        StartFault::Count(_) | StartFault::Cable(_) => REFUSED,
     }
 }
 
