@@ -1,5 +1,5 @@
--- The exit status that a failure comes to: 2 for words that are no command line, 3 where the system, a port or
--- memory failed, and 1 for content that is refused, or 3 where the line that says so can't be written.
+-- The exit status that a failure comes to: 2 for words that are no command line, 3 where the system, a port
+-- or memory failed, and 1 for content that is refused, or 3 where the line that says so can't be written.
 use Rattle.std.specs.Prelude.{◌≡◌, ◌⊎◌, ℕ}
 use Rattle.ec_run.specs.declared.images.ImagesFault.{ImagesFault}
 use Rattle.ec_run.specs.declared.images.ImagesFault.TheVariants.{NoMemory as NoMemoryForImages}
