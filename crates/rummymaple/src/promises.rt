@@ -28,6 +28,7 @@ ghost use Rattle.ec_master.specs.Cut.{concat};
 ghost use Rattle.ec_master.specs.Ports.{IsPortCycle};
 ghost use Rattle.ec_master.specs.Rounds.{round_counter, AreRecent, AreOfRound};
 ghost use Rattle.ec_master.specs.Given.{in_turn};
+ghost use Rattle.ec_master.specs.Moments.{SaysOfEachMoving};
 ghost use Rattle.ec_master.specs.Suffice.{SaysOfEach};
 ghost use Rattle.ec_master.specs.Work.{with_answers};
 ghost use Rattle.ec_master.specs.declared.verdict.Verdict.TheVariants.{Good};
@@ -56,13 +57,15 @@ ghost use Rattle.ec_check.specs.declared.records.Records.{Records};
 
 use ec_diag::promises::trips_are_heard;
 use ec_master::certificate::frames_suffice;
+use ec_master::moments::good_at_one_moment;
 use ec_seal::{copies_are_told, frames_can_be_sealed, seals_are_apart};
 use ec_wire::one_spelling;
 
 /// Calls in their order are a cycle over ports that give what came: where each frame is made behind the one
 /// before it, what came back of it is joined, and the verdict on each is good, so is that of `run_cycle`
 /// (`cycle`). So all that a good cycle says of a ring holds of each ring that would have given what came
-/// (`says`). Where each item went out with the counter of round `k`, that is with `sent` at 2,048 times `k`
+/// (`says`), and of each that moves meanwhile what a good cycle says of such a one: for each slave and frame
+/// one moment (`says_moving`). Where each item went out with the counter of round `k`, that is with `sent` at 2,048 times `k`
 /// modulo 65,536, and is expected to gain less than 4,096, and every copy is of that round or of one of the
 /// fifteen before it, the good cycle rests on no copy of an earlier one (`this_round`). Such calls are those
 /// of which [`rmp_join`](crate::rmp_join) and [`rmp_judge`](crate::rmp_judge) say, by whatever packets, that
@@ -78,6 +81,12 @@ pub fn calls_are_a_cycle()
         → AllByRecursion IsItem (map (asked image) items)
         → AreCalls (map (asked image) items) 0 came joined → AreGood items 0 joined
         → SaysOfEach (map (asked image) items) (map (λ i. i.expected) items) (as_ports_give came)
+        (Ok Good) (with_answers (map (asked image) items) (concat joined)) }
+    ensures says_moving { (items : List Item) (image : List ℕ) (came : List Came)
+        (joined : List (List DatagramRecord))
+        → AllByRecursion IsItem (map (asked image) items)
+        → AreCalls (map (asked image) items) 0 came joined → AreGood items 0 joined
+        → SaysOfEachMoving (map (asked image) items) (map (λ i. i.expected) items) (as_ports_give came)
         (Ok Good) (with_answers (map (asked image) items) (concat joined)) }
     ensures this_round { (k : ℕ) (items : List Item) (image : List ℕ) (came : List Came)
         (joined : List (List DatagramRecord))
@@ -95,6 +104,7 @@ pub fn calls_are_a_cycle()
 {
     one_spelling();
     frames_suffice();
+    good_at_one_moment();
 }
 
 /// What is told of the cable is so: over any line of controllers, fit or not, where the sent frame is a

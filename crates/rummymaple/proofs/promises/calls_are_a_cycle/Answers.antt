@@ -15,6 +15,10 @@ pub returns-clause-says : goal.returns-clause-says
 returns-clause-says c items image came joined are calls good =
     c.frames_suffice.ensures.says _ _ _ _ _ are (calls-cycle items image came joined calls good)
 
+pub returns-clause-says_moving : goal.returns-clause-says_moving
+returns-clause-says_moving c items image came joined are calls good =
+    c.good_at_one_moment.ensures.over_ports _ _ _ _ _ are (calls-cycle items image came joined calls good)
+
 pub returns-clause-this_round : goal.returns-clause-this_round
 returns-clause-this_round c k items image came joined calls good begun few recent =
     c.frames_suffice.ensures.this_round k (map (asked image) items) (map (λ i. i.expected) items) _ _
