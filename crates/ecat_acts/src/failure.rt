@@ -205,7 +205,8 @@ fn report_capture<W: Write, V: Write>(fault: &PcapFault, out: &mut W, err: &mut 
         | PcapFault::NotPcap
         | PcapFault::Version
         | PcapFault::LinkType
-        | PcapFault::TooLong => refused(writeln!(out, "capture: {fault}"), err),
+        | PcapFault::TooLong
+        | PcapFault::Failed => refused(writeln!(out, "capture: {fault}"), err),
     }
 }
 
