@@ -10,6 +10,9 @@ use Rattle.ec_run.specs.declared.outputs.Outputs.{Outputs}
 pub use Rattle.ec_run.proofs.TravelsLemmas.{are_done_within, brings_within, done_within, looked_up_within}
 pub use Rattle.ec_run.proofs.TravelsLemmas.{recovered_within, tried_within, within_less, within_none}
 pub use Rattle.ec_run.proofs.TravelsLemmas.{within_one, within_then}
+pub use Rattle.ec_run.proofs.AlikeLemmas.{are_done_of, asks_of, brings_of, counted_of, done_of, leaves_of}
+pub use Rattle.ec_run.proofs.AlikeLemmas.{looked_up_of, recovered_of, runs_of, sure_of, talks_of, within_of}
+pub use Rattle.ec_run.proofs.AlikeCycleLemmas.{cycle_of, run_of}
 pub use Rattle.ec_run.proofs.CycleTripsLemmas.{cycle_within}
 pub use Rattle.ec_run.proofs.EndLemmas.{EndsWith, done_ends, recovered_ends, tried_ends}
 

@@ -10,4 +10,6 @@ pub mod Phase
 pub mod Recovery
 pub mod Travels
 pub mod Outputs
+pub mod Images
 pub mod Cycles
+pub mod Alike

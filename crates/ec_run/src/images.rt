@@ -1,9 +1,13 @@
 //! The outputs of cycles as a text gives them: a line for each cycle.
 
-ghost use Rattle.std.specs.Prelude.{◌≡◌, ◌≤◌, IfOk, Ok, length as length_of};
+ghost use Rattle.std.specs.Prelude.{◌≡◌, ◌≤◌, ◌<◌, ◌⊎◌, ◌∷◌, ℕ, IfOk, IfErr, IfSome, List, Ok, Err};
+ghost use Rattle.std.specs.Prelude.{length as length_of};
+ghost use Rattle.std.specs.Borrow.{Bor};
+ghost use Rattle.std.specs.List.{position};
+ghost use Rattle.std.specs.Option.{option_map};
 ghost use Rattle.ec_wire.specs.declared.datagram.TheConstants.{MAX_DATA};
+ghost use Rattle.ec_run.specs.Images.{image_in, images_in, images_of, is_line_feed, lines_in, lines_of};
 ghost use Rattle.ec_run.specs.Outputs.{image_length, taken_by};
-ghost use Rattle.hex.specs.Hex.{decode_of};
 ghost use Rattle.ec_run.specs.declared.images.ImagesFault.TheVariants.{NoMemory};
 
 use ec_map::Item;
@@ -115,7 +119,10 @@ fn taken_by(item: &Item) -> usize
 
 /// The images of a text, each of so many bytes: a line for each, two hexadecimal digits of either case for
 /// each byte. The last line may end with LF or without it. The fault is that of the first faulty line.
-pub fn read_images(alloc: Global, text: &[u8], length: usize) -> Result<Vec<Image>, ImagesFault> {
+pub fn read_images(alloc: Global, text: &[u8], length: usize) -> Result<Vec<Image>, ImagesFault>
+    ensures images { IfOk result (λ images. images_of length text.now ≡ Ok images.items) }
+    ensures fault { IfErr result (λ fault. (fault ≡ NoMemory) ⊎ (images_of length text.now ≡ Err fault)) }
+{
     if text.len() > MAX_IMAGES_TEXT {
         return Err(ImagesFault::TooLong);
     }
@@ -123,13 +130,59 @@ pub fn read_images(alloc: Global, text: &[u8], length: usize) -> Result<Vec<Imag
     if text.is_empty() {
         return Err(ImagesFault::Empty);
     }
+    read_lines(alloc, text, length)
+}
+
+/// The images of the lines of a text.
+fn read_lines(alloc: Global, text: &[u8], length: usize) -> Result<Vec<Image>, ImagesFault>
+    requires limit { length_of text.now ≤ MAX_IMAGES_TEXT }
+    ensures images { IfOk result (λ images. images_in length 1 (lines_of text.now) ≡ Ok images.items) }
+    ensures fault { IfErr result (λ fault. (fault ≡ NoMemory)
+        ⊎ (images_in length 1 (lines_of text.now) ≡ Err fault)) }
+{
     let mut images = Vec::new(alloc);
     let mut number = 0usize;
-    for line in text.split(|byte| *byte == b'\n') {
-        number = number.saturating_add(1);
-        images.push(read_image(alloc, line, length, number)?)?;
+    let mut rest = Some(text);
+    while let Some(text) = rest {
+        let (line, behind) = cut_line(text);
+        number += 1;
+        let image = match read_image(alloc, line, length, number) {
+            Ok(image) => image,
+            Err(fault) => return Err(fault),
+        };
+        if images.push(image).is_err() {
+            return Err(ImagesFault::NoMemory);
+        }
+        rest = behind;
     }
     Ok(images)
+}
+
+/// The first line of a text, and what stands behind the LF that ends it, if one does.
+fn cut_line(text: &[u8]) -> (&[u8], Option<&[u8]>)
+    ensures line { lines_of text.now ≡ result.0.now ∷ lines_in (option_map (λ (rest : Bor (List ℕ)). rest.now)
+        result.1) }
+    ensures shorter { IfSome result.1 (λ rest. length_of rest.now < length_of text.now) }
+{
+    match end_of(text) {
+        Some(at) => (&text[..at], Some(&text[at + 1..])),
+        None => (text, None),
+    }
+}
+
+/// Where the first LF of a text stands, which ends its first line.
+fn end_of(text: &[u8]) -> Option<usize>
+    ensures place { result ≡ position is_line_feed text.now }
+    ensures within { IfSome result (λ at. at < length_of text.now) }
+{
+    text.iter().position(|byte| is_line_feed(*byte))
+}
+
+/// Is the byte LF, which parts two lines?
+fn is_line_feed(byte: u8) -> bool
+    ensures { result ≡ is_line_feed byte }
+{
+    byte == b'\n'
 }
 
 /// The image that the line with a number spells, which is to have so many bytes.
@@ -139,8 +192,9 @@ fn read_image(
     length: usize,
     number: usize,
 ) -> Result<Image, ImagesFault>
-    ensures spelt { IfOk result (λ image. decode_of line.now ≡ Ok image) }
-    ensures long { IfOk result (λ image. length_of image ≡ length) }
+    ensures image { IfOk result (λ image. image_in length number line.now ≡ Ok image) }
+    ensures fault { IfErr result (λ fault. (fault ≡ NoMemory)
+        ⊎ (image_in length number line.now ≡ Err fault)) }
 {
     let bytes = match hex::decode(alloc, line) {
         Ok(bytes) => bytes,

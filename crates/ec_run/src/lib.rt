@@ -36,13 +36,19 @@
 //!   (`ec_over_ring`, `recovered`). So many trips as `specs/Travels` says are the most.
 //! - [`Tally::take`]: of one frame more is kept how its copies came back, at which ports, and how far each
 //!   working counter moved, in copy A and in both together.
+//! - [`Watched`]: each trip that did not fail is taken into its tally; clearing it leaves the ports as they
+//!   are, and a look at the cable leaves the tally.
 //! - [`tells_all_in_op`]: the byte that the last item brought back says Op and nothing else. Which states the
 //!   slaves had then is a law over rings (`ec_over_ring`, `all_in_op`).
+//! - [`over_like_ports`], a law: what is done over ports is done over any others whose trips theirs are, seen
+//!   so. By it a law over rings holds of ports that have a ring and keep more, as [`Watched`] does.
 //!
 //! What the contracts speak of stands in specs/: `Step`, `Phase` and `StartupObjects` (start-up), `Wanted`,
 //! `Cycles` and `Outputs`, `Recovery`, `Travels` (trips, counted), `States`, `Watched` (ports that tell where
-//! copies arrive, as ports of a master), `Tally` (what copies told), `Ask` and `Counting` (one question).
+//! copies arrive, as ports of a master, and what is told of their trips), `Tally` (what copies told), `Ask`
+//! and `Counting` (one question), `Alike` (ports that are others, seen so), `Images` (the outputs of a text).
 
+mod alike;
 mod ask;
 mod counting;
 mod counts;
@@ -58,6 +64,7 @@ mod tally;
 mod wanted;
 mod watched;
 
+pub use alike::over_like_ports;
 pub use ask::{one_counted, put, request};
 pub use counting::count_slaves;
 pub use counts::Counts;

@@ -1,8 +1,9 @@
 //! A master's ports that keep what the copies of a cycle tell whatever its verdict.
 
-ghost use Rattle.std.specs.Prelude.{◌≡◌, ◌≤◌, ◌<◌, IsErr};
+ghost use Rattle.std.specs.Prelude.{◌≡◌, ◌≤◌, ◌<◌, ◌||◌, IsErr};
 ghost use Rattle.ec_diag.specs.Arrivals.{IsLocated};
-ghost use Rattle.ec_run.specs.Watched.{WatchedTrips};
+ghost use Rattle.ec_run.specs.Tally.{came_at, signs_of};
+ghost use Rattle.ec_run.specs.Watched.{WatchedTrips, untold};
 
 use crate::tally::{Signs, Tally};
 use ec_diag::{Located, locate};
@@ -12,7 +13,7 @@ use ec_wire::FrameBuf;
 use std::marker::Model;
 
 /// A master's two ports, with what the copies of the frames told that went out since they were last cleared.
-/// Contracts see the ports.
+/// Contracts see both.
 #[derive(Drop)]
 pub struct Watched<P: HeardPorts> {
     ports: P,
@@ -20,15 +21,17 @@ pub struct Watched<P: HeardPorts> {
 }
 
 impl<P: HeardPorts> Model for Watched<P> {
-    ghost Value = { P };
+    ghost use Rattle.ec_run.specs.Watched.{WatchedState};
 
-    ghost view = { λ w. w.ports };
+    ghost Value = { WatchedState P };
+
+    ghost view = { λ w. record { ports = w.ports; tally = w.tally } };
 }
 
 impl<P: HeardPorts> Watched<P> {
     /// These ports, of which nothing is told.
     pub fn new(ports: P) -> Watched<P>
-        ensures { result ≡ ports }
+        ensures { result ≡ untold ports }
     {
         Watched {
             ports,
@@ -38,44 +41,53 @@ impl<P: HeardPorts> Watched<P> {
 
     /// The ports.
     pub fn into_ports(self) -> P
-        ensures { result ≡ self }
+        ensures { result ≡ self.ports }
     {
         self.ports
     }
 
     /// Forgets what was told.
     pub fn clear(&mut self)
-        ensures { self.new ≡ self.old }
+        ensures { self.new ≡ untold self.old.ports }
     {
         self.tally = Tally::new();
     }
 
     /// Did any copy come?
-    pub fn has_heard(&self) -> bool {
+    pub fn has_heard(&self) -> bool
+        ensures { result ≡ (came_at Port.A self.now.tally || came_at Port.B self.now.tally) }
+    {
         self.tally.is_at(Port::A) || self.tally.is_at(Port::B)
     }
 
     /// Did any copy come at this port?
-    pub fn has_heard_at(&self, port: Port) -> bool {
+    pub fn has_heard_at(&self, port: Port) -> bool
+        ensures { result ≡ came_at port self.now.tally }
+    {
         self.tally.is_at(port)
     }
 
     /// What the copies told, as [`Tally::signs`] says it.
-    pub fn signs(&self) -> Signs {
+    pub fn signs(&self) -> Signs
+        ensures { result ≡ signs_of self.now.tally }
+    {
         self.tally.signs()
     }
 
     /// How far the working counter of each item moved, in both copies of its frame together, modulo 65,536;
     /// in the order of the items, as far as their frames have gone out ([`Tally::counts`]).
-    pub fn counts(&self) -> &[u16] {
+    pub fn counts(&self) -> &[u16]
+        ensures { result.now ≡ self.now.tally.counts }
+    {
         self.tally.counts()
     }
 
-    /// Says where the cable of a line of so many slaves is broken, by one frame more.
+    /// Says where the cable of a line of so many slaves is broken, by one frame more, which is not told of.
     pub fn locate(&mut self, slaves: usize) -> Result<Located, PortFault>
-        ensures located { IsLocated P.trips self.old slaves result self.new }
-        ensures counted { IsErr result → P.failed self.old < P.failed self.new }
-        ensures never_lower { P.failed self.old ≤ P.failed self.new }
+        ensures located { IsLocated P.trips self.old.ports slaves result self.new.ports }
+        ensures untold { self.new.tally ≡ self.old.tally }
+        ensures counted { IsErr result → P.failed self.old.ports < P.failed self.new.ports }
+        ensures never_lower { P.failed self.old.ports ≤ P.failed self.new.ports }
     {
         locate(&mut self.ports, slaves)
     }
@@ -84,7 +96,7 @@ impl<P: HeardPorts> Watched<P> {
 impl<P: HeardPorts> Ports for Watched<P> {
     ghost trips = { WatchedTrips P.trips };
 
-    ghost failed = { P.failed };
+    ghost failed = { λ w. P.failed w.ports };
 
     fn trip(&mut self, sent: &FrameBuf) -> Result<Came, PortFault> {
         let came = self.ports.trip_heard(sent)?;
