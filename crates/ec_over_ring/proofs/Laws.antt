@@ -39,7 +39,10 @@ pub use Rattle.ec_over_ring.proofs.BroughtLemmas.{entered, recovered}
 pub use Rattle.ec_over_ring.proofs.CallLemmas.{keeps}
 pub use Rattle.ec_over_ring.proofs.LineBroughtLemmas.{all_entered, all_in_op}
 pub use Rattle.ec_over_ring.proofs.StartedLemmas.{all_started}
+pub use Rattle.ec_over_ring.proofs.ReadOffLemmas.{read_off_fits, read_off_wanted}
+pub use Rattle.ec_over_ring.proofs.SucceedLemmas.{all_succeed}
 pub use Rattle.ec_over_ring.proofs.LeftLemmas.{left_in_op}
+pub use Rattle.ec_over_ring.proofs.HeardLemmas.{heard_is_ring, watched_ring}
 pub use Rattle.ec_over_ring.proofs.RecoveryLemmas.{begins, decides}
 pub use Rattle.ec_over_ring.proofs.RecoveryLemmas.{download_recovers, upload_recovers}
 pub use Rattle.ec_over_ring.proofs.ShapeLemmas.{said_throughout}

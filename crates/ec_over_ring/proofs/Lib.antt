@@ -59,4 +59,14 @@ pub mod SettingLemmas
 pub mod LineBroughtLemmas
 pub mod StartedLemmas
 pub mod LeftLemmas
+pub mod HeardLemmas
+pub mod NeedsLemmas
+pub mod WrittenLemmas
+pub mod PutLemmas
+pub mod SetsLemmas
+pub mod AcceptedLemmas
+pub mod RequestLemmas
+pub mod PhaseLemmas
+pub mod SucceedLemmas
+pub mod ReadOffLemmas
 pub mod Laws

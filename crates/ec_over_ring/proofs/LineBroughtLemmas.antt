@@ -283,7 +283,7 @@ one_done place wanted step r later (Ok done, between, tried, (is, same)) =
     subst (λ (x : RingState). IsTried RingTrips r place wanted step 19 (Ok tt) x) (sym same) tried
 
 -- the one that is asked is there then
-one_there : (asked : AlState) (place : ℕ) (wanted : Wanted) (r later : RingState) → ReachesAll r
+pub one_there : (asked : AlState) (place : ℕ) (wanted : Wanted) (r later : RingState) → ReachesAll r
     → wanted.station < 65536 → AreDone RingTrips r place wanted (State asked ∷ []) (Ok tt) later
     → HasThere asked wanted.station later.slaves
 one_there asked place wanted r later ring address done =

@@ -149,7 +149,7 @@ held_stays station other low high at bytes d s t registers apart range is follow
     beside (inr (inl less)) = inr (spared (inl (omega (arith, less, from, below))))
     beside (inr (inr more)) = inr (spared (inr (omega (arith, more, to))))
 
-held_step : (at : ℕ) (bytes : List ℕ) (s : SlaveState) → AreRegisters at (length bytes) → IsSlave s
+pub held_step : (at : ℕ) (bytes : List ℕ) (s : SlaveState) → AreRegisters at (length bytes) → IsSlave s
     → Holds s.controller.memory at bytes → Holds (step s).controller.memory at bytes
 held_step at bytes s registers is held k below =
     let same : SameLeft s.controller.memory (step s).controller.memory =

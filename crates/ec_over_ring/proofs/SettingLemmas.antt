@@ -77,7 +77,7 @@ ends (StationBehind first) = 0
 ends StationBefore = 0
 ends (Startup n) = 0
 
-begins_high : (y : Step) → is_setting y ≡ true → 18 ≤ begins y
+pub begins_high : (y : Step) → is_setting y ≡ true → 18 ≤ begins y
 unfolding is_setting begins
 begins_high (SyncManager n) sets = omega arith
 begins_high (FmmuRecord n) sets = omega arith
@@ -148,7 +148,7 @@ reads_reach station (suc limit) state address = (
 -- ---- what it leaves
 
 -- all that it sends leaves what holds of a slave
-pub StepLeaves : (SlaveState → Type 0) → ℕ → ℕ → Step → Type 0
+unfoldable pub StepLeaves : (SlaveState → Type 0) → ℕ → ℕ → Step → Type 0
 StepLeaves P station other y =
     (d : DatagramRecord) → IsInRange other (begins y) (ends y) d → Leaves P station d
 
@@ -293,7 +293,7 @@ steps_keep P station place wanted (y ∷ ys) result r later ring is leave (Ok di
 
 -- ---- what stands behind it
 
-area_registers : (n : ℕ) → n < 8 → AreRegisters (2048 + 8 * n) 5
+pub area_registers : (n : ℕ) → n < 8 → AreRegisters (2048 + 8 * n) 5
 area_registers n few = record {
   above = omega arith;
   left = λ k below. record {
@@ -306,7 +306,7 @@ area_registers n few = record {
   no_status = λ k below i is. absurd (omega (arith, is, below));
 }
 
-switch_registers : (n : ℕ) → n < 8 → AreRegisters (2048 + 8 * n + 6) 1
+pub switch_registers : (n : ℕ) → n < 8 → AreRegisters (2048 + 8 * n + 6) 1
 switch_registers n few = record {
   above = omega arith;
   left = λ k below. record {
@@ -319,7 +319,7 @@ switch_registers n few = record {
   no_status = λ k below i is. absurd (omega (arith, is, below));
 }
 
-fmmu_registers : (n m : ℕ) → n < 8 → m ≡ 16 → AreRegisters (1536 + 16 * n) m
+pub fmmu_registers : (n m : ℕ) → n < 8 → m ≡ 16 → AreRegisters (1536 + 16 * n) m
 fmmu_registers n m few size = record {
   above = omega arith;
   left = λ k below. record {
@@ -454,7 +454,7 @@ fmmu_stands station n (Some f) r later ring address few sizes sets =
     read_stands station at bytes [] set.between later set.ring address
     (fmmu_registers n (length bytes) few size) (omega (arith, size)) (omega (arith, few, size)) tt set.talk
 
-small_number : (n : ℕ) → n % 8 < 8
+pub small_number : (n : ℕ) → n % 8 < 8
 small_number n = omega arith
 
 pub step_stands : (place : ℕ) (wanted : Wanted) (x : Step) (r later : RingState) → ReachesAll r

@@ -1,11 +1,12 @@
 -- What a trip of a datagram by station leaves: the registers of each slave with another station, and of the
 -- one that is meant those beside its range.
 use Rattle.std.proofs.Common.{◌≡◌, ℕ, ◌+◌, ◌-◌, ◌*◌, ◌/◌, ◌%◌, ◌<◌, ◌≤◌, Bool, true, false, cond}
-use Rattle.std.proofs.Common.{eqb, ltb, leb, ◌&&◌, List, [], ◌∷◌, ◌++◌, length, map, take, drop, get_or}
+use Rattle.std.proofs.Common.{eqb, ltb, leb, ◌&&◌, ◌||◌, List, [], ◌∷◌, ◌++◌, length, map, take, drop, get_or}
 use Rattle.std.proofs.Common.{Option, None, Some, Result, refl, sym, ap, ◌∙◌, arith, subst, inl, inr, ⊎_elim}
 use Rattle.std.proofs.Common.{get_or-set_other}
 use Rattle.std.specs.Prelude.{◌≢◌, ◌⊎◌, bit_and, bit_or}
 use Rattle.std.specs.List.{AllByRecursion}
+use Rattle.std.proofs.Math.Bool.{or-false}
 use Rattle.std.proofs.lemmas.Bool.{and_parts, cases_Bool, eqb-true}
 use Rattle.std.proofs.lemmas.Bool.Decides.{nat_tests}
 use Rattle.std.proofs.lemmas.List.{take-append-drop}
@@ -13,8 +14,10 @@ use Rattle.std.proofs.lemmas.List.FromFn.{get_or-map-range_with_len}
 use Rattle.ec_regs.specs.AddressRange.{within}
 use Rattle.ec_regs.specs.Bits.{with_bits}
 use Rattle.ec_regs.specs.SyncMan.{status_address}
+use Rattle.ec_regs.specs.declared.registers.TheConstants.{AL_CONTROL, AL_STATUS, AL_STATUS_CODE}
 use Rattle.ec_regs.specs.declared.registers.TheConstants.{MEMORY_SIZE, PROCESS_MEMORY, STATION_ADDRESS}
 use Rattle.ec_regs.proofs.Laws.{each-drop, each-take, get_or-with_bits_kept, length-with_bits}
+use Rattle.ec_areas.proofs.Laws.{names_nowhere}
 use Rattle.ec_areas.specs.Ranges.{is_in_sync_manager, sync_manager_offset, takes_writes}
 use Rattle.ec_wire.specs.Command.{addressing, reads, writes}
 use Rattle.ec_wire.specs.Datagram.{DatagramRecord, ado_of, adp_of}
@@ -44,7 +47,9 @@ use Rattle.ec_master.specs.RingTrips.{RingTrips}
 use Rattle.ec_over_ring.specs.Brought.{ReachesAll}
 use Rattle.ec_over_ring.specs.States.{IsElsewhere}
 use Rattle.ec_over_ring.specs.Transfers.{IsSlave}
+use Rattle.ec_over_ring.proofs.BroughtLemmas.{status_stays, step_taken}
 use Rattle.ec_over_ring.proofs.HoldersLemmas.{HasOne, one_more}
+use Rattle.ec_over_ring.proofs.NeedsLemmas.{needs, step_needs}
 use Rattle.ec_over_ring.proofs.PassLemmas.{address_stays, unaddressed, written_nothing}
 use Rattle.ec_over_ring.proofs.StationLemmas.{others_step, station_of, station_stays}
 use Rattle.ec_over_ring.proofs.TransferLemmas.{AreSlaves, have_controllers}
@@ -88,7 +93,7 @@ settled_is before after a none =
     (λ (out : is_in_sync_manager a ≡ false). rw out refl)
     (cases_Bool (is_in_sync_manager a))
 
-settled_kept : (before after : List ℕ) (a : ℕ) → a < length after → ((i : ℕ) → a ≢ status_address i)
+pub settled_kept : (before after : List ℕ) (a : ℕ) → a < length after → ((i : ℕ) → a ≢ status_address i)
     → get_or (settled before after) a 0 ≡ get_or after a 0
 unfolding settled
 settled_kept before after a inside none =
@@ -150,12 +155,14 @@ byte_passed c d a station controller spared =
     (ap (λ (x : ℕ). within from n x) byte ∙ out))
 
 -- what it leaves of a controller: its station, the registers of one with another station, and those that are
--- spared
+-- spared; and no mark that AL control was written, of one with another station or with a range behind it
 pub record IsSparing (address n : ℕ) (c e : ControllerState) : Type 0 where
   pub station : word_at e.memory STATION_ADDRESS ≡ word_at c.memory STATION_ADDRESS
   pub bytes : (a : ℕ)
       → (adp_of address ≢ word_at c.memory STATION_ADDRESS) ⊎ IsSpared (ado_of address) n a
       → get_or e.memory a 0 ≡ get_or c.memory a 0
+  pub written : (adp_of address ≢ word_at c.memory STATION_ADDRESS) ⊎ (AL_CONTROL + 2 ≤ ado_of address)
+      → e.written ≡ c.written
 
 -- a range that has no byte of the station address
 pub record SparesStation (address n : ℕ) : Type 0 where
@@ -166,6 +173,7 @@ sparing_none : (address n : ℕ) (c e : ControllerState) → e ≡ c → IsSpari
 sparing_none address n c e same = record {
   station = ap (λ (x : ControllerState). word_at x.memory STATION_ADDRESS) same;
   bytes = λ a spared. ap (λ (x : ControllerState). get_or x.memory a 0) same;
+  written = λ spared. ap (λ (x : ControllerState). x.written) same;
 }
 
 sparing_then : (address n : ℕ) (c d e : ControllerState) → IsSparing address n c d
@@ -173,14 +181,36 @@ sparing_then : (address n : ℕ) (c d e : ControllerState) → IsSparing address
 sparing_then address n c d e first second = record {
   station = second.station ∙ first.station;
   bytes = λ a spared. second.bytes a (still a spared) ∙ first.bytes a spared;
+  written = λ spared. second.written (behind spared) ∙ first.written spared;
 }
   where
+    behind : (adp_of address ≢ word_at c.memory STATION_ADDRESS) ⊎ (290 ≤ ado_of address)
+        → (adp_of address ≢ word_at d.memory STATION_ADDRESS) ⊎ (290 ≤ ado_of address)
+    behind (inl other) = inl (λ is. other (is ∙ first.station))
+    behind (inr above) = inr above
+
     still : (a : ℕ) → (adp_of address ≢ word_at c.memory STATION_ADDRESS) ⊎ IsSpared (ado_of address) n a
         → (adp_of address ≢ word_at d.memory STATION_ADDRESS) ⊎ IsSpared (ado_of address) n a
     still a (inl other) = inl (λ is. other (is ∙ first.station))
     still a (inr spared) = inr spared
 
-pass_spares : (c : ControllerState) (d : DatagramRecord) → addressing d.command ≡ ConfiguredStation
+-- a range behind AL control leaves no mark
+unmarked : (c : ControllerState) (d : DatagramRecord) → addressing d.command ≡ ConfiguredStation
+    → 290 ≤ ado_of d.address → (pass c d).state.written ≡ c.written
+unfolding pass
+unmarked c d station above =
+    let n : ℕ = length d.payload in
+    let e : Effect = effect d.command c d.address n in
+    ap (λ (b : Bool). c.written || b)
+    (names_nowhere (λ b. e.writing.places (8 * 288 + b)) 8
+    (λ b below.
+    let byte : (8 * 288 + b) / 8 ≡ 288 = omega (arith, below) in
+    places_none d.command c d.address n (8 * 288 + b) station
+    (ap (λ (x : ℕ). within (ado_of d.address) n x) byte
+    ∙ outside (ado_of d.address) n 288 (inl (omega (arith, above))))))
+    ∙ or-false c.written
+
+pub pass_spares : (c : ControllerState) (d : DatagramRecord) → addressing d.command ≡ ConfiguredStation
     → IsController c → SparesStation d.address (length d.payload)
     → IsSparing d.address (length d.payload) c (pass c d).state
 unfolding pass byte_passed
@@ -195,6 +225,7 @@ pass_spares c d station controller spares =
     record {
       station = omega (arith, low, high);
       bytes = λ a spared. beside a (eqb-true (adp_of d.address) own meant) spared;
+      written = λ spared. behind (eqb-true (adp_of d.address) own meant) spared;
     })
     (λ (other : eqb (adp_of d.address) own ≡ false).
     sparing_none d.address (length d.payload) c (pass c d).state
@@ -209,6 +240,12 @@ pass_spares c d station controller spares =
         → get_or (pass c d).state.memory a 0 ≡ get_or c.memory a 0
     beside a meant (inl other) = absurd (other meant)
     beside a meant (inr spared) = byte_passed c d a station controller spared
+
+    behind : adp_of d.address ≡ word_at c.memory STATION_ADDRESS
+        → (adp_of d.address ≢ word_at c.memory STATION_ADDRESS) ⊎ (290 ≤ ado_of d.address)
+        → (pass c d).state.written ≡ c.written
+    behind meant (inl other) = absurd (other meant)
+    behind meant (inr above) = unmarked c d station above
 
 -- ---- the controllers of a line
 
@@ -314,11 +351,17 @@ travel_spares links cs d station are spares =
 
 -- ---- the slaves of a ring
 
--- what a trip and the step behind it leave of a slave
+-- what a trip and the step behind it leave of a slave: its station and registers, what its application needs,
+-- and its AL status, where no state was asked of it
 pub record IsFollowed (address n : ℕ) (s t : SlaveState) : Type 0 where
   pub station : station_of t ≡ station_of s
   pub bytes : (a : ℕ) → IsLeft a → (adp_of address ≢ station_of s) ⊎ IsSpared (ado_of address) n a
       → get_or t.controller.memory a 0 ≡ get_or s.controller.memory a 0
+  pub needs_are : needs t ≡ needs s
+  pub unasked : t.controller.written ≡ false
+  pub status : s.controller.written ≡ false
+      → (adp_of address ≢ station_of s) ⊎ (AL_STATUS_CODE + 2 ≤ ado_of address)
+      → get_or t.controller.memory AL_STATUS 0 ≡ get_or s.controller.memory AL_STATUS 0
 
 pub AreFollowed : ℕ → ℕ → List SlaveState → List SlaveState → Type 0
 AreFollowed address n [] [] = Unit {0}
@@ -334,7 +377,26 @@ slave_followed address n s c controller sparing =
     record {
       station = station_stays t controller.memory_size ∙ sparing.station;
       bytes = λ a left spared. same.bytes a left ∙ sparing.bytes a spared;
+      needs_are = step_needs t;
+      unasked = step_taken t;
+      status = λ idle spared.
+          status_stays t (sparing.written (behind spared) ∙ idle) controller.memory_size
+          ∙ sparing.bytes 304 (beside spared);
     }
+  where
+    behind : (adp_of address ≢ station_of s) ⊎ (310 ≤ ado_of address)
+        → (adp_of address ≢ station_of s) ⊎ (290 ≤ ado_of address)
+    behind (inl other) = inl other
+    behind (inr above) = inr (omega (arith, above))
+
+    beside : (adp_of address ≢ station_of s) ⊎ (310 ≤ ado_of address)
+        → (adp_of address ≢ station_of s) ⊎ IsSpared (ado_of address) n 304
+    beside (inl other) = inl other
+    beside (inr above) = inr (record {
+      register = omega arith;
+      beside = inl (omega (arith, above));
+      no_status = λ i is. absurd (omega (arith, is));
+    })
 
 slaves_followed : (address n : ℕ) (ss : List SlaveState) (cs : List ControllerState) → AreControllers cs
     → AreSparing address n (controllers ss) cs

@@ -31,19 +31,19 @@ use Rattle.ec_over_ring.proofs.TripKeepsLemmas.{within_keeps}
 -- ---- steps that do not undo each other
 
 -- a step leaves the record of an earlier one of the same slave
-is_clear : Step → Step → Bool
+unfoldable pub is_clear : Step → Step → Bool
 is_clear x y = leb (held_to x) (begins y) || leb (ends y) (begins x)
 
-all_clear : Step → List Step → Bool
+unfoldable pub all_clear : Step → List Step → Bool
 all_clear x [] = true
 all_clear x (y ∷ ys) = is_clear x y && all_clear x ys
 
 -- and each of some those before it
-each_clear : List Step → Bool
+unfoldable pub each_clear : List Step → Bool
 each_clear [] = true
 each_clear (x ∷ xs) = is_setting x && (all_clear x xs && each_clear xs)
 
-clear_numbers : (a b c d : ℕ) → (leb a b || leb c d) ≡ true → (a ≤ b) ⊎ (c ≤ d)
+pub clear_numbers : (a b c d : ℕ) → (leb a b || leb c d) ≡ true → (a ≤ b) ⊎ (c ≤ d)
 clear_numbers a b c d is =
     ⊎_elim
     (λ (first : leb a b ≡ true). let less : a ≤ b = grind (arith, nat_tests) in inl less)
@@ -55,17 +55,17 @@ clear_numbers a b c d is =
 -- ---- what holds of a slave stays while a line is gone through
 
 -- it holds while the steps are done with the slaves of a line
-LineLeaves : (SlaveState → Type 0) → ℕ → List Step → List Wanted → Type 0
+unfoldable pub LineLeaves : (SlaveState → Type 0) → ℕ → List Step → List Wanted → Type 0
 LineLeaves P station ys line =
     AllByRecursion (λ (wanted : Wanted). IsWanted wanted × AllLeave P station wanted.station ys) line
 
-steps_reach : (place : ℕ) (wanted : Wanted) (ys : List Step) (result : Result (Unit {0}) StepFault)
+pub steps_reach : (place : ℕ) (wanted : Wanted) (ys : List Step) (result : Result (Unit {0}) StepFault)
     (r later : RingState) → ReachesAll r → AreDone RingTrips r place wanted ys result later
     → ReachesAll later
 steps_reach place wanted ys result r later ring done =
     within_keeps _ r later ring (are_done_within RingTrips r later place wanted ys result done)
 
-line_keeps : (P : SlaveState → Type 0) (station place : ℕ) (line : List Wanted) (ys : List Step)
+pub line_keeps : (P : SlaveState → Type 0) (station place : ℕ) (line : List Wanted) (ys : List Step)
     (result : Result (Unit {0}) StepFault) (r later : RingState) → ReachesAll r
     → LineLeaves P station ys line → Brings RingTrips r place line ys result later
     → HasSuch P station r.slaves → HasSuch P station later.slaves
@@ -84,7 +84,7 @@ line_keeps P station place (wanted ∷ rest) ys result r later ring leave (Ok di
 -- ---- the records of one slave
 
 -- the slave with a station holds what a step sets
-abbrev Stands : Wanted → Step → RingState → Type 0
+abbrev pub Stands : Wanted → Step → RingState → Type 0
 Stands wanted x r =
     HasSuch (λ (s : SlaveState). HoldsSet wanted s.controller.memory x) wanted.station r.slaves
 
@@ -106,7 +106,7 @@ later_left wanted x (y ∷ ys) wants clear each =
       later_left wanted x ys wants one.1 rest.1,
     )
 
-slave_stands : (place : ℕ) (wanted : Wanted) (ys : List Step) (r later : RingState) → ReachesAll r
+pub slave_stands : (place : ℕ) (wanted : Wanted) (ys : List Step) (r later : RingState) → ReachesAll r
     → IsWanted wanted → each_clear ys ≡ true → AreDone RingTrips r place wanted ys (Ok tt) later
     → AllByRecursion (λ (x : Step). Stands wanted x later) ys
 unfolding AreDone each_clear
@@ -132,7 +132,7 @@ slave_stands place wanted (x ∷ ys) r later ring wants each (Ok did, between, t
 -- ---- the records of a line
 
 -- each of these steps sets a record or asks for a state
-all_setting : (ys : List Step) → each_clear ys ≡ true
+pub all_setting : (ys : List Step) → each_clear ys ≡ true
     → AllByRecursion (λ (y : Step). is_setting y ≡ true) ys
 unfolding each_clear
 all_setting [] each = tt
@@ -162,7 +162,7 @@ rest_left wanted x ys (other ∷ rest) wants sets differ are = (
 )
 
 -- what stands of one slave stays behind the rest of the line
-all_stay : (wanted : Wanted) (place : ℕ) (xs ys : List Step) (line : List Wanted)
+pub all_stay : (wanted : Wanted) (place : ℕ) (xs ys : List Step) (line : List Wanted)
     (result : Result (Unit {0}) StepFault) (r later : RingState) → ReachesAll r
     → AllByRecursion (λ (x : Step).
     LineLeaves (λ (s : SlaveState). HoldsSet wanted s.controller.memory x) wanted.station ys line) xs
@@ -184,11 +184,11 @@ all_left wanted [] ys line wants sets differ are = tt
 all_left wanted (x ∷ xs) ys line wants sets differ are =
     (rest_left wanted x ys line wants sets differ are, all_left wanted xs ys line wants sets differ are)
 
-abbrev LineStands : List Step → List Wanted → RingState → Type 0
+abbrev pub LineStands : List Step → List Wanted → RingState → Type 0
 LineStands xs line r =
     AllByRecursion (λ (wanted : Wanted). AllByRecursion (λ (x : Step). Stands wanted x r) xs) line
 
-line_stands : (place : ℕ) (ys : List Step) (line : List Wanted) (r later : RingState) → ReachesAll r
+pub line_stands : (place : ℕ) (ys : List Step) (line : List Wanted) (r later : RingState) → ReachesAll r
     → AreWanted line → each_clear ys ≡ true → Brings RingTrips r place line ys (Ok tt) later
     → LineStands ys line later
 unfolding Brings
@@ -206,7 +206,7 @@ line_stands place ys (wanted ∷ rest) r later ring are each (Ok did, between, d
 -- ---- and behind the last phase
 
 -- none of the records lies where AL control and AL status do
-op_clear : (xs : List Step) → Bool
+unfoldable pub op_clear : (xs : List Step) → Bool
 op_clear [] = true
 op_clear (x ∷ xs) = is_clear x (State state.Op) && op_clear xs
 
@@ -242,7 +242,7 @@ all_op_left wanted (x ∷ xs) line wants clear are =
     let parts = and_parts (is_clear x (State state.Op)) (op_clear xs) clear in
     (op_left wanted x line wants parts.0 are, all_op_left wanted xs line wants parts.1 are)
 
-line_stays : (xs : List Step) (some line : List Wanted) (r later : RingState) → ReachesAll r
+pub line_stays : (xs : List Step) (some line : List Wanted) (r later : RingState) → ReachesAll r
     → AreWanted line → op_clear xs ≡ true → AreWanted some
     → Brings RingTrips r 0 line (State state.Op ∷ []) (Ok tt) later → LineStands xs some r
     → LineStands xs some later
@@ -256,11 +256,11 @@ line_stays xs (wanted ∷ rest) line r later ring are clear wants brings stand =
 -- ---- a slave that is set up
 
 -- one slave has all that each says
-record HasAll (P : SlaveState → Type 0) (wanted : Wanted) (xs : List Step) (s : SlaveState) : Type 0 where
-  such : P s
-  all : AllByRecursion (HoldsSet wanted s.controller.memory) xs
+pub record HasAll (P : SlaveState → Type 0) (wanted : Wanted) (xs : List Step) (s : SlaveState) : Type 0 where
+  pub such : P s
+  pub all : AllByRecursion (HoldsSet wanted s.controller.memory) xs
 
-gathered : (P : SlaveState → Type 0) (wanted : Wanted) (xs : List Step) (r : RingState)
+pub gathered : (P : SlaveState → Type 0) (wanted : Wanted) (xs : List Step) (r : RingState)
     → HasSuch P wanted.station r.slaves → AllByRecursion (λ (x : Step). Stands wanted x r) xs
     → HasSuch (HasAll P wanted xs) wanted.station r.slaves
 gathered P wanted [] r has stand =

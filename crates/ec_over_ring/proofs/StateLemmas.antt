@@ -44,7 +44,8 @@ use Rattle.ec_over_ring.proofs.TransferLemmas.{have_controllers, one_of, slaves_
 -- ---- what an answer decides
 
 -- a write that is counted once decides nothing
-write_goes_on : {A : Type 0} (told : DatagramRecord) (answer : Answer) → told.counter ≡ 1 → Tells told answer
+pub write_goes_on : {A : Type 0} (told : DatagramRecord) (answer : Answer) → told.counter ≡ 1
+    → Tells told answer
     → write_decides {A = A} answer ≡ Ok None
 write_goes_on told (Err fault) one tells = absurd tells
 write_goes_on {A} told (Ok back) one tells =

@@ -6,3 +6,5 @@ pub mod Recovery
 pub mod InOp
 pub mod Brought
 pub mod Started
+pub mod Heard
+pub mod Fit

@@ -1,6 +1,6 @@
 //! The laws of slaves that are brought to a state, each the contract of a function that does nothing.
 
-ghost use Rattle.std.specs.Prelude.{◌≡◌, ◌<◌, ℕ, Bool, false, List, [], ◌∷◌, Ok};
+ghost use Rattle.std.specs.Prelude.{◌≡◌, ◌<◌, ℕ, Bool, false, List, [], ◌∷◌, Result, Ok};
 ghost use Rattle.std.specs.List.{AllByRecursion};
 ghost use Rattle.ec_regs.specs.declared.al.AlState.{AlState};
 ghost use Rattle.ec_regs.specs.declared.al.AlState.TheVariants.{Op};
@@ -12,14 +12,17 @@ ghost use Rattle.ec_run.specs.Phase.{Brings, steps_of};
 ghost use Rattle.ec_run.specs.Recovery.{IsRecovered};
 ghost use Rattle.ec_run.specs.Step.{IsDone};
 ghost use Rattle.ec_run.specs.Travels.{IsWithin};
+ghost use Rattle.ec_run.specs.Wanted.{wanted_by};
 ghost use Rattle.ec_run.specs.declared.phase.Phase.TheVariants as phase;
+ghost use Rattle.ec_run.specs.declared.phase.StepFault.{StepFault};
 ghost use Rattle.ec_run.specs.declared.recovery.Outcome.{Outcome};
 ghost use Rattle.ec_run.specs.declared.recovery.Outcome.TheVariants.{Brought, Left};
 ghost use Rattle.ec_run.specs.declared.recovery.Seen.{Seen};
 ghost use Rattle.ec_run.specs.declared.step.Step.TheVariants.{State};
 ghost use Rattle.ec_run.specs.declared.wanted.Wanted.{Wanted};
 ghost use Rattle.ec_over_ring.specs.Brought.{AreAllIn, HaveAddresses, IsAloneIn, ReachesAll};
-ghost use Rattle.ec_over_ring.specs.Started.{AreWanted, IsSetUp};
+ghost use Rattle.ec_over_ring.specs.Fit.{CanStart, HaveNoObjects, IsFitFor, NeedsSame, StandsFit, Succeeds};
+ghost use Rattle.ec_over_ring.specs.Started.{AreWanted, IsSetUp, IsWanted};
 ghost use Rattle.ec_over_ring.specs.States.{HasStation};
 
 /// A recovery (`ec_run::recover`) over a ring with at most one link down, of which nothing is lost. Where it
@@ -77,4 +80,30 @@ pub fn started_over_ring()
         → Brings RingTrips in_pre_op 0 line (steps_of phase.SafeOp) (Ok tt) in_safe_op
         → Brings RingTrips in_safe_op 0 line (steps_of phase.Op) (Ok tt) later
         → AllByRecursion (IsSetUp later) line }
+{}
+
+/// A whole start-up over such a ring (`bring_line` of each phase) of slaves that each have their station
+/// address alone and fit what is wanted of them, without startup objects. No step of any phase fails,
+/// whatever state each slave was in at first and whatever error it told; and in the end each is in Op without
+/// an error, and all its records stand: its FMMUs, its sync managers from number 2 on, and its mailboxes.
+pub fn start_succeeds()
+    ensures { (line : List Wanted) (r in_init in_pre_op told in_safe_op later : RingState)
+        (init pre_op startup safe_op op : Result (Unit {0}) StepFault)
+        → ReachesAll r → AreWanted line → AllByRecursion (CanStart r) line → HaveNoObjects line
+        → Brings RingTrips r 0 line (steps_of phase.Init) init in_init
+        → Brings RingTrips in_init 0 line (steps_of phase.PreOp) pre_op in_pre_op
+        → Brings RingTrips in_pre_op 0 line (steps_of phase.Startup) startup told
+        → Brings RingTrips told 0 line (steps_of phase.SafeOp) safe_op in_safe_op
+        → Brings RingTrips in_safe_op 0 line (steps_of phase.Op) op later
+        → Succeeds line init pre_op startup safe_op op later }
+{}
+
+/// What is read off a slave that stands as it is to be (`ec_run::Wanted::of`) fits each slave whose
+/// application needs the same, as `start_succeeds` asks: say the one that it is read off, in whatever state
+/// and with whatever records it is found later. It is of a station address and of records that registers can
+/// hold, and asks for no startup object.
+pub fn read_off_fits()
+    ensures fits { (s t : SlaveState) → StandsFit s → NeedsSame s t → IsFitFor (wanted_by s) t }
+    ensures wanted { (s : SlaveState) → StandsFit s → IsWanted (wanted_by s) }
+    ensures objects { (s : SlaveState) → HaveNoObjects (wanted_by s ∷ []) }
 {}

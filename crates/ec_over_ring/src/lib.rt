@@ -36,7 +36,13 @@
 //! - `line_entered`: and of all slaves of a line that are asked one after the other ([`ec_run::bring`]), as
 //!   in the last phase of a start-up: all of them are in Op in the end, not the last one alone;
 //! - `started_over_ring`: behind the last two phases of a start-up each slave of a line is in Op, and its
-//!   FMMUs and the sync managers of its process data stand as they were wanted.
+//!   FMMUs and the sync managers of its process data stand as they were wanted;
+//! - `start_succeeds`: slaves that fit what is wanted of them come to all that: no step of any phase fails;
+//! - `read_off_fits`: what is read off a slave that stands as it is to be ([`ec_run::Wanted::of`]) fits it.
+//!
+//! In [`watched_ring`], a law of that name: the ports of a running master ([`ec_run::Watched`]) over a ring
+//! make the trips of that ring, so what is said of the ring here is said of what it does
+//! ([`ec_run::over_like_ports`]).
 //!
 //! Of calls that recover ([`ec_services::upload_surely`] and [`ec_services::download_surely`]), over a ring
 //! in any weather, where copies are lost and pass a slave twice, and from any state of its mailboxes, in
@@ -56,10 +62,12 @@
 //! request, and what a transfer comes to; `Stations`, what each slave of a line went through; `Recovery`, how
 //! both copies of a frame fare at a slave, what stands in its mailboxes, and what a call that recovers comes
 //! to; `InOp`, a cycle that tells that all slaves are in Op; `Brought`, a slave in a state that has its
-//! station alone, and a line of such slaves; `Started`, which records stand in their registers.
+//! station alone, and a line of such slaves; `Started`, which records stand in their registers; `Fit`, what
+//! slaves need so that no phase of a start-up fails; `Heard`, a ring that says where copies arrived.
 
 pub mod brought;
 pub mod promises;
 pub mod recovery;
 pub mod states;
 pub mod stations;
+pub mod watched_ring;
