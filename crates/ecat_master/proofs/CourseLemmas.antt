@@ -1,75 +1,96 @@
 -- Looks and rounds, one after the other, and how many trips they make.
-use Rattle.std.proofs.Common.{◌≡◌, ◌≤◌, ℕ, zero, suc, ◌+◌, ◌*◌, ◌-◌, List, length, refl, sym, ap, ◌∙◌, subst}
-use Rattle.std.proofs.Common.{arith, inl, inr, Result, Ok, Err}
+use Rattle.std.proofs.Common.{◌≡◌, ◌≤◌, ℕ, zero, suc, ◌+◌, ◌*◌, ◌-◌, Bool, true, false, List, length, refl}
+use Rattle.std.proofs.Common.{sym, ap, ◌∙◌, subst, arith, inl, inr, Option, Ok, Err}
 use Rattle.std.proofs.Math.Nat.{suc-mul}
-use Rattle.ec_diag.specs.Arrivals.{IsLocated}
 use Rattle.ec_diag.specs.declared.located.Located.{Located}
-use Rattle.ec_ring.specs.declared.port.PortFault.{PortFault}
 use Rattle.ec_master.specs.declared.verdict.Verdict.TheVariants.{Good, Short, Over}
 use Rattle.ec_run.specs.Cycles.{End, counted}
 use Rattle.ec_run.specs.declared.counts.Counts.{Counts}
-use Rattle.ec_run.specs.Travels.{IsWithin, look_trips, recovery_trips}
-use Rattle.ec_run.specs.Watched.{WatchedTrips, came_of}
+use Rattle.ec_run.specs.Travels.{IsWithin, Travels, look_trips, recovery_trips}
+use Rattle.ec_run.specs.Watched.{PortsTrip, WatchedState, WatchedTrips, came_of, untold}
 use Rattle.ec_run.specs.declared.cycles.Cycles.{Cycles}
 use Rattle.ec_run.specs.declared.outputs.Outputs.{Outputs}
 use Rattle.ec_run.specs.declared.wanted.Wanted.{Wanted}
 use Rattle.ec_run.proofs.Laws.{cycle_within, looked_up_within, recovered_within, within_less, within_none}
 use Rattle.ec_run.proofs.Laws.{within_one, within_then}
-use Rattle.ecat_master.specs.Course.{AreLooks, HeardTrips, IsCourse, IsFollowed, IsRound, IsSeenTo, Rounds}
-use Rattle.ecat_master.specs.Course.{round_trips}
-use Rattle.ecat_master.specs.declared.startup.TheConstants.{TRIES}
+use Rattle.ecat_master.specs.Course.{AreLooks, HeardTrips, IsCourse, IsFollowed, IsLook, IsRound}
+use Rattle.ecat_master.specs.Course.{IsSeenTo, MayBeLookedOver, Rounds, is_last_look, round_trips}
+use Rattle.ecat_master.specs.declared.startup.TheConstants.{MORE_CABLE_LOOKS}
 
 -- ---- looks at the cable
-
-pub looks_none : {P : Type 0} (heard : HeardTrips P) (slaves most : ℕ) (before : P)
-    → AreLooks heard before slaves most before
-unfolding AreLooks
-looks_none heard slaves zero before = refl
-looks_none heard slaves (suc more) before = inl refl
 
 -- what the looks that are left come to, from the ports as they are now, is what all come to
 abbrev pub LooksOn : {P : Type 0} → HeardTrips P → P → P → ℕ → ℕ → ℕ → Type 0
 LooksOn {P} heard start now slaves all left =
-    (later : P) → AreLooks heard now slaves left later → AreLooks heard start slaves all later
+    (found : Option Located) (later : P) → AreLooks heard now slaves left found later
+    → AreLooks heard start slaves all found later
+
+-- what follows a look behind which the ports are between, if no other look is needed and if one is
+abbrev Behind : {P : Type 0} → HeardTrips P → P → ℕ → ℕ → Option Located → Option Located → P → Bool → Type 0
+Behind heard between slaves less first found later true = (found ≡ first) × (later ≡ between)
+Behind heard between slaves less first found later false = AreLooks heard between slaves less found later
 
 look_more : {P : Type 0} (heard : HeardTrips P) (now between later : P) (slaves less : ℕ)
-    (result : Result Located PortFault) → IsLocated heard now slaves result between
-    → AreLooks heard between slaves less later → AreLooks heard now slaves (suc less) later
+    (first found : Option Located) → IsLook heard now slaves first between → is_last_look first ≡ false
+    → AreLooks heard between slaves less found later → AreLooks heard now slaves (suc less) found later
 unfolding AreLooks
-look_more heard now between later slaves less result looked more = inr (result, between, looked, more)
+look_more {P} heard now between later slaves less first found look is more = (
+  first,
+  between,
+  look,
+  subst (Behind heard between slaves less first found later) (sym is) more,
+)
+
+look_last : {P : Type 0} (heard : HeardTrips P) (now later : P) (slaves less : ℕ) (found : Option Located)
+    → IsLook heard now slaves found later → is_last_look found ≡ true
+    → AreLooks heard now slaves (suc less) found later
+unfolding AreLooks
+look_last {P} heard now later slaves less found look is =
+    let both : (found ≡ found) × (later ≡ later) = (refl, refl) in
+    (found, later, look, subst (Behind heard later slaves less found found later) (sym is) both)
+
+look_only : {P : Type 0} (heard : HeardTrips P) (now later : P) (slaves : ℕ) (found : Option Located)
+    → IsLook heard now slaves found later → AreLooks heard now slaves 0 found later
+unfolding AreLooks
+look_only heard now later slaves found look = look
 
 pub looks_on : {P : Type 0} (heard : HeardTrips P) (start now between : P) (slaves all left less : ℕ)
-    (result : Result Located PortFault) → LooksOn heard start now slaves all left → left ≡ suc less
-    → IsLocated heard now slaves result between → LooksOn heard start between slaves all less
-looks_on heard start now between slaves all left less result so_far is looked later more =
-    so_far later
-    (subst (λ (n : ℕ). AreLooks heard now slaves n later) (sym is)
-    (look_more heard now between later slaves less result looked more))
+    (first : Option Located) → LooksOn heard start now slaves all left → left ≡ suc less
+    → IsLook heard now slaves first between → is_last_look first ≡ false
+    → LooksOn heard start between slaves all less
+looks_on heard start now between slaves all left less first so_far is look not_last found later more =
+    so_far found later
+    (subst (λ (n : ℕ). AreLooks heard now slaves n found later) (sym is)
+    (look_more heard now between later slaves less first found look not_last more))
 
-pub looks_end : {P : Type 0} (heard : HeardTrips P) (start now : P) (slaves all left : ℕ)
-    → LooksOn heard start now slaves all left → AreLooks heard start slaves all now
-looks_end heard start now slaves all left so_far = so_far now (looks_none heard slaves left now)
+pub looks_known : {P : Type 0} (heard : HeardTrips P) (start now later : P) (slaves all left less : ℕ)
+    (found : Option Located) → LooksOn heard start now slaves all left → left ≡ suc less
+    → IsLook heard now slaves found later → is_last_look found ≡ true
+    → AreLooks heard start slaves all found later
+looks_known heard start now later slaves all left less found so_far is look last =
+    so_far found later
+    (subst (λ (n : ℕ). AreLooks heard now slaves n found later) (sym is)
+    (look_last heard now later slaves less found look last))
+
+pub looks_end : {P : Type 0} (heard : HeardTrips P) (start now later : P) (slaves all left : ℕ)
+    (found : Option Located) → LooksOn heard start now slaves all left → left ≡ 0
+    → IsLook heard now slaves found later → AreLooks heard start slaves all found later
+looks_end heard start now later slaves all left found so_far is look =
+    so_far found later
+    (subst (λ (n : ℕ). AreLooks heard now slaves n found later) (sym is)
+    (look_only heard now later slaves found look))
 
 -- ---- behind a cycle
 
-pub not_followed : {P : Type 0} (heard : HeardTrips P) (line : List Wanted) (before : P)
+pub not_followed : {P : Type 0} (heard : HeardTrips P) (line : List Wanted) (before : WatchedState P)
     → IsFollowed heard line before before
-not_followed heard line before = record {
-  between = before;
-  looks = looks_none heard (length line) TRIES before;
-  seen_to = IsSeenTo.nobody refl;
-}
+not_followed heard line before =
+    record { between = before; looks = inl refl; seen_to = IsSeenTo.nobody refl }
 
-pub only_looks : {P : Type 0} (heard : HeardTrips P) (line : List Wanted) (before later : P)
-    → AreLooks heard before (length line) TRIES later → IsFollowed heard line before later
+pub only_looks : {P : Type 0} (heard : HeardTrips P) (line : List Wanted) (before later : WatchedState P)
+    → MayBeLookedOver heard before (length line) later → IsFollowed heard line before later
 only_looks heard line before later looks =
     record { between = later; looks = looks; seen_to = IsSeenTo.nobody refl }
-
-pub looks_and : {P : Type 0} (heard : HeardTrips P) (line : List Wanted) (before between later : P)
-    → AreLooks heard before (length line) TRIES between → IsSeenTo heard line between later
-    → IsFollowed heard line before later
-looks_and heard line before between later looks seen_to =
-    record { between = between; looks = looks; seen_to = seen_to }
 
 -- ---- rounds
 
@@ -81,13 +102,14 @@ counted_once (Ok (Short k)) c = refl
 counted_once (Ok (Over k)) c = refl
 
 pub no_rounds : {P : Type 0} (heard : HeardTrips P) (outputs : Outputs) (expected : List ℕ)
-    (line : List Wanted) (s : Cycles) (ports : P) → IsCourse heard outputs expected line s ports s ports
+    (line : List Wanted) (s : Cycles) (ports : WatchedState P)
+    → IsCourse heard outputs expected line s ports s ports
 unfolding Rounds
 no_rounds heard outputs expected line s ports =
     record { number = 0; rounds = (refl, refl); counts = omega arith }
 
 pub one_round : {P : Type 0} (heard : HeardTrips P) (outputs : Outputs) (expected : List ℕ)
-    (line : List Wanted) (s now after : Cycles) (start ports later : P)
+    (line : List Wanted) (s now after : Cycles) (start ports later : WatchedState P)
     → IsCourse heard outputs expected line s start now ports
     → IsRound heard outputs expected line now ports after later
     → IsCourse heard outputs expected line s start after later
@@ -104,27 +126,69 @@ one_round heard outputs expected line s now after start ports later course round
 
 -- ---- how many trips
 
-locate_within : {P : Type 0} (heard : HeardTrips P) (before later : P) (slaves : ℕ)
-    (result : Result Located PortFault) → IsLocated heard before slaves result later
-    → IsWithin (WatchedTrips heard) 1 before later
-locate_within heard before later slaves result located =
-    within_one (WatchedTrips heard) before later _ (came_of located.came)
+-- what the copies told aside, trips of watched ports are trips of the ports
+travels_aside : {P : Type 0} (heard : HeardTrips P) (n : ℕ) (before later : WatchedState P)
+    → Travels (WatchedTrips heard) n before later → Travels (PortsTrip heard) n before.ports later.ports
+unfolding Travels
+travels_aside heard zero before later same = ap (λ s. s.ports) same
+travels_aside heard (suc n) before later (sent, came, between, trip, rest) = (
+  sent,
+  came,
+  between.ports,
+  record { arrivals = trip.arrivals; made = trip.made; copies = trip.copies },
+  travels_aside heard n between later rest,
+)
+
+within_aside : {P : Type 0} (heard : HeardTrips P) (most : ℕ) (before later : WatchedState P)
+    → IsWithin (WatchedTrips heard) most before later
+    → IsWithin (PortsTrip heard) most before.ports later.ports
+within_aside heard most before later within = record {
+  number = within.number;
+  bound = within.bound;
+  travels = travels_aside heard within.number before later within.travels;
+}
+
+look_within : {P : Type 0} (heard : HeardTrips P) (before later : P) (slaves : ℕ) (found : Option Located)
+    → IsLook heard before slaves found later → IsWithin (PortsTrip heard) 1 before later
+look_within heard before later slaves found look =
+    let located = look.located in
+    within_one (PortsTrip heard) before later _ (came_of located.came)
     (record { arrivals = located.came; made = located.made; copies = refl })
 
-looks_within : {P : Type 0} (heard : HeardTrips P) (most slaves : ℕ) (before later : P)
-    → AreLooks heard before slaves most later → IsWithin (WatchedTrips heard) most before later
-unfolding AreLooks
-looks_within heard zero slaves before later same = within_none (WatchedTrips heard) 0 before later same
-looks_within heard (suc more) slaves before later (inl same) =
-    within_none (WatchedTrips heard) (suc more) before later same
-looks_within heard (suc more) slaves before later (inr (result, between, looked, rest)) =
-    let less : 1 + more ≤ suc more = omega arith in
-    within_less (WatchedTrips heard) (1 + more) (suc more) before later less
-    (within_then (WatchedTrips heard) 1 more before between later
-    (locate_within heard before between slaves result looked)
-    (looks_within heard more slaves between later rest))
+look_then_within : {P : Type 0} (heard : HeardTrips P) (more slaves : ℕ) (before between later : P)
+    (first found : Option Located) (is : Bool) → IsLook heard before slaves first between
+    → Behind heard between slaves more first found later is
+    → (AreLooks heard between slaves more found later → IsWithin (PortsTrip heard) (more + 1) between later)
+    → IsWithin (PortsTrip heard) (suc more + 1) before later
+look_then_within heard more slaves before between later first found true look (is, same) others =
+    let less : 1 ≤ suc more + 1 = omega arith in
+    within_less (PortsTrip heard) 1 (suc more + 1) before later less
+    (subst (λ p. IsWithin (PortsTrip heard) 1 before p) (sym same)
+    (look_within heard before between slaves first look))
+look_then_within heard more slaves before between later first found false look rest others =
+    let less : 1 + (more + 1) ≤ suc more + 1 = omega arith in
+    within_less (PortsTrip heard) (1 + (more + 1)) (suc more + 1) before later less
+    (within_then (PortsTrip heard) 1 (more + 1) before between later
+    (look_within heard before between slaves first look) (others rest))
 
-seen_to_within : {P : Type 0} (heard : HeardTrips P) (line : List Wanted) (before later : P)
+looks_within : {P : Type 0} (heard : HeardTrips P) (more slaves : ℕ) (before later : P)
+    (found : Option Located) → AreLooks heard before slaves more found later
+    → IsWithin (PortsTrip heard) (more + 1) before later
+unfolding AreLooks
+looks_within heard zero slaves before later found look = look_within heard before later slaves found look
+looks_within heard (suc more) slaves before later found (first, between, look, rest) =
+    look_then_within heard more slaves before between later first found (is_last_look first) look rest
+    (λ others. looks_within heard more slaves between later found others)
+
+looked_over_within : {P : Type 0} (heard : HeardTrips P) (slaves : ℕ) (before later : WatchedState P)
+    → MayBeLookedOver heard before slaves later
+    → IsWithin (PortsTrip heard) (MORE_CABLE_LOOKS + 1) before.ports later.ports
+looked_over_within heard slaves before later (inl same) =
+    within_none (PortsTrip heard) (MORE_CABLE_LOOKS + 1) before.ports later.ports (ap (λ s. s.ports) same)
+looked_over_within heard slaves before later (inr (found, over)) =
+    looks_within heard MORE_CABLE_LOOKS slaves before.ports later.ports found over.looks
+
+seen_to_within : {P : Type 0} (heard : HeardTrips P) (line : List Wanted) (before later : WatchedState P)
     → IsSeenTo heard line before later → IsWithin (WatchedTrips heard) recovery_trips before later
 seen_to_within heard line before later (IsSeenTo.nobody same) =
     within_none (WatchedTrips heard) recovery_trips before later same
@@ -136,20 +200,25 @@ seen_to_within heard line before later (IsSeenTo.recovered place wanted tells ou
     recovered_within (WatchedTrips heard) before later place wanted tells outcome recovers
 
 round_within : {P : Type 0} (heard : HeardTrips P) (outputs : Outputs) (expected : List ℕ)
-    (line : List Wanted) (s after : Cycles) (before later : P)
+    (line : List Wanted) (s after : Cycles) (before later : WatchedState P)
     → IsRound heard outputs expected line s before after later
-    → IsWithin (WatchedTrips heard) (round_trips (length s.asked)) before later
+    → IsWithin (PortsTrip heard) (round_trips (length s.asked)) before.ports later.ports
 round_within heard outputs expected line s after before later round =
-    let trips = WatchedTrips heard in
-    within_then trips (length s.asked + TRIES) recovery_trips before round.followed.between later
-    (within_then trips (length s.asked) TRIES before round.between round.followed.between
-    (cycle_within trips before round.between outputs expected s after round.end round.cycle)
-    (looks_within heard TRIES (length line) round.between round.followed.between round.followed.looks))
-    (seen_to_within heard line round.followed.between later round.followed.seen_to)
+    let trips = PortsTrip heard in
+    let looked = round.followed.between in
+    within_then trips (length s.asked + (MORE_CABLE_LOOKS + 1)) recovery_trips before.ports looked.ports
+    later.ports
+    (within_then trips (length s.asked) (MORE_CABLE_LOOKS + 1) before.ports round.between.ports looked.ports
+    (within_aside heard (length s.asked) (untold before.ports) round.between
+    (cycle_within (WatchedTrips heard) (untold before.ports) round.between outputs expected s after round.end
+    round.cycle))
+    (looked_over_within heard (length line) round.between looked round.followed.looks))
+    (within_aside heard recovery_trips looked later
+    (seen_to_within heard line looked later round.followed.seen_to))
 
 -- each asks what the first one asked
 rounds_ask : {P : Type 0} (heard : HeardTrips P) (outputs : Outputs) (expected : List ℕ) (line : List Wanted)
-    (n : ℕ) (s after : Cycles) (before later : P)
+    (n : ℕ) (s after : Cycles) (before later : WatchedState P)
     → Rounds heard outputs expected line n s before after later → after.asked ≡ s.asked
 unfolding Rounds
 rounds_ask heard outputs expected line zero s after before later (is, same) =
@@ -159,33 +228,34 @@ rounds_ask heard outputs expected line (suc n) s after before later (now, ports,
     ∙ rounds_ask heard outputs expected line n s now before ports rounds
 
 rounds_within : {P : Type 0} (heard : HeardTrips P) (outputs : Outputs) (expected : List ℕ)
-    (line : List Wanted) (n : ℕ) (s after : Cycles) (before later : P)
+    (line : List Wanted) (n : ℕ) (s after : Cycles) (before later : WatchedState P)
     → Rounds heard outputs expected line n s before after later
-    → IsWithin (WatchedTrips heard) (n * round_trips (length s.asked)) before later
+    → IsWithin (PortsTrip heard) (n * round_trips (length s.asked)) before.ports later.ports
 unfolding Rounds
 rounds_within heard outputs expected line zero s after before later (is, same) =
-    within_none (WatchedTrips heard) _ before later same
+    within_none (PortsTrip heard) _ before.ports later.ports (ap (λ x. x.ports) same)
 rounds_within heard outputs expected line (suc n) s after before later (now, ports, rounds, round) =
-    let trips = WatchedTrips heard in
+    let trips = PortsTrip heard in
     let t : ℕ = round_trips (length s.asked) in
     let asked : length now.asked ≡ length s.asked =
     ap length (rounds_ask heard outputs expected line n s now before ports rounds) in
     let size : suc n * t ≡ n * t + t = suc-mul n t in
     let less : n * t + t ≤ suc n * t = omega (arith, size) in
-    within_less trips (n * t + t) (suc n * t) before later less
-    (within_then trips (n * t) t before ports later
+    within_less trips (n * t + t) (suc n * t) before.ports later.ports less
+    (within_then trips (n * t) t before.ports ports.ports later.ports
     (rounds_within heard outputs expected line n s now before ports rounds)
-    (subst (λ (k : ℕ). IsWithin trips (round_trips k) ports later) asked
+    (subst (λ (k : ℕ). IsWithin trips (round_trips k) ports.ports later.ports) asked
     (round_within heard outputs expected line now after ports later round)))
 
 -- a course makes so many trips at the most for each of its cycles
 pub course_within : {P : Type 0} (heard : HeardTrips P) (outputs : Outputs) (expected : List ℕ)
-    (line : List Wanted) (s after : Cycles) (before later : P)
+    (line : List Wanted) (s after : Cycles) (before later : WatchedState P)
     → IsCourse heard outputs expected line s before after later
-    → IsWithin (WatchedTrips heard)
-    ((after.counts.cycles - s.counts.cycles) * round_trips (length s.asked)) before later
+    → IsWithin (PortsTrip heard)
+    ((after.counts.cycles - s.counts.cycles) * round_trips (length s.asked)) before.ports later.ports
 course_within heard outputs expected line s after before later course =
     let counts : after.counts.cycles ≡ s.counts.cycles + course.number = course.counts in
     let same : course.number ≡ after.counts.cycles - s.counts.cycles = omega (arith, counts) in
-    subst (λ (n : ℕ). IsWithin (WatchedTrips heard) (n * round_trips (length s.asked)) before later) same
+    subst (λ (n : ℕ). IsWithin (PortsTrip heard) (n * round_trips (length s.asked)) before.ports later.ports)
+    same
     (rounds_within heard outputs expected line course.number s after before later course.rounds)

@@ -1,3 +1,6 @@
 mod LastLemmas
 mod CourseLemmas
+mod StartLemmas
 mod GoodRunLemmas
+mod EndedLemmas
+mod ScanLemmas

@@ -4,7 +4,7 @@ use Rattle.std.specs.Prelude.{◌≡◌, ℕ, Option, List}
 use Rattle.ec_diag.specs.declared.located.Located.{Located}
 use Rattle.ec_map.specs.Item.{ItemRecord}
 use Rattle.ec_run.specs.Cycles.{End, begun_with}
-use Rattle.ec_run.specs.Watched.{WatchedTrips}
+use Rattle.ec_run.specs.Watched.{WatchedState, WatchedTrips, untold}
 use Rattle.ec_run.specs.declared.cycles.Cycles.{Cycles}
 use Rattle.ec_run.specs.declared.wanted.Wanted.{Wanted}
 use Rattle.ecat_master.specs.Course.{HeardTrips, IsCourse}
@@ -18,14 +18,20 @@ EndsGood last plan cycles = status_told last (in_op plan.states cycles.image) �
 
 -- the line was started; from the ports as they were then there was a course of cycles, of which the last one
 -- ended so, if there was any
+pub record IsMade {P : Type 0} (heard : HeardTrips P) (before : P) (line : List Wanted)
+    (work : List ItemRecord) (expected : List ℕ) (plan : Plan) (last : Option End) (cycles : Cycles)
+    : Type 0 where
+  pub cable : Located
+  pub between : WatchedState P
+  pub started : IsStarted heard (untold before) line cable between
+  pub later : WatchedState P
+  pub course : IsCourse heard plan.outputs expected line (begun_with work) between cycles later
+  pub is_last : IsLast (WatchedTrips heard) plan.outputs expected (begun_with work) last cycles
+
+-- and the last one was good
 pub record IsGoodRun {P : Type 0} (heard : HeardTrips P) (before : P) (line : List Wanted)
     (work : List ItemRecord) (expected : List ℕ) (plan : Plan) : Type 0 where
-  pub cable : Located
-  pub between : P
-  pub started : IsStarted heard before line cable between
-  pub cycles : Cycles
-  pub later : P
-  pub course : IsCourse heard plan.outputs expected line (begun_with work) between cycles later
   pub last : Option End
-  pub is_last : IsLast (WatchedTrips heard) plan.outputs expected (begun_with work) last cycles
+  pub cycles : Cycles
+  pub made : IsMade heard before line work expected plan last cycles
   pub good : EndsGood last plan cycles

@@ -3,3 +3,5 @@ pub mod Exits
 pub mod Course
 pub mod Start
 pub mod GoodRun
+pub mod Ended
+pub mod Scan

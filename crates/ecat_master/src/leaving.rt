@@ -1,5 +1,8 @@
 //! The end of a run: the state in which the slaves are left.
 
+ghost use Rattle.std.specs.Prelude.{◌≡◌};
+ghost use Rattle.ecat_master.specs.Ended.{IsLeft, is_well};
+
 use crate::words::state_name;
 use ec_regs::AlState;
 use ec_ring::HeardPorts;
@@ -23,7 +26,9 @@ pub(crate) enum Left {
 
 impl Left {
     /// Are the slaves as they were to be left?
-    pub(crate) fn is_well(self) -> bool {
+    pub(crate) fn is_well(self) -> bool
+        ensures { result ≡ is_well self }
+    {
         !matches!(self, Left::NotAll(_))
     }
 }
@@ -33,7 +38,9 @@ pub(crate) fn leave_line<P: HeardPorts>(
     ports: &mut Watched<P>,
     state: Option<AlState>,
     slaves: usize,
-) -> Left {
+) -> Left
+    ensures { IsLeft state result }
+{
     let Some(state) = state else {
         return Left::AsTheyAre;
     };

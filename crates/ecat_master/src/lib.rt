@@ -56,15 +56,20 @@
 //!
 //! What is promised:
 //!
-//! - [`start`] (`started`): where it answers Ok, the slaves were counted as many as they are to be, the cable
-//!   is whole or broken at one link, each slave was given its station address, and all of them were brought
-//!   through the phases in their order, each by its steps.
+//! - [`start`] (`started`): where it answers Ok, the slaves were counted as many as they are to be, the looks
+//!   found the cable whole or broken at one link, each slave was given its station address, and all of them
+//!   were brought through the phases in their order, each by its steps. (`failed`): a fault that it answers
+//!   has its cause: a count that was not answered or told another number, a cable that the looks found broken
+//!   otherwise, a step that failed so. Of a slave that is another one only that all were in Pre-Op.
 //! - [`run_cycles`] (`cycles`): the cycles of a run are `Cycles::cycle`, one after the other, and their ends
 //!   add up; (`last`): it answers how the last one ended. (`course`): cycles, looks at the cable, looks at
-//!   slaves and recoveries follow each other end to end, from the ports before to the ports behind; and
-//!   (`trips`) so many trips are the most for each cycle, whatever a clock says.
+//!   slaves and recoveries follow each other end to end, from the ports before to the ports behind; what
+//!   copies told is forgotten before each cycle, kept of its trips, and left as it is by looks at the cable.
+//!   (`trips`): so many trips are the most for each cycle, whatever a clock says.
 //! - [`master`] (`good`): an exit status of 0 says that the line was started so, and that the last cycle on
-//!   it was good with all slaves in Op, if there was one.
+//!   it was good with all slaves in Op, if there was one. (`ended`): whichever it is, it is that of the fault
+//!   of a start, or that of the last cycle and of the way in which the slaves were left; or it is 3, which it
+//!   is too where output or log could not be written.
 //!
 //! What is printed and when is tried by tests.
 

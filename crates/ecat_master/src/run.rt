@@ -1,14 +1,15 @@
 //! A master that runs: the start-up of a line, and then cycle after cycle.
 
-ghost use Rattle.std.specs.Prelude.{◌≡◌, ◌≢◌, ◌-◌, ◌*◌, ℕ, Err, IfOk, IsOk, length};
+ghost use Rattle.std.specs.Prelude.{◌≡◌, ◌≢◌, ◌-◌, ◌*◌, ◌&&◌, ℕ, Err, IfOk, IsOk, length};
 ghost use Rattle.ec_run.specs.Cycles.{AddUp, IsRun};
 ghost use Rattle.ec_run.specs.Travels.{IsWithin};
-ghost use Rattle.ec_run.specs.Watched.{WatchedTrips};
+ghost use Rattle.ec_run.specs.Watched.{PortsTrip, WatchedTrips, untold};
 ghost use Rattle.ecat_master.specs.Course.{IsCourse, round_trips};
+ghost use Rattle.ecat_master.specs.Ended.{IsEnded, IsTold, is_well};
 ghost use Rattle.ecat_master.specs.Exits.{asked_status, start_status};
 ghost use Rattle.ecat_master.specs.GoodRun.{EndsGood, IsGoodRun};
 ghost use Rattle.ecat_master.specs.Last.{IsLast, in_op, status_told};
-ghost use Rattle.ecat_master.specs.Start.{IsStarted};
+ghost use Rattle.ecat_master.specs.Start.{IsCaused, IsStarted};
 ghost use Rattle.ecat_master.specs.declared.run.StartFailure.TheVariants.{Told};
 ghost use Rattle.ecat_master.specs.declared.startup.StartFault.{StartFault};
 ghost use Rattle.ecat_master.specs.declared.run.TheConstants.{FAILED, GOOD};
@@ -97,8 +98,8 @@ where
     ensures cycles { IsRun (WatchedTrips P.trips) plan.now.outputs expected.now cycles.old cycles.new }
     ensures course { IsCourse P.trips plan.now.outputs expected.now line.now cycles.old ports.old cycles.new
         ports.new }
-    ensures trips { IsWithin (WatchedTrips P.trips) ((cycles.new.counts.cycles - cycles.old.counts.cycles)
-        * round_trips (length cycles.old.asked)) ports.old ports.new }
+    ensures trips { IsWithin (PortsTrip P.trips) ((cycles.new.counts.cycles - cycles.old.counts.cycles)
+        * round_trips (length cycles.old.asked)) ports.old.ports ports.new.ports }
     ensures last { IfOk result (λ last. IsLast (WatchedTrips P.trips) plan.now.outputs expected.now
         cycles.old last cycles.new) }
 {
@@ -143,7 +144,8 @@ fn status_of(last: Option<Result<Verdict, CycleFault>>, in_op: bool) -> u8
 /// The exit status of cycles of which the last one ended so, where the slaves were left as they were to be or
 /// not.
 fn status_where(last: Option<Result<Verdict, CycleFault>>, left: Left, in_op: bool) -> u8
-    ensures { result ≡ GOOD → status_told last in_op ≡ GOOD }
+    ensures status { result ≡ status_told last (is_well left && in_op) }
+    ensures good { result ≡ GOOD → status_told last in_op ≡ GOOD }
 {
     status_of(last, left.is_well() && in_op)
 }
@@ -206,6 +208,7 @@ where
     L: Write,
     requires { length expected.now ≡ length work }
     ensures good { result ≡ GOOD → IsGoodRun P.trips ports line.now work expected.now plan.now }
+    ensures ended { IsEnded P.trips ports line.now work expected.now plan.now result }
 {
     let mut ports = Watched::new(ports);
     let cable = match begin(&mut ports, line, plan.identities, &mut Lines::new(out)) {
@@ -246,8 +249,8 @@ fn begin<P: HeardPorts, W: Write>(
 ) -> Result<Located, StartFailure>
     ensures started { IfOk result (λ cable. IsStarted P.trips ports.old line.now cable ports.new) }
     ensures told { (status : ℕ) → result ≡ Err (Told status) → status ≢ GOOD }
-    ensures by_fault { (status : ℕ) → result ≡ Err (Told status)
-        → (fault : StartFault) × (status ≡ start_status fault) }
+    ensures by_fault { (status : ℕ) → result ≡ Err (Told status) → (fault : StartFault)
+        × IsCaused P.trips ports.old line.now fault × (status ≡ start_status fault) }
 {
     match start(ports, line, identities, lines) {
         Ok(cable) => Ok(cable),
@@ -279,6 +282,7 @@ fn conclude<W: Write, V: Write, L: Write>(
 ) -> u8
     ensures good { result ≡ GOOD → IfOk ran (λ last. EndsGood last plan.now cycles.now) }
     ensures ran { result ≡ GOOD → IsOk ran }
+    ensures told { IsTold ran (is_well left && in_op plan.now.states cycles.now.image) result }
 {
     if ran != Err(Unwritten::Output) && put_end(left, cycles, expected, plan, teller).is_ok() {
         return match ran {

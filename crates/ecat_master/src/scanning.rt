@@ -1,8 +1,15 @@
 //! What stands on a line, slave by slave.
 
-ghost use Rattle.std.specs.Prelude.{◌≡◌, ◌≤◌, ◌<◌, IfSome, IfOk, length};
+ghost use Rattle.std.specs.Prelude.{◌≡◌, ◌≢◌, ◌≤◌, ◌<◌, ◌==◌, [], IfSome, IfOk, length, true};
+ghost use Rattle.std.specs.List.{list_all};
+ghost use Rattle.ec_diag.specs.declared.located.Located.TheVariants.{Unknown};
+ghost use Rattle.ec_run.specs.Watched.{WatchedTrips};
 ghost use Rattle.ec_services.specs.Mailbox.{IsPeer};
-ghost use Rattle.ec_wire.specs.Datagram.{nth};
+ghost use Rattle.ec_services.specs.Stations.{adp_of_place};
+ghost use Rattle.ec_wire.specs.Datagram.{address_of, nth, record_of};
+ghost use Rattle.ecat_master.specs.Scan.{AreAsked, ArePlacesRead, IsAsk, IsLookedThrough, IsPlaceRead};
+ghost use Rattle.ecat_master.specs.Scan.{IsReadAt, IsScanned, are_alike, greater, greatest, is_enough};
+ghost use Rattle.ecat_master.specs.Scan.{register_read, way_to, with_count};
 ghost use Rattle.ecat_master.specs.declared.scanning.ScanEnd.TheVariants.{Ask, Output};
 
 use crate::identity::{IDENTITY, put_value};
@@ -20,9 +27,10 @@ use ec_regs::{AlState, AlStatus, Fmmu, SyncMan};
 use ec_ring::{HeardPorts, MAX_SLAVES};
 use ec_run::{Watched, count_slaves, one_counted, peer_between, put, request};
 use ec_services::{MasterFault, Peer, upload_surely};
-use ec_wire::{Command, FrameBuf, address_of};
+use ec_wire::{Command, Datagram, FrameBuf, address_of};
 use ecat_text::Lines;
 use std::io::{self, Write};
+use std::marker::Model;
 
 /// The most trips by which an object is read.
 const TRIPS: u32 = 64;
@@ -96,12 +104,16 @@ struct Shown {
 /// where the cable is broken. Behind a broken link with slaves on both sides a slave is read by its place
 /// only where no other answers with it; the line of another one says `BadAnswer`, and that two may answer.
 /// What is read of a slave goes to the finder too. It answers whether copies came back, the counts of the
-/// slaves were alike, and all slaves could be read.
+/// slaves were alike, something is known of the cable, and all slaves could be read: of each as many as were
+/// counted, one after the other, its station address, its AL status and the records of its sync managers and
+/// FMMUs, each by a read on which exactly one slave counted.
 pub fn scan<P: HeardPorts, W: Write, F: Finder>(
     ports: &mut Watched<P>,
     lines: &mut Lines<'_, W>,
     finder: &mut F,
-) -> Result<bool, ScanEnd> {
+) -> Result<bool, ScanEnd>
+    ensures scanned { IfOk result (λ all. all ≡ true → IsScanned P.trips ports.old ports.new) }
+{
     let counted = count_often(ports)?;
     let Some(count) = counted.greatest() else {
         lines.text("nobody answers at A")?;
@@ -115,11 +127,20 @@ pub fn scan<P: HeardPorts, W: Write, F: Finder>(
     };
     put_links(located, lines)?;
     lines.end()?;
-    let mut all = located != Located::Unknown && counted.are_alike();
-    for place in 0..count {
-        all = scan_slave(ports, place, located, lines, finder)? && all;
+    let read = scan_slaves(ports, count, located, lines, finder)?;
+    Ok(is_all(located, &counted, read))
+}
+
+/// Is all known: where the cable is broken, how many slaves there are, and each of them by its registers?
+fn is_all(located: Located, counted: &Counted, read: bool) -> bool
+    ensures known { result ≡ true → located ≢ Unknown }
+    ensures alike { result ≡ true → are_alike counted.now ≡ true }
+    ensures read { result ≡ true → read ≡ true }
+{
+    match located {
+        Located::Unknown => false,
+        _ => { if counted.are_alike() { read } else { false } }
     }
-    Ok(all)
 }
 
 /// How often the slaves are counted.
@@ -134,40 +155,127 @@ struct Counted {
     counts: ArrayVec<u16, COUNTS>,
 }
 
+impl Model for Counted {
+    ghost use Rattle.std.specs.Prelude.{List, ℕ};
+
+    ghost Value = { List ℕ };
+
+    ghost view = { λ c. c.counts.items };
+}
+
 impl Counted {
-    /// The most slaves that were counted; nothing where nobody answered.
-    fn greatest(&self) -> Option<u16> {
-        let mut greatest = *self.counts.as_slice().first()?;
-        for count in self.counts.as_slice() {
-            greatest = greatest.max(*count);
+    /// Nothing was counted.
+    fn new() -> Counted
+        ensures { result ≡ [] }
+    {
+        Counted {
+            counts: ArrayVec::new(),
         }
-        Some(greatest)
+    }
+
+    /// Keeps a count, where there is one.
+    fn keep(&mut self, told: Option<u16>)
+        requires { length self.old < COUNTS }
+        ensures { self.new ≡ with_count self.old told }
+    {
+        match told {
+            Some(count) => self.counts.push(count),
+            None => {}
+        }
+    }
+
+    /// Are there as many counts as are wanted?
+    fn is_enough(&self) -> bool
+        ensures { result ≡ is_enough self.now }
+    {
+        self.counts.len() == COUNTS
+    }
+
+    /// The most slaves that were counted; nothing where nobody answered.
+    fn greatest(&self) -> Option<u16>
+        ensures { result ≡ greatest self.now }
+    {
+        greatest_of(self.counts.as_slice())
     }
 
     /// Was the same counted each time?
-    fn are_alike(&self) -> bool {
-        let counts = self.counts.as_slice();
-        match counts.first() {
-            Some(first) => counts.iter().all(|count| count == first),
-            None => true,
+    fn are_alike(&self) -> bool
+        ensures { result ≡ are_alike self.now }
+    {
+        are_alike(self.counts.as_slice())
+    }
+}
+
+/// The greater of a count and of another one, if there is one.
+fn greater(found: Option<u16>, count: u16) -> u16
+    ensures { result ≡ greater found count }
+{
+    match found {
+        Some(other) => other.max(count),
+        None => count,
+    }
+}
+
+/// The greatest of these counts.
+fn greatest_of(counts: &[u16]) -> Option<u16>
+    ensures { result ≡ greatest counts.now }
+{
+    let mut greatest = None;
+    for count in counts {
+        greatest = Some(greater(greatest, *count));
+    }
+    greatest
+}
+
+/// Are all these counts the first one?
+fn are_alike(counts: &[u16]) -> bool
+    ensures { result ≡ are_alike counts.now }
+{
+    match counts.first() {
+        Some(first) => all_are(counts, *first),
+        None => true,
+    }
+}
+
+/// Are all these counts this one?
+fn all_are(counts: &[u16], wanted: u16) -> bool
+    ensures { result ≡ list_all (λ count. count == wanted) counts.now }
+{
+    counts.iter().all(|count| *count == wanted)
+}
+
+/// Counts the slaves once; nothing where no copy came.
+fn count_once<P: HeardPorts>(ports: &mut Watched<P>) -> Result<Option<u16>, MasterFault>
+    ensures { IsAsk P.trips ports.old result ports.new }
+{
+    ports.clear();
+    match count_slaves(ports) {
+        Ok(count) => {
+            if ports.has_heard() {
+                Ok(Some(count))
+            } else {
+                Ok(None)
+            }
         }
+        Err(fault) => Err(fault),
     }
 }
 
 /// Counts the slaves `COUNTS` times, as far as copies come.
-fn count_often<P: HeardPorts>(ports: &mut Watched<P>) -> Result<Counted, MasterFault> {
-    let mut counts = ArrayVec::new();
+fn count_often<P: HeardPorts>(ports: &mut Watched<P>) -> Result<Counted, MasterFault>
+    ensures { AreAsked P.trips ports.old ASKS [] result ports.new }
+{
+    let mut counted = Counted::new();
     for _ask in 0..ASKS {
-        ports.clear();
-        let count = count_slaves(ports)?;
-        if ports.has_heard() && counts.len() < COUNTS {
-            counts.push(count);
+        match count_once(ports) {
+            Ok(told) => counted.keep(told),
+            Err(fault) => return Err(fault),
         }
-        if counts.len() == COUNTS {
-            break;
+        if counted.is_enough() {
+            return Ok(counted);
         }
     }
-    Ok(Counted { counts })
+    Ok(counted)
 }
 
 /// Writes how many slaves there are, and what else was counted.
@@ -194,6 +302,32 @@ fn put_links<W: Write>(located: Located, lines: &mut Lines<'_, W>) -> io::Result
     }
 }
 
+/// Writes the line of each slave, and answers whether all could be read.
+fn scan_slaves<P: HeardPorts, W: Write, F: Finder>(
+    ports: &mut Watched<P>,
+    count: u16,
+    located: Located,
+    lines: &mut Lines<'_, W>,
+    finder: &mut F,
+) -> Result<bool, ScanEnd>
+    ensures { IfOk result (λ all. all ≡ true → ArePlacesRead P.trips ports.old located count ports.new) }
+{
+    let mut all = true;
+    for place in 0..count {
+        let read = scan_slave(ports, place, located, lines, finder)?;
+        all = both(all, read);
+    }
+    Ok(all)
+}
+
+/// Is it so of both?
+fn both(first: bool, second: bool) -> bool
+    ensures first { result ≡ true → first ≡ true }
+    ensures second { result ≡ true → second ≡ true }
+{
+    if first { second } else { false }
+}
+
 /// Writes the line of one slave, and answers whether it could be read.
 fn scan_slave<P: HeardPorts, W: Write, F: Finder>(
     ports: &mut Watched<P>,
@@ -201,26 +335,52 @@ fn scan_slave<P: HeardPorts, W: Write, F: Finder>(
     located: Located,
     lines: &mut Lines<'_, W>,
     finder: &mut F,
-) -> Result<bool, ScanEnd> {
+) -> Result<bool, ScanEnd>
+    ensures { IfOk result (λ read. read ≡ true → IsPlaceRead P.trips ports.old located place ports.new) }
+{
     lines.text(format_args!("slave {place}"))?;
-    let read = match look(ports, way_to(place, located), place, finder) {
-        Err(MasterFault::Port) => return Err(ScanEnd::Ask(MasterFault::Port)),
+    let read = read_slave(ports, place, located, lines, finder)?;
+    lines.end()?;
+    Ok(read)
+}
+
+/// Reads one slave and puts what it shows of itself, or why it could not be read; and answers whether it
+/// could.
+fn read_slave<P: HeardPorts, W: Write, F: Finder>(
+    ports: &mut Watched<P>,
+    place: u16,
+    located: Located,
+    lines: &mut Lines<'_, W>,
+    finder: &mut F,
+) -> Result<bool, ScanEnd>
+    ensures { IfOk result (λ read. read ≡ true → IsPlaceRead P.trips ports.old located place ports.new) }
+{
+    match look(ports, way_to(place, located), place, finder) {
+        Err(MasterFault::Port) => Err(ScanEnd::Ask(MasterFault::Port)),
         Err(fault) => {
-            lines.text(" ")?;
-            put_fault(fault, lines)?;
-            if fault == MasterFault::BadAnswer && located != Located::Whole {
-                lines.text(" (while the cable is broken, another slave may answer for it)")?;
-            }
-            false
+            put_unread(fault, located, lines)?;
+            Ok(false)
         }
         Ok(shown) => {
             put_shown(&shown, lines)?;
             put_identity(ports, &shown, place, lines, finder)?;
-            true
+            Ok(true)
         }
-    };
-    lines.end()?;
-    Ok(read)
+    }
+}
+
+/// Puts why a slave could not be read.
+fn put_unread<W: Write>(
+    fault: MasterFault,
+    located: Located,
+    lines: &mut Lines<'_, W>,
+) -> io::Result<()> {
+    lines.text(" ")?;
+    put_fault(fault, lines)?;
+    if fault == MasterFault::BadAnswer && located != Located::Whole {
+        lines.text(" (while the cable is broken, another slave may answer for it)")?;
+    }
+    Ok(())
 }
 
 /// How a slave is reached by its place.
@@ -233,7 +393,9 @@ struct Way {
 }
 
 /// How the slave at a place is reached, over a cable that is broken there.
-fn way_to(place: u16, located: Located) -> Way {
+fn way_to(place: u16, located: Located) -> Way
+    ensures { result ≡ way_to place located }
+{
     match located {
         Located::One(link) if usize::from(place) >= link => Way {
             distance: place - link as u16,
@@ -250,6 +412,26 @@ fn way_to(place: u16, located: Located) -> Way {
     }
 }
 
+/// The address of a register of the slave at a distance from where a copy begins to be processed.
+fn address_behind(distance: u16, ado: u16) -> u32
+    ensures { result ≡ address_of (adp_of_place distance) ado }
+{
+    address_of(distance.wrapping_neg(), ado)
+}
+
+/// The read of so many bytes of a slave, from a register on.
+fn register_read(way: Way, ado: u16, size: usize) -> Datagram
+    requires { size ≤ 128 }
+    ensures read { record_of result ≡ register_read way ado size }
+    ensures size { length result.payload.items ≡ size }
+{
+    let room = [0; 128];
+    let address = address_behind(way.distance, ado);
+    let mut sent = request(Command::Aprd, address, &room[..size]);
+    sent.circulating = way.circulating;
+    sent
+}
+
 /// Reads a run of registers of one slave.
 fn read_at<P: Ports>(
     ports: &mut P,
@@ -258,16 +440,16 @@ fn read_at<P: Ports>(
     count: usize,
 ) -> Result<FrameBuf, MasterFault>
     requires { count ≤ 128 }
+    ensures read { IsReadAt P.trips ports.old way ado count result ports.new }
     ensures one { IfOk result (λ joined. length joined ≡ 1) }
     ensures size { IfOk result (λ joined. length (nth joined 0).payload ≡ count) }
 {
-    let room = [0; 128];
-    let address = address_of(way.distance.wrapping_neg(), ado);
-    let mut sent = request(Command::Aprd, address, &room[..count]);
-    sent.circulating = way.circulating;
+    let sent = register_read(way, ado, count);
     let answer = put(ports, &sent);
-    one_counted(&answer)?;
-    answer
+    match one_counted(&answer) {
+        Ok(()) => answer,
+        Err(fault) => Err(fault),
+    }
 }
 
 /// Reads what a slave shows of itself.
@@ -276,7 +458,9 @@ fn look<P: Ports, F: Finder>(
     way: Way,
     place: u16,
     finder: &mut F,
-) -> Result<Shown, MasterFault> {
+) -> Result<Shown, MasterFault>
+    ensures { IfOk result (λ shown. IsLookedThrough P.trips ports.old way ports.new) }
+{
     let station = read_at(ports, way, STATION_ADDRESS, 2)?;
     let status = read_at(ports, way, AL_STATUS, STATUS_BYTES)?;
     let managers = read_at(

@@ -1,11 +1,16 @@
 //! The start-up of a line.
 
-ghost use Rattle.std.specs.Prelude.{◌≡◌, ◌≤◌, ◌<◌, IfOk, IfSome, Ok, OnOk, Some, length};
+ghost use Rattle.std.specs.Prelude.{◌≡◌, ◌≤◌, ◌<◌, ◌∷◌, [], IfOk, IfSome, Err, Ok, Some, length};
 ghost use Rattle.ec_run.specs.Phase.{Brings, steps_of};
 ghost use Rattle.ec_run.specs.Watched.{WatchedTrips};
-ghost use Rattle.ecat_master.specs.Course.{AreLooks};
-ghost use Rattle.ecat_master.specs.Start.{AreCounted, GivesStations, IsCable, IsStarted, gap_of};
+ghost use Rattle.ec_run.specs.declared.phase.Phase.TheVariants.{Init, PreOp, Startup, SafeOp, Op};
+ghost use Rattle.ec_services.specs.declared.fault.MasterFault.{MasterFault};
+ghost use Rattle.ecat_master.specs.Course.{IsLook, IsLookedOver, is_known, is_last_look};
+ghost use Rattle.ecat_master.specs.Start.{AreCounted, BringsThrough, GivesStations, IsCable, IsCaused};
+ghost use Rattle.ecat_master.specs.Start.{IsFound, IsStarted, LookEnds, PartEnds, gap_of};
 ghost use Rattle.ecat_master.specs.declared.startup.StartEnd.TheVariants.{Fault, Output};
+ghost use Rattle.ecat_master.specs.declared.startup.StartFault.{StartFault};
+ghost use Rattle.ecat_master.specs.declared.startup.StartFault.TheVariants.{Ask};
 ghost use Rattle.ecat_master.specs.declared.startup.StartFault.TheVariants.{Identity as IsOther};
 ghost use Rattle.ecat_master.specs.declared.startup.StartFault.TheVariants.{Step as StepFailed};
 
@@ -19,8 +24,8 @@ use ec_services::MasterFault;
 use ecat_text::Lines;
 use std::io::{self, Write};
 
-/// How often the cable is looked at, where that did not come out as it should.
-const TRIES: usize = 10;
+/// How often the cable is looked at again, where that did not come out as it should.
+const MORE_CABLE_LOOKS: usize = 9;
 
 /// How often the slaves are counted again, where they were not as many as they are to be.
 const MORE_COUNTS: usize = 9;
@@ -50,25 +55,25 @@ pub enum StartEnd {
 }
 
 impl From<io::Error> for StartEnd {
-    fn from(_error: io::Error) -> StartEnd
-        ensures { result ≡ Output }
-    {
+    ghost from_gives = { λ _ end. end ≡ Output };
+
+    fn from(_error: io::Error) -> StartEnd {
         StartEnd::Output
     }
 }
 
 impl From<StepFault> for StartEnd {
-    fn from(fault: StepFault) -> StartEnd
-        ensures { result ≡ Fault (StepFailed fault) }
-    {
+    ghost from_gives = { λ failed end. end ≡ Fault (StepFailed failed) };
+
+    fn from(fault: StepFault) -> StartEnd {
         StartEnd::Fault(StartFault::Step(fault))
     }
 }
 
 impl From<OtherSlave> for StartEnd {
-    fn from(other: OtherSlave) -> StartEnd
-        ensures { result ≡ Fault (IsOther other) }
-    {
+    ghost from_gives = { λ other end. end ≡ Fault (IsOther other) };
+
+    fn from(other: OtherSlave) -> StartEnd {
         StartEnd::Fault(StartFault::Identity(other))
     }
 }
@@ -85,6 +90,28 @@ pub fn start<P: HeardPorts, W: Write>(
     lines: &mut Lines<'_, W>,
 ) -> Result<Located, StartEnd>
     ensures started { IfOk result (λ cable. IsStarted P.trips ports.old line.now cable ports.new) }
+    ensures failed { (fault : StartFault) → result ≡ Err (Fault fault)
+        → IsCaused P.trips ports.old line.now fault }
+{
+    let located = find(ports, line, lines)?;
+    give_stations(ports, line, located, lines)?;
+    bring_to_pre_op(ports, line, lines)?;
+    compare_identities(ports, line, identities)?;
+    bring_to_op(ports, line, lines)?;
+    Ok(located)
+}
+
+/// Counts the slaves of a line and looks at its cable, which is to be whole or broken at one link.
+fn find<P: HeardPorts, W: Write>(
+    ports: &mut Watched<P>,
+    line: &[Wanted],
+    lines: &mut Lines<'_, W>,
+) -> Result<Located, StartEnd>
+    ensures found { IfOk result (λ cable. IsFound P.trips ports.old line.now cable ports.new) }
+    ensures cable { IfOk result IsCable }
+    ensures limit { IfOk result (λ cable. length line.now ≤ MAX_SLAVES) }
+    ensures failed { (fault : StartFault) → result ≡ Err (Fault fault)
+        → IsCaused P.trips ports.old line.now fault }
 {
     if line.len() > MAX_SLAVES {
         return Err(StartEnd::Fault(StartFault::Count(0)));
@@ -94,17 +121,36 @@ pub fn start<P: HeardPorts, W: Write>(
         tell_cut_off(ports, line, lines)?;
         return Err(StartEnd::Fault(StartFault::Count(found)));
     }
-    let located = look(ports, line, lines)?;
-    give_stations(ports, line, located)?;
-    lines.text("stations given")?;
-    lines.end()?;
+    look(ports, line, lines)
+}
+
+/// Brings all slaves to Pre-Op.
+fn bring_to_pre_op<P: HeardPorts, W: Write>(
+    ports: &mut Watched<P>,
+    line: &[Wanted],
+    lines: &mut Lines<'_, W>,
+) -> Result<(), StartEnd>
+    requires { length line.now ≤ MAX_SLAVES }
+    ensures { PartEnds (λ did. BringsThrough (WatchedTrips P.trips) ports.old line.now (Init ∷ PreOp ∷ []) did
+        ports.new) result }
+{
     bring_up(ports, line, Phase::Init, lines)?;
-    bring_up(ports, line, Phase::PreOp, lines)?;
-    compare_identities(ports, line, identities)?;
+    bring_up(ports, line, Phase::PreOp, lines)
+}
+
+/// Brings all slaves from Pre-Op to Op.
+fn bring_to_op<P: HeardPorts, W: Write>(
+    ports: &mut Watched<P>,
+    line: &[Wanted],
+    lines: &mut Lines<'_, W>,
+) -> Result<(), StartEnd>
+    requires { length line.now ≤ MAX_SLAVES }
+    ensures { PartEnds (λ did. BringsThrough (WatchedTrips P.trips) ports.old line.now
+        (Startup ∷ SafeOp ∷ Op ∷ []) did ports.new) result }
+{
     bring_up(ports, line, Phase::Startup, lines)?;
     bring_up(ports, line, Phase::SafeOp, lines)?;
-    bring_up(ports, line, Phase::Op, lines)?;
-    Ok(located)
+    bring_up(ports, line, Phase::Op, lines)
 }
 
 /// Brings all slaves through a phase, and tells of it.
@@ -115,8 +161,8 @@ fn bring_up<P: HeardPorts, W: Write>(
     lines: &mut Lines<'_, W>,
 ) -> Result<(), StartEnd>
     requires { length line.now ≤ MAX_SLAVES }
-    ensures { OnOk result (Brings (WatchedTrips P.trips) ports.old 0 line.now (steps_of phase) (Ok tt)
-        ports.new) }
+    ensures { PartEnds (λ did. Brings (WatchedTrips P.trips) ports.old 0 line.now (steps_of phase) did
+        ports.new) result }
 {
     bring_line(ports, line, phase)?;
     tell_phase(phase, line, lines)?;
@@ -143,7 +189,10 @@ fn count<P: HeardPorts, W: Write>(
     wanted: usize,
     lines: &mut Lines<'_, W>,
 ) -> Result<u16, StartEnd>
-    ensures counted { IfOk result (λ found. AreCounted (WatchedTrips P.trips) ports.old found ports.new) }
+    ensures counted { IfOk result (λ found. AreCounted (WatchedTrips P.trips) ports.old (Ok found)
+        ports.new) }
+    ensures failed { (fault : StartFault) → result ≡ Err (Fault fault) → (asked : MasterFault)
+        × AreCounted (WatchedTrips P.trips) ports.old (Err asked) ports.new × (fault ≡ Ask asked) }
 {
     let found = match count_until(ports, wanted) {
         Ok(found) => found,
@@ -159,7 +208,7 @@ fn count<P: HeardPorts, W: Write>(
 
 /// Counts the slaves until they are so many, `MORE_COUNTS` times more at the most.
 fn count_until<P: Ports>(ports: &mut P, wanted: usize) -> Result<u16, MasterFault>
-    ensures counted { IfOk result (λ found. AreCounted P.trips ports.old found ports.new) }
+    ensures { AreCounted P.trips ports.old result ports.new }
 {
     for _count in 0..MORE_COUNTS {
         let found = match count_slaves(ports) {
@@ -194,8 +243,7 @@ fn look<P: HeardPorts, W: Write>(
     line: &[Wanted],
     lines: &mut Lines<'_, W>,
 ) -> Result<Located, StartEnd>
-    ensures looks { AreLooks P.trips ports.old (length line.now) TRIES ports.new }
-    ensures cable { IfOk result IsCable }
+    ensures { LookEnds P.trips ports.old (length line.now) result ports.new }
 {
     let located = match look_surely(ports, line.len()) {
         Some(located) => located,
@@ -210,29 +258,48 @@ fn look<P: HeardPorts, W: Write>(
 }
 
 /// Is it known of each link whether it is down, but for those between two that are?
-fn is_known(located: Located) -> bool {
+fn is_known(located: Located) -> bool
+    ensures { result ≡ is_known located }
+{
     matches!(
         located,
         Located::Whole | Located::One(_) | Located::Between(_, _)
     )
 }
 
-/// Where the cable of a line of so many slaves is broken, by a few frames if copies were lost, `TRIES` at the
-/// most; nothing where the ports failed.
-pub(crate) fn look_surely<P: HeardPorts>(ports: &mut Watched<P>, slaves: usize) -> Option<Located>
-    ensures looks { AreLooks P.trips ports.old slaves TRIES ports.new }
+/// Is no other look at the cable needed, or of no use?
+fn is_last_look(found: Option<Located>) -> bool
+    ensures { result ≡ is_last_look found }
 {
-    let mut located = Located::Unknown;
-    for _try in 0..TRIES {
-        match ports.locate(slaves) {
-            Ok(found) => located = found,
-            Err(_) => return None,
-        }
-        if is_known(located) {
-            return Some(located);
+    match found {
+        Some(located) => is_known(located),
+        None => true,
+    }
+}
+
+/// Looks at the cable of a line of so many slaves, and says where it is broken; nothing where a port failed.
+fn look_once<P: HeardPorts>(ports: &mut Watched<P>, slaves: usize) -> Option<Located>
+    ensures look { IsLook P.trips ports.old.ports slaves result ports.new.ports }
+    ensures still_told { ports.new.tally ≡ ports.old.tally }
+{
+    match ports.locate(slaves) {
+        Ok(located) => Some(located),
+        Err(_) => None,
+    }
+}
+
+/// Where the cable of a line of so many slaves is broken, by a few frames if copies were lost; nothing where
+/// the ports failed.
+pub(crate) fn look_surely<P: HeardPorts>(ports: &mut Watched<P>, slaves: usize) -> Option<Located>
+    ensures { IsLookedOver P.trips ports.old slaves result ports.new }
+{
+    for _look in 0..MORE_CABLE_LOOKS {
+        let found = look_once(ports, slaves);
+        if is_last_look(found) {
+            return found;
         }
     }
-    Some(located)
+    look_once(ports, slaves)
 }
 
 /// The link between two slaves at which the cable is broken, where it is broken there and nowhere else.
@@ -252,15 +319,32 @@ fn gap_of(located: Located, slaves: usize) -> Option<usize>
     }
 }
 
+/// Gives each slave its station address over a cable that is whole or broken at one link, and tells of it.
+fn give_stations<P: HeardPorts, W: Write>(
+    ports: &mut Watched<P>,
+    line: &[Wanted],
+    located: Located,
+    lines: &mut Lines<'_, W>,
+) -> Result<(), StartEnd>
+    requires { length line.now ≤ MAX_SLAVES }
+    ensures { PartEnds (λ did. GivesStations (WatchedTrips P.trips) ports.old line.now
+        (gap_of located (length line.now)) did ports.new) result }
+{
+    give_by_place(ports, line, located)?;
+    lines.text("stations given")?;
+    lines.end()?;
+    Ok(())
+}
+
 /// Gives each slave its station address, by its place, over a cable that is whole or broken at one link.
-fn give_stations<P: HeardPorts>(
+fn give_by_place<P: HeardPorts>(
     ports: &mut Watched<P>,
     line: &[Wanted],
     located: Located,
 ) -> Result<(), StepFault>
     requires { length line.now ≤ MAX_SLAVES }
-    ensures gives { OnOk result (GivesStations (WatchedTrips P.trips) ports.old line.now
-        (gap_of located (length line.now)) ports.new) }
+    ensures gives { GivesStations (WatchedTrips P.trips) ports.old line.now (gap_of located (length line.now))
+        result ports.new }
 {
     match gap_of(located, line.len()) {
         Some(link) => give_around(ports, line, link),
@@ -277,12 +361,13 @@ fn give_around<P: HeardPorts>(
 ) -> Result<(), StepFault>
     requires limit { length line.now ≤ MAX_SLAVES }
     requires inside { link < length line.now }
-    ensures gives { OnOk result (GivesStations (WatchedTrips P.trips) ports.old line.now (Some link)
-        ports.new) }
+    ensures gives { GivesStations (WatchedTrips P.trips) ports.old line.now (Some link) result ports.new }
 {
     let first = link as u16;
-    bring(ports, first, &line[link..], &[Step::StationBehind(first)])?;
-    bring(ports, 0, &line[..link], &[Step::StationBefore])
+    match bring(ports, first, &line[link..], &[Step::StationBehind(first)]) {
+        Ok(()) => bring(ports, 0, &line[..link], &[Step::StationBefore]),
+        Err(failed) => Err(failed),
+    }
 }
 
 /// Puts why a line could not be started.

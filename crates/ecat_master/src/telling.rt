@@ -1,8 +1,7 @@
 //! What is told of cycles while they run.
 
 ghost use Rattle.std.specs.Prelude.{◌≡◌, ◌≤◌, length};
-ghost use Rattle.ecat_master.specs.Course.{AreLooks};
-ghost use Rattle.ecat_master.specs.declared.startup.TheConstants.{TRIES};
+ghost use Rattle.ecat_master.specs.Course.{MayBeLookedOver};
 
 use crate::startup::look_surely;
 use crate::words::put_cable;
@@ -90,7 +89,7 @@ impl Told {
         states: bool,
         lines: &mut Lines<'_, W>,
     ) -> io::Result<()>
-        ensures looks { AreLooks P.trips ports.old (length line.now) TRIES ports.new }
+        ensures looks { MayBeLookedOver P.trips ports.old (length line.now) ports.new }
     {
         let now = Showing {
             ended,
@@ -131,7 +130,7 @@ impl Told {
         ports: &mut Watched<P>,
         slaves: usize,
     ) -> Located
-        ensures looks { AreLooks P.trips ports.old slaves TRIES ports.new }
+        ensures looks { MayBeLookedOver P.trips ports.old slaves ports.new }
     {
         if ended == Err(CycleFault::Port) {
             return self.cable;
