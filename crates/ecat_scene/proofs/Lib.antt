@@ -1,3 +1,9 @@
+mod DeedLemmas
+mod LastLemmas
+mod MeantLemmas
 mod NumberLemmas
+mod RowLemmas
 mod SpeltLemmas
+mod TextLemmas
+mod ThingLemmas
 mod WordLemmas

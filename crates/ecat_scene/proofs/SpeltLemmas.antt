@@ -1,29 +1,40 @@
 -- What is written is parted into the words that it was put together of.
-use Rattle.std.proofs.Common.{◌≡◌, ℕ, zero, suc, ◌+◌, ◌-◌, ◌<◌, ◌≤◌, ◌^◌, ◌&&◌, Bool, true, false, not, List, []}
-use Rattle.std.proofs.Common.{◌∷◌, ◌++◌, All, length, refl, ap, sym, subst, ◌∙◌, arith, filter, cond, eqb, codes}
-use Rattle.std.proofs.Common.{lit<, lit≤, append_assoc}
+use Rattle.std.proofs.Common.{◌≡◌, ℕ, zero, suc, ◌-◌, ◌<◌, ◌≤◌, ◌^◌, ◌&&◌, Bool, true, false, not, List, []}
+use Rattle.std.proofs.Common.{◌∷◌, ◌++◌, All, length, refl, ap, sym, subst, ◌∙◌, arith, filter, cond, codes}
+use Rattle.std.proofs.Common.{◌/◌, ◌%◌, lit<, lit≤, append_assoc, slice_index}
 use Rattle.std.proofs.lemmas.Bool.{true≢false}
 use Rattle.std.proofs.lemmas.Bool.Decides.{nat_tests}
+use Rattle.std.proofs.lemmas.List.{append-nil}
 use Rattle.std.proofs.lemmas.List.Elements.{All-nil, All-cons}
 use Rattle.std.proofs.lemmas.List.Splits.{slice_split_at, slice_split_none}
 use Rattle.std.proofs.lemmas.Fmt.{decimal_is_IsNumeral, digits_is_IsNumeral}
 use Rattle.std.specs.Char.{digit_value}
 use Rattle.std.specs.Fmt.{decimal, digits}
-use Rattle.std.specs.List.{list_all, slice_split}
+use Rattle.std.specs.List.{list_all}
 use Rattle.std.specs.Str.Parse.{AllDigits}
 use Rattle.ecat_scene.specs.declared.written.AreaKind.{AreaKind}
 use Rattle.ecat_scene.specs.declared.written.AreaKind.TheVariants.{MailboxWrite, MailboxRead, Write, Read}
+use Rattle.hex.specs.Hex.{encode_lower, encode_with, lower_digits}
 use Rattle.ec_regs.specs.Al.{code_of}
 use Rattle.ec_regs.specs.declared.al.AlState.{AlState}
 use Rattle.ec_regs.specs.declared.al.AlState.TheVariants.{Init, PreOp, SafeOp, Op}
+use Rattle.ec_app.specs.Value.{FitsValue}
+use Rattle.ec_app.specs.declared.value.Rights.{Rights}
+use Rattle.ec_app.specs.declared.value.Rights.TheVariants.{ReadOnly, WriteOnly, Both}
+use Rattle.ec_app.specs.declared.value.Value.{Value}
+use Rattle.ec_app.specs.declared.value.Value.TheVariants.{One, Two, Four}
+use Rattle.ec_wire.specs.Datagram.{ado_of, adp_of}
+use Rattle.ec_wire.specs.declared.kind.Kind.{Kind}
+use Rattle.ec_wire.specs.declared.kind.Kind.TheVariants.{Lrd, Lwr, Lrw, Brd, Fprd, Fpwr}
 use Rattle.ecat_scene.specs.declared.written.Through.{Through}
 use Rattle.ecat_scene.specs.declared.written.Through.TheVariants.{Reads, Writes, ReadsAndWrites}
 use Rattle.ecat_scene.specs.declared.written.SceneLine.{SceneLine}
 use Rattle.ecat_scene.specs.declared.written.SceneLine.TheVariants.{Slave, State, Simple, Areas, SyncMan}
 use Rattle.ecat_scene.specs.declared.written.SceneLine.TheVariants.{Fmmu as FmmuLine, Load, Object, Startup}
 use Rattle.ecat_scene.specs.declared.written.SceneLine.TheVariants.{Item}
-use Rattle.ecat_scene.specs.Lines.{area_word, hexadecimal, line_words, through_word}
-use Rattle.ecat_scene.specs.Spelt.{hex_word, IsSpelt, spelt}
+use Rattle.ecat_scene.specs.Lines.{area_word, hexadecimal, item_words, line_words, object_words, rights_word}
+use Rattle.ecat_scene.specs.Lines.{through_word}
+use Rattle.ecat_scene.specs.Spelt.{ends_with_row, hex_word, IsSpelt, item_spelt, object_spelt, spelt}
 use Rattle.ecat_scene.specs.Text.{has_bytes, is_space, words_in}
 use Rattle.ecat_scene.proofs.NumberLemmas.{pad-all, padded}
 
@@ -61,10 +72,26 @@ abbrev pub AreWords : List (List ℕ) → Type 0
 AreWords [] = Unit {0}
 AreWords (w ∷ ws) = IsWord w × AreWords ws
 
-pub words-joined : (w : List ℕ) (ws : List (List ℕ)) → AreWords (w ∷ ws) → words_in (joined (w ∷ ws)) ≡ w ∷ ws
-words-joined w [] are = words-last w are.0
-words-joined w (v ∷ ws) are =
-    words-more w (joined (v ∷ ws)) are.0 ∙ ap (λ rest. w ∷ rest) (words-joined v ws are.1)
+pub words-joined : (ws : List (List ℕ)) → AreWords ws → 0 < length ws → words_in (joined ws) ≡ ws
+words-joined [] are some = absurd (omega arith)
+words-joined (w ∷ []) are some = words-last w are.0
+words-joined (w ∷ v ∷ ws) are some =
+    words-more w (joined (v ∷ ws)) are.0
+    ∙ ap (λ rest. w ∷ rest) (words-joined (v ∷ ws) are.1 (omega arith))
+
+-- words in front of what ends a line
+abbrev pub led : List (List ℕ) → List ℕ → List ℕ
+led [] rest = rest
+led (w ∷ ws) rest = w ++ 32 ∷ led ws rest
+
+pub words-led : (ws : List (List ℕ)) (rest : List ℕ) → AreWords ws
+    → words_in (led ws rest) ≡ ws ++ words_in rest
+words-led [] rest are = refl
+words-led (w ∷ ws) rest are =
+    words-more w (led ws rest) are.0 ∙ ap (λ r. w ∷ r) (words-led ws rest are.1)
+
+pub words-none : words_in [] ≡ []
+words-none = ap (filter has_bytes) (slice_split_none is_space [] (All-nil (λ c. is_space c ≡ false)))
 
 -- ---- numbers are words
 
@@ -105,11 +132,11 @@ hex-word w n small =
 abbrev pub not_space : ℕ → Bool
 not_space c = not (is_space c)
 
-and-left : (a b : Bool) → (a && b) ≡ true → a ≡ true
+pub and-left : (a b : Bool) → (a && b) ≡ true → a ≡ true
 and-left true b h = refl
 and-left false b h = h
 
-and-right : (a b : Bool) → (a && b) ≡ true → b ≡ true
+pub and-right : (a b : Bool) → (a && b) ≡ true → b ≡ true
 and-right true b h = h
 and-right false b h = absurd (true≢false (sym h))
 
@@ -120,7 +147,8 @@ not-true true h = sym h
 letters : (w : List ℕ) → list_all not_space w ≡ true → All (λ c. is_space c ≡ false) w
 letters [] h = All-nil (λ c. is_space c ≡ false)
 letters (c ∷ cs) h =
-    All-cons (λ x. is_space x ≡ false) c cs (not-true (is_space c) (and-left (not_space c) (list_all not_space cs) h))
+    All-cons (λ x. is_space x ≡ false) c cs
+    (not-true (is_space c) (and-left (not_space c) (list_all not_space cs) h))
     (letters cs (and-right (not_space c) (list_all not_space cs) h))
 
 letter-word : (w : List ℕ) → 0 < length w → list_all not_space w ≡ true → IsWord w
@@ -142,6 +170,34 @@ state-word Init = decimal-word 1 (lit< tt)
 state-word PreOp = decimal-word 2 (lit< tt)
 state-word SafeOp = decimal-word 4 (lit< tt)
 state-word Op = decimal-word 8 (lit< tt)
+
+pub rights-word : (r : Rights) → IsWord (rights_word r)
+rights-word ReadOnly = letter-word _ (lit< tt) refl
+rights-word WriteOnly = letter-word _ (lit< tt) refl
+rights-word Both = letter-word _ (lit< tt) refl
+
+-- ---- rows of bytes
+
+-- what stands at a place of a row without spaces is none, nor is what stands past its end
+no-space-at : (w : List ℕ) → list_all not_space w ≡ true → (k : ℕ) → is_space (slice_index w k) ≡ false
+no-space-at [] h k = refl
+no-space-at (c ∷ cs) h zero = not-true (is_space c) (and-left (not_space c) (list_all not_space cs) h)
+no-space-at (c ∷ cs) h (suc k) = no-space-at cs (and-right (not_space c) (list_all not_space cs) h) k
+
+row-whole : (bytes : List ℕ) → All (λ c. is_space c ≡ false) (encode_lower bytes)
+unfolding encode_with
+row-whole [] = All-nil (λ c. is_space c ≡ false)
+row-whole (b ∷ bytes) =
+    let P : ℕ → Type 0 = λ c. is_space c ≡ false in
+    All-cons P (slice_index lower_digits (b / 16)) (slice_index lower_digits (b % 16) ∷ encode_lower bytes)
+    (no-space-at lower_digits refl (b / 16))
+    (All-cons P (slice_index lower_digits (b % 16)) (encode_lower bytes)
+    (no-space-at lower_digits refl (b % 16)) (row-whole bytes))
+
+pub row-word : (bytes : List ℕ) → 0 < length bytes → IsWord (encode_lower bytes)
+unfolding encode_with
+row-word [] some = absurd (omega arith)
+row-word (b ∷ bytes) some = record { some = omega arith; whole = row-whole (b ∷ bytes) }
 
 -- ---- lines
 
@@ -184,58 +240,154 @@ regroup-fmmu n lo le f la p b t =
     (ap (λ r. r ++ 32 ∷ 48 ∷ 120 ∷ y) (regroup-4 lo le f la) ∙ behind-4 lo le f la (32 ∷ 48 ∷ 120 ∷ y)
     ∙ ap (λ r. lo ++ 32 ∷ (le ++ 32 ∷ (f ++ 32 ∷ (la ++ 32 ∷ 48 ∷ 120 ∷ r)))) (regroup-3 p b t))
 
+regroup-front : (i s x : List ℕ)
+    → codes "object 0x" ++ i ++ codes " " ++ s ++ codes " " ++ x
+    ≡ codes "object 0x" ++ (i ++ 32 ∷ (s ++ 32 ∷ x))
+regroup-front i s x = simp append_assoc refl
+
+regroup-value : (r v : List ℕ) → r ++ codes " 0x" ++ v ≡ r ++ 32 ∷ 48 ∷ 120 ∷ v
+regroup-value r v = simp append_assoc refl
+
+regroup-object : (i s z r v : List ℕ)
+    → codes "object 0x" ++ i ++ codes " " ++ s ++ codes " " ++ (z ++ 32 ∷ (r ++ codes " 0x" ++ v))
+    ≡ joined (codes "object" ∷ (codes "0x" ++ i) ∷ s ∷ z ∷ r ∷ (codes "0x" ++ v) ∷ [])
+regroup-object i s z r v =
+    regroup-front i s (z ++ 32 ∷ (r ++ codes " 0x" ++ v))
+    ∙ ap (λ y. codes "object 0x" ++ (i ++ 32 ∷ (s ++ 32 ∷ (z ++ 32 ∷ y)))) (regroup-value r v)
+
+led-1 : (a h rest : List ℕ)
+    → (a ++ 32 ∷ 48 ∷ 120 ∷ (h ++ codes " ")) ++ rest ≡ led (a ∷ (codes "0x" ++ h) ∷ []) rest
+led-1 a h rest = simp append_assoc refl
+
+led-2 : (a h d rest : List ℕ)
+    → (a ++ 32 ∷ 48 ∷ 120 ∷ (h ++ codes " " ++ d ++ codes " ")) ++ rest
+    ≡ led (a ∷ (codes "0x" ++ h) ∷ d ∷ []) rest
+led-2 a h d rest = simp append_assoc refl
+
+led-hex : (a h d rest : List ℕ)
+    → (a ++ 32 ∷ 48 ∷ 120 ∷ (h ++ codes " 0x" ++ d ++ codes " ")) ++ rest
+    ≡ led (a ∷ (codes "0x" ++ h) ∷ (codes "0x" ++ d) ∷ []) rest
+led-hex a h d rest = simp append_assoc refl
+
+-- the words of a line that no row of bytes ends stand with a space between each two
+object-joined : (i s : List ℕ) (r : Rights) (v : Value)
+    → codes "object 0x" ++ i ++ codes " " ++ s ++ codes " " ++ object_words r v
+    ≡ joined (codes "object" ∷ (codes "0x" ++ i) ∷ s ∷ object_spelt r v)
+object-joined i s r (One n) = regroup-object i s (codes "1") (rights_word r) (hexadecimal 2 n)
+object-joined i s r (Two n) = regroup-object i s (codes "2") (rights_word r) (hexadecimal 4 n)
+object-joined i s r (Four n) = regroup-object i s (codes "4") (rights_word r) (hexadecimal 8 n)
+
+pub line-joined : (line : SceneLine) → ends_with_row line ≡ false → line_words line ≡ joined (spelt line)
+line-joined (Slave s) h = refl
+line-joined (State s) h = refl
+line-joined Simple h = refl
+line-joined (Areas o i) h = regroup-areas (decimal o) (decimal i)
+line-joined (SyncMan n s l k) h = regroup-sm (decimal n) (hexadecimal 4 s) (decimal l) (area_word k)
+line-joined (FmmuLine n lo le f la p b t) h =
+    regroup-fmmu (decimal n) (hexadecimal 8 lo) (decimal le) (decimal f) (decimal la) (hexadecimal 4 p)
+    (decimal b) (through_word t)
+line-joined (Load a) h = absurd (true≢false h)
+line-joined (Object i s r v) h = object-joined (hexadecimal 4 i) (decimal s) r v
+line-joined (Startup i s) h = absurd (true≢false h)
+line-joined (Item k a) h = absurd (true≢false h)
+
+-- those of a line that one ends stand with a space behind each
+item-led : (k : Kind) (a : ℕ) (rest : List ℕ) → item_words k a ++ rest ≡ led (item_spelt k a) rest
+item-led Lrd a rest = led-1 (codes "lrd") (hexadecimal 8 a) rest
+item-led Lwr a rest = led-1 (codes "lwr") (hexadecimal 8 a) rest
+item-led Lrw a rest = led-1 (codes "lrw") (hexadecimal 8 a) rest
+item-led Brd a rest = led-1 (codes "brd") (hexadecimal 4 a) rest
+item-led Fprd a rest = led-hex (codes "fprd") (hexadecimal 4 (adp_of a)) (hexadecimal 4 (ado_of a)) rest
+item-led Fpwr a rest = led-hex (codes "fpwr") (hexadecimal 4 (adp_of a)) (hexadecimal 4 (ado_of a)) rest
+
+pub line-led : (line : SceneLine) (rest : List ℕ) → ends_with_row line ≡ true
+    → line_words line ++ rest ≡ led (spelt line) rest
+line-led (Slave s) rest h = absurd (true≢false (sym h))
+line-led (State s) rest h = absurd (true≢false (sym h))
+line-led Simple rest h = absurd (true≢false (sym h))
+line-led (Areas o i) rest h = absurd (true≢false (sym h))
+line-led (SyncMan n s l k) rest h = absurd (true≢false (sym h))
+line-led (FmmuLine n lo le f la p b t) rest h = absurd (true≢false (sym h))
+line-led (Load a) rest h = led-1 (codes "mem") (hexadecimal 4 a) rest
+line-led (Object i s r v) rest h = absurd (true≢false (sym h))
+line-led (Startup i s) rest h = led-2 (codes "startup") (hexadecimal 4 i) (decimal s) rest
+line-led (Item k a) rest h = item-led k a rest
+
 word : (w : List ℕ) → 0 < length w → list_all not_space w ≡ true → IsWord w
 word w some h = letter-word w some h
 
-pub lines-back : (line : SceneLine) → IsSpelt line → words_in (line_words line) ≡ spelt line
-lines-back (Slave s) fits =
-    words-joined (codes "slave") (hex_word 4 s ∷ []) (word _ (lit< tt) refl, (hex-word 4 s fits, tt))
-lines-back (State s) fits =
-    words-joined (codes "state") (decimal (code_of s) ∷ []) (word _ (lit< tt) refl, (state-word s, tt))
-lines-back Simple fits = words-joined (codes "simple") [] (word _ (lit< tt) refl, tt)
-lines-back (Areas o i) fits =
-    ap words_in (regroup-areas (decimal o) (decimal i))
-    ∙ words-joined (codes "areas") (decimal o ∷ decimal i ∷ [])
+object-spelt : (r : Rights) (v : Value) → FitsValue v → AreWords (object_spelt r v)
+object-spelt r (One n) fits =
+    (word _ (lit< tt) refl, (rights-word r, (hex-word 2 n (omega arith), tt)))
+object-spelt r (Two n) fits =
+    (word _ (lit< tt) refl, (rights-word r, (hex-word 4 n (omega arith), tt)))
+object-spelt r (Four n) fits =
+    (word _ (lit< tt) refl, (rights-word r, (hex-word 8 n (omega arith), tt)))
+
+item-spelt : (k : Kind) (a : ℕ) → a < 2 ^ 64 → AreWords (item_spelt k a)
+item-spelt Lrd a fits = (word _ (lit< tt) refl, (hex-word 8 a fits, tt))
+item-spelt Lwr a fits = (word _ (lit< tt) refl, (hex-word 8 a fits, tt))
+item-spelt Lrw a fits = (word _ (lit< tt) refl, (hex-word 8 a fits, tt))
+item-spelt Brd a fits = (word _ (lit< tt) refl, (hex-word 4 a fits, tt))
+item-spelt Fprd a fits =
+    (word _ (lit< tt) refl, (hex-word 4 (adp_of a) (omega arith), (hex-word 4 (ado_of a) (omega arith), tt)))
+item-spelt Fpwr a fits =
+    (word _ (lit< tt) refl, (hex-word 4 (adp_of a) (omega arith), (hex-word 4 (ado_of a) (omega arith), tt)))
+
+pub spelt-words : (line : SceneLine) → IsSpelt line → AreWords (spelt line)
+spelt-words (Slave s) fits = (word _ (lit< tt) refl, (hex-word 4 s fits, tt))
+spelt-words (State s) fits = (word _ (lit< tt) refl, (state-word s, tt))
+spelt-words Simple fits = (word _ (lit< tt) refl, tt)
+spelt-words (Areas o i) fits =
     (word _ (lit< tt) refl, (decimal-word o fits.0, (decimal-word i fits.1, tt)))
-lines-back (SyncMan n s l k) fits =
-    ap words_in (regroup-sm (decimal n) (hexadecimal 4 s) (decimal l) (area_word k))
-    ∙ words-joined (codes "sm") (decimal n ∷ hex_word 4 s ∷ decimal l ∷ area_word k ∷ []) (
+spelt-words (SyncMan n s l k) fits = (
+  word _ (lit< tt) refl,
+  (decimal-word n fits.0, (hex-word 4 s fits.1, (decimal-word l fits.2, (area-word k, tt)))),
+)
+spelt-words (FmmuLine n lo le f la p b t) fits =
+    let behind : AreWords (hex_word 4 p ∷ decimal b ∷ through_word t ∷ []) =
+    (hex-word 4 p fits.5, (decimal-word b fits.6, (through-word t, tt))) in
+    let bits : AreWords (decimal f ∷ decimal la ∷ hex_word 4 p ∷ decimal b ∷ through_word t ∷ []) =
+    (decimal-word f fits.3, (decimal-word la fits.4, behind)) in (
       word _ (lit< tt) refl,
-      (
-        decimal-word n fits.0,
-        (hex-word 4 s fits.1, (decimal-word l fits.2, (area-word k, tt))),
-      ),
+      (decimal-word n fits.0, (hex-word 8 lo fits.1, (decimal-word le fits.2, bits))),
     )
-lines-back (FmmuLine n lo le f la p b t) fits =
-    ap words_in (regroup-fmmu (decimal n) (hexadecimal 8 lo) (decimal le) (decimal f) (decimal la)
-    (hexadecimal 4 p) (decimal b) (through_word t))
-    ∙ words-joined (codes "fmmu") (decimal n ∷ hex_word 8 lo ∷ decimal le ∷ decimal f ∷ decimal la
-    ∷ hex_word 4 p ∷ decimal b ∷ through_word t ∷ []) (
-      word _ (lit< tt) refl,
-      (
-        decimal-word n fits.0,
-        (
-          hex-word 8 lo fits.1,
-          (
-            decimal-word le fits.2,
-            (
-              decimal-word f fits.3,
-              (
-                decimal-word la fits.4,
-                (
-                  hex-word 4 p fits.5,
-                  (
-                    decimal-word b fits.6,
-                    (through-word t, tt),
-                  ),
-                ),
-              ),
-            ),
-          ),
-        ),
-      ),
-    )
-lines-back (Load a) fits = absurd fits
-lines-back (Object a b c d) fits = absurd fits
-lines-back (Startup a b) fits = absurd fits
-lines-back (Item a b) fits = absurd fits
+spelt-words (Load a) fits = (word _ (lit< tt) refl, (hex-word 4 a fits, tt))
+spelt-words (Object i s r v) fits =
+    (word _ (lit< tt) refl, (hex-word 4 i fits.0, (decimal-word s fits.1, object-spelt r v fits.2)))
+spelt-words (Startup i s) fits =
+    (word _ (lit< tt) refl, (hex-word 4 i fits.0, (decimal-word s fits.1, tt)))
+spelt-words (Item k a) fits = item-spelt k a fits
+
+spelt-some : (line : SceneLine) → ends_with_row line ≡ false → 0 < length (spelt line)
+spelt-some (Slave s) h = omega arith
+spelt-some (State s) h = omega arith
+spelt-some Simple h = omega arith
+spelt-some (Areas o i) h = omega arith
+spelt-some (SyncMan n s l k) h = omega arith
+spelt-some (FmmuLine n lo le f la p b t) h = omega arith
+spelt-some (Load a) h = absurd (true≢false h)
+spelt-some (Object i s r v) h = omega arith
+spelt-some (Startup i s) h = absurd (true≢false h)
+spelt-some (Item k a) h = absurd (true≢false h)
+
+back-by : (b : Bool) (line : SceneLine) → ends_with_row line ≡ b → IsSpelt line
+    → words_in (line_words line) ≡ spelt line
+back-by true line row fits =
+    let ws = spelt line in
+    ap words_in (sym (append-nil (line_words line)) ∙ line-led line [] row)
+    ∙ words-led ws [] (spelt-words line fits) ∙ ap (λ r. ws ++ r) words-none ∙ append-nil ws
+back-by false line row fits =
+    ap words_in (line-joined line row)
+    ∙ words-joined (spelt line) (spelt-words line fits) (spelt-some line row)
+
+pub lines-back : (line : SceneLine) → IsSpelt line → words_in (line_words line) ≡ spelt line
+lines-back line fits = back-by (ends_with_row line) line refl fits
+
+pub rows-back : (line : SceneLine) (bytes : List ℕ) → IsSpelt line → ends_with_row line ≡ true
+    → 0 < length bytes
+    → words_in (line_words line ++ encode_lower bytes) ≡ spelt line ++ encode_lower bytes ∷ []
+rows-back line bytes fits row some =
+    ap words_in (line-led line (encode_lower bytes) row)
+    ∙ words-led (spelt line) (encode_lower bytes) (spelt-words line fits)
+    ∙ ap (λ r. spelt line ++ r) (words-last (encode_lower bytes) (row-word bytes some))

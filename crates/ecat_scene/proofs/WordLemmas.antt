@@ -1,11 +1,12 @@
 -- The words among the parts of a line, one part more at a time.
-use Rattle.std.proofs.Common.{◌≡◌, ℕ, ◌++◌, Bool, true, false, not, cond, eqb, ltb, List, [], ◌∷◌, map, filter}
+use Rattle.std.proofs.Common.{◌≡◌, ℕ, ◌++◌, Bool, true, false, not, cond, eqb, ltb, List, [], ◌∷◌, map}
+use Rattle.std.proofs.Common.{filter}
 use Rattle.std.proofs.Common.{length, sym, ap, ◌∙◌, arith}
 use Rattle.std.proofs.lemmas.Bool.Decides.{nat_tests}
 use Rattle.std.proofs.lemmas.List.{map-append, append-nil}
 use Rattle.std.proofs.lemmas.List.Elements.{filter-append}
-use Rattle.std.proofs.Common.{Option, None}
-use Rattle.std.proofs.lemmas.Iterator.Consumers.{YieldsList-end}
+use Rattle.std.proofs.Common.{◌<◌, get_or, Option, None, Some}
+use Rattle.std.proofs.lemmas.Iterator.Consumers.{YieldsList-end, YieldsList-turn}
 use Rattle.std.proofs.lemmas.Iterator.Splits.{YieldsList-from_slice_split}
 use Rattle.std.specs.Iterator.{Yields}
 use Rattle.std.specs.Fn.{CalledAt}
@@ -49,3 +50,21 @@ pub all_parts : {F : Type 0} (s t : Split ℕ F) (g : Mut F (Bor ℕ × Unit {0}
 all_parts s t g f line parts yielded r u none ends rest more callee calls =
     (YieldsList-end (YieldsList-from_slice_split g is_space line rest more callee calls)
     parts t yielded r u none ends).0
+
+-- in a loop over the parts of a text: which part this one is, and at the end that each was given
+module _ {F : Type 0} (s t : Split ℕ F) (g : Mut F (Bor ℕ × Unit {0}) Bool) (f : F) (p : ℕ → Bool)
+    (text : List ℕ) (rest : split_rest s ≡ text) (more : split_done s ≡ false) (callee : split_callee s ≡ f)
+    (calls : (x : ℕ) (b : Bool) (q : F) → CalledAt g f x b q → (q ≡ f) × (b ≡ p x))
+    (parts : List (Bor (List ℕ))) (yielded : Yields (split_steps g) s parts t)
+    (r : Option (Bor (List ℕ))) (u : Split ℕ F) (step : split_steps g t r u) where
+  pub part_at : (x : Bor (List ℕ)) → r ≡ Some x
+      → (length parts < length (slice_split p text))
+      × (x.now ≡ get_or (slice_split p text) (length parts) x.now)
+  part_at x is =
+      YieldsList-turn (YieldsList-from_slice_split g p text rest more callee calls)
+      parts t yielded r u x is step
+
+  pub no_part_left : r ≡ None → length parts ≡ length (slice_split p text)
+  no_part_left is =
+      (YieldsList-end (YieldsList-from_slice_split g p text rest more callee calls)
+      parts t yielded r u is step).1

@@ -1,7 +1,12 @@
 pub mod Bench
+pub mod Deeds
 pub mod Fields
 pub mod Lines
+pub mod Meant
 pub mod Numbers
 pub mod Order
+pub mod Read
+pub mod Scene
 pub mod Spelt
 pub mod Text
+pub mod Words

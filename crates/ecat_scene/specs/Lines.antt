@@ -3,7 +3,6 @@
 use Rattle.std.specs.Prelude.{ℕ, ◌-◌, ◌^◌, ◌++◌, List, [], false, codes}
 use Rattle.std.specs.Fmt.{decimal, digits, format_spec, padded_integral}
 use Rattle.ec_regs.specs.Al.{code_of}
-use Rattle.ec_regs.specs.declared.al.AlState.{AlState}
 use Rattle.ec_app.specs.declared.value.Rights.{Rights}
 use Rattle.ec_app.specs.declared.value.Rights.TheVariants.{ReadOnly, WriteOnly, Both}
 use Rattle.ec_app.specs.declared.value.Value.{Value}

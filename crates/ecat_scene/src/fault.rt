@@ -76,12 +76,20 @@ impl From<LineFault> for Stop {
 }
 
 impl From<AllocError> for Stop {
+    ghost use Rattle.ecat_scene.specs.declared.fault.Stop.TheVariants.{NoMemory};
+
+    ghost from_gives = { λ _ stop. stop ≡ NoMemory };
+
     fn from(_failed: AllocError) -> Stop {
         Stop::NoMemory
     }
 }
 
 impl<T: Drop> From<AllocFailed<T>> for Stop {
+    ghost use Rattle.ecat_scene.specs.declared.fault.Stop.TheVariants.{NoMemory};
+
+    ghost from_gives = { λ _ stop. stop ≡ NoMemory };
+
     fn from(_failed: AllocFailed<T>) -> Stop {
         Stop::NoMemory
     }

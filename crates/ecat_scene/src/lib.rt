@@ -20,13 +20,15 @@
 //!
 //! What is promised: any bytes are taken; `TooLong` comes exactly of more than 65,536 bytes; and what is
 //! answered is in the ranges that its types state, the numbers of FMMUs and sync managers below 8, and loaded
-//! bytes inside the process memory. A line has text alone (`test_text`), and a record has each number as it
-//! is, or there is none (`fmmu_of`, `sync_man_of`). A number is that of its digits ([`number`]), and what is
-//! written of a number is read as this number ([`numbers_read_back`]), as what is written of a line that
-//! describes a slave has its words ([`lines_read_back`]). Which fault a text has is tested, also in `cases`.
+//! bytes inside the process memory. A text of lines that describe slaves and items is read as exactly what
+//! these lines do, one after the other, up to the first that is at fault (`specs/Deeds.antt`); of the words
+//! `mirror`, `count`, `link`, `frame`, `step` and `weather` less is said. What is written of a number, of a
+//! thing, of a line and of a whole text is read as it was ([`numbers_read_back`], [`things_read_back`],
+//! [`lines_read_back`], [`scenes_read_back`]).
 //!
 //! - `scene`: what a scene is; `fault`: what can be wrong with its text.
-//! - `reader`: the lines in their order; `slave_lines`, `work_lines`: what each of them says.
+//! - `reader`: the lines in their order; `slave_lines`, `work_lines`: what each of them says; `last_slave`:
+//!   what the lines of a slave do to it.
 //! - `bench`: the commands by which a line is worked on while it is served, a line of text each.
 //! - `words`, `numbers`: the words of a line, and the numbers and rows of bytes among them.
 //! - `written`: lines that are written. [`put_line`] and its like put exactly the words of a line behind a
@@ -36,6 +38,7 @@
 
 mod bench;
 mod fault;
+mod last_slave;
 mod numbers;
 mod reader;
 mod scene;
@@ -55,4 +58,5 @@ pub use slave_lines::{control_of, object_of, startup_of, sync_man_of};
 pub use words::{is_text, put_words, text_of, words_of};
 pub use written::{
     AreaKind, SceneLine, Through, lines_read_back, put_item, put_line, put_row, put_startup,
+    scenes_read_back, things_read_back,
 };

@@ -4,10 +4,13 @@ ghost use Rattle.std.specs.Prelude.{◌≡◌, ◌<◌, ◌^◌, ◌++◌, IfSom
 ghost use Rattle.std.specs.Fmt.{decimal};
 ghost use Rattle.ecat_scene.specs.Lines.{hexadecimal};
 ghost use Rattle.ecat_scene.specs.Fields.{fitting};
+ghost use Rattle.std.specs.List.{list_all};
 ghost use Rattle.ecat_scene.specs.Numbers.{after_digits, digit_of, number_of, row_number, with_digit};
+ghost use Rattle.ecat_scene.specs.Words.{bytes_of, Gives, is_digit, row_of, seen};
 
-use crate::fault::LineFault;
-use std::alloc::{AllocError, Global};
+use crate::fault::{LineFault, Stop};
+use hex::FromHexError;
+use std::alloc::Global;
 
 /// The value of a hexadecimal digit of either case.
 fn hex_digit(digit: u8) -> Option<u8>
@@ -99,28 +102,34 @@ pub(crate) fn double_word(number: u64) -> Result<u32, LineFault>
     }
 }
 
+/// Is each byte of a word a hexadecimal digit?
+fn are_digits(word: &[u8]) -> bool
+    ensures { result ≡ list_all is_digit word.now }
+{
+    word.iter().all(|digit| hex_digit(*digit).is_some())
+}
+
 /// Tests that a word is an even, non-zero number of hexadecimal digits.
-pub fn test_bytes(word: &[u8]) -> Result<(), LineFault> {
+pub fn test_bytes(word: &[u8]) -> Result<(), LineFault>
+    ensures { result ≡ seen (λ _. tt) (row_of word.now) }
+{
     let whole = !word.is_empty() && word.len() % 2 == 0;
-    if whole && word.iter().all(|digit| hex_digit(*digit).is_some()) {
+    if whole && are_digits(word) {
         Ok(())
     } else {
         Err(LineFault::BadNumber)
     }
 }
 
-/// The bytes of a row of hexadecimal digits; a pair with another character is left out.
-pub(crate) fn bytes(alloc: Global, word: &[u8]) -> Result<Vec<u8>, AllocError> {
-    let mut row = Vec::with_capacity(alloc, word.len() / 2)?;
-    for pair in word.chunks_exact(2) {
-        if let [high, low] = pair
-            && let Some(high) = hex_digit(*high)
-            && let Some(low) = hex_digit(*low)
-        {
-            row.push(16 * high + low)?;
-        }
+/// The bytes of hexadecimal digits, two each; an odd number of them and another character are at fault.
+pub(crate) fn bytes(alloc: Global, word: &[u8]) -> Result<Vec<u8>, Stop>
+    ensures { Gives (λ bytes. bytes.items) result (bytes_of word.now) }
+{
+    match hex::decode(alloc, word) {
+        Ok(bytes) => Ok(bytes),
+        Err(FromHexError::OutOfMemory) => Err(Stop::NoMemory),
+        Err(_) => Err(Stop::Fault(LineFault::BadNumber)),
     }
-    Ok(row)
 }
 
 /// What is written of a number of 64 bits, decimal or hexadecimal with zeros in front, is read as this

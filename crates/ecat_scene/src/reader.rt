@@ -1,5 +1,8 @@
 //! The reading of a scene: its lines in their order, then the links that they name.
-ghost use Rattle.std.specs.Prelude.{◌≡◌, ◌≢◌, Err};
+ghost use Rattle.std.specs.Prelude.{◌≡◌, ◌≢◌, [], Err, IfSome, None, map};
+ghost use Rattle.ecat_scene.specs.Deeds.{is_line_end, line_does, text_does, word_does};
+ghost use Rattle.ecat_scene.specs.Read.{Did, ReadAs};
+ghost use Rattle.ecat_scene.specs.Scene.{empty_scene, scene_record};
 ghost use Rattle.ecat_scene.specs.Order.{fault_of};
 ghost use Rattle.ecat_scene.specs.declared.fault.SceneFault.TheVariants.{TooLong};
 
@@ -42,7 +45,10 @@ impl Drop for Reader {
 }
 
 impl Reader {
-    pub(crate) fn new(alloc: Global) -> Reader {
+    pub(crate) fn new(alloc: Global) -> Reader
+        ensures scene { scene_record result.scene ≡ empty_scene }
+        ensures links { result.links.items ≡ [] }
+    {
         let scene = Scene {
             slaves: Vec::new(alloc),
             links_down: Vec::new(alloc),
@@ -60,10 +66,12 @@ impl Reader {
 
     /// Reads all lines of the text.
     pub(crate) fn read(mut self, text: &[u8]) -> Result<Scene, SceneFault>
-        ensures { result ≢ Err TooLong }
+        ensures short { result ≢ Err TooLong }
+        ensures read { self.links.items ≡ []
+            → IfSome (text_does text.now (scene_record self.scene)) (ReadAs result) }
     {
         let mut words = Vec::new(self.alloc);
-        for line in text.split(|byte| *byte == b'\n') {
+        for line in text.split(|byte| is_line_end(*byte)) {
             self.line = self.line.saturating_add(1);
             match self.read_line(line, &mut words) {
                 Ok(()) => {}
@@ -86,7 +94,9 @@ impl Reader {
     }
 
     /// The first line that names a link which is not on the line of slaves.
-    fn line_of_a_wrong_link(&self) -> Option<usize> {
+    fn line_of_a_wrong_link(&self) -> Option<usize>
+        ensures { self.now.links.items ≡ [] → result ≡ None }
+    {
         let last = self.scene.slaves.len() as u64;
         self.links
             .iter()
@@ -95,7 +105,9 @@ impl Reader {
     }
 
     /// Reads one line, whose words take the place of those of the line before.
-    fn read_line<'a>(&mut self, line: &'a [u8], words: &mut Vec<&'a [u8]>) -> Result<(), Stop> {
+    fn read_line<'a>(&mut self, line: &'a [u8], words: &mut Vec<&'a [u8]>) -> Result<(), Stop>
+        ensures { IfSome (line_does line.now (scene_record self.old.scene)) (Did self.old self.new result) }
+    {
         test_text(line)?;
         if line.starts_with(b"#") {
             return Ok(());
@@ -104,6 +116,14 @@ impl Reader {
         let [first, rest @ ..] = words.as_slice() else {
             return Ok(());
         };
+        self.read_words(first, rest)
+    }
+
+    /// Does what a line says, by its first word and the others.
+    fn read_words(&mut self, first: &[u8], rest: &[&[u8]]) -> Result<(), Stop>
+        ensures { IfSome (word_does first.now (map (λ word. word.now) rest.now) (scene_record self.old.scene))
+            (Did self.old self.new result) }
+    {
         match text_of(first) {
             "slave" => self.slave(rest),
             "state" => self.state(rest),
@@ -129,6 +149,13 @@ impl Reader {
             _ => Err(Stop::Fault(LineFault::UnknownWord)),
         }
     }
+}
+
+/// Is the byte LF, which separates lines?
+fn is_line_end(byte: u8) -> bool
+    ensures { result ≡ is_line_end byte }
+{
+    byte == b'\n'
 }
 
 /// What is told where a line stops the reading: what is wrong with it, or that memory ran out.

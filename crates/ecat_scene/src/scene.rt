@@ -149,13 +149,21 @@ pub struct Scene {
 }
 
 impl Scene {
+    ghost use Rattle.std.specs.Prelude.{IfSome, List};
+    ghost use Rattle.ecat_scene.specs.Deeds.{text_does};
+    ghost use Rattle.ecat_scene.specs.Meant.{AreWritten, text_of_lines, with_lines, WrittenLine};
+    ghost use Rattle.ecat_scene.specs.Read.{ReadAs};
+    ghost use Rattle.ecat_scene.specs.Scene.{empty_scene};
     ghost use Rattle.ecat_scene.specs.declared.fault.SceneFault.TheVariants.{TooLong};
 
     /// The scene that the text describes, or its first fault from the top. Lines are what LF
     /// separates; an empty one and one that begins with `#` are skipped. The numbers of links are
     /// judged when all lines stand.
     pub fn read(alloc: Global, text: &[u8]) -> Result<Scene, SceneFault>
-        ensures { (result ≡ Err TooLong) ↔ (MAX_TEXT < length text.now) }
+        ensures long { (result ≡ Err TooLong) ↔ (MAX_TEXT < length text.now) }
+        ensures read { length text.now ≤ MAX_TEXT → IfSome (text_does text.now empty_scene) (ReadAs result) }
+        ensures written { (lines : List WrittenLine) → AreWritten lines → text.now ≡ text_of_lines lines
+            → length text.now ≤ MAX_TEXT → ReadAs result (with_lines lines empty_scene) }
     {
         if text.len() > MAX_TEXT {
             return Err(SceneFault::TooLong);

@@ -3,6 +3,7 @@
 ghost use Rattle.std.specs.Prelude.{◌≡◌, IfOk, OnOk, map};
 ghost use Rattle.std.specs.List.{list_all};
 ghost use Rattle.ecat_scene.specs.Text.{is_space, is_text, tested, words_in};
+ghost use Rattle.ecat_scene.specs.Words.{text_in};
 
 use crate::fault::LineFault;
 use std::alloc::{AllocError, Global};
@@ -64,7 +65,9 @@ pub fn put_words<'a>(words: &mut Vec<&'a [u8]>, line: &'a [u8]) -> Result<(), Al
 
 /// A word as text, to be compared with the words of a scene; where it is no text an empty one, which none of
 /// those is.
-pub fn text_of(word: &[u8]) -> &str {
+pub fn text_of(word: &[u8]) -> &str
+    ensures { result.now ≡ text_in word.now }
+{
     match str::from_utf8(word) {
         Ok(text) => text,
         Err(_) => "",

@@ -1,5 +1,10 @@
 //! The lines that say what is done with the slaves: links, frames, steps, items and weathers.
 
+ghost use Rattle.std.specs.Prelude.{◌≡◌, map};
+ghost use Rattle.ecat_scene.specs.Deeds.{addressed_item_line, Does, item_line, with_item};
+ghost use Rattle.ecat_scene.specs.Scene.{scene_record};
+ghost use Rattle.ecat_scene.specs.Words.{addressed_item_of, Gives, item_in, item_of};
+
 use crate::fault::{LineFault, Stop};
 use crate::numbers::{bytes, double_word, number, test_bytes, word};
 use crate::reader::{NamedLink, Reader};
@@ -77,35 +82,39 @@ impl Reader {
     }
 
     /// `lrd`, `lwr`, `lrw` or `brd`, with `ADDRESS BYTES`
-    pub(crate) fn item(&mut self, kind: Kind, words: &[&[u8]]) -> Result<(), Stop> {
+    #[tactic(auto, unfolding(crate::specs::Deeds::item_line))]
+    pub(crate) fn item(&mut self, kind: Kind, words: &[&[u8]]) -> Result<(), Stop>
+        ensures links { self.new.links.items ≡ self.old.links.items }
+        ensures done { Does result (scene_record self.new.scene)
+            (item_line kind (map (λ word. word.now) words.now) (scene_record self.old.scene)) }
+    {
         let [address, row] = words else {
             return Err(Stop::Fault(LineFault::WrongCount));
         };
-        let address = number(address)?;
-        test_bytes(row)?;
-        let address = double_word(address)?;
-        self.add_item(kind, address, row)
+        let item = item_of(self.alloc, kind, address, row)?;
+        self.add_item(item)
     }
 
     /// `fprd` or `fpwr`, with `STATION ADDRESS BYTES`
-    pub(crate) fn addressed_item(&mut self, kind: Kind, words: &[&[u8]]) -> Result<(), Stop> {
+    #[tactic(auto, unfolding(crate::specs::Deeds::addressed_item_line))]
+    pub(crate) fn addressed_item(&mut self, kind: Kind, words: &[&[u8]]) -> Result<(), Stop>
+        ensures links { self.new.links.items ≡ self.old.links.items }
+        ensures done { Does result (scene_record self.new.scene)
+            (addressed_item_line kind (map (λ word. word.now) words.now) (scene_record self.old.scene)) }
+    {
         let [station, address, row] = words else {
             return Err(Stop::Fault(LineFault::WrongCount));
         };
-        let station = number(station)?;
-        let address = number(address)?;
-        test_bytes(row)?;
-        let station = word(station)?;
-        let address = word(address)?;
-        self.add_item(kind, address_of(station, address), row)
+        let item = addressed_item_of(self.alloc, kind, station, address, row)?;
+        self.add_item(item)
     }
 
-    /// Adds an item of these data if there is one.
-    fn add_item(&mut self, kind: Kind, address: u32, row: &[u8]) -> Result<(), Stop> {
-        let bytes = bytes(self.alloc, row)?;
-        let Ok(item) = Item::new(kind, address, bytes.as_slice()) else {
-            return Err(Stop::Fault(LineFault::OutOfRange));
-        };
+    /// Adds an item.
+    fn add_item(&mut self, item: Item) -> Result<(), Stop>
+        ensures links { self.new.links.items ≡ self.old.links.items }
+        ensures done { Does result (scene_record self.new.scene)
+            (with_item item (scene_record self.old.scene)) }
+    {
         if self.scene.items.len() >= MAX_ITEMS {
             return Err(Stop::Fault(LineFault::TooMany));
         }
@@ -136,6 +145,48 @@ impl Reader {
             b_first,
         })?;
         Ok(())
+    }
+}
+
+/// The item of a kind at an address, with the bytes of a row.
+#[tactic(auto, using(crate::proofs::RowLemmas::rows), unfolding(crate::specs::Words::item_of))]
+fn item_of(alloc: Global, kind: Kind, address: &[u8], row: &[u8]) -> Result<Item, Stop>
+    ensures { Gives (λ item. item) result (item_of kind address.now row.now) }
+{
+    let address = number(address)?;
+    test_bytes(row)?;
+    let address = double_word(address)?;
+    let bytes = bytes(alloc, row)?;
+    item_in(kind, address, bytes.as_slice())
+}
+
+/// The item of a kind at a register of a station, with the bytes of a row.
+#[tactic(auto, using(crate::proofs::RowLemmas::rows), unfolding(crate::specs::Words::addressed_item_of))]
+fn addressed_item_of(
+    alloc: Global,
+    kind: Kind,
+    station: &[u8],
+    address: &[u8],
+    row: &[u8],
+) -> Result<Item, Stop>
+    ensures { Gives (λ item. item) result (addressed_item_of kind station.now address.now row.now) }
+{
+    let station = number(station)?;
+    let address = number(address)?;
+    test_bytes(row)?;
+    let station = word(station)?;
+    let address = word(address)?;
+    let bytes = bytes(alloc, row)?;
+    item_in(kind, address_of(station, address), bytes.as_slice())
+}
+
+/// The item of these data if there is one.
+fn item_in(kind: Kind, address: u32, bytes: &[u8]) -> Result<Item, Stop>
+    ensures { Gives (λ item. item) result (item_in kind address bytes.now) }
+{
+    match Item::new(kind, address, bytes) {
+        Ok(item) => Ok(item),
+        Err(_) => Err(Stop::Fault(LineFault::OutOfRange)),
     }
 }
 

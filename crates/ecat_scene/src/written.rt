@@ -1,11 +1,21 @@
 //! The lines of a scene, as they are written.
 
-ghost use Rattle.std.specs.Prelude.{◌≡◌, ◌++◌, ◌∷◌, [], Some, OnOk, codes};
+ghost use Rattle.std.specs.Prelude.{◌≡◌, ◌++◌, ◌∷◌, ◌<◌, ℕ, IsTrue, List, [], Some, Ok, OnOk, codes, length};
 ghost use Rattle.std.specs.String.{string_bytes};
-ghost use Rattle.hex.specs.Hex.{encode_lower};
+ghost use Rattle.std.specs.Fmt.{decimal};
+ghost use Rattle.hex.specs.Hex.{encode_lower, IsBytes};
+ghost use Rattle.ec_regs.specs.Al.{code_of};
+ghost use Rattle.ec_regs.specs.declared.al.AlState.{AlState};
+ghost use Rattle.ec_app.specs.declared.value.Rights.{Rights};
+ghost use Rattle.ecat_scene.specs.declared.written.AreaKind.{AreaKind};
+ghost use Rattle.ecat_scene.specs.declared.written.Through.{Through};
+ghost use Rattle.ecat_scene.specs.Words.{area_of, rights_of, row_of, state_of, through_of};
 ghost use Rattle.ecat_scene.specs.Lines.{area_word, item_words, line_words, logical_words, object_words};
 ghost use Rattle.ecat_scene.specs.Lines.{physical_words, rights_word, through_word};
-ghost use Rattle.ecat_scene.specs.Spelt.{IsSpelt, spelt};
+ghost use Rattle.ecat_scene.specs.Deeds.{text_does};
+ghost use Rattle.ecat_scene.specs.Meant.{AreWritten, text_of_lines, with_lines, WrittenLine};
+ghost use Rattle.ecat_scene.specs.Scene.{SceneRecord};
+ghost use Rattle.ecat_scene.specs.Spelt.{IsSpelt, ends_with_row, spelt};
 ghost use Rattle.ecat_scene.specs.declared.written.SceneLine.{SceneLine};
 ghost use Rattle.ecat_scene.specs.Text.{words_in};
 
@@ -236,10 +246,32 @@ impl fmt::Display for SceneLine {
     }
 }
 
-/// The words of a line that is written are those that it was put together of: its first word, and each of its
-/// numbers and words. By `numbers_read_back` each number is read as it was.
+/// The words of a line that is written are those that it was put together of: its first word, each of its
+/// numbers and words, and the row of bytes that ends it where there is one. By `numbers_read_back` each
+/// number is read as it was.
 pub fn lines_read_back()
-    ensures { (line : SceneLine) → IsSpelt line → words_in (line_words line) ≡ spelt line }
+    ensures words { (line : SceneLine) → IsSpelt line → words_in (line_words line) ≡ spelt line }
+    ensures rows { (line : SceneLine) (bytes : List ℕ) → IsSpelt line → IsTrue (ends_with_row line)
+        → 0 < length bytes
+        → words_in (line_words line ++ encode_lower bytes) ≡ spelt line ++ encode_lower bytes ∷ [] }
+{}
+
+/// What is written of a thing is read as this thing: the kind of an area, a direction, the rights of an
+/// object, a state, and a row of bytes.
+pub fn things_read_back()
+    ensures areas { (kind : AreaKind) → area_of (area_word kind) ≡ Ok kind }
+    ensures directions { (through : Through) → through_of (through_word through) ≡ Ok through }
+    ensures rights { (rights : Rights) → rights_of (rights_word rights) ≡ Ok rights }
+    ensures states { (state : AlState) → state_of (decimal (code_of state)) ≡ Ok state }
+    ensures rows { (bytes : List ℕ) → IsBytes bytes → 0 < length bytes
+        → row_of (encode_lower bytes) ≡ Ok bytes }
+{}
+
+/// The text of lines that are written, each ended by LF, does to a scene what these lines mean, one after
+/// the other, up to the first for which a limit is passed.
+pub fn scenes_read_back()
+    ensures { (lines : List WrittenLine) (scene : SceneRecord) → AreWritten lines
+        → text_does (text_of_lines lines) scene ≡ Some (with_lines lines scene) }
 {}
 
 /// Puts a line that no row of bytes ends behind a text.

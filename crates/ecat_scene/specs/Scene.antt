@@ -1,0 +1,88 @@
+-- A scene as what its lines say, whatever memory it lies in.
+use Rattle.std.specs.Prelude.{ℕ, Bool, false, List, [], map}
+use Rattle.ec_app.specs.declared.objects.Entry.{Entry}
+use Rattle.ec_map.specs.Item.{ItemRecord}
+use Rattle.ec_process.specs.declared.application.Behaviour.{Behaviour}
+use Rattle.ec_regs.specs.declared.al.AlState.{AlState}
+use Rattle.ec_regs.specs.declared.al.AlState.TheVariants.{Init}
+use Rattle.ec_regs.specs.declared.fmmu.Fmmu.{Fmmu}
+use Rattle.ec_regs.specs.declared.sync_man.SyncMan.{SyncMan}
+use Rattle.ecat_scene.specs.declared.scene.Action.{Action}
+use Rattle.ecat_scene.specs.declared.scene.Scene.{Scene}
+use Rattle.ecat_scene.specs.declared.scene.SceneSlave.{SceneSlave}
+use Rattle.ecat_scene.specs.declared.scene.SceneWeather.{SceneWeather}
+use Rattle.ecat_scene.specs.declared.scene.Setting.{Setting}
+use Rattle.ecat_scene.specs.declared.scene.Setting.TheVariants.{SyncMan as OfSyncMan, Fmmu as OfFmmu}
+use Rattle.ecat_scene.specs.declared.scene.Setting.TheVariants.{Load as OfLoad}
+use Rattle.ecat_scene.specs.declared.scene.StartupObject.{StartupObject}
+
+-- what is set up in a slave's controller: a record by its number, or bytes from an address on
+pub data SettingRecord : Type 0 where
+  SyncManAt : ℕ → SyncMan → SettingRecord
+  FmmuAt : ℕ → Fmmu → SettingRecord
+  LoadAt : ℕ → List ℕ → SettingRecord
+
+abbrev pub setting_record : Setting → SettingRecord
+setting_record (OfSyncMan s) = SyncManAt s.index s.record
+setting_record (OfFmmu s) = FmmuAt s.index s.record
+setting_record (OfLoad l) = LoadAt l.address l.bytes.items
+
+-- one slave
+pub record SlaveRecord : Type 0 where
+  pub station : ℕ
+  pub state : AlState
+  pub simple : Bool
+  pub output_length : ℕ
+  pub input_length : ℕ
+  pub settings : List SettingRecord
+  pub objects : List Entry
+  pub behaviours : List Behaviour
+  pub startup : List StartupObject
+
+abbrev pub slave_record : SceneSlave → SlaveRecord
+slave_record s = record {
+  station = s.station;
+  state = s.state;
+  simple = s.simple;
+  output_length = s.output_length;
+  input_length = s.input_length;
+  settings = map setting_record s.settings.items;
+  objects = s.objects;
+  behaviours = s.behaviours.items;
+  startup = s.startup.items;
+}
+
+-- one that was only begun
+abbrev pub new_slave : ℕ → SlaveRecord
+new_slave station = record {
+  station = station;
+  state = Init;
+  simple = false;
+  output_length = 0;
+  input_length = 0;
+  settings = [];
+  objects = [];
+  behaviours = [];
+  startup = [];
+}
+
+-- a line of slaves and what is done with it
+pub record SceneRecord : Type 0 where
+  pub slaves : List SlaveRecord
+  pub links_down : List ℕ
+  pub actions : List Action
+  pub items : List ItemRecord
+  pub weathers : List SceneWeather
+
+abbrev pub scene_record : Scene → SceneRecord
+scene_record s = record {
+  slaves = map slave_record s.slaves.items;
+  links_down = s.links_down.items;
+  actions = s.actions.items;
+  items = s.items.items;
+  weathers = s.weathers.items;
+}
+
+-- one of which no line was read
+abbrev pub empty_scene : SceneRecord
+empty_scene = record { slaves = []; links_down = []; actions = []; items = []; weathers = [] }
