@@ -1,9 +1,11 @@
 //! A line that lies somewhere else: how it is reached, and the two ports to it.
 
-ghost use Rattle.std.specs.Prelude.{◌≡◌, ◌<◌};
+ghost use Rattle.std.specs.Prelude.{◌≡◌, ◌<◌, ◌*◌};
+ghost use Rattle.std.specs.Option.{unwrap_or};
 ghost use Rattle.ec_seal.specs.declared.seals.TheConstants.{TRIPS};
 ghost use Rattle.ecat_acts.specs.Failures.{unscanned};
 ghost use Rattle.ecat_acts.specs.declared.failure.Failure.TheVariants.{Far};
+ghost use Rattle.ecat_acts.specs.declared.far.TheConstants.{LATE, LIMIT, MICROS};
 
 use crate::failure::Failure;
 use arrayvec::ArrayVec;
@@ -49,7 +51,10 @@ impl Waiting {
     };
 
     /// In microseconds, with what is usual where the words don't say.
-    fn patience(self) -> Patience {
+    fn patience(self) -> Patience
+        ensures limit { result.limit ≡ unwrap_or self.limit LIMIT }
+        ensures late { result.late ≡ unwrap_or self.late LATE * MICROS }
+    {
         Patience {
             limit: u64::from(self.limit.unwrap_or(LIMIT)),
             late: u64::from(self.late.unwrap_or(LATE)) * MICROS,

@@ -1,9 +1,11 @@
 //! What `--judge` prints of a cycle: which items are short, whose copies are lost, where the cable is broken.
 
 ghost use Rattle.std.specs.Prelude.{◌≡◌, length};
+ghost use Rattle.std.specs.List.{position};
+ghost use Rattle.ecat_simulation.specs.Losses.{first_loss, has_lost_one};
 
 use ec_diag::{Located, probe};
-use ec_master::{Ports, Report, Reporting, Verdict, Work, run_cycle};
+use ec_master::{CopiesBack, Ports, Report, Reporting, Verdict, Work, run_cycle};
 use ec_ring::{Ring, Travel, Weather};
 use ecat_line::LineFailure;
 use ecat_text::{Lines, print_break, print_counts, print_losses, print_verdict};
@@ -54,13 +56,24 @@ pub fn print_cable<W: Write>(
 }
 
 /// The number of the first frame whose copies did not both come back, or 0.
-fn first_loss(report: &Report) -> usize {
-    for (frame, copies) in report.copies().iter().enumerate() {
-        if !copies.a || !copies.b {
-            return frame;
-        }
-    }
-    0
+fn first_loss(report: &Report) -> usize
+    ensures { result ≡ first_loss report.now.copies }
+{
+    first_lost(report.copies()).unwrap_or(0)
+}
+
+/// The number of the first of these frames whose copies did not both come back.
+fn first_lost(frames: &[CopiesBack]) -> Option<usize>
+    ensures { result ≡ position has_lost_one frames.now }
+{
+    frames.iter().position(|copies| has_lost_one(*copies))
+}
+
+/// Did one of the copies of a frame not come back?
+fn has_lost_one(copies: CopiesBack) -> bool
+    ensures { result ≡ has_lost_one copies }
+{
+    !copies.a || !copies.b
 }
 
 /// Where the cable is broken, by one frame that travels in this weather.

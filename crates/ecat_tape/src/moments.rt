@@ -1,5 +1,8 @@
 //! When copies went by.
 
+ghost use Rattle.std.specs.Prelude.{◌≡◌, ◌-◌, ◌/◌, ◌^◌, min};
+ghost use Rattle.std.specs.Duration.{as_nanos};
+
 use std::rt::Clock;
 use std::time::{Duration, SystemTime, UNIX_EPOCH};
 
@@ -66,8 +69,8 @@ fn now<R: Clock>(clock: &R) -> Option<u64> {
 }
 
 /// A time in microseconds, at most the greatest number.
-fn micros_of(time: Duration) -> u64 {
-    time.as_secs()
-        .saturating_mul(1_000_000)
-        .saturating_add(u64::from(time.subsec_micros()))
+fn micros_of(time: Duration) -> u64
+    ensures { result ≡ min (as_nanos time / 1000) (2 ^ 64 - 1) }
+{
+    u64::try_from(time.as_micros()).unwrap_or(u64::MAX)
 }
