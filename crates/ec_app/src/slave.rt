@@ -103,13 +103,6 @@ impl Slave {
         })
     }
 
-    /// Is the slave a simple one, which needs no mailbox on the way to Pre-Op?
-    pub fn is_simple(&self) -> bool
-        ensures { result ≡ self.now.application.simple }
-    {
-        self.simple
-    }
-
     /// The controller, by which the master reaches the slave.
     pub fn controller(&self) -> &Controller
         ensures { result.now ≡ self.now.controller }

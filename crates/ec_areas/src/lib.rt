@@ -29,9 +29,8 @@
 //!   and writes move the same bits (laws `read_map_mapped`, `write_map_mapped`);
 //! - [`serves_physical_read`], [`serves_physical_write`]: which ranges a physical command may read and write;
 //!   [`emptied_by`], [`filled_by`]: which mailbox that empties and fills;
-//! - [`writes_outputs`]: does a logical write reach the last byte of outputs; [`last_bytes_written`]: of
-//!   which active areas it does; [`told_of_each`]: what a test says of each area; [`copy_run`],
-//!   [`merge_run`]: the bytes of a range, copied or or-ed into data.
+//! - [`writes_outputs`]: does a logical write reach the last byte of outputs; [`told_of_each`]: what a test
+//!   says of each area; [`copy_run`], [`merge_run`]: the bytes of a range, copied or or-ed into data.
 //!
 //! All of it works on memories and records; a controller, which has them, is in the crate above. Inside,
 //! `areas` says what sync managers keep off, `records` reads the records out of a memory, `met` and `reach`
@@ -64,4 +63,4 @@ pub use ranges::{
 };
 pub use records::{fmmu_at, fmmus_of, sync_manager_at, sync_managers_of};
 pub use runs::{copy_run, merge_run};
-pub use showing::{last_byte, last_bytes_written, told_of_each, writes_outputs};
+pub use showing::{last_byte, told_of_each, writes_outputs};

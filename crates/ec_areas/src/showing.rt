@@ -8,7 +8,7 @@ ghost use Rattle.ec_regs.specs.SyncMan.{guards_outputs};
 ghost use Rattle.ec_areas.specs.Areas.{is_writable};
 ghost use Rattle.ec_areas.specs.Logical.{write_map, names};
 ghost use Rattle.ec_areas.specs.Met.{data_in};
-ghost use Rattle.ec_areas.specs.Showing.{last_byte, reaches, SaysOfLastBytes, TellsOfEach};
+ghost use Rattle.ec_areas.specs.Showing.{last_byte, reaches, TellsOfEach};
 
 use crate::areas::is_writable;
 use crate::met::{Run, run_met};
@@ -86,24 +86,6 @@ pub fn writes_outputs(
         (8 * address) (8 * count) (8 * last_byte area.now + b)) 8) }
 {
     is_last_written(managers, fmmus, address, count, area)
-}
-
-/// Of which active areas a write of `count` bytes at the logical byte `address` reaches the last byte, by
-/// number.
-pub fn last_bytes_written(
-    managers: &SyncManagers,
-    fmmus: &[PlannedFmmu],
-    address: u32,
-    count: usize,
-) -> [bool; SYNC_MANAGER_COUNT]
-    ensures { SaysOfLastBytes
-        (λ byte. names (λ b. write_map managers.now fmmus.now (8 * address) (8 * count) (8 * byte + b)) 8)
-        managers.now result }
-{
-    told_of_each(
-        managers,
-        |area| is_last_written(managers, fmmus, address, count, area),
-    )
 }
 
 /// What a test says of each area, by number.

@@ -25,6 +25,10 @@ use Rattle.ec_check.proofs.MappingLemmas as mappings
 use Rattle.ec_check.proofs.LastsLemmas as lasts
 use Rattle.ec_check.proofs.PlacesLemmas as places
 use Rattle.ec_check.proofs.RecordsLemmas as by_records
+-- lists of numbers in the order of a dictionary: what begins a list, and what comes before one that goes on
+-- with a number
+pub use Rattle.ec_check.proofs.OrderLemmas.{BeginsWith-shorter, BeginsWith-itself, IsBefore-begins}
+pub use Rattle.ec_check.proofs.OrderLemmas.{IsBefore-cases}
 
 -- the controller under a number is that of what stands under it
 pub controller_of-controllers_by : {S : Type 0} (controller : S → ControllerState) (line : List S) (i : ℕ)

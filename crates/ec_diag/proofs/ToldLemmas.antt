@@ -17,9 +17,6 @@ use Rattle.ec_diag.proofs.CableLemmas.{Cable, IsWhole, IsBroken, cable}
 
 -- ---- the table, by numbers
 
-pub a_unprocessed : (n : ℕ) → told_at_a n 0 ≡ Whole
-a_unprocessed n = refl
-
 pub a_first : (n k : ℕ) → 0 < k → k ≤ n → told_at_a n k ≡ First k
 a_first n k some inside =
     let test : eqb k 0 ≡ false = ne_eqb k 0 (λ e. omega (arith, e)) in
@@ -52,9 +49,6 @@ turned_never n k past =
     rw (test, room) refl
 
 -- ---- what is heard is so
-
-abbrev pub Tells-as : Links → ℕ → Heard → Type 0
-Tells-as links n h = Knows (told_of n h) links n
 
 told_a : (links : Links) (n : ℕ) → Cable links n → (h : Heard) → heard_a links n ≡ Some h
     → Knows (told_of n h) links n

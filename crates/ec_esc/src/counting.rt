@@ -18,10 +18,10 @@ pub const MOST_CONTROLLERS: usize = 256;
 /// What a working counter gains for a read that is served.
 pub(crate) const READ_GAIN: u16 = 1;
 
-/// What it gains for a write that is served, where the command does not read.
+/// What a working counter gains for a write that is served, where the command does not read.
 pub(crate) const LONE_WRITE_GAIN: u16 = 1;
 
-/// What it gains for a write that is served, where the command reads too.
+/// What a working counter gains for a write that is served, where the command reads too.
 pub(crate) const WRITE_GAIN: u16 = 2;
 
 /// Adds to the working counter of the datagram at `k`, modulo 65536; all else stays.

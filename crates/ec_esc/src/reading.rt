@@ -4,12 +4,12 @@ ghost use Rattle.std.specs.Prelude.{◌≡◌, ◌+◌, ◌-◌, ◌<◌, ◌≤
 ghost use Rattle.ec_regs.specs.declared.registers.TheConstants.{FMMU_COUNT, SYNC_MANAGER_COUNT};
 ghost use Rattle.ec_regs.specs.declared.registers.TheConstants.{STATION_ADDRESS, PROCESS_MEMORY, MEMORY_SIZE};
 ghost use Rattle.ec_esc.specs.State.{IsController, word_at};
-ghost use Rattle.ec_areas.specs.Records.{fmmu_at, sync_manager_at, sync_managers_of};
+ghost use Rattle.ec_areas.specs.Records.{fmmu_at, sync_manager_at};
 
 use crate::controller::Controller;
 use crate::process::are_bytes;
 use ec_regs::registers::{PROCESS_MEMORY, STATION_ADDRESS};
-use ec_regs::{Fmmu, SyncMan, SyncManagers};
+use ec_regs::{Fmmu, SyncMan};
 
 impl Controller {
     /// The station address, by which FP commands name the slave (IEC 61158-4-12, station address). (Its
@@ -37,13 +37,6 @@ impl Controller {
         ensures { result ≡ sync_manager_at self.now.memory i }
     {
         self.memory.managers()[i].manager()
-    }
-
-    /// The records of all sync managers, by number, as they stand in the memory.
-    pub fn syncmans(&self) -> &SyncManagers
-        ensures { result.now ≡ sync_managers_of self.now.memory }
-    {
-        self.memory.managers()
     }
 
     /// The memory's bytes from an address on.

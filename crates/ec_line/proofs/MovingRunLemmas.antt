@@ -192,12 +192,6 @@ pub record IsStillTrip (t : Trip) (line : List ControllerState) : Type 0 where
   pub joined : joined_moving t visits ≡ joined_of t (passed t line)
   pub later : laters visits ≡ (passed t line).line
 
--- copies as they are over lines
-joined_copies : (t : Trip) (p q : PassedLine) (line other : List ControllerState)
-    → joined_of t (record { a = p.frame; b = q.frame; line = line })
-    ≡ joined_of t (record { a = p.frame; b = q.frame; line = other })
-joined_copies t p q line other = refl
-
 still_a_first : (t : Trip) (line : List ControllerState) → t.b_first ≡ false → IsStillTrip t line
 unfolding passed
 still_a_first t line order =

@@ -81,16 +81,6 @@ gap_fmmu line items slave bound end gap is begins = (
   (begins.0, (refl, tt)),
 )
 
--- then with a way
-way_below : (way : Way) → way_number way < 2
-way_below Reads = omega arith
-way_below Writes = omega arith
-
-pub gap_way : (line : List ControllerState) (items : List ItemRecord) (slave fmmu : ℕ)
-    → GoesOnBelow gap_numbers (IsGap line items) (slave ∷ fmmu ∷ []) 2
-gap_way line items slave fmmu gap is begins =
-    (way_number gap.way, way_below gap.way, (begins.0, (begins.1.0, (refl, tt))))
-
 -- ways with one number are the same
 way_same : (way other : Way) → way_number way ≡ way_number other → way ≡ other
 way_same Reads Reads e = refl

@@ -2,7 +2,7 @@
 use Rattle.std.proofs.Common.{⊎_elim, ℕ, ◌<◌, List, [], ◌∷◌, ◌++◌}
 use Rattle.ec_check.specs.Order.{BeginsWith}
 use Rattle.ec_map.specs.First.{HasNone, HasNoneBelow, IsFirstOf}
-use Rattle.ec_map.proofs.OrderLemmas.{BeginsWith-shorter, BeginsWith-itself, IsBefore-begins, IsBefore-cases}
+use Rattle.ec_check.proofs.Laws.{BeginsWith-shorter, BeginsWith-itself, IsBefore-begins, IsBefore-cases}
 
 -- the first that goes on with n is the first of all if there is none that goes on with less
 pub IsFirstOf-shorter : {F : Type 0} (numbers : F → List ℕ) (Is : F → Type 0) (beginning : List ℕ) (n : ℕ)

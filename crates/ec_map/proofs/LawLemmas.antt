@@ -25,7 +25,7 @@ use Rattle.ec_check.specs.Fit.{IsFit}
 use Rattle.ec_check.specs.Line.{controller_of, station_of}
 use Rattle.ec_map.specs.Item.{ItemRecord, IsItem, is_in_range, wire_address}
 use Rattle.ec_map.specs.Place.{is_input_run, is_output_run, holds_run, may_read, may_write, IsPlaced}
-use Rattle.ec_map.specs.Share.{share, request_of, serves_read, serves_write}
+use Rattle.ec_map.specs.Share.{share, request_of, serves_item_read, serves_item_write}
 use Rattle.ec_map.proofs.PlaceLemmas.{may_read-IsPlaced, may_write-IsPlaced}
 use Rattle.ec_map.proofs.ItemLemmas.{item_size, item_range}
 
@@ -186,9 +186,9 @@ share_brd r c item is =
     share_served Brd r c is ∙ ap (λ b. cond b 1 0 + 0) served
 
 pub share_fprd : (r : ItemRecord) (c : ControllerState) → r.kind ≡ Fprd
-    → share r c ≡ cond (serves_read c r) 1 0
+    → share r c ≡ cond (serves_item_read c r) 1 0
 share_fprd r c is = omega (arith, share_served Fprd r c is)
 
 pub share_fpwr : (r : ItemRecord) (c : ControllerState) → r.kind ≡ Fpwr
-    → share r c ≡ cond (serves_write c r) 1 0
+    → share r c ≡ cond (serves_item_write c r) 1 0
 share_fpwr r c is = omega (arith, share_served Fpwr r c is)

@@ -2,7 +2,6 @@ pub mod PlaceLemmas
 pub mod MappingLemmas
 pub mod LawLemmas
 pub mod ItemLemmas
-pub mod OrderLemmas
 pub mod FirstLemmas
 pub mod CoveredLemmas
 pub mod WrittenLemmas

@@ -46,46 +46,6 @@ not_shown_number line items slave bound end found is begins = (
   (begins.0, (refl, tt)),
 )
 
--- an area that is none of mapped outputs is not one of them
-pub HasNone-area : (line : List ControllerState) (items : List ItemRecord) (slave number : ℕ)
-    → ¬ IsMappedArea line slave number
-    → HasNone not_shown_numbers (IsNotShown line items) (slave ∷ number ∷ [])
-HasNone-area line items slave number none = record {
-  none = λ found is begins. none (rw (begins.0, begins.1.0) is.area);
-}
-
--- nor one for which there is no why
-pub HasNone-why : (line : List ControllerState) (items : List ItemRecord) (slave number : ℕ)
-    → ((why : WhyNotShown) → ¬ IsWhy line items slave number why)
-    → HasNone not_shown_numbers (IsNotShown line items) (slave ∷ number ∷ [])
-HasNone-why line items slave number none = record {
-  none = λ found is begins. none found.why (rw (begins.0, begins.1.0) is.why);
-}
-
--- the first why is that of the first of its area
-pub IsFirstOf-why : (line : List ControllerState) (items : List ItemRecord) (found : NotShown)
-    → IsMappedArea line found.slave found.sync_manager
-    → IsFirst why_numbers (IsWhy line items found.slave found.sync_manager) found.why
-    → IsFirstOf not_shown_numbers (IsNotShown line items) (found.slave ∷ found.sync_manager ∷ []) found
-IsFirstOf-why line items found area why = record {
-  is = record { area = area; why = why.is };
-  begins = (refl, (refl, tt));
-  first = λ other is begins before.
-      let slave : found.slave ≡ other.slave = begins.0 in
-      let number : found.sync_manager ≡ other.sync_manager = begins.1.0 in
-      ⊎_elim
-      (λ (less : other.slave < found.slave). absurd (omega arith))
-      (λ (rest : (other.slave ≡ found.slave)
-      × IsBefore (other.sync_manager ∷ why_numbers other.why) (found.sync_manager ∷ why_numbers found.why)).
-      ⊎_elim
-      (λ (less : other.sync_manager < found.sync_manager). absurd (omega arith))
-      (λ (last : (other.sync_manager ≡ found.sync_manager)
-      × IsBefore (why_numbers other.why) (why_numbers found.why)).
-      why.first other.why (rw (begins.0, begins.1.0) is.why) last.1)
-      rest.1)
-      before;
-}
-
 -- ---- why
 
 -- the item that is read under a number is the one of the list

@@ -34,9 +34,9 @@ WritesBit c address n l p =
     IsPairWithin (IsWritable (sync_managers_of c.memory) (fmmus_of c.memory)) (8 * address) (8 * n) l p
 
 -- is it the station that the item names, and is the item's range served for reading there
-abbrev pub serves_read : ControllerState → ItemRecord → Bool
-serves_read c r = serves_reading ConfiguredStation c r.address (length r.payload)
+abbrev pub serves_item_read : ControllerState → ItemRecord → Bool
+serves_item_read c r = serves_reading ConfiguredStation c r.address (length r.payload)
 
--- for writing
-abbrev pub serves_write : ControllerState → ItemRecord → Bool
-serves_write c r = serves_writing ConfiguredStation c r.address (length r.payload)
+-- is it that station, and is the item's range served for writing there
+abbrev pub serves_item_write : ControllerState → ItemRecord → Bool
+serves_item_write c r = serves_writing ConfiguredStation c r.address (length r.payload)

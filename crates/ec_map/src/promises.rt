@@ -10,7 +10,8 @@ ghost use Rattle.ec_line.specs.Mapping.{mapping};
 ghost use Rattle.ec_check.specs.Fit.{IsFit};
 ghost use Rattle.ec_map.specs.Item.{ItemRecord, IsItem, AsksTheSame};
 ghost use Rattle.ec_map.specs.Place.{IsPlaced};
-ghost use Rattle.ec_map.specs.Share.{share, request_of, serves_read, serves_write, ReadsBit, WritesBit};
+ghost use Rattle.ec_map.specs.Share.{share, request_of, serves_item_read, serves_item_write};
+ghost use Rattle.ec_map.specs.Share.{ReadsBit, WritesBit};
 
 /// An item that `check_item` accepts is one that each slave of a fit line accepts.
 pub fn accepted_items()
@@ -31,9 +32,9 @@ pub fn shares_by_kind()
         + (if writes_bits c r.address (length r.payload) then 2 else 0) }
     ensures brd { (r : ItemRecord) (c : ControllerState) → IsItem r → r.kind ≡ Brd → share r c ≡ 1 }
     ensures fprd { (r : ItemRecord) (c : ControllerState) → r.kind ≡ Fprd
-        → share r c ≡ (if serves_read c r then 1 else 0) }
+        → share r c ≡ (if serves_item_read c r then 1 else 0) }
     ensures fpwr { (r : ItemRecord) (c : ControllerState) → r.kind ≡ Fpwr
-        → share r c ≡ (if serves_write c r then 1 else 0) }
+        → share r c ≡ (if serves_item_write c r then 1 else 0) }
 {}
 
 /// A controller reads bits of a range of logical bytes exactly where a readable pair of it has its logical

@@ -23,7 +23,7 @@ use Rattle.ec_wire.specs.declared.kind.Kind.TheVariants.{Brd, Fprd, Fpwr}
 use Rattle.ec_line.proofs.Laws.{claim_in, claim_out, broadcast_claim}
 use Rattle.ec_map.specs.Item.{ItemRecord, IsItem, is_in_range, is_broadcast}
 use Rattle.ec_map.specs.Place.{station_named, ado_named}
-use Rattle.ec_map.specs.Share.{serves_read, serves_write, request_of}
+use Rattle.ec_map.specs.Share.{serves_item_read, serves_item_write, request_of}
 use Rattle.ec_map.proofs.Laws.{item_size, item_range}
 
 -- ---- halves
@@ -169,14 +169,14 @@ broadcast_place r item is =
 ado_broadcast : (r : ItemRecord) → IsItem r → ado_of (r.adp + 65536 * r.address) ≡ r.address
 ado_broadcast r item = let small : r.adp < 65536 = item.adp in omega arith
 
-pub item_fprd : (r : ItemRecord) (c : ControllerState) (i : ℕ) → r.kind ≡ Fprd → serves_read c r ≡ true
+pub item_fprd : (r : ItemRecord) (c : ControllerState) (i : ℕ) → r.kind ≡ Fprd → serves_item_read c r ≡ true
     → i < 8 * length r.payload → claim (request_of r) c i ≡ Some (bit c.memory (8 * ado_named r + i))
 unfolding asked
 item_fprd r c i is served inside =
     ap (λ (q : Request). claim q c i) (request-asked Fprd r is)
     ∙ claim_fprd r.address (length r.payload) c i served inside
 
-pub item_not_fprd : (r : ItemRecord) (c : ControllerState) (i : ℕ) → r.kind ≡ Fprd → serves_read c r ≡ false
+pub item_not_fprd : (r : ItemRecord) (c : ControllerState) (i : ℕ) → r.kind ≡ Fprd → serves_item_read c r ≡ false
     → claim (request_of r) c i ≡ None
 unfolding asked
 item_not_fprd r c i is idle =
@@ -212,7 +212,7 @@ item_writes r c i is =
     (cases_lt i (8 * length r.payload))
 
 pub item_fpwr : (r : ItemRecord) (c : ControllerState) (i : ℕ) → r.kind ≡ Fpwr → IsController c
-    → serves_write c r ≡ true
+    → serves_item_write c r ≡ true
     → i < 8 * length r.payload → takes_writes c.memory (ado_named r + i / 8) ≡ true
     → bit (after (request_of r) r.payload c).memory (8 * ado_named r + i) ≡ bit r.payload i
 unfolding asked
@@ -240,7 +240,7 @@ item_beside_fpwr r c p is other =
     ∙ after_kept (asked Fpwr r) r.payload c p (untaken_fpwr r.address (length r.payload) c p other)
 
 pub item_not_fpwr : (r : ItemRecord) (c : ControllerState) → r.kind ≡ Fpwr → IsController c
-    → serves_write c r ≡ false
+    → serves_item_write c r ≡ false
     → (after (request_of r) r.payload c).memory ≡ c.memory
 unfolding asked
 item_not_fpwr r c is controller idle =
@@ -262,7 +262,7 @@ item_reads r c kind controller =
 
 -- ---- what an addressed write takes
 
-pub taken_by_range : (r : ItemRecord) (c : ControllerState) (i : ℕ) → r.kind ≡ Fpwr → serves_write c r ≡ true
+pub taken_by_range : (r : ItemRecord) (c : ControllerState) (i : ℕ) → r.kind ≡ Fpwr → serves_item_write c r ≡ true
     → i < 8 * length r.payload → takes_writes c.memory (ado_named r + i / 8) ≡ true
     → taken (request_of r) c (8 * ado_named r + i) ≡ Some i
 unfolding asked
@@ -278,7 +278,7 @@ untaken_beside r c p is other =
     ap (λ (q : Request). taken q c p) (request-asked Fpwr r is)
     ∙ untaken_fpwr r.address (length r.payload) c p other
 
-pub untaken_idle : (r : ItemRecord) (c : ControllerState) (p : ℕ) → r.kind ≡ Fpwr → serves_write c r ≡ false
+pub untaken_idle : (r : ItemRecord) (c : ControllerState) (p : ℕ) → r.kind ≡ Fpwr → serves_item_write c r ≡ false
     → taken (request_of r) c p ≡ None
 unfolding asked
 untaken_idle r c p is idle =

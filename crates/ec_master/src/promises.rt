@@ -14,7 +14,7 @@ ghost use Rattle.ec_line.specs.Claims.{claim};
 ghost use Rattle.ec_wire.specs.declared.kind.Kind.TheVariants.{Brd, Fprd, Fpwr};
 ghost use Rattle.ec_map.specs.Item.{ItemRecord, IsItem};
 ghost use Rattle.ec_map.specs.Place.{ado_named};
-ghost use Rattle.ec_map.specs.Share.{serves_read, serves_write, request_of};
+ghost use Rattle.ec_map.specs.Share.{serves_item_read, serves_item_write, request_of};
 ghost use Rattle.ec_ring.specs.Links.{IsOnlyDown};
 ghost use Rattle.ec_ring.specs.Ring.{RingState};
 ghost use Rattle.ec_ring.specs.declared.links.TheConstants.{MAX_SLAVES};
@@ -117,11 +117,11 @@ pub fn the_cut()
 /// by the range: a served read claims its bits, a broadcast read those that are 1, a write none. A served
 /// write leaves its data in those bytes that take writes, and every other bit stays.
 pub fn by_range()
-    ensures fprd { (r : ItemRecord) (c : ControllerState) (i : ℕ) → r.kind ≡ Fprd → serves_read c r ≡ true
-        → i < 8 * length r.payload
+    ensures fprd { (r : ItemRecord) (c : ControllerState) (i : ℕ) → r.kind ≡ Fprd
+        → serves_item_read c r ≡ true → i < 8 * length r.payload
         → claim (request_of r) c i ≡ Some (bit c.memory (8 * ado_named r + i)) }
     ensures not_fprd { (r : ItemRecord) (c : ControllerState) (i : ℕ) → r.kind ≡ Fprd
-        → serves_read c r ≡ false → claim (request_of r) c i ≡ None }
+        → serves_item_read c r ≡ false → claim (request_of r) c i ≡ None }
     ensures brd { (r : ItemRecord) (c : ControllerState) (i : ℕ) → r.kind ≡ Brd → IsItem r
         → i < 8 * length r.payload → bit c.memory (8 * r.address + i) ≡ 1
         → claim (request_of r) c i ≡ Some 1 }
@@ -130,14 +130,14 @@ pub fn by_range()
     ensures writes { (r : ItemRecord) (c : ControllerState) (i : ℕ) → r.kind ≡ Fpwr
         → claim (request_of r) c i ≡ None }
     ensures fpwr { (r : ItemRecord) (c : ControllerState) (i : ℕ) → r.kind ≡ Fpwr → IsController c
-        → serves_write c r ≡ true → i < 8 * length r.payload
+        → serves_item_write c r ≡ true → i < 8 * length r.payload
         → takes_writes c.memory (ado_named r + i / 8) ≡ true
         → bit (after (request_of r) r.payload c).memory (8 * ado_named r + i) ≡ bit r.payload i }
     ensures beside_fpwr { (r : ItemRecord) (c : ControllerState) (p : ℕ) → r.kind ≡ Fpwr
         → (within (ado_named r) (length r.payload) (p / 8) && takes_writes c.memory (p / 8)) ≡ false
         → bit (after (request_of r) r.payload c).memory p ≡ bit c.memory p }
     ensures not_fpwr { (r : ItemRecord) (c : ControllerState) → r.kind ≡ Fpwr → IsController c
-        → serves_write c r ≡ false → (after (request_of r) r.payload c).memory ≡ c.memory }
+        → serves_item_write c r ≡ false → (after (request_of r) r.payload c).memory ≡ c.memory }
     ensures reads { (r : ItemRecord) (c : ControllerState) → (r.kind ≡ Brd) ⊎ (r.kind ≡ Fprd)
         → IsController c → (after (request_of r) r.payload c).memory ≡ c.memory }
 {}

@@ -16,7 +16,7 @@ ghost use Rattle.ec_line.specs.After.{after};
 ghost use Rattle.ec_line.specs.Claims.{taken};
 ghost use Rattle.ec_map.specs.Item.{ItemRecord};
 ghost use Rattle.ec_map.specs.Place.{ado_named};
-ghost use Rattle.ec_map.specs.Share.{serves_write, request_of};
+ghost use Rattle.ec_map.specs.Share.{serves_item_write, request_of};
 ghost use Rattle.ec_wire.specs.declared.kind.Kind.TheVariants.{Fpwr};
 
 /// After an item of any kind the application is shown a byte as it then stands in the memory, where the byte
@@ -36,12 +36,12 @@ pub fn shown_by_areas()
         → taken (request_of r) c (8 * last_byte s + b) ≡ None)
         → slice_index (after (request_of r) r.payload c).shown k ≡ slice_index c.shown k }
     ensures range { (r : ItemRecord) (c : ControllerState) (i : ℕ) → r.kind ≡ Fpwr
-        → serves_write c r ≡ true → i < 8 * length r.payload
+        → serves_item_write c r ≡ true → i < 8 * length r.payload
         → takes_writes c.memory (ado_named r + i / 8) ≡ true
         → taken (request_of r) c (8 * ado_named r + i) ≡ Some i }
     ensures beside { (r : ItemRecord) (c : ControllerState) (p : ℕ) → r.kind ≡ Fpwr
         → (within (ado_named r) (length r.payload) (p / 8) && takes_writes c.memory (p / 8)) ≡ false
         → taken (request_of r) c p ≡ None }
     ensures idle { (r : ItemRecord) (c : ControllerState) (p : ℕ) → r.kind ≡ Fpwr
-        → serves_write c r ≡ false → taken (request_of r) c p ≡ None }
+        → serves_item_write c r ≡ false → taken (request_of r) c p ≡ None }
 {}

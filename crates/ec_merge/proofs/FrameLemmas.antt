@@ -1,10 +1,10 @@
 -- Frames of which some datagrams are joined.
-use Rattle.std.proofs.Common.{◌≡◌, inl, inr, ℕ, zero, suc, ◌+◌, ◌*◌, ◌/◌, ◌%◌, ◌<◌, ◌≤◌, ◌&&◌, eqb, cond}
+use Rattle.std.proofs.Common.{◌≡◌, inl, inr, ℕ, zero, suc, ◌+◌, ◌*◌, ◌/◌, ◌%◌, ◌<◌, ◌&&◌, eqb, cond}
 use Rattle.std.proofs.Common.{Bool, true, false, Option, None, Some, unwrap_or, Bor, All, List, [], ◌∷◌}
-use Rattle.std.proofs.Common.{◌++◌, length, set, take, drop, refl, sym, ap, ◌∙◌, arith}
+use Rattle.std.proofs.Common.{length, set, refl, sym, ap, ◌∙◌, arith}
 use Rattle.std.specs.Option.{option_copied}
 use Rattle.std.proofs.lemmas.Bool.{and_parts, eqb-true, true≢false, cases_lt}
-use Rattle.std.proofs.lemmas.List.{set-set, get_or-set_same, take_all, drop_all, append-nil}
+use Rattle.std.proofs.lemmas.List.{set-set, get_or-set_same}
 use Rattle.ec_wire.specs.Datagram.{DatagramRecord, nth, blank, code_of, command_of, Fits}
 use Rattle.ec_wire.specs.declared.command.Command.{Command}
 use Rattle.ec_merge.specs.declared.frames.JoinFault.{JoinFault}
@@ -143,11 +143,12 @@ stranger_one s c j k hj hk = elim (cases_lt j k) [
       [ inl less ↦ absurd (stranger_not_before s c k j hk hj less) | inr same ↦ omega arith ]
 ]
 
--- where copy b is the stranger no other fault is named
-pub one_fault_b : (s a b : List DatagramRecord) (k : ℕ) → IsOwn s a → IsStranger s b k → (f : JoinFault)
-    → IsFault s a b f → StrangerB k ≡ f
-one_fault_b s a b k own stranger (StrangerA j) h = absurd (own_no_stranger s a j own h)
-one_fault_b s a b k own stranger (StrangerB j) h = ap StrangerB (stranger_one s b k j stranger h.1)
+-- one fault alone is named
+pub fault_one : (s a b : List DatagramRecord) (f g : JoinFault) → IsFault s a b f → IsFault s a b g → f ≡ g
+fault_one s a b (StrangerA j) (StrangerA k) h i = ap StrangerA (stranger_one s a j k h i)
+fault_one s a b (StrangerA j) (StrangerB k) h i = absurd (own_no_stranger s a j i.0 h)
+fault_one s a b (StrangerB j) (StrangerA k) h i = absurd (own_no_stranger s a k h.0 i)
+fault_one s a b (StrangerB j) (StrangerB k) h i = ap StrangerB (stranger_one s b j k h.1 i.1)
 
 -- the frame behind a copy, or the sent one
 pub copy_is : {X : Type 0} (o : Option (Bor X)) (d r : Bor X) → r ≡ unwrap_or o d
@@ -195,27 +196,15 @@ set-joined_part (suc n) (s ∷ ss) (x ∷ xs) (y ∷ ys) hs hx hy =
     ap (λ rest. joined_record s x y ∷ rest)
     (set-joined_part n ss xs ys (omega arith) (omega arith) (omega arith))
 
--- they are a joined front, and the rest of a behind it
-pub joined_part-front : (n : ℕ) (ss xs ys : List DatagramRecord) → n ≤ length ss → n ≤ length xs
-    → n ≤ length ys
-    → joined_part n ss xs ys ≡ joined_frame (take n ss) (take n xs) (take n ys) ++ drop n xs
-joined_part-front zero ss xs ys hs hx hy = refl
-joined_part-front (suc n) [] xs ys hs hx hy = absurd (omega arith)
-joined_part-front (suc n) (s ∷ ss) [] ys hs hx hy = absurd (omega arith)
-joined_part-front (suc n) (s ∷ ss) (x ∷ xs) [] hs hx hy = absurd (omega arith)
-joined_part-front (suc n) (s ∷ ss) (x ∷ xs) (y ∷ ys) hs hx hy =
-    ap (λ rest. joined_record s x y ∷ rest)
-    (joined_part-front n ss xs ys (omega arith) (omega arith) (omega arith))
-
 -- once all are joined, the frame is
-pub joined_front-all : (n : ℕ) (ss xs ys : List DatagramRecord) → length ss ≤ n → length xs ≡ length ss
-    → length ys ≡ length ss
-    → joined_frame (take n ss) (take n xs) (take n ys) ++ drop n xs ≡ joined_frame ss xs ys
-joined_front-all n ss xs ys all hx hy =
-    let all_x : length xs ≤ n = omega arith in
-    let all_y : length ys ≤ n = omega arith in
-    rw (take_all n ss all, take_all n xs all_x, take_all n ys all_y, drop_all n xs all_x)
-    (append-nil (joined_frame ss xs ys))
+pub joined_part-all : (ss xs ys : List DatagramRecord) → length xs ≡ length ss → length ys ≡ length ss
+    → joined_part (length ss) ss xs ys ≡ joined_frame ss xs ys
+joined_part-all [] [] ys hx hy = refl
+joined_part-all [] (x ∷ xs) ys hx hy = absurd (omega arith)
+joined_part-all (s ∷ ss) [] ys hx hy = absurd (omega arith)
+joined_part-all (s ∷ ss) (x ∷ xs) [] hx hy = absurd (omega arith)
+joined_part-all (s ∷ ss) (x ∷ xs) (y ∷ ys) hx hy =
+    ap (λ rest. joined_record s x y ∷ rest) (joined_part-all ss xs ys (omega arith) (omega arith))
 
 -- ---- laws of joined frames
 

@@ -1,7 +1,7 @@
 //! Whole frames, joined in place.
 
-ghost use Rattle.std.specs.Prelude.{◌≡◌, ℕ, List, ◌<◌, ◌≤◌, ◌%◌, length, slice_set, OnOk, IfOk, IfErr};
-ghost use Rattle.std.specs.Prelude.{MatchOption, true, All, take, drop, ◌++◌};
+ghost use Rattle.std.specs.Prelude.{◌≡◌, ℕ, List, ◌<◌, ◌%◌, length, slice_set, OnOk, OnErr, IfOk, IfErr};
+ghost use Rattle.std.specs.Prelude.{MatchOption, true, All};
 ghost use Rattle.ec_wire.specs.Datagram.{DatagramRecord, nth, Fits};
 ghost use Rattle.ec_merge.specs.declared.frames.JoinFault.{JoinFault};
 ghost use Rattle.ec_merge.specs.Bytes.{joined_bytes};
@@ -27,8 +27,9 @@ pub enum JoinFault {
     StrangerB(usize),
 }
 
-/// The part of an address that slaves leave as it is.
-fn fixed_address(command: Command, address: u32) -> u32
+/// The part of an address that slaves leave as it is: the ADO alone where they count up the ADP, else all of
+/// it.
+pub fn fixed_address(command: Command, address: u32) -> u32
     ensures { result ≡ fixed_address command address }
 {
     if command.counts_adp() {
@@ -51,16 +52,13 @@ fn belongs(sent: &FrameBuf, copy: &FrameBuf, k: usize) -> bool
         && fixed_address(command, copy.address(k)) == fixed_address(command, sent.address(k))
 }
 
-/// The first datagram from `from` on at which a copy differs, if it is a stranger; all before may have come
-/// of the sent ones.
-fn first_difference(sent: &FrameBuf, copy: &FrameBuf, from: usize) -> Option<usize>
-    requires in_sent { from ≤ length sent.now }
-    requires in_copy { from ≤ length copy.now }
-    requires before { (i : ℕ) → i < from → belongs (nth sent.now i) (nth copy.now i) ≡ true }
+/// The first datagram at which a copy differs from the sent frame, if it is a stranger: one that cannot have
+/// come of it. Where one frame ends before the other, that is the first datagram that the longer one has more.
+pub fn stranger_in(sent: &FrameBuf, copy: &FrameBuf) -> Option<usize>
     ensures { MatchOption result (IsOwn sent.now copy.now) (IsStranger sent.now copy.now) }
 {
     let shared = sent.count().min(copy.count());
-    for k in from..shared {
+    for k in 0..shared {
         if !belongs(sent, copy, k) {
             return Some(k);
         }
@@ -146,27 +144,34 @@ fn join_datagram(sent: &FrameBuf, into: &mut FrameBuf, other: &FrameBuf, k: usiz
     join_fields(sent, into, other, k);
 }
 
-/// Joins another copy in, as far as every datagram of both may have come of the sent one, and says how many
-/// are joined.
-fn join_front(sent: &FrameBuf, into: &mut FrameBuf, other: &FrameBuf) -> usize
-    ensures in_sent { result ≤ length sent.now }
-    ensures in_into { result ≤ length into.old }
-    ensures in_other { result ≤ length other.now }
-    ensures into_before { (i : ℕ) → i < result → belongs (nth sent.now i) (nth into.old i) ≡ true }
-    ensures other_before { (i : ℕ) → i < result → belongs (nth sent.now i) (nth other.now i) ≡ true }
-    ensures joined { into.new
-        ≡ joined_frame (take result sent.now) (take result into.old) (take result other.now)
-        ++ drop result into.old }
-    ensures whole { IsOwn sent.now into.old → IsOwn sent.now other.now → result ≡ length sent.now }
+/// Joins another copy in; both may have come of the sent frame.
+fn join_all(sent: &FrameBuf, into: &mut FrameBuf, other: &FrameBuf)
+    requires into_own { IsOwn sent.now into.old }
+    requires other_own { IsOwn sent.now other.now }
+    ensures { into.new ≡ joined_frame sent.now into.old other.now }
 {
-    let shared = sent.count().min(into.count()).min(other.count());
-    for k in 0..shared {
-        if !belongs(sent, into, k) || !belongs(sent, other, k) {
-            return k;
-        }
+    for k in 0..sent.count() {
         join_datagram(sent, into, other, k);
     }
-    shared
+}
+
+/// Joins another copy of the sent frame into the first one, in its place: as [`join_frames`] does, with no
+/// third frame. A stranger is named, the first copy before the other, and leaves the first one as it is.
+pub fn join_into(sent: &FrameBuf, into: &mut FrameBuf, other: &FrameBuf) -> Result<(), JoinFault>
+    ensures into_own { OnOk result (IsOwn sent.now into.old) }
+    ensures other_own { OnOk result (IsOwn sent.now other.now) }
+    ensures joined { OnOk result (into.new ≡ joined_frame sent.now into.old other.now) }
+    ensures fault { IfErr result (IsFault sent.now into.old other.now) }
+    ensures kept { OnErr result (into.new ≡ into.old) }
+{
+    if let Some(k) = stranger_in(sent, into) {
+        return Err(JoinFault::StrangerA(k));
+    }
+    if let Some(k) = stranger_in(sent, other) {
+        return Err(JoinFault::StrangerB(k));
+    }
+    join_all(sent, into, other);
+    Ok(())
 }
 
 /// Joins two copies of a sent frame, of which a missing one stands for the sent frame. Data, circulating bits
@@ -193,14 +198,10 @@ pub fn join_frames(
     let a = a.unwrap_or(sent);
     let b = b.unwrap_or(sent);
     let mut joined = a.copy();
-    let front = join_front(sent, &mut joined, b);
-    if let Some(k) = first_difference(sent, a, front) {
-        return Err(JoinFault::StrangerA(k));
+    match join_into(sent, &mut joined, b) {
+        Ok(()) => Ok(joined),
+        Err(fault) => Err(fault),
     }
-    if let Some(k) = first_difference(sent, b, front) {
-        return Err(JoinFault::StrangerB(k));
-    }
-    Ok(joined)
 }
 
 /// The order of two copies does not matter, and a copy that is as it was sent adds nothing.

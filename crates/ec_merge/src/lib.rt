@@ -22,7 +22,8 @@
 //! - [`join_frames`]: a bit of data, of the event requests, and the circulating bit differ from the sent one
 //!   exactly if they do in some copy; a counter, and the ADP where slaves count it up, has moved as far as in
 //!   both copies together; else the first datagram at which a stranger differs is named ([`value_rule`] says
-//!   the rule in plain words);
+//!   the rule in plain words). [`join_into`] does so in the place of the first copy, and [`stranger_in`] asks
+//!   alone whether a copy is a stranger;
 //! - [`Merge`] is the join of one value, with its laws (`symmetric`, `grouped`, `unit`): of a [`Counter`], a
 //!   [`Byte`], a [`Flag`] and an [`Irq`]; [`frame_laws`] says the first and the last of frames;
 //! - [`join_bytes`] joins runs of data in place, 32 bytes at a time, and there is one such join
@@ -36,5 +37,7 @@ mod frames;
 mod merge;
 
 pub use bytes::{join_bytes, one_join};
-pub use frames::{JoinFault, frame_laws, join_frames, one_stranger};
+pub use frames::{
+    JoinFault, fixed_address, frame_laws, join_frames, join_into, one_stranger, stranger_in,
+};
 pub use merge::{Byte, Counter, Flag, Irq, Merge, value_rule};

@@ -1,6 +1,6 @@
 #![tactic(auto)]
 //! Tests of slaves, of the way of frames over a line of them and of what tells where it is broken, by public
-//! calls alone: `app` of `ec_app`, `ring` of `ec_ring`, `process` of `ec_process`, `diag` of `ec_diag`.
+//! calls alone: `app` of `ec_app`, `ring` of `ec_ring`, `process` of `ec_applications`, `diag` of `ec_diag`.
 
 #[cfg(test)]
 mod app;

@@ -45,11 +45,6 @@ write-says (Err fault) = refl
 write-says (Ok back) =
     two-rows ((told_by back).counter == 0) (nat_lt 1 (told_by back).counter) NoSlave BadAnswer
 
-behind-says : (answer : Answer) → behind_decides answer ≡ done (one_or_two (joined_by answer))
-behind-says (Err fault) = refl
-behind-says (Ok back) =
-    two-rows ((told_by back).counter == 0) (nat_lt 2 (told_by back).counter) NoSlave BadAnswer
-
 holds-says : (bytes : List ℕ) (answer : Answer)
     → holds_decides bytes answer ≡ done (held_by bytes (joined_by answer))
 holds-says bytes (Err fault) = refl
@@ -62,13 +57,6 @@ pub written : {P : Type 0} (trips : Trips P) (before later : P) (sent : Datagram
     → IsAsked trips before (write {A = Unit {0}} sent) (done (one_counted joined)) later
 written trips before later sent joined puts =
     asked_by trips before later (write sent) joined one_counted write-says puts
-
-pub written_behind : {P : Type 0} (trips : Trips P) (before later : P) (distance station : ℕ)
-    (joined : Result (List DatagramRecord) MasterFault)
-    → IsPut trips before (behind_question distance station).sent joined later
-    → IsAsked trips before (behind_question distance station) (done (one_or_two joined)) later
-written_behind trips before later distance station joined puts =
-    asked_by trips before later (behind_question distance station) joined one_or_two behind-says puts
 
 pub read_back : {P : Type 0} (trips : Trips P) (before later : P) (station ado : ℕ) (bytes : List ℕ)
     (joined : Result (List DatagramRecord) MasterFault)

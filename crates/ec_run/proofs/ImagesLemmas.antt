@@ -155,11 +155,6 @@ pub all_read : (size number : ℕ) (kept : List (List ℕ))
 unfolding images_in
 all_read size number kept = ap Ok (append-nil kept)
 
--- none kept yet
-pub none_kept : (others : Result (List (List ℕ)) ImagesFault) → others ≡ put_behind [] others
-none_kept (Err fault) = refl
-none_kept (Ok images) = refl
-
 -- what stands behind a line has fewer bytes than the text
 pub fewer : (rest : Option (Bor (List ℕ))) (most : ℕ)
     → IfSome rest (λ (text : Bor (List ℕ)). length text.now < most) → most_in rest ≤ most

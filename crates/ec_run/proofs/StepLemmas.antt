@@ -55,15 +55,6 @@ sets_manager trips before later station n k managers s bytes r here there spelt 
     (subst (λ (m : Option SyncMan). SetsManager trips before station k m r later) (sym there)
     (subst (λ (bs : List ℕ). Talks trips before (manager_talk station k bs) (Ok tt) r later) spelt talk))
 
-pub sets_fmmu : {P : Type 0} (trips : Trips P) (before later : P) (station n k : ℕ) (fmmus : List Fmmu)
-    (f : Fmmu) (bytes : List ℕ) (r : Result (Unit {0}) MasterFault) → k ≡ n → slice_get fmmus k ≡ Some f
-    → bytes ≡ fmmu_bytes f → Talks trips before (fmmu_talk station k bytes) (Ok tt) r later
-    → SetsFmmu trips before station n (slice_get fmmus n) r later
-sets_fmmu trips before later station n k fmmus f bytes r here there spelt talk =
-    subst (λ (j : ℕ). SetsFmmu trips before station j (slice_get fmmus j) r later) here
-    (subst (λ (m : Option Fmmu). SetsFmmu trips before station k m r later) (sym there)
-    (subst (λ (bs : List ℕ). Talks trips before (fmmu_talk station k bs) (Ok tt) r later) spelt talk))
-
 -- ---- a step that is tried again
 
 -- what the tries that are left come to, from the ports as they are now, is what all come to

@@ -71,10 +71,6 @@ two_same = walks.two_same
 pub frame_counters : (ds : List DatagramRecord) → IsFrameValue ds → CountersFit ds
 frame_counters ds is = seals.fit_counters ds is.fits
 
--- the counters of every sealed frame have 16 bits
-pub sealed_counters : (seal : ℕ) (ds : List DatagramRecord) → seal < 16384 → CountersFit (sealed_by seal ds)
-sealed_counters = copies.sealed_by_fit
-
 -- every frame has a datagram
 pub frame_some : (ds : List DatagramRecord) → IsFrameValue ds → 0 < length ds
 frame_some ds is = seals.some_datagram ds is.some

@@ -6,7 +6,7 @@ ghost use Rattle.ec_merge.specs.Frames.{IsOwn};
 ghost use Rattle.ec_merge.specs.Rule.{distance};
 ghost use Rattle.ec_seal.specs.Came.{CameOf, IsCopyOf, most_gained};
 
-use ec_merge::join_frames;
+use ec_merge::stranger_in;
 use ec_wire::{Form, FrameBuf};
 
 /// The most that a working counter gains in one trip: a line of 256 slaves moves it by 768.
@@ -34,11 +34,11 @@ fn own_copy(sent: &FrameBuf, copy: FrameBuf) -> Option<FrameBuf>
     }
 }
 
-/// Is a frame no stranger? That is asked of the join, which is to take it.
+/// Is a frame no stranger, so that the join takes it?
 fn is_own(sent: &FrameBuf, copy: &FrameBuf) -> bool
     ensures { (result ≡ true) ↔ IsOwn sent.now copy.now }
 {
-    join_frames(sent, Some(copy), None).is_ok()
+    stranger_in(sent, copy).is_none()
 }
 
 /// Has no counter of a copy moved further than a trip can move it?

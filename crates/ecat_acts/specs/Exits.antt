@@ -9,8 +9,8 @@ use Rattle.ecat_acts.specs.declared.failure.Failure.{Failure}
 use Rattle.ecat_acts.specs.declared.failure.Failure.TheVariants.{Asked, At, Capture, Descriptors, Forms}
 use Rattle.ecat_acts.specs.declared.failure.Failure.TheVariants.{Images, IndexAlone, NeedsScene, Reach, State}
 use Rattle.ecat_acts.specs.declared.failure.Failure.TheVariants.{Line as OfLine}
-use Rattle.ecat_line.specs.declared.failure.LineFailure.{LineFailure}
-use Rattle.ecat_line.specs.declared.failure.LineFailure.TheVariants.{NoMemory, Output, Port, Read}
+use Rattle.ecat_setup.specs.declared.failure.LineFailure.{LineFailure}
+use Rattle.ecat_setup.specs.declared.failure.LineFailure.TheVariants.{NoMemory, Output, Port, Read}
 use Rattle.ecat_source.specs.declared.capture.PcapFault.{PcapFault}
 use Rattle.ecat_source.specs.declared.capture.PcapFault.TheVariants.{NoMemory as NoMemoryForCapture}
 use Rattle.ecat_source.specs.declared.capture.PcapFault.TheVariants.{Read as ReadFailed}

@@ -6,7 +6,7 @@ use Rattle.ecat_args.specs.declared.args.ArgsFault.TheVariants.{Line, BadNumber,
 use Rattle.ecat_acts.specs.declared.failure.Failure.{Failure}
 use Rattle.ecat_acts.specs.declared.failure.Failure.TheVariants.{Asked, Bind, NoMemoryForSockets}
 use Rattle.ecat_acts.specs.declared.failure.Failure.TheVariants.{Line as OfLine}
-use Rattle.ecat_line.specs.declared.failure.LineFailure.TheVariants.{Output as OutputFailed}
+use Rattle.ecat_setup.specs.declared.failure.LineFailure.TheVariants.{Output as OutputFailed}
 use Rattle.ecat_master.specs.declared.scanning.ScanEnd.{ScanEnd}
 use Rattle.ecat_master.specs.declared.scanning.ScanEnd.TheVariants.{Ask, Output}
 use Rattle.ecat_serve.specs.declared.sockets.BindFault.{BindFault}

@@ -7,10 +7,10 @@ use crate::asked::asked_of;
 use crate::failure::status_of;
 use crate::show::act_show;
 use ecat_args::Args;
-use ecat_rows::vectors;
+use ecat_record::unrecorded;
 use ecat_simulation::{check, cover, lint, run, sdo, sweep, where_broken};
 use ecat_source::Source;
-use ecat_tape::unrecorded;
+use ecat_vectors::vectors;
 use std::alloc::Global;
 use std::io::Write;
 

@@ -1,17 +1,17 @@
 //! What is asked of a line somewhere else: who stands there, where its cable is broken, an object.
 
 use crate::failure::{Failure, report, report_file, status_of};
-use crate::far::{Reach, Waiting, far_ports, raw_ports};
 use crate::finding::Finding;
 use crate::piped::Piped;
+use crate::remote::{Reach, Waiting, raw_ports, remote_ports};
 use crate::tape::{ToScene, make_scene};
 use ec_ring::HeardPorts;
 use ec_run::Watched;
-use ecat_line::LineFailure;
 use ecat_master::{Finder, scan};
+use ecat_record::unrecorded;
+use ecat_setup::LineFailure;
 use ecat_simulation::{Asked, sdo_far, where_far};
 use ecat_source::Source;
-use ecat_tape::unrecorded;
 use ecat_text::{GOOD, Lines, REFUSED};
 use std::io::{self, Write};
 use std::net::Net;
@@ -64,7 +64,7 @@ where
     V: io::Write,
 {
     match reach {
-        Reach::At(at) => match far_ports(rt, at, waiting, notes, &mut unrecorded()) {
+        Reach::At(at) => match remote_ports(rt, at, waiting, notes, &mut unrecorded()) {
             Ok(ports) => act_scan(ports, finder, out, err),
             Err(failure) => report(&failure, out, err),
         },
@@ -97,7 +97,7 @@ where
     V: io::Write,
 {
     let told = match reach {
-        Reach::At(at) => match far_ports(rt, at, Waiting::USUAL, notes, &mut unrecorded()) {
+        Reach::At(at) => match remote_ports(rt, at, Waiting::USUAL, notes, &mut unrecorded()) {
             Ok(mut ports) => where_far(rt.alloc(), &mut ports, source, out),
             Err(failure) => return report(&failure, out, err),
         },
@@ -132,7 +132,7 @@ where
     V: io::Write,
 {
     let told = match reach {
-        Reach::At(at) => match far_ports(rt, at, Waiting::USUAL, notes, &mut unrecorded()) {
+        Reach::At(at) => match remote_ports(rt, at, Waiting::USUAL, notes, &mut unrecorded()) {
             Ok(mut ports) => sdo_far(rt.alloc(), asked, &mut ports, source, out, err),
             Err(failure) => return report(&failure, out, err),
         },

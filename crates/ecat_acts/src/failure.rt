@@ -5,17 +5,17 @@ ghost use Rattle.ecat_acts.specs.Exits.{IsExit, IsAskedExit, IsCaptureExit, IsIm
 ghost use Rattle.ecat_acts.specs.Exits.{IsRefusal};
 ghost use Rattle.ecat_acts.specs.Failures.{unbound};
 ghost use Rattle.ecat_acts.specs.declared.failure.Failure.TheVariants.{Line};
-ghost use Rattle.ecat_line.specs.declared.failure.LineFailure.TheVariants.{Output};
+ghost use Rattle.ecat_setup.specs.declared.failure.LineFailure.TheVariants.{Output};
 ghost use Rattle.ecat_text.specs.declared.status.TheConstants.{BAD_ARGUMENTS, FAILED};
 
 use crate::raw::RawFaultText;
 use ec_run::ImagesFault;
 use ec_services::MasterFault;
-use ecat_far::OpenFault;
-use ecat_line::LineFailure;
 use ecat_raw::RawFault;
+use ecat_remote::OpenFault;
 use ecat_scene::SceneFault;
 use ecat_serve::BindFault;
+use ecat_setup::LineFailure;
 use ecat_source::PcapFault;
 use ecat_text::{BAD_ARGUMENTS, FAILED, FaultText, PortText, REFUSED};
 use std::io::{self, Write};
@@ -36,7 +36,7 @@ pub enum Failure {
     /// Memory ran out for the sockets.
     NoMemoryForSockets,
     /// A line somewhere else could not be spoken to.
-    Far(OpenFault),
+    Remote(OpenFault),
     /// What was asked of a line somewhere else has no answer.
     Asked(MasterFault),
     /// The file of a log could not be made.
@@ -151,7 +151,7 @@ pub fn report<W: Write, V: Write>(failure: &Failure, out: &mut W, err: &mut V) -
             b"argument: --leave wants init, pre-op, safe-op or op\n",
         ),
         Failure::Raw(fault) => report_raw(*fault, err),
-        Failure::Far(fault) => {
+        Failure::Remote(fault) => {
             let end = PortText(fault.end);
             let error = &fault.error;
             let _ = writeln!(err, "end {end}: {error}");

@@ -2,7 +2,7 @@
 
 use crate::failure::{Failure, report, report_file};
 use ec_run::{Image, ImageFault, ImagesFault, MAX_IMAGES_TEXT, read_images};
-use ecat_line::LineFailure;
+use ecat_setup::LineFailure;
 use ecat_source::{Counted, ReadAllFault, Source, read_all};
 use std::alloc::Global;
 use std::fs;

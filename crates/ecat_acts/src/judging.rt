@@ -4,7 +4,7 @@ use crate::failure::{Failure, refuse, report};
 use crate::learning::end_of_learning;
 use ecat_frames::{End, Frames, Looked, look};
 use ecat_judge::{Asked, Judged, judge};
-use ecat_line::{LineFailure, records_of, scene_of};
+use ecat_setup::{LineFailure, records_of, scene_of};
 use ecat_source::{Bytes, Source};
 use ecat_text::{FAILED, GOOD, REFUSED};
 use ecat_told::{Asked as AskedOfLine, Learned, learn_frames};

@@ -1,7 +1,7 @@
 //! `ecat learn`: the line that a capture shows, as a scene.
 
 use crate::failure::{Failure, refuse, report};
-use ecat_line::LineFailure;
+use ecat_setup::LineFailure;
 use ecat_text::{FAILED, GOOD, REFUSED};
 use ecat_told::{Asked, Learned};
 use std::io::Write;

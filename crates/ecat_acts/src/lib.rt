@@ -7,7 +7,7 @@
 //!   judges a capture by a scene or by the line that it shows;
 //! - [`over_sockets`](over_sockets::over_sockets) does all others: a master by `mastering` on the `course` of
 //!   its scene, what a line somewhere else is asked by `asking`, a service by `serving`. Ports are opened by
-//!   `far`, `raw` and `udp`, images by `images`, and what is written by `tape`;
+//!   `remote`, `raw` and `udp`, images by `images`, and what is written by `tape`;
 //! - `piped` is an output that its reader may close;
 //! - [`report`](failure::report) tells a [`Failure`](failure::Failure) by its fixed line, and `hints` what
 //!   helps a person behind it.
@@ -20,7 +20,6 @@ mod asked;
 mod asking;
 mod course;
 pub mod failure;
-mod far;
 mod finding;
 pub mod hints;
 mod images;
@@ -31,6 +30,7 @@ mod mastering;
 pub mod over_sockets;
 mod piped;
 mod raw;
+mod remote;
 mod serving;
 pub mod show;
 mod tape;

@@ -2,8 +2,8 @@
 
 use crate::failure::{Failure, report};
 use ecat_capture::CaptureFaultKind;
-use ecat_line::LineFailure;
 use ecat_list::{Asked, Form, Listed, Sums, list, tally, tally_stream};
+use ecat_setup::LineFailure;
 use ecat_source::Source;
 use ecat_text::{FAILED, GOOD, REFUSED};
 use std::alloc::Global;

@@ -2,16 +2,16 @@
 
 use crate::course::{Course, act_master, course_of};
 use crate::failure::{Failure, report, report_file};
-use crate::far::{Reach, Waiting, far_ports, raw_ports};
 use crate::images::images_at;
 use crate::over_sockets::Console;
+use crate::remote::{Reach, Waiting, raw_ports, remote_ports};
 use crate::tape::{Pcap, end, make};
 use ec_regs::AlState;
 use ec_run::{Image, Outputs};
 use ecat_master::Plan;
 use ecat_pace::{Beat, Ending};
+use ecat_record::{Moments, Recorder, WallClock, unrecorded};
 use ecat_source::Source;
-use ecat_tape::{Moments, Recorder, WallClock, unrecorded};
 use std::net::Net;
 use std::rt::{Clock, Files, Stdin};
 use std::time::Duration;
@@ -194,7 +194,7 @@ where
         return report(&Failure::Clock, out, err);
     };
     match running.reach {
-        Reach::At(at) => match far_ports(rt, at, running.waiting, console.notes, recorder) {
+        Reach::At(at) => match remote_ports(rt, at, running.waiting, console.notes, recorder) {
             Ok(ports) => act_master(course, ports, plan, &mut beat, out, err, log),
             Err(failure) => report(&failure, out, err),
         },

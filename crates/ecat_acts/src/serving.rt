@@ -3,12 +3,12 @@
 use crate::failure::{Failure, report, status_of, unbound};
 use crate::over_sockets::report_unbound;
 use crate::tape::{Pcap, end, make};
-use ecat_far::{ClockTimer, Timer};
 use ecat_raw::{Descriptors, RawEnds};
+use ecat_record::{Moments, Recorder, TapedEnds, WallClock, unrecorded};
+use ecat_remote::{ClockTimer, Timer};
 use ecat_serve::{Console as LineConsole, Disturbed, Served, TimedEnds, Times, UdpEnds};
 use ecat_service::{Service, control, line_to_serve, serve};
 use ecat_source::Source;
-use ecat_tape::{Moments, Recorder, TapedEnds, WallClock, unrecorded};
 use std::io;
 use std::net::Net;
 use std::rt::{Clock, Files, Stdin};

@@ -1,8 +1,8 @@
 //! `ecat show`: the frames of a capture.
 
 use crate::failure::{Failure, status_of};
-use ecat_line::LineFailure;
 use ecat_list::Shown;
+use ecat_setup::LineFailure;
 use ecat_source::Source;
 use ecat_text::{GOOD, REFUSED};
 use std::alloc::Global;

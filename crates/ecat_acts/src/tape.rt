@@ -2,7 +2,7 @@
 //! made that is kept where it is there.
 
 use crate::failure::{Failure, report, report_file};
-use ecat_tape::{Moments, Recorder};
+use ecat_record::{Moments, Recorder};
 use ecat_text::FAILED;
 use std::fs::{self, File};
 use std::io::{self, ErrorKind, Write};

@@ -3,11 +3,11 @@
 ghost use Rattle.std.specs.Prelude.{◌≡◌, length};
 
 use crate::failure::{Failure, report, status_of};
+use ec_applications::Applications;
 use ec_map::Item;
 use ec_master::{Reporting, Work, all_expected, run_cycle};
-use ec_process::Applications;
 use ec_ring::Ring;
-use ecat_line::{LineFailure, applications_of, ring_of, scene_for_packets, work_of};
+use ecat_setup::{LineFailure, applications_of, ring_of, scene_for_packets, work_of};
 use ecat_simulation::{judged_cycle, print_cable};
 use ecat_source::Source;
 use ecat_text::{GOOD, Lines, REFUSED, print_areas, print_items, print_verdict, refuse};

@@ -20,14 +20,6 @@ BeginsWith-loaded loaded rest n = record {
   split = Consumes-loaded loaded rest n;
 }
 
--- bytes that are read behind the loaded ones were ahead before
-pub Keeps-read : (loaded bytes : List ℕ) (old new : Option (List ℕ)) → Consumes old new bytes
-    → Keeps (prepend_known loaded old) (prepend_known (loaded ++ bytes) new)
-Keeps-read loaded bytes None new taken = tt
-Keeps-read loaded bytes (Some os) None taken = absurd taken
-Keeps-read loaded bytes (Some os) (Some ns) taken =
-    append_assoc loaded bytes ns ∙ ap (λ xs. loaded ++ xs) (sym taken)
-
 -- what is taken of bytes that were kept was taken of those
 pub Consumes-of_kept : (old kept new : Option (List ℕ)) (xs : List ℕ) → Keeps old kept → Consumes kept new xs
     → Consumes old new xs

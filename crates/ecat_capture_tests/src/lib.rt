@@ -1,6 +1,6 @@
 #![tactic(auto)]
 //! Tests of captures that are read, listed and written, by public calls alone: `source` of `ecat_source`,
-//! `capture` of `ecat_capture`, `list` of `ecat_list`, `tape` of `ecat_tape`.
+//! `capture` of `ecat_capture`, `list` of `ecat_list`, `tape` of `ecat_record`.
 
 #[cfg(test)]
 mod asserts;

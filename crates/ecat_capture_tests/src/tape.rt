@@ -3,8 +3,8 @@
 use crate::asserts::assert_same;
 use ec_ring::Port;
 use ecat_capture::{Capture, Packet, Time};
+use ecat_record::{Counter, Moments, Recorder, Tape, TapeFault, Unit, Way};
 use ecat_source::Bytes;
-use ecat_tape::{Counter, Moments, Recorder, Tape, TapeFault, Unit, Way};
 use std::io::{self, Cursor, ErrorKind, Write};
 use std::process::Abort;
 

@@ -22,14 +22,6 @@ Builds-args old new (arg ∷ args) line [] added was are = absurd are
 Builds-args old new (arg ∷ args) line (rule ∷ rules) added was are =
     Builds-args added.0 new args (with_rule line rule) rules added.2 (Builds-arg added.1 was are.0) are.1
 
--- one more subcommand is one more line below
-pub Builds-subcommand : {old new sub : Command} {line below : App} → AddsSubcommand old sub new
-    → Builds line old → Builds below sub → Builds (with_subcommand line below.top) new
-Builds-subcommand added was is = (
-  added.shape is.1 ∙ ap₂ with_subcommand was.0 (ap (λ (a : App). a.top) is.0),
-  added.globals ∙ ap₂ ◌||◌ was.1 is.1,
-)
-
 -- words that are kept in a list stay words
 pub AreWords-items : (rules : List Rule) {args items : List Arg} → items ≡ args → AreWords rules args
     → AreWords rules items

@@ -205,8 +205,8 @@ abbrev pub needs_command : App → App
 needs_command app = record app { top = record app.top { subcommand_required = true } }
 
 -- the program's name, and then a command
-abbrev pub ecat_line : App
-ecat_line = needs_command (new_app (codes "ecat"))
+abbrev pub ecat_setup : App
+ecat_setup = needs_command (new_app (codes "ecat"))
 
 -- a line with these commands, in their order
 abbrev pub with_commands : App → List App → App
@@ -226,4 +226,4 @@ socket_lines = udp_line ∷ serve_line ∷ master_line ∷ scan_line ∷ vectors
 
 -- the whole line
 unfoldable pub line : App
-line = with_commands (with_commands (with_commands ecat_line capture_lines) scene_lines) socket_lines
+line = with_commands (with_commands (with_commands ecat_setup capture_lines) scene_lines) socket_lines

@@ -9,7 +9,7 @@ ghost use Rattle.ecat_commands.specs.Commands.{judge_rule, late_rule, limit_rule
 ghost use Rattle.ecat_commands.specs.Commands.{raw_rule, check_line, cover_line, learn_line, lint_line};
 ghost use Rattle.ecat_commands.specs.Commands.{list_line, master_line, run_line, scan_line, sdo_line};
 ghost use Rattle.ecat_commands.specs.Commands.{serve_line, show_line, sweep_line, udp_line};
-ghost use Rattle.ecat_commands.specs.Commands.{ecat_line, vectors_line, where_line, with_rules};
+ghost use Rattle.ecat_commands.specs.Commands.{ecat_setup, vectors_line, where_line, with_rules};
 
 use crate::help;
 use clap::{Arg, ArgAction, Command};
@@ -422,7 +422,7 @@ fn add<'a>(
 
 // The program's name, behind which a command has to follow.
 fn ecat<'a>(alloc: Global) -> Command<'a>
-    ensures { Builds ecat_line result }
+    ensures { Builds ecat_setup result }
 {
     let about = "An EtherCAT master and a ring of slaves";
     plain(alloc, "ecat", about, help::ECAT).subcommand_required(true)

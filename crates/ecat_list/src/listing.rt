@@ -16,7 +16,7 @@ use std::io::Write;
 pub enum Form {
     /// A line a datagram, its columns parted by spaces.
     Lines,
-    /// The same as CSV, with a line of names first.
+    /// A line a datagram as CSV, with a line of names first.
     Csv,
     /// The packets alone that are damaged or cut short.
     Faults,

@@ -1,7 +1,7 @@
 #![tactic(auto)]
 //! Tests of the command line and of the commands over a scene's line, by public calls alone, each of which
-//! accepts that an allocation is refused: `args` of `ecat_args`, `line` of `ecat_line`, `simulation` of
-//! `ecat_simulation`, `rows` of `ecat_rows`, `service` of `ecat_service`, `acts` of `ecat_acts`.
+//! accepts that an allocation is refused: `args` of `ecat_args`, `line` of `ecat_setup`, `simulation` of
+//! `ecat_simulation`, `rows` of `ecat_vectors`, `service` of `ecat_service`, `acts` of `ecat_acts`.
 
 #[cfg(test)]
 mod acts;

@@ -5,11 +5,11 @@ mod records;
 use ec_check::Mapped;
 use ec_ring::{Ring, Travel, Weather};
 use ec_wire::Kind;
-use ecat_line::{
+use ecat_scene::{LineFault, Scene, SceneFault};
+use ecat_setup::{
     LineFailure, put, records_of, ring_of, scene_for_packets, scene_of, slaves_of, weathers_of,
     work_of,
 };
-use ecat_scene::{LineFault, Scene, SceneFault};
 use ecat_source::{Bytes, FailsAt};
 use std::process::Abort;
 

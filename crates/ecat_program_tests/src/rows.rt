@@ -1,7 +1,7 @@
 //! The worked rows, and an output that fails.
 
-use ecat_line::LineFailure;
-use ecat_rows::vectors;
+use ecat_setup::LineFailure;
+use ecat_vectors::vectors;
 use std::io::{self, Cursor, Write};
 
 /// Room for what is printed.

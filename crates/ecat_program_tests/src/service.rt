@@ -3,9 +3,9 @@
 mod controlling;
 mod serving;
 
-use ecat_line::LineFailure;
 use ecat_scene::SceneFault;
 use ecat_service::Service;
+use ecat_setup::LineFailure;
 use std::io::Cursor;
 use std::net::Ipv4Addr;
 

@@ -14,11 +14,11 @@ mod rings;
 mod running;
 mod sweeps;
 
-use ecat_line::LineFailure;
+use ecat_record::unrecorded;
 use ecat_scene::SceneFault;
+use ecat_setup::LineFailure;
 use ecat_simulation::{check, cover, lint, run, sweep, where_broken};
 use ecat_source::{Bytes, Source};
-use ecat_tape::unrecorded;
 use std::alloc::Global;
 use std::io::{Cursor, Write};
 use std::process::Abort;

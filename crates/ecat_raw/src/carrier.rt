@@ -3,7 +3,7 @@
 ghost use Rattle.std.specs.Prelude.{◌≡◌, ◌+◌, ◌-◌, ◌^◌, ◌≤◌, IfOk, IfSome, IsErr, IsOk, length, take};
 ghost use Rattle.std.specs.Option.{is_some};
 ghost use Rattle.ec_wire.specs.declared.frame.TheConstants.{MAX_FRAME, PACKET_ROOM};
-ghost use Rattle.ecat_far.specs.Trips.{speaks_at};
+ghost use Rattle.ecat_remote.specs.Trips.{speaks_at};
 ghost use Rattle.ecat_raw.specs.Ethernet.{answer_in};
 ghost use Rattle.ecat_raw.specs.Taken.{IsGiven, taken};
 
@@ -11,7 +11,7 @@ use crate::ethernet::{ADDRESS_A, ADDRESS_B, answer_in, packet_of};
 use crate::sockets::{Descriptors, PACKET, PacketSocket, RawFault, open_both};
 use ec_ring::{Port, PortFault};
 use ec_wire::{MAX_FRAME, PACKET_ROOM};
-use ecat_far::{Carrier, copy_front};
+use ecat_remote::{Carrier, copy_front};
 use std::io::{self, ErrorKind};
 
 /// How many late packets are dropped at a port before a trip, at the most.

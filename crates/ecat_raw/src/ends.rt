@@ -12,7 +12,7 @@ use crate::ethernet::{
 use crate::sockets::{Descriptors, PACKET, PacketSocket, RawFault, open_both};
 use ec_ring::{Port, PortFault};
 use ec_wire::{MAX_FRAME, PACKET_ROOM};
-use ecat_far::copy_front;
+use ecat_remote::copy_front;
 use ecat_serve::{
     Arrived, Console, EndSockets, Ends, InputLine, LINE_ROOM, TimedEnds, WaitFault, Waited,
     Waiting, may_try_again,

@@ -3,7 +3,7 @@
 //!
 //! - `RawEnds`: one packet socket or two, at the ends of a line that is served. It is an `ecat_serve::Ends`
 //!   and an `ecat_serve::Console`.
-//! - `RawCarrier`: one packet socket or two, at the ports of a master. It is an `ecat_far::Carrier`.
+//! - `RawCarrier`: one packet socket or two, at the ports of a master. It is an `ecat_remote::Carrier`.
 //! - `Descriptors`: under which numbers they were inherited, as a text names them (`descriptors_of`), and
 //!   `RawFault`: why they are of no use.
 //! - `packet_of`, `frame_in`, `answer_in`: what is put around a frame, and what is taken out of a packet.

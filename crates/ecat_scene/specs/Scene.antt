@@ -2,7 +2,7 @@
 use Rattle.std.specs.Prelude.{ℕ, Bool, false, List, [], map}
 use Rattle.ec_app.specs.declared.objects.Entry.{Entry}
 use Rattle.ec_map.specs.Item.{ItemRecord}
-use Rattle.ec_process.specs.declared.application.Behaviour.{Behaviour}
+use Rattle.ec_applications.specs.declared.application.Behaviour.{Behaviour}
 use Rattle.ec_regs.specs.declared.al.AlState.{AlState}
 use Rattle.ec_regs.specs.declared.al.AlState.TheVariants.{Init}
 use Rattle.ec_regs.specs.declared.fmmu.Fmmu.{Fmmu}

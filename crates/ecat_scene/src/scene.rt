@@ -5,8 +5,8 @@ ghost use Rattle.ec_regs.specs.declared.registers.TheConstants.{FMMU_COUNT, SYNC
 use crate::fault::SceneFault;
 use crate::reader::Reader;
 use ec_app::{Objects, Value};
+use ec_applications::Behaviour;
 use ec_map::Item;
-use ec_process::Behaviour;
 use ec_regs::{AlState, Fmmu, SyncMan};
 use ec_wire::FrameBuf;
 use std::alloc::Global;

@@ -20,7 +20,7 @@ use crate::scene::{FmmuSetting, Load, MAX_SLAVES, SceneSlave, StartupObject, Syn
 use crate::words::text_of;
 use bitflags::Flags;
 use ec_app::{Objects, Rights, Value};
-use ec_process::Behaviour;
+use ec_applications::Behaviour;
 use ec_regs::registers::{FMMU_COUNT, MEMORY_SIZE, PROCESS_MEMORY, SYNC_MANAGER_COUNT};
 use ec_regs::{AlState, Fmmu, FmmuType, SyncMan, SyncManControl};
 use std::alloc::Global;

@@ -2,8 +2,8 @@
 -- anybody did, and how many of the copies that arrive at each end are still to be lost.
 use Rattle.std.specs.Prelude.{ℕ, Option, None, Some}
 use Rattle.std.specs.declared.net.socket_addr.SocketAddr.{SocketAddr}
-use Rattle.ec_process.specs.Acting.{acted}
-use Rattle.ec_process.specs.State.{ApplicationsState, once_more}
+use Rattle.ec_applications.specs.Acting.{acted}
+use Rattle.ec_applications.specs.State.{ApplicationsState, once_more}
 use Rattle.ec_ring.specs.Ring.{RingState, stepped}
 use Rattle.ec_ring.specs.declared.port.Port.{Port}
 use Rattle.ec_ring.specs.declared.port.Port.TheVariants.{A, B}

@@ -11,7 +11,7 @@ ghost use Rattle.ecat_serve.specs.Watching.{IsFrame, leaving};
 
 use crate::ends::{Arrived, Ends};
 use crate::watch::{Leaving, Unwatched, Watch};
-use ec_process::Applications;
+use ec_applications::Applications;
 use ec_ring::{Links, Port, PortFault, Ring, Travel};
 use ec_wire::{Form, FrameBuf, PACKET_ROOM};
 use std::marker::Model;

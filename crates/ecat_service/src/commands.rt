@@ -7,12 +7,12 @@ ghost use Rattle.ecat_service.specs.Onward.{onward_of};
 use crate::service::Service;
 use crate::serving::{most_packets, print_counts, print_end, print_where};
 use crate::slave_lines::print_line;
-use ecat_line::LineFailure;
 use ecat_log::Log;
 use ecat_scene::{BenchCommand, CommandFault, LineFault, SlaveName};
 use ecat_serve::{
     BenchFault, Console, Counts, Desk, Disturb, Disturbance, Ends, Onward, Served, Unwatched, Watch,
 };
+use ecat_setup::LineFailure;
 use ecat_text::{GOOD, Lines, print_areas};
 use std::alloc::Global;
 use std::fmt;

@@ -4,7 +4,7 @@ use ec_app::Slave;
 use ec_diag::{Located, probe};
 use ec_ring::{Arrivals, HeardPorts, Ring, Travel, Weather};
 use ec_wire::FrameBuf;
-use ecat_line::{LineFailure, ring_of, scene_of, slaves_of, weathers_of};
+use ecat_setup::{LineFailure, ring_of, scene_of, slaves_of, weathers_of};
 use ecat_source::Source;
 use ecat_text::{Lines, print_arrived, print_break, print_copies};
 use std::alloc::Global;

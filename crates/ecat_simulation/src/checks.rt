@@ -1,6 +1,6 @@
 //! `ecat check`: is the line of a scene mapped as a cycle needs it?
 
-use ecat_line::{LineFailure, records_of, scene_of};
+use ecat_setup::{LineFailure, records_of, scene_of};
 use ecat_source::Source;
 use ecat_text::{GOOD, Lines, REFUSED, refuse_mapped};
 use std::alloc::Global;

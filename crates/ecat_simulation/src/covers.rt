@@ -4,7 +4,7 @@ ghost use Rattle.std.specs.Prelude.{Some};
 ghost use Rattle.ecat_simulation.specs.Covers.{gap_words, not_shown_words, place_words};
 
 use ec_map::{Gap, Item, Mapped, NotShown, Way, WhyNotShown, first_not_shown, first_uncovered};
-use ecat_line::{LineFailure, records_of, scene_of};
+use ecat_setup::{LineFailure, records_of, scene_of};
 use ecat_source::Source;
 use ecat_text::{GOOD, Lines, REFUSED, refuse_mapped};
 use std::alloc::Global;

@@ -2,7 +2,7 @@
 
 use ec_master::{Work, all_expected, ring_cycle, weather_cycle};
 use ec_ring::Weather;
-use ecat_tape::{Moments, TapedRing};
+use ecat_record::{Moments, TapedRing};
 use ecat_text::{GOOD, Lines, print_items, print_verdict};
 use std::io::{self, Write};
 

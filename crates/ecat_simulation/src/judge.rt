@@ -7,7 +7,7 @@ ghost use Rattle.ecat_simulation.specs.Losses.{first_loss, has_lost_one};
 use ec_diag::{Located, probe};
 use ec_master::{CopiesBack, Ports, Report, Reporting, Verdict, Work, run_cycle};
 use ec_ring::{Ring, Travel, Weather};
-use ecat_line::LineFailure;
+use ecat_setup::LineFailure;
 use ecat_text::{Lines, print_break, print_counts, print_losses, print_verdict};
 use std::io::{self, Write};
 

@@ -1,8 +1,8 @@
 //! `ecat lint`: what a scene says that is accepted and yet seldom meant.
 
-use ecat_line::{LineFailure, records_of, unread};
 use ecat_lint::odd_lines;
 use ecat_scene::{MAX_TEXT, Scene};
+use ecat_setup::{LineFailure, records_of, unread};
 use ecat_source::{Source, read_all};
 use ecat_text::{GOOD, Lines, REFUSED, refuse_mapped};
 use std::alloc::Global;

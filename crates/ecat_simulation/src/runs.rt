@@ -3,13 +3,13 @@
 use crate::carry::carry;
 use crate::cycles::cycle;
 use crate::judge::{judged_cycle, print_cable};
+use ec_applications::Applications;
 use ec_master::{Reporting, Work, all_expected};
-use ec_process::Applications;
 use ec_ring::Weather;
-use ecat_line::{LineFailure, applications_of, push_items, ring_of, scene_of, weathers_of};
+use ecat_record::{Moments, Recorder, TapedPorts, TapedRing};
 use ecat_scene::Action;
+use ecat_setup::{LineFailure, applications_of, push_items, ring_of, scene_of, weathers_of};
 use ecat_source::Source;
-use ecat_tape::{Moments, Recorder, TapedPorts, TapedRing};
 use ecat_text::{GOOD, Lines, REFUSED, print_areas, print_items, refuse, status_of};
 use std::alloc::Global;
 use std::io::Write;

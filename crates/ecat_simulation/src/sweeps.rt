@@ -8,8 +8,8 @@ use ec_diag::seen;
 use ec_map::Item;
 use ec_master::{CheckedRing, MAX_ITEMS, Verdict, Work, frame_from};
 use ec_ring::{Links, Port, Ring, Travel, Weather};
-use ecat_line::{LineFailure, push_items, put, ring_of, scene_of};
 use ecat_scene::{Action, Scene};
+use ecat_setup::{LineFailure, push_items, ring_of, scene_of, set_link};
 use ecat_source::Source;
 use ecat_text::{GOOD, Lines, Missing, PortText, REFUSED, VerdictText, missing_of, refuse};
 use std::alloc::Global;
@@ -140,7 +140,7 @@ pub fn sweep<S: Source, W: Write>(
         return Ok(REFUSED);
     }
     for link in &links_down {
-        put(&mut ring, *link as usize, true);
+        set_link(&mut ring, *link as usize, true);
     }
     swept(ring, items, lines)
 }
@@ -220,9 +220,9 @@ impl<W: Write> Sweeper<'_, '_, W> {
     fn single_breaks(&mut self, sent: &mut Work) -> io::Result<bool> {
         let mut good = true;
         for link in 0..=self.last_link() {
-            self.put(link, false);
+            self.set_link(link, false);
             let verdict = self.cycle(Case::Link(link), &[], sent)?;
-            self.put(link, true);
+            self.set_link(link, true);
             good = good && verdict == Verdict::Good;
         }
         Ok(good)
@@ -230,13 +230,13 @@ impl<W: Write> Sweeper<'_, '_, W> {
 
     /// This link down, and each behind it in turn.
     fn breaks_with(&mut self, first: usize, sent: &mut Work) -> io::Result<()> {
-        self.put(first, false);
+        self.set_link(first, false);
         for second in first.saturating_add(1)..=self.last_link() {
-            self.put(second, false);
+            self.set_link(second, false);
             self.cycle(Case::Links(first, second), &[], sent)?;
-            self.put(second, true);
+            self.set_link(second, true);
         }
-        self.put(first, true);
+        self.set_link(first, true);
         Ok(())
     }
 
@@ -259,7 +259,7 @@ impl<W: Write> Sweeper<'_, '_, W> {
     }
 
     /// Puts a link up or down, if the ring has it.
-    fn put(&mut self, link: usize, up: bool) {
+    fn set_link(&mut self, link: usize, up: bool) {
         let last = self.cycles.ring().slaves().len();
         if link <= last {
             self.cycles.set_link(link, up);

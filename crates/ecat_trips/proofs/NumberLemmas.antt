@@ -72,11 +72,3 @@ other_number f s other = by (same_key false s.frame f) refl (same_key true s.fra
     by true e b g = absurd (other (first_same false s.frame f e))
     by false e true g = absurd (other (first_same true s.frame f g))
     by false e false g = rw (e, g) (none s.turned)
-
--- a copy that comes back leaves the sent frame
-pub return_sent : (p : Outline) (f : List DatagramRecord) (t : Trip) → (with_return p f t).sent ≡ t.sent
-return_sent p f t = by t.back
-  where
-    by : (b : Option Outline) → (with_return_by b p f t).sent ≡ t.sent
-    by None = refl
-    by (Some q) = refl

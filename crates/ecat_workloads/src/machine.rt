@@ -9,8 +9,8 @@ use ec_master::{MAX_ITEMS, PortFault, Work, all_expected};
 use ec_ring::{Arrivals, HeardPorts, Ring, Travel, Weather};
 use ec_run::{Outputs, Wanted, wanted_of};
 use ec_wire::{Command, FrameBuf};
-use ecat_line::{put, ring_of, scene_of, slaves_of, work_of};
 use ecat_master::{Pace, Plan, master};
+use ecat_setup::{ring_of, scene_of, set_link, slaves_of, work_of};
 use ecat_source::Bytes;
 use std::alloc::Global;
 
@@ -52,11 +52,11 @@ impl Machine {
         let links = self.ring.slaves().len().saturating_add(1).min(300) as u32;
         if up {
             for link in 0..links {
-                put(&mut self.ring, link as usize, true);
+                set_link(&mut self.ring, link as usize, true);
             }
         } else if links > 0 {
             let link = self.chance.below(links);
-            put(&mut self.ring, link as usize, false);
+            set_link(&mut self.ring, link as usize, false);
         }
     }
 }

@@ -15,11 +15,10 @@ use crate::answered::{first_other, store_items, take_counts, verdict};
 use crate::frame::{FrameAnswer, frame_end};
 use crate::item::{Item, first_refused};
 use crate::join::read_copy;
-use crate::joining::join_into;
 use crate::numbers::{Code, Copy, form_of};
 use crate::packet::blank;
 use ec_master::Verdict;
-use ec_merge::JoinFault;
+use ec_merge::{JoinFault, join_into};
 use ec_wire::{Form, FrameBuf, WireFault};
 
 /// The state of a cycle of which items are left.

@@ -9,10 +9,9 @@ ghost use Rattle.rummymaple.specs.Join.{none_joined, join_answer};
 ghost use Rattle.rummymaple.specs.Numbers.{form_of};
 ghost use Rattle.rummymaple.specs.declared.join.Join.{Join};
 
-use crate::joining::join_into;
 use crate::numbers::{Code, Copy, form_of};
 use crate::packet::{blank, put_frame};
-use ec_merge::JoinFault;
+use ec_merge::{JoinFault, join_into};
 use ec_wire::{Form, FrameBuf, WireFault};
 
 /// How a join ended.

@@ -59,7 +59,6 @@ mod cycle;
 mod frame;
 mod item;
 mod join;
-mod joining;
 mod judge;
 mod layout;
 mod mapping;

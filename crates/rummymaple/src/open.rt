@@ -12,7 +12,6 @@ ghost use Rattle.rummymaple.specs.Seals.{IsOpenedPacket, IsOpened, open_answer};
 ghost use Rattle.std.specs.Prelude.{◌⊎◌};
 ghost use Rattle.rummymaple.specs.declared.open.OpenEnd.{OpenEnd};
 
-use crate::joining::fixed_address;
 use crate::numbers::{Code, fault_code, form_of};
 use crate::packet::{WrittenAnswer, blank, put_frame};
 use crate::seal::seal_of;

@@ -65,11 +65,12 @@ use ec_wire::one_spelling;
 /// before it, what came back of it is joined, and the verdict on each is good, so is that of `run_cycle`
 /// (`cycle`). So all that a good cycle says of a ring holds of each ring that would have given what came
 /// (`says`), and of each that moves meanwhile what a good cycle says of such a one: for each slave and frame
-/// one moment (`says_moving`). Where each item went out with the counter of round `k`, that is with `sent` at 2,048 times `k`
-/// modulo 65,536, and is expected to gain less than 4,096, and every copy is of that round or of one of the
-/// fifteen before it, the good cycle rests on no copy of an earlier one (`this_round`). Such calls are those
-/// of which [`rmp_join`](crate::rmp_join) and [`rmp_judge`](crate::rmp_judge) say, by whatever packets, that
-/// each frame is joined and good, where what was sent is what [`rmp_frame`](crate::rmp_frame) made (`told`).
+/// one moment (`says_moving`). Where each item went out with the counter of round `k`, that is with `sent` at
+/// 2,048 times `k` modulo 65,536, and is expected to gain less than 4,096, and every copy is of that round or
+/// of one of the fifteen before it, the good cycle rests on no copy of an earlier one (`this_round`). Such
+/// calls are those of which [`rmp_join`](crate::rmp_join) and [`rmp_judge`](crate::rmp_judge) say, by
+/// whatever packets, that each frame is joined and good, where what was sent is what
+/// [`rmp_frame`](crate::rmp_frame) made (`told`).
 pub fn calls_are_a_cycle()
     ensures cycle { (items : List Item) (image : List ℕ) (came : List Came)
         (joined : List (List DatagramRecord))

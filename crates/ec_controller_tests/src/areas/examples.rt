@@ -3,7 +3,7 @@
 ghost use Rattle.ec_regs.specs.Bits.{AreBytes};
 
 use crate::asserts::assert_same;
-use ec_areas::{last_bytes_written, read_mapped, reads_some, write_mapped, writes_some};
+use ec_areas::{read_mapped, reads_some, write_mapped, writes_outputs, writes_some};
 use ec_regs::{Fmmu, Memory, PlannedFmmu, PlannedSyncMan, SyncMan, SyncManagers};
 
 /// A sync manager that guards nothing.
@@ -123,12 +123,10 @@ fn a_write_changes_four_bits_and_shows_their_area(rt: HostRuntime) {
     let fmmus = [PlannedFmmu::new(WRITE)];
     assert!(rt; write(&areas(), &fmmus, &mut memory, 0x0001_0000, &[0x40, 0x02]));
     assert_same(&rt, memory.byte(0x1000), 0xCF);
-    let written = last_bytes_written(&areas(), &fmmus, 0x0001_0000, 2);
-    assert_same(
-        &rt,
-        written,
-        [false, false, true, false, false, false, false, false],
-    );
+    for (number, area) in areas().iter().enumerate() {
+        let shown = writes_outputs(&areas(), &fmmus, 0x0001_0000, 2, area);
+        assert_same(&rt, shown, number == 2);
+    }
 }
 
 #[test]

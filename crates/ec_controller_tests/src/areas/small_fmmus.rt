@@ -4,7 +4,7 @@
 
 use crate::areas::by_pairs::{reaches_by_pairs, read_by_pairs, write_by_pairs};
 use crate::areas::examples::{NO_AREA, write};
-use ec_areas::{last_bytes_written, read_mapped, reads_some, writes_some};
+use ec_areas::{read_mapped, reads_some, writes_outputs, writes_some};
 use ec_regs::{Fmmu, Memory, PlannedFmmu, PlannedSyncMan, SyncMan, SyncManagers};
 use std::process::Abort;
 
@@ -133,7 +133,7 @@ fn writes_agree<R: Abort + AllocGlobal>(rt: &R, direction: u8) {
                 assert_eq!(rt; served, found, "{fmmu:?} {area:?} {address}");
                 let named = writes_some(&managers, &planned, address, count);
                 assert_eq!(rt; named, found, "{fmmu:?} {area:?} {address}");
-                let shown = last_bytes_written(&managers, &planned, address, count)[2];
+                let shown = writes_outputs(&managers, &planned, address, count, &managers[2]);
                 let last = area.start.saturating_add(area.length).saturating_sub(1);
                 let reached = reaches_by_pairs(&managers, &[fmmu], address, 8 * count, last.into());
                 assert_eq!(rt; shown, reached, "{fmmu:?} {area:?} {address}");

@@ -1,7 +1,7 @@
 //! What applications put, and what is refused.
 
 use super::line::{applications, assert_inputs, count, load_outputs, mirror, ring};
-use ec_process::{Application, Applications, Behaviour};
+use ec_applications::{Application, Applications, Behaviour};
 use ec_ring::Ring;
 use std::process::Abort;
 

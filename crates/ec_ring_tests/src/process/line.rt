@@ -1,7 +1,7 @@
 //! A line of slaves with outputs, inputs and a mailbox.
 
 use ec_app::{Objects, Slave};
-use ec_process::{Application, Applications, Behaviour};
+use ec_applications::{Application, Applications, Behaviour};
 use ec_regs::SyncMan;
 use ec_ring::Ring;
 use std::alloc::Global;

@@ -1,6 +1,6 @@
 //! `ecat check` as it was first written, over whole slaves.
 
-use ecat_line::{LineFailure, scene_of, slaves_of};
+use ecat_setup::{LineFailure, scene_of, slaves_of};
 use ecat_source::Source;
 use ecat_text::{GOOD, Lines, REFUSED, refuse};
 use std::alloc::Global;

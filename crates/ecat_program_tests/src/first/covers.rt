@@ -2,7 +2,7 @@
 
 use ec_app::Slave;
 use ec_map::{Gap, Item, NotShown, Way, WhyNotShown, first_not_shown, first_uncovered};
-use ecat_line::{LineFailure, scene_of, slaves_of};
+use ecat_setup::{LineFailure, scene_of, slaves_of};
 use ecat_source::Source;
 use ecat_text::{GOOD, Lines, REFUSED, refuse};
 use std::alloc::Global;

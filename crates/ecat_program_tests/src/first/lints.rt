@@ -1,8 +1,8 @@
 //! `ecat lint` as it was first written, over whole slaves.
 
-use ecat_line::{LineFailure, slaves_of, unread};
 use ecat_lint::odd_lines;
 use ecat_scene::{MAX_TEXT, Scene};
+use ecat_setup::{LineFailure, slaves_of, unread};
 use ecat_source::{Source, read_all};
 use ecat_text::{GOOD, Lines, REFUSED, refuse};
 use std::alloc::Global;

@@ -7,8 +7,8 @@ use ec_master::{MAX_ITEMS, Verdict, Work, all_expected, weather_cycle};
 use ec_merge::{JoinFault, join_frames};
 use ec_ring::{Came, Links, Port, Ring, Travel, Weather};
 use ec_wire::FrameBuf;
-use ecat_line::{LineFailure, put, ring_of, scene_of, work_of};
 use ecat_scene::{Action, Scene};
+use ecat_setup::{LineFailure, ring_of, scene_of, set_link, work_of};
 use ecat_source::Source;
 use ecat_text::{GOOD, Lines, Missing, PortText, REFUSED, VerdictText, missing_of, refuse};
 use std::alloc::Global;
@@ -153,7 +153,7 @@ pub(crate) fn sweep<S: Source, W: Write>(
         return Ok(REFUSED);
     }
     for link in &links_down {
-        put(&mut ring, *link as usize, true);
+        set_link(&mut ring, *link as usize, true);
     }
     let mut sweeper = Sweeper {
         ring: CountedRing { ring, frames: 0 },
@@ -211,9 +211,9 @@ impl<'a, W: Write> Sweeper<'a, W> {
     fn single_breaks(&mut self) -> io::Result<bool> {
         let mut good = true;
         for link in 0..=self.last_link() {
-            put(&mut self.ring.ring, link, false);
+            set_link(&mut self.ring.ring, link, false);
             let verdict = self.cycle(Case::Link(link), &[])?;
-            put(&mut self.ring.ring, link, true);
+            set_link(&mut self.ring.ring, link, true);
             good = good && verdict == Verdict::Good;
         }
         Ok(good)
@@ -221,13 +221,13 @@ impl<'a, W: Write> Sweeper<'a, W> {
 
     /// This link down, and each behind it in turn.
     fn breaks_with(&mut self, first: usize) -> io::Result<()> {
-        put(&mut self.ring.ring, first, false);
+        set_link(&mut self.ring.ring, first, false);
         for second in first.saturating_add(1)..=self.last_link() {
-            put(&mut self.ring.ring, second, false);
+            set_link(&mut self.ring.ring, second, false);
             self.cycle(Case::Links(first, second), &[])?;
-            put(&mut self.ring.ring, second, true);
+            set_link(&mut self.ring.ring, second, true);
         }
-        put(&mut self.ring.ring, first, true);
+        set_link(&mut self.ring.ring, first, true);
         Ok(())
     }
 

@@ -6,7 +6,7 @@ use crate::chance::Chance;
 use crate::first;
 use crate::scenes::mapped::Mapping;
 use crate::scenes::swept::Line;
-use ecat_line::LineFailure;
+use ecat_setup::LineFailure;
 use ecat_simulation::{check, cover, lint, sweep};
 use ecat_source::Bytes;
 use ecat_text::{GOOD, REFUSED};

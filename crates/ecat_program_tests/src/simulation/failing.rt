@@ -1,7 +1,7 @@
 //! Reads and writes that fail, each in turn.
 
 use super::{Command, ROOM, is_want_of_memory, written};
-use ecat_line::LineFailure;
+use ecat_setup::LineFailure;
 use ecat_simulation::{Asked, sdo};
 use ecat_source::{Bytes, FailsAt, Source};
 use std::alloc::Global;

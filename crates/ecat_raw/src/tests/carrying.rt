@@ -5,7 +5,7 @@ use super::{ASKED, SENT, assert_same, with};
 use crate::RawCarrier;
 use crate::sockets::PacketSocket;
 use ec_ring::{Port, PortFault};
-use ecat_far::Carrier;
+use ecat_remote::Carrier;
 use std::process::Abort;
 
 /// A carrier over these.

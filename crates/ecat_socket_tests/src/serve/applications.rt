@@ -3,7 +3,7 @@
 use crate::asserts::assert_found;
 use crate::serve::line::{Spelling, ring};
 use crate::serve::memory::{Packet, Service, assert_served};
-use ec_process::{Application, Applications, Behaviour};
+use ec_applications::{Application, Applications, Behaviour};
 use ec_regs::SyncMan;
 use ec_ring::Port;
 use ecat_serve::Served;

@@ -1,0 +1,48 @@
+//! What applications leave of a line, as laws.
+
+ghost use Rattle.std.specs.Prelude.{◌≡◌, ◌≢◌, ℕ, List, [], Some, length, slice_get};
+ghost use Rattle.std.specs.List.{All};
+ghost use Rattle.ec_app.specs.Slave.{step};
+ghost use Rattle.ec_app.specs.State.{SlaveState};
+ghost use Rattle.ec_esc.specs.State.{ControllerState, IsController};
+ghost use Rattle.ec_line.specs.Moving.{HasMoved};
+ghost use Rattle.ec_ring.specs.Ring.{RingState};
+ghost use Rattle.ec_applications.specs.Acting.{acted};
+ghost use Rattle.ec_applications.specs.Left.{HasMemory, KeepsAllElse};
+ghost use Rattle.ec_applications.specs.declared.application.Application.{Application};
+
+/// Applications change no link and add no slave. A slave that has none stays as it is; of any other one all
+/// stays but the areas that the master reads: its registers (so its station, its AL status and its mapping),
+/// its outputs, what it is shown, whether AL control was written, and its own state.
+pub fn acting_leaves()
+    ensures links { (times : ℕ) (all : List Application) (r : RingState) →
+        (acted times all r).links ≡ r.links }
+    ensures size { (times : ℕ) (all : List Application) (r : RingState)
+        → length (acted times all r).slaves ≡ length r.slaves }
+    ensures beside { (times : ℕ) (all : List Application) (r : RingState) (k : ℕ)
+        → All (λ (one : Application). one.place ≢ k) all
+        → slice_get (acted times all r).slaves k ≡ slice_get r.slaves k }
+    ensures slave { (times : ℕ) (all : List Application) (r : RingState) (k : ℕ) (before after : SlaveState)
+        → slice_get r.slaves k ≡ Some before → slice_get (acted times all r).slaves k ≡ Some after
+        → HasMemory before → KeepsAllElse before after }
+{}
+
+/// A step of a slave, and what its application does, are moves that may come between two passages of a
+/// cycle's copies: they leave what the controller reads, writes, accepts, counts, takes and shows, each bit
+/// that an accepted request writes, and what the application is shown. So a line whose slaves step and whose
+/// inputs count keeps the premise under which a good cycle is of one moment of each slave
+/// (`ec_line::moving::good_moments`).
+pub fn moves_between_passages()
+    ensures step { (s : SlaveState) → IsController s.controller → IsController (step s).controller
+        → HasMoved s.controller (step s).controller }
+    ensures acting { (times : ℕ) (all : List Application) (r : RingState) (k : ℕ) (before after : SlaveState)
+        → slice_get r.slaves k ≡ Some before → slice_get (acted times all r).slaves k ≡ Some after
+        → IsController before.controller → IsController after.controller
+        → HasMoved before.controller after.controller }
+    ensures both { (x y z : ControllerState) → HasMoved x y → HasMoved y z → HasMoved x z }
+{}
+
+/// A line whose slaves have no applications is as it was.
+pub fn idle_acts()
+    ensures { (times : ℕ) (r : RingState) → acted times [] r ≡ r }
+{}

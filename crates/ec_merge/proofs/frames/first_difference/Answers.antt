@@ -1,5 +1,0 @@
-use Rattle.std.proofs.Common.{sym, ◌∙◌, below_more}
-use Rattle.ec_merge.proofs.frames.first_difference.Goals as goal
-
-pub loop-k-preserved : goal.loop-k-preserved
-loop-k-preserved c = below_more _ _ c.loop-k.invariant (sym c.belongs.ensures ∙ c.if-not-belongs.false)

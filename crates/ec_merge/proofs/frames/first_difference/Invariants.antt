@@ -1,7 +1,0 @@
-use Rattle.std.proofs.Common.{◌≡◌, ℕ, ◌<◌, true}
-use Rattle.ec_wire.specs.Datagram.{nth}
-use Rattle.ec_merge.specs.Frames.{belongs}
-use Rattle.ec_merge.proofs.frames.first_difference.Given as goal
-
-abbrev pub invariant-loop-k : goal.invariant-loop-k
-invariant-loop-k l = (i : ℕ) → i < l.k → belongs (nth l.sent i) (nth l.copy i) ≡ true

@@ -1,0 +1,223 @@
+//! The system's sockets, each of which speaks with one end of a line.
+
+ghost use Rattle.std.specs.Prelude.{⊤, ◌≡◌, ◌+◌, ◌-◌, ◌^◌, ◌≤◌, ◌<◌, IfOk, IfSome, IsErr, IsOk, length};
+ghost use Rattle.std.specs.IoError.{error_kind};
+ghost use Rattle.std.specs.Option.{is_some};
+ghost use Rattle.ec_wire.specs.declared.frame.TheConstants.{PACKET_ROOM};
+ghost use Rattle.ecat_remote.specs.Trips.{speaks_at};
+
+use crate::address::RemoteEnds;
+use crate::carrier::Carrier;
+use ec_ring::{Port, PortFault};
+use ec_wire::PACKET_ROOM;
+use std::io::{self, ErrorKind};
+use std::net::{Ipv4Addr, Ipv6Addr, Net, UdpSocket};
+use std::time::Duration;
+
+/// How many late packets are dropped at a port before a trip, at the most.
+const MOST_LATE: usize = 1024;
+
+/// Which socket could not be opened: its end's name does not resolve, or the system refuses.
+#[derive(Debug, Drop)]
+pub struct OpenFault {
+    /// The end of the line that the socket was to speak with.
+    pub end: Port,
+    /// What the system says.
+    pub error: io::Error,
+}
+
+/// A UDP socket at each port of the master, which speaks with the line's end there and with nobody else; with
+/// one end alone port B sends and receives nothing.
+///
+/// That no packet came in time is no failure, nor is that nobody listens at the line's end. Of a packet of
+/// more than 1,501 bytes the first 1,501 are received. Each other error of the system counts as a failure.
+#[derive(Drop)]
+pub struct UdpCarrier {
+    a: TimedSocket,
+    b: Option<TimedSocket>,
+    failures: u64,
+}
+
+/// A socket with the time for which a receive at it waits, in microseconds: 0 where it was never told.
+#[derive(Drop)]
+struct TimedSocket {
+    socket: UdpSocket,
+    wait: u64,
+}
+
+impl TimedSocket {
+    /// Receives a packet within so many microseconds, by a 64th more or less: the system is told of a time
+    /// only where it is another one.
+    fn receive(&mut self, into: &mut [u8], within: u64) -> io::Result<usize>
+        ensures room { IfOk result (λ count. count ≤ length into.old) }
+    {
+        if within == 0 {
+            return self.look(into);
+        }
+        if self.wait.abs_diff(within) > within / 64 {
+            self.socket
+                .set_read_timeout(Some(Duration::from_micros(within)))?;
+            self.wait = within;
+        }
+        self.socket.recv(into)
+    }
+
+    /// Receives a packet that waits there, if one does.
+    fn look(&mut self, into: &mut [u8]) -> io::Result<usize>
+        ensures room { IfOk result (λ count. count ≤ length into.old) }
+    {
+        self.socket.set_nonblocking(true)?;
+        let count = self.socket.recv(into);
+        self.socket.set_nonblocking(false)?;
+        count
+    }
+}
+
+impl UdpCarrier {
+    /// Opens a socket for each end, and looks its name up.
+    pub fn open(net: &impl Net, ends: RemoteEnds<'_>) -> Result<UdpCarrier, OpenFault>
+        ensures none_failed { IfOk result (λ carrier. ⟦<UdpCarrier as Carrier>⟧.failed carrier ≡ 0) }
+    {
+        let a = socket_at(net, Port::A, ends.a)?;
+        let b = match ends.b {
+            Some(end) => Some(socket_at(net, Port::B, end)?),
+            None => None,
+        };
+        Ok(UdpCarrier { a, b, failures: 0 })
+    }
+
+    /// The socket of a port, if it has one.
+    fn socket(&self, at: Port) -> Option<&UdpSocket>
+        ensures { is_some result ≡ speaks_at (is_some self.now.b) at }
+    {
+        match (at, &self.b) {
+            (Port::A, _) => Some(&self.a.socket),
+            (Port::B, Some(b)) => Some(&b.socket),
+            (Port::B, None) => None,
+        }
+    }
+
+    /// Receives at a port; nothing comes at one without a socket.
+    fn receive_at(&mut self, at: Port, into: &mut [u8], within: u64) -> io::Result<usize>
+        ensures room { IfOk result (λ count. count ≤ length into.old) }
+        ensures failures { self.new.failures ≡ self.old.failures }
+    {
+        match (at, &mut self.b) {
+            (Port::A, _) => self.a.receive(into, within),
+            (Port::B, Some(b)) => b.receive(into, within),
+            (Port::B, None) => Err(io::Error::from(ErrorKind::WouldBlock)),
+        }
+    }
+
+    /// Counts a failure; at the greatest count there is none.
+    fn fail(&mut self) -> Result<(), PortFault>
+        ensures counted { IsErr result → self.new.failures ≡ self.old.failures + 1 }
+        ensures never_lower { self.old.failures ≤ self.new.failures }
+        ensures passed_over { IsOk result → self.old.failures ≡ 2 ^ 64 - 1 }
+    {
+        if self.failures == u64::MAX {
+            return Ok(());
+        }
+        self.failures += 1;
+        Err(PortFault)
+    }
+}
+
+impl Carrier for UdpCarrier {
+    ghost failed = { λ carrier. carrier.failures };
+
+    // what a socket gives is up to the line and to the system
+    ghost gives = { λ before at packet later. ⊤ };
+
+    // no two receives are told apart
+    ghost heard = { λ carrier. 0 };
+
+    ghost speaks = { λ carrier at. speaks_at (is_some carrier.b) at };
+
+    fn speaks(&self, at: Port) -> bool {
+        self.socket(at).is_some()
+    }
+
+    fn drain(&mut self) {
+        drop_late(&self.a.socket);
+        if let Some(b) = &self.b {
+            drop_late(&b.socket);
+        }
+    }
+
+    fn send(&mut self, from: Port, bytes: &[u8]) -> Result<(), PortFault> {
+        let Some(socket) = self.socket(from) else {
+            return Ok(());
+        };
+        match socket.send(bytes) {
+            Ok(_) => Ok(()),
+            Err(fault) if is_silence(&fault) => Ok(()),
+            Err(_) => self.fail(),
+        }
+    }
+
+    fn receive(
+        &mut self,
+        at: Port,
+        into: &mut [u8; PACKET_ROOM],
+        within: u64,
+    ) -> Result<Option<usize>, PortFault> {
+        match self.receive_at(at, into, within) {
+            Ok(count) => Ok(Some(count)),
+            Err(fault) if is_silence(&fault) => Ok(None),
+            Err(_) => {
+                self.fail()?;
+                Ok(None)
+            }
+        }
+    }
+
+    fn failures(&self) -> u64 {
+        self.failures
+    }
+}
+
+/// Opens the socket of a port, to speak with the line's end there.
+fn socket_at(net: &impl Net, end: Port, name: &str) -> Result<TimedSocket, OpenFault> {
+    match connected(net, name) {
+        Ok(socket) => Ok(TimedSocket { socket, wait: 0 }),
+        Err(error) => Err(OpenFault { end, error }),
+    }
+}
+
+/// A socket that speaks with what a name resolves to, by IPv4 or else by IPv6.
+fn connected(net: &impl Net, name: &str) -> io::Result<UdpSocket> {
+    let socket = UdpSocket::bind(net, (Ipv4Addr::UNSPECIFIED, 0))?;
+    match socket.connect(name) {
+        Ok(()) => Ok(socket),
+        Err(fault) => match UdpSocket::bind(net, (Ipv6Addr::UNSPECIFIED, 0)) {
+            Ok(other) if other.connect(name).is_ok() => Ok(other),
+            _ => Err(fault),
+        },
+    }
+}
+
+/// Drops what waits at a socket.
+fn drop_late(socket: &UdpSocket) {
+    let mut room = [0; 1];
+    if socket.set_nonblocking(true).is_err() {
+        return;
+    }
+    for _late in 0..MOST_LATE {
+        if socket.recv(&mut room).is_err() {
+            break;
+        }
+    }
+    let _ = socket.set_nonblocking(false);
+}
+
+/// Does the error say that nothing came, or that nobody listens there?
+fn is_silence(fault: &io::Error) -> bool {
+    matches!(
+        fault.kind(),
+        ErrorKind::WouldBlock
+            | ErrorKind::TimedOut
+            | ErrorKind::Interrupted
+            | ErrorKind::ConnectionRefused
+    )
+}

@@ -1,0 +1,156 @@
+//! Packets that come as they are written down, and calls that fail in turn.
+
+ghost use Rattle.std.specs.Prelude.{⊤, ◌≡◌, ◌+◌, ◌-◌, ◌^◌, ◌≤◌, ◌<◌, IsErr, min, true};
+
+use ec_ring::{Port, PortFault};
+use ec_wire::PACKET_ROOM;
+use ecat_remote::{Carrier, Timer};
+
+/// How many packets come at a port, at the most.
+pub const ROOM: usize = 4;
+
+/// A carrier whose packets are written down for each port, of 15 bytes each.
+#[derive(Drop)]
+pub struct Script {
+    /// What comes at port A, one packet after the other.
+    pub a: [[u8; 15]; ROOM],
+    /// What comes at port B.
+    pub b: [[u8; 15]; ROOM],
+    /// How many packets come at port A.
+    pub most_a: usize,
+    /// How many come at port B.
+    pub most_b: usize,
+    /// How many have come at port A and at port B.
+    pub taken: [usize; 2],
+    /// Which call fails, from 1 on.
+    pub failing: usize,
+    /// How many calls were made.
+    pub made: usize,
+    /// How many calls have failed.
+    pub failed: u64,
+    /// For how long the last receive was to wait.
+    pub within: u64,
+}
+
+impl Script {
+    /// A carrier at which these packets come, so many of them at each port, and no call fails.
+    pub fn new(a: [[u8; 15]; ROOM], most_a: usize, b: [[u8; 15]; ROOM], most_b: usize) -> Script {
+        Script {
+            a,
+            b,
+            most_a,
+            most_b,
+            taken: [0; 2],
+            failing: 0,
+            made: 0,
+            failed: 0,
+            within: 0,
+        }
+    }
+
+    /// Counts a call, and fails at the one that is to fail.
+    fn call(&mut self) -> Result<(), PortFault>
+        ensures counted { IsErr result → self.old.failed < self.new.failed }
+        ensures never_lower { self.old.failed ≤ self.new.failed }
+    {
+        self.made = self.made.wrapping_add(1);
+        if self.made == self.failing && self.failed < u64::MAX {
+            self.failed += 1;
+            return Err(PortFault);
+        }
+        Ok(())
+    }
+
+    /// The next packet of a port.
+    fn next(&mut self, at: Port) -> Option<[u8; 15]>
+        ensures { self.new.failed ≡ self.old.failed }
+    {
+        let (packets, most, place) = match at {
+            Port::A => (self.a, self.most_a, 0),
+            Port::B => (self.b, self.most_b, 1),
+        };
+        let k = self.taken[place];
+        if k >= most || k >= ROOM {
+            return None;
+        }
+        self.taken[place] = k + 1;
+        Some(packets[k])
+    }
+}
+
+impl Carrier for Script {
+    ghost failed = { λ script. script.failed };
+
+    ghost gives = { λ before at packet later. ⊤ };
+
+    ghost heard = { λ script. 0 };
+
+    ghost speaks = { λ script at. true };
+
+    fn speaks(&self, _at: Port) -> bool {
+        true
+    }
+
+    fn drain(&mut self) {}
+
+    fn send(&mut self, _from: Port, _bytes: &[u8]) -> Result<(), PortFault> {
+        self.call()
+    }
+
+    fn receive(
+        &mut self,
+        at: Port,
+        into: &mut [u8; PACKET_ROOM],
+        within: u64,
+    ) -> Result<Option<usize>, PortFault> {
+        self.within = within;
+        self.call()?;
+        match self.next(at) {
+            Some(packet) => {
+                into[..15].copy_from_slice(&packet);
+                Ok(Some(15))
+            }
+            None => Ok(None),
+        }
+    }
+
+    fn failures(&self) -> u64 {
+        self.failed
+    }
+}
+
+/// A timer that is wound by hand: each look at it takes so long, and each rest as long as it says.
+#[derive(Drop)]
+pub struct Wound {
+    /// The microseconds since it began.
+    pub now: u64,
+    /// How many microseconds pass before each look.
+    pub step: u64,
+    /// For how long it rested.
+    pub rested: u64,
+}
+
+impl Wound {
+    /// A timer that stands still.
+    pub fn still() -> Wound {
+        Wound {
+            now: 0,
+            step: 0,
+            rested: 0,
+        }
+    }
+}
+
+impl Timer for Wound {
+    ghost told = { λ timer. timer.now };
+
+    fn now(&mut self) -> u64 {
+        self.now = self.now.saturating_add(self.step);
+        self.now
+    }
+
+    fn rest(&mut self, micros: u64) {
+        self.now = self.now.saturating_add(micros);
+        self.rested = self.rested.saturating_add(micros);
+    }
+}
