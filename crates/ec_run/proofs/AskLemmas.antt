@@ -3,8 +3,6 @@ use Rattle.std.proofs.Common.{◌≡◌, ap, sym, refl, ◌∙◌, Bool, true, f
 use Rattle.std.proofs.Common.{List, [], ◌∷◌, length, None, Result, Ok, Err, arith}
 use Rattle.std.specs.Cmp.Lexicographic.{pointwise}
 use Rattle.ec_wire.specs.Datagram.{DatagramRecord, nth}
-use Rattle.ec_merge.specs.Frames.{IsOwn, joined_frame}
-use Rattle.ec_merge.proofs.Laws.{length-joined, same_size}
 use Rattle.ec_master.specs.Ports.{Trips}
 use Rattle.ec_services.specs.Ask.{Answer, told_by, Question, IsAsked, write, write_decides, done}
 use Rattle.ec_services.specs.declared.fault.MasterFault.{MasterFault}
@@ -64,12 +62,3 @@ pub read_back : {P : Type 0} (trips : Trips P) (before later : P) (station ado :
     → IsAsked trips before (holds station ado bytes) (done (held_by bytes joined)) later
 read_back trips before later station ado bytes joined puts =
     asked_by trips before later (holds station ado bytes) joined (held_by bytes) (holds-says bytes) puts
-
--- what copies of one datagram join to is one datagram of its size
-pub joined_size : (s : DatagramRecord) (a b : List DatagramRecord) → IsOwn (s ∷ []) a → IsOwn (s ∷ []) b
-    → length (nth (joined_frame (s ∷ []) a b) 0).payload ≡ length s.payload
-joined_size s [] b one two = absurd (omega (arith, one.count))
-joined_size s (x ∷ xs) [] one two = absurd (omega (arith, two.count))
-joined_size s (x ∷ xs) (y ∷ ys) one two =
-    length-joined s.payload x.payload y.payload (same_size s x (one.each 0 (omega arith)))
-    (same_size s y (two.each 0 (omega arith)))

@@ -2,34 +2,13 @@
 
 ghost use Rattle.std.specs.Prelude.{◌≡◌, ◌≤◌, ◌<◌, ◌||◌, IfOk, Err, is_some, length};
 ghost use Rattle.ec_wire.specs.Datagram.{nth, record_of};
-ghost use Rattle.ec_services.specs.Ask.{request};
 ghost use Rattle.ec_services.specs.declared.fault.MasterFault.TheVariants.{Port};
 ghost use Rattle.ec_run.specs.Ask.{IsPut, IsReplied, one_counted, one_or_two, held_by};
 
-use arrayvec::ArrayVec;
 use ec_master::Ports;
-use ec_merge::join_frames;
 use ec_ring::Came;
 use ec_services::MasterFault;
-use ec_wire::{Command, Datagram, FrameBuf, MAX_DATA};
-
-/// A datagram with these data, its index and its working counter 0.
-pub fn request(command: Command, address: u32, payload: &[u8]) -> Datagram
-    requires { length payload.now ≤ MAX_DATA }
-    ensures { record_of result ≡ request command address payload.now }
-{
-    let mut bytes = ArrayVec::new();
-    bytes.try_extend_from_slice(payload).unwrap();
-    Datagram {
-        command,
-        index: 0,
-        address,
-        circulating: false,
-        irq: 0,
-        payload: bytes,
-        counter: 0,
-    }
-}
+use ec_wire::{Datagram, FrameBuf};
 
 /// What came back of a datagram that went out alone in a frame.
 #[derive(Drop)]
@@ -56,15 +35,15 @@ pub(crate) fn ask<P: Ports>(ports: &mut P, sent: &Datagram) -> Result<Reply, Mas
     ensures counted { result ≡ Err Port → P.failed ports.old < P.failed ports.new }
     ensures never_lower { P.failed ports.old ≤ P.failed ports.new }
 {
-    let frame = FrameBuf::of(sent);
-    let came = match ports.trip(&frame) {
-        Ok(came) => came,
-        Err(_) => return Err(MasterFault::Port),
-    };
-    let heard = is_heard(&came);
-    match join_frames(&frame, came.a.as_ref(), came.b.as_ref()) {
-        Ok(joined) => Ok(Reply { joined, heard }),
-        Err(_) => Err(MasterFault::Stranger),
+    match ec_services::ask(ports, sent) {
+        Ok(back) => {
+            let heard = is_heard(&back.came);
+            Ok(Reply {
+                joined: back.joined,
+                heard,
+            })
+        }
+        Err(fault) => Err(fault),
     }
 }
 

@@ -4,10 +4,10 @@ ghost use Rattle.std.specs.Prelude.{◌≡◌, ◌≤◌, ◌<◌, Err};
 ghost use Rattle.ec_services.specs.declared.fault.MasterFault.TheVariants.{Port};
 ghost use Rattle.ec_run.specs.Counting.{IsCounted};
 
-use crate::ask::{put, request};
+use crate::ask::put;
 use ec_master::Ports;
 use ec_regs::registers::AL_STATUS;
-use ec_services::MasterFault;
+use ec_services::{MasterFault, request};
 use ec_wire::{Command, address_of};
 
 /// Counts the slaves that a frame reaches, by a broadcast read of AL status, whatever the cable is like: over

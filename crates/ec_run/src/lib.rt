@@ -65,7 +65,7 @@ mod wanted;
 mod watched;
 
 pub use alike::over_like_ports;
-pub use ask::{one_counted, put, request};
+pub use ask::{one_counted, put};
 pub use counting::count_slaves;
 pub use counts::Counts;
 pub use cycles::{Cycles, MOST_CYCLES, Rooms};

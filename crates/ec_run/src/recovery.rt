@@ -5,7 +5,7 @@ ghost use Rattle.ec_wire.specs.Datagram.{nth};
 ghost use Rattle.ec_run.specs.Recovery.{remedy_of, seen_in, steps_for, is_nobody, IsLookedAt};
 ghost use Rattle.ec_run.specs.Recovery.{IsLookedUp, IsRecovered, tells_places};
 
-use crate::ask::{Reply, ask, request};
+use crate::ask::{Reply, ask};
 use crate::phase::{ALL_STEPS, Phase, StepFault, bring_slave, steps_from};
 use crate::step::Step;
 use crate::wanted::Wanted;
@@ -14,7 +14,7 @@ use ec_diag::Located;
 use ec_master::Ports;
 use ec_regs::registers::AL_STATUS;
 use ec_regs::{AlState, AlStatus};
-use ec_services::MasterFault;
+use ec_services::{MasterFault, request};
 use ec_wire::{Command, FrameBuf, address_of};
 
 /// The bytes of AL status, two reserved bytes and the AL status code.

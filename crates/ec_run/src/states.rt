@@ -5,12 +5,12 @@ ghost use Rattle.ec_wire.specs.Datagram.{nth};
 ghost use Rattle.ec_master.specs.declared.work.TheConstants.{MAX_ITEMS};
 ghost use Rattle.ec_run.specs.States.{Leaves, is_left, states_item, tells_all_in_op, with_states};
 
-use crate::ask::{put, request};
+use crate::ask::put;
 use ec_map::Item;
 use ec_master::{MAX_ITEMS, Ports, Work};
 use ec_regs::AlState;
 use ec_regs::registers::{AL_CONTROL, AL_STATUS};
-use ec_services::MasterFault;
+use ec_services::{MasterFault, request};
 use ec_wire::{Command, FrameBuf, Kind, address_of};
 
 /// What AL status says of a slave that is in Op and has no error (IEC 61158-6-12, AL status).

@@ -7,7 +7,7 @@ ghost use Rattle.ec_run.specs.Step.{manager_number, fmmu_number, startup_number,
 ghost use Rattle.ec_run.specs.Step.{manager_talk, fmmu_talk, address_write, behind_question, is_answered};
 ghost use Rattle.ec_run.specs.Step.{IsDone, IsTried};
 
-use crate::ask::{held_by, one_counted, one_or_two, put, request};
+use crate::ask::{held_by, one_counted, one_or_two, put};
 use crate::objects::write_startup;
 use crate::wanted::{MAX_STARTUP, Wanted};
 use ec_master::Ports;
@@ -16,7 +16,7 @@ use ec_regs::registers::{
     FMMU_BASE, FMMU_COUNT, FMMU_SIZE, STATION_ADDRESS, SYNC_MANAGER_ACTIVATE, SYNC_MANAGER_BASE,
     SYNC_MANAGER_COUNT, SYNC_MANAGER_SIZE,
 };
-use ec_services::{MasterFault, request_state};
+use ec_services::{MasterFault, request, request_state};
 use ec_wire::{Command, address_of};
 
 /// How many bytes of a sync manager's record tell its area: start, length and control.

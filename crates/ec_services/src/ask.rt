@@ -13,17 +13,18 @@ use ec_merge::join_frames;
 use ec_ring::Came;
 use ec_wire::{Command, Datagram, FrameBuf, MAX_DATA};
 
-/// What came back of a datagram.
+/// What came back of a datagram that went out alone in a frame.
 #[derive(Drop)]
-pub(crate) struct Back {
-    /// The copies.
-    pub(crate) came: Came,
-    /// The frame of the one datagram that they join to.
-    pub(crate) joined: FrameBuf,
+pub struct Back {
+    /// The copies, by the ports from which they were sent.
+    pub came: Came,
+    /// The frame of one datagram that they join to; that which was sent, where none came.
+    pub joined: FrameBuf,
 }
 
-/// A datagram with these data, its index and its working counter 0.
-pub(crate) fn request(command: Command, address: u32, payload: &[u8]) -> Datagram
+/// A datagram with these data, at most 1,486 bytes, its index and its working counter 0 (IEC 61158-4-12,
+/// datagram structure).
+pub fn request(command: Command, address: u32, payload: &[u8]) -> Datagram
     requires { length payload.now ≤ MAX_DATA }
     ensures { record_of result ≡ request command address payload.now }
 {
@@ -40,8 +41,10 @@ pub(crate) fn request(command: Command, address: u32, payload: &[u8]) -> Datagra
     }
 }
 
-/// Sends a datagram alone in a frame and joins its copies.
-pub(crate) fn ask<P: Ports>(ports: &mut P, sent: &Datagram) -> Result<Back, MasterFault>
+/// Sends a datagram alone in a frame, and joins the copies that come back: a frame of one datagram of its size.
+/// It is [`MasterFault::Port`] where the trip failed, and [`MasterFault::Stranger`] where a copy is none of
+/// what was sent.
+pub fn ask<P: Ports>(ports: &mut P, sent: &Datagram) -> Result<Back, MasterFault>
     ensures asks { Asks P.trips ports.old (record_of sent.now) result ports.new }
     ensures one { IfOk result (λ back. length back.joined ≡ 1) }
     ensures size { IfOk result (λ back. length (told_by back).payload ≡ length sent.now.payload.items) }

@@ -30,6 +30,8 @@
 //! - [`settle`] waits until one answer shows both mailboxes empty; [`Peer::skip`] moves the counter on.
 //! - [`locate`] says where the cable is broken, by one broadcast read over ports that tell where copies
 //!   arrive ([`ec_ring::HeardPorts`]), and [`CutOff`] who is cut off: the calls of `ec_diag`.
+//! - [`ask`] sends one datagram, as [`request`] makes it, and answers what came [`Back`] of it: each trip of
+//!   all these calls is one.
 //! - [`RingPorts`] is a ring of simulated slaves as two ports, where every slave takes its step after each
 //!   trip.
 //!
@@ -49,6 +51,7 @@ mod surely;
 mod transfer;
 
 pub use acknowledgement::acknowledge;
+pub use ask::{Back, ask, request};
 pub use ec_diag::{CutOff, Located, locate};
 pub use fault::MasterFault;
 pub use mailbox::{Area, Peer};

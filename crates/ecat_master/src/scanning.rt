@@ -25,8 +25,8 @@ use ec_regs::registers::{
 };
 use ec_regs::{AlState, AlStatus, Fmmu, SyncMan};
 use ec_ring::{HeardPorts, MAX_SLAVES};
-use ec_run::{Watched, count_slaves, one_counted, peer_between, put, request};
-use ec_services::{MasterFault, Peer, upload_surely};
+use ec_run::{Watched, count_slaves, one_counted, peer_between, put};
+use ec_services::{MasterFault, Peer, request, upload_surely};
 use ec_wire::{Command, Datagram, FrameBuf, address_of};
 use ecat_text::Lines;
 use std::io::{self, Write};
