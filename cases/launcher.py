@@ -310,6 +310,18 @@ def changed_sources_are_built_and_that_is_said(clone):
 
 
 @case
+def unproved_hands_files_over_by_their_names(clone):
+    clone.rt(VERSION + 'echo "$PWD $*"\n')
+    clone.file("some/folder/line.scene", "slave 1\n")
+    scene = clone.at("some/folder/line.scene")
+    words = ("--unproved", "run", scene, "--judge")
+    output, error, status = clone.run(clone.at("ecat"), *words)
+    given = f"try --data line.scene={scene} -- run line.scene --judge"
+    yield "words", f"{clone.at('crates/ecat')} {given}\n0\n", output + status
+    yield "said", "ecat: not proved: the sources as they stand\n", error
+
+
+@case
 def build_is_what_build_does(clone):
     clone.rt(VERSION)
     nothing = "tools/build: rt ci passed and left nothing of ecat; "

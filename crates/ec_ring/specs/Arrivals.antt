@@ -20,6 +20,10 @@ arrival_of lost w =
     if lost then None
     else option_map (λ (x : List DatagramRecord × Port). record { frame = x.0; at = x.1 }) w.arrived
 
+-- a copy, as one that arrived at a port
+abbrev pub arrived_at : Port → List DatagramRecord → Arrival
+arrived_at at frame = record { frame = frame; at = at }
+
 abbrev pub arrivals_a_first : Weather → List DatagramRecord → List ControllerState → Arrivals
 arrivals_a_first w sent line =
     let a = walked_from_a w.a sent line in

@@ -3,7 +3,7 @@
 ghost use Rattle.std.specs.Prelude.{◌≡◌, ◌≤◌, ◌<◌, ℕ, List, Option, Some, Result, IsErr, length};
 ghost use Rattle.std.specs.Option.{option_map};
 ghost use Rattle.ec_wire.specs.Datagram.{DatagramRecord};
-ghost use Rattle.ec_ring.specs.Arrivals.{arrival_of, arrivals_of, copies_of, RingArrivals};
+ghost use Rattle.ec_ring.specs.Arrivals.{arrival_of, arrivals_of, arrived_at, copies_of, RingArrivals};
 ghost use Rattle.ec_ring.specs.Reach.{arrival_a, arrival_b};
 ghost use Rattle.ec_ring.specs.Ring.{line_of, with_line};
 ghost use Rattle.ec_ring.specs.Travel.{travelled};
@@ -25,6 +25,18 @@ pub struct Arrival {
     pub frame: FrameBuf,
     /// The port where it arrived.
     pub at: Port,
+}
+
+impl Arrival {
+    /// A copy, if one was received, as one that arrived at this port.
+    pub fn at_port(copy: Option<FrameBuf>, at: Port) -> Option<Arrival>
+        ensures { result ≡ option_map (arrived_at at) copy }
+    {
+        match copy {
+            Some(frame) => Some(Arrival { frame, at }),
+            None => None,
+        }
+    }
 }
 
 /// The copies that came back, each with the port where it arrived, under the port at which it started. Both

@@ -50,7 +50,7 @@ pub mod weather;
 
 pub use arrivals::{Arrival, Arrivals, HeardPorts};
 pub use links::{Links, MAX_LINKS, MAX_SLAVES};
-pub use port::{Port, PortFault};
+pub use port::{Port, PortFault, count_failure};
 pub use ring::{Ring, RingFault};
 pub use travel::Travel;
 pub use weather::{Came, Weather};

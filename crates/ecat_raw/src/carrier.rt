@@ -9,7 +9,7 @@ ghost use Rattle.ecat_raw.specs.Taken.{IsGiven, taken};
 
 use crate::ethernet::{ADDRESS_A, ADDRESS_B, answer_in, packet_of};
 use crate::sockets::{Descriptors, PACKET, PacketSocket, RawFault, open_both};
-use ec_ring::{Port, PortFault};
+use ec_ring::{Port, PortFault, count_failure};
 use ec_wire::{MAX_FRAME, PACKET_ROOM};
 use ecat_remote::{Carrier, copy_front};
 use std::io::{self, ErrorKind};
@@ -57,19 +57,6 @@ impl RawCarrier {
             Port::B => self.b.as_ref(),
         }
     }
-
-    /// Counts a failure; at the greatest count there is none.
-    fn fail(&mut self) -> Result<(), PortFault>
-        ensures counted { IsErr result → self.new.failures ≡ self.old.failures + 1 }
-        ensures never_lower { self.old.failures ≤ self.new.failures }
-        ensures passed_over { IsOk result → self.old.failures ≡ 2 ^ 64 - 1 }
-    {
-        if self.failures == u64::MAX {
-            return Ok(());
-        }
-        self.failures += 1;
-        Err(PortFault)
-    }
 }
 
 impl Carrier for RawCarrier {
@@ -99,12 +86,12 @@ impl Carrier for RawCarrier {
             return Ok(());
         };
         if MAX_FRAME < bytes.len() {
-            return self.fail();
+            return count_failure(&mut self.failures);
         }
         match socket.send(packet_of(address_of(from), bytes).as_slice()) {
             Ok(_) => Ok(()),
             Err(fault) if is_silence(&fault) => Ok(()),
-            Err(_) => self.fail(),
+            Err(_) => count_failure(&mut self.failures),
         }
     }
 
@@ -122,7 +109,7 @@ impl Carrier for RawCarrier {
             Ok(count) => Ok(Some(take_answer(&packet[..count], into))),
             Err(fault) if is_silence(&fault) => Ok(None),
             Err(_) => {
-                self.fail()?;
+                count_failure(&mut self.failures)?;
                 Ok(None)
             }
         }

@@ -4,8 +4,7 @@ use Rattle.std.specs.Prelude.{◌≡◌, ◌≤◌, ℕ, Bool, true, false, ◌&
 use Rattle.std.specs.Option.{option_map, is_some}
 use Rattle.ec_wire.specs.Datagram.{DatagramRecord}
 use Rattle.ec_wire.specs.Spelling.{IsFrameValue}
-use Rattle.ec_ring.specs.Arrivals.{copies_of}
-use Rattle.ec_ring.specs.declared.arrivals.Arrival.{Arrival}
+use Rattle.ec_ring.specs.Arrivals.{arrived_at, copies_of}
 use Rattle.ec_ring.specs.declared.arrivals.Arrivals.{Arrivals}
 use Rattle.ec_ring.specs.declared.port.Port.{Port}
 use Rattle.ec_ring.specs.declared.port.Port.TheVariants.{A, B}
@@ -76,10 +75,6 @@ abbrev pub RemoteTrips : {C : Type 0} → Speaks C → Gives C → Heard C → R
 RemoteTrips speaks gives heard before sent (Ok copies) later =
     RemoteTrip speaks gives heard before sent copies later
 RemoteTrips speaks gives heard before sent (Err failed) later = FailedTrip before sent later
-
--- a copy, as one that arrived at a port
-abbrev pub arrived_at : Port → List DatagramRecord → Arrival
-arrived_at at frame = record { frame = frame; at = at }
 
 -- the copies, as those that arrived at the port where each was taken
 abbrev pub arrivals_of : Came → Arrivals

@@ -9,7 +9,7 @@ ghost use Rattle.ec_seal.specs.Seals.{IsGiven, IsTable};
 ghost use Rattle.ec_seal.specs.declared.seals.TheConstants.{TRIPS};
 ghost use Rattle.ecat_remote.specs.Taken.{AreBoth, AreSealed, IsTaken, opened_came, opened_copy};
 ghost use Rattle.ecat_remote.specs.Taken.{sent_from};
-ghost use Rattle.ecat_remote.specs.Trips.{RemoteState, RemoteTrips, HeardTrips, arrivals_of, arrived_at};
+ghost use Rattle.ecat_remote.specs.Trips.{RemoteState, RemoteTrips, HeardTrips, arrivals_of};
 ghost use Rattle.ecat_remote.specs.Trips.{all_came, handed_back};
 
 use crate::carrier::Carrier;
@@ -325,17 +325,7 @@ fn arrivals_of(came: Came) -> Arrivals
     ensures { result ≡ arrivals_of came }
 {
     Arrivals {
-        a: arrival(came.a, Port::A),
-        b: arrival(came.b, Port::B),
-    }
-}
-
-/// A copy, if one was received, as one that arrived at this port.
-fn arrival(copy: Option<FrameBuf>, at: Port) -> Option<Arrival>
-    ensures { result ≡ option_map (arrived_at at) copy }
-{
-    match copy {
-        Some(frame) => Some(Arrival { frame, at }),
-        None => None,
+        a: Arrival::at_port(came.a, Port::A),
+        b: Arrival::at_port(came.b, Port::B),
     }
 }

@@ -8,7 +8,7 @@ ghost use Rattle.ecat_remote.specs.Trips.{speaks_at};
 
 use crate::address::RemoteEnds;
 use crate::carrier::Carrier;
-use ec_ring::{Port, PortFault};
+use ec_ring::{Port, PortFault, count_failure};
 use ec_wire::PACKET_ROOM;
 use std::io::{self, ErrorKind};
 use std::net::{Ipv4Addr, Ipv6Addr, Net, UdpSocket};
@@ -108,19 +108,6 @@ impl UdpCarrier {
             (Port::B, None) => Err(io::Error::from(ErrorKind::WouldBlock)),
         }
     }
-
-    /// Counts a failure; at the greatest count there is none.
-    fn fail(&mut self) -> Result<(), PortFault>
-        ensures counted { IsErr result → self.new.failures ≡ self.old.failures + 1 }
-        ensures never_lower { self.old.failures ≤ self.new.failures }
-        ensures passed_over { IsOk result → self.old.failures ≡ 2 ^ 64 - 1 }
-    {
-        if self.failures == u64::MAX {
-            return Ok(());
-        }
-        self.failures += 1;
-        Err(PortFault)
-    }
 }
 
 impl Carrier for UdpCarrier {
@@ -152,7 +139,7 @@ impl Carrier for UdpCarrier {
         match socket.send(bytes) {
             Ok(_) => Ok(()),
             Err(fault) if is_silence(&fault) => Ok(()),
-            Err(_) => self.fail(),
+            Err(_) => count_failure(&mut self.failures),
         }
     }
 
@@ -166,7 +153,7 @@ impl Carrier for UdpCarrier {
             Ok(count) => Ok(Some(count)),
             Err(fault) if is_silence(&fault) => Ok(None),
             Err(_) => {
-                self.fail()?;
+                count_failure(&mut self.failures)?;
                 Ok(None)
             }
         }

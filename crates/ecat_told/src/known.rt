@@ -1,7 +1,7 @@
 //! What is told of a line of slaves, trip after trip.
 
 ghost use Rattle.std.specs.Prelude.{◌≡◌, ◌<◌, ◌≤◌, ◌+◌, ◌-◌, ◌++◌, ◌∷◌, [], IfOk, IfErr, OnOk, length, map};
-ghost use Rattle.std.specs.Prelude.{count_by, false, true, vec_len};
+ghost use Rattle.std.specs.Prelude.{count_by, false, true, vec_len, ℕ, List};
 ghost use Rattle.ec_wire.specs.Datagram.{ado_of, nth};
 ghost use Rattle.ecat_trips.specs.Copies.{grown, moved};
 ghost use Rattle.ecat_told.specs.Slave.{is_at, told_run};
@@ -9,6 +9,7 @@ ghost use Rattle.ecat_told.specs.Known.{at_place, at_station, by_whom, came_whol
 ghost use Rattle.ecat_told.specs.Known.{is_one_state, moves_logical, starts_up, tells_states, told_by};
 ghost use Rattle.ecat_told.specs.Known.{with_states, writes_station};
 ghost use Rattle.ecat_trips.specs.Alike.{moves_adp};
+ghost use Rattle.ecat_told.specs.declared.slave.Slave.{Slave};
 
 use crate::byte::How;
 use crate::registers::{meets, touches};
@@ -216,20 +217,15 @@ fn tells_states(count: usize, sent: &FrameBuf, came: &FrameBuf, k: usize) -> boo
 /// AL status.
 const AL_STATUS: u16 = 0x0130;
 
-/// Tells of the slaves the state that datagram `k` of a frame that came back tells of all of them.
-fn tell_states(slaves: &mut [Slave], sent: &FrameBuf, came: &FrameBuf, k: usize)
-    requires sent { k < length sent.now }
-    requires came { k < length came.now }
-    ensures { let s = nth sent.now k in let c = nth came.now k
-        in slaves.new ≡ with_states s.command s c slaves.old }
+/// Does what a command to an address did with so many bytes meet bytes that are kept?
+fn meets_kept(how: Option<How>, address: u32, count: usize) -> bool
+    requires { count < 65536 }
+    ensures untold { result ≡ false → (command : Command) (values : List ℕ) (slaves : List Slave)
+        → length values ≡ count → told_by how command address values slaves ≡ slaves }
 {
-    match sent.command(k) {
-        Command::Brd => {
-            if tells_states(slaves.len(), sent, came, k) {
-                tell_all(slaves, How::Read, AL_STATUS, &[first_of(came.data(k))]);
-            }
-        }
-        _ => {}
+    match how {
+        None => false,
+        Some(_) => touches(ado_of(address), count as u16),
     }
 }
 
@@ -349,18 +345,48 @@ impl Known {
         }) }
     {
         self.count(starts, all, sent, came, k)?;
-        let command = sent.command(k);
-        let how = did(command, self.slaves.len(), moved(sent, came, k), all);
-        self.stale = true;
-        tell(
-            self.slaves.as_mut_slice(),
-            how,
-            command,
-            sent.address(k),
-            came.data(k),
-        );
-        tell_states(self.slaves.as_mut_slice(), sent, came, k);
+        self.tell_kept(all, sent, came, k);
+        self.tell_states(sent, came, k);
         Ok(())
+    }
+
+    /// Takes what datagram `k` of a frame that came back did with bytes that are kept.
+    fn tell_kept(&mut self, all: bool, sent: &FrameBuf, came: &FrameBuf, k: usize)
+        requires sent { k < length sent.now }
+        requires came { k < length came.now }
+        ensures { let s = nth sent.now k in let c = nth came.now k in self.new ≡ record self.old {
+          slaves = told_by (did s.command (length self.old.slaves) (moved s c) all) s.command s.address c.payload
+              self.old.slaves;
+        } }
+    {
+        let command = sent.command(k);
+        let address = sent.address(k);
+        let values = came.data(k);
+        let how = did(command, self.slaves.len(), moved(sent, came, k), all);
+        if meets_kept(how, address, values.len()) {
+            self.stale = true;
+            tell(self.slaves.as_mut_slice(), how, command, address, values);
+        }
+    }
+
+    /// Takes the state that datagram `k` of a frame that came back tells of all slaves, if it tells one.
+    fn tell_states(&mut self, sent: &FrameBuf, came: &FrameBuf, k: usize)
+        requires sent { k < length sent.now }
+        requires came { k < length came.now }
+        ensures { let s = nth sent.now k in let c = nth came.now k in self.new ≡ record self.old {
+          slaves = with_states s.command s c self.old.slaves;
+        } }
+    {
+        match sent.command(k) {
+            Command::Brd => {
+                if tells_states(self.slaves.len(), sent, came, k) {
+                    self.stale = true;
+                    let state = [first_of(came.data(k))];
+                    tell_all(self.slaves.as_mut_slice(), How::Read, AL_STATUS, &state);
+                }
+            }
+            _ => {}
+        }
     }
 
     /// The slaves are the line, as a logical datagram finds them.

@@ -156,23 +156,13 @@ impl<L: PacketLine> HeardPorts for UdpPorts<L> {
     fn trip_heard(&mut self, sent: &FrameBuf) -> Result<Arrivals, PortFault> {
         let came = self.trip(sent)?;
         Ok(Arrivals {
-            a: arrival(came.a, Port::A),
-            b: arrival(came.b, Port::B),
+            a: Arrival::at_port(came.a, Port::A),
+            b: Arrival::at_port(came.b, Port::B),
         })
     }
 
     fn failures(&self) -> u64 {
         self.line.failures()
-    }
-}
-
-/// A copy, if one was received, as one that arrived at this port.
-fn arrival(copy: Option<FrameBuf>, at: Port) -> Option<Arrival>
-    ensures { result ≡ option_map (λ (x : List DatagramRecord). record { frame = x; at = at }) copy }
-{
-    match copy {
-        Some(frame) => Some(Arrival { frame, at }),
-        None => None,
     }
 }
 

@@ -7,7 +7,7 @@ ghost use Rattle.ecat_udp.specs.Sockets.{asked_port, IsOnLoopback};
 ghost use Rattle.ecat_udp.specs.declared.line.Socket.TheVariants.{MasterA, MasterB, LineA, LineB};
 
 use crate::line::{PacketLine, Socket};
-use ec_master::PortFault;
+use ec_ring::{PortFault, count_failure};
 use ec_wire::PACKET_ROOM;
 use std::io;
 use std::io::ErrorKind;
@@ -116,19 +116,6 @@ impl UdpLine {
     pub fn socket(&self, name: Socket) -> &UdpSocket {
         &self.end(name).socket
     }
-
-    /// Counts a failure; at the greatest count there is none.
-    fn fail(&mut self) -> Result<(), PortFault>
-        ensures counted { IsErr result → self.new.failures ≡ self.old.failures + 1 }
-        ensures never_lower { self.old.failures ≤ self.new.failures }
-        ensures passed_over { IsOk result → self.old.failures ≡ 2 ^ 64 - 1 }
-    {
-        if self.failures == u64::MAX {
-            return Ok(());
-        }
-        self.failures += 1;
-        Err(PortFault)
-    }
 }
 
 impl PacketLine for UdpLine {
@@ -141,7 +128,7 @@ impl PacketLine for UdpLine {
         let address = self.end(to).address;
         match self.socket(from).send_to(bytes, address) {
             Ok(_) => Ok(()),
-            Err(_) => self.fail(),
+            Err(_) => count_failure(&mut self.failures),
         }
     }
 
@@ -154,7 +141,7 @@ impl PacketLine for UdpLine {
             Ok((count, _)) => Ok(Some(count)),
             Err(fault) => {
                 if fault.kind() != ErrorKind::WouldBlock {
-                    self.fail()?;
+                    count_failure(&mut self.failures)?;
                 }
                 Ok(None)
             }
