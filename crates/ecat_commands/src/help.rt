@@ -167,8 +167,8 @@ Example:
 
 /// Of `sdo`.
 pub(crate) const SDO: &str = "\
-Reads an object of a slave by mail, or writes VALUE to it. Prints value and the
-number, or written; abort and the slave's code; or fault and what is in the
+Reads an object of a slave by mailbox, or writes VALUE to it. Prints value and
+the number, or written; abort and the slave's code; or fault and what is in the
 way. The actions, items and weathers of the scene are passed over.
 With --surely it makes trips until it is done, whatever copies are lost, but 64
 at most: the first ones in the weathers of the scene, the others under its
