@@ -338,6 +338,7 @@ def what_no_end_of_input_ends_is_the_process_itself(stage):
         ("serve s --forever", "serve --control s --forever"),
         ("serve --log --packets=5 --port 7000 s", "serve --control --log --packets=5 --port 7000 s"),
         ("serve --packets 5 s --raw 10,11 --force", "serve --control --packets 5 s --raw 10,11 --force"),
+        ("serve s --forever --pcap c --bind 127.0.0.1", "serve --control s --forever --pcap c --bind 127.0.0.1"),
     ]:
         with stage.start(*line.split()) as running:
             process, words = running.end().split(" ", 1)
