@@ -139,7 +139,7 @@ travels_aside heard (suc n) before later (sent, came, between, trip, rest) = (
   travels_aside heard n between later rest,
 )
 
-within_aside : {P : Type 0} (heard : HeardTrips P) (most : ℕ) (before later : WatchedState P)
+pub within_aside : {P : Type 0} (heard : HeardTrips P) (most : ℕ) (before later : WatchedState P)
     → IsWithin (WatchedTrips heard) most before later
     → IsWithin (PortsTrip heard) most before.ports later.ports
 within_aside heard most before later within = record {
@@ -171,7 +171,7 @@ look_then_within heard more slaves before between later first found false look r
     (within_then (PortsTrip heard) 1 (more + 1) before between later
     (look_within heard before between slaves first look) (others rest))
 
-looks_within : {P : Type 0} (heard : HeardTrips P) (more slaves : ℕ) (before later : P)
+pub looks_within : {P : Type 0} (heard : HeardTrips P) (more slaves : ℕ) (before later : P)
     (found : Option Located) → AreLooks heard before slaves more found later
     → IsWithin (PortsTrip heard) (more + 1) before later
 unfolding AreLooks

@@ -20,10 +20,11 @@ use Rattle.ecat_master.specs.declared.teller.Unwritten.{Unwritten}
 pub ended_unstarted : {P : Type 0} (heard : HeardTrips P) (given : P) (before : WatchedState P)
     (line : List Wanted) (work : List ItemRecord) (expected : List ℕ) (plan : Plan) (status : ℕ)
     → before ≡ untold given
-    → ((fault : StartFault) × IsCaused heard before line fault × (status ≡ start_status fault))
+    → ((fault : StartFault) × IsCaused heard before line plan.identities.now fault
+    × (status ≡ start_status fault))
     → IsEnded heard given line work expected plan status
 ended_unstarted heard given before line work expected plan status same (fault, cause, is) =
-    IsEnded.not_started fault (subst (λ s. IsCaused heard s line fault) same cause) is
+    IsEnded.not_started fault (subst (λ s. IsCaused heard s line plan.identities.now fault) same cause) is
 
 -- behind the last one
 pub ended_behind : {P : Type 0} (heard : HeardTrips P) (given : P) (line : List Wanted)

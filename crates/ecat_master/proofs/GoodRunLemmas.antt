@@ -18,7 +18,7 @@ use Rattle.ecat_master.specs.declared.teller.Unwritten.{Unwritten}
 pub made_by : {P : Type 0} (heard : HeardTrips P) (given : P) (before between later : WatchedState P)
     (line : List Wanted) (work : List ItemRecord) (expected : List ℕ) (plan : Plan) (cable : Located)
     (begun cycles : Cycles) (ran : Result (Option End) Unwritten) → before ≡ untold given
-    → begun ≡ begun_with work → IsStarted heard before line cable between
+    → begun ≡ begun_with work → IsStarted heard before line plan.identities.now cable between
     → IsCourse heard plan.outputs expected line begun between cycles later
     → IfOk ran (λ last. IsLast (WatchedTrips heard) plan.outputs expected begun last cycles)
     → IfOk ran (λ last. IsMade heard given line work expected plan last cycles)
@@ -30,7 +30,8 @@ made_by heard given before between later line work expected plan cable begun cyc
     record {
       cable = cable;
       between = between;
-      started = subst (λ (s : WatchedState _). IsStarted heard s line cable between) same started;
+      started = subst (λ (s : WatchedState _). IsStarted heard s line plan.identities.now cable between) same
+          started;
       later = later;
       course = subst (λ (s : Cycles). IsCourse heard plan.outputs expected line s between cycles later) is
           course;

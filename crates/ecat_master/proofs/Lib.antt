@@ -4,3 +4,7 @@ mod StartLemmas
 mod GoodRunLemmas
 mod EndedLemmas
 mod ScanLemmas
+mod IdentityLemmas
+mod StartTripsLemmas
+mod OverRingLemmas
+mod FoundLemmas

@@ -14,6 +14,7 @@ use Rattle.ec_run.specs.declared.step.Step.TheVariants.{StationBefore, StationBe
 use Rattle.ec_run.specs.declared.wanted.Wanted.{Wanted}
 use Rattle.ec_services.specs.declared.fault.MasterFault.{MasterFault}
 use Rattle.ecat_master.specs.Course.{HeardTrips}
+use Rattle.ecat_master.specs.Identities.{AreIdentitiesCompared, WantedIdentity}
 use Rattle.ecat_master.specs.Start.{AreCounted, BringsThrough, HasFailed, IsCaused, IsFound, IsInPreOp}
 use Rattle.ecat_master.specs.Start.{IsMiscounted, GivesStations, IsUnanswered, LookEnds, PartEnds}
 use Rattle.ecat_master.specs.declared.identity.OtherSlave.{OtherSlave}
@@ -176,70 +177,75 @@ unwritten_is_no_fault Any result fault is told =
     let not : Output ≡ Fault fault = fault_is result Output fault is told in absurd (cc (not))
 
 step_cause : {P : Type 0} (heard : HeardTrips P) (before : WatchedState P) (line : List Wanted)
-    (ends : Result (Unit {0}) StepFault → Type 0) (fault : StartFault)
-    → ((failed : StepFault) → ends (Err failed) → HasFailed heard before line failed)
-    → PartEnds ends (Err (Fault fault)) → IsCaused heard before line fault
-step_cause heard before line ends (Step failed) causes end = causes failed end
-step_cause heard before line ends (Ask fault) causes end = absurd end
-step_cause heard before line ends (Count count) causes end = absurd end
-step_cause heard before line ends (Cable located) causes end = absurd end
-step_cause heard before line ends (Identity other) causes end = absurd end
+    (identities : List WantedIdentity) (ends : Result (Unit {0}) StepFault → Type 0) (fault : StartFault)
+    → ((failed : StepFault) → ends (Err failed) → HasFailed heard before line identities failed)
+    → PartEnds ends (Err (Fault fault)) → IsCaused heard before line identities fault
+step_cause heard before line identities ends (Step failed) causes end = causes failed end
+step_cause heard before line identities ends (Ask fault) causes end = absurd end
+step_cause heard before line identities ends (Count count) causes end = absurd end
+step_cause heard before line identities ends (Cable located) causes end = absurd end
+step_cause heard before line identities ends (Identity other) causes end = absurd end
 
 -- a part ended early, and its fault is told
 pub part_cause : {P : Type 0} (heard : HeardTrips P) (before : WatchedState P) (line : List Wanted)
-    (ends : Result (Unit {0}) StepFault → Type 0) (end : StartEnd) (result : Result Located StartEnd)
-    → ((failed : StepFault) → ends (Err failed) → HasFailed heard before line failed)
+    (identities : List WantedIdentity) (ends : Result (Unit {0}) StepFault → Type 0) (end : StartEnd)
+    (result : Result Located StartEnd)
+    → ((failed : StepFault) → ends (Err failed) → HasFailed heard before line identities failed)
     → PartEnds ends (Err end) → IsErrAnd result (λ e. e ≡ end) → (fault : StartFault)
-    → result ≡ Err (Fault fault) → IsCaused heard before line fault
-part_cause heard before line ends end result causes part is fault told =
-    step_cause heard before line ends fault causes
+    → result ≡ Err (Fault fault) → IsCaused heard before line identities fault
+part_cause heard before line identities ends end result causes part is fault told =
+    step_cause heard before line identities ends fault causes
     (subst (λ e. PartEnds ends (Err e)) (fault_is result end fault is told) part)
 
 -- a slave was another one, and that is told
-pub slave_cause : {P : Type 0} (heard : HeardTrips P) (before later : WatchedState P) (line : List Wanted)
-    (cable : Located) (other : OtherSlave) (result : Result Located StartEnd)
-    → IsInPreOp heard before line cable later → IsErrAnd result (λ e. e ≡ Fault (Identity other))
-    → (fault : StartFault) → result ≡ Err (Fault fault) → IsCaused heard before line fault
-slave_cause heard before later line cable other result in_pre_op is fault told =
+pub slave_cause : {P : Type 0} (heard : HeardTrips P) (before in_pre_op later : WatchedState P)
+    (line : List Wanted) (identities : List WantedIdentity) (cable : Located)
+    (other : OtherSlave) (result : Result Located StartEnd)
+    → IsInPreOp heard before line cable in_pre_op
+    → AreIdentitiesCompared (WatchedTrips heard) in_pre_op 0 line identities (Err other) later
+    → IsErrAnd result (λ e. e ≡ Fault (Identity other))
+    → (fault : StartFault) → result ≡ Err (Fault fault) → IsCaused heard before line identities fault
+slave_cause heard before in_pre_op later line identities cable other result below compared is fault told =
     let same : Fault (Identity other) ≡ Fault fault =
     fault_is result (Fault (Identity other)) fault is told in
     let found : Identity other ≡ fault = cc (same) in
-    subst (λ f. IsCaused heard before line f) found (cable, later, in_pre_op)
+    subst (λ f. IsCaused heard before line identities f) found
+    (record { cable = cable; in_pre_op = in_pre_op; below = below; later = later; compared = compared })
 
 -- a count was not answered, and that is told
 pub count_cause : {P : Type 0} (heard : HeardTrips P) (before : WatchedState P) (line : List Wanted)
-    (end : StartEnd) (result : Result Located StartEnd)
-    → ((fault : StartFault) → end ≡ Fault fault → IsCaused heard before line fault)
+    (identities : List WantedIdentity) (end : StartEnd) (result : Result Located StartEnd)
+    → ((fault : StartFault) → end ≡ Fault fault → IsCaused heard before line identities fault)
     → IsErrAnd result (λ e. e ≡ end) → (fault : StartFault) → result ≡ Err (Fault fault)
-    → IsCaused heard before line fault
-count_cause heard before line end result causes is fault told =
+    → IsCaused heard before line identities fault
+count_cause heard before line identities end result causes is fault told =
     causes fault (fault_is result end fault is told)
 
 pub unanswered : {P : Type 0} (heard : HeardTrips P) (before later : WatchedState P) (line : List Wanted)
-    (fault : StartFault)
+    (identities : List WantedIdentity) (fault : StartFault)
     → ((asked : MasterFault) × AreCounted (WatchedTrips heard) before (Err asked) later × (fault ≡ Ask asked))
-    → IsCaused heard before line fault
-unanswered heard before later line fault (asked, counting, is) =
-    subst (λ f. IsCaused heard before line f) (sym is) (IsUnanswered.counting later counting)
+    → IsCaused heard before line identities fault
+unanswered heard before later line identities fault (asked, counting, is) =
+    subst (λ f. IsCaused heard before line identities f) (sym is) (IsUnanswered.counting later counting)
 
 -- another number was counted, or nobody, and that is told
 pub another_is_counted : {P : Type 0} (heard : HeardTrips P) (before later : WatchedState P)
-    (line : List Wanted) (count : ℕ) (fault : StartFault)
+    (line : List Wanted) (identities : List WantedIdentity) (count : ℕ) (fault : StartFault)
     → AreCounted (WatchedTrips heard) before (Ok count) later → count ≢ length line
     → ◌≡◌ {A = Result Located StartEnd} (Err (Fault (Count count))) (Err (Fault fault))
-    → IsCaused heard before line fault
-another_is_counted heard before later line count fault counting other told =
+    → IsCaused heard before line identities fault
+another_is_counted heard before later line identities count fault counting other told =
     let found : Count count ≡ fault = cc (told) in
-    subst (λ f. IsCaused heard before line f) found (IsMiscounted.another later counting other)
+    subst (λ f. IsCaused heard before line identities f) found (IsMiscounted.another later counting other)
 
 pub nobody_is_counted : {P : Type 0} (heard : HeardTrips P) (before later : WatchedState P)
-    (line : List Wanted) (count : ℕ) (fault : StartFault)
+    (line : List Wanted) (identities : List WantedIdentity) (count : ℕ) (fault : StartFault)
     → AreCounted (WatchedTrips heard) before (Ok count) later → count ≡ 0
     → ◌≡◌ {A = Result Located StartEnd} (Err (Fault (Count count))) (Err (Fault fault))
-    → IsCaused heard before line fault
-nobody_is_counted heard before later line count fault counting none told =
+    → IsCaused heard before line identities fault
+nobody_is_counted heard before later line identities count fault counting none told =
     let found : Count count ≡ fault = cc (told) in
-    subst (λ f. IsCaused heard before line f) found (IsMiscounted.nobody later counting none)
+    subst (λ f. IsCaused heard before line identities f) found (IsMiscounted.nobody later counting none)
 
 -- ---- the looks behind the counts
 
@@ -253,25 +259,27 @@ looks_find heard before counted later line (Ok cable) some counting looks =
 looks_find heard before counted later line (Err end) some counting looks = tt
 
 look_cause : {P : Type 0} (heard : HeardTrips P) (before counted later : WatchedState P) (line : List Wanted)
-    (fault : StartFault) → 0 < length line
+    (identities : List WantedIdentity) (fault : StartFault) → 0 < length line
     → AreCounted (WatchedTrips heard) before (Ok (length line)) counted
-    → LookEnds heard counted (length line) (Err (Fault fault)) later → IsCaused heard before line fault
-look_cause heard before counted later line (Ask asked) some counting looks =
+    → LookEnds heard counted (length line) (Err (Fault fault)) later
+    → IsCaused heard before line identities fault
+look_cause heard before counted later line identities (Ask asked) some counting looks =
     IsUnanswered.looking counted later counting looks.0 looks.1
-look_cause heard before counted later line (Cable located) some counting looks = (
+look_cause heard before counted later line identities (Cable located) some counting looks = (
   later,
   record { some = some; counted = counted; counting = counting; looks = looks.0 },
   looks.1,
 )
-look_cause heard before counted later line (Count count) some counting looks = absurd looks
-look_cause heard before counted later line (Step failed) some counting looks = absurd looks
-look_cause heard before counted later line (Identity other) some counting looks = absurd looks
+look_cause heard before counted later line identities (Count count) some counting looks = absurd looks
+look_cause heard before counted later line identities (Step failed) some counting looks = absurd looks
+look_cause heard before counted later line identities (Identity other) some counting looks = absurd looks
 
 pub looks_cause : {P : Type 0} (heard : HeardTrips P) (before counted later : WatchedState P)
-    (line : List Wanted) (result : Result Located StartEnd) → 0 < length line
+    (line : List Wanted) (identities : List WantedIdentity) (result : Result Located StartEnd)
+    → 0 < length line
     → AreCounted (WatchedTrips heard) before (Ok (length line)) counted
     → LookEnds heard counted (length line) result later → (fault : StartFault)
-    → result ≡ Err (Fault fault) → IsCaused heard before line fault
-looks_cause heard before counted later line result some counting looks fault told =
-    look_cause heard before counted later line fault some counting
+    → result ≡ Err (Fault fault) → IsCaused heard before line identities fault
+looks_cause heard before counted later line identities result some counting looks fault told =
+    look_cause heard before counted later line identities fault some counting
     (subst (λ r. LookEnds heard counted (length line) r later) told looks)

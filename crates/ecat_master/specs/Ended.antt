@@ -44,7 +44,7 @@ IsTold (Ok last) all_well status = (status ≡ FAILED) ⊎ (status ≡ status_to
 pub data IsEnded {P : Type 0} (heard : HeardTrips P) (before : P) (line : List Wanted)
     (work : List ItemRecord) (expected : List ℕ) (plan : Plan) (status : ℕ) : Type 0 where
   unwritten : status ≡ FAILED → IsEnded heard before line work expected plan status
-  not_started : (fault : StartFault) → IsCaused heard (untold before) line fault
+  not_started : (fault : StartFault) → IsCaused heard (untold before) line plan.identities.now fault
       → status ≡ start_status fault → IsEnded heard before line work expected plan status
   ran : (last : Option End) (cycles : Cycles) (left : Left)
       → IsMade heard before line work expected plan last cycles → IsLeft plan.leave left

@@ -23,7 +23,7 @@ pub record IsMade {P : Type 0} (heard : HeardTrips P) (before : P) (line : List 
     : Type 0 where
   pub cable : Located
   pub between : WatchedState P
-  pub started : IsStarted heard (untold before) line cable between
+  pub started : IsStarted heard (untold before) line plan.identities.now cable between
   pub later : WatchedState P
   pub course : IsCourse heard plan.outputs expected line (begun_with work) between cycles later
   pub is_last : IsLast (WatchedTrips heard) plan.outputs expected (begun_with work) last cycles

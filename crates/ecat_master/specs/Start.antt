@@ -1,15 +1,15 @@
 -- A line is started (IEC 61158-6-12, AL management): its slaves are counted and its cable is looked at, each
--- slave gets its station address, and all are brought through one phase after the other up to Op. Where one
--- of these parts fails, the fault that is told has its cause in it.
-use Rattle.std.specs.Prelude.{◌≡◌, ◌≢◌, ◌<◌, ℕ, ◌&&◌, nat_lt, if◌then◌else◌, Option, None, Some, List, []}
-use Rattle.std.specs.Prelude.{◌∷◌, Result, Ok, Err, drop, length, take}
+-- slave gets its station address, and all are brought through one phase after the other up to Op; in Pre-Op
+-- they are asked who they are. Where one of these parts fails, the fault that is told has its cause in it.
+use Rattle.std.specs.Prelude.{◌≡◌, ◌≢◌, ◌<◌, ℕ, ◌+◌, ◌*◌, ◌&&◌, nat_lt, if◌then◌else◌, Option, None, Some}
+use Rattle.std.specs.Prelude.{List, [], ◌∷◌, Result, Ok, Err, drop, length, take}
 use Rattle.ec_diag.specs.declared.located.Located.{Located}
 use Rattle.ec_diag.specs.declared.located.Located.TheVariants.{Whole, One}
 use Rattle.ec_master.specs.Ports.{Trips}
 use Rattle.ec_ring.specs.declared.links.TheConstants.{MAX_SLAVES}
 use Rattle.ec_run.specs.Counting.{IsCounted}
-use Rattle.ec_run.specs.Phase.{Brings, steps_of}
-use Rattle.ec_run.specs.Travels.{IsWithin}
+use Rattle.ec_run.specs.Phase.{Brings, steps_from, steps_of}
+use Rattle.ec_run.specs.Travels.{IsWithin, trips_of_all}
 use Rattle.ec_run.specs.Watched.{WatchedState, WatchedTrips}
 use Rattle.ec_run.specs.declared.phase.Phase.{Phase}
 use Rattle.ec_run.specs.declared.phase.Phase.TheVariants.{Init, PreOp, Startup, SafeOp, Op}
@@ -19,7 +19,9 @@ use Rattle.ec_run.specs.declared.wanted.Wanted.{Wanted}
 use Rattle.ec_services.specs.declared.fault.MasterFault.{MasterFault}
 use Rattle.ec_services.specs.declared.fault.MasterFault.TheVariants.{Port}
 use Rattle.ecat_master.specs.Course.{HeardTrips, IsLookedOver}
-use Rattle.ecat_master.specs.declared.startup.TheConstants.{MORE_COUNTS}
+use Rattle.ecat_master.specs.Identities.{AreIdentitiesCompared, WantedIdentity, identities_trips}
+use Rattle.ecat_master.specs.declared.identity.OtherSlave.{OtherSlave}
+use Rattle.ecat_master.specs.declared.startup.TheConstants.{MORE_CABLE_LOOKS, MORE_COUNTS}
 use Rattle.ecat_master.specs.declared.startup.StartEnd.{StartEnd}
 use Rattle.ecat_master.specs.declared.startup.StartEnd.TheVariants.{Fault, Output}
 use Rattle.ecat_master.specs.declared.startup.StartFault.{StartFault}
@@ -99,14 +101,26 @@ pub record IsInPreOp {P : Type 0} (heard : HeardTrips P) (before : WatchedState 
   pub addressed : IsAddressed heard before line cable given
   pub brought : BringsThrough (WatchedTrips heard) given line (Init ∷ PreOp ∷ []) (Ok tt) later
 
--- and from there to Op: what was done of a line that is started, between which states of the ports; of the
--- trips behind Pre-Op, by which slaves are asked who they are, nothing is said
-pub record IsStarted {P : Type 0} (heard : HeardTrips P) (before : WatchedState P) (line : List Wanted)
-    (cable : Located) (later : WatchedState P) : Type 0 where
+-- and none of them is another slave than its identity wants
+pub record IsRecognized {P : Type 0} (heard : HeardTrips P) (before : WatchedState P) (line : List Wanted)
+    (identities : List WantedIdentity) (cable : Located) (later : WatchedState P) : Type 0 where
   pub in_pre_op : WatchedState P
   pub below : IsInPreOp heard before line cable in_pre_op
-  pub asked : WatchedState P
-  pub brought : BringsThrough (WatchedTrips heard) asked line (Startup ∷ SafeOp ∷ Op ∷ []) (Ok tt) later
+  pub compared : AreIdentitiesCompared (WatchedTrips heard) in_pre_op 0 line identities (Ok tt) later
+
+-- and from there to Op: what was done of a line that is started, between which states of the ports
+pub record IsStarted {P : Type 0} (heard : HeardTrips P) (before : WatchedState P) (line : List Wanted)
+    (identities : List WantedIdentity) (cable : Located) (later : WatchedState P) : Type 0 where
+  pub recognized : WatchedState P
+  pub below : IsRecognized heard before line identities cable recognized
+  pub brought : BringsThrough (WatchedTrips heard) recognized line (Startup ∷ SafeOp ∷ Op ∷ []) (Ok tt) later
+
+-- the most trips of that, by how many slaves there are: counts, looks at the cable, and with each slave a
+-- step that gives it its station address and those of all phases; and the reads of identities
+abbrev pub start_trips : ℕ → List WantedIdentity → ℕ
+start_trips slaves identities =
+    MORE_COUNTS + 1 + (MORE_CABLE_LOOKS + 1) + slaves * trips_of_all (Station ∷ steps_from Init)
+    + identities_trips identities
 
 -- ---- causes of faults
 
@@ -133,28 +147,37 @@ pub data IsMiscounted {P : Type 0} (heard : HeardTrips P) (before : WatchedState
 -- a step failed, behind all the parts before it: one that gives a station address, one of a phase up to
 -- Pre-Op, or one of a phase above it
 pub data HasFailed {P : Type 0} (heard : HeardTrips P) (before : WatchedState P) (line : List Wanted)
-    (failed : StepFault) : Type 0 where
+    (identities : List WantedIdentity) (failed : StepFault) : Type 0 where
   station : (cable : Located) (looked later : WatchedState P) → IsFound heard before line cable looked
       → IsCable cable
       → GivesStations (WatchedTrips heard) looked line (gap_of cable (length line)) (Err failed) later
-      → HasFailed heard before line failed
+      → HasFailed heard before line identities failed
   to_pre_op : (cable : Located) (given later : WatchedState P) → IsAddressed heard before line cable given
       → BringsThrough (WatchedTrips heard) given line (Init ∷ PreOp ∷ []) (Err failed) later
-      → HasFailed heard before line failed
-  to_op : (cable : Located) (in_pre_op asked later : WatchedState P)
-      → IsInPreOp heard before line cable in_pre_op
-      → BringsThrough (WatchedTrips heard) asked line (Startup ∷ SafeOp ∷ Op ∷ []) (Err failed) later
-      → HasFailed heard before line failed
+      → HasFailed heard before line identities failed
+  to_op : (cable : Located) (recognized later : WatchedState P)
+      → IsRecognized heard before line identities cable recognized
+      → BringsThrough (WatchedTrips heard) recognized line (Startup ∷ SafeOp ∷ Op ∷ []) (Err failed) later
+      → HasFailed heard before line identities failed
 
--- what lies behind a fault of a start; of a slave that is another one only that all were in Pre-Op
-abbrev pub IsCaused : {P : Type 0} → HeardTrips P → WatchedState P → List Wanted → StartFault → Type 0
-IsCaused heard before line (Ask fault) = IsUnanswered heard before line fault
-IsCaused heard before line (Count count) = IsMiscounted heard before line count
-IsCaused {P} heard before line (Cable located) =
+-- all slaves were in Pre-Op, and by the comparison of their identities one is another
+pub record IsAnother {P : Type 0} (heard : HeardTrips P) (before : WatchedState P) (line : List Wanted)
+    (identities : List WantedIdentity) (other : OtherSlave) : Type 0 where
+  pub cable : Located
+  pub in_pre_op : WatchedState P
+  pub below : IsInPreOp heard before line cable in_pre_op
+  pub later : WatchedState P
+  pub compared : AreIdentitiesCompared (WatchedTrips heard) in_pre_op 0 line identities (Err other) later
+
+-- what lies behind a fault of a start
+abbrev pub IsCaused : {P : Type 0} → HeardTrips P → WatchedState P → List Wanted → List WantedIdentity
+    → StartFault → Type 0
+IsCaused heard before line identities (Ask fault) = IsUnanswered heard before line fault
+IsCaused heard before line identities (Count count) = IsMiscounted heard before line count
+IsCaused {P} heard before line identities (Cable located) =
     (later : WatchedState P) × IsFound heard before line located later × ¬ (IsCable located)
-IsCaused heard before line (Step failed) = HasFailed heard before line failed
-IsCaused {P} heard before line (Identity other) =
-    (cable : Located) × (later : WatchedState P) × IsInPreOp heard before line cable later
+IsCaused heard before line identities (Step failed) = HasFailed heard before line identities failed
+IsCaused heard before line identities (Identity other) = IsAnother heard before line identities other
 
 -- ---- parts
 

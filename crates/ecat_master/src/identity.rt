@@ -1,6 +1,9 @@
 //! Who the slaves of a line are to be (IEC 61158-6-12, object dictionary, identity object).
 
-ghost use Rattle.std.specs.Prelude.{◌≡◌, ◌≤◌, length};
+ghost use Rattle.std.specs.Prelude.{◌≡◌, ◌≤◌, ◌↔◌, IsTrue, Ok, length};
+ghost use Rattle.ec_services.specs.Mailbox.{IsPeer};
+ghost use Rattle.ecat_master.specs.Identities.{AreEntriesCompared, AreIdentitiesCompared};
+ghost use Rattle.ecat_master.specs.Identities.{IsEntryCompared, IsIdentityCompared};
 
 use crate::words::put_fault;
 use ec_app::Value;
@@ -8,7 +11,7 @@ use ec_app::roles::{ANSWER_MAILBOX, REQUEST_MAILBOX};
 use ec_master::Ports;
 use ec_ring::MAX_SLAVES;
 use ec_run::{Wanted, peer_between};
-use ec_services::{MasterFault, upload_surely};
+use ec_services::{MasterFault, Peer, upload_surely};
 use ecat_text::{End, Lines};
 use std::io::{self, Write};
 
@@ -19,7 +22,7 @@ pub const IDENTITY: u16 = 0x1018;
 pub const ENTRIES: usize = 4;
 
 /// The most trips by which an entry is read.
-const TRIPS: u32 = 64;
+const ENTRY_TRIPS: u32 = 64;
 
 /// What the entries 1 to 4 of a slave's identity are to be; `None` where each will do.
 pub type Identity = [Option<Value>; ENTRIES];
@@ -47,42 +50,95 @@ pub(crate) fn compare_identities<P: Ports>(
     identities: &[Identity],
 ) -> Result<(), OtherSlave>
     requires { length line.now ≤ MAX_SLAVES }
+    ensures { AreIdentitiesCompared P.trips ports.old 0 line.now identities.now result ports.new }
 {
-    for (place, (wanted, identity)) in line.iter().zip(identities).enumerate() {
-        compare_identity(ports, place as u16, wanted, identity)?;
+    for (place, wanted) in line.iter().enumerate() {
+        let identity = match identities.get(place) {
+            Some(identity) => identity,
+            None => return Ok(()),
+        };
+        match compare_identity(ports, place as u16, wanted, identity) {
+            Ok(()) => {}
+            Err(other) => return Err(other),
+        }
     }
     Ok(())
 }
 
-/// Reads the identity of one slave, as far as it is wanted.
+/// Reads the identity of one slave, as far as it is wanted; of one without mailboxes nothing.
 fn compare_identity<P: Ports>(
     ports: &mut P,
     place: u16,
     slave: &Wanted,
     identity: &Identity,
-) -> Result<(), OtherSlave> {
+) -> Result<(), OtherSlave>
+    ensures { IsIdentityCompared P.trips ports.old place slave.now identity.now result ports.new }
+{
     let requests = &slave.managers[REQUEST_MAILBOX];
     let answers = &slave.managers[ANSWER_MAILBOX];
-    let Some(mut peer) = peer_between(slave.station, requests, answers, 1) else {
-        return Ok(());
-    };
+    match peer_between(slave.station, requests, answers, 1) {
+        Some(peer) => compare_entries(ports, place, slave.station, peer, identity),
+        None => Ok(()),
+    }
+}
+
+/// Reads the entries of a slave's identity of which a value is wanted, in their order, until one differs.
+fn compare_entries<P: Ports>(
+    ports: &mut P,
+    place: u16,
+    station: u16,
+    mut peer: Peer,
+    identity: &Identity,
+) -> Result<(), OtherSlave>
+    requires { IsPeer peer }
+    ensures { AreEntriesCompared P.trips ports.old place station peer 1 identity.now result ports.new }
+{
     for number in 0..ENTRIES {
-        let Some(wanted) = identity[number] else {
-            continue;
-        };
         let entry = number as u8 + 1;
-        let found = upload_surely(ports, &mut peer, IDENTITY, entry, TRIPS);
-        if found != Ok(wanted) {
-            return Err(OtherSlave {
-                place,
-                station: slave.station,
-                entry,
-                wanted,
-                found,
-            });
+        match compare_entry(ports, place, station, &mut peer, entry, identity[number]) {
+            Ok(()) => {}
+            Err(other) => return Err(other),
         }
     }
     Ok(())
+}
+
+/// Is what was found of an entry what is wanted?
+fn is_wanted(found: Result<Value, MasterFault>, wanted: Value) -> bool
+    ensures { IsTrue result ↔ (found ≡ Ok wanted) }
+{
+    found == Ok(wanted)
+}
+
+/// Reads an entry of a slave's identity, unless any value will do.
+fn compare_entry<P: Ports>(
+    ports: &mut P,
+    place: u16,
+    station: u16,
+    peer: &mut Peer,
+    entry: u8,
+    wanted: Option<Value>,
+) -> Result<(), OtherSlave>
+    requires { IsPeer peer.old }
+    ensures compared { IsEntryCompared P.trips ports.old place station peer.old entry wanted result peer.new
+        ports.new }
+    ensures still_peer { IsPeer peer.new }
+{
+    let wanted = match wanted {
+        Some(wanted) => wanted,
+        None => return Ok(()),
+    };
+    let found = upload_surely(ports, peer, IDENTITY, entry, ENTRY_TRIPS);
+    if is_wanted(found, wanted) {
+        return Ok(());
+    }
+    Err(OtherSlave {
+        place,
+        station,
+        entry,
+        wanted,
+        found,
+    })
 }
 
 /// Puts that a slave is another one than it is to be.

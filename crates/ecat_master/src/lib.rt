@@ -58,9 +58,12 @@
 //!
 //! - [`start`] (`started`): where it answers Ok, the slaves were counted as many as they are to be, the looks
 //!   found the cable whole or broken at one link, each slave was given its station address, and all of them
-//!   were brought through the phases in their order, each by its steps. (`failed`): a fault that it answers
-//!   has its cause: a count that was not answered or told another number, a cable that the looks found broken
-//!   otherwise, a step that failed so. Of a slave that is another one only that all were in Pre-Op.
+//!   were brought through the phases in their order, each by its steps. In Pre-Op each slave that has both
+//!   mailboxes was asked for the entries of its identity that are wanted, one after the other, and what each
+//!   told is what was wanted. (`failed`): a fault that it answers has its cause: a count that was not
+//!   answered or told another number, a cable that the looks found broken otherwise, a step that failed so;
+//!   and behind Pre-Op the first entry of an identity that is another one or could not be read, as it is
+//!   told. (`trips`): so many trips are the most of a start that answers Ok, whatever a clock says.
 //! - [`run_cycles`] (`cycles`): the cycles of a run are `Cycles::cycle`, one after the other, and their ends
 //!   add up; (`last`): it answers how the last one ended. (`course`): cycles, looks at the cable, looks at
 //!   slaves and recoveries follow each other end to end, from the ports before to the ports behind; what
@@ -70,11 +73,17 @@
 //!   it was good with all slaves in Op, if there was one. (`ended`): whichever it is, it is that of the fault
 //!   of a start, or that of the last cycle and of the way in which the slaves were left; or it is 3, which it
 //!   is too where output or log could not be written.
+//! - [`started_line`], a law: over a ring with at most one link down, of which nothing is lost, each slave of
+//!   a line that was started is in Op without an error, alone with its station address, and with the FMMUs and
+//!   the sync managers of process data that were wanted. [`found_line`], another one: what a start finds is so
+//!   of such a ring: the ring has as many slaves as the line and is broken where that is answered; and each
+//!   slave of the ring is in Op in the end.
 //!
 //! What is printed and when is tried by tests.
 
 mod identity;
 mod leaving;
+mod over_ring;
 mod pace;
 mod ports;
 mod run;
@@ -87,6 +96,7 @@ mod telling;
 mod words;
 
 pub use identity::{ENTRIES, IDENTITY, Identity, OtherSlave};
+pub use over_ring::{found_line, started_line};
 pub use pace::Pace;
 pub use run::{FAILED, GOOD, Plan, REFUSED, master, run_cycles};
 pub use scanning::{Finder, ScanEnd, Unfound, scan};

@@ -247,10 +247,11 @@ fn begin<P: HeardPorts, W: Write>(
     identities: &[Identity],
     lines: &mut Lines<'_, W>,
 ) -> Result<Located, StartFailure>
-    ensures started { IfOk result (λ cable. IsStarted P.trips ports.old line.now cable ports.new) }
+    ensures started { IfOk result (λ cable. IsStarted P.trips ports.old line.now identities.now cable
+        ports.new) }
     ensures told { (status : ℕ) → result ≡ Err (Told status) → status ≢ GOOD }
     ensures by_fault { (status : ℕ) → result ≡ Err (Told status) → (fault : StartFault)
-        × IsCaused P.trips ports.old line.now fault × (status ≡ start_status fault) }
+        × IsCaused P.trips ports.old line.now identities.now fault × (status ≡ start_status fault) }
 {
     match start(ports, line, identities, lines) {
         Ok(cable) => Ok(cable),

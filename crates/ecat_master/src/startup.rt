@@ -1,13 +1,15 @@
 //! The start-up of a line.
 
-ghost use Rattle.std.specs.Prelude.{◌≡◌, ◌≤◌, ◌<◌, ◌∷◌, [], IfOk, IfSome, Err, Ok, Some, length};
+ghost use Rattle.std.specs.Prelude.{◌≡◌, ◌≤◌, ◌<◌, List, ◌∷◌, [], IfOk, IfSome, Err, Ok, Some, length};
 ghost use Rattle.ec_run.specs.Phase.{Brings, steps_of};
-ghost use Rattle.ec_run.specs.Watched.{WatchedTrips};
+ghost use Rattle.ec_run.specs.Travels.{IsWithin};
+ghost use Rattle.ec_run.specs.Watched.{PortsTrip, WatchedTrips};
 ghost use Rattle.ec_run.specs.declared.phase.Phase.TheVariants.{Init, PreOp, Startup, SafeOp, Op};
 ghost use Rattle.ec_services.specs.declared.fault.MasterFault.{MasterFault};
 ghost use Rattle.ecat_master.specs.Course.{IsLook, IsLookedOver, is_known, is_last_look};
+ghost use Rattle.ecat_master.specs.Identities.{WantedIdentity};
 ghost use Rattle.ecat_master.specs.Start.{AreCounted, BringsThrough, GivesStations, IsCable, IsCaused};
-ghost use Rattle.ecat_master.specs.Start.{IsFound, IsStarted, LookEnds, PartEnds, gap_of};
+ghost use Rattle.ecat_master.specs.Start.{IsFound, IsStarted, LookEnds, PartEnds, gap_of, start_trips};
 ghost use Rattle.ecat_master.specs.declared.startup.StartEnd.TheVariants.{Fault, Output};
 ghost use Rattle.ecat_master.specs.declared.startup.StartFault.{StartFault};
 ghost use Rattle.ecat_master.specs.declared.startup.StartFault.TheVariants.{Ask};
@@ -89,9 +91,12 @@ pub fn start<P: HeardPorts, W: Write>(
     identities: &[Identity],
     lines: &mut Lines<'_, W>,
 ) -> Result<Located, StartEnd>
-    ensures started { IfOk result (λ cable. IsStarted P.trips ports.old line.now cable ports.new) }
+    ensures started { IfOk result (λ cable. IsStarted P.trips ports.old line.now identities.now cable
+        ports.new) }
     ensures failed { (fault : StartFault) → result ≡ Err (Fault fault)
-        → IsCaused P.trips ports.old line.now fault }
+        → IsCaused P.trips ports.old line.now identities.now fault }
+    ensures trips { IfOk result (λ cable. IsWithin (PortsTrip P.trips)
+        (start_trips (length line.now) identities.now) ports.old.ports ports.new.ports) }
 {
     let located = find(ports, line, lines)?;
     give_stations(ports, line, located, lines)?;
@@ -110,8 +115,8 @@ fn find<P: HeardPorts, W: Write>(
     ensures found { IfOk result (λ cable. IsFound P.trips ports.old line.now cable ports.new) }
     ensures cable { IfOk result IsCable }
     ensures limit { IfOk result (λ cable. length line.now ≤ MAX_SLAVES) }
-    ensures failed { (fault : StartFault) → result ≡ Err (Fault fault)
-        → IsCaused P.trips ports.old line.now fault }
+    ensures failed { (identities : List WantedIdentity) (fault : StartFault) → result ≡ Err (Fault fault)
+        → IsCaused P.trips ports.old line.now identities fault }
 {
     if line.len() > MAX_SLAVES {
         return Err(StartEnd::Fault(StartFault::Count(0)));
