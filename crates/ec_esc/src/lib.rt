@@ -25,8 +25,8 @@
 //! - `Controller::new` makes one with a station address, in Init; `set_fmmu`, `set_syncman` and `load` set
 //!   records and process memory from the application's side.
 //! - `gain` is what the working counter of a datagram would gain, by the same table.
-//! - `byte`, `bytes`, `shown`, `shown_bytes`, `station`, `syncman` and `fmmu` read the memory, the shown bytes
-//!   and the records.
+//! - `byte`, `bytes`, `shown`, `shown_bytes`, `station`, `syncman` and `fmmu` read the memory, the shown
+//!   bytes and the records.
 //! - `take_control`, `set_al` and `al` are the application's AL control and AL status; `outputs`,
 //!   `put_inputs`, `take_mail` and `put_mail` are its process data and its mail.
 //!

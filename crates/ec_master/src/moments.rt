@@ -45,8 +45,8 @@ ghost use Rattle.ec_master.specs.declared.verdict.Verdict.TheVariants.{Good};
 /// - `over_ports`: what is said of ports by what came back (`run_cycle`) is said so of each such ring that
 ///   would have given it; on another verdict the items are as they were.
 ///
-/// Where no application acts during the cycle, `good_image` tells more; such a cycle is one of these, at which
-/// nothing moves (`still`).
+/// Where no application acts during the cycle, `good_image` tells more; such a cycle is one of these, at
+/// which nothing moves (`still`).
 pub fn good_at_one_moment()
     ensures verdict { (ws : List Weather) (r : RingState) (items : List ItemRecord)
         (runs : List (List Visit)) → length r.slaves ≤ MAX_SLAVES → IsAccepted r.slaves items

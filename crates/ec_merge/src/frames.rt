@@ -53,7 +53,8 @@ fn belongs(sent: &FrameBuf, copy: &FrameBuf, k: usize) -> bool
 }
 
 /// The first datagram at which a copy differs from the sent frame, if it is a stranger: one that cannot have
-/// come of it. Where one frame ends before the other, that is the first datagram that the longer one has more.
+/// come of it. Where one frame ends before the other, that is the first datagram that the longer one has
+/// more.
 pub fn stranger_in(sent: &FrameBuf, copy: &FrameBuf) -> Option<usize>
     ensures { MatchOption result (IsOwn sent.now copy.now) (IsStranger sent.now copy.now) }
 {

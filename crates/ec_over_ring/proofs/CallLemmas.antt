@@ -181,7 +181,7 @@ look_call asked posted peer h later answer fits call asks =
 -- ---- the mailbox of answers is read
 
 -- where an answer stood, both are empty behind it
-emptied_own : (peer : Peer) (asked : Sdo) (times : List SlaveState) (s : SlaveState) → IsOfPeer peer s
+pub emptied_own : (peer : Peer) (asked : Sdo) (times : List SlaveState) (s : SlaveState) → IsOfPeer peer s
     → answer_stands s ≡ true → HoldsOwn peer asked times s → HoldsOwn peer asked times (emptied s)
 emptied_own peer asked times s is full (inl empty) = absurd (true≢false (sym full ∙ empty.answer))
 emptied_own peer asked times s is full (inr (inl waits)) = absurd (true≢false (sym full ∙ waits.answer))

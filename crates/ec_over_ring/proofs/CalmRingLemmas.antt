@@ -1,13 +1,15 @@
 -- A call over a ring of which at most one link is down, and nothing else is lost, is answered within ten
 -- trips.
-use Rattle.std.proofs.Common.{◌≡◌, ℕ, zero, suc, ◌≤◌, List, [], ◌∷◌, ◌++◌, map}
+use Rattle.std.proofs.Common.{◌≡◌, ℕ, zero, suc, ◌≤◌, true, false, List, [], ◌∷◌, ◌++◌, map}
 use Rattle.std.proofs.Common.{length, Option, None, Some, Result, Ok, Err, refl, sym, ap, ◌∙◌, subst}
 use Rattle.std.specs.List.{AllByRecursion}
 use Rattle.ec_wire.specs.Datagram.{DatagramRecord, adp}
 use Rattle.ec_app.specs.Lending.{with_controller}
+use Rattle.ec_app.specs.Objects.{is_at}
 use Rattle.ec_app.specs.Slave.{step}
 use Rattle.ec_app.specs.State.{SlaveState}
 use Rattle.ec_app.specs.declared.mail.Mail.{Mail}
+use Rattle.ec_app.specs.declared.objects.Entry.{Entry}
 use Rattle.ec_app.specs.declared.sdo.Sdo.{Sdo}
 use Rattle.ec_app.specs.declared.sdo.Sdo.TheVariants.{Upload, Download}
 use Rattle.ec_app.specs.declared.value.Value.{Value}
@@ -24,20 +26,24 @@ use Rattle.ec_services.specs.Course.{IsStep, Runs}
 use Rattle.ec_services.specs.Mailbox.{IsPeer}
 use Rattle.ec_services.specs.Progress.{Known}
 use Rattle.ec_services.specs.Surely.{IsSure, asking, begun, next_known, next_sent}
-use Rattle.ec_services.specs.Transfer.{downloaded_by, uploaded_by}
+use Rattle.ec_services.specs.Transfer.{downloaded_by, understood, uploaded_by}
 use Rattle.ec_services.specs.declared.fault.MasterFault.{MasterFault}
 use Rattle.ec_services.specs.declared.mailbox.Peer.{Peer}
 use Rattle.ec_over_ring.specs.Question.{IsByStation}
 use Rattle.ec_over_ring.specs.Recovery.{CalmTrips, ComesSo, Fared, HasSlave, History, IsCall, IsStored}
 use Rattle.ec_over_ring.specs.Recovery.{OneIs, RingHistory, TakesMail, WeatherSteps, begun_at, fared}
-use Rattle.ec_over_ring.specs.Recovery.{HoldsStored, history_at, slave_at, steps_of, times_of}
+use Rattle.ec_over_ring.specs.Recovery.{HoldsStored, SlaveTrips, history_at, request_stands, slave_at}
+use Rattle.ec_over_ring.specs.Recovery.{steps_of, times_of, value_at}
 use Rattle.ec_over_ring.specs.Transfers.{IsRequest, upload_of}
 use Rattle.ec_over_ring.proofs.AnsweredLemmas.{calm_runs, download_answered, upload_answered}
 use Rattle.ec_over_ring.proofs.CallLemmas.{keeps, one_found}
 use Rattle.ec_over_ring.proofs.CalmLemmas.{calm_asks}
+use Rattle.ec_over_ring.proofs.KeptLemmas.{download_spares, none_left, value_stays}
+use Rattle.ec_over_ring.proofs.RecoveryLemmas.{begins}
 use Rattle.ec_over_ring.proofs.RingCallLemmas.{AreAround, IsAsked, IsCalling, IsOver, around, asked_by}
 use Rattle.ec_over_ring.proofs.RingCallLemmas.{begun_calling, begun_same, behind_trip, next_over, station_by}
 use Rattle.ec_over_ring.proofs.ShapeLemmas.{runs_shape, same_download, shape_of}
+use Rattle.ec_over_ring.proofs.SparedLemmas.{HasSuch, such_between}
 use Rattle.ec_over_ring.proofs.StationLemmas.{map_parts, others_for, size_parts}
 use Rattle.ec_over_ring.proofs.TransferLemmas.{have_controllers}
 use Rattle.ec_over_ring.proofs.ValueLemmas.{one_stored}
@@ -186,12 +192,25 @@ step_at asked place other p learned past r later decided fits on step = record {
   learns = step.learns;
 }
 
--- the call of the slave, with a past
+-- the call of the slave, with a past, and what it is at its end
 record RunsCalmly (n : ℕ) (asked : Sdo) (place : ℕ) (other : SlaveState) (p last : Known)
     (past : List RingState) (r later : RingState) (result : Result Mail MasterFault) : Type 0 where
   gone : List RingState
   runs : Runs CalmTrips (history_at place other (since past r)) (asking asked) p n result last
       (history_at place other (since gone later))
+  end : IsOnCall asked place other last gone later
+  station : last.peer.station ≡ p.peer.station
+
+at_end : (asked : Sdo) (place : ℕ) (other : SlaveState) (p last : Known) (past : List RingState)
+    (r later : RingState) → last ≡ p → later ≡ r → IsOnCall asked place other p past r
+    → IsOnCall asked place other last past later
+at_end asked place other p last past r later same_last same_ring on =
+    subst (λ (q : Known). IsOnCall asked place other q past later) (sym same_last)
+    (subst (λ (x : RingState). IsOnCall asked place other p past x) (sym same_ring) on)
+
+station_still : (p learned : Known) (answer : Answer) → learned ≡ next_known p answer
+    → learned.peer.station ≡ p.peer.station
+station_still p learned answer is = ap (λ (q : Known). q.peer.station) is ∙ station_by p answer
 
 runs_calmly : (n : ℕ) (asked : Sdo) (place : ℕ) (other : SlaveState) (p last : Known) (past : List RingState)
     (r later : RingState) (result : Result Mail MasterFault) → IsRequest asked
@@ -202,6 +221,8 @@ runs_calmly zero asked place other p last past r later result fits on
     (result_is, last_is, later_is) = record {
       gone = past;
       runs = (result_is, last_is, ap (λ (x : RingState). history_at place other (since past x)) later_is);
+      end = at_end asked place other p last past r later last_is later_is on;
+      station = ap (λ (q : Known). q.peer.station) last_is;
     }
 runs_calmly (suc n) asked place other p last past r later result fits on
     (Err fault, learned, between, step, left) = record {
@@ -213,6 +234,9 @@ runs_calmly (suc n) asked place other p last past r later result fits on
         step_at asked place other p learned past r between (Err fault) fits on step,
         (left.0, left.1, ap (λ (x : RingState). history_at place other (since (r ∷ past) x)) left.2),
       );
+      end = at_end asked place other learned last (r ∷ past) between later left.1 left.2
+          (goes_at asked place other p learned past r between step.answer fits on step.asks step.learns);
+      station = ap (λ (q : Known). q.peer.station) left.1 ∙ station_still p learned step.answer step.learns;
     }
 runs_calmly (suc n) asked place other p last past r later result fits on
     (Ok (Some mail), learned, between, step, left) = record {
@@ -224,6 +248,9 @@ runs_calmly (suc n) asked place other p last past r later result fits on
         step_at asked place other p learned past r between (Ok (Some mail)) fits on step,
         (left.0, left.1, ap (λ (x : RingState). history_at place other (since (r ∷ past) x)) left.2),
       );
+      end = at_end asked place other learned last (r ∷ past) between later left.1 left.2
+          (goes_at asked place other p learned past r between step.answer fits on step.asks step.learns);
+      station = ap (λ (q : Known). q.peer.station) left.1 ∙ station_still p learned step.answer step.learns;
     }
 runs_calmly (suc n) asked place other p last past r later result fits on
     (Ok None, learned, between, step, left) =
@@ -239,6 +266,8 @@ runs_calmly (suc n) asked place other p last past r later result fits on
         step_at asked place other p learned past r between (Ok None) fits on step,
         rest.runs,
       );
+      end = rest.end;
+      station = rest.station ∙ station_still p learned step.answer step.learns;
     }
 
 -- ---- the call
@@ -249,6 +278,8 @@ record IsCalmCall {A : Type 0} (peer peer_later : Peer) (asked : Sdo) (limit pla
   gone : List RingState
   sure : IsSure CalmTrips (begun_at s) peer asked limit comes_to result peer_later
       (history_at place s (since gone later))
+  end : IsOnCall asked place s sure.last gone later
+  station : sure.last.peer.station ≡ peer.station
 
 calm_call : {A : Type 0} (peer peer_later : Peer) (asked : Sdo) (limit : ℕ)
     (comes_to : Mail → Result A MasterFault) (r : RingState) (before behind : List SlaveState)
@@ -272,6 +303,8 @@ calm_call peer peer_later asked limit comes_to r before behind s result later pe
         peer_is = sure.peer_is;
         understands = sure.understands;
       };
+      end = runs.end;
+      station = runs.station;
     }
 
 pub ring_answers_upload : (peer peer_later : Peer) (i j limit : ℕ) (r : RingState)
@@ -323,3 +356,60 @@ ring_answers_download peer peer_later i j v limit r before behind s result later
     (begun_at s) h calm.sure.answer (refl, tt)
     (calm_runs limit (Download i j v) (begun peer) calm.sure.last (begun_at s) h calm.sure.answer
     calm.sure.runs))
+
+-- ---- the slave behind a download
+
+-- no request stands in it, it holds the value, and where none stood at first the other objects are as they
+-- were
+pub record IsBehind (i j : ℕ) (v : Value) (s x : SlaveState) : Type 0 where
+  pub none : request_stands x ≡ false
+  pub held : value_at i j x.application.objects ≡ Some v
+  pub others : request_stands s ≡ false → (k l : ℕ)
+      → ((f : Entry) → is_at k l f ≡ true → is_at i j f ≡ false)
+      → value_at k l x.application.objects ≡ value_at k l s.application.objects
+
+-- it was answered
+record HasMail (answer : Result Mail MasterFault) : Type 0 where
+  mail : Mail
+  is : answer ≡ Ok mail
+
+has_mail : (answer : Result Mail MasterFault) → understood downloaded_by answer ≡ Ok tt → HasMail answer
+has_mail (Ok mail) ok = record { mail = mail; is = refl }
+has_mail (Err fault) ok = absurd (cc)
+
+pub slave_behind : (peer peer_later : Peer) (i j : ℕ) (v : Value) (limit : ℕ) (r : RingState)
+    (before behind : List SlaveState) (s : SlaveState) (result : Result (Unit {0}) MasterFault)
+    (later : RingState)
+    → IsPeer peer → HasSlave peer r before s behind → AtMostOneDown r → TakesMail s
+    → IsRequest (Download i j v) → 10 ≤ limit → result ≡ Ok tt
+    → IsSure RingTrips r peer (Download i j v) limit downloaded_by result peer_later later
+    → HasSuch (IsBehind i j v s) peer.station later.slaves
+slave_behind peer peer_later i j v limit r before behind s result later peer_is has down takes fits some ok
+    sure =
+    let asked : Sdo = Download i j v in
+    let place : ℕ = length before in
+    let calm = calm_call peer peer_later asked limit downloaded_by r before behind s result later
+    peer_is has down fits sure in
+    let h : History = history_at place s (since calm.gone later) in
+    let runs : Runs SlaveTrips (begun_at s) (asking asked) (begun peer) limit calm.sure.answer calm.sure.last
+    h =
+    calm_runs limit asked (begun peer) calm.sure.last (begun_at s) h calm.sure.answer calm.sure.runs in
+    let call : IsCall asked (begun peer) (begun_at s) = begins asked peer s peer_is has.own in
+    let mail : HasMail calm.sure.answer = has_mail calm.sure.answer (sym calm.sure.understands ∙ ok) in
+    let held : HoldsStored i j v result s (slave_at place s later) =
+    ring_answers_download peer peer_later i j v limit r before behind s result later peer_is has down takes
+    fits some sure in
+    let over = calm.end.calling.over in
+    let is : IsBehind i j v s (slave_at place s later) = record {
+      none = none_left limit asked (begun peer) calm.sure.last (begun_at s) h calm.sure.answer mail.mail fits
+          call mail.is runs;
+      held = held.held ok;
+      others = λ none k l apart.
+          value_stays limit k l asked (begun peer) calm.sure.last (begun_at s) h calm.sure.answer fits
+          (download_spares k l i j v apart) call runs none;
+    } in
+    subst (λ (station : ℕ). HasSuch (IsBehind i j v s) station later.slaves) calm.station
+    (subst (λ (ss : List SlaveState). HasSuch (IsBehind i j v s) calm.sure.last.peer.station ss)
+    (sym over.slaves)
+    (such_between (IsBehind i j v s) calm.sure.last.peer.station over.before (slave_at place s later)
+    over.behind over.others_before calm.end.calling.call.slaves.0.station is over.others_behind))

@@ -41,6 +41,8 @@ pub use Rattle.ec_over_ring.proofs.LineBroughtLemmas.{all_entered, all_in_op}
 pub use Rattle.ec_over_ring.proofs.StartedLemmas.{all_started}
 pub use Rattle.ec_over_ring.proofs.ReadOffLemmas.{read_off_fits, read_off_wanted}
 pub use Rattle.ec_over_ring.proofs.SucceedLemmas.{all_succeed}
+pub use Rattle.ec_over_ring.proofs.MailedLemmas.{download_leaves, upload_leaves}
+pub use Rattle.ec_over_ring.proofs.TakingLemmas.{none_taken, off_free}
 pub use Rattle.ec_over_ring.proofs.LeftLemmas.{left_in_op}
 pub use Rattle.ec_over_ring.proofs.HeardLemmas.{heard_is_ring, watched_ring}
 pub use Rattle.ec_over_ring.proofs.RecoveryLemmas.{begins, decides}

@@ -46,6 +46,7 @@ pub mod CalmLemmas
 pub mod TakesLemmas
 pub mod TenTripsLemmas
 pub mod AnsweredLemmas
+pub mod KeptLemmas
 pub mod CalmRingLemmas
 pub mod AnyPortsLemmas
 pub mod SentLemmas
@@ -53,6 +54,7 @@ pub mod InOpLemmas
 pub mod TripKeepsLemmas
 pub mod HoldersLemmas
 pub mod BroughtLemmas
+pub mod QuietLemmas
 pub mod SparedLemmas
 pub mod RecordsLemmas
 pub mod SettingLemmas
@@ -67,6 +69,9 @@ pub mod SetsLemmas
 pub mod AcceptedLemmas
 pub mod RequestLemmas
 pub mod PhaseLemmas
+pub mod MailedLemmas
+pub mod StoredLemmas
+pub mod TakingLemmas
 pub mod SucceedLemmas
 pub mod ReadOffLemmas
 pub mod Laws

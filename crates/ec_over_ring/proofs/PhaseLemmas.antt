@@ -43,7 +43,7 @@ use Rattle.ec_over_ring.proofs.TripKeepsLemmas.{within_keeps}
 -- ---- what stays of a slave
 
 -- what is wanted still fits it
-fits_still : (wanted : Wanted) (s t : SlaveState) → needs t ≡ needs s → IsFitFor wanted s
+pub fits_still : (wanted : Wanted) (s t : SlaveState) → needs t ≡ needs s → IsFitFor wanted s
     → IsFitFor wanted t
 fits_still wanted s t same fits = record {
   records = fits.records;

@@ -63,7 +63,7 @@ same_manager x y i byte =
     ) refl
 
 -- a record that is not switched on meets nothing
-switched_off : (s : SyncMan) (from n : ℕ) → s.activate ≡ 0 → meets s from n ≡ false
+pub switched_off : (s : SyncMan) (from n : ℕ) → s.activate ≡ 0 → meets s from n ≡ false
 unfolding meets is_active
 switched_off s from n off = rw off refl
 
@@ -81,7 +81,7 @@ swapped y true false shared = and-false y
 swapped y false true shared = and-false y
 swapped y false false shared = and-false y
 
-apart_back : (a b : SyncMan) → is_active a ≡ true → meets a b.start b.length ≡ false
+pub apart_back : (a b : SyncMan) → is_active a ≡ true → meets a b.start b.length ≡ false
     → meets b a.start a.length ≡ false
 unfolding meets
 apart_back a b active apart =
@@ -153,38 +153,38 @@ is_made station c a b fresh a_active b_active =
 
 -- ---- each mailbox is alone
 
-first_alone : (m : List ℕ) (from n : ℕ) → meets (sync_manager_at m 0) from n ≡ true
+pub first_alone : (m : List ℕ) (from n : ℕ) → meets (sync_manager_at m 0) from n ≡ true
     → meets (sync_manager_at m 1) from n ≡ false
-    → ((i : ℕ) → 2 ≤ i → i < 8 → (sync_manager_at m i).activate ≡ 0)
+    → ((i : ℕ) → 2 ≤ i → i < 8 → meets (sync_manager_at m i) from n ≡ false)
     → meets_one (sync_managers_of m) from n ≡ true
 unfolding sync_managers_of
 first_alone m from n first second others =
     rw (
       first,
       second,
-      switched_off (sync_manager_at m 2) from n (others 2 (omega arith) (omega arith)),
-      switched_off (sync_manager_at m 3) from n (others 3 (omega arith) (omega arith)),
-      switched_off (sync_manager_at m 4) from n (others 4 (omega arith) (omega arith)),
-      switched_off (sync_manager_at m 5) from n (others 5 (omega arith) (omega arith)),
-      switched_off (sync_manager_at m 6) from n (others 6 (omega arith) (omega arith)),
-      switched_off (sync_manager_at m 7) from n (others 7 (omega arith) (omega arith)),
+      others 2 (omega arith) (omega arith),
+      others 3 (omega arith) (omega arith),
+      others 4 (omega arith) (omega arith),
+      others 5 (omega arith) (omega arith),
+      others 6 (omega arith) (omega arith),
+      others 7 (omega arith) (omega arith),
     ) refl
 
-second_alone : (m : List ℕ) (from n : ℕ) → meets (sync_manager_at m 0) from n ≡ false
+pub second_alone : (m : List ℕ) (from n : ℕ) → meets (sync_manager_at m 0) from n ≡ false
     → meets (sync_manager_at m 1) from n ≡ true
-    → ((i : ℕ) → 2 ≤ i → i < 8 → (sync_manager_at m i).activate ≡ 0)
+    → ((i : ℕ) → 2 ≤ i → i < 8 → meets (sync_manager_at m i) from n ≡ false)
     → meets_one (sync_managers_of m) from n ≡ true
 unfolding sync_managers_of
 second_alone m from n first second others =
     rw (
       first,
       second,
-      switched_off (sync_manager_at m 2) from n (others 2 (omega arith) (omega arith)),
-      switched_off (sync_manager_at m 3) from n (others 3 (omega arith) (omega arith)),
-      switched_off (sync_manager_at m 4) from n (others 4 (omega arith) (omega arith)),
-      switched_off (sync_manager_at m 5) from n (others 5 (omega arith) (omega arith)),
-      switched_off (sync_manager_at m 6) from n (others 6 (omega arith) (omega arith)),
-      switched_off (sync_manager_at m 7) from n (others 7 (omega arith) (omega arith)),
+      others 2 (omega arith) (omega arith),
+      others 3 (omega arith) (omega arith),
+      others 4 (omega arith) (omega arith),
+      others 5 (omega arith) (omega arith),
+      others 6 (omega arith) (omega arith),
+      others 7 (omega arith) (omega arith),
     ) refl
 
 -- ---- the slave
@@ -215,7 +215,7 @@ ready_at_first station c a b application peer fresh are none =
             ∙ meets_itself a a_active.0 (omega (arith, a_room)))
             (ap (λ (s : SyncMan). meets s a.start a.length) made.second
             ∙ apart_back a b a_active.0 are.apart)
-            made.others;
+            (λ i low high. switched_off (sync_manager_at m i) a.start a.length (made.others i low high));
         empty = ap (λ (s : SyncMan). is_full s) made.first ∙ are.no_request;
       };
       from = record {
@@ -226,7 +226,7 @@ ready_at_first station c a b application peer fresh are none =
             (ap (λ (s : SyncMan). meets s b.start b.length) made.first ∙ are.apart)
             (ap (λ (s : SyncMan). meets s b.start b.length) made.second
             ∙ meets_itself b b_active.0 (omega (arith, b_room)))
-            made.others;
+            (λ i low high. switched_off (sync_manager_at m i) b.start b.length (made.others i low high));
         empty = ap (λ (s : SyncMan). is_full s) made.second ∙ are.no_answer;
       };
       counter = ap (λ (o : Option ℕ). is_kept o peer.counter) none;

@@ -10,6 +10,7 @@ use Rattle.std.specs.Result.{result_ok}
 use Rattle.std.proofs.lemmas.Bool.{and_from, cases_Bool, eq-eqb, eqb-true}
 use Rattle.ec_wire.specs.Datagram.{DatagramRecord}
 use Rattle.ec_app.specs.Mail.{mail_bytes, mail_of, sent}
+use Rattle.ec_app.specs.Lending.{with_controller}
 use Rattle.ec_app.specs.Sdo.{index, sub}
 use Rattle.ec_app.specs.State.{ApplicationState, SlaveState}
 use Rattle.ec_app.specs.declared.mail.Mail.{Mail}
@@ -34,7 +35,7 @@ use Rattle.ec_over_ring.specs.Recovery.{Decides, Fared, HasNoAnswer, HoldsOwn, H
 use Rattle.ec_over_ring.specs.Recovery.{IsOfPeer, IsStored}
 use Rattle.ec_over_ring.specs.Recovery.{OneIs, Replies, ReplyWaits, SlaveTrips, answer_stands}
 use Rattle.ec_over_ring.specs.Recovery.{begun_at, fared}
-use Rattle.ec_over_ring.specs.Recovery.{request_stands, steps_of, times_of, with_counter}
+use Rattle.ec_over_ring.specs.Recovery.{request_stands, times_of, with_counter}
 use Rattle.ec_over_ring.specs.Transfers.{IsRequest, upload_of}
 use Rattle.ec_over_ring.proofs.AnswerLemmas.{AreValues, download_comes, upload_comes}
 use Rattle.ec_over_ring.proofs.AskedLemmas.{emptied, emptied_of_peer, emptied_request}
@@ -85,38 +86,35 @@ reply_found peer asked times s first peer_is fits all reply =
 
 -- ---- the slave behind the read
 
--- its application is that before it
-application_stays : (peer : Peer) (s : SlaveState) (n : ℕ) (x : SlaveState) → IsOfPeer peer x
-    → request_stands x ≡ false → x.application ≡ s.application
-    → (steps_of n x).application ≡ s.application
-application_stays peer s n x is none same =
-    ap (λ (y : SlaveState). y.application) (idle_steps peer n x is none) ∙ same
+-- no request stands in it, and its application is that before it
+pub record IsRead (peer : Peer) (s x : SlaveState) : Type 0 where
+  pub slave : IsOfPeer peer x
+  pub none : request_stands x ≡ false
+  pub same : x.application ≡ s.application
 
-record IsRead (peer : Peer) (s x : SlaveState) : Type 0 where
-  slave : IsOfPeer peer x
-  none : request_stands x ≡ false
-  same : x.application ≡ s.application
-
-same_application : (peer : Peer) (h later : History) (answer : Answer)
+pub is_read : (peer : Peer) (h later : History) (answer : Answer)
     → (asks : Asks SlaveTrips h (mail_read peer) answer later) → IsPeer peer → IsOfPeer peer h.now
     → answer_stands h.now ≡ true → request_stands h.now ≡ false
-    → later.now.application ≡ h.now.application
-same_application peer h later answer asks peer_is is full none =
+    → IsRead peer h.now later.now
+is_read peer h later answer asks peer_is is full none =
     let s : SlaveState = h.now in
     let d : DatagramRecord = mail_read peer in
     let f : Fared = fared asks.made.fate s.controller (d ∷ []) in
     let both : Fares d (mail_told peer s) s.controller (emptied s).controller f =
     fares asks.made.fate s.controller (emptied s).controller d (mail_told peer s)
     (mail_twice peer s peer_is is full) in
-    let left = either_slave (IsRead peer s) s (emptied s).controller f.state both.state
+    let left : IsRead peer s (with_controller s f.state) =
+    either_slave (IsRead peer s) s (emptied s).controller f.state both.state
     (record { slave = is; none = none; same = refl })
     (record {
       slave = emptied_of_peer peer s is;
       none = emptied_request peer s is ∙ none;
       same = refl;
     }) in
-    ap (λ (y : History). y.now.application) asks.made.later_is
-    ∙ application_stays peer s asks.made.fate.steps _ left.slave left.none left.same
+    subst (λ (x : SlaveState). IsRead peer s x)
+    (sym (ap (λ (y : History). y.now) asks.made.later_is
+    ∙ idle_steps peer asks.made.fate.steps (with_controller s f.state) left.slave left.none))
+    left
 
 -- ---- what decides
 
@@ -137,7 +135,7 @@ counted_parts false o mail is = absurd (cc)
 
 -- by the request that was posted last
 -- what a read finds of an answer to the last request
-abbrev FindsMail : ℕ → Sdo → Answer → Mail → Type 0
+abbrev pub FindsMail : ℕ → Sdo → Answer → Mail → Type 0
 FindsMail n asked (Err fault) mail = ⊥
 FindsMail n asked (Ok back) mail = result_ok (answer_in n asked (told_by back).payload) ≡ Some mail
 
@@ -174,7 +172,7 @@ decided_own asked n peer h later answer mail asks fits peer_is counter all full 
     ap (λ (bytes : List ℕ). answer_in n asked bytes) reply.bytes
     ∙ reply_found (with_counter peer n) asked (times_of h) s peer counter fits all reply in
     let same : later.now.application ≡ s.application =
-    same_application peer h later answer asks peer_is is full reply.request in
+    (is_read peer h later answer asks peer_is is full reply.request).same in
     let at : OneIs (Replies (with_counter peer n) asked reply.mail later.now) (times_of h) =
     one_map (Replies (with_counter peer n) asked reply.mail s)
     (Replies (with_counter peer n) asked reply.mail later.now) (times_of h)
@@ -199,7 +197,7 @@ never_told peer (Ok back) told =
     let never : (mail_read peer).counter ≡ 1 = told.counter in
     absurd (omega (arith, never))
 
-none_decides : (peer : Peer) (h later : History) (answer : Answer)
+pub none_decides : (peer : Peer) (h later : History) (answer : Answer)
     → (asks : Asks SlaveTrips h (mail_read peer) answer later) → IsPeer peer → IsOfPeer peer h.now
     → answer_stands h.now ≡ false → CountsOne answer → ⊥
 none_decides peer h later answer asks peer_is is none one =
@@ -211,13 +209,13 @@ none_decides peer h later answer asks peer_is is none one =
     (none_counted peer) asks.made.comes asks.brings one)
 
 -- what a deciding answer is
-record IsDeciding (posted : Option ℕ) (asked : Sdo) (answer : Answer) (mail : Mail) : Type 0 where
-  n : ℕ
-  posted_is : posted ≡ Some n
-  one : CountsOne answer
-  found : FindsMail n asked answer mail
+pub record IsDeciding (posted : Option ℕ) (asked : Sdo) (answer : Answer) (mail : Mail) : Type 0 where
+  pub n : ℕ
+  pub posted_is : posted ≡ Some n
+  pub one : CountsOne answer
+  pub found : FindsMail n asked answer mail
 
-deciding : (posted : Option ℕ) (asked : Sdo) (answer : Answer) (mail : Mail)
+pub deciding : (posted : Option ℕ) (asked : Sdo) (answer : Answer) (mail : Mail)
     → answered posted asked answer ≡ Ok (Some mail) → IsDeciding posted asked answer mail
 deciding posted asked (Err fault) mail is = absurd (cc)
 deciding None asked (Ok back) mail is =
@@ -243,7 +241,7 @@ decided_read asked posted peer h later answer mail fits call asks is =
     absurd (none_decides peer h later answer asks call.peer_is call.slaves.0 none so.one))
     (cases_Bool (answer_stands h.now))
 
-goes_on_none : (answer : Answer) (mail : Mail) → goes_on {A = Mail} answer ≡ Ok (Some mail) → ⊥
+pub goes_on_none : (answer : Answer) (mail : Mail) → goes_on {A = Mail} answer ≡ Ok (Some mail) → ⊥
 goes_on_none (Err fault) mail is = absurd (cc)
 goes_on_none (Ok back) mail is = absurd (cc)
 
@@ -314,7 +312,7 @@ end_at asked result told last now later between result_is last_is later_is ends 
     (subst (λ (p : Known). Ends asked told p later) (sym last_is)
     (subst (λ (y : History). Ends asked told now y) (sym later_is) ends))
 
-step_call : (asked : Sdo) (p learned : Known) (h between : History)
+pub step_call : (asked : Sdo) (p learned : Known) (h between : History)
     (decided : Result (Option Mail) MasterFault) → IsRequest asked → IsCall asked p h
     → IsStep SlaveTrips h (asking asked) p decided learned between → IsCall asked learned between
 step_call asked p learned h between decided fits call step =

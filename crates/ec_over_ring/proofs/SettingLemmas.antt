@@ -161,7 +161,7 @@ talk_of_range P station other low high [] leaves are = tt
 talk_of_range P station other low high (q ∷ qs) leaves are =
     (leaves q.sent are.0, talk_of_range P station other low high qs leaves are.1)
 
-got : (n : ℕ) (fs : List Fmmu) (f : Fmmu) → AllByRecursion (λ (x : Fmmu). length (fmmu_bytes x) ≡ 16) fs
+pub got : (n : ℕ) (fs : List Fmmu) (f : Fmmu) → AllByRecursion (λ (x : Fmmu). length (fmmu_bytes x) ≡ 16) fs
     → slice_get fs n ≡ Some f → length (fmmu_bytes f) ≡ 16
 got n [] f all is = absurd (cc)
 got zero (x ∷ fs) f all is = subst (λ (o : Option Fmmu). OfSome o) is all.0

@@ -118,7 +118,7 @@ there_at i j e es elsewhere =
     ap (λ (b : Bool). option_map told (cond b (Some e) (find (is_at i j) es))) elsewhere
 
 -- an object at another place stays
-apart_kept : (i j k l : ℕ) (v : Value) (es : List Entry)
+pub apart_kept : (i j k l : ℕ) (v : Value) (es : List Entry)
     → ((f : Entry) → is_at i j f ≡ true → is_at k l f ≡ false)
     → object_at i j (map (with_value k l v) es) ≡ object_at i j es
 apart_kept i j k l v [] apart = refl
@@ -295,13 +295,13 @@ asked_objects : (b : Bool) (control : ℕ) (s : SlaveState)
 asked_objects true control s = al_answer_objects s control
 asked_objects false control s = refl
 
-al_objects : (s : SlaveState) → (al_step s).application.objects ≡ s.application.objects
+pub al_objects : (s : SlaveState) → (al_step s).application.objects ≡ s.application.objects
 unfolding al_step
 al_objects s =
     asked_objects s.controller.written (word_at s.controller.memory 288)
     (record s { controller = with_control_taken s.controller })
 
-step_shape : (i j : ℕ) (s : SlaveState)
+pub step_shape : (i j : ℕ) (s : SlaveState)
     → shape_of i j (step s).application.objects ≡ shape_of i j s.application.objects
 unfolding step
 step_shape i j s =

@@ -45,12 +45,15 @@ use Rattle.ec_ring.specs.declared.port.PortFault.{PortFault}
 use Rattle.ec_ring.specs.declared.weather.Came.{Came}
 use Rattle.ec_master.specs.RingTrips.{RingTrips}
 use Rattle.ec_over_ring.specs.Brought.{ReachesAll}
+use Rattle.ec_over_ring.specs.Recovery.{request_stands}
 use Rattle.ec_over_ring.specs.States.{IsElsewhere}
 use Rattle.ec_over_ring.specs.Transfers.{IsSlave}
 use Rattle.ec_over_ring.proofs.BroughtLemmas.{status_stays, step_taken}
 use Rattle.ec_over_ring.proofs.HoldersLemmas.{HasOne, one_more}
 use Rattle.ec_over_ring.proofs.NeedsLemmas.{needs, step_needs}
 use Rattle.ec_over_ring.proofs.PassLemmas.{address_stays, unaddressed, written_nothing}
+use Rattle.ec_over_ring.proofs.QuietLemmas.{IsQuiet, is_marked, marked_is, pass_mark, quiet_step}
+use Rattle.ec_over_ring.proofs.ShapeLemmas.{shape_of, step_shape}
 use Rattle.ec_over_ring.proofs.StationLemmas.{others_step, station_of, station_stays}
 use Rattle.ec_over_ring.proofs.TransferLemmas.{AreSlaves, have_controllers}
 use Rattle.ec_over_ring.proofs.TripKeepsLemmas.{AreControllers, travelled_left, walked_a_left}
@@ -132,30 +135,54 @@ places_none x c address n p station out =
     (range_taken gain c from n) p
     (ap (λ (t : Bool). cond (t && takes_writes c.memory (p / 8)) (Some (p - 8 * from)) None) out)
 
-byte_passed : (c : ControllerState) (d : DatagramRecord) (a : ℕ) → addressing d.command ≡ ConfiguredStation
-    → IsController c → IsSpared (ado_of d.address) (length d.payload) a
+-- a command that does not write
+silent_places : (x : Command) (c : ControllerState) (address n p : ℕ) → writes x ≡ false
+    → (effect x c address n).writing.places p ≡ None
+silent_places x c address n p silent =
+    ap (λ (w : Bool). (where_served w (write_half (addressing x) (cond (reads x) 2 1) c address n)).places p)
+    silent
+
+-- a datagram writes at most so many registers from its address on: as many as its data, or none
+abbrev pub ReachesFew : DatagramRecord → ℕ → Type 0
+ReachesFew d n = (length d.payload ≡ n) ⊎ ((writes d.command ≡ false) × (n ≡ 0))
+
+few_places : (c : ControllerState) (d : DatagramRecord) (n p : ℕ) → addressing d.command ≡ ConfiguredStation
+    → ReachesFew d n → within (ado_of d.address) n (p / 8) ≡ false
+    → (effect d.command c d.address (length d.payload)).writing.places p ≡ None
+few_places c d n p station (inl size) out =
+    places_none d.command c d.address (length d.payload) p station
+    (ap (λ (m : ℕ). within (ado_of d.address) m (p / 8)) size ∙ out)
+few_places c d n p station (inr (silent, none)) out =
+    silent_places d.command c d.address (length d.payload) p silent
+
+byte_passed : (c : ControllerState) (d : DatagramRecord) (n a : ℕ) → addressing d.command ≡ ConfiguredStation
+    → IsController c → ReachesFew d n → IsSpared (ado_of d.address) n a
     → get_or (pass c d).state.memory a 0 ≡ get_or c.memory a 0
 unfolding pass
-byte_passed c d a station controller spared =
-    let n : ℕ = length d.payload in
-    let from : ℕ = ado_of d.address in
-    let e : Effect = effect d.command c d.address n in
+byte_passed c d n a station controller few spared =
+    let e : Effect = effect d.command c d.address (length d.payload) in
     let new : List ℕ = with_bits c.memory d.payload e.writing.places in
     let size : length new ≡ MEMORY_SIZE =
     length-with_bits c.memory d.payload e.writing.places ∙ controller.memory_size in
     let low : a < PROCESS_MEMORY = spared.register in
-    let out : within from n a ≡ false = outside from n a spared.beside in
+    let out : within (ado_of d.address) n a ≡ false = outside (ado_of d.address) n a spared.beside in
     emptied_byte e.reading.mail (with_filled e.writing.mail (settled c.memory new)) a spared.no_status
     ∙ filled_byte e.writing.mail (settled c.memory new) a spared.no_status
     ∙ settled_kept c.memory new a (omega (arith, size, low)) spared.no_status
     ∙ get_or-with_bits_kept c.memory d.payload e.writing.places a controller.memory
     (λ b below.
     let byte : (8 * a + b) / 8 ≡ a = omega (arith, below) in
-    places_none d.command c d.address n (8 * a + b) station
-    (ap (λ (x : ℕ). within from n x) byte ∙ out))
+    few_places c d n (8 * a + b) station few
+    (ap (λ (x : ℕ). within (ado_of d.address) n x) byte ∙ out))
+
+-- a range of registers beside the status of the mailbox of requests
+pub record IsBesideMark (address n : ℕ) : Type 0 where
+  pub register : ado_of address < PROCESS_MEMORY
+  pub beside : IsBeside (ado_of address) n 2053
 
 -- what it leaves of a controller: its station, the registers of one with another station, and those that are
--- spared; and no mark that AL control was written, of one with another station or with a range behind it
+-- spared; no mark that AL control was written, of one with another station or with a range behind it; and an
+-- empty mailbox of requests, of one with another station or with a range beside its status
 pub record IsSparing (address n : ℕ) (c e : ControllerState) : Type 0 where
   pub station : word_at e.memory STATION_ADDRESS ≡ word_at c.memory STATION_ADDRESS
   pub bytes : (a : ℕ)
@@ -163,6 +190,8 @@ pub record IsSparing (address n : ℕ) (c e : ControllerState) : Type 0 where
       → get_or e.memory a 0 ≡ get_or c.memory a 0
   pub written : (adp_of address ≢ word_at c.memory STATION_ADDRESS) ⊎ (AL_CONTROL + 2 ≤ ado_of address)
       → e.written ≡ c.written
+  pub mark : (adp_of address ≢ word_at c.memory STATION_ADDRESS) ⊎ IsBesideMark address n
+      → is_marked c.memory ≡ false → is_marked e.memory ≡ false
 
 -- a range that has no byte of the station address
 pub record SparesStation (address n : ℕ) : Type 0 where
@@ -174,6 +203,7 @@ sparing_none address n c e same = record {
   station = ap (λ (x : ControllerState). word_at x.memory STATION_ADDRESS) same;
   bytes = λ a spared. ap (λ (x : ControllerState). get_or x.memory a 0) same;
   written = λ spared. ap (λ (x : ControllerState). x.written) same;
+  mark = λ spared none. ap (λ (x : ControllerState). is_marked x.memory) same ∙ none;
 }
 
 sparing_then : (address n : ℕ) (c d e : ControllerState) → IsSparing address n c d
@@ -182,8 +212,14 @@ sparing_then address n c d e first second = record {
   station = second.station ∙ first.station;
   bytes = λ a spared. second.bytes a (still a spared) ∙ first.bytes a spared;
   written = λ spared. second.written (behind spared) ∙ first.written spared;
+  mark = λ spared none. second.mark (aside spared) (first.mark spared none);
 }
   where
+    aside : (adp_of address ≢ word_at c.memory STATION_ADDRESS) ⊎ IsBesideMark address n
+        → (adp_of address ≢ word_at d.memory STATION_ADDRESS) ⊎ IsBesideMark address n
+    aside (inl other) = inl (λ is. other (is ∙ first.station))
+    aside (inr beside) = inr beside
+
     behind : (adp_of address ≢ word_at c.memory STATION_ADDRESS) ⊎ (290 ≤ ado_of address)
         → (adp_of address ≢ word_at d.memory STATION_ADDRESS) ⊎ (290 ≤ ado_of address)
     behind (inl other) = inl (λ is. other (is ∙ first.station))
@@ -195,57 +231,74 @@ sparing_then address n c d e first second = record {
     still a (inr spared) = inr spared
 
 -- a range behind AL control leaves no mark
-unmarked : (c : ControllerState) (d : DatagramRecord) → addressing d.command ≡ ConfiguredStation
-    → 290 ≤ ado_of d.address → (pass c d).state.written ≡ c.written
+unmarked : (c : ControllerState) (d : DatagramRecord) (n : ℕ) → addressing d.command ≡ ConfiguredStation
+    → ReachesFew d n → 290 ≤ ado_of d.address → (pass c d).state.written ≡ c.written
 unfolding pass
-unmarked c d station above =
-    let n : ℕ = length d.payload in
-    let e : Effect = effect d.command c d.address n in
+unmarked c d n station few above =
+    let e : Effect = effect d.command c d.address (length d.payload) in
     ap (λ (b : Bool). c.written || b)
     (names_nowhere (λ b. e.writing.places (8 * 288 + b)) 8
     (λ b below.
     let byte : (8 * 288 + b) / 8 ≡ 288 = omega (arith, below) in
-    places_none d.command c d.address n (8 * 288 + b) station
+    few_places c d n (8 * 288 + b) station few
     (ap (λ (x : ℕ). within (ado_of d.address) n x) byte
     ∙ outside (ado_of d.address) n 288 (inl (omega (arith, above))))))
     ∙ or-false c.written
 
-pub pass_spares : (c : ControllerState) (d : DatagramRecord) → addressing d.command ≡ ConfiguredStation
-    → IsController c → SparesStation d.address (length d.payload)
-    → IsSparing d.address (length d.payload) c (pass c d).state
+few_spares : (c : ControllerState) (d : DatagramRecord) (n : ℕ) → addressing d.command ≡ ConfiguredStation
+    → IsController c → ReachesFew d n → SparesStation d.address n
+    → IsSparing d.address n c (pass c d).state
 unfolding pass byte_passed
-pass_spares c d station controller spares =
+few_spares c d n station controller few spares =
     let own : ℕ = word_at c.memory STATION_ADDRESS in
     ⊎_elim
     (λ (meant : eqb (adp_of d.address) own ≡ true).
     let low : get_or (pass c d).state.memory 16 0 ≡ get_or c.memory 16 0 =
-    byte_passed c d 16 station controller spares.low in
+    byte_passed c d n 16 station controller few spares.low in
     let high : get_or (pass c d).state.memory 17 0 ≡ get_or c.memory 17 0 =
-    byte_passed c d 17 station controller spares.high in
+    byte_passed c d n 17 station controller few spares.high in
     record {
       station = omega (arith, low, high);
       bytes = λ a spared. beside a (eqb-true (adp_of d.address) own meant) spared;
       written = λ spared. behind (eqb-true (adp_of d.address) own meant) spared;
+      mark = λ spared none. aside (eqb-true (adp_of d.address) own meant) spared none;
     })
     (λ (other : eqb (adp_of d.address) own ≡ false).
-    sparing_none d.address (length d.payload) c (pass c d).state
+    sparing_none d.address n c (pass c d).state
     (ap (λ (e : Effect). (applied e c d).state)
     (unaddressed c d.command d.address (length d.payload) station other)
     ∙ written_nothing c d.payload controller))
     (cases_Bool (eqb (adp_of d.address) own))
   where
     beside : (a : ℕ) → adp_of d.address ≡ word_at c.memory STATION_ADDRESS
-        → (adp_of d.address ≢ word_at c.memory STATION_ADDRESS)
-        ⊎ IsSpared (ado_of d.address) (length d.payload) a
+        → (adp_of d.address ≢ word_at c.memory STATION_ADDRESS) ⊎ IsSpared (ado_of d.address) n a
         → get_or (pass c d).state.memory a 0 ≡ get_or c.memory a 0
     beside a meant (inl other) = absurd (other meant)
-    beside a meant (inr spared) = byte_passed c d a station controller spared
+    beside a meant (inr spared) = byte_passed c d n a station controller few spared
 
     behind : adp_of d.address ≡ word_at c.memory STATION_ADDRESS
         → (adp_of d.address ≢ word_at c.memory STATION_ADDRESS) ⊎ (290 ≤ ado_of d.address)
         → (pass c d).state.written ≡ c.written
     behind meant (inl other) = absurd (other meant)
-    behind meant (inr above) = unmarked c d station above
+    behind meant (inr above) = unmarked c d n station few above
+
+    aside : adp_of d.address ≡ word_at c.memory STATION_ADDRESS
+        → (adp_of d.address ≢ word_at c.memory STATION_ADDRESS) ⊎ IsBesideMark d.address n
+        → is_marked c.memory ≡ false → is_marked (pass c d).state.memory ≡ false
+    aside meant (inl other) none = absurd (other meant)
+    aside meant (inr beside) none =
+        pass_mark c d station controller beside.register
+        (λ p byte.
+        few_places c d n p station few
+        (ap (λ (x : ℕ). within (ado_of d.address) n x) byte
+        ∙ outside (ado_of d.address) n 2053 beside.beside))
+        none
+
+pub pass_spares : (c : ControllerState) (d : DatagramRecord) → addressing d.command ≡ ConfiguredStation
+    → IsController c → SparesStation d.address (length d.payload)
+    → IsSparing d.address (length d.payload) c (pass c d).state
+pass_spares c d station controller spares =
+    few_spares c d (length d.payload) station controller (inl refl) spares
 
 -- ---- the controllers of a line
 
@@ -280,42 +333,47 @@ all_joined address n (c ∷ cs) (e ∷ es) xs ys first second =
 all_joined address n [] (e ∷ es) xs ys first second = absurd first
 all_joined address n (c ∷ cs) [] xs ys first second = absurd first
 
+few_passed : (c : ControllerState) (d : DatagramRecord) (n : ℕ) → ReachesFew d n
+    → ReachesFew (pass c d).datagram n
+unfolding pass
+few_passed c d n (inl size) =
+    inl (
+    length-with_bits d.payload c.memory (effect d.command c d.address (length d.payload)).reading.places
+    ∙ size
+    )
+few_passed c d n (inr silent) = inr silent
+
 line_spares : (address n : ℕ) (cs : List ControllerState) (d : DatagramRecord) → d.address ≡ address
-    → length d.payload ≡ n → addressing d.command ≡ ConfiguredStation → AreControllers cs
+    → ReachesFew d n → addressing d.command ≡ ConfiguredStation → AreControllers cs
     → SparesStation address n → AreSparing address n cs (line_pass cs (d ∷ [])).line
-unfolding AreSparing line_pass frame_pass pass
-line_spares address n [] d is size station are spares = tt
-line_spares address n (c ∷ cs) d is size station are spares = (
-  subst (λ (m : ℕ). IsSparing address m c (pass c d).state) size
-      (subst (λ (x : ℕ). IsSparing x (length d.payload) c (pass c d).state) is
-      (pass_spares c d station are.0
-      (subst (λ (m : ℕ). SparesStation d.address m) (sym size)
-      (subst (λ (x : ℕ). SparesStation x n) (sym is) spares)))),
-  line_spares address n cs (pass c d).datagram (address_stays d station ∙ is)
-      (length-with_bits d.payload c.memory
-      (effect d.command c d.address (length d.payload)).reading.places ∙ size)
+unfolding AreSparing line_pass frame_pass pass few_passed
+line_spares address n [] d is few station are spares = tt
+line_spares address n (c ∷ cs) d is few station are spares = (
+  subst (λ (x : ℕ). IsSparing x n c (pass c d).state) is
+      (few_spares c d n station are.0 few (subst (λ (x : ℕ). SparesStation x n) (sym is) spares)),
+  line_spares address n cs (pass c d).datagram (address_stays d station ∙ is) (few_passed c d n few)
       station are.1 spares,
 )
 
 front_spares : (m address n : ℕ) (cs : List ControllerState) (d : DatagramRecord) → d.address ≡ address
-    → length d.payload ≡ n → addressing d.command ≡ ConfiguredStation → AreControllers cs
+    → ReachesFew d n → addressing d.command ≡ ConfiguredStation → AreControllers cs
     → SparesStation address n → AreSparing address n cs (front_pass m cs (d ∷ [])).line
-front_spares m address n cs d is size station are spares =
+front_spares m address n cs d is few station are spares =
     subst (λ (xs : List ControllerState). AreSparing address n xs (front_pass m cs (d ∷ [])).line)
     (take-append-drop m cs)
     (all_joined address n (take m cs) (line_pass (take m cs) (d ∷ [])).line (drop m cs) (drop m cs)
-    (line_spares address n (take m cs) d is size station (each-take IsController m cs are) spares)
+    (line_spares address n (take m cs) d is few station (each-take IsController m cs are) spares)
     (all_same address n (drop m cs)))
 
 back_spares : (m address n : ℕ) (cs : List ControllerState) (d : DatagramRecord) → d.address ≡ address
-    → length d.payload ≡ n → addressing d.command ≡ ConfiguredStation → AreControllers cs
+    → ReachesFew d n → addressing d.command ≡ ConfiguredStation → AreControllers cs
     → SparesStation address n → AreSparing address n cs (back_pass m cs (d ∷ [])).line
-back_spares m address n cs d is size station are spares =
+back_spares m address n cs d is few station are spares =
     subst (λ (xs : List ControllerState). AreSparing address n xs (back_pass m cs (d ∷ [])).line)
     (take-append-drop m cs)
     (all_joined address n (take m cs) (take m cs) (drop m cs) (line_pass (drop m cs) (d ∷ [])).line
     (all_same address n (take m cs))
-    (line_spares address n (drop m cs) d is size station (each-drop IsController m cs are) spares))
+    (line_spares address n (drop m cs) d is few station (each-drop IsController m cs are) spares))
 
 either_spares : (address n : ℕ) (cs : List ControllerState) (b : Bool) (x y : Walked)
     → AreSparing address n cs x.line → AreSparing address n cs y.line
@@ -323,45 +381,49 @@ either_spares : (address n : ℕ) (cs : List ControllerState) (b : Bool) (x y : 
 either_spares address n cs true x y first second = first
 either_spares address n cs false x y first second = second
 
-b_spares : (links : Links) (cs : List ControllerState) (d : DatagramRecord)
-    → addressing d.command ≡ ConfiguredStation → AreControllers cs
-    → SparesStation d.address (length d.payload)
-    → AreSparing d.address (length d.payload) cs (walked_from_b links (d ∷ []) cs).line
+b_spares : (links : Links) (cs : List ControllerState) (d : DatagramRecord) (n : ℕ)
+    → addressing d.command ≡ ConfiguredStation → AreControllers cs → ReachesFew d n
+    → SparesStation d.address n
+    → AreSparing d.address n cs (walked_from_b links (d ∷ []) cs).line
 unfolding walked_from_b
-b_spares links cs d station are spares =
-    let n : ℕ = length cs in
-    let b : Bool = turns links n in
-    either_spares d.address (length d.payload) cs _ _ _
-    (all_same d.address (length d.payload) cs)
-    (subst (λ (f : List DatagramRecord).
-    AreSparing d.address (length d.payload) cs (back_pass (back links n) cs f).line) (sym (second_is b d))
-    (back_spares (back links n) d.address (length d.payload) cs
-    (record d { circulating = cond b true d.circulating }) refl refl station are spares))
+b_spares links cs d n station are few spares =
+    let m : ℕ = length cs in
+    let b : Bool = turns links m in
+    either_spares d.address n cs _ _ _
+    (all_same d.address n cs)
+    (subst (λ (f : List DatagramRecord). AreSparing d.address n cs (back_pass (back links m) cs f).line)
+    (sym (second_is b d))
+    (back_spares (back links m) d.address n cs
+    (record d { circulating = cond b true d.circulating }) refl few station are spares))
 
-travel_spares : (links : Links) (cs : List ControllerState) (d : DatagramRecord)
-    → addressing d.command ≡ ConfiguredStation → AreControllers cs
-    → SparesStation d.address (length d.payload)
-    → AreSparing d.address (length d.payload) cs (travelled (calm links) (d ∷ []) cs).line
+travel_spares : (links : Links) (cs : List ControllerState) (d : DatagramRecord) (n : ℕ)
+    → addressing d.command ≡ ConfiguredStation → AreControllers cs → ReachesFew d n
+    → SparesStation d.address n
+    → AreSparing d.address n cs (travelled (calm links) (d ∷ []) cs).line
 unfolding travelled walked_from_a
-travel_spares links cs d station are spares =
+travel_spares links cs d n station are few spares =
     let a : List ControllerState = (walked_from_a links (d ∷ []) cs).line in
-    all_then d.address (length d.payload) cs a (walked_from_b links (d ∷ []) a).line
-    (front_spares (front links (length cs)) d.address (length d.payload) cs d refl refl station are spares)
-    (b_spares links a d station (walked_a_left links (d ∷ []) cs are) spares)
+    all_then d.address n cs a (walked_from_b links (d ∷ []) a).line
+    (front_spares (front links (length cs)) d.address n cs d refl few station are spares)
+    (b_spares links a d n station (walked_a_left links (d ∷ []) cs are) few spares)
 
 -- ---- the slaves of a ring
 
 -- what a trip and the step behind it leave of a slave: its station and registers, what its application needs,
--- and its AL status, where no state was asked of it
+-- its objects but for their values, and its AL status, where no state was asked of it; and all objects, where
+-- no request is in its mailbox and none is written there
 pub record IsFollowed (address n : ℕ) (s t : SlaveState) : Type 0 where
   pub station : station_of t ≡ station_of s
   pub bytes : (a : ℕ) → IsLeft a → (adp_of address ≢ station_of s) ⊎ IsSpared (ado_of address) n a
       → get_or t.controller.memory a 0 ≡ get_or s.controller.memory a 0
   pub needs_are : needs t ≡ needs s
+  pub shapes : (i j : ℕ) → shape_of i j t.application.objects ≡ shape_of i j s.application.objects
   pub unasked : t.controller.written ≡ false
   pub status : s.controller.written ≡ false
       → (adp_of address ≢ station_of s) ⊎ (AL_STATUS_CODE + 2 ≤ ado_of address)
       → get_or t.controller.memory AL_STATUS 0 ≡ get_or s.controller.memory AL_STATUS 0
+  pub quiet : (adp_of address ≢ station_of s) ⊎ IsBesideMark address n → request_stands s ≡ false
+      → IsQuiet s t
 
 pub AreFollowed : ℕ → ℕ → List SlaveState → List SlaveState → Type 0
 AreFollowed address n [] [] = Unit {0}
@@ -378,10 +440,16 @@ slave_followed address n s c controller sparing =
       station = station_stays t controller.memory_size ∙ sparing.station;
       bytes = λ a left spared. same.bytes a left ∙ sparing.bytes a spared;
       needs_are = step_needs t;
+      shapes = λ i j. step_shape i j t;
       unasked = step_taken t;
       status = λ idle spared.
           status_stays t (sparing.written (behind spared) ∙ idle) controller.memory_size
           ∙ sparing.bytes 304 (beside spared);
+      quiet = λ spared none.
+          let then : IsQuiet t (step t) =
+          quiet_step t controller.memory_size
+          (marked_is t ∙ sparing.mark spared (sym (marked_is s) ∙ none)) in
+          record { none = then.none; objects = then.objects };
     }
   where
     behind : (adp_of address ≢ station_of s) ⊎ (310 ≤ ado_of address)
@@ -408,17 +476,24 @@ slaves_followed address n (s ∷ ss) [] are sparing = absurd sparing
 slaves_followed address n (s ∷ ss) (c ∷ cs) are sparing =
     (slave_followed address n s c are.0 sparing.0, slaves_followed address n ss cs are.1 sparing.1)
 
+pub few_followed : (r later : RingState) (d : DatagramRecord) (n : ℕ) (came : Result Came PortFault)
+    → ReachesAll r → addressing d.command ≡ ConfiguredStation → ReachesFew d n → SparesStation d.address n
+    → RingTrips r (d ∷ []) came later
+    → AreFollowed d.address n r.slaves later.slaves
+few_followed r later d n came ring station few spares made =
+    let are : AreControllers (line_of r) = have_controllers r.slaves ring.slaves.each in
+    subst (λ (x : RingState). AreFollowed d.address n r.slaves x.slaves) (sym made.1)
+    (slaves_followed d.address n r.slaves
+    (travelled (calm r.links) (d ∷ []) (line_of r)).line
+    (travelled_left r.links (d ∷ []) (line_of r) are)
+    (travel_spares r.links (line_of r) d n station are few spares))
+
 pub ring_followed : (r later : RingState) (d : DatagramRecord) (came : Result Came PortFault) → ReachesAll r
     → addressing d.command ≡ ConfiguredStation → SparesStation d.address (length d.payload)
     → RingTrips r (d ∷ []) came later
     → AreFollowed d.address (length d.payload) r.slaves later.slaves
 ring_followed r later d came ring station spares made =
-    let are : AreControllers (line_of r) = have_controllers r.slaves ring.slaves.each in
-    subst (λ (x : RingState). AreFollowed d.address (length d.payload) r.slaves x.slaves) (sym made.1)
-    (slaves_followed d.address (length d.payload) r.slaves
-    (travelled (calm r.links) (d ∷ []) (line_of r)).line
-    (travelled_left r.links (d ∷ []) (line_of r) are)
-    (travel_spares r.links (line_of r) d station are spares))
+    few_followed r later d (length d.payload) came ring station (inl refl) spares made
 
 -- ---- one slave among them
 

@@ -53,13 +53,16 @@ idle_mail t none =
     ap (λ (b : Bool). cond (can_answer c && b) (after_bytes (request_bytes c) taken) t) none
     ∙ ap (λ (b : Bool). cond b (after_bytes (request_bytes c) taken) t) (and-false (can_answer c))
 
+pub empty_mail : (t : SlaveState) → is_full (sync_manager_at t.controller.memory 0) ≡ false
+    → mail_step t ≡ t
+empty_mail t empty =
+    let s : SyncMan = sync_manager_at t.controller.memory 0 in
+    idle_mail t (ap (λ (b : Bool). is_request_mailbox s && b) empty ∙ and-false (is_request_mailbox s))
+
 pub idle : (t : SlaveState) → t.controller.written ≡ false
     → is_full (sync_manager_at t.controller.memory 0) ≡ false → step t ≡ t
 unfolding step
-idle t unasked empty =
-    let s : SyncMan = sync_manager_at t.controller.memory 0 in
-    ap (λ (x : SlaveState). mail_step x) (idle_al t unasked)
-    ∙ idle_mail t (ap (λ (b : Bool). is_request_mailbox s && b) empty ∙ and-false (is_request_mailbox s))
+idle t unasked empty = ap (λ (x : SlaveState). mail_step x) (idle_al t unasked) ∙ empty_mail t empty
 
 -- ---- a request
 

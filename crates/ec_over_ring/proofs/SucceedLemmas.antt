@@ -1,27 +1,21 @@
 -- A start-up over a ring of slaves that fit what is wanted: no phase fails, and all records stand in the end.
-use Rattle.std.proofs.Common.{◌≡◌, ℕ, zero, suc, ◌+◌, Bool, true, false, List, [], ◌∷◌, Option}
-use Rattle.std.proofs.Common.{None, Some, Result, Ok, Err, refl, sym, ap, ◌∙◌, subst, inr, true≢false}
-use Rattle.std.specs.Prelude.{slice_get}
+use Rattle.std.proofs.Common.{◌≡◌, ℕ, true, List, [], ◌∷◌}
+use Rattle.std.proofs.Common.{Result, Ok, refl, sym, subst, inr}
 use Rattle.std.specs.List.{AllByRecursion}
 use Rattle.std.proofs.lemmas.Bool.{and_parts}
 use Rattle.ec_regs.specs.declared.al.AlState.TheVariants as state
 use Rattle.ec_app.specs.State.{SlaveState}
 use Rattle.ec_ring.specs.Ring.{RingState}
 use Rattle.ec_master.specs.RingTrips.{RingTrips}
-use Rattle.ec_services.specs.declared.fault.MasterFault.{MasterFault}
-use Rattle.ec_services.specs.declared.mailbox.Peer.{Peer}
-use Rattle.ec_run.specs.Phase.{AreDone, Brings, steps_of}
-use Rattle.ec_run.specs.StartupObjects.{WritesStartup, startup_peer}
-use Rattle.ec_run.specs.Step.{IsTried, is_answered, startup_number}
+use Rattle.ec_run.specs.Phase.{Brings, steps_of}
 use Rattle.ec_run.specs.declared.phase.Phase.TheVariants.{Init, PreOp, Startup as StartupPhase, SafeOp, Op}
 use Rattle.ec_run.specs.declared.phase.StepFault.{StepFault}
 use Rattle.ec_run.specs.declared.step.Step.{Step}
-use Rattle.ec_run.specs.declared.step.Step.TheVariants.{SyncManager, Fmmu as FmmuRecord, Startup}
-use Rattle.ec_run.specs.declared.wanted.StartupObject.{StartupObject}
+use Rattle.ec_run.specs.declared.step.Step.TheVariants.{SyncManager, Fmmu as FmmuRecord}
 use Rattle.ec_run.specs.declared.wanted.Wanted.{Wanted}
 use Rattle.ec_run.proofs.Laws.{brings_within, within_none}
 use Rattle.ec_over_ring.specs.Brought.{ReachesAll}
-use Rattle.ec_over_ring.specs.Fit.{CanStart, HasMailboxes, HaveNoObjects, Succeeds}
+use Rattle.ec_over_ring.specs.Fit.{CanStart, CanTake, HasMailboxes, Succeeds}
 use Rattle.ec_over_ring.specs.Started.{AreWanted, HoldsSet, IsWanted}
 use Rattle.ec_over_ring.proofs.BroughtLemmas.{has_one}
 use Rattle.ec_over_ring.proofs.LineBroughtLemmas.{IsThere}
@@ -30,10 +24,14 @@ use Rattle.ec_over_ring.proofs.PhaseLemmas.{is_record, line_brought, there_lasts
 use Rattle.ec_over_ring.proofs.RequestLemmas.{Accepts}
 use Rattle.ec_over_ring.proofs.SetsLemmas.{IsAny}
 use Rattle.ec_over_ring.proofs.SettingLemmas.{AllLeave, begins, ends, held_to, is_setting, set_left}
-use Rattle.ec_over_ring.proofs.SparedLemmas.{HasSuch, IsSuch, such_between, such_both, such_one}
+use Rattle.ec_over_ring.proofs.SparedLemmas.{HasSuch, IsSuch, such_as, such_between, such_both, such_one}
 use Rattle.ec_over_ring.proofs.StartedLemmas.{LineLeaves, LineStands, all_clear, all_setting}
 use Rattle.ec_over_ring.proofs.StartedLemmas.{all_started, all_stay, clear_numbers, each_clear, is_clear}
 use Rattle.ec_over_ring.proofs.StartedLemmas.{line_stands, line_stays, op_clear}
+use Rattle.ec_over_ring.proofs.StoredLemmas.{each_aside, have_stored, is_aside, stay_kept}
+use Rattle.ec_over_ring.proofs.TakingLemmas.{AreReady, AreWilling, IsReady, IsWilling, LineWritten, each_low}
+use Rattle.ec_over_ring.proofs.TakingLemmas.{first_willing, line_written, objects_from, stay_ready}
+use Rattle.ec_over_ring.proofs.TakingLemmas.{stay_willing}
 use Rattle.ec_over_ring.proofs.TripKeepsLemmas.{within_keeps}
 
 -- ---- the phases
@@ -124,95 +122,6 @@ line_starts (wanted ∷ rest) r can = (
       can.0.has.others_behind),
   line_starts rest r can.1,
 )
-
--- ---- no startup objects
-
--- a step that finds no object makes no trip
-record IsIdle {A : Type 0} (result : A) (fine : A) (r later : RingState) : Type 0 where
-  came : result ≡ fine
-  same : later ≡ r
-
-no_object : (n : ℕ) (objects : List (Option StartupObject)) (peer : Option Peer)
-    (result : Result (Unit {0}) MasterFault) (r later : RingState)
-    → AllByRecursion (λ (o : Option StartupObject). o ≡ None) objects
-    → WritesStartup RingTrips r peer (slice_get objects n) result later
-    → IsIdle result (Ok tt) r later
-no_object n [] peer result r later none writes = absurd writes
-no_object zero (o ∷ objects) peer result r later none writes =
-    let idle =
-    subst (λ (x : Option StartupObject). WritesStartup RingTrips r peer (Some x) result later) none.0
-    writes in
-    record { came = idle.0; same = idle.1 }
-no_object (suc n) (o ∷ objects) peer result r later none writes =
-    no_object n objects peer result r later none.1 writes
-
-tried_idle : (place more n : ℕ) (wanted : Wanted) (result : Result (Unit {0}) MasterFault)
-    (r later : RingState)
-    → AllByRecursion (λ (o : Option StartupObject). o ≡ None) wanted.startup
-    → IsTried RingTrips r place wanted (Startup n) more result later
-    → IsIdle result (Ok tt) r later
-unfolding IsTried
-tried_idle place zero n wanted result r later none tried =
-    no_object (startup_number n) wanted.startup (startup_peer wanted (startup_number n)) result r later none
-    tried
-tried_idle place (suc more) n wanted result r later none (first, between, done, rest) =
-    let idle : IsIdle first (Ok tt) r between =
-    no_object (startup_number n) wanted.startup (startup_peer wanted (startup_number n)) first r between none
-    done in
-    first_so idle (is_answered first) (ap is_answered idle.came) rest
-  where
-    first_so : IsIdle first (Ok tt) r between → (b : Bool) → b ≡ true
-        → (elim b as (λ (x : Bool). Type 0) [
-          | true ↦ (result ≡ first) × (later ≡ between)
-          | false ↦ IsTried RingTrips between place wanted (Startup n) more result later
-        ]) → IsIdle result (Ok tt) r later
-    first_so idle true answered (same, still) =
-        record { came = same ∙ idle.came; same = still ∙ idle.same }
-    first_so idle false answered again = absurd (true≢false (sym answered))
-
--- so do steps of that kind
-objects_from : ℕ → ℕ → List Step
-objects_from first zero = []
-objects_from first (suc n) = Startup first ∷ objects_from (first + 1) n
-
-steps_idle : (place first n : ℕ) (wanted : Wanted) (result : Result (Unit {0}) StepFault)
-    (r later : RingState)
-    → AllByRecursion (λ (o : Option StartupObject). o ≡ None) wanted.startup
-    → AreDone RingTrips r place wanted (objects_from first n) result later → IsIdle result (Ok tt) r later
-unfolding AreDone objects_from
-steps_idle place first zero wanted result r later none (is, same) = record { came = is; same = same }
-steps_idle place first (suc n) wanted result r later none (Err fault, between, tried, left) =
-    absurd (failed (tried_idle place 19 first wanted (Err fault) r between none tried).came)
-  where
-    failed : Err fault ≡ (let fine : Result (Unit {0}) MasterFault = Ok tt in fine) → ⊥
-    failed is = absurd (cc)
-steps_idle place first (suc n) wanted result r later none (Ok did, between, tried, left) =
-    let one : IsIdle (Ok did) (Ok tt) r between =
-    tried_idle place 19 first wanted (Ok did) r between none tried in
-    let more : IsIdle result (Ok tt) between later =
-    steps_idle place (first + 1) n wanted result between later none left in
-    record { came = more.came; same = more.same ∙ one.same }
-
-line_idle : (place n : ℕ) (line : List Wanted) (result : Result (Unit {0}) StepFault) (r later : RingState)
-    → HaveNoObjects line → Brings RingTrips r place line (objects_from 0 n) result later
-    → IsIdle result (Ok tt) r later
-unfolding Brings
-line_idle place n [] result r later none (is, same) = record { came = is; same = same }
-line_idle place n (wanted ∷ rest) result r later none (Err fault, between, done, left) =
-    absurd (failed (steps_idle place 0 n wanted (Err fault) r between none.0 done).came)
-  where
-    failed : Err fault ≡ (let fine : Result (Unit {0}) StepFault = Ok tt in fine) → ⊥
-    failed is = absurd (cc)
-line_idle place n (wanted ∷ rest) result r later none (Ok did, between, done, left) =
-    let one : IsIdle (Ok did) (Ok tt) r between =
-    steps_idle place 0 n wanted (Ok did) r between none.0 done in
-    let more : IsIdle result (Ok tt) between later =
-    line_idle (place + 1) n rest result between later none.1 left in
-    record { came = more.came; same = more.same ∙ one.same }
-
-objects_are : objects_from 0 16 ≡ steps_of StartupPhase
-unfolding objects_from
-objects_are = refl
 
 -- ---- the mailboxes stand
 
@@ -306,6 +215,77 @@ have_mailboxes (wanted ∷ rest) r ring are stand =
       have_mailboxes rest r ring are.2 stand.1,
     )
 
+-- ---- the startup objects
+
+objects_are : objects_from 0 16 ≡ steps_of StartupPhase
+unfolding objects_from
+objects_are = refl
+
+init_low : each_low (steps_of Init) ≡ true
+unfolding each_low is_setting ends
+init_low = refl
+
+pre_op_low : each_low (steps_of PreOp) ≡ true
+unfolding each_low is_setting ends
+pre_op_low = refl
+
+safe_op_aside : each_aside (steps_of SafeOp) ≡ true
+unfolding each_aside is_aside is_setting begins ends
+safe_op_aside = refl
+
+op_aside : each_aside (steps_of Op) ≡ true
+unfolding each_aside is_aside is_setting begins ends
+op_aside = refl
+
+-- behind Pre-Op each slave is ready for them
+now_ready : (line : List Wanted) (r : RingState) → AreSoFar (IsThere state.PreOp) line r
+    → LineStands mailbox_records line r → AreWilling line r → AreReady line r
+unfolding mailbox_records
+now_ready [] r so_far stand stores = tt
+now_ready (wanted ∷ rest) r so_far stand stores =
+    let station : ℕ = wanted.station in
+    let A : SlaveState → Type 0 = Stage (IsThere state.PreOp) wanted in
+    let B : SlaveState → Type 0 = λ s. HoldsSet wanted s.controller.memory (SyncManager 0) in
+    let C : SlaveState → Type 0 = λ s. HoldsSet wanted s.controller.memory (SyncManager 1) in
+    let D : SlaveState → Type 0 = IsWilling wanted in (
+      such_as (λ s. (A s × B s) × (C s × D s)) (IsReady wanted) station r.slaves
+          (λ s all. record {
+            stage = all.0.0;
+            requests = all.0.1;
+            answers = all.1.0;
+            stores = all.1.1;
+          })
+          (such_both (λ s. A s × B s) (λ s. C s × D s) station r.slaves
+          (such_both A B station r.slaves so_far.0 stand.0.0)
+          (such_both C D station r.slaves stand.0.1.0 stores.0)),
+      now_ready rest r so_far.1 stand.1 stores.1,
+    )
+
+-- and behind them as it was
+still_so_far : (line : List Wanted) (r : RingState) → AreReady line r → AreSoFar (IsThere state.PreOp) line r
+still_so_far [] r ready = tt
+still_so_far (wanted ∷ rest) r ready = (
+  such_as (IsReady wanted) (Stage (IsThere state.PreOp) wanted) wanted.station r.slaves (λ s so. so.stage)
+      ready.0,
+  still_so_far rest r ready.1,
+)
+
+boxes_still : (line : List Wanted) (r : RingState) → AreReady line r → LineStands mailbox_records line r
+unfolding mailbox_records
+boxes_still [] r ready = tt
+boxes_still (wanted ∷ rest) r ready = (
+  (
+    such_as (IsReady wanted) (λ (s : SlaveState). HoldsSet wanted s.controller.memory (SyncManager 0))
+        wanted.station r.slaves (λ s so. so.requests) ready.0,
+    (
+      such_as (IsReady wanted) (λ (s : SlaveState). HoldsSet wanted s.controller.memory (SyncManager 1))
+          wanted.station r.slaves (λ s so. so.answers) ready.0,
+      tt,
+    ),
+  ),
+  boxes_still rest r ready.1,
+)
+
 -- ---- the whole start-up
 
 reaches_later : (place : ℕ) (line : List Wanted) (ys : List Step) (result : Result (Unit {0}) StepFault)
@@ -315,7 +295,7 @@ reaches_later place line ys result r later ring brings =
 
 pub all_succeed : (line : List Wanted) (r in_init in_pre_op told in_safe_op later : RingState)
     (init pre_op startup safe_op op : Result (Unit {0}) StepFault) → ReachesAll r → AreWanted line
-    → AllByRecursion (CanStart r) line → HaveNoObjects line
+    → AllByRecursion (CanStart r) line → AllByRecursion (CanTake r) line
     → Brings RingTrips r 0 line (steps_of Init) init in_init
     → Brings RingTrips in_init 0 line (steps_of PreOp) pre_op in_pre_op
     → Brings RingTrips in_pre_op 0 line (steps_of StartupPhase) startup told
@@ -323,15 +303,13 @@ pub all_succeed : (line : List Wanted) (r in_init in_pre_op told in_safe_op late
     → Brings RingTrips in_safe_op 0 line (steps_of Op) op later
     → Succeeds line init pre_op startup safe_op op later
 unfolding mailbox_records process_records
-all_succeed line r in_init in_pre_op told in_safe_op later init pre_op startup safe_op op ring are can none
+all_succeed line r in_init in_pre_op told in_safe_op later init pre_op startup safe_op op ring are can take
     first second third fourth fifth =
     let ring_a : ReachesAll in_init = reaches_later 0 line (steps_of Init) init r in_init ring first in
     let ring_b : ReachesAll in_pre_op =
     reaches_later 0 line (steps_of PreOp) pre_op in_init in_pre_op ring_a second in
-    let idle : IsIdle startup (Ok tt) in_pre_op told =
-    line_idle 0 16 line startup in_pre_op told none
-    (subst (λ (ys : List Step). Brings RingTrips in_pre_op 0 line ys startup told) (sym objects_are) third) in
-    let ring_c : ReachesAll told = subst ReachesAll (sym idle.same) ring_b in
+    let ring_c : ReachesAll told =
+    reaches_later 0 line (steps_of StartupPhase) startup in_pre_op told ring_b third in
     let ring_d : ReachesAll in_safe_op =
     reaches_later 0 line (steps_of SafeOp) safe_op told in_safe_op ring_c fourth in
     let ring_e : ReachesAll later =
@@ -341,35 +319,47 @@ all_succeed line r in_init in_pre_op told in_safe_op later init pre_op startup s
     let b : AreBrought state.PreOp line pre_op in_pre_op =
     line_brought (IsThere state.Init) mailbox_records state.PreOp 0 line pre_op in_init in_pre_op to_pre_op
     ring_a are a.so_far second in
-    let c : AreBrought state.SafeOp line safe_op in_safe_op =
-    line_brought (IsThere state.PreOp) process_records state.SafeOp 0 line safe_op told in_safe_op to_safe_op
-    ring_c are (subst (λ (x : RingState). AreSoFar (IsThere state.PreOp) line x) (sym idle.same) b.so_far)
-    fourth in
-    let d : AreBrought state.Op line op later =
-    line_brought (IsThere state.SafeOp) [] state.Op 0 line op in_safe_op later to_op ring_d are c.so_far
-    fifth in
     let set_boxes : Brings RingTrips in_init 0 line (steps_of PreOp) (Ok tt) in_pre_op =
     subst (λ (x : Result (Unit {0}) StepFault). Brings RingTrips in_init 0 line (steps_of PreOp) x in_pre_op)
     b.came second in
+    let willing : AreWilling line in_pre_op =
+    stay_willing (steps_of PreOp) line line pre_op in_init in_pre_op ring_a are pre_op_low second
+    (stay_willing (steps_of Init) line line init r in_init ring are init_low first
+    (first_willing line r take)) in
+    let ready : AreReady line in_pre_op =
+    now_ready line in_pre_op b.so_far
+    (boxes_of line in_pre_op
+    (line_stands 0 (steps_of PreOp) line in_init in_pre_op ring_a are pre_op_clear set_boxes)) willing in
+    let written : LineWritten line startup in_pre_op told =
+    line_written 0 line startup in_pre_op told ring_b are ready
+    (subst (λ (ys : List Step). Brings RingTrips in_pre_op 0 line ys startup told) (sym objects_are) third) in
+    let still : AreReady line told = stay_ready line line startup in_pre_op told written ready in
+    let c : AreBrought state.SafeOp line safe_op in_safe_op =
+    line_brought (IsThere state.PreOp) process_records state.SafeOp 0 line safe_op told in_safe_op to_safe_op
+    ring_c are (still_so_far line told still) fourth in
+    let d : AreBrought state.Op line op later =
+    line_brought (IsThere state.SafeOp) [] state.Op 0 line op in_safe_op later to_op ring_d are c.so_far
+    fifth in
     let set_areas : Brings RingTrips told 0 line (steps_of SafeOp) (Ok tt) in_safe_op =
     subst (λ (x : Result (Unit {0}) StepFault). Brings RingTrips told 0 line (steps_of SafeOp) x in_safe_op)
     c.came fourth in
     let entered_op : Brings RingTrips in_safe_op 0 line (steps_of Op) (Ok tt) later =
     subst (λ (x : Result (Unit {0}) StepFault). Brings RingTrips in_safe_op 0 line (steps_of Op) x later)
     d.came fifth in
-    let boxes : LineStands mailbox_records line told =
-    subst (λ (x : RingState). LineStands mailbox_records line x) (sym idle.same)
-    (boxes_of line in_pre_op
-    (line_stands 0 (steps_of PreOp) line in_init in_pre_op ring_a are pre_op_clear set_boxes)) in
     record {
       came_to_init = a.came;
       came_to_pre_op = b.came;
-      objects_written = idle.came;
+      objects_written = written.came;
       came_to_safe_op = c.came;
       came_to_op = d.came;
       set_up = all_started 0 line told told in_safe_op later ring_c are
           (within_none RingTrips 0 told told refl) set_areas entered_op;
       mailboxes = have_mailboxes line later ring_e are
           (line_stays mailbox_records line line in_safe_op later ring_d are mailboxes_clear are entered_op
-          (boxes_stay line line (Ok tt) told in_safe_op ring_c are are set_areas boxes));
+          (boxes_stay line line (Ok tt) told in_safe_op ring_c are are set_areas
+          (boxes_still line told still)));
+      objects = have_stored line later ring_e are
+          (stay_kept (steps_of Op) line line op in_safe_op later ring_d are op_aside fifth
+          (stay_kept (steps_of SafeOp) line line safe_op told in_safe_op ring_c are safe_op_aside fourth
+          written.kept));
     }

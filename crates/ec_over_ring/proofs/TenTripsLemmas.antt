@@ -271,7 +271,7 @@ was_posted asked posted peer h between answer fits calm asks =
 
 -- ---- the answer is there
 
-reply_of : (peer : Peer) (asked : Sdo) (times : List SlaveState) (s : SlaveState) → answer_stands s ≡ true
+pub reply_of : (peer : Peer) (asked : Sdo) (times : List SlaveState) (s : SlaveState) → answer_stands s ≡ true
     → HoldsOwn peer asked times s → ReplyWaits peer asked times s
 reply_of peer asked times s full (inl empty) = absurd (true≢false (sym full ∙ empty.answer))
 reply_of peer asked times s full (inr (inl waits)) = absurd (true≢false (sym full ∙ waits.answer))

@@ -1,11 +1,13 @@
 -- Slaves that were brought to a state over a ring (IEC 61158-6-12, AL management).
-use Rattle.std.specs.Prelude.{◌≡◌, ◌<◌, ℕ, false, List}
+use Rattle.std.specs.Prelude.{◌≡◌, ◌<◌, ◌≤◌, ℕ, false, List}
 use Rattle.std.specs.List.{AllByRecursion}
 use Rattle.ec_regs.specs.declared.al.AlState.{AlState}
+use Rattle.ec_regs.specs.declared.registers.TheConstants.{PROCESS_MEMORY}
 use Rattle.ec_esc.specs.Application.{al_status}
 use Rattle.ec_app.specs.State.{SlaveState}
 use Rattle.ec_ring.specs.Ring.{RingState}
 use Rattle.ec_master.specs.Travelled.{AtMostOneDown}
+use Rattle.ec_services.specs.declared.mailbox.Peer.{Peer}
 use Rattle.ec_run.specs.declared.wanted.Wanted.{Wanted}
 use Rattle.ec_over_ring.specs.States.{HasStation}
 use Rattle.ec_over_ring.specs.Stations.{HasSlaves}
@@ -32,3 +34,9 @@ HaveAddresses line = AllByRecursion (λ (wanted : Wanted). wanted.station < 6553
 -- each of these slaves is there, alone with its station address, in a state without an error
 abbrev pub AreAllIn : AlState → List Wanted → RingState → Type 0
 AreAllIn state line r = AllByRecursion (λ (wanted : Wanted). IsAloneIn state wanted.station r) line
+
+-- a peer with a station address of 16 bits whose areas lie in process memory, as those of all mailboxes do
+pub record HasAreas (peer : Peer) : Type 0 where
+  pub station : peer.station < 65536
+  pub to : PROCESS_MEMORY ≤ peer.to.start
+  pub from : PROCESS_MEMORY ≤ peer.from.start

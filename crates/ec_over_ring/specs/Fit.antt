@@ -1,25 +1,36 @@
 -- What slaves need so that a start-up over a ring brings them to Op (IEC 61158-4-12, sync manager and FMMU
 -- entities; IEC 61158-6-12, AL management; ETG.2000, InitCmd).
-use Rattle.std.specs.Prelude.{◌≡◌, ◌<◌, Bool, true, false, Option, None, Some, List, Result, Ok}
-use Rattle.std.specs.Prelude.{slice_get}
+use Rattle.std.specs.Prelude.{◌≡◌, ◌⊎◌, ◌<◌, ◌≤◌, ℕ, Bool, true, false, Option, None, Some, List, Result, Ok}
+use Rattle.std.specs.Prelude.{◌==◌, ◌&&◌, [], ◌∷◌, slice_get, take}
 use Rattle.std.specs.List.{AllByRecursion}
 use Rattle.ec_regs.specs.Bits.{AreBytes}
 use Rattle.ec_regs.specs.Fmmu.{fmmu_bytes}
 use Rattle.ec_regs.specs.declared.fmmu.Fmmu.{Fmmu}
+use Rattle.ec_regs.specs.declared.registers.TheConstants.{SYNC_MANAGER_COUNT}
 use Rattle.ec_regs.specs.declared.sync_man.SyncMan.{SyncMan}
 use Rattle.ec_areas.specs.Ranges.{meets}
+use Rattle.ec_areas.specs.Records.{sync_manager_at}
 use Rattle.ec_esc.specs.State.{IsController}
 use Rattle.ec_app.specs.AlStep.{has_inputs, has_outputs, lacks_mailboxes}
+use Rattle.ec_app.specs.Objects.{object_at}
 use Rattle.ec_app.specs.Roles.{fits_inputs, fits_outputs, is_answer_mailbox, is_request_mailbox}
 use Rattle.ec_app.specs.State.{SlaveState}
+use Rattle.ec_app.specs.Value.{may_write, size_of}
+use Rattle.ec_app.specs.declared.objects.Entry.{Entry}
 use Rattle.ec_app.specs.declared.roles.TheConstants.{ANSWER_MAILBOX, INPUTS, OUTPUTS, REQUEST_MAILBOX}
+use Rattle.ec_app.specs.declared.sdo.Sdo.TheVariants.{Download}
+use Rattle.ec_app.specs.declared.value.Rights.{Rights}
+use Rattle.ec_app.specs.declared.value.Value.{Value}
 use Rattle.ec_ring.specs.Ring.{RingState}
 use Rattle.ec_run.specs.declared.phase.StepFault.{StepFault}
 use Rattle.ec_run.specs.declared.step.Step.TheVariants.{SyncManager}
 use Rattle.ec_run.specs.declared.wanted.StartupObject.{StartupObject}
+use Rattle.ec_run.specs.declared.wanted.TheConstants.{MAX_STARTUP}
 use Rattle.ec_run.specs.declared.wanted.Wanted.{Wanted}
+use Rattle.ec_over_ring.specs.Recovery.{value_at}
 use Rattle.ec_over_ring.specs.Started.{HoldsSet, IsSetUp}
 use Rattle.ec_over_ring.specs.States.{HasStation}
+use Rattle.ec_over_ring.specs.Transfers.{IsRequest}
 
 -- ---- records that registers can hold
 
@@ -71,11 +82,53 @@ pub record CanStart (r : RingState) (wanted : Wanted) : Type 0 where
   pub has : HasStation wanted.station r before slave behind
   pub fits : IsFitFor wanted slave
 
+-- ---- startup objects that a slave takes
+
+-- a slave with these objects takes a startup object: its numbers fit their fields, and it names an object
+-- that may be written and has a value of that size
+pub record TakesObject (objects : List Entry) (wanted : StartupObject) : Type 0 where
+  pub numbers : IsRequest (Download wanted.index wanted.sub wanted.value)
+  pub rights : Rights
+  pub value : Value
+  pub stands : object_at wanted.index wanted.sub objects ≡ Some (rights, value)
+  pub writable : may_write rights ≡ true
+  pub size : size_of wanted.value ≡ size_of value
+
+-- so it takes a startup object where one is wanted
+abbrev pub TakesWanted : List Entry → Option StartupObject → Type 0
+TakesWanted objects None = Unit {0}
+TakesWanted objects (Some wanted) = TakesObject objects wanted
+
+-- no sync manager for process data that is switched on in a memory has a byte of the area of this one
+abbrev pub IsFree : List ℕ → Option SyncMan → Type 0
+IsFree memory None = Unit {0}
+IsFree memory (Some area) =
+    (n : ℕ) → OUTPUTS ≤ n → n < SYNC_MANAGER_COUNT
+    → meets (sync_manager_at memory n) area.start area.length ≡ false
+
+-- a slave takes all startup objects that are wanted of it: it has mailboxes, and as it is found no sync
+-- manager for process data has a byte of them
+pub record TakesAll (wanted : Wanted) (s : SlaveState) : Type 0 where
+  pub objects : AllByRecursion (TakesWanted s.application.objects) wanted.startup
+  pub real : s.application.simple ≡ false
+  pub requests : IsFree s.controller.memory (slice_get wanted.managers REQUEST_MAILBOX)
+  pub answers : IsFree s.controller.memory (slice_get wanted.managers ANSWER_MAILBOX)
+
+-- none of these startup objects is wanted
+abbrev pub AreNone : List (Option StartupObject) → Type 0
+AreNone startup = AllByRecursion (λ (o : Option StartupObject). o ≡ None) startup
+
+-- one slave of a ring alone has a wanted station address; it takes all startup objects, or none is wanted
+pub record CanTake (r : RingState) (wanted : Wanted) : Type 0 where
+  pub before : List SlaveState
+  pub slave : SlaveState
+  pub behind : List SlaveState
+  pub has : HasStation wanted.station r before slave behind
+  pub takes : AreNone wanted.startup ⊎ TakesAll wanted slave
+
 -- no startup object is wanted of any slave of a line
 abbrev pub HaveNoObjects : List Wanted → Type 0
-HaveNoObjects line =
-    AllByRecursion (λ (wanted : Wanted). AllByRecursion (λ (o : Option StartupObject). o ≡ None)
-    wanted.startup) line
+HaveNoObjects line = AllByRecursion (λ (wanted : Wanted). AreNone wanted.startup) line
 
 -- ---- what is read off a slave that stands as it is to be
 
@@ -103,7 +156,34 @@ pub record HasMailboxes (r : RingState) (wanted : Wanted) : Type 0 where
   pub requests : HoldsSet wanted slave.controller.memory (SyncManager REQUEST_MAILBOX)
   pub answers : HoldsSet wanted slave.controller.memory (SyncManager ANSWER_MAILBOX)
 
--- no phase failed, and in the end each slave of the line is in Op and all its records stand
+-- a later startup object names the object that an earlier one names
+abbrev pub names_same : StartupObject → StartupObject → Bool
+names_same earlier later = (earlier.index == later.index) && (earlier.sub == later.sub)
+
+-- none of these names the object that an earlier startup object names
+abbrev pub IsLast : StartupObject → List (Option StartupObject) → Type 0
+IsLast wanted later =
+    AllByRecursion (λ (o : Option StartupObject).
+    elim o [ None ↦ Unit {0} | Some other ↦ names_same wanted other ≡ false ]) later
+
+-- each startup object that no later one names again is stored: the object that it names has its value
+abbrev pub AreStored : List (Option StartupObject) → List Entry → Type 0
+AreStored [] objects = Unit {0}
+AreStored (None ∷ later) objects = AreStored later objects
+AreStored (Some wanted ∷ later) objects =
+    (IsLast wanted later → value_at wanted.index wanted.sub objects ≡ Some wanted.value)
+    × AreStored later objects
+
+-- the slave of a ring that alone has a wanted station address has its startup objects stored
+pub record HasStored (r : RingState) (wanted : Wanted) : Type 0 where
+  pub before : List SlaveState
+  pub slave : SlaveState
+  pub behind : List SlaveState
+  pub has : HasStation wanted.station r before slave behind
+  pub stored : AreStored (take MAX_STARTUP wanted.startup) slave.application.objects
+
+-- no phase failed, and in the end each slave of the line is in Op, all its records stand, and its startup
+-- objects are stored
 pub record Succeeds (line : List Wanted) (init pre_op startup safe_op op : Result (Unit {0}) StepFault)
     (later : RingState) : Type 0 where
   pub came_to_init : init ≡ Ok tt
@@ -113,3 +193,4 @@ pub record Succeeds (line : List Wanted) (init pre_op startup safe_op op : Resul
   pub came_to_op : op ≡ Ok tt
   pub set_up : AllByRecursion (IsSetUp later) line
   pub mailboxes : AllByRecursion (HasMailboxes later) line
+  pub objects : AllByRecursion (HasStored later) line

@@ -1,13 +1,23 @@
 //! The laws of slaves that are brought to a state, each the contract of a function that does nothing.
 
-ghost use Rattle.std.specs.Prelude.{◌≡◌, ◌<◌, ℕ, Bool, false, List, [], ◌∷◌, Result, Ok};
+ghost use Rattle.std.specs.Prelude.{◌≡◌, ◌<◌, ◌≤◌, ℕ, Bool, false, List, [], ◌∷◌, Option, Result, Ok};
 ghost use Rattle.std.specs.List.{AllByRecursion};
 ghost use Rattle.ec_regs.specs.declared.al.AlState.{AlState};
 ghost use Rattle.ec_regs.specs.declared.al.AlState.TheVariants.{Op};
+ghost use Rattle.ec_regs.specs.declared.registers.TheConstants.{SYNC_MANAGER_COUNT};
+ghost use Rattle.ec_regs.specs.declared.sync_man.SyncMan.{SyncMan};
+ghost use Rattle.ec_areas.specs.Records.{sync_manager_at};
 ghost use Rattle.ec_esc.specs.Application.{al_status};
 ghost use Rattle.ec_app.specs.State.{SlaveState};
+ghost use Rattle.ec_app.specs.declared.sdo.Sdo.TheVariants.{Upload, Download};
+ghost use Rattle.ec_app.specs.declared.value.Value.{Value};
+ghost use Rattle.ec_app.specs.declared.roles.TheConstants.{OUTPUTS};
 ghost use Rattle.ec_ring.specs.Ring.{RingState, stepped};
 ghost use Rattle.ec_master.specs.RingTrips.{RingTrips};
+ghost use Rattle.ec_services.specs.Surely.{IsSure};
+ghost use Rattle.ec_services.specs.Transfer.{downloaded_by, uploaded_by};
+ghost use Rattle.ec_services.specs.declared.fault.MasterFault.{MasterFault};
+ghost use Rattle.ec_services.specs.declared.mailbox.Peer.{Peer};
 ghost use Rattle.ec_run.specs.Phase.{Brings, steps_of};
 ghost use Rattle.ec_run.specs.Recovery.{IsRecovered};
 ghost use Rattle.ec_run.specs.Step.{IsDone};
@@ -20,8 +30,9 @@ ghost use Rattle.ec_run.specs.declared.recovery.Outcome.TheVariants.{Brought, Le
 ghost use Rattle.ec_run.specs.declared.recovery.Seen.{Seen};
 ghost use Rattle.ec_run.specs.declared.step.Step.TheVariants.{State};
 ghost use Rattle.ec_run.specs.declared.wanted.Wanted.{Wanted};
-ghost use Rattle.ec_over_ring.specs.Brought.{AreAllIn, HaveAddresses, IsAloneIn, ReachesAll};
-ghost use Rattle.ec_over_ring.specs.Fit.{CanStart, HaveNoObjects, IsFitFor, NeedsSame, StandsFit, Succeeds};
+ghost use Rattle.ec_over_ring.specs.Brought.{AreAllIn, HasAreas, HaveAddresses, IsAloneIn, ReachesAll};
+ghost use Rattle.ec_over_ring.specs.Fit.{CanStart, CanTake, HaveNoObjects, IsFitFor, NeedsSame, StandsFit};
+ghost use Rattle.ec_over_ring.specs.Fit.{IsFree, Succeeds};
 ghost use Rattle.ec_over_ring.specs.Started.{AreWanted, IsSetUp, IsWanted};
 ghost use Rattle.ec_over_ring.specs.States.{HasStation};
 
@@ -83,19 +94,48 @@ pub fn started_over_ring()
 {}
 
 /// A whole start-up over such a ring (`bring_line` of each phase) of slaves that each have their station
-/// address alone and fit what is wanted of them, without startup objects. No step of any phase fails,
-/// whatever state each slave was in at first and whatever error it told; and in the end each is in Op without
-/// an error, and all its records stand: its FMMUs, its sync managers from number 2 on, and its mailboxes.
+/// address alone, fit what is wanted of them, and take their startup objects. No step of any phase fails,
+/// whatever state each slave was in at first, whatever error it told, and whatever mails were in its
+/// mailboxes. In the end each is in Op without an error; all its records stand: its FMMUs, its sync managers
+/// from number 2 on, and its mailboxes; and each object that its startup objects name has the value that the
+/// last of them wants (`succeeds`).
+///
+/// A slave takes its startup objects where it has mailboxes, each object is there, may be written and has a
+/// value of that size, and none of its sync managers for process data, as they are set at first, has a byte
+/// of the mailboxes. One that is switched off, as all are when a slave is powered up, has none
+/// (`switched_off`); and a line of which no startup object is wanted takes them all (`no_objects`).
 pub fn start_succeeds()
-    ensures { (line : List Wanted) (r in_init in_pre_op told in_safe_op later : RingState)
+    ensures succeeds { (line : List Wanted) (r in_init in_pre_op told in_safe_op later : RingState)
         (init pre_op startup safe_op op : Result (Unit {0}) StepFault)
-        → ReachesAll r → AreWanted line → AllByRecursion (CanStart r) line → HaveNoObjects line
+        → ReachesAll r → AreWanted line → AllByRecursion (CanStart r) line
+        → AllByRecursion (CanTake r) line
         → Brings RingTrips r 0 line (steps_of phase.Init) init in_init
         → Brings RingTrips in_init 0 line (steps_of phase.PreOp) pre_op in_pre_op
         → Brings RingTrips in_pre_op 0 line (steps_of phase.Startup) startup told
         → Brings RingTrips told 0 line (steps_of phase.SafeOp) safe_op in_safe_op
         → Brings RingTrips in_safe_op 0 line (steps_of phase.Op) op later
         → Succeeds line init pre_op startup safe_op op later }
+    ensures no_objects { (line : List Wanted) (r : RingState) → AllByRecursion (CanStart r) line
+        → HaveNoObjects line → AllByRecursion (CanTake r) line }
+    ensures switched_off { (memory : List ℕ) (area : Option SyncMan)
+        → ((n : ℕ) → OUTPUTS ≤ n → n < SYNC_MANAGER_COUNT → (sync_manager_at memory n).activate ≡ 0)
+        → IsFree memory area }
+{}
+
+/// A call that recovers (`upload_surely` and `download_surely`) over such a ring leaves each slave of a line
+/// that was started as it is, the one that is asked as well: in Op without an error, alone with its station
+/// address, and with all its records, whatever the call comes to and whatever mails are in the mailboxes. All
+/// that it writes lies in process memory.
+pub fn calls_leave_line()
+    ensures upload { (peer peer_later : Peer) (index sub limit : ℕ) (result : Result Value MasterFault)
+        (wanted : Wanted) (r later : RingState) → ReachesAll r → IsWanted wanted → HasAreas peer
+        → IsSure RingTrips r peer (Upload index sub) limit uploaded_by result peer_later later
+        → IsSetUp r wanted → IsSetUp later wanted }
+    ensures download { (peer peer_later : Peer) (index sub : ℕ) (value : Value) (limit : ℕ)
+        (result : Result (Unit {0}) MasterFault) (wanted : Wanted) (r later : RingState)
+        → ReachesAll r → IsWanted wanted → HasAreas peer
+        → IsSure RingTrips r peer (Download index sub value) limit downloaded_by result peer_later later
+        → IsSetUp r wanted → IsSetUp later wanted }
 {}
 
 /// What is read off a slave that stands as it is to be (`ec_run::Wanted::of`) fits each slave whose

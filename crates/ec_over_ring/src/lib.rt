@@ -37,7 +37,10 @@
 //!   in the last phase of a start-up: all of them are in Op in the end, not the last one alone;
 //! - `started_over_ring`: behind the last two phases of a start-up each slave of a line is in Op, and its
 //!   FMMUs and the sync managers of its process data stand as they were wanted;
-//! - `start_succeeds`: slaves that fit what is wanted of them come to all that: no step of any phase fails;
+//! - `start_succeeds`: slaves that fit what is wanted of them, and take the startup objects that are wanted,
+//!   come to all that: no step of any phase fails, and the objects hold what was wanted of them last;
+//! - `calls_leave_line`: a call that recovers leaves each slave of a line that was started in Op, and its
+//!   records as they are;
 //! - `read_off_fits`: what is read off a slave that stands as it is to be ([`ec_run::Wanted::of`]) fits it.
 //!
 //! In [`watched_ring`], a law of that name: the ports of a running master ([`ec_run::Watched`]) over a ring
@@ -63,7 +66,8 @@
 //! both copies of a frame fare at a slave, what stands in its mailboxes, and what a call that recovers comes
 //! to; `InOp`, a cycle that tells that all slaves are in Op; `Brought`, a slave in a state that has its
 //! station alone, and a line of such slaves; `Started`, which records stand in their registers; `Fit`, what
-//! slaves need so that no phase of a start-up fails; `Heard`, a ring that says where copies arrived.
+//! slaves need so that no phase of a start-up fails, which startup objects they take, and which are stored in
+//! the end; `Heard`, a ring that says where copies arrived.
 
 pub mod brought;
 pub mod promises;

@@ -41,9 +41,9 @@ pub fn request(command: Command, address: u32, payload: &[u8]) -> Datagram
     }
 }
 
-/// Sends a datagram alone in a frame, and joins the copies that come back: a frame of one datagram of its size.
-/// It is [`MasterFault::Port`] where the trip failed, and [`MasterFault::Stranger`] where a copy is none of
-/// what was sent.
+/// Sends a datagram alone in a frame, and joins the copies that come back: a frame of one datagram of its
+/// size. It is [`MasterFault::Port`] where the trip failed, and [`MasterFault::Stranger`] where a copy is
+/// none of what was sent.
 pub fn ask<P: Ports>(ports: &mut P, sent: &Datagram) -> Result<Back, MasterFault>
     ensures asks { Asks P.trips ports.old (record_of sent.now) result ports.new }
     ensures one { IfOk result (λ back. length back.joined ≡ 1) }

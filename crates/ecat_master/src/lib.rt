@@ -73,10 +73,10 @@
 //!   it was good with all slaves in Op, if there was one. (`ended`): whichever it is, it is that of the fault
 //!   of a start, or that of the last cycle and of the way in which the slaves were left; or it is 3, which it
 //!   is too where output or log could not be written.
-//! - [`started_line`], a law: over a ring with at most one link down, of which nothing is lost, each slave of
-//!   a line that was started is in Op without an error, alone with its station address, and with the FMMUs and
-//!   the sync managers of process data that were wanted. [`found_line`], another one: what a start finds is so
-//!   of such a ring: the ring has as many slaves as the line and is broken where that is answered; and each
+//! - [`started_line`], a law: over a ring with at most one link down, of which nothing is lost, each slave
+//!   of a line that was started is in Op without an error, alone with its station address, and with the FMMUs
+//!   and the sync managers of process data that were wanted. [`found_line`], another one: what a start finds
+//!   is so of such a ring: it has as many slaves as the line and is broken where that is answered; and each
 //!   slave of the ring is in Op in the end.
 //!
 //! What is printed and when is tried by tests.

@@ -93,10 +93,12 @@ pub fn a_good_is_of_its_cycle<C: Carrier>()
         → NoneFailed came → Brings (RemoteTrips C.speaks C.gives C.heard) before frames came later
         → AreAllTaken C.speaks C.gives C.heard before frames came later }
     ensures watched { (before later : RemoteState C) (frames : List (List DatagramRecord))
-        (came : AllThatCame) → NoneFailed came → Brings (HeardCopies C.speaks C.gives C.heard) before frames came later
+        (came : AllThatCame) → NoneFailed came
+        → Brings (HeardCopies C.speaks C.gives C.heard) before frames came later
         → AreAllTaken C.speaks C.gives C.heard before frames came later }
     ensures past { (before later : RemoteState C) (frames : List (List DatagramRecord))
-        (taken : List TripTaken) (came : AllThatCame) → TakesAll C.speaks C.gives C.heard before frames taken came later
+        (taken : List TripTaken) (came : AllThatCame)
+        → TakesAll C.speaks C.gives C.heard before frames taken came later
         → Went before (pasts_of before.seals.next frames taken) later }
     ensures given { (first before later : RemoteState C) (past : List PastTrip) (r : RingState)
         (items : List ItemRecord) (taken : List TripTaken) (came : AllThatCame)

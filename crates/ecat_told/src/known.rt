@@ -355,8 +355,8 @@ impl Known {
         requires sent { k < length sent.now }
         requires came { k < length came.now }
         ensures { let s = nth sent.now k in let c = nth came.now k in self.new ≡ record self.old {
-          slaves = told_by (did s.command (length self.old.slaves) (moved s c) all) s.command s.address c.payload
-              self.old.slaves;
+          slaves = told_by (did s.command (length self.old.slaves) (moved s c) all) s.command s.address
+              c.payload self.old.slaves;
         } }
     {
         let command = sent.command(k);
