@@ -9,7 +9,7 @@ use Rattle.ec_ring.specs.declared.weather.Came.{Came}
 use Rattle.ec_master.specs.Ports.{Trips, ComesTo}
 use Rattle.ec_master.specs.declared.cycle.CycleFault.TheVariants.{Stranger as StrangerFrame}
 use Rattle.ec_ring.specs.declared.port.PortFault.{PortFault}
-use Rattle.ec_services.specs.declared.ask.Back.{Back}
+use Rattle.ec_services.specs.declared.asking.Back.{Back}
 use Rattle.ec_services.specs.declared.fault.MasterFault.{MasterFault}
 use Rattle.ec_services.specs.declared.fault.MasterFault.TheVariants.{NoSlave, BadAnswer, Port, Stranger}
 

@@ -8,7 +8,7 @@ ghost use Rattle.ec_services.specs.States.{status_read};
 ghost use Rattle.ec_services.specs.Acknowledgement.{status_by, unless_error, error_question, IsAcknowledged};
 ghost use Rattle.ec_services.specs.declared.fault.MasterFault.TheVariants.{NoAnswer, Port};
 
-use crate::ask::{Back, ask, request};
+use crate::asking::{Back, ask, request};
 use crate::fault::MasterFault;
 use crate::states::{STATUS_BYTES, write_control};
 use ec_master::Ports;

@@ -41,7 +41,7 @@
 //! the answer that it comes of.
 
 mod acknowledgement;
-mod ask;
+mod asking;
 mod fault;
 mod mailbox;
 mod settling;
@@ -51,7 +51,7 @@ mod surely;
 mod transfer;
 
 pub use acknowledgement::acknowledge;
-pub use ask::{Back, ask, request};
+pub use asking::{Back, ask, request};
 pub use ec_diag::{CutOff, Located, locate};
 pub use fault::MasterFault;
 pub use mailbox::{Area, Peer};

@@ -9,7 +9,7 @@ ghost use Rattle.ec_services.specs.Mailbox.{mail_read};
 ghost use Rattle.ec_services.specs.Mailbox.{mail_decides, mail_question, Fetches};
 ghost use Rattle.ec_services.specs.declared.fault.MasterFault.TheVariants.{NoAnswer, Port};
 
-use crate::ask::{Back, ask, request, written};
+use crate::asking::{Back, ask, request, written};
 use crate::fault::MasterFault;
 use ec_app::mail::{MAIL_SIZE, REQUEST};
 use ec_app::{Mail, Sdo};

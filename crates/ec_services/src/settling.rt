@@ -8,7 +8,7 @@ ghost use Rattle.ec_services.specs.Settling.{records_read, request_waits, answer
 ghost use Rattle.ec_services.specs.Settling.{settled, settling, IsSettled};
 ghost use Rattle.ec_services.specs.declared.fault.MasterFault.TheVariants.{Port};
 
-use crate::ask::{Back, ask, request};
+use crate::asking::{Back, ask, request};
 use crate::fault::MasterFault;
 use crate::mailbox::{Peer, mail_read};
 use ec_master::Ports;

@@ -6,7 +6,7 @@ ghost use Rattle.ec_services.specs.Ask.{IsAsked, Talks, done, write};
 ghost use Rattle.ec_services.specs.States.{control_write, status_decides, status_question, IsRequested};
 ghost use Rattle.ec_services.specs.declared.fault.MasterFault.TheVariants.{NoAnswer, Port};
 
-use crate::ask::{Back, ask, request, write};
+use crate::asking::{Back, ask, request, write};
 use crate::fault::MasterFault;
 use byteorder::{ByteOrder, LittleEndian};
 use ec_master::Ports;

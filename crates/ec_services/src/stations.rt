@@ -10,7 +10,7 @@ ghost use Rattle.ec_services.specs.Stations.{status_broadcast, counted_on, is_br
 ghost use Rattle.ec_services.specs.Stations.{adp_of_place, station_write, AreAssigned, IsCounted};
 ghost use Rattle.ec_services.specs.declared.fault.MasterFault.TheVariants.{Port};
 
-use crate::ask::{Back, ask, request, write};
+use crate::asking::{Back, ask, request, write};
 use crate::fault::MasterFault;
 use ec_master::Ports;
 use ec_regs::registers::{AL_STATUS, STATION_ADDRESS};

@@ -8,7 +8,7 @@ ghost use Rattle.ec_services.specs.Surely.{answer_to, answered, begun, asking, I
 ghost use Rattle.ec_services.specs.Transfer.{uploaded_by, downloaded_by};
 ghost use Rattle.ec_services.specs.declared.fault.MasterFault.TheVariants.{Port};
 
-use crate::ask::{Back, ask};
+use crate::asking::{Back, ask};
 use crate::fault::MasterFault;
 use crate::mailbox::{Peer, mail_read, mail_write};
 use crate::settling::{Mailboxes, look};

@@ -2,7 +2,7 @@ use Rattle.std.proofs.Common.{◌≡◌, sym, subst, length, List, [], ◌∷◌
 use Rattle.ec_wire.specs.Datagram.{record_of, nth, DatagramRecord}
 use Rattle.ec_merge.specs.Frames.{IsOwn, copy_or, joined_frame}
 use Rattle.ec_services.proofs.AreaLemmas.{joined_size}
-use Rattle.ec_services.proofs.ask.ask.Goals as goal
+use Rattle.ec_services.proofs.asking.ask.Goals as goal
 
 pub returns-in-Ok-join_frames-clause-size : goal.returns-in-Ok-join_frames-clause-size
 returns-in-Ok-join_frames-clause-size g c =
