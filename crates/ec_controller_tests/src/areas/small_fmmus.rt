@@ -133,7 +133,8 @@ fn writes_agree<R: Abort + AllocGlobal>(rt: &R, direction: u8) {
                 assert_eq!(rt; served, found, "{fmmu:?} {area:?} {address}");
                 let named = writes_some(&managers, &planned, address, count);
                 assert_eq!(rt; named, found, "{fmmu:?} {area:?} {address}");
-                let shown = writes_outputs(&managers, &planned, address, count, &managers[2]);
+                let outputs = managers[2];
+                let shown = writes_outputs(&managers, &planned, address, count, &outputs);
                 let last = area.start.saturating_add(area.length).saturating_sub(1);
                 let reached = reaches_by_pairs(&managers, &[fmmu], address, 8 * count, last.into());
                 assert_eq!(rt; shown, reached, "{fmmu:?} {area:?} {address}");
