@@ -15,6 +15,7 @@ ghost use Rattle.rummymaple.specs.declared.open.OpenEnd.{OpenEnd};
 use crate::numbers::{Code, fault_code, form_of};
 use crate::packet::{WrittenAnswer, blank, put_frame};
 use crate::seal::seal_of;
+use ec_merge::fixed_address;
 use ec_seal::{Seal, open_frame};
 use ec_wire::{Form, FrameBuf, WireFault};
 
