@@ -6,7 +6,6 @@ pub mod ItemLemmas
 pub mod CableLemmas
 pub mod TurnLemmas
 pub mod ReadBackLemmas
-pub mod RoomLemmas
 pub mod SpellLemmas
 pub mod SealLemmas
 pub mod ImageLemmas
