@@ -7,8 +7,8 @@ use ec_ring::{Ring, Travel, Weather};
 use ec_wire::Kind;
 use ecat_scene::{LineFault, Scene, SceneFault};
 use ecat_setup::{
-    LineFailure, put, records_of, ring_of, scene_for_packets, scene_of, slaves_of, weathers_of,
-    work_of,
+    LineFailure, records_of, ring_of, scene_for_packets, scene_of, set_link, slaves_of,
+    weathers_of, work_of,
 };
 use ecat_source::{Bytes, FailsAt};
 use std::process::Abort;
@@ -134,8 +134,8 @@ fn a_line_is_as_its_scene_describes_it(rt: HostRuntime) {
     }
     if let Ok(mut ring) = ring_of(rt.alloc(), scene.slaves, scene.links_down.as_slice()) {
         assert_ring(&rt, &ring, false);
-        put(&mut ring, 1, true);
-        put(&mut ring, 4, false);
+        set_link(&mut ring, 1, true);
+        set_link(&mut ring, 4, false);
         assert_ring(&rt, &ring, true);
     }
     match work_of(scene.items) {
