@@ -55,7 +55,8 @@
 //! - `promises`: the laws of what is told.
 //!
 //! It cannot tell the places of slaves that are given their stations while the ring is open: a slave that
-//! answers from the other end counts at the same place, and where two count nothing is told of either.
+//! answers from the other end counts at the same place. Where two count, what was told of that place is taken
+//! away, but not what was told of the other slave.
 //!
 //! It takes 400 bytes of memory for each slave twice, 1 KB for each kind of datagram, and what `ecat_trips`
 //! takes; of a stream 8 MB more.
