@@ -1377,6 +1377,21 @@ def capture_of_a_service_has_what_leaves_its_master_and_what_arrives_there(stage
 
 
 @case
+def places_of_an_open_ring_are_not_learned(stage):
+    """The third slave is the second one behind the break: no station may be told at the place of another."""
+    with stage.serve(MACHINE + "link 1 down\n", "--forever") as _line:
+        stage.file("m", MACHINE)
+        words = ("master", "m", "--at", both_ends(stage), "--cycles", "20", "--pcap", "c", *PATIENCE)
+        yield "master", "0", stage.ends(*words).splitlines()[-1]
+    rows = stage.ends("learn", "c").splitlines()
+    yield "status", "1", rows.pop()
+    wanted = ["slave ?"] * 3
+    yield "slaves", "\n".join(wanted), "\n".join(row for row in rows if row.startswith("slave"))
+    wanted = "# not told: what datagrams by place did over an open ring, "
+    yield "why", "True", str(any(row.startswith(wanted) for row in rows))
+
+
+@case
 def packet_sockets_of_another_type_or_of_no_interface_are_refused(stage):
     """Where no packet socket can be had there is nothing to see."""
     stage.file("s", "slave 1\n")

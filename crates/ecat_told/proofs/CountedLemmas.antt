@@ -151,7 +151,7 @@ most_of n ss cs (inl all) (inr each) = inl (omega (arith, all, each))
 most_of n ss cs (inr zero_n) size = inr (omega (arith, zero_n))
 
 -- a datagram that came back tells as many as the line has, or as before
-counted_so : (states : Bool) (starts all : Bool) (ss : List Slave) (cs : List ControllerState)
+pub counted_so : (states : Bool) (starts all : Bool) (ss : List Slave) (cs : List ControllerState)
     (d : DatagramRecord) → (starts ≡ true → is_write d.command ≡ true) → length cs ≤ 256 → IsSo states ss cs
     → IsSo states (counted starts all d (came cs d) ss) cs
 counted_so states starts all ss cs d begins few so =

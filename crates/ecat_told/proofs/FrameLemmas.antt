@@ -4,6 +4,7 @@ use Rattle.ec_wire.specs.Datagram.{DatagramRecord}
 use Rattle.ecat_told.specs.Known.{KnownState, frame_returned}
 
 -- no datagram came
-pub none-came : (all : Bool) (ss : List DatagramRecord) (k : KnownState) → frame_returned all ss [] k ≡ k
-none-came all [] k = refl
-none-came all (s ∷ ss) k = refl
+pub none-came : (broken all : Bool) (ss : List DatagramRecord) (k : KnownState)
+    → frame_returned broken all ss [] k ≡ k
+none-came broken all [] k = refl
+none-came broken all (s ∷ ss) k = refl

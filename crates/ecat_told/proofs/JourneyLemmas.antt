@@ -1,15 +1,19 @@
 -- Frames and journeys over a line: what is told stays so.
 use Rattle.std.proofs.Common.{◌≡◌, ◌⊎◌, ℕ, zero, suc, ◌+◌, ◌%◌, ◌<◌, ◌≤◌, Bool, true, false, List, [], ◌∷◌}
-use Rattle.std.proofs.Common.{length}
+use Rattle.std.proofs.Common.{◌&&◌, if◌then◌else◌, length, map}
 use Rattle.std.proofs.Common.{get_or, refl, sym, ap, ◌∙◌, arith, ⊎_elim, inl, inr, subst}
 use Rattle.std.specs.Option.{is_some}
 use Rattle.std.specs.List.{AllByRecursion}
-use Rattle.std.proofs.lemmas.Bool.{cases_Bool}
+use Rattle.std.proofs.lemmas.Bool.{and_parts, cases_Bool}
 use Rattle.ec_regs.specs.Al.{state_of}
 use Rattle.ec_regs.specs.Bits.{AreBytes}
 use Rattle.ec_regs.proofs.Laws.{each-map}
 use Rattle.ec_areas.specs.Ranges.{takes_writes}
+use Rattle.ec_wire.specs.Command.{writes}
 use Rattle.ec_wire.specs.Datagram.{DatagramRecord, ado_of}
+use Rattle.ec_wire.specs.declared.command.Command.{Command}
+use Rattle.ec_wire.specs.declared.command.Command.TheVariants.{Nop, Aprd, Apwr, Aprw, Fprd, Fpwr, Fprw, Brd}
+use Rattle.ec_wire.specs.declared.command.Command.TheVariants.{Bwr, Brw, Lrd, Lwr, Lrw, Armw, Frmw}
 use Rattle.ec_esc.specs.Pass.{frame_pass, pass}
 use Rattle.ec_esc.specs.State.{ControllerState, IsController, NamesState}
 use Rattle.ec_line.specs.Trip.{front_pass, line_pass}
@@ -17,18 +21,22 @@ use Rattle.ec_app.proofs.Laws.{step_leaves}
 use Rattle.ec_app.specs.Slave.{step}
 use Rattle.ec_app.specs.State.{SlaveState}
 use Rattle.ecat_trips.specs.declared.trip.Trip.{Trip}
-use Rattle.ecat_told.specs.Known.{KnownState, by_came, came_whole, frame_lost, frame_returned}
-use Rattle.ecat_told.specs.Known.{is_logical, lost, may_have_done, returned, told_by, trip_after}
+use Rattle.ecat_told.specs.Known.{KnownState, by_came, came_whole, counted, frame_lost, frame_returned}
+use Rattle.ecat_told.specs.Known.{is_logical, is_place_read, is_place_write, lost, lost_over, may_be_two}
+use Rattle.ecat_told.specs.Known.{may_have_done, returned, returned_over, told_by, trip_after, unplaced}
+use Rattle.ecat_told.specs.Slave.{told_run}
+use Rattle.ecat_told.specs.declared.byte.How.TheVariants.{Lost}
 use Rattle.ecat_told.specs.declared.slave.Slave.{Slave}
 use Rattle.ecat_told.specs.So.{AreSo, IsClaimed, IsSlaveSo, IsSo}
 use Rattle.ecat_told.specs.Journeys.{AreFit, AreJourneys, IsBack, IsFitFor, IsJourney, IsLine, IsLost, IsSent}
 use Rattle.ecat_told.specs.Journeys.{Journey}
 use Rattle.ecat_told.specs.Journeys.{HasKept, HaveKept, behind, told_of}
 use Rattle.ecat_told.proofs.ArrivalLemmas.{passed_bytes}
-use Rattle.ecat_told.proofs.CountedLemmas.{datagram_returned, told_none, unmoved_slaves}
+use Rattle.ecat_told.proofs.CountedLemmas.{counted_so, datagram_returned, told_none, unmoved_slaves}
 use Rattle.ecat_told.proofs.DatagramLemmas.{IsFound, datagram_lost}
 use Rattle.ecat_told.proofs.GateLemmas.{takes_status}
-use Rattle.ecat_told.proofs.LineLemmas.{HaveMemory, came, left_all, left_by, left_memory}
+use Rattle.ecat_told.proofs.LineLemmas.{HaveMemory, came, forgotten_so, left_all, left_by, left_memory}
+use Rattle.ecat_told.proofs.LineLemmas.{reading, still_so}
 use Rattle.ecat_told.proofs.PassLemmas.{HasMemory, controller_memory, logical_stays, pass_reaches}
 use Rattle.ecat_told.proofs.PlaceLemmas.{kept, kept_register}
 
@@ -151,6 +159,49 @@ fit_on : (n : ℕ) (cs : List ControllerState) (d : DatagramRecord) (ds : List D
     → AreFit n (front_pass n cs (d ∷ [])).line ds → AreFit n (left_by n cs d) ds
 fit_on n cs d ds fit = subst (λ es. AreFit n es ds) (one_line n cs d) fit
 
+-- ---- a place that may be two slaves'
+
+-- what is told of no slave any more was not wrong, and nothing is told in its place
+unplaced_so : (states two : Bool) (cs : List ControllerState) (d : DatagramRecord) (k : KnownState)
+    → IsSo states k.slaves cs → IsSo states (unplaced two d k).slaves cs
+unfolding unplaced
+unplaced_so states two cs d k so = by_place (two && is_place_write d.command)
+  where
+    taken : IsSo states k.slaves cs
+        → IsSo states (map (told_run Lost (ado_of d.address) d.payload) k.slaves) cs
+    taken (inl none) = inl (ap (map (told_run Lost (ado_of d.address) d.payload)) none)
+    taken (inr is) = inr (forgotten_so states k.slaves cs (ado_of d.address) d.payload is)
+
+    by_place : (b : Bool) → IsSo states (if b
+        then record k { slaves = map (told_run Lost (ado_of d.address) d.payload) k.slaves } else k).slaves cs
+    by_place true = taken so
+    by_place false = so
+
+-- APRD is the read by place
+place_read : (x : Command) → is_place_read x ≡ true → x ≡ Aprd
+place_read Aprd is = refl
+place_read Nop is = absurd (cc)
+place_read Apwr is = absurd (cc)
+place_read Aprw is = absurd (cc)
+place_read Fprd is = absurd (cc)
+place_read Fpwr is = absurd (cc)
+place_read Fprw is = absurd (cc)
+place_read Brd is = absurd (cc)
+place_read Bwr is = absurd (cc)
+place_read Brw is = absurd (cc)
+place_read Lrd is = absurd (cc)
+place_read Lwr is = absurd (cc)
+place_read Lrw is = absurd (cc)
+place_read Armw is = absurd (cc)
+place_read Frmw is = absurd (cc)
+
+-- it leaves what is told so
+read_so : (states : Bool) (n : ℕ) (ss : List Slave) (cs : List ControllerState) (d : DatagramRecord)
+    → d.command ≡ Aprd → HaveMemory cs → IsSo states ss cs → IsSo states ss (left_by n cs d)
+read_so states n ss cs d is have (inl none) = inl none
+read_so states n ss cs d is have (inr so) =
+    inr (still_so states n ss cs d (reading (ap is_logical is) (ap writes is)) have so)
+
 -- ---- a frame that was lost
 
 lost_one : (states : Bool) (n : ℕ) (cs : List ControllerState) (d : DatagramRecord) (k : KnownState)
@@ -161,15 +212,17 @@ lost_one states n cs d k found (inl none) =
     ∙ told_none (may_have_done d.command) d.command d.address d.payload)
 lost_one states n cs d k found (inr so) = inr (datagram_lost states n k.slaves cs d found so)
 
-frame_is_lost : (states : Bool) (n : ℕ) (frame : List DatagramRecord) (cs : List ControllerState)
+frame_is_lost : (states two : Bool) (n : ℕ) (frame : List DatagramRecord) (cs : List ControllerState)
     (k : KnownState) → IsKeptLine cs → AllByRecursion IsSent frame → AreFit n cs frame
-    → IsSo states k.slaves cs → IsSo states (frame_lost frame k).slaves (front_pass n cs frame).line
-frame_is_lost states n [] cs k line sent fit so = subst (λ es. IsSo states k.slaves es) (sym
+    → IsSo states k.slaves cs → IsSo states (frame_lost two frame k).slaves (front_pass n cs frame).line
+frame_is_lost states two n [] cs k line sent fit so = subst (λ es. IsSo states k.slaves es) (sym
     (none_left n cs)) so
-frame_is_lost states n (d ∷ ds) cs k line sent fit so =
-    subst (λ es. IsSo states (frame_lost ds (lost d k)).slaves es) (sym (rest_line n cs d ds))
-    (frame_is_lost states n ds (left_by n cs d) (lost d k) (line_left n cs d sent.0.bytes line) sent.1
-    (fit_on n cs d ds fit.1) (lost_one states n cs d k (found_by cs d line sent.0 fit.0) so))
+frame_is_lost states two n (d ∷ ds) cs k line sent fit so =
+    let later : KnownState = lost_over two d k in
+    subst (λ es. IsSo states (frame_lost two ds later).slaves es) (sym (rest_line n cs d ds))
+    (frame_is_lost states two n ds (left_by n cs d) later (line_left n cs d sent.0.bytes line) sent.1
+    (fit_on n cs d ds fit.1) (unplaced_so states two (left_by n cs d) d (lost d k)
+    (lost_one states n cs d k (found_by cs d line sent.0 fit.0) so)))
 
 -- ---- a frame of which a copy alone came back, unprocessed
 
@@ -181,48 +234,89 @@ unmoved_one states n cs d k sent found so =
     subst (λ ss. IsSo states ss (left_by n cs d)) (sym (unmoved_slaves d k sent.counter))
     (lost_one states n cs d k found so)
 
-frame_unmoved : (states : Bool) (n : ℕ) (frame : List DatagramRecord) (cs : List ControllerState)
+unmoved_over : (states broken : Bool) (n : ℕ) (cs : List ControllerState) (d : DatagramRecord)
+    (k : KnownState) → IsSent d → IsFound d cs → IsSo states k.slaves cs
+    → IsSo states (returned_over broken false d d k).slaves (left_by n cs d)
+unmoved_over states broken n cs d k sent found so =
+    let two : Bool = may_be_two broken false (length k.slaves) d d in
+    ⊎_elim
+    (λ (read : (two && is_place_read d.command) ≡ true).
+    rw read (read_so states n k.slaves cs d
+    (place_read d.command (and_parts two (is_place_read d.command) read).1) found.memories so))
+    (λ (other : (two && is_place_read d.command) ≡ false).
+    rw other (unplaced_so states two (left_by n cs d) d (returned false d d k)
+    (unmoved_one states n cs d k sent found so)))
+    (cases_Bool (two && is_place_read d.command))
+
+frame_unmoved : (states broken : Bool) (n : ℕ) (frame : List DatagramRecord) (cs : List ControllerState)
     (k : KnownState) → IsKeptLine cs → AllByRecursion IsSent frame → AreFit n cs frame
     → IsSo states k.slaves cs
-    → IsSo states (frame_returned false frame frame k).slaves (front_pass n cs frame).line
-frame_unmoved states n [] cs k line sent fit so =
+    → IsSo states (frame_returned broken false frame frame k).slaves (front_pass n cs frame).line
+frame_unmoved states broken n [] cs k line sent fit so =
     subst (λ es. IsSo states k.slaves es) (sym (none_left n cs)) so
-frame_unmoved states n (d ∷ ds) cs k line sent fit so =
-    subst (λ es. IsSo states (frame_returned false ds ds (returned false d d k)).slaves es)
+frame_unmoved states broken n (d ∷ ds) cs k line sent fit so =
+    let later : KnownState = returned_over broken false d d k in
+    subst (λ es. IsSo states (frame_returned broken false ds ds later).slaves es)
     (sym (rest_line n cs d ds))
-    (frame_unmoved states n ds (left_by n cs d) (returned false d d k) (line_left n cs d sent.0.bytes line)
+    (frame_unmoved states broken n ds (left_by n cs d) later (line_left n cs d sent.0.bytes line)
     sent.1 (fit_on n cs d ds fit.1)
-    (unmoved_one states n cs d k sent.0 (found_by cs d line sent.0 fit.0) so))
+    (unmoved_over states broken n cs d k sent.0 (found_by cs d line sent.0 fit.0) so))
 
 -- ---- a frame that came back
 
-returned_one : (states : Bool) (all : Bool) (n : ℕ) (cs : List ControllerState) (d : DatagramRecord)
+told_one : (states : Bool) (all : Bool) (n : ℕ) (cs : List ControllerState) (d : DatagramRecord)
     (k : KnownState) → n ≡ length cs → IsKeptLine cs → IsSent d → IsFitFor d cs → IsSo states k.slaves cs
     → IsSo states (returned all d (came_by n cs d) k).slaves (left_by n cs d)
-returned_one states all n cs d k each line sent fit so =
+told_one states all n cs d k each line sent fit so =
     subst (λ m. IsSo states (returned all d (came_by m cs d) k).slaves (left_by m cs d)) (sym each)
     (subst (λ c. IsSo states (returned all d c k).slaves (left_by (length cs) cs d)) (sym (came_all cs d))
     (subst (λ es. IsSo states (returned all d (came cs d) k).slaves es) (sym (left_all cs d))
     (datagram_returned states all k cs d (found_by cs d line sent fit) sent.counter sent.size line.names so)))
 
-frame_is_back : (states : Bool) (all : Bool) (n : ℕ) (frame : List DatagramRecord)
+counted_one : (states all : Bool) (n : ℕ) (cs : List ControllerState) (d : DatagramRecord)
+    (k : KnownState) → n ≡ length cs → IsKeptLine cs → d.command ≡ Aprd → IsSo states k.slaves cs
+    → IsSo states (counted false all d (came_by n cs d) k.slaves) (left_by n cs d)
+counted_one states all n cs d k each line is so =
+    subst (λ m. IsSo states (counted false all d (came_by m cs d) k.slaves) (left_by m cs d)) (sym each)
+    (subst (λ c. IsSo states (counted false all d c k.slaves) (left_by (length cs) cs d))
+    (sym (came_all cs d))
+    (read_so states (length cs) (counted false all d (came cs d) k.slaves) cs d is line.memories
+    (counted_so states false all k.slaves cs d (λ starts. absurd (cc)) line.few so)))
+
+returned_one : (states broken all : Bool) (n : ℕ) (cs : List ControllerState) (d : DatagramRecord)
+    (k : KnownState) → n ≡ length cs → IsKeptLine cs → IsSent d → IsFitFor d cs → IsSo states k.slaves cs
+    → IsSo states (returned_over broken all d (came_by n cs d) k).slaves (left_by n cs d)
+returned_one states broken all n cs d k each line sent fit so =
+    let c : DatagramRecord = came_by n cs d in
+    let two : Bool = may_be_two broken all (length k.slaves) d c in
+    ⊎_elim
+    (λ (read : (two && is_place_read d.command) ≡ true).
+    rw read (counted_one states all n cs d k each line
+    (place_read d.command (and_parts two (is_place_read d.command) read).1) so))
+    (λ (other : (two && is_place_read d.command) ≡ false).
+    rw other (unplaced_so states two (left_by n cs d) d (returned all d c k)
+    (told_one states all n cs d k each line sent fit so)))
+    (cases_Bool (two && is_place_read d.command))
+
+frame_is_back : (states broken all : Bool) (n : ℕ) (frame : List DatagramRecord)
     (cs : List ControllerState) (k : KnownState)
     → n ≡ length cs → IsKeptLine cs → AllByRecursion IsSent frame → AreFit n cs frame
     → IsSo states k.slaves cs
-    → IsSo states (frame_returned all frame (front_pass n cs frame).frame k).slaves
+    → IsSo states (frame_returned broken all frame (front_pass n cs frame).frame k).slaves
     (front_pass n cs frame).line
-frame_is_back states all n [] cs k each line sent fit so =
+frame_is_back states broken all n [] cs k each line sent fit so =
     subst (λ es. IsSo states k.slaves es) (sym (none_left n cs)) so
-frame_is_back states all n (d ∷ ds) cs k each line sent fit so =
-    let later : KnownState = returned all d (came_by n cs d) k in
-    subst (λ cs2. IsSo states (frame_returned all (d ∷ ds) cs2 k).slaves (front_pass n cs (d ∷ ds)).line)
+frame_is_back states broken all n (d ∷ ds) cs k each line sent fit so =
+    let later : KnownState = returned_over broken all d (came_by n cs d) k in
+    subst (λ cs2. IsSo states (frame_returned broken all (d ∷ ds) cs2 k).slaves
+    (front_pass n cs (d ∷ ds)).line)
     (sym (rest_frame n cs d ds))
-    (subst (λ es. IsSo states (frame_returned all ds (front_pass n
+    (subst (λ es. IsSo states (frame_returned broken all ds (front_pass n
     (left_by n cs d) ds).frame later).slaves es)
     (sym (rest_line n cs d ds))
-    (frame_is_back states all n ds (left_by n cs d) later (each ∙ sym (size_left n cs d))
+    (frame_is_back states broken all n ds (left_by n cs d) later (each ∙ sym (size_left n cs d))
     (line_left n cs d sent.0.bytes line) sent.1 (fit_on n cs d ds fit.1)
-    (returned_one states all n cs d k each line sent.0 fit.0 so)))
+    (returned_one states broken all n cs d k each line sent.0 fit.0 so)))
 
 -- ---- journeys
 
@@ -240,15 +334,15 @@ trip_so : (states : Bool) (n : ℕ) (t : Trip) (cs : List ControllerState) (k : 
 unfolding trip_after
 trip_so states n t cs k (inl (each, back)) line sent fit so =
     subst (λ o. IsSo states (by_came t o k).slaves (front_pass n cs t.sent.frame).line) (sym back)
-    (frame_is_back states (came_whole t) n t.sent.frame cs k each line sent fit so)
+    (frame_is_back states t.is_open (came_whole t) n t.sent.frame cs k each line sent fit so)
 trip_so states n t cs k (inr (inl gone)) line sent fit so =
     subst (λ o. IsSo states (by_came t o k).slaves (front_pass n cs t.sent.frame).line) (sym gone)
-    (frame_is_lost states n t.sent.frame cs k line sent fit so)
+    (frame_is_lost states (is_some t.second) n t.sent.frame cs k line sent fit so)
 trip_so states n t cs k (inr (inr (alone, other))) line sent fit so =
     subst (λ o. IsSo states (by_came t o k).slaves (front_pass n cs t.sent.frame).line) (sym other)
-    (subst (λ b. IsSo states (frame_returned b t.sent.frame t.sent.frame k).slaves
+    (subst (λ b. IsSo states (frame_returned t.is_open b t.sent.frame t.sent.frame k).slaves
     (front_pass n cs t.sent.frame).line) (sym alone)
-    (frame_unmoved states n t.sent.frame cs k line sent fit so))
+    (frame_unmoved states t.is_open n t.sent.frame cs k line sent fit so))
 
 -- what happens between two frames
 kept_one : (states : Bool) (s : Slave) (x y : ControllerState) → IsSlaveSo states s x → HasKept states x y

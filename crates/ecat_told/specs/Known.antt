@@ -237,24 +237,61 @@ lost s k = record k {
   slaves = told_by (may_have_done s.command) s.command s.address s.payload k.slaves;
 }
 
+-- ---- a place that may be two slaves'
+
+-- does a command read from the slave at a place, and does one write to it
+abbrev pub is_place_read : Command → Bool
+is_place_read Aprd = true
+is_place_read _ = false
+
+abbrev pub is_place_write : Command → Bool
+is_place_write Apwr = true
+is_place_write Aprw = true
+is_place_write _ = false
+
+-- over an open ring a place is that of a slave in front of the break and of one behind it. It may be where
+-- slaves processed both copies of a datagram, and where one copy came alone that did not pass all n of them
+abbrev pub may_be_two : Bool → Bool → ℕ → DatagramRecord → DatagramRecord → Bool
+may_be_two broken all n s c = if all then broken else not (grown s c == n)
+
+-- what was written by such a place is told of no slave
+unfoldable pub unplaced : Bool → DatagramRecord → KnownState → KnownState
+unplaced two s k =
+    if two && is_place_write s.command
+    then record k { slaves = map (told_run Lost (ado_of s.address) s.payload) k.slaves }
+    else k
+
+-- what is told behind one that came back over a ring that was broken or not; a read by such a place tells how
+-- many slaves there are, and no more
+abbrev pub returned_over : Bool → Bool → DatagramRecord → DatagramRecord → KnownState → KnownState
+returned_over broken all s c k =
+    let two = may_be_two broken all (length k.slaves) s c in
+    if two && is_place_read s.command then record k { slaves = counted false all s c k.slaves }
+    else unplaced two s (returned all s c k)
+
+-- and behind one that was lost, of which one copy was sent or two
+abbrev pub lost_over : Bool → DatagramRecord → KnownState → KnownState
+lost_over two s k = unplaced two s (lost s k)
+
 -- ---- a trip
 
-abbrev pub frame_returned : Bool → List DatagramRecord → List DatagramRecord → KnownState → KnownState
-frame_returned all [] cs k = k
-frame_returned all (s ∷ ss) [] k = k
-frame_returned all (s ∷ ss) (c ∷ cs) k = frame_returned all ss cs (returned all s c k)
+abbrev pub frame_returned : Bool → Bool → List DatagramRecord → List DatagramRecord → KnownState → KnownState
+frame_returned broken all [] cs k = k
+frame_returned broken all (s ∷ ss) [] k = k
+frame_returned broken all (s ∷ ss) (c ∷ cs) k =
+    frame_returned broken all ss cs (returned_over broken all s c k)
 
-abbrev pub frame_lost : List DatagramRecord → KnownState → KnownState
-frame_lost [] k = k
-frame_lost (s ∷ ss) k = frame_lost ss (lost s k)
+abbrev pub frame_lost : Bool → List DatagramRecord → KnownState → KnownState
+frame_lost two [] k = k
+frame_lost two (s ∷ ss) k = frame_lost two ss (lost_over two s k)
 
 -- did all copies that were sent come back
 abbrev pub came_whole : Trip → Bool
 came_whole t = is_some t.back && (is_none t.second || is_some t.again)
 
 abbrev pub by_came : Trip → Option (List DatagramRecord) → KnownState → KnownState
-by_came t None k = frame_lost t.sent.frame k
-by_came t (Some came) k = frame_returned (came_whole t) t.sent.frame came k
+by_came t None k = frame_lost (is_some t.second) t.sent.frame k
+by_came t (Some came) k = frame_returned t.is_open (came_whole t) t.sent.frame came k
 
 -- what is told behind a trip that ended
 unfoldable pub trip_after : Trip → KnownState → KnownState

@@ -6,7 +6,8 @@ ghost use Rattle.ec_wire.specs.Datagram.{ado_of, nth};
 ghost use Rattle.ecat_trips.specs.Copies.{grown, moved};
 ghost use Rattle.ecat_told.specs.Slave.{is_at, told_run};
 ghost use Rattle.ecat_told.specs.Known.{at_place, at_station, by_whom, came_whole, doubtful, first_of};
-ghost use Rattle.ecat_told.specs.Known.{is_one_state, moves_logical, starts_up, tells_states, told_by};
+ghost use Rattle.ecat_told.specs.Known.{is_one_state, is_place_read, is_place_write, may_be_two};
+ghost use Rattle.ecat_told.specs.Known.{moves_logical, starts_up, tells_states, told_by};
 ghost use Rattle.ecat_told.specs.Known.{with_states, writes_station};
 ghost use Rattle.ecat_trips.specs.Alike.{moves_adp};
 ghost use Rattle.ecat_told.specs.declared.slave.Slave.{Slave};
@@ -175,6 +176,41 @@ fn moves_adp(command: Command) -> bool
     )
 }
 
+/// Does a command read from the slave at a place?
+fn is_place_read(command: Command) -> bool
+    ensures { result ≡ is_place_read command }
+{
+    matches!(command, Command::Aprd)
+}
+
+/// Does a command write to the slave at a place?
+fn is_place_write(command: Command) -> bool
+    ensures { result ≡ is_place_write command }
+{
+    matches!(command, Command::Apwr | Command::Aprw)
+}
+
+/// May the place of datagram `k` of a frame that came back be two slaves', of so many? Over an open ring it
+/// is that of a slave in front of the break and of one behind it.
+fn may_be_two(
+    broken: bool,
+    all: bool,
+    count: usize,
+    sent: &FrameBuf,
+    came: &FrameBuf,
+    k: usize,
+) -> bool
+    requires sent { k < length sent.now }
+    requires came { k < length came.now }
+    ensures { result ≡ may_be_two broken all count (nth sent.now k) (nth came.now k) }
+{
+    if all {
+        broken
+    } else {
+        usize::from(grown(sent, came, k)) != count
+    }
+}
+
 /// Does datagram `k` of a frame write a station address?
 fn writes_station(sent: &FrameBuf, k: usize) -> bool
     requires { k < length sent.now }
@@ -263,6 +299,8 @@ pub struct Known {
     ready: bool,
     /// Has a logical datagram moved?
     cycled: bool,
+    /// How many datagrams by place told nothing, since the place may have been two slaves'.
+    unplaced: u64,
 }
 
 impl Model for Known {
@@ -283,7 +321,8 @@ impl Model for Known {
 
 impl Known {
     ghost use Rattle.ecat_told.specs.Known.{counted, did, frame_lost, frame_returned, lost, nothing};
-    ghost use Rattle.ecat_told.specs.Known.{returned, slaves_after, trip_after};
+    ghost use Rattle.ecat_told.specs.Known.{lost_over, returned, returned_over, slaves_after, trip_after};
+    ghost use Rattle.ecat_told.specs.Known.{unplaced};
 
     /// Nothing is told yet.
     pub fn new(alloc: Global) -> Known
@@ -295,6 +334,7 @@ impl Known {
             stale: false,
             ready: true,
             cycled: false,
+            unplaced: 0,
         }
     }
 
@@ -430,6 +470,58 @@ impl Known {
         }
     }
 
+    /// Takes away what datagram `k` of a frame wrote by a place, where that may be two slaves'.
+    #[tactic(auto, unfolding(crate::specs::Known::unplaced))]
+    fn unplace(&mut self, two: bool, sent: &FrameBuf, k: usize)
+        requires { k < length sent.now }
+        ensures { self.new ≡ unplaced two (nth sent.now k) self.old }
+    {
+        if two && is_place_write(sent.command(k)) {
+            self.stale = true;
+            self.unplaced = self.unplaced.saturating_add(1);
+            tell_all(
+                self.slaves.as_mut_slice(),
+                How::Lost,
+                sent.ado(k),
+                sent.data(k),
+            );
+        }
+    }
+
+    /// Takes datagram `k` of a frame that came back; `broken` says whether slaves processed both copies of
+    /// it, `all` whether all copies of it came.
+    fn take_over(
+        &mut self,
+        broken: bool,
+        all: bool,
+        sent: &FrameBuf,
+        came: &FrameBuf,
+        k: usize,
+    ) -> Result<(), KnownFault>
+        requires sent { k < length sent.now }
+        requires came { k < length came.now }
+        ensures { OnOk result (self.new
+            ≡ returned_over broken all (nth sent.now k) (nth came.now k) self.old) }
+    {
+        let two = may_be_two(broken, all, self.slaves.len(), sent, came, k);
+        if two && is_place_read(sent.command(k)) {
+            self.unplaced = self.unplaced.saturating_add(1);
+            return self.count(false, all, sent, came, k);
+        }
+        self.take_datagram(all, sent, came, k)?;
+        self.unplace(two, sent, k);
+        Ok(())
+    }
+
+    /// Takes datagram `k` of a frame that was lost, of which two copies were sent or one.
+    fn lose_over(&mut self, two: bool, sent: &FrameBuf, k: usize)
+        requires { k < length sent.now }
+        ensures { self.new ≡ lost_over two (nth sent.now k) self.old }
+    {
+        self.lose_datagram(sent, k);
+        self.unplace(two, sent, k);
+    }
+
     /// Takes datagram `k` of a frame that was lost.
     #[tactic(auto, unfolding(crate::specs::Known::lost))]
     fn lose_datagram(&mut self, sent: &FrameBuf, k: usize)
@@ -447,23 +539,30 @@ impl Known {
         );
     }
 
-    /// Takes a frame that came back; `all` says whether all copies of it did.
-    fn take_frame(&mut self, all: bool, sent: &FrameBuf, came: &FrameBuf) -> Result<(), KnownFault>
-        ensures { OnOk result (self.new ≡ frame_returned all sent.now came.now self.old) }
+    /// Takes a frame that came back; `broken` says whether slaves processed both copies of it, `all` whether
+    /// all copies of it came.
+    fn take_frame(
+        &mut self,
+        broken: bool,
+        all: bool,
+        sent: &FrameBuf,
+        came: &FrameBuf,
+    ) -> Result<(), KnownFault>
+        ensures { OnOk result (self.new ≡ frame_returned broken all sent.now came.now self.old) }
     {
         let shared = sent.count().min(came.count());
         for k in 0..shared {
-            self.take_datagram(all, sent, came, k)?;
+            self.take_over(broken, all, sent, came, k)?;
         }
         Ok(())
     }
 
-    /// Takes a frame that was lost.
-    fn lose_frame(&mut self, sent: &FrameBuf)
-        ensures { self.new ≡ frame_lost sent.now self.old }
+    /// Takes a frame that was lost, of which two copies were sent or one.
+    fn lose_frame(&mut self, two: bool, sent: &FrameBuf)
+        ensures { self.new ≡ frame_lost two sent.now self.old }
     {
         for k in 0..sent.count() {
-            self.lose_datagram(sent, k);
+            self.lose_over(two, sent, k);
         }
     }
 
@@ -474,10 +573,12 @@ impl Known {
     {
         match &trip.came {
             None => {
-                self.lose_frame(&trip.sent.frame);
+                self.lose_frame(trip.second.is_some(), &trip.sent.frame);
                 Ok(())
             }
-            Some(came) => self.take_frame(came_whole(trip), &trip.sent.frame, came),
+            Some(came) => {
+                self.take_frame(trip.is_open, came_whole(trip), &trip.sent.frame, came)
+            }
         }
     }
 
@@ -487,7 +588,7 @@ impl Known {
         for k in 0..came.count() {
             unsend(&mut sent, k, self.slaves.len());
         }
-        self.take_frame(all, &sent, came)
+        self.take_frame(false, all, &sent, came)
     }
 
     /// Takes a frame that was sent as if all slaves that it means had taken it, though nothing came back.
@@ -526,6 +627,12 @@ impl Known {
             );
         }
         Ok(())
+    }
+
+    /// How many datagrams by place told nothing, since the place may have been two slaves': one in front of a
+    /// break and one behind it.
+    pub fn unplaced(&self) -> u64 {
+        self.unplaced
     }
 
     /// Does a start-up begin where stations are written next?

@@ -76,6 +76,11 @@ pub(crate) struct Learner {
     pub started: u64,
     /// How many had begun in front of the line.
     pub line_started: u64,
+    /// The packet of the first trip of which a datagram by place told nothing, since the ring may have been
+    /// open then.
+    pub first_unplaced: Option<u64>,
+    /// Does a place mean one slave in the frame that is taken?
+    is_placed: bool,
     /// Stations without places.
     pub strangers: Vec<Stranger>,
     /// Is what was sent taken as taken where nothing came back?
@@ -103,6 +108,8 @@ impl Learner {
             starts: [0; NAMED_STARTS],
             started: 0,
             line_started: 0,
+            first_unplaced: None,
+            is_placed: true,
             strangers: Vec::new(alloc),
             asked,
         })
@@ -153,7 +160,7 @@ impl Learner {
         match &trip.came {
             Some(came) => {
                 let ready = self.known.is_ready();
-                self.known.take(trip)?;
+                self.tell(trip)?;
                 self.take_start(ready, trip.first.number);
                 self.take_frame(&trip.first, &trip.sent.frame, came)
             }
@@ -161,14 +168,26 @@ impl Learner {
                 if self.asked {
                     let ready = self.known.is_ready();
                     self.known.take_asked(&trip.sent.frame)?;
+                    self.is_placed = true;
                     self.take_start(ready, trip.first.number);
                     self.take_frame(&trip.first, &trip.sent.frame, &trip.sent.frame)
                 } else {
                     self.lose_frame(trip.first.number, &trip.sent.frame);
-                    self.known.take(trip)
+                    self.tell(trip)
                 }
             }
         }
+    }
+
+    /// Takes what a trip that ended tells of the slaves.
+    fn tell(&mut self, trip: &Trip) -> Result<(), KnownFault> {
+        let unplaced = self.known.unplaced();
+        self.known.take(trip)?;
+        self.is_placed = self.known.unplaced() == unplaced;
+        if !self.is_placed && self.first_unplaced.is_none() {
+            self.first_unplaced = Some(trip.first.number);
+        }
+        Ok(())
     }
 
     /// Takes a frame that came back of no trip.
@@ -180,6 +199,7 @@ impl Learner {
     ) -> Result<(), KnownFault> {
         let ready = self.known.is_ready();
         self.known.take_stray(frame, all)?;
+        self.is_placed = true;
         self.take_start(ready, packet.number);
         let sent = uncounted(frame);
         self.take_frame(packet, &sent, frame)
@@ -270,7 +290,12 @@ impl Learner {
     {
         let command = sent.command(k);
         let slave = match meant_by(command) {
-            Whom::Place => Some(usize::from(0u16.wrapping_sub(sent.adp(k)))),
+            Whom::Place => {
+                if !self.is_placed {
+                    return Ok(());
+                }
+                Some(usize::from(0u16.wrapping_sub(sent.adp(k))))
+            }
             Whom::Station => {
                 let station = sent.adp(k);
                 self.known
@@ -361,6 +386,7 @@ impl Learner {
         let sent = kept.trip().sent.frame.copy();
         let ready = self.known.is_ready();
         self.known.take_asked(&sent)?;
+        self.is_placed = true;
         self.take_start(ready, first.number);
         self.take_frame(&first, &sent, &sent)
     }

@@ -55,8 +55,9 @@
 //! - `promises`: the laws of what is told.
 //!
 //! It cannot tell the places of slaves that are given their stations while the ring is open: a slave that
-//! answers from the other end counts at the same place. Where two count, what was told of that place is taken
-//! away, but not what was told of the other slave.
+//! answers from the other end counts at the same place. So what a place reads or writes is then told of
+//! nobody; that the ring was open is known since slaves processed both copies, and may be so where one copy
+//! came alone that did not pass all slaves, or none.
 //!
 //! It takes 400 bytes of memory for each slave twice, 1 KB for each kind of datagram, and what `ecat_trips`
 //! takes; of a stream 8 MB more.

@@ -161,7 +161,18 @@ fn put_head(page: &mut Page, learner: &Learner, at_end: bool) -> Result<(), Allo
     } else if 0 < sent && returned == 0 {
         page.comment("not told: what the slaves did, since nothing came back")?;
     }
-    Ok(())
+    put_unplaced(page, learner)
+}
+
+/// Puts how many datagrams by place told nothing, if some did.
+fn put_unplaced(page: &mut Page, learner: &Learner) -> Result<(), AllocError> {
+    let Some(first) = learner.first_unplaced else {
+        return Ok(());
+    };
+    let times = learner.known.unplaced();
+    page.comment(format_args!(
+        "not told: what datagrams by place did over an open ring, {times} times from packet {first} on"
+    ))
 }
 
 /// Puts where start-ups began, if there are several, or that there is none.

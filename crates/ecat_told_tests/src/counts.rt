@@ -1,9 +1,9 @@
 //! How many slaves there are, which is at which place, and when the line is found.
 
-use crate::play::Passed::{Back, Cycle, Half, Lost};
+use crate::play::Passed::{Alone, Back, Closed, Cycle, Half, Lost, Open};
 use crate::play::{At, Row, assert_played};
-use ec_wire::Command::{Apwr, Brd, Bwr, Fprd, Fpwr};
-use ecat_told::Byte::{Guessed, Told, Untold};
+use ec_wire::Command::{Aprd, Apwr, Brd, Bwr, Fprd, Fpwr};
+use ecat_told::Byte::{Guessed, Lost as LostByte, Told, Untold};
 use ecat_told::Known;
 use std::process::Abort;
 
@@ -105,6 +105,68 @@ const HALF: [Row; 3] = [
 fn missing_copies_count_no_slaves(rt: HostRuntime) {
     let mut known = Known::new(rt.alloc());
     assert_played(&rt, &mut known, &HALF);
+}
+
+/// Over an open ring a place is that of a slave in front of the break and of one behind it: what was written
+/// or read by it is told of no slave. A station is one slave's there, too.
+const OPEN: [Row; 9] = [
+    Row(
+        Closed(Apwr, 0x0000, 0x0010, &[1, 0], 1, 3),
+        3,
+        &[At(0, 0, Told(1)), At(1, 0, Untold), At(2, 0, Untold)],
+    ),
+    Row(
+        Closed(Apwr, 0xffff, 0x0010, &[2, 0], 1, 3),
+        3,
+        &[At(0, 0, Told(1)), At(1, 0, Told(2)), At(2, 0, Untold)],
+    ),
+    Row(
+        Closed(Apwr, 0xfffe, 0x0010, &[3, 0], 1, 3),
+        3,
+        &[At(2, 0, Told(3)), At(2, 1, Told(0))],
+    ),
+    // By its station a slave is found in front of a break and behind it.
+    Row(
+        Open(Fpwr, 0x0002, 0x0600, &[7], 1, 0),
+        3,
+        &[At(0, 8, Untold), At(1, 8, Told(7)), At(2, 8, Untold)],
+    ),
+    // One slave alone took it: it may be the third one, which is the second behind a break in front of it.
+    Row(
+        Open(Apwr, 0xffff, 0x0600, &[9], 1, 3),
+        3,
+        &[At(0, 8, LostByte), At(1, 8, LostByte), At(2, 8, LostByte)],
+    ),
+    // The copy that came back alone passed all slaves.
+    Row(
+        Alone(Apwr, 0xffff, 0x0600, &[5], 1, 3),
+        3,
+        &[At(0, 8, LostByte), At(1, 8, Told(5)), At(2, 8, LostByte)],
+    ),
+    // This one passed two of them.
+    Row(
+        Alone(Apwr, 0xffff, 0x0600, &[6], 1, 2),
+        3,
+        &[At(0, 8, LostByte), At(1, 8, LostByte), At(2, 8, LostByte)],
+    ),
+    // Nor does a read by place tell of anybody.
+    Row(
+        Open(Aprd, 0x0000, 0x0130, &[8], 1, 3),
+        3,
+        &[At(0, 2, Untold), At(1, 2, Untold), At(2, 2, Untold)],
+    ),
+    Row(
+        Open(Brd, 0x0000, 0x0130, &[8], 3, 3),
+        3,
+        &[At(0, 2, Told(8)), At(1, 2, Told(8)), At(2, 2, Told(8))],
+    ),
+];
+
+#[test]
+fn a_place_of_an_open_ring_tells_of_no_slave(rt: HostRuntime) {
+    let mut known = Known::new(rt.alloc());
+    assert_played(&rt, &mut known, &OPEN);
+    assert_eq!(rt; known.unplaced(), 3);
 }
 
 /// A broadcast read of AL status tells each slave's state where one state alone was or-ed, and all counted.

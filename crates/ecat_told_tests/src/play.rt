@@ -16,6 +16,12 @@ pub enum Passed {
     Lost(Command, u16, u16, &'static [u8]),
     /// Of two copies that were sent one came back.
     Half(Command, u16, u16, &'static [u8], u16),
+    /// Of two copies that were sent one came back, the counter moved and the ADP grown so far.
+    Alone(Command, u16, u16, &'static [u8], u16, u16),
+    /// Both copies came back, and slaves processed both: the counter moved and the ADP grown so far in both.
+    Open(Command, u16, u16, &'static [u8], u16, u16),
+    /// Both copies came back, and slaves processed one alone.
+    Closed(Command, u16, u16, &'static [u8], u16, u16),
     /// A logical exchange of one byte whose counter moved so far.
     Cycle(u16),
 }
@@ -54,6 +60,22 @@ fn packet() -> Outline {
     }
 }
 
+/// A trip of two copies, which both came back.
+fn both(sent: FrameBuf, came: FrameBuf, is_open: bool) -> Trip {
+    Trip {
+        sent: SentFrame {
+            frame: sent,
+            turned: false,
+        },
+        first: packet(),
+        second: Some(packet()),
+        came: Some(came),
+        back: Some(packet()),
+        again: Some(packet()),
+        is_open,
+    }
+}
+
 /// A trip of a frame, of which this came back.
 fn trip(sent: FrameBuf, came: Option<FrameBuf>, half: bool) -> Trip {
     let back = if came.is_some() { Some(packet()) } else { None };
@@ -68,6 +90,7 @@ fn trip(sent: FrameBuf, came: Option<FrameBuf>, half: bool) -> Trip {
         came,
         back,
         again: None,
+        is_open: false,
     }
 }
 
@@ -92,6 +115,22 @@ fn trip_of(passed: &Passed) -> Trip {
             let address = address_of(adp, register);
             let back = frame(command, address, sent, moved);
             trip(frame(command, address, sent, 0), Some(back), true)
+        }
+        Passed::Alone(command, adp, register, bytes, moved, grown) => {
+            let behind = address_of(adp.wrapping_add(grown), register);
+            let back = frame(command, behind, bytes, moved);
+            let sent = frame(command, address_of(adp, register), bytes, 0);
+            trip(sent, Some(back), true)
+        }
+        Passed::Open(command, adp, register, bytes, moved, grown) => {
+            let behind = address_of(adp.wrapping_add(grown), register);
+            let sent = frame(command, address_of(adp, register), bytes, 0);
+            both(sent, frame(command, behind, bytes, moved), true)
+        }
+        Passed::Closed(command, adp, register, bytes, moved, grown) => {
+            let behind = address_of(adp.wrapping_add(grown), register);
+            let sent = frame(command, address_of(adp, register), bytes, 0);
+            both(sent, frame(command, behind, bytes, moved), false)
         }
         Passed::Cycle(moved) => trip(
             frame(Command::Lrw, 0x0001_0000, &[0], 0),

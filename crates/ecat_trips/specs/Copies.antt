@@ -1,11 +1,11 @@
 -- What a returned copy adds to those of its trip that came before (IEC 61158-4-12, the datagram structure).
 use Rattle.std.specs.Prelude.{ℕ, ◌+◌, ◌*◌, ◌/◌, ◌%◌, ◌==◌, ◌&&◌, if◌then◌else◌, Bool, List, length}
-use Rattle.std.specs.Prelude.{Option, None, Some}
+use Rattle.std.specs.Prelude.{Option, None, Some, false, not}
 use Rattle.ec_wire.specs.Datagram.{DatagramRecord}
 use Rattle.ec_wire.specs.declared.command.Command.{Command}
 use Rattle.ec_merge.specs.Rule.{distance, joined_count, joined_bits, joined_flag}
 use Rattle.ec_merge.specs.Bytes.{joined_bytes}
-use Rattle.ecat_trips.specs.Alike.{moves_adp}
+use Rattle.ecat_trips.specs.Alike.{is_still, moves_adp}
 use Rattle.ecat_trips.specs.Zipped.{zipped}
 
 -- a datagram that came, with the index of the sent one
@@ -56,6 +56,12 @@ abbrev pub joined_with : List DatagramRecord → List DatagramRecord → Option 
     → List DatagramRecord
 joined_with sent other None = other
 joined_with sent other (Some came) = joined sent came other
+
+-- did slaves process another copy and what came: over a closed ring one copy passes all slaves, and the other
+-- comes back as it was sent
+abbrev pub both_moved : List DatagramRecord → List DatagramRecord → Option (List DatagramRecord) → Bool
+both_moved sent other None = false
+both_moved sent other (Some came) = not (is_still sent came) && not (is_still sent other)
 
 -- how far a datagram's counter has moved, modulo 65,536, and how far its ADP has grown
 abbrev pub moved : DatagramRecord → DatagramRecord → ℕ

@@ -7,7 +7,7 @@ use Rattle.ecat_trips.specs.declared.packet.Outline.{Outline}
 use Rattle.ecat_trips.specs.declared.trip.SentFrame.{SentFrame}
 use Rattle.ecat_trips.specs.declared.trip.Trip.{Trip}
 use Rattle.ecat_trips.specs.Alike.{same_key, same_frame}
-use Rattle.ecat_trips.specs.Copies.{with_indexes, joined_with}
+use Rattle.ecat_trips.specs.Copies.{both_moved, with_indexes, joined_with}
 
 -- a frame bears the key of a sent one: that of its first copy, or of its second
 abbrev pub bears : List DatagramRecord → SentFrame → Bool
@@ -24,6 +24,7 @@ begun p frame = record {
   came = None;
   back = None;
   again = None;
+  is_open = false;
 }
 
 -- a packet is the second sent copy of a trip: of another base, the same frame, with its indexes turned or not
@@ -45,7 +46,11 @@ with_back p frame t = record t { came = Some (with_indexes t.sent.frame frame); 
 abbrev pub with_again : Outline → List DatagramRecord → Trip → Trip
 with_again p frame t =
     let other = with_indexes t.sent.frame frame in
-    record t { came = Some (joined_with t.sent.frame other t.came); again = Some p }
+    record t {
+      came = Some (joined_with t.sent.frame other t.came);
+      again = Some p;
+      is_open = both_moved t.sent.frame other t.came;
+    }
 
 -- one more copy that comes back
 abbrev pub with_return_by : Option Outline → Outline → List DatagramRecord → Trip → Trip

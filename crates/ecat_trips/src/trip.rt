@@ -1,9 +1,9 @@
 //! A trip: what was sent, and what came back of it.
 
 ghost use Rattle.std.specs.Prelude.{◌≡◌, IfOk};
-ghost use Rattle.ecat_trips.specs.Copies.{joined_with};
+ghost use Rattle.ecat_trips.specs.Copies.{both_moved, joined_with};
 
-use crate::alike::{first_number, same_frame, same_key};
+use crate::alike::{first_number, is_still, same_frame, same_key};
 use crate::copies::{join_in, with_indexes};
 use crate::packet::Outline;
 use ec_wire::FrameBuf;
@@ -55,6 +55,9 @@ pub struct Trip {
     pub back: Option<Outline>,
     /// That of the second.
     pub again: Option<Outline>,
+    /// Did slaves process both copies that came back? Over a closed ring one of them comes back as it was
+    /// sent.
+    pub is_open: bool,
 }
 
 impl Trip {
@@ -75,6 +78,7 @@ impl Trip {
             came: None,
             back: None,
             again: None,
+            is_open: false,
         }
     }
 
@@ -115,6 +119,7 @@ impl Trip {
         ensures { self.new ≡ with_again packet frame.now self.old }
     {
         let other = with_indexes(&self.sent.frame, frame);
+        self.is_open = both_moved(&self.sent.frame, &self.came, &other);
         self.came = Some(joined_with(&self.sent.frame, self.came.take(), other));
         self.again = Some(packet);
     }
@@ -127,6 +132,16 @@ impl Trip {
             None => self.take_back(packet, frame),
             Some(_) => self.take_again(packet, frame),
         }
+    }
+}
+
+/// Did slaves process both the copy that came and another one?
+fn both_moved(sent: &FrameBuf, came: &Option<FrameBuf>, other: &FrameBuf) -> bool
+    ensures { result ≡ both_moved sent.now other.now came.now }
+{
+    match came {
+        None => false,
+        Some(came) => !is_still(sent, came) && !is_still(sent, other),
     }
 }
 

@@ -11,11 +11,13 @@ returns c =
     let s = c.args.sent.now in
     let a = c.args.came.now in
     let k = c.loop-k.k in
+    let broken = c.args.broken in
     let all = c.args.all in
     elim (cases_lt k (length s)) [
       | inr past ↦
-          sym (ap (λ ds. frame_returned all ds (drop k a) c.loop-k.self) (drop_all k s past)) ∙ c.loop-k.invariant
+          sym (ap (λ ds. frame_returned broken all ds (drop k a) c.loop-k.self) (drop_all k s past))
+          ∙ c.loop-k.invariant
       | inl inside ↦
-          sym (ap (λ ds. frame_returned all (drop k s) ds c.loop-k.self) (drop_all k a (omega arith))
-          ∙ none-came all (drop k s) c.loop-k.self) ∙ c.loop-k.invariant
+          sym (ap (λ ds. frame_returned broken all (drop k s) ds c.loop-k.self) (drop_all k a (omega arith))
+          ∙ none-came broken all (drop k s) c.loop-k.self) ∙ c.loop-k.invariant
     ]
