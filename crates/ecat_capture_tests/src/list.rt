@@ -2,11 +2,10 @@
 //! an answer, so that each allocation can be made to fail in turn.
 
 mod ends;
-mod first_form;
+mod fronts;
 mod lines;
 mod made;
 mod refused;
-mod same;
 mod samples;
 mod stats;
 

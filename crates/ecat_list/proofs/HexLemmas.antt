@@ -3,7 +3,7 @@ use Rattle.std.proofs.Common.{◌≡◌, ℕ, ◌+◌, ◌*◌, ◌/◌, ◌%◌
 use Rattle.std.proofs.Common.{List, [], ◌∷◌, ◌++◌, map, length, replicate, take, drop, set, get_or, Fits, w8}
 use Rattle.std.proofs.Common.{◌≤◌, ◌-◌, suc, zero, refl, sym, ap, ap₂, ◌∙◌, subst, arith, bit_and}
 use Rattle.std.proofs.lemmas.List.{append_assoc, take_at, drop_at, take_more, take_more_set, take-take, take_all, length-set}
-use Rattle.std.proofs.lemmas.List.{take-append-le, drop-append-le, drop-drop, length-take-le, length-append}
+use Rattle.std.proofs.lemmas.List.{take-append-le, take-append-drop, drop-append-le, drop-drop, length-take-le, length-append}
 use Rattle.std.proofs.lemmas.Bool.{agree_below_at, eqb-true}
 use Rattle.std.proofs.lemmas.Simd.{pick_l_whole}
 use Rattle.std.specs.Int.Digits.{AllBelowBase}
@@ -172,6 +172,12 @@ drop_of_front (suc f) n [] = ap (drop (suc f)) (take_all (suc f + n) [] (omega a
 drop_of_front (suc f) n (x ∷ xs) =
     let sum : suc f + n ≡ suc (f + n) = omega arith in
     ap (λ k. drop (suc f) (take k (x ∷ xs))) sum ∙ drop_of_front f n xs
+
+pub hex_and_on : (j w : ℕ) (xs : List ℕ) → hex (take j xs) ++ hex (take w (drop j xs)) ≡ hex (take (j + w) xs)
+hex_and_on j w xs = sym (hex-append (take j xs) (take w (drop j xs))) ∙ ap hex (take_and_on j w xs)
+
+pub hex_and_rest : (j : ℕ) (xs : List ℕ) → hex (take j xs) ++ hex (drop j xs) ≡ hex xs
+hex_and_rest j xs = sym (hex-append (take j xs) (drop j xs)) ∙ ap hex (take-append-drop j xs)
 
 -- ---- the digits of bytes from the place `from` on, of which those of the first m bytes stand there
 

@@ -1,4 +1,7 @@
+mod FrontLemmas
 mod HexLemmas
+mod LineLemmas
 mod PassedLemmas
+mod SecondsLemmas
 mod StatsLemmas
 mod TallyLemmas

@@ -1,6 +1,12 @@
+pub mod Address
 pub mod Counts
 pub mod Digits
+pub mod Front
+pub mod Line
+pub mod Listing
+pub mod Note
 pub mod Passed
+pub mod Seconds
 pub mod Shown
 pub mod Stats
 pub mod Tally

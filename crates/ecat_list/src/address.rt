@@ -1,8 +1,9 @@
 //! The address of a datagram as text.
-ghost use Rattle.std.specs.Prelude.{◌≡◌, ◌≤◌, ◌+◌};
+ghost use Rattle.std.specs.Prelude.{◌≡◌, ◌≤◌, ◌+◌, ◌++◌, OnOk, drop};
+ghost use Rattle.ecat_list.specs.Address.{address_words, kind_of, place_words, register_words};
 
 use crate::row::Row;
-use crate::text::{four_digits, put_byte, put_decimal, put_hex};
+use crate::text::{four_digits, put_byte, put_decimal, put_eight_digits, put_four_digits};
 use ec_wire::{Command, ado_of, adp_of};
 use ecat_trips::moves_adp;
 use std::alloc::AllocError;
@@ -19,7 +20,9 @@ enum Kind {
 }
 
 /// How the address of this command is read.
-fn kind_of(command: Command) -> Kind {
+fn kind_of(command: Command) -> Kind
+    ensures { result ≡ kind_of command }
+{
     match command {
         Command::Lrd | Command::Lwr | Command::Lrw => Kind::Logical,
         Command::Aprd | Command::Apwr | Command::Aprw | Command::Armw => Kind::Place,
@@ -34,11 +37,13 @@ pub(crate) fn put_address(
     text: &mut Vec<u8>,
     command: Command,
     address: u32,
-) -> Result<(), AllocError> {
+) -> Result<(), AllocError>
+    ensures { OnOk result (text.new.items ≡ text.old.items ++ address_words command address) }
+{
     match kind_of(command) {
         Kind::Logical => {
             text.extend_from_slice(b"0x")?;
-            put_hex(text, &address.to_be_bytes())
+            put_eight_digits(text, address)
         }
         Kind::Place => {
             put_place(text, adp_of(address))?;
@@ -46,7 +51,7 @@ pub(crate) fn put_address(
         }
         Kind::Station => {
             text.extend_from_slice(b"0x")?;
-            put_hex(text, &adp_of(address).to_be_bytes())?;
+            put_four_digits(text, adp_of(address))?;
             put_register(text, address)
         }
     }
@@ -61,14 +66,16 @@ pub(crate) fn put_group_address(
 ) -> Result<(), AllocError> {
     if moves_adp(command) {
         text.extend_from_slice(b"0x")?;
-        put_hex(text, &((address % 65536) as u16).to_be_bytes())
+        put_four_digits(text, (address % 65536) as u16)
     } else {
         put_address(text, command, address)
     }
 }
 
 /// Puts a place on the line, as a signed number.
-fn put_place(text: &mut Vec<u8>, adp: u16) -> Result<(), AllocError> {
+fn put_place(text: &mut Vec<u8>, adp: u16) -> Result<(), AllocError>
+    ensures { OnOk result (text.new.items ≡ text.old.items ++ place_words adp) }
+{
     if adp < 0x8000 {
         put_decimal(text, u64::from(adp))
     } else {
@@ -78,15 +85,19 @@ fn put_place(text: &mut Vec<u8>, adp: u16) -> Result<(), AllocError> {
 }
 
 /// Puts a register's address behind a colon.
-fn put_register(text: &mut Vec<u8>, address: u32) -> Result<(), AllocError> {
+fn put_register(text: &mut Vec<u8>, address: u32) -> Result<(), AllocError>
+    ensures { OnOk result (text.new.items ≡ text.old.items ++ register_words address) }
+{
     text.extend_from_slice(b":0x")?;
-    put_hex(text, &ado_of(address).to_be_bytes())
+    put_four_digits(text, ado_of(address))
 }
 
 /// Puts a datagram's address in front of a row.
 pub(crate) fn lead_address(row: &mut Row, command: Command, address: u32)
     requires { 28 ≤ row.old.from }
-    ensures { row.old.from ≤ row.new.from + 28 }
+    ensures at { row.old.from ≤ row.new.from + 28 }
+    ensures written { drop row.new.from row.new.bytes
+        ≡ address_words command address ++ drop row.old.from row.old.bytes }
 {
     match kind_of(command) {
         Kind::Logical => {
@@ -109,7 +120,9 @@ pub(crate) fn lead_address(row: &mut Row, command: Command, address: u32)
 /// Puts a place on the line in front, as a signed number.
 fn lead_place(row: &mut Row, adp: u16)
     requires { 21 ≤ row.old.from }
-    ensures { row.old.from ≤ row.new.from + 21 }
+    ensures at { row.old.from ≤ row.new.from + 21 }
+    ensures written { drop row.new.from row.new.bytes
+        ≡ place_words adp ++ drop row.old.from row.old.bytes }
 {
     if adp < 0x8000 {
         row.lead_decimal(u64::from(adp));
@@ -122,7 +135,9 @@ fn lead_place(row: &mut Row, adp: u16)
 /// Puts a register's address in front, behind a colon.
 fn lead_register(row: &mut Row, address: u32)
     requires { 7 ≤ row.old.from }
-    ensures { row.new.from + 7 ≡ row.old.from }
+    ensures at { row.new.from + 7 ≡ row.old.from }
+    ensures written { drop row.new.from row.new.bytes
+        ≡ register_words address ++ drop row.old.from row.old.bytes }
 {
     row.lead_bytes(&four_digits(ado_of(address)));
     row.lead_bytes(b":0x");

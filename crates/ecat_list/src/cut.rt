@@ -1,9 +1,10 @@
 //! Packets that were cut when they were captured: what of a frame stands there whole, and what is cut.
+ghost use Rattle.std.specs.Prelude.{◌≡◌, ◌≤◌, ◌+◌, ◌++◌, drop};
+ghost use Rattle.ecat_list.specs.Note.{cut_words};
 
-use crate::address::put_address;
-use crate::text::put_decimal;
+use crate::address::lead_address;
+use crate::row::Row;
 use ec_wire::{Command, Form, FrameBuf, MAX_FRAME};
-use std::alloc::AllocError;
 
 /// The bytes of a frame's header (IEC 61158-4-12, the EtherCAT frame header).
 const FRAME_HEADER: usize = 2;
@@ -56,15 +57,20 @@ impl CutDatagram {
         })
     }
 
-    /// Puts in which datagram a packet is cut.
-    pub(crate) fn put(&self, text: &mut Vec<u8>) -> Result<(), AllocError> {
-        text.extend_from_slice(b" in ")?;
-        text.extend_from_slice(self.command.name().as_bytes())?;
-        text.extend_from_slice(b" ")?;
-        put_address(text, self.command, self.address)?;
-        text.extend_from_slice(b" ")?;
-        put_decimal(text, u64::from(self.length))?;
-        text.extend_from_slice(b" bytes")
+    /// Puts in front in which datagram a packet is cut.
+    pub(crate) fn lead(&self, row: &mut Row)
+        requires { 64 ≤ row.old.from }
+        ensures at { row.old.from ≤ row.new.from + 64 }
+        ensures written { drop row.new.from row.new.bytes
+            ≡ cut_words self.now ++ drop row.old.from row.old.bytes }
+    {
+        row.lead_bytes(b" bytes");
+        row.lead_decimal(u64::from(self.length));
+        row.lead_byte(b' ');
+        lead_address(row, self.command, self.address);
+        row.lead_byte(b' ');
+        row.lead_bytes(self.command.name().as_bytes());
+        row.lead_bytes(b" in ");
     }
 }
 

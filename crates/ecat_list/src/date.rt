@@ -1,8 +1,6 @@
 //! A time as a date, in UTC.
 
-ghost use Rattle.std.specs.Prelude.{◌≤◌};
-
-use crate::text::{put_byte, put_decimal, put_digits};
+use crate::text::{one_and_fraction, put_behind, put_byte, put_decimal};
 use std::alloc::AllocError;
 
 /// The seconds of a day.
@@ -61,17 +59,12 @@ pub(crate) fn put_date(text: &mut Vec<u8>, nanoseconds: u64, fine: bool) -> Resu
     put_two(text, b':', seconds / 60 % 60)?;
     put_two(text, b':', seconds % 60)?;
     put_byte(text, b'.')?;
-    let behind = nanoseconds % 1_000_000_000;
-    if fine {
-        put_digits(text, behind, 9)?;
-    } else {
-        put_digits(text, behind / 1000, 6)?;
-    }
+    put_behind(text, one_and_fraction(nanoseconds, fine))?;
     put_byte(text, b'Z')
 }
 
 /// Puts a byte, and a number by two digits behind it.
 fn put_two(text: &mut Vec<u8>, before: u8, number: u64) -> Result<(), AllocError> {
     put_byte(text, before)?;
-    put_digits(text, number, 2)
+    put_behind(text, 100 + number % 100)
 }

@@ -22,16 +22,18 @@
 //! Of a packet that was cut when it was captured the datagrams are listed that are there whole, and behind
 //! the fault stands in which one it is cut.
 //!
-//! What is promised: what a byte and a decimal number put at the end of a text (`put_byte`, `put_decimal`),
-//! and what these and the digits of bytes put in front of the line under way (`Row`); what `Stats` counts, of
-//! each group of datagrams apart those that were sent, came back, were lost, came late and are stray, each
-//! with its working counters in the order in which they came first, how often and where first, and how many
-//! datagrams are of further groups than are told apart (`specs/Stats.antt`, `specs/Passed.antt`); and that no
-//! bytes, times or counters make any of this crate fail but for memory and the output. The order of the
-//! columns, the times and how a listing ends are tried by tests alone.
+//! What is promised: what a listing puts of a frame's datagrams, and of a packet that has none to show, in
+//! each form (`specs/Listing.antt`): the line of a datagram, column by column (`specs/Line.antt`), with times
+//! in seconds by six digits behind the point, or nine (`specs/Seconds.antt`), and the address as the command
+//! reads it (`specs/Address.antt`), and the line of such a packet (`specs/Note.antt`); where memory runs out,
+//! a front of it; what `Stats` counts, of each group of datagrams apart those that were sent, came back, were
+//! lost, came late and are stray, each with its working counters in the order in which they came first, how
+//! often and where first, and how many datagrams are of further groups than are told apart
+//! (`specs/Stats.antt`, `specs/Passed.antt`); and that no bytes, times or counters make any of this crate
+//! fail but for memory and the output. Which packets these are, when a writer is handed what, how a listing
+//! ends and the texts of sums are tried by tests alone.
 
 mod address;
-mod columns;
 mod counters;
 mod cut;
 mod date;

@@ -1,4 +1,9 @@
 //! `ecat list`: what is told of each packet of a capture.
+ghost use Rattle.std.specs.Prelude.{◌≡◌, ◌++◌, OnOk};
+ghost use Rattle.ecat_list.specs.Line.{lines_words};
+ghost use Rattle.ecat_list.specs.Listing.{noted_words, told_words};
+ghost use Rattle.ecat_list.specs.Note.{note_line_words};
+
 use crate::cut::{CutDatagram, refill_front};
 use crate::line::{CSV_HEAD, Head, Note, Since, Style, any_frame, put_datagrams, put_note};
 use crate::output::{Output, Stop};
@@ -245,7 +250,10 @@ impl<'a, W: Write> Listing<'a, W> {
     }
 
     /// Takes the datagrams of the frame that was read.
-    fn datagrams(&mut self, head: &Head) -> Result<(), Stop> {
+    fn datagrams(&mut self, head: &Head) -> Result<(), Stop>
+        ensures { OnOk result (self.new.output.text.items
+            ≡ self.old.output.text.items ++ told_words self.old.asked.form head.now self.old.frame) }
+    {
         match self.asked.form {
             Form::Lines => self.datagram_lines(Style::Words, head),
             Form::Csv => self.datagram_lines(Style::Csv, head),
@@ -254,7 +262,10 @@ impl<'a, W: Write> Listing<'a, W> {
     }
 
     /// Puts a line for each datagram.
-    fn datagram_lines(&mut self, style: Style, head: &Head) -> Result<(), Stop> {
+    fn datagram_lines(&mut self, style: Style, head: &Head) -> Result<(), Stop>
+        ensures { OnOk result (self.new.output.text.items
+            ≡ self.old.output.text.items ++ lines_words style head.now self.old.frame) }
+    {
         let text = &mut self.output.text;
         put_datagrams(
             text,
@@ -268,16 +279,25 @@ impl<'a, W: Write> Listing<'a, W> {
     }
 
     /// Takes a packet that has no datagrams to show.
-    fn note(&mut self, head: &Head, note: Note) -> Result<(), Stop> {
+    fn note(&mut self, head: &Head, note: Note) -> Result<(), Stop>
+        ensures { OnOk result (self.new.output.text.items
+            ≡ self.old.output.text.items ++ noted_words self.old.asked.form head.now note) }
+    {
         match self.asked.form {
-            Form::Lines => put_note(&mut self.output.text, Style::Words, head, note)?,
-            Form::Csv => put_note(&mut self.output.text, Style::Csv, head, note)?,
-            Form::Faults => {
-                if note.is_fault() {
-                    put_note(&mut self.output.text, Style::Words, head, note)?;
-                }
-            }
+            Form::Lines => self.note_line(Style::Words, head, note),
+            Form::Csv => self.note_line(Style::Csv, head, note),
+            Form::Faults if note.is_fault() => self.note_line(Style::Words, head, note),
+            Form::Faults => Ok(()),
         }
+    }
+
+    /// Puts the line of such a packet.
+    fn note_line(&mut self, style: Style, head: &Head, note: Note) -> Result<(), Stop>
+        ensures { OnOk result (self.new.output.text.items
+            ≡ self.old.output.text.items ++ note_line_words style head.now note) }
+    {
+        let text = &mut self.output.text;
+        put_note(text, &mut self.head, style, head, note)?;
         Ok(())
     }
 

@@ -2,12 +2,14 @@
 //!
 //! The digits of a number come lowest first. So a row that grows towards its front takes them where they
 //! stand, needs no look whether memory is there, and goes to the text by one call.
-ghost use Rattle.std.specs.Prelude.{◌≡◌, ◌<◌, ◌≤◌, ◌+◌, ◌*◌, ◌++◌, ◌∷◌, [], decimal, drop, length, map, take};
+ghost use Rattle.std.specs.Prelude.{◌≡◌, ◌<◌, ◌≤◌, ◌+◌, ◌*◌, ◌++◌, ◌∷◌, [], codes, decimal, drop};
+ghost use Rattle.std.specs.Prelude.{length, map, take};
 ghost use Rattle.std.specs.Int.Digits.{AllBelowBase};
 ghost use Rattle.ecat_list.specs.Digits.{digit, hex};
+ghost use Rattle.ecat_list.specs.Seconds.{seconds_words};
 ghost use Rattle.ecat_list.specs.declared.row.TheConstants.{ROOM};
 
-use crate::text::spell;
+use crate::text::{one_and_fraction, spell};
 use itoa::write_digits;
 use std::simd::prelude::*;
 
@@ -35,9 +37,10 @@ impl Row {
 
     /// Takes all bytes away.
     pub(crate) fn clear(&mut self)
-        ensures { self.new.from ≡ ROOM }
+        ensures at { self.new.from ≡ ROOM }
+        ensures none { drop self.new.from self.new.bytes ≡ [] }
     {
-        self.from = ROOM;
+        self.from = self.bytes.as_slice().len();
     }
 
     /// The bytes.
@@ -141,6 +144,8 @@ impl Row {
     fn lead_behind(&mut self, one_and_digits: u64)
         requires { 20 ≤ self.old.from }
         ensures at { self.old.from ≤ self.new.from + 20 }
+        ensures written { drop self.new.from self.new.bytes
+            ≡ codes "." ++ drop 1 (decimal one_and_digits) ++ drop self.old.from self.old.bytes }
     {
         self.lead_decimal(one_and_digits);
         self.bytes[self.from] = b'.';
@@ -150,13 +155,10 @@ impl Row {
     pub(crate) fn lead_seconds(&mut self, nanoseconds: u64, fine: bool)
         requires { 40 ≤ self.old.from }
         ensures at { self.old.from ≤ self.new.from + 40 }
+        ensures written { drop self.new.from self.new.bytes
+            ≡ seconds_words nanoseconds fine ++ drop self.old.from self.old.bytes }
     {
-        let behind = nanoseconds % 1_000_000_000;
-        if fine {
-            self.lead_behind(1_000_000_000 + behind);
-        } else {
-            self.lead_behind(1_000_000 + behind / 1000);
-        }
+        self.lead_behind(one_and_fraction(nanoseconds, fine));
         self.lead_decimal(nanoseconds / 1_000_000_000);
     }
 }

@@ -1,6 +1,10 @@
 //! Numbers as text, put at the end of a text.
-ghost use Rattle.std.specs.Prelude.{◌≡◌, ◌<◌, ◌≤◌, ◌*◌, ◌++◌, ◌∷◌, [], OnOk, decimal, drop, length, take};
+ghost use Rattle.std.specs.Prelude.{◌≡◌, ◌<◌, ◌≤◌, ◌*◌, ◌++◌, ◌∷◌, [], OnErr, OnOk, decimal};
+ghost use Rattle.std.specs.Prelude.{drop, length, take};
 ghost use Rattle.ecat_list.specs.Digits.{digit, eight_digits, four_digits, hex};
+ghost use Rattle.ecat_list.specs.Front.{IsFront};
+ghost use Rattle.ecat_list.specs.Seconds.{fraction_words, seconds_words};
+ghost use Rattle.ecat_list.specs.declared.text.TheConstants.{PIECE};
 
 use crate::row::Row;
 use itoa::Buffer;
@@ -19,16 +23,34 @@ pub(crate) fn put_byte(text: &mut Vec<u8>, byte: u8) -> Result<(), AllocError>
     text.extend_from_slice(&[byte])
 }
 
-/// Is there room for a row, so that no memory need be asked for?
-pub(crate) fn has_room(text: &Vec<u8>, row: &Row) -> bool {
-    row.as_slice().len() <= text.capacity().saturating_sub(text.len())
+/// Is there room for these bytes, so that no memory need be asked for?
+fn has_room(text: &Vec<u8>, bytes: &[u8]) -> bool {
+    bytes.len() <= text.capacity().saturating_sub(text.len())
 }
 
-/// Puts a row.
+/// Puts a row: by one call where there is room for it.
 pub(crate) fn put_row(text: &mut Vec<u8>, row: &Row) -> Result<(), AllocError>
-    ensures { OnOk result (text.new.items ≡ text.old.items ++ drop row.now.from row.now.bytes) }
+    ensures ok { OnOk result (text.new.items ≡ text.old.items ++ drop row.now.from row.now.bytes) }
+    ensures err { OnErr result (IsFront text.new.items
+        (text.old.items ++ drop row.now.from row.now.bytes)) }
 {
-    text.extend_from_slice(row.as_slice())
+    let bytes = row.as_slice();
+    if has_room(text, bytes) {
+        text.extend_from_slice(bytes)
+    } else {
+        put_each(text, bytes)
+    }
+}
+
+/// Puts bytes one by one: where memory runs out, those stand there for which there was room.
+fn put_each(text: &mut Vec<u8>, bytes: &[u8]) -> Result<(), AllocError>
+    ensures ok { OnOk result (text.new.items ≡ text.old.items ++ bytes.now) }
+    ensures err { OnErr result (IsFront text.new.items (text.old.items ++ bytes.now)) }
+{
+    for byte in bytes {
+        text.push(*byte)?;
+    }
+    Ok(())
 }
 
 /// Puts the decimal digits of a number.
@@ -75,14 +97,25 @@ fn digit(number: u16) -> u8
 }
 
 /// Puts the hexadecimal digits of bytes.
-pub(crate) fn put_hex(text: &mut Vec<u8>, bytes: &[u8]) -> Result<(), AllocError> {
-    let mut digits = [0; 2 * PIECE];
-    for piece in bytes.chunks(PIECE) {
-        let count = piece.len().min(PIECE);
-        spell(&piece[..count], &mut digits);
-        text.extend_from_slice(&digits[..2 * count])?;
+pub(crate) fn put_hex(text: &mut Vec<u8>, bytes: &[u8]) -> Result<(), AllocError>
+    ensures { OnOk result (text.new.items ≡ text.old.items ++ hex bytes.now) }
+{
+    let pieces = bytes.len() / PIECE;
+    for k in 0..pieces {
+        put_piece(text, &bytes[PIECE * k..PIECE * k + PIECE])?;
     }
+    put_piece(text, &bytes[PIECE * pieces..])?;
     Ok(())
+}
+
+/// Puts the hexadecimal digits of few bytes.
+fn put_piece(text: &mut Vec<u8>, bytes: &[u8]) -> Result<(), AllocError>
+    requires { length bytes.now ≤ PIECE }
+    ensures { OnOk result (text.new.items ≡ text.old.items ++ hex bytes.now) }
+{
+    let mut digits = [0; 2 * PIECE];
+    spell(bytes, &mut digits);
+    text.extend_from_slice(&digits[..2 * bytes.len()])
 }
 
 /// Spells bytes by two hexadecimal digits each. No digit is looked up, so that many are spelt at once.
@@ -108,17 +141,25 @@ pub(crate) fn digit_of(number: u8) -> u8
     }
 }
 
-/// Puts the last digits of a number, so many as the width, with zeros before them.
-pub(crate) fn put_digits(text: &mut Vec<u8>, number: u64, width: usize) -> Result<(), AllocError>
-    requires { width ≤ 9 }
+/// A one, and behind it the digits that stand behind the point of a time in seconds, from nanoseconds: six,
+/// or nine where it is fine. So the zeros among them that stand first are there.
+pub(crate) fn one_and_fraction(nanoseconds: u64, fine: bool) -> u64
+    ensures { drop 1 (decimal result) ≡ fraction_words nanoseconds fine }
 {
-    let mut digits = [b'0'; 9];
-    let mut rest = number;
-    for place in 0..width {
-        digits[width - 1 - place] = DIGITS[(rest % 10) as usize];
-        rest /= 10;
+    let behind = nanoseconds % 1_000_000_000;
+    if fine {
+        1_000_000_000 + behind
+    } else {
+        1_000_000 + behind / 1000
     }
-    text.extend_from_slice(&digits[..width])
+}
+
+/// Puts the decimal digits of a number but for the first.
+pub(crate) fn put_behind(text: &mut Vec<u8>, one_and_digits: u64) -> Result<(), AllocError>
+    ensures { OnOk result (text.new.items ≡ text.old.items ++ drop 1 (decimal one_and_digits)) }
+{
+    let mut buffer = Buffer::new();
+    text.extend_from_slice(&buffer.format(one_and_digits).as_bytes()[1..])
 }
 
 /// Puts a time in seconds from nanoseconds, to the microsecond, or to the nanosecond.
@@ -126,13 +167,10 @@ pub(crate) fn put_seconds(
     text: &mut Vec<u8>,
     nanoseconds: u64,
     fine: bool,
-) -> Result<(), AllocError> {
+) -> Result<(), AllocError>
+    ensures { OnOk result (text.new.items ≡ text.old.items ++ seconds_words nanoseconds fine) }
+{
     put_decimal(text, nanoseconds / 1_000_000_000)?;
     put_byte(text, b'.')?;
-    let behind = nanoseconds % 1_000_000_000;
-    if fine {
-        put_digits(text, behind, 9)
-    } else {
-        put_digits(text, behind / 1000, 6)
-    }
+    put_behind(text, one_and_fraction(nanoseconds, fine))
 }

@@ -1,12 +1,12 @@
-//! What a listing wrote where a request for memory was refused, and how it ended, beside its first form.
+//! What a listing wrote where a request for memory was refused, and how it ended.
 //!
 //! A listing asks the system for memory, and none of its parameters can refuse it. A library that stands in
 //! front of the system can (`tools/refuse/refuse.c`; `tools/refuse/try` runs the test with it). It is told
 //! what to refuse by requests of sizes that nothing else asks for. Without it nothing is refused: then one
-//! capture is listed, and both listings are whole.
+//! capture is listed, and its listings are whole.
 
+use super::fronts::{Case, FORMS, assert_no_memory, compare};
 use super::made::{cycles, long_lines, many_groups, mixed, stepped};
-use super::same::{Case, FORMS, assert_no_memory, compare};
 use std::alloc::{AllocError, Global};
 use std::process::Abort;
 
@@ -73,8 +73,8 @@ fn refuses(alloc: Global) -> bool {
     first.end(alloc)
 }
 
-/// A case is listed as in the first form with each request refused in turn, first alone and then with all
-/// after it, until there are no more; or memory runs out.
+/// Of a case a front is told with each request refused in turn, first alone and then with all after it, until
+/// there are no more; or memory runs out.
 fn compare_each(rt: &impl Abort, alloc: Global, case: Case<'_>) -> Result<(), AllocError> {
     for number in 0..MOST {
         if !compare(rt, alloc, &case.refusing(Refusal::One(number)))? {
@@ -86,8 +86,8 @@ fn compare_each(rt: &impl Abort, alloc: Global, case: Case<'_>) -> Result<(), Al
     Ok(())
 }
 
-/// A capture is listed as in the first form with each request refused in turn, in each form, at once and
-/// live; or memory runs out.
+/// Of a capture a front is told with each request refused in turn, in each form, in pieces and live; or
+/// memory runs out.
 fn compare_forms(rt: &impl Abort, alloc: Global, file: &[u8]) -> Result<(), AllocError> {
     for form in FORMS {
         compare_each(rt, alloc, Case::whole(file, form, false))?;
@@ -108,7 +108,7 @@ fn capture_of(alloc: Global, number: u32) -> Result<Vec<u8>, AllocError> {
     }
 }
 
-/// A made capture is listed as in the first form with each request refused in turn, or memory runs out.
+/// Of a made capture a front is told with each request refused in turn, or memory runs out.
 fn compare_made(rt: &impl Abort, alloc: Global, number: u32) -> Result<(), AllocError> {
     let file = capture_of(alloc, number)?;
     compare_forms(rt, alloc, &file)

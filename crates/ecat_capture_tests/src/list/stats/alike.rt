@@ -1,8 +1,8 @@
 //! Sums of made captures, each in several ways.
 use super::sums;
+use crate::list::fronts::assert_no_memory;
 use crate::list::made::{cycles, mixed};
 use crate::list::refused::Refusal;
-use crate::list::same::assert_no_memory;
 use crate::list::samples::{Sample, file_of};
 use ecat_list::{Listed, tally, tally_stream};
 use ecat_source::{Bytes, FailsAt};
