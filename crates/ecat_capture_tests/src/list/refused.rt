@@ -115,7 +115,7 @@ fn compare_made(rt: &impl Abort, alloc: Global, number: u32) -> Result<(), Alloc
 }
 
 #[test]
-fn requests_that_are_refused_are_told_as_at_first(rt: HostRuntime) {
+fn where_memory_runs_out_a_front_is_told(rt: HostRuntime) {
     let captures = if refuses(rt.alloc()) { CAPTURES } else { 1 };
     for number in 0..captures {
         if compare_made(&rt, rt.alloc(), number).is_err()
