@@ -4,20 +4,23 @@
 ghost use Rattle.std.specs.Prelude.{◌≡◌};
 ghost use Rattle.ecat_acts.specs.Failures.{refusal_status};
 
+use ecat_acts::act::act_vectors;
+use ecat_acts::asking::scan_by;
+use ecat_acts::console::Console;
 use ecat_acts::failure::{Failure, report, report_file};
-use ecat_acts::hints::{Fronted, hint_capture, hint_odd_lines, hint_scene};
+use ecat_acts::hints::{Fronted, Noted, hint_capture, hint_fault, hint_odd_lines, hint_scene};
 use ecat_acts::judging::{asked_of_judge, end_of_judging, frames_of, judge_by, judge_by_itself};
 use ecat_acts::learning::{asked_of, end_of_learning};
 use ecat_acts::listing::{Wanted, act_list, act_list_file};
-use ecat_acts::over_sockets::{Console, over_sockets};
+use ecat_acts::on_scene::on_scene;
 use ecat_acts::show::act_show;
-use ecat_args::{Args, ArgsFault, bad_word};
+use ecat_args::{Args, ArgsFault, CaptureCommand, SceneCommand, bad_word};
 use ecat_frames::Frames;
 use ecat_judge::{Asked as AskedOfJudge, Judged};
-use ecat_scene::MAX_TEXT;
-use ecat_setup::{LineFailure, unread};
-use ecat_source::{Bytes, Counted, Source, read_all};
-use ecat_text::{BAD_ARGUMENTS, FAILED, GOOD};
+use ecat_scene::{Scene, SceneFault};
+use ecat_setup::{LineFailure, text_of};
+use ecat_source::{Counted, Source};
+use ecat_text::{BAD_ARGUMENTS, FAILED, GOOD, REFUSED};
 use ecat_told::{Asked, learn, learn_stream};
 use std::fmt::Display;
 use std::fs::OpenFile;
@@ -132,72 +135,81 @@ fn tell_refusal<V: io::Write>(fault: ArgsFault, err: &mut V) -> u8
     }
 }
 
-/// Opens the file of a command, if it has one, and does the command.
+/// Opens what a command opens first, and does the command.
 fn open<R, W, V>(rt: &R, args: &Args<'_>, console: Console, out: &mut W, err: &mut V) -> u8
 where
     R: Clock + Files + Net + AllocGlobal,
     W: io::Write,
     V: io::Write,
 {
-    let path = match args {
-        Args::List {
+    match args {
+        Args::Capture(command) => on_capture(rt, command, console, out, err),
+        Args::Scene { path, command } => match fs::open(rt, path) {
+            Ok(file) => {
+                let mut source = Counted::new(file);
+                over_scene(rt, command, path, console, &mut source, out, err)
+            }
+            Err(error) => report_file(&Failure::Open, path, &error, out, err),
+        },
+        Args::Scan(words) => scan_by(rt, words, console.notes, out, err),
+        Args::Vectors => act_vectors(rt.alloc(), out, err),
+    }
+}
+
+/// Opens the capture of a command, and does the command.
+fn on_capture<R, W, V>(
+    rt: &R,
+    command: &CaptureCommand<'_>,
+    console: Console,
+    out: &mut W,
+    err: &mut V,
+) -> u8
+where
+    R: Files + AllocGlobal,
+    W: io::Write,
+    V: io::Write,
+{
+    match command {
+        CaptureCommand::Show { file } => open_capture(rt, file, &console, out, err),
+        CaptureCommand::List {
             file,
             csv,
             faults,
             stats,
             by_index,
-        } => {
-            return match Wanted::of(*csv, *faults, *stats, *by_index, console.is_watched) {
-                Ok(wanted) => open_listing(rt, file, wanted, console.input, out, err),
-                Err(failure) => report(&failure, out, err),
-            };
-        }
-        Args::Learn {
+        } => match Wanted::of(*csv, *faults, *stats, *by_index, &console) {
+            Ok(wanted) => open_listing(rt, file, wanted, console.input, out, err),
+            Err(failure) => report(&failure, out, err),
+        },
+        CaptureCommand::Learn {
             file,
             at,
             asked,
             values,
         } => {
             let asked = asked_of(*at, *asked, *values);
-            return open_learning(rt, file, asked, console.input, out, err);
+            open_learning(rt, file, asked, console.input, out, err)
         }
-        Args::Judge {
+        CaptureCommand::Judge {
             file,
             scene,
             csv,
             lines,
         } => {
             let asked = asked_of_judge(*csv, *lines);
-            return match *scene {
-                Some(path) => judge_by_scene(rt, args, file, path, asked, console.input, out, err),
+            match *scene {
+                Some(path) => judge_by_scene(rt, file, path, asked, console.input, out, err),
                 None => judge_alone(rt, file, asked, out, err),
-            };
+            }
         }
-        Args::Show { file } => return open_capture(rt, file, console.is_read, out, err),
-        Args::Check { scene }
-        | Args::Cover { scene }
-        | Args::Lint { scene }
-        | Args::Where { scene, .. }
-        | Args::Run { scene, .. }
-        | Args::Sweep { scene }
-        | Args::Sdo { scene, .. }
-        | Args::Udp { scene, .. }
-        | Args::Master { scene, .. }
-        | Args::Serve { scene, .. } => *scene,
-        Args::Vectors | Args::Scan { .. } => {
-            return over_sockets(rt, args, console, &mut Bytes::new(b""), out, err);
-        }
-    };
-    match fs::open(rt, path) {
-        Ok(file) => over_scene(rt, args, path, console, &mut Counted::new(file), out, err),
-        Err(error) => report_file(&Failure::Open, path, &error, out, err),
     }
 }
 
-/// Reads the scene of a command, does the command, and tells what helps where it was refused.
+/// Reads the scene of a command, once, does the command, and tells what helps where it was refused.
+#[inline(never)]
 fn over_scene<R, S, W, V>(
     rt: &R,
-    args: &Args<'_>,
+    command: &SceneCommand<'_>,
     path: &str,
     console: Console,
     file: &mut S,
@@ -210,16 +222,18 @@ where
     W: io::Write,
     V: io::Write,
 {
-    let text = match read_all(rt.alloc(), file, MAX_TEXT) {
+    let text = match text_of(rt.alloc(), file) {
         Ok(text) => text,
-        Err(fault) => return report(&Failure::Line(unread(fault)), out, err),
+        Err(failure) => return report(&Failure::Line(failure), out, err),
     };
-    if matches!(args, Args::Run { .. } | Args::Serve { .. }) {
-        hint_odd_lines(rt.alloc(), path, text.as_slice(), err);
+    let text = text.as_slice();
+    let scene = Scene::read(rt.alloc(), text);
+    if scene.is_ok() {
+        hint_odd_lines(rt.alloc(), command, path, text, err);
     }
-    let mut source = Bytes::new(text.as_slice());
-    let status = over_sockets(rt, args, console, &mut source, out, err);
-    hint_scene(rt.alloc(), args, path, text.as_slice(), status, err);
+    let noted = Noted::of(rt.alloc(), command, &scene);
+    let status = on_scene(rt, command, console, text, scene, out, err);
+    hint_scene(rt.alloc(), command, path, text, noted, status, err);
     status
 }
 
@@ -227,7 +241,7 @@ where
 /// lines come at once where somebody reads them at a terminal, or the capture may still grow since it is no
 /// plain file.
 #[inline(never)]
-fn open_capture<R, W, V>(rt: &R, path: &str, is_read: bool, out: &mut W, err: &mut V) -> u8
+fn open_capture<R, W, V>(rt: &R, path: &str, console: &Console, out: &mut W, err: &mut V) -> u8
 where
     R: Files + AllocGlobal,
     W: io::Write,
@@ -235,7 +249,7 @@ where
 {
     match fs::open(rt, path) {
         Ok(file) => {
-            let is_followed = is_read || !is_plain(&file);
+            let is_followed = console.follows(is_plain(&file));
             let mut source = Fronted::new(Counted::new(file));
             let status = act_show(rt.alloc(), is_followed, &mut source, out, err);
             hint_capture(path, &source, status, err);
@@ -293,7 +307,6 @@ where
 #[inline(never)]
 fn judge_by_scene<R, W, V>(
     rt: &R,
-    args: &Args<'_>,
     file: &str,
     path: &str,
     asked: AskedOfJudge,
@@ -307,27 +320,41 @@ where
     V: io::Write,
 {
     let text = match fs::open(rt, path) {
-        Ok(scene) => read_all(rt.alloc(), &mut Counted::new(scene), MAX_TEXT),
+        Ok(scene) => text_of(rt.alloc(), &mut Counted::new(scene)),
         Err(error) => return report_file(&Failure::Open, path, &error, out, err),
     };
     let text = match text {
         Ok(text) => text,
-        Err(fault) => return report(&Failure::Line(unread(fault)), out, err),
+        Err(failure) => return report(&Failure::Line(failure), out, err),
     };
     let text = text.as_slice();
+    let scene = Scene::read(rt.alloc(), text);
+    let fault = fault_of(&scene);
     let status = if file == "-" {
         match Frames::of_stream(rt.alloc(), Counted::new(input), None) {
-            Ok(mut frames) => judge_by(rt.alloc(), text, &mut frames, &asked, out, err),
+            Ok(mut frames) => judge_by(rt.alloc(), scene, &mut frames, &asked, out, err),
             Err(_) => end_of_judging(Judged::NoMemory, out, err),
         }
     } else {
         match frames_at(rt, file, out, err) {
-            Ok(mut frames) => judge_by(rt.alloc(), text, &mut frames, &asked, out, err),
+            Ok(mut frames) => judge_by(rt.alloc(), scene, &mut frames, &asked, out, err),
             Err(status) => return status,
         }
     };
-    hint_scene(rt.alloc(), args, path, text, status, err);
+    if status == REFUSED
+        && let Some(fault) = fault
+    {
+        hint_fault(path, text, fault, err);
+    }
     status
+}
+
+/// Why a text is no scene, where it is none.
+fn fault_of(scene: &Result<Scene, SceneFault>) -> Option<SceneFault> {
+    match scene {
+        Ok(_) => None,
+        Err(fault) => Some(*fault),
+    }
 }
 
 /// Opens a capture, and judges it by the line that it shows itself.

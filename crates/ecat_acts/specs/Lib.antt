@@ -1,4 +1,4 @@
-pub mod Commands
+pub mod Listings
 pub mod Exits
 pub mod Failures
 pub mod Raw

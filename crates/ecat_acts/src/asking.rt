@@ -1,24 +1,91 @@
 //! What is asked of a line somewhere else: who stands there, where its cable is broken, an object.
 
+ghost use Rattle.std.specs.Prelude.{◌≡◌, IfOk, is_some};
+
 use crate::failure::{Failure, report, report_file, status_of};
 use crate::finding::Finding;
 use crate::piped::Piped;
 use crate::remote::{Reach, Waiting, raw_ports, remote_ports};
 use crate::tape::{ToScene, make_scene};
+use ec_master::Ports;
 use ec_ring::HeardPorts;
 use ec_run::Watched;
-use ecat_master::{Finder, scan};
+use ecat_args::ScanWords;
+use ecat_master::{Finder, Unfound, scan};
 use ecat_record::unrecorded;
+use ecat_scene::{Scene, SceneFault};
 use ecat_setup::LineFailure;
 use ecat_simulation::{Asked, sdo_far, where_far};
-use ecat_source::Source;
 use ecat_text::{GOOD, Lines, REFUSED};
+use std::alloc::Global;
 use std::io::{self, Write};
 use std::net::Net;
 use std::rt::{Clock, Files, Stderr};
 
+/// What the words of `scan` say.
+#[derive(Clone, Copy)]
+struct Scanning<'a> {
+    /// How the line is reached.
+    reach: Reach<'a>,
+    /// How long copies are waited for.
+    waiting: Waiting,
+    /// Where a scene is written.
+    scene: Option<ToScene<'a>>,
+}
+
+impl<'a> Scanning<'a> {
+    /// What the words say, unless they do not say how the line is reached.
+    fn of(words: &ScanWords<'a>) -> Result<Scanning<'a>, Failure>
+        ensures limit { IfOk result (λ scanning. scanning.waiting.limit ≡ words.now.limit) }
+        ensures late { IfOk result (λ scanning. scanning.waiting.late ≡ words.now.late) }
+        ensures scene { IfOk result (λ scanning. is_some scanning.scene ≡ is_some words.now.scene) }
+    {
+        let reach = Reach::of(words.at, words.raw)?;
+        let waiting = Waiting {
+            limit: words.limit,
+            late: words.late,
+        };
+        let scene = ToScene::of(words.scene, words.force);
+        Ok(Scanning {
+            reach,
+            waiting,
+            scene,
+        })
+    }
+}
+
+/// Asks the slaves of a line somewhere else what they are, as the words of `scan` say, and answers the exit
+/// status.
+#[inline(never)]
+pub fn scan_by<R, W, V>(
+    rt: &R,
+    words: &ScanWords<'_>,
+    notes: Stderr,
+    out: &mut W,
+    err: &mut V,
+) -> u8
+where
+    R: Clock + Files + Net + AllocGlobal,
+    W: io::Write,
+    V: io::Write,
+{
+    let scanning = match Scanning::of(words) {
+        Ok(scanning) => scanning,
+        Err(failure) => return report(&failure, out, err),
+    };
+    let Scanning {
+        reach,
+        waiting,
+        scene,
+    } = scanning;
+    match scene {
+        None => scan_at(rt, reach, waiting, notes, &mut Unfound, out, err),
+        Some(scene) => scan_to(rt, reach, waiting, notes, scene, out, err),
+    }
+}
+
 /// Asks the slaves of a line somewhere else what they are, and writes them as a scene.
-pub fn scan_to<R, W, V>(
+fn scan_to<R, W, V>(
     rt: &R,
     reach: Reach<'_>,
     waiting: Waiting,
@@ -48,7 +115,7 @@ where
 }
 
 /// Asks the slaves of a line somewhere else what they are; what is read of them goes to the finder too.
-pub fn scan_at<R, F, W, V>(
+fn scan_at<R, F, W, V>(
     rt: &R,
     reach: Reach<'_>,
     waiting: Waiting,
@@ -81,24 +148,24 @@ where
     }
 }
 
-/// Says where the cable of a line somewhere else is broken.
-pub fn where_at<R, S, W, V>(
+/// Says where the cable of a line somewhere else is broken, whose slaves are those of a scene.
+#[inline(never)]
+pub fn where_at<R, W, V>(
     rt: &R,
     reach: Reach<'_>,
     notes: Stderr,
-    source: &mut S,
+    scene: Result<Scene, SceneFault>,
     out: &mut W,
     err: &mut V,
 ) -> u8
 where
     R: Clock + Net + AllocGlobal,
-    S: Source,
     W: io::Write,
     V: io::Write,
 {
     let told = match reach {
         Reach::At(at) => match remote_ports(rt, at, Waiting::USUAL, notes, &mut unrecorded()) {
-            Ok(mut ports) => where_far(rt.alloc(), &mut ports, source, out),
+            Ok(mut ports) => located(rt.alloc(), &mut ports, scene, out),
             Err(failure) => return report(&failure, out, err),
         },
         Reach::Raw(descriptors) => match raw_ports(
@@ -108,32 +175,42 @@ where
             notes,
             &mut unrecorded(),
         ) {
-            Ok(mut ports) => where_far(rt.alloc(), &mut ports, source, out),
+            Ok(mut ports) => located(rt.alloc(), &mut ports, scene, out),
             Err(failure) => return report(&failure, out, err),
         },
     };
     status_of(told, out, err)
 }
 
-/// Reads or writes an object of a slave on a line somewhere else.
-pub fn sdo_at<R, S, W, V>(
+/// Says where the cable of the line at ports is broken, unless its scene is none.
+fn located<P: HeardPorts, W: Write>(
+    alloc: Global,
+    ports: &mut P,
+    scene: Result<Scene, SceneFault>,
+    out: &mut W,
+) -> Result<u8, LineFailure> {
+    where_far(alloc, ports, scene?, out)
+}
+
+/// Reads or writes an object of a slave on a line somewhere else, whose slaves are those of a scene.
+#[inline(never)]
+pub fn sdo_at<R, W, V>(
     rt: &R,
     reach: Reach<'_>,
     asked: &Asked,
     notes: Stderr,
-    source: &mut S,
+    scene: Result<Scene, SceneFault>,
     out: &mut W,
     err: &mut V,
 ) -> u8
 where
     R: Clock + Net + AllocGlobal,
-    S: Source,
     W: io::Write,
     V: io::Write,
 {
     let told = match reach {
         Reach::At(at) => match remote_ports(rt, at, Waiting::USUAL, notes, &mut unrecorded()) {
-            Ok(mut ports) => sdo_far(rt.alloc(), asked, &mut ports, source, out, err),
+            Ok(mut ports) => transferred(rt.alloc(), asked, &mut ports, scene, out, err),
             Err(failure) => return report(&failure, out, err),
         },
         Reach::Raw(descriptors) => match raw_ports(
@@ -143,11 +220,23 @@ where
             notes,
             &mut unrecorded(),
         ) {
-            Ok(mut ports) => sdo_far(rt.alloc(), asked, &mut ports, source, out, err),
+            Ok(mut ports) => transferred(rt.alloc(), asked, &mut ports, scene, out, err),
             Err(failure) => return report(&failure, out, err),
         },
     };
     status_of(told, out, err)
+}
+
+/// Reads or writes an object of a slave on the line at ports, unless its scene is none.
+fn transferred<P: Ports, W: Write, V: Write>(
+    alloc: Global,
+    asked: &Asked,
+    ports: &mut P,
+    scene: Result<Scene, SceneFault>,
+    out: &mut W,
+    err: &mut V,
+) -> Result<u8, LineFailure> {
+    sdo_far(alloc, asked, ports, scene?, out, err)
 }
 
 /// Prints what slaves stand on a line, and answers the exit status. Whoever reads the output may close it.

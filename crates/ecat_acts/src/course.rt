@@ -3,13 +3,12 @@
 ghost use Rattle.std.specs.Prelude.{◌≡◌, length};
 
 use crate::failure::{Failure, report};
-use ec_master::{MAX_ITEMS, Work, all_expected};
+use ec_master::Work;
 use ec_ring::HeardPorts;
 use ec_run::{MAX_STARTUP, StartupObject, Wanted, add_states, image_length, wanted_of};
 use ecat_master::{ENTRIES, IDENTITY, Identity, Pace, Plan, master};
-use ecat_scene::SceneSlave;
-use ecat_setup::{LineFailure, ring_of, scene_for_packets, work_of};
-use ecat_source::Source;
+use ecat_scene::{Scene, SceneFault, SceneSlave};
+use ecat_setup::{Expected, LineFailure, for_packets, ring_of, work_of};
 use ecat_text::{Lines, REFUSED, refuse};
 use std::alloc::Global;
 use std::io::Write;
@@ -24,8 +23,9 @@ pub struct Course {
     line: Vec<Wanted>,
     identities: Vec<Identity>,
     work: Work,
-    expected: [u16; MAX_ITEMS],
+    expected: Expected,
     states: bool,
+    ghost each_expected: { length expected ≡ length work },
 }
 
 impl Course {
@@ -35,34 +35,33 @@ impl Course {
     }
 }
 
-/// Reads and checks the scene that the source holds, before any socket is opened. Where there is nothing to
-/// cycle on, reports why and answers the exit status.
-pub fn course_of<S, W, V>(
+/// Checks the scene that was read, before any socket is opened. Where there is nothing to cycle on, reports
+/// why and answers the exit status.
+pub fn course_of<W, V>(
     alloc: Global,
-    source: &mut S,
+    scene: Result<Scene, SceneFault>,
     out: &mut W,
     err: &mut V,
 ) -> Result<Course, u8>
 where
-    S: Source,
     W: Write,
     V: Write,
 {
-    match checked_course(alloc, source, out) {
+    match checked_course(alloc, scene, out) {
         Ok(Some(course)) => Ok(course),
         Ok(None) => Err(REFUSED),
         Err(failure) => Err(report(&Failure::Line(failure), out, err)),
     }
 }
 
-/// The course of the scene that the source holds, if it has items and its line and they are accepted; else it
-/// is printed why not.
-fn checked_course<S: Source, W: Write>(
+/// The course of the scene that was read, if it has items and its line and they are accepted; else it is
+/// printed why not.
+fn checked_course<W: Write>(
     alloc: Global,
-    source: &mut S,
+    scene: Result<Scene, SceneFault>,
     out: &mut W,
 ) -> Result<Option<Course>, LineFailure> {
-    let scene = scene_for_packets(alloc, source)?;
+    let scene = for_packets(scene?)?;
     let startups = startups_of(alloc, scene.slaves.as_slice())?;
     let identities = identities_of(alloc, scene.slaves.as_slice())?;
     let ring = ring_of(alloc, scene.slaves, &[])?;
@@ -77,7 +76,7 @@ fn checked_course<S: Source, W: Write>(
     }
     let mut work = work_of(scene.items)?;
     let states = add_states(&mut work);
-    let expected = all_expected(ring.slaves(), &work);
+    let expected = Expected::of(ring.slaves(), &work);
     let Ok(mut line) = wanted_of(alloc, ring.slaves()) else {
         return Err(LineFailure::NoMemory);
     };
@@ -165,7 +164,6 @@ where
         expected,
         states,
     } = course;
-    let count = work.len();
     let plan = Plan {
         identities: identities.as_slice(),
         states,
@@ -175,7 +173,7 @@ where
         ports,
         line.as_slice(),
         work,
-        &expected[..count],
+        expected.counters(),
         &plan,
         pace,
         out,

@@ -2,18 +2,17 @@
 //! was refused is looked at once more, so that no command knows of it; what fails on the way is passed over.
 
 use arrayvec::ArrayVec;
-use ec_app::Slave;
 use ec_app::roles::{ANSWER_MAILBOX, REQUEST_MAILBOX, is_answer_mailbox, is_request_mailbox};
-use ec_map::{Item, MapFault, check as check_line, check_item};
+use ec_map::{Item, MapFault, Mapped, check as check_line, check_item};
 use ec_regs::registers::SYNC_MANAGER_COUNT;
 use ec_regs::{LONGEST_MAILBOX, SHORTEST_MAILBOX, SyncMan};
 use ec_ring::{Links, MAX_LINKS, Ring, Travel};
-use ecat_args::Args;
+use ecat_args::SceneCommand;
 use ecat_lint::{Part, explained, line_of, odd_lines};
 use ecat_scene::{Scene, SceneFault};
-use ecat_setup::ring_of;
+use ecat_setup::{is_for_run_alone, records_of, ring_of};
 use ecat_simulation::where_broken;
-use ecat_source::{Bytes, Source, SourceFault};
+use ecat_source::{Source, SourceFault};
 use ecat_text::{GOOD, REFUSED};
 use std::alloc::Global;
 use std::io::Write;
@@ -78,12 +77,20 @@ pub fn hint_capture<S: Source, V: Write>(path: &str, source: &Fronted<S>, status
     let _ = writeln!(err, "{path}: {what}");
 }
 
-/// Tells `err` how many lines of a scene are odd, where some are.
-pub fn hint_odd_lines<V: Write>(alloc: Global, path: &str, text: &[u8], err: &mut V) {
-    if Scene::read(alloc, text).is_err() {
-        return;
-    }
-    if let Ok(found) = odd_lines(alloc, text)
+/// Tells `err` how many lines of the scene of this text are odd, where some are and the command runs or
+/// serves it.
+pub fn hint_odd_lines<V: Write>(
+    alloc: Global,
+    command: &SceneCommand<'_>,
+    path: &str,
+    text: &[u8],
+    err: &mut V,
+) {
+    if matches!(
+        command,
+        SceneCommand::Run { .. } | SceneCommand::Serve { .. }
+    )
+        && let Ok(found) = odd_lines(alloc, text)
         && !found.is_empty()
     {
         let count = found.len();
@@ -91,43 +98,81 @@ pub fn hint_odd_lines<V: Write>(alloc: Global, path: &str, text: &[u8], err: &mu
     }
 }
 
-/// Tells `err` of how many bytes it is said that a line is covered.
-fn hint_covered<V: Write>(alloc: Global, text: &[u8], err: &mut V) {
-    let Ok(scene) = Scene::read(alloc, text) else {
-        return;
-    };
-    let Ok(ring) = ring_of(alloc, scene.slaves, &[]) else {
-        return;
-    };
-    let mut outputs = 0u64;
-    let mut inputs = 0u64;
-    for slave in ring.slaves() {
-        let areas = areas_of(slave);
-        outputs = outputs.saturating_add(areas.outputs);
-        inputs = inputs.saturating_add(areas.inputs);
-    }
-    let count = ring.slaves().len();
-    let _ = writeln!(
-        err,
-        "slaves {count}, bytes in active areas: outputs {outputs}, inputs {inputs}"
-    );
+/// What hints keep of a scene that was read, before its command takes it.
+#[derive(Clone, Copy)]
+pub struct Noted {
+    /// Why it is none.
+    fault: Option<SceneFault>,
+    /// How much its line has, where that is said to be covered.
+    covered: Option<Covered>,
 }
 
-/// How many bytes of process data a slave has in active areas.
+impl Noted {
+    /// What is kept for this command.
+    pub fn of(
+        alloc: Global,
+        command: &SceneCommand<'_>,
+        scene: &Result<Scene, SceneFault>,
+    ) -> Noted {
+        match scene {
+            Ok(scene) if matches!(command, SceneCommand::Cover) => Noted {
+                fault: None,
+                covered: covered_of(alloc, scene),
+            },
+            Ok(_) => Noted {
+                fault: None,
+                covered: None,
+            },
+            Err(fault) => Noted {
+                fault: Some(*fault),
+                covered: None,
+            },
+        }
+    }
+}
+
+/// How many slaves a line has, and how many bytes of process data in active areas.
+#[derive(Clone, Copy)]
+struct Covered {
+    slaves: usize,
+    areas: Areas,
+}
+
+/// How many bytes of process data there are in active areas.
 #[derive(Clone, Copy)]
 struct Areas {
     outputs: u64,
     inputs: u64,
 }
 
+/// How much the line of a scene has, unless memory runs out.
+fn covered_of(alloc: Global, scene: &Scene) -> Option<Covered> {
+    let Ok(line) = records_of(alloc, scene.slaves.as_slice()) else {
+        return None;
+    };
+    let mut all = Areas {
+        outputs: 0,
+        inputs: 0,
+    };
+    for slave in line.iter() {
+        let areas = areas_of(slave);
+        all.outputs = all.outputs.saturating_add(areas.outputs);
+        all.inputs = all.inputs.saturating_add(areas.inputs);
+    }
+    Some(Covered {
+        slaves: line.len(),
+        areas: all,
+    })
+}
+
 /// How many bytes of process data a slave has in active areas.
-fn areas_of(slave: &Slave) -> Areas {
+fn areas_of<S: Mapped>(slave: &S) -> Areas {
     let mut areas = Areas {
         outputs: 0,
         inputs: 0,
     };
     for number in 0..SYNC_MANAGER_COUNT {
-        let manager = slave.controller().syncman(number);
+        let manager = slave.sync_manager(number);
         let length = u64::from(manager.length);
         if manager.guards_outputs() {
             areas.outputs = areas.outputs.saturating_add(length);
@@ -138,92 +183,107 @@ fn areas_of(slave: &Slave) -> Areas {
     areas
 }
 
+/// Tells `err` of how many bytes it is said that a line is covered.
+fn hint_covered<V: Write>(covered: Covered, err: &mut V) {
+    let count = covered.slaves;
+    let Areas { outputs, inputs } = covered.areas;
+    let _ = writeln!(
+        err,
+        "slaves {count}, bytes in active areas: outputs {outputs}, inputs {inputs}"
+    );
+}
+
 /// Tells `err` what helps where a command on the scene of this text was refused, and of a line that is
 /// covered how much it has.
 pub fn hint_scene<V: Write>(
     alloc: Global,
-    args: &Args<'_>,
+    command: &SceneCommand<'_>,
     path: &str,
     text: &[u8],
+    noted: Noted,
     status: u8,
     err: &mut V,
 ) {
-    if status == GOOD && matches!(args, Args::Cover { .. }) {
-        hint_covered(alloc, text, err);
+    match (noted.fault, noted.covered) {
+        (None, Some(covered)) if status == GOOD => hint_covered(covered, err),
+        (None, _) if status == REFUSED => hint_line(alloc, command, path, text, err),
+        (Some(fault), _) if status == REFUSED => hint_fault(path, text, fault, err),
+        (None, _) | (Some(_), _) => {}
     }
-    if status != REFUSED {
-        return;
-    }
-    match Scene::read(alloc, text) {
-        Ok(scene) => hint_line(alloc, args, path, text, scene, err),
-        Err(SceneFault::Line { line, fault }) => {
+}
+
+/// Tells `err` what is wrong with the line of a text by which it is no scene.
+pub fn hint_fault<V: Write>(path: &str, text: &[u8], fault: SceneFault, err: &mut V) {
+    match fault {
+        SceneFault::Line { line, fault } => {
             if let Some(told) = explained(text, line, fault) {
                 let _ = writeln!(err, "{path}:{told}");
             }
         }
-        Err(SceneFault::TooLong | SceneFault::NoMemory) => {}
+        SceneFault::TooLong | SceneFault::NoMemory => {}
     }
 }
 
-/// Tells what is in the way of a command on the line of a scene.
+/// Tells what is in the way of a command on the line of a scene. Its text is read once more, since the
+/// command took the scene.
 fn hint_line<V: Write>(
     alloc: Global,
-    args: &Args<'_>,
+    command: &SceneCommand<'_>,
     path: &str,
     text: &[u8],
-    scene: Scene,
     err: &mut V,
 ) {
-    let weathers = scene.weathers.len();
-    let is_for_run_alone = !scene.actions.is_empty() || weathers != 0;
-    let items = scene.items;
-    let Ok(ring) = ring_of(alloc, scene.slaves, scene.links_down.as_slice()) else {
+    let Ok(scene) = Scene::read(alloc, text) else {
         return;
     };
-    match args {
-        Args::Sdo {
+    match command {
+        SceneCommand::Sdo {
             station,
             at: None,
             ..
-        } => hint_station(&ring, *station, err),
-        Args::Check { .. } | Args::Cover { .. } | Args::Lint { .. } | Args::Sweep { .. } => {
-            if hint_refusal(path, text, ring.slaves(), err) {
-                hint_item(path, text, ring.slaves(), items.as_slice(), err);
-            }
+        } => hint_station(alloc, scene, *station, err),
+        SceneCommand::Check | SceneCommand::Cover | SceneCommand::Lint | SceneCommand::Sweep => {
+            hint_fit(alloc, path, text, &scene, err);
         }
-        Args::Master { .. } if !is_for_run_alone => {
-            if hint_refusal(path, text, ring.slaves(), err) {
-                hint_item(path, text, ring.slaves(), items.as_slice(), err);
-            }
-        }
-        Args::Udp { .. } | Args::Serve { .. } | Args::Master { .. } if is_for_run_alone => {
+        SceneCommand::Udp { .. } | SceneCommand::Serve { .. } | SceneCommand::Master(_)
+            if is_for_run_alone(&scene) => {
             let _ = writeln!(
                 err,
                 "{path} has a line frame, step or weather, which ecat run does alone"
             );
         }
-        Args::Run { judge, .. } | Args::Udp { judge, .. } => {
-            let is_fit = hint_refusal(path, text, ring.slaves(), err)
-                && hint_item(path, text, ring.slaves(), items.as_slice(), err);
-            if is_fit && !judge {
-                hint_cable(alloc, path, text, weathers, err);
+        SceneCommand::Master(_) => {
+            hint_fit(alloc, path, text, &scene, err);
+        }
+        SceneCommand::Run { judge, .. } | SceneCommand::Udp { judge, .. } => {
+            if hint_fit(alloc, path, text, &scene, err) && !judge {
+                hint_cable(alloc, path, scene, err);
             }
         }
-        _ => {}
+        SceneCommand::Sdo { .. } | SceneCommand::Where { .. } | SceneCommand::Serve { .. } => {}
     }
 }
 
 /// Tells where the cable of a scene is broken, unless its frames meet several weathers.
-fn hint_cable<V: Write>(alloc: Global, path: &str, text: &[u8], weathers: usize, err: &mut V) {
-    if weathers < 2 {
-        let _ = where_broken(alloc, &mut Bytes::new(text), err);
+fn hint_cable<V: Write>(alloc: Global, path: &str, scene: Scene, err: &mut V) {
+    if scene.weathers.len() < 2 {
+        let _ = where_broken(alloc, scene, err);
     } else {
         let _ = writeln!(err, "ecat run {path} --judge tells what is in the way");
     }
 }
 
+/// Tells why the line of a scene or the first of its items is refused. Are all accepted?
+fn hint_fit<V: Write>(alloc: Global, path: &str, text: &[u8], scene: &Scene, err: &mut V) -> bool {
+    let Ok(line) = records_of(alloc, scene.slaves.as_slice()) else {
+        return false;
+    };
+    let line = line.as_slice();
+    hint_refusal(path, text, line, err) && hint_item(path, text, line, scene.items.as_slice(), err)
+}
+
 /// Tells where the bit of a refusal lies, and which lines of the scene it is about. Is the line accepted?
-fn hint_refusal<V: Write>(path: &str, text: &[u8], line: &[Slave], err: &mut V) -> bool {
+fn hint_refusal<S: Mapped, V: Write>(path: &str, text: &[u8], line: &[S], err: &mut V) -> bool {
     let fault = match check_line(line) {
         Ok(()) => return true,
         Err(fault) => fault,
@@ -306,10 +366,10 @@ fn hint_line_of<V: Write>(path: &str, text: &[u8], part: Part, err: &mut V) {
 }
 
 /// Tells which line has the first item that is refused. Are all accepted?
-fn hint_item<V: Write>(
+fn hint_item<S: Mapped, V: Write>(
     path: &str,
     text: &[u8],
-    line: &[Slave],
+    line: &[S],
     items: &[Item],
     err: &mut V,
 ) -> bool {
@@ -322,8 +382,16 @@ fn hint_item<V: Write>(
     refused.is_none()
 }
 
-/// Tells why a slave has no mailbox that is reached, if that is so.
-fn hint_station<V: Write>(ring: &Ring, station: u16, err: &mut V) {
+/// Tells why a slave of a scene has no mailbox that is reached, if that is so.
+fn hint_station<V: Write>(alloc: Global, scene: Scene, station: u16, err: &mut V) {
+    let Ok(ring) = ring_of(alloc, scene.slaves, scene.links_down.as_slice()) else {
+        return;
+    };
+    hint_slave(&ring, station, err);
+}
+
+/// Tells why a slave of a ring has no mailbox that is reached, if that is so.
+fn hint_slave<V: Write>(ring: &Ring, station: u16, err: &mut V) {
     let found = ring
         .slaves()
         .iter()

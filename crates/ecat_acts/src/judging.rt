@@ -4,8 +4,9 @@ use crate::failure::{Failure, refuse, report};
 use crate::learning::end_of_learning;
 use ecat_frames::{End, Frames, Looked, look};
 use ecat_judge::{Asked, Judged, judge};
-use ecat_setup::{LineFailure, records_of, scene_of};
-use ecat_source::{Bytes, Source};
+use ecat_scene::{Scene, SceneFault};
+use ecat_setup::{LineFailure, records_of};
+use ecat_source::Source;
 use ecat_text::{FAILED, GOOD, REFUSED};
 use ecat_told::{Asked as AskedOfLine, Learned, learn_frames};
 use std::alloc::Global;
@@ -33,10 +34,10 @@ pub fn frames_of<S: Source + Drop>(alloc: Global, first: S, again: S) -> Result<
     }
 }
 
-/// Judges a capture by the scene of this text, and answers the exit status.
+/// Judges a capture by the scene that was read, and answers the exit status.
 pub fn judge_by<S, W, V>(
     alloc: Global,
-    text: &[u8],
+    scene: Result<Scene, SceneFault>,
     frames: &mut Frames<S>,
     asked: &Asked,
     out: &mut W,
@@ -47,9 +48,9 @@ where
     W: Write,
     V: Write,
 {
-    let scene = match scene_of(alloc, &mut Bytes::new(text)) {
+    let scene = match scene {
         Ok(scene) => scene,
-        Err(failure) => return report(&Failure::Line(failure), out, err),
+        Err(fault) => return report(&Failure::Line(LineFailure::Scene(fault)), out, err),
     };
     match records_of(alloc, scene.slaves.as_slice()) {
         Ok(line) => {
@@ -94,7 +95,8 @@ where
         ended => return end_of_learning(ended, out, err),
     }
     frames.begin_again(alloc, again);
-    judge_by(alloc, text.as_slice(), frames, asked, out, err)
+    let scene = Scene::read(alloc, text.as_slice());
+    judge_by(alloc, scene, frames, asked, out, err)
 }
 
 /// What helps where a line is not told whole.

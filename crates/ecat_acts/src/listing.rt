@@ -1,5 +1,9 @@
 //! `ecat list`: the datagrams of a capture, a line each, or the sums of its trips.
 
+ghost use Rattle.std.specs.Prelude.{◌≡◌, IfOk, false};
+ghost use Rattle.ecat_acts.specs.Listings.{are_sums, tells_progress};
+
+use crate::console::Console;
 use crate::failure::{Failure, report};
 use ecat_capture::CaptureFaultKind;
 use ecat_list::{Asked, Form, Listed, Sums, list, tally, tally_stream};
@@ -30,8 +34,12 @@ impl Wanted {
         faults: bool,
         stats: bool,
         by_index: bool,
-        is_watched: bool,
-    ) -> Result<Wanted, Failure> {
+        console: &Console,
+    ) -> Result<Wanted, Failure>
+        ensures progress { IfOk result (λ wanted. tells_progress wanted ≡ console.now.is_watched) }
+        ensures sums { IfOk result (λ wanted. are_sums wanted ≡ stats) }
+    {
+        let is_watched = console.is_watched;
         let form = match (csv, faults, stats) {
             (false, false, false) => Form::Lines,
             (true, false, false) => Form::Csv,
@@ -55,7 +63,10 @@ impl Wanted {
     }
 
     /// What is listed while the capture is still written: each packet at once, or the sums at its end.
-    pub fn live(self) -> Wanted {
+    pub fn live(self) -> Wanted
+        ensures progress { tells_progress result ≡ false }
+        ensures sums { are_sums result ≡ are_sums self }
+    {
         match self {
             Wanted::Packets(asked) => Wanted::Packets(Asked {
                 live: true,
@@ -70,7 +81,9 @@ impl Wanted {
     }
 
     /// Is a file read twice for it?
-    pub fn reads_twice(self) -> bool {
+    pub fn reads_twice(self) -> bool
+        ensures { result ≡ are_sums self }
+    {
         match self {
             Wanted::Packets(_) => false,
             Wanted::Trips(_) => true,

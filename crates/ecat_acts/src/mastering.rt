@@ -1,17 +1,21 @@
 //! `ecat master`: what its words say, and what it opens.
 
+ghost use Rattle.std.specs.Prelude.{◌≡◌, IfOk, None, Some, is_some};
+ghost use Rattle.ec_regs.specs.declared.al.AlState.TheVariants.{Init};
+
+use crate::console::Console;
 use crate::course::{Course, act_master, course_of};
 use crate::failure::{Failure, report, report_file};
 use crate::images::images_at;
-use crate::over_sockets::Console;
-use crate::remote::{Reach, Waiting, raw_ports, remote_ports};
+use crate::remote::{Reach, Waiting, left_in, raw_ports, remote_ports};
 use crate::tape::{Pcap, end, make};
 use ec_regs::AlState;
 use ec_run::{Image, Outputs};
+use ecat_args::MasterWords;
 use ecat_master::Plan;
 use ecat_pace::{Beat, Ending};
 use ecat_record::{Moments, Recorder, WallClock, unrecorded};
-use ecat_source::Source;
+use ecat_scene::{Scene, SceneFault};
 use std::net::Net;
 use std::rt::{Clock, Files, Stdin};
 use std::time::Duration;
@@ -19,36 +23,81 @@ use std::{fs, io};
 
 /// What the words of `master` say but for its scene.
 #[derive(Clone, Copy)]
-pub struct Running<'a> {
+struct Running<'a> {
     /// How the line is reached.
-    pub reach: Reach<'a>,
+    reach: Reach<'a>,
     /// After how many cycles it ends; with the input where there is none.
-    pub cycles: Option<u32>,
+    cycles: Option<u32>,
     /// How many microseconds lie between the beginnings of cycles.
-    pub every: Option<u32>,
+    every: Option<u32>,
     /// How long copies are waited for.
-    pub waiting: Waiting,
+    waiting: Waiting,
     /// What the outputs are: `count`, or the path of a file.
-    pub outputs: Option<&'a str>,
+    outputs: Option<&'a str>,
     /// The path of a file that gets a line for each cycle.
-    pub log: Option<&'a str>,
+    log: Option<&'a str>,
     /// Whether that line has what the cycle sent and took.
-    pub log_images: bool,
+    log_images: bool,
     /// Whether it ends at the first cycle that is not good.
-    pub stop: bool,
+    stop: bool,
     /// Whether slaves are brought up again.
-    pub recover: bool,
+    recover: bool,
     /// Whether a line of progress is written each second.
-    pub progress: bool,
+    progress: bool,
     /// The state in which the slaves are left.
-    pub leave: Option<AlState>,
+    leave: Option<AlState>,
     /// Where each copy is kept.
-    pub pcap: Option<Pcap<'a>>,
+    pcap: Option<Pcap<'a>>,
 }
 
-impl Running<'_> {
-    /// How a master runs that has these outputs.
-    fn plan<'a>(&self, outputs: Outputs<'a>) -> Plan<'a> {
+impl<'w> Running<'w> {
+    /// What the words say at this console, unless they do not say how the line is reached, or name no state.
+    fn of(words: &MasterWords<'w>, console: &Console) -> Result<Running<'w>, Failure>
+        ensures cycles { IfOk result (λ running. running.cycles ≡ words.now.cycles) }
+        ensures every { IfOk result (λ running. running.every ≡ words.now.every) }
+        ensures limit { IfOk result (λ running. running.waiting.limit ≡ words.now.limit) }
+        ensures late { IfOk result (λ running. running.waiting.late ≡ words.now.late) }
+        ensures outputs { IfOk result (λ running. running.outputs ≡ words.now.outputs) }
+        ensures log { IfOk result (λ running. running.log ≡ words.now.log) }
+        ensures log_images { IfOk result (λ running. running.log_images ≡ words.now.log_images) }
+        ensures stop { IfOk result (λ running. running.stop ≡ words.now.stop) }
+        ensures recover { IfOk result (λ running. running.recover ≡ words.now.recover) }
+        ensures progress { IfOk result (λ running. running.progress ≡ console.now.is_watched) }
+        ensures leave { words.now.leave ≡ None → IfOk result (λ running. running.leave ≡ Some Init) }
+        ensures pcap { IfOk result (λ running. is_some running.pcap ≡ is_some words.now.pcap) }
+    {
+        let reach = Reach::of(words.at, words.raw)?;
+        let leave = left_in(words.leave)?;
+        Ok(Running {
+            reach,
+            cycles: words.cycles,
+            every: words.every,
+            waiting: Waiting {
+                limit: words.limit,
+                late: words.late,
+            },
+            outputs: words.outputs,
+            log: words.log,
+            log_images: words.log_images,
+            stop: words.stop,
+            recover: words.recover,
+            progress: console.is_watched,
+            leave,
+            pcap: Pcap::of(words.pcap, words.force),
+        })
+    }
+
+    /// How a master runs that has these outputs. Whether cycles tell the states, and who the slaves are to
+    /// be, is said by its course.
+    fn plan<'a>(&self, outputs: Outputs<'a>) -> Plan<'a>
+        ensures outputs { result.outputs ≡ outputs.entry }
+        ensures stop { result.stop ≡ self.now.stop }
+        ensures recover { result.recover ≡ self.now.recover }
+        ensures progress { result.progress ≡ self.now.progress }
+        ensures log { result.log ≡ is_some self.now.log }
+        ensures log_images { result.log_images ≡ self.now.log_images }
+        ensures leave { result.leave ≡ self.now.leave }
+    {
         Plan {
             outputs,
             stop: self.stop,
@@ -92,23 +141,43 @@ where
     }
 }
 
-/// Brings the line of a scene to Op, where it lies, and cycles on it. The sockets and the log are opened once
-/// it is known that there is something to cycle on, and what the outputs are.
-pub fn master_at<R, S, W, V>(
+/// Brings the line of a scene to Op, as the words of `master` say, and answers the exit status.
+#[inline(never)]
+pub fn master_by<R, W, V>(
     rt: &R,
-    running: Running<'_>,
+    words: &MasterWords<'_>,
     console: Console,
-    source: &mut S,
+    scene: Result<Scene, SceneFault>,
     out: &mut W,
     err: &mut V,
 ) -> u8
 where
     R: Clock + Files + Net + AllocGlobal,
-    S: Source,
     W: io::Write,
     V: io::Write,
 {
-    let course = match course_of(rt.alloc(), source, out, err) {
+    match Running::of(words, &console) {
+        Ok(running) => master_at(rt, running, console, scene, out, err),
+        Err(failure) => report(&failure, out, err),
+    }
+}
+
+/// Brings the line of a scene to Op, where it lies, and cycles on it. The sockets and the log are opened once
+/// it is known that there is something to cycle on, and what the outputs are.
+fn master_at<R, W, V>(
+    rt: &R,
+    running: Running<'_>,
+    console: Console,
+    scene: Result<Scene, SceneFault>,
+    out: &mut W,
+    err: &mut V,
+) -> u8
+where
+    R: Clock + Files + Net + AllocGlobal,
+    W: io::Write,
+    V: io::Write,
+{
+    let course = match course_of(rt.alloc(), scene, out, err) {
         Ok(course) => course,
         Err(status) => return status,
     };

@@ -1,11 +1,11 @@
 //! A line that lies somewhere else: how it is reached, and the two ports to it.
 
-ghost use Rattle.std.specs.Prelude.{◌≡◌, ◌<◌, ◌*◌};
+ghost use Rattle.std.specs.Prelude.{◌≡◌, ◌<◌, ◌*◌, None, Ok, Some};
 ghost use Rattle.std.specs.Option.{unwrap_or};
+ghost use Rattle.ec_regs.specs.declared.al.AlState.TheVariants.{Init};
 ghost use Rattle.ec_seal.specs.declared.seals.TheConstants.{TRIPS};
 ghost use Rattle.ecat_acts.specs.Failures.{unscanned};
 ghost use Rattle.ecat_acts.specs.declared.failure.Failure.TheVariants.{Remote};
-ghost use Rattle.ecat_acts.specs.declared.remote.TheConstants.{LATE, LIMIT, MICROS};
 
 use crate::failure::Failure;
 use arrayvec::ArrayVec;
@@ -50,10 +50,10 @@ impl Waiting {
         late: None,
     };
 
-    /// In microseconds, with what is usual where the words don't say.
+    /// In microseconds: 20 ms and a second where the words don't say.
     fn patience(self) -> Patience
-        ensures limit { result.limit ≡ unwrap_or self.limit LIMIT }
-        ensures late { result.late ≡ unwrap_or self.late LATE * MICROS }
+        ensures limit { result.limit ≡ unwrap_or self.limit 20000 }
+        ensures late { result.late ≡ unwrap_or self.late 1000 * 1000 }
     {
         Patience {
             limit: u64::from(self.limit.unwrap_or(LIMIT)),
@@ -71,7 +71,9 @@ const TURN: u128 = 128;
 
 /// The state in which slaves are left that a word names: Init where there is none, and as they are where it
 /// names Op.
-pub fn left_in(word: Option<&str>) -> Result<Option<AlState>, Failure> {
+pub fn left_in(word: Option<&str>) -> Result<Option<AlState>, Failure>
+    ensures usual { word.entry ≡ None → result ≡ Ok (Some Init) }
+{
     match word {
         None | Some("init") => Ok(Some(AlState::Init)),
         Some("pre-op") => Ok(Some(AlState::PreOp)),

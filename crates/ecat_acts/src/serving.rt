@@ -1,36 +1,38 @@
 //! `ecat serve`: the ends that it opens, and who works on the line.
 
 use crate::failure::{Failure, report, status_of, unbound};
-use crate::over_sockets::report_unbound;
+use crate::on_scene::report_unbound;
 use crate::tape::{Pcap, end, make};
 use ecat_raw::{Descriptors, RawEnds};
 use ecat_record::{Moments, Recorder, TapedEnds, WallClock, unrecorded};
 use ecat_remote::{ClockTimer, Timer};
+use ecat_scene::{Scene, SceneFault};
 use ecat_serve::{Console as LineConsole, Disturbed, Served, TimedEnds, Times, UdpEnds};
 use ecat_service::{Service, control, line_to_serve, serve};
-use ecat_source::Source;
+use ecat_setup::LineFailure;
+use std::alloc::Global;
 use std::io;
 use std::net::Net;
 use std::rt::{Clock, Files, Stdin};
 
 /// Serves the line of a scene. Its ends are opened once it is known that there is one. The service ends with
 /// the input where that has commands, or where it is not left alone.
-pub fn serve_at<R, S, W, V>(
+#[inline(never)]
+pub fn serve_at<R, W, V>(
     rt: &R,
     service: Service,
     pcap: Option<Pcap<'_>>,
     input: Stdin,
-    source: &mut S,
+    scene: Result<Scene, SceneFault>,
     out: &mut W,
     err: &mut V,
 ) -> u8
 where
     R: Clock + Files + Net + AllocGlobal,
-    S: Source,
     W: io::Write,
     V: io::Write,
 {
-    let served = match line_to_serve(rt.alloc(), source) {
+    let served = match served_of(rt.alloc(), scene) {
         Ok(served) => served,
         Err(failure) => return report(&Failure::Line(failure), out, err),
     };
@@ -45,6 +47,11 @@ where
         }
         Err(status) => status,
     }
+}
+
+/// The line of a scene, as it is served.
+fn served_of(alloc: Global, scene: Result<Scene, SceneFault>) -> Result<Served, LineFailure> {
+    line_to_serve(alloc, scene?)
 }
 
 /// Serves a line, and records each copy at its ends, if anybody wants it.

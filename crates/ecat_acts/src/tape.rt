@@ -1,6 +1,8 @@
 //! `--pcap FILE`: a capture of each copy, as it leaves the master and as it arrives there; and how a file is
 //! made that is kept where it is there.
 
+ghost use Rattle.std.specs.Prelude.{◌≡◌, is_some};
+
 use crate::failure::{Failure, report, report_file};
 use ecat_record::{Moments, Recorder};
 use ecat_text::FAILED;
@@ -26,9 +28,23 @@ pub struct ToScene<'a> {
     pub force: bool,
 }
 
+impl<'a> ToScene<'a> {
+    /// The scene that the words of a command ask for, if they do.
+    pub fn of(path: Option<&'a str>, force: bool) -> Option<ToScene<'a>>
+        ensures { is_some result ≡ is_some path.entry }
+    {
+        match path {
+            Some(path) => Some(ToScene { path, force }),
+            None => None,
+        }
+    }
+}
+
 impl<'a> Pcap<'a> {
     /// The capture that the words of a command ask for, if they do.
-    pub fn of(path: Option<&'a str>, force: bool) -> Option<Pcap<'a>> {
+    pub fn of(path: Option<&'a str>, force: bool) -> Option<Pcap<'a>>
+        ensures { is_some result ≡ is_some path.entry }
+    {
         match path {
             Some(path) => Some(Pcap { path, force }),
             None => None,

@@ -5,11 +5,11 @@ ghost use Rattle.std.specs.Prelude.{◌≡◌, length};
 use crate::failure::{Failure, report, status_of};
 use ec_applications::Applications;
 use ec_map::Item;
-use ec_master::{Reporting, Work, all_expected, run_cycle};
+use ec_master::{Reporting, Work, run_cycle};
 use ec_ring::Ring;
-use ecat_setup::{LineFailure, applications_of, ring_of, scene_for_packets, work_of};
+use ecat_scene::{Scene, SceneFault};
+use ecat_setup::{Expected, LineFailure, applications_of, for_packets, ring_of, work_of};
 use ecat_simulation::{judged_cycle, print_cable};
-use ecat_source::Source;
 use ecat_text::{GOOD, Lines, REFUSED, print_areas, print_items, print_verdict, refuse};
 use ecat_udp::{PacketLine, UdpPorts};
 use std::alloc::Global;
@@ -33,34 +33,33 @@ pub struct Prepared {
     items: Vec<Item>,
 }
 
-/// Reads and checks the scene that the source holds, before any socket is opened. Where nothing is to be
+/// Checks the scene that was read, before any socket is opened. Where nothing is to be
 /// done, reports why and answers the exit status.
-pub fn prepare_udp<S, W, V>(
+pub fn prepare_udp<W, V>(
     alloc: Global,
-    source: &mut S,
+    scene: Result<Scene, SceneFault>,
     out: &mut W,
     err: &mut V,
 ) -> Result<Prepared, u8>
 where
-    S: Source,
     W: Write,
     V: Write,
 {
-    match checked(alloc, source, out) {
+    match checked(alloc, scene, out) {
         Ok(Some(prepared)) => Ok(prepared),
         Ok(None) => Err(REFUSED),
         Err(failure) => Err(report(&Failure::Line(failure), out, err)),
     }
 }
 
-/// The ring and the items of the scene that the source holds, which has no actions and no weathers. If it has
-/// items, the line and the items are checked, and where they are refused it is printed why.
-fn checked<S: Source, W: Write>(
+/// The ring and the items of the scene that was read, which has no actions and no weathers. If it has items,
+/// the line and the items are checked, and where they are refused it is printed why.
+fn checked<W: Write>(
     alloc: Global,
-    source: &mut S,
+    scene: Result<Scene, SceneFault>,
     out: &mut W,
 ) -> Result<Option<Prepared>, LineFailure> {
-    let scene = scene_for_packets(alloc, source)?;
+    let scene = for_packets(scene?)?;
     let applications = applications_of(alloc, scene.slaves.as_slice())?;
     let ring = ring_of(alloc, scene.slaves, scene.links_down.as_slice())?;
     let items = scene.items;
@@ -121,15 +120,14 @@ fn judged<L: PacketLine + Drop, W: Write>(
     work: &mut Work,
     lines: &mut Lines<'_, W>,
 ) -> Result<u8, LineFailure> {
-    let expected = all_expected(ports.ring().slaves(), work);
-    let count = work.len();
+    let expected = Expected::of(ports.ring().slaves(), work);
     let mut ports = Reporting::new(ports);
-    let verdict = judged_cycle(&mut ports, work, &expected[..count], lines)?;
+    let verdict = judged_cycle(&mut ports, work, expected.counters(), lines)?;
     let (ports, report) = ports.into_parts();
     let (mut ring, _) = ports.into_parts();
     applications.act(&mut ring);
     print_cable(verdict, &report, &mut ring, &[], lines)?;
-    print_items(work, &expected, lines)?;
+    print_items(work, expected.table(), lines)?;
     print_areas(ring.slaves(), lines)?;
     Ok(ecat_text::status_of(verdict))
 }
@@ -140,10 +138,9 @@ fn cycle<L: PacketLine + Drop, W: Write>(
     work: &mut Work,
     lines: &mut Lines<'_, W>,
 ) -> Result<u8, LineFailure> {
-    let expected = all_expected(ports.ring().slaves(), work);
-    let count = work.len();
-    let verdict = run_cycle(ports, work, &expected[..count])?;
+    let expected = Expected::of(ports.ring().slaves(), work);
+    let verdict = run_cycle(ports, work, expected.counters())?;
     let status = print_verdict(verdict, lines)?;
-    print_items(work, &expected, lines)?;
+    print_items(work, expected.table(), lines)?;
     Ok(status)
 }

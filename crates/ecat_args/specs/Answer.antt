@@ -11,76 +11,85 @@ use Rattle.ecat_args.specs.Given.{asked_in, data_in, packet_in, recover_in, stat
 use Rattle.ecat_args.specs.Given.{by_index_in, word_in}
 use Rattle.ecat_commands.specs.Commands.{line}
 use Rattle.ecat_args.specs.declared.args.Args.{Args}
-use Rattle.ecat_args.specs.declared.args.Args.TheVariants.{Show, Check, Cover, Lint, Where, Run, Sweep, Sdo}
-use Rattle.ecat_args.specs.declared.args.Args.TheVariants.{Udp, Serve, Vectors, List as Lists, Master, Scan}
-use Rattle.ecat_args.specs.declared.args.Args.TheVariants.{Judge, Learn}
+use Rattle.ecat_args.specs.declared.args.Args.TheVariants.{Capture, Scene, Scan, Vectors}
 use Rattle.ecat_args.specs.declared.args.ArgsFault.{ArgsFault}
 use Rattle.ecat_args.specs.declared.args.ArgsFault.TheVariants.{Line, BadNumber, NoMemory}
+use Rattle.ecat_args.specs.declared.commands.CaptureCommand.{CaptureCommand}
+use Rattle.ecat_args.specs.declared.commands.CaptureCommand.TheVariants.{Show, List as Lists, Learn, Judge}
+use Rattle.ecat_args.specs.declared.commands.SceneCommand.{SceneCommand}
+use Rattle.ecat_args.specs.declared.commands.SceneCommand.TheVariants.{Check, Cover, Lint, Where, Run, Sweep}
+use Rattle.ecat_args.specs.declared.commands.SceneCommand.TheVariants.{Sdo, Udp, Serve, Master}
 
--- the arguments are this command, its texts as they stand and the numbers that its words write
-abbrev pub Says : Args → Given → Type 0
-Says (Show file) given =
+-- the command on a capture is this one, its texts as they stand and the numbers that its words write
+abbrev pub SaysOfCapture : CaptureCommand → Given → Type 0
+SaysOfCapture (Show file) given =
     (given.0 ≡ codes "show") × (word_in given (codes "FILE") ≡ Some file.now)
-Says (Lists file csv faults stats by_index) given =
+SaysOfCapture (Lists file csv faults stats by_index) given =
     (given.0 ≡ codes "list") × (word_in given (codes "FILE") ≡ Some file.now)
     × (csv_in given ≡ csv) × (faults_in given ≡ faults) × (stats_in given ≡ stats)
     × (by_index_in given ≡ by_index)
-Says (Learn file packet asked values) given =
+SaysOfCapture (Learn file packet asked values) given =
     (given.0 ≡ codes "learn") × (word_in given (codes "FILE") ≡ Some file.now)
     × (packet_in given ≡ Some packet) × (asked_in given ≡ asked) × (data_in given ≡ values)
-Says (Judge file scene csv lines) given =
+SaysOfCapture (Judge file scene csv lines) given =
     (given.0 ≡ codes "judge") × (word_in given (codes "FILE") ≡ Some file.now)
     × (word_in given (codes "SCENE") ≡ option_map (λ w. w.now) scene)
     × (csv_in given ≡ csv) × (lines_in given ≡ Some lines)
-Says (Check scene) given =
-    (given.0 ≡ codes "check") × (word_in given (codes "SCENE") ≡ Some scene.now)
-Says (Cover scene) given =
-    (given.0 ≡ codes "cover") × (word_in given (codes "SCENE") ≡ Some scene.now)
-Says (Lint scene) given =
-    (given.0 ≡ codes "lint") × (word_in given (codes "SCENE") ≡ Some scene.now)
-Says (Where scene place raw) given =
-    (given.0 ≡ codes "where") × (word_in given (codes "SCENE") ≡ Some scene.now)
+
+-- the command on a scene is this one; where the scene lies is said beside it
+abbrev pub SaysOfScene : SceneCommand → Given → Type 0
+SaysOfScene Check given = given.0 ≡ codes "check"
+SaysOfScene Cover given = given.0 ≡ codes "cover"
+SaysOfScene Lint given = given.0 ≡ codes "lint"
+SaysOfScene (Where place raw) given =
+    (given.0 ≡ codes "where")
     × (word_in given (codes "AT") ≡ option_map (λ w. w.now) place)
     × (word_in given (codes "RAW") ≡ option_map (λ w. w.now) raw)
-Says (Run scene judge pcap force) given =
-    (given.0 ≡ codes "run") × (word_in given (codes "SCENE") ≡ Some scene.now)
+SaysOfScene (Run judge pcap force) given =
+    (given.0 ≡ codes "run")
     × (judge_in given ≡ judge) × (word_in given (codes "PCAP") ≡ option_map (λ w. w.now) pcap)
     × (force_in given ≡ force)
-Says (Sweep scene) given =
-    (given.0 ≡ codes "sweep") × (word_in given (codes "SCENE") ≡ Some scene.now)
-Says (Sdo scene station index sub value surely once place raw) given =
-    (given.0 ≡ codes "sdo") × (word_in given (codes "SCENE") ≡ Some scene.now)
+SaysOfScene Sweep given = given.0 ≡ codes "sweep"
+SaysOfScene (Sdo station index sub value surely once place raw) given =
+    (given.0 ≡ codes "sdo")
     × (station_in given ≡ Some station) × (index_in given ≡ Some index)
     × (sub_in given ≡ Some sub) × (value_in given ≡ Some value) × (surely_in given ≡ surely)
     × (once_in given ≡ once) × (word_in given (codes "AT") ≡ option_map (λ w. w.now) place)
     × (word_in given (codes "RAW") ≡ option_map (λ w. w.now) raw)
-Says (Udp scene port judge pcap force) given =
-    (given.0 ≡ codes "udp") × (word_in given (codes "SCENE") ≡ Some scene.now)
+SaysOfScene (Udp port judge pcap force) given =
+    (given.0 ≡ codes "udp")
     × (port_in given ≡ Some port) × (judge_in given ≡ judge)
     × (word_in given (codes "PCAP") ≡ option_map (λ w. w.now) pcap) × (force_in given ≡ force)
-Says (Serve scene port packets address forever control log raw pcap force) given =
-    (given.0 ≡ codes "serve") × (word_in given (codes "SCENE") ≡ Some scene.now)
+SaysOfScene (Serve port packets address forever control log raw pcap force) given =
+    (given.0 ≡ codes "serve")
     × (port_in given ≡ Some port) × (many_in given ≡ Some packets)
     × LiesAt (word_in given (codes "ADDRESS")) address
     × (forever_in given ≡ forever) × (control_in given ≡ control) × (log_in given ≡ log)
     × (word_in given (codes "RAW") ≡ option_map (λ w. w.now) raw)
     × (word_in given (codes "PCAP") ≡ option_map (λ w. w.now) pcap) × (force_in given ≡ force)
-Says (Master scene place raw cycles every limit late outputs log images stop recover leave pcap force) given
-    =
-    (given.0 ≡ codes "master") × (word_in given (codes "SCENE") ≡ Some scene.now)
-    × (word_in given (codes "AT") ≡ option_map (λ w. w.now) place)
-    × (word_in given (codes "RAW") ≡ option_map (λ w. w.now) raw) × (many_in given ≡ Some cycles)
-    × (every_in given ≡ Some every) × (limit_in given ≡ Some limit) × (late_in given ≡ Some late)
-    × (word_in given (codes "OUTPUTS") ≡ option_map (λ w. w.now) outputs)
-    × (word_in given (codes "LOG") ≡ option_map (λ w. w.now) log) × (images_in given ≡ images)
-    × (stop_in given ≡ stop) × (recover_in given ≡ recover)
-    × (word_in given (codes "STATE") ≡ option_map (λ w. w.now) leave)
-    × (word_in given (codes "PCAP") ≡ option_map (λ w. w.now) pcap) × (force_in given ≡ force)
-Says (Scan place raw limit late scene force) given =
-    (given.0 ≡ codes "scan") × (word_in given (codes "AT") ≡ option_map (λ w. w.now) place)
-    × (word_in given (codes "RAW") ≡ option_map (λ w. w.now) raw) × (limit_in given ≡ Some limit)
-    × (late_in given ≡ Some late) × (word_in given (codes "SCENE") ≡ option_map (λ w. w.now) scene)
-    × (force_in given ≡ force)
+SaysOfScene (Master words) given =
+    (given.0 ≡ codes "master")
+    × (word_in given (codes "AT") ≡ option_map (λ w. w.now) words.at)
+    × (word_in given (codes "RAW") ≡ option_map (λ w. w.now) words.raw) × (many_in given ≡ Some words.cycles)
+    × (every_in given ≡ Some words.every) × (limit_in given ≡ Some words.limit)
+    × (late_in given ≡ Some words.late)
+    × (word_in given (codes "OUTPUTS") ≡ option_map (λ w. w.now) words.outputs)
+    × (word_in given (codes "LOG") ≡ option_map (λ w. w.now) words.log) × (images_in given ≡ words.log_images)
+    × (stop_in given ≡ words.stop) × (recover_in given ≡ words.recover)
+    × (word_in given (codes "STATE") ≡ option_map (λ w. w.now) words.leave)
+    × (word_in given (codes "PCAP") ≡ option_map (λ w. w.now) words.pcap) × (force_in given ≡ words.force)
+
+-- the arguments are this command, its texts as they stand and the numbers that its words write
+abbrev pub Says : Args → Given → Type 0
+Says (Capture command) given = SaysOfCapture command given
+Says (Scene path command) given =
+    (word_in given (codes "SCENE") ≡ Some path.now) × SaysOfScene command given
+Says (Scan words) given =
+    (given.0 ≡ codes "scan") × (word_in given (codes "AT") ≡ option_map (λ w. w.now) words.at)
+    × (word_in given (codes "RAW") ≡ option_map (λ w. w.now) words.raw)
+    × (limit_in given ≡ Some words.limit) × (late_in given ≡ Some words.late)
+    × (word_in given (codes "SCENE") ≡ option_map (λ w. w.now) words.scene)
+    × (force_in given ≡ words.force)
 Says Vectors given = given.0 ≡ codes "vectors"
 
 -- a word of the command that has to be a number, a value or an address is none in its range

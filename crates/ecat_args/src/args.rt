@@ -8,6 +8,7 @@ ghost use Rattle.ecat_args.specs.Answer.{Explains, HasBadNumber, Says, Takes};
 ghost use Rattle.ecat_args.specs.Given.{IsComplete, IsNoAddress, LiesAt, count_by, flag_by, port_by};
 ghost use Rattle.ecat_args.specs.Given.{value_by};
 
+use crate::commands::{CaptureCommand, MasterWords, ScanWords, SceneCommand};
 use crate::number::{Value, number, value_of};
 use clap::ArgMatches;
 use clap::error::ErrorKind;
@@ -27,199 +28,21 @@ pub(crate) const GREATEST_PORT: u32 = 65534;
 /// The least number of packets, of cycles and of microseconds.
 pub(crate) const LEAST_COUNT: u32 = 1;
 
-/// A command of the program, with its texts and numbers.
+/// A command of the program by what it opens first, with its texts and numbers.
 #[derive(Clone, Copy, Debug)]
 pub enum Args<'a> {
-    /// `show FILE`: prints the frames of a capture.
-    Show {
-        /// The path of the capture.
-        file: &'a str,
-    },
-    /// `list FILE [--csv] [--faults] [--stats] [--index]`: lists the datagrams of a capture.
-    List {
-        /// The path of the capture; `-` stands for standard input.
-        file: &'a str,
-        /// Whether values are separated by commas.
-        csv: bool,
-        /// Whether damaged packets alone are listed.
-        faults: bool,
-        /// Whether working counters are counted instead.
-        stats: bool,
-        /// Whether the datagrams of each index are counted apart.
-        by_index: bool,
-    },
-    /// `learn FILE [--at PACKET] [--asked] [--data]`: writes the line that a capture shows as a scene.
-    Learn {
-        /// The path of the capture; `-` stands for standard input.
-        file: &'a str,
-        /// The number of the packet in front of which the line is told, from 1.
-        at: Option<u32>,
-        /// Whether what was sent counts as taken where there are no answers.
-        asked: bool,
-        /// Whether items and inputs have their last data.
-        values: bool,
-    },
-    /// `judge FILE [SCENE] [--csv] [--limit LINES]`: says which cycles of a capture were not good.
-    Judge {
-        /// The path of the capture; `-` stands for standard input.
-        file: &'a str,
-        /// The path of the scene; without it the line is the one that the capture shows.
-        scene: Option<&'a str>,
-        /// Whether values are separated by commas.
-        csv: bool,
-        /// How many lines of runs are printed, one at least.
-        lines: Option<u32>,
-    },
-    /// `check SCENE`: says whether the line of a scene is fit.
-    Check {
+    /// It opens a capture.
+    Capture(CaptureCommand<'a>),
+    /// It opens the file of a scene.
+    Scene {
         /// The path of the scene.
-        scene: &'a str,
-    },
-    /// `cover SCENE`: says whether the items of a scene carry all that its line is mapped for.
-    Cover {
-        /// The path of the scene.
-        scene: &'a str,
-    },
-    /// `lint SCENE`: names what a scene says that is accepted and yet seldom meant.
-    Lint {
-        /// The path of the scene.
-        scene: &'a str,
-    },
-    /// `where SCENE [--at AT] [--raw RAW]`: says where the cable of a scene is broken, and who is missing.
-    Where {
-        /// The path of the scene.
-        scene: &'a str,
-        /// Where the line lies, if it is reached by UDP: the address of an end, or of both.
-        at: Option<&'a str>,
-        /// The descriptors of packet sockets, if it is reached by network interfaces.
-        raw: Option<&'a str>,
-    },
-    /// `run SCENE [--judge] [--pcap PCAP] [--force]`: does the actions of a scene, and then its work.
-    Run {
-        /// The path of the scene.
-        scene: &'a str,
-        /// Whether its cycle is judged, and what is short is named.
-        judge: bool,
-        /// The path of a capture that gets each copy, as it leaves and as it arrives.
-        pcap: Option<&'a str>,
-        /// Whether a capture that is there is overwritten.
-        force: bool,
-    },
-    /// `sweep SCENE`: does the cycle of a scene whole, and with each cable broken.
-    Sweep {
-        /// The path of the scene.
-        scene: &'a str,
-    },
-    /// `sdo SCENE STATION INDEX SUB [VALUE] [--surely] [--once] [--at AT] [--raw RAW]`: one upload, or a
-    /// download of the value.
-    Sdo {
-        /// The path of the scene.
-        scene: &'a str,
-        /// The configured station address of the slave.
-        station: u16,
-        /// The index of the object.
-        index: u16,
-        /// The subindex of the object.
-        sub: u8,
-        /// What to write; without it the object is read.
-        value: Option<Value>,
-        /// Whether trips are made until it is done, whatever copies are lost.
-        surely: bool,
-        /// Whether a line somewhere else is asked once, whatever copies are lost.
-        once: bool,
-        /// Where the line lies, if it is reached by UDP: the address of an end, or of both.
-        at: Option<&'a str>,
-        /// The descriptors of packet sockets, if it is reached by network interfaces.
-        raw: Option<&'a str>,
-    },
-    /// `udp SCENE [--port P] [--judge] [--pcap PCAP] [--force]`: does the work of a scene by UDP sockets.
-    Udp {
-        /// The path of the scene.
-        scene: &'a str,
-        /// The port of the line's end A, 1024 to 65534. The end B has the next one.
-        port: u16,
-        /// Whether what is short is named.
-        judge: bool,
-        /// The path of a capture that gets each copy, as it leaves and as it arrives.
-        pcap: Option<&'a str>,
-        /// Whether a capture that is there is overwritten.
-        force: bool,
-    },
-    /// `serve SCENE [--port P] [--packets N] [--bind ADDRESS] [--forever] [--control] [--log] [--raw RAW]
-    /// [--pcap PCAP] [--force]`: puts the line of a scene on the network.
-    Serve {
-        /// The path of the scene.
-        scene: &'a str,
-        /// The port of the line's end A, 1024 to 65534. The end B has the next one.
-        port: u16,
-        /// After how many packets it ends, one at least; without it at the end of the input.
-        packets: Option<u32>,
-        /// The address of both ends: that of this machine alone, unless another one was given.
-        address: Ipv4Addr,
-        /// Whether it serves on where the input has ended.
-        forever: bool,
-        /// Whether the lines of the input are commands to the line.
-        control: bool,
-        /// Whether each packet is told of.
-        log: bool,
-        /// The descriptors of packet sockets, if its ends lie at network interfaces.
-        raw: Option<&'a str>,
-        /// The path of a capture that gets each copy, as it comes and as it leaves.
-        pcap: Option<&'a str>,
-        /// Whether a capture that is there is overwritten.
-        force: bool,
-    },
-    /// `master SCENE [--at AT] [--raw RAW] [--cycles N] [--every MICROSECONDS] [--limit LIMIT] [--late LATE]
-    /// [--outputs OUTPUTS] [--log LOG] [--log-images] [--stop] [--recover] [--leave STATE] [--pcap PCAP]
-    /// [--force]`: brings a line somewhere else to Op, cycles on it, and leaves it in a state.
-    Master {
-        /// The path of the scene, what the slaves are to be told.
-        scene: &'a str,
-        /// Where the line lies, if it is reached by UDP: the address of an end, or of both.
-        at: Option<&'a str>,
-        /// The descriptors of packet sockets, if it is reached by network interfaces.
-        raw: Option<&'a str>,
-        /// After how many cycles it ends, one at least; without it at the end of the input.
-        cycles: Option<u32>,
-        /// How many microseconds lie between the beginnings of cycles; without it they are back to back.
-        every: Option<u32>,
-        /// How many microseconds a copy is waited for.
-        limit: Option<u32>,
-        /// For how many milliseconds a missing copy may still come.
-        late: Option<u32>,
-        /// What the outputs are: `count`, or the path of a file; without it those of the scene.
-        outputs: Option<&'a str>,
-        /// The path of a file that gets a line for each cycle.
-        log: Option<&'a str>,
-        /// Whether that line has what the cycle sent and took.
-        log_images: bool,
-        /// Whether it ends at the first cycle that is not good.
-        stop: bool,
-        /// Whether slaves are brought up again.
-        recover: bool,
-        /// The name of the state in which the slaves are left at the end.
-        leave: Option<&'a str>,
-        /// The path of a capture that gets each copy, as it leaves and as it arrives.
-        pcap: Option<&'a str>,
-        /// Whether a capture that is there is overwritten.
-        force: bool,
+        path: &'a str,
+        /// What is done with its line.
+        command: SceneCommand<'a>,
     },
     /// `scan [--at AT] [--raw RAW] [--limit LIMIT] [--late LATE] [--scene SCENE] [--force]`: tells what
     /// slaves a line has that lies somewhere else.
-    Scan {
-        /// Where the line lies, if it is reached by UDP: the address of an end, or of both.
-        at: Option<&'a str>,
-        /// The descriptors of packet sockets, if it is reached by network interfaces.
-        raw: Option<&'a str>,
-        /// How many microseconds a copy is waited for.
-        limit: Option<u32>,
-        /// For how many milliseconds a missing copy may still come.
-        late: Option<u32>,
-        /// The path of a file that gets the line as a scene.
-        scene: Option<&'a str>,
-        /// Whether a scene that is there is overwritten.
-        force: bool,
-    },
+    Scan(ScanWords<'a>),
     /// `vectors`: runs the worked rows.
     Vectors,
 }
@@ -297,25 +120,29 @@ fn command<'a>(name: &str, given: &ArgMatches<'a>) -> Option<Args<'a>>
         (λ args. Says args (name.now, rows_of (found_of given.now))) }
 {
     match name {
-        "show" => Some(Args::Show {
+        "show" => Some(Args::Capture(CaptureCommand::Show {
             file: text(given, "FILE"),
-        }),
+        })),
         "list" => Some(list(given)),
         "learn" => learn(given),
         "judge" => judge(given),
-        "check" => Some(Args::Check {
-            scene: text(given, "SCENE"),
+        "check" => Some(Args::Scene {
+            path: text(given, "SCENE"),
+            command: SceneCommand::Check,
         }),
-        "cover" => Some(Args::Cover {
-            scene: text(given, "SCENE"),
+        "cover" => Some(Args::Scene {
+            path: text(given, "SCENE"),
+            command: SceneCommand::Cover,
         }),
-        "lint" => Some(Args::Lint {
-            scene: text(given, "SCENE"),
+        "lint" => Some(Args::Scene {
+            path: text(given, "SCENE"),
+            command: SceneCommand::Lint,
         }),
         "where" => Some(where_broken(given)),
         "run" => Some(run(given)),
-        "sweep" => Some(Args::Sweep {
-            scene: text(given, "SCENE"),
+        "sweep" => Some(Args::Scene {
+            path: text(given, "SCENE"),
+            command: SceneCommand::Sweep,
         }),
         "sdo" => sdo(given),
         "udp" => udp(given),
@@ -360,13 +187,13 @@ fn list<'a>(given: &ArgMatches<'a>) -> Args<'a>
     requires { IsComplete (codes "list", rows_of (found_of given.now)) }
     ensures { Says result (codes "list", rows_of (found_of given.now)) }
 {
-    Args::List {
+    Args::Capture(CaptureCommand::List {
         file: text(given, "FILE"),
         csv: flag(given, "csv"),
         faults: flag(given, "faults"),
         stats: flag(given, "stats"),
         by_index: flag(given, "index"),
-    }
+    })
 }
 
 // What `learn` says, unless the number of the packet is bad.
@@ -376,12 +203,12 @@ fn learn<'a>(given: &ArgMatches<'a>) -> Option<Args<'a>>
         (λ args. Says args (codes "learn", rows_of (found_of given.now))) }
 {
     let at = count_given(given, "PACKET")?;
-    Some(Args::Learn {
+    Some(Args::Capture(CaptureCommand::Learn {
         file: text(given, "FILE"),
         at,
         asked: flag(given, "asked"),
         values: flag(given, "data"),
-    })
+    }))
 }
 
 // What `judge` says, unless the number of lines is bad.
@@ -391,12 +218,12 @@ fn judge<'a>(given: &ArgMatches<'a>) -> Option<Args<'a>>
         (λ args. Says args (codes "judge", rows_of (found_of given.now))) }
 {
     let lines = count_given(given, "LINES")?;
-    Some(Args::Judge {
+    Some(Args::Capture(CaptureCommand::Judge {
         file: text(given, "FILE"),
         scene: word(given, "SCENE"),
         csv: flag(given, "csv"),
         lines,
-    })
+    }))
 }
 
 // What `where` says.
@@ -404,10 +231,12 @@ fn where_broken<'a>(given: &ArgMatches<'a>) -> Args<'a>
     requires { IsComplete (codes "where", rows_of (found_of given.now)) }
     ensures { Says result (codes "where", rows_of (found_of given.now)) }
 {
-    Args::Where {
-        scene: text(given, "SCENE"),
-        at: word(given, "AT"),
-        raw: word(given, "RAW"),
+    Args::Scene {
+        path: text(given, "SCENE"),
+        command: SceneCommand::Where {
+            at: word(given, "AT"),
+            raw: word(given, "RAW"),
+        },
     }
 }
 
@@ -416,11 +245,13 @@ fn run<'a>(given: &ArgMatches<'a>) -> Args<'a>
     requires { IsComplete (codes "run", rows_of (found_of given.now)) }
     ensures { Says result (codes "run", rows_of (found_of given.now)) }
 {
-    Args::Run {
-        scene: text(given, "SCENE"),
-        judge: flag(given, "judge"),
-        pcap: word(given, "PCAP"),
-        force: flag(given, "force"),
+    Args::Scene {
+        path: text(given, "SCENE"),
+        command: SceneCommand::Run {
+            judge: flag(given, "judge"),
+            pcap: word(given, "PCAP"),
+            force: flag(given, "force"),
+        },
     }
 }
 
@@ -434,16 +265,18 @@ fn sdo<'a>(given: &ArgMatches<'a>) -> Option<Args<'a>>
     let index = number(text(given, "INDEX"), 0, u16::MAX as u32)?;
     let sub = number(text(given, "SUB"), 0, u8::MAX as u32)?;
     let value = value_given(given)?;
-    Some(Args::Sdo {
-        scene: text(given, "SCENE"),
-        station: station as u16,
-        index: index as u16,
-        sub: sub as u8,
-        value,
-        surely: flag(given, "surely"),
-        once: flag(given, "once"),
-        at: word(given, "AT"),
-        raw: word(given, "RAW"),
+    Some(Args::Scene {
+        path: text(given, "SCENE"),
+        command: SceneCommand::Sdo {
+            station: station as u16,
+            index: index as u16,
+            sub: sub as u8,
+            value,
+            surely: flag(given, "surely"),
+            once: flag(given, "once"),
+            at: word(given, "AT"),
+            raw: word(given, "RAW"),
+        },
     })
 }
 
@@ -464,12 +297,14 @@ fn udp<'a>(given: &ArgMatches<'a>) -> Option<Args<'a>>
         (λ args. Says args (codes "udp", rows_of (found_of given.now))) }
 {
     let port = port_given(given)?;
-    Some(Args::Udp {
-        scene: text(given, "SCENE"),
-        port,
-        judge: flag(given, "judge"),
-        pcap: word(given, "PCAP"),
-        force: flag(given, "force"),
+    Some(Args::Scene {
+        path: text(given, "SCENE"),
+        command: SceneCommand::Udp {
+            port,
+            judge: flag(given, "judge"),
+            pcap: word(given, "PCAP"),
+            force: flag(given, "force"),
+        },
     })
 }
 
@@ -482,17 +317,19 @@ fn serve<'a>(given: &ArgMatches<'a>) -> Option<Args<'a>>
     let port = port_given(given)?;
     let packets = count_given(given, "N")?;
     let address = address_given(given)?;
-    Some(Args::Serve {
-        scene: text(given, "SCENE"),
-        port,
-        packets,
-        address,
-        forever: flag(given, "forever"),
-        control: flag(given, "control"),
-        log: flag(given, "log"),
-        raw: word(given, "RAW"),
-        pcap: word(given, "PCAP"),
-        force: flag(given, "force"),
+    Some(Args::Scene {
+        path: text(given, "SCENE"),
+        command: SceneCommand::Serve {
+            port,
+            packets,
+            address,
+            forever: flag(given, "forever"),
+            control: flag(given, "control"),
+            log: flag(given, "log"),
+            raw: word(given, "RAW"),
+            pcap: word(given, "PCAP"),
+            force: flag(given, "force"),
+        },
     })
 }
 
@@ -506,22 +343,24 @@ fn master<'a>(given: &ArgMatches<'a>) -> Option<Args<'a>>
     let every = count_given(given, "MICROSECONDS")?;
     let limit = count_given(given, "LIMIT")?;
     let late = count_given(given, "LATE")?;
-    Some(Args::Master {
-        scene: text(given, "SCENE"),
-        at: word(given, "AT"),
-        raw: word(given, "RAW"),
-        cycles,
-        every,
-        limit,
-        late,
-        outputs: word(given, "OUTPUTS"),
-        log: word(given, "LOG"),
-        log_images: flag(given, "log-images"),
-        stop: flag(given, "stop"),
-        recover: flag(given, "recover"),
-        leave: word(given, "STATE"),
-        pcap: word(given, "PCAP"),
-        force: flag(given, "force"),
+    Some(Args::Scene {
+        path: text(given, "SCENE"),
+        command: SceneCommand::Master(MasterWords {
+            at: word(given, "AT"),
+            raw: word(given, "RAW"),
+            cycles,
+            every,
+            limit,
+            late,
+            outputs: word(given, "OUTPUTS"),
+            log: word(given, "LOG"),
+            log_images: flag(given, "log-images"),
+            stop: flag(given, "stop"),
+            recover: flag(given, "recover"),
+            leave: word(given, "STATE"),
+            pcap: word(given, "PCAP"),
+            force: flag(given, "force"),
+        }),
     })
 }
 
@@ -533,14 +372,14 @@ fn scan<'a>(given: &ArgMatches<'a>) -> Option<Args<'a>>
 {
     let limit = count_given(given, "LIMIT")?;
     let late = count_given(given, "LATE")?;
-    Some(Args::Scan {
+    Some(Args::Scan(ScanWords {
         at: word(given, "AT"),
         raw: word(given, "RAW"),
         limit,
         late,
         scene: word(given, "SCENE"),
         force: flag(given, "force"),
-    })
+    }))
 }
 
 // The port of the end A, or EtherCAT's own, unless it is bad.

@@ -34,7 +34,9 @@
 //! let alloc = rt.alloc();
 //! let words = ["ecat", "serve", "a.scene", "--packets", "100"];
 //! let text = match Args::read(alloc, &words) {
-//!     Ok(Args::Serve { scene, port, .. }) => format!(in alloc; "{scene} on {port}"),
+//!     Ok(Args::Scene { path, command: SceneCommand::Serve { port, .. } }) => {
+//!         format!(in alloc; "{path} on {port}")
+//!     }
 //!     Ok(_) => format!(in alloc; "another command"),
 //!     Err(ArgsFault::Line(error)) => format!(in alloc; "{error}"),
 //!     Err(ArgsFault::BadNumber) => format!(in alloc; "a bad number"),
@@ -44,15 +46,18 @@
 //!
 //! The text is `a.scene on 34980`.
 //!
+//! [`Args`] splits the commands by what they open first: a capture, the scene of a file, or nothing.
 //! `Args::read` answers exactly the command that clap's own definition of the line gives for the
 //! words, and each fault where that definition or a number's range is not met. Only the texts of
 //! help and of errors have no contract.
 #![tactic(auto)]
 
 mod args;
+mod commands;
 mod explain;
 mod number;
 
 pub use args::{Args, ArgsFault};
+pub use commands::{CaptureCommand, MasterWords, ScanWords, SceneCommand};
 pub use explain::{BadWord, bad_word};
 pub use number::Value;

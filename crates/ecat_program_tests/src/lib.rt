@@ -16,6 +16,8 @@ mod first;
 #[cfg(test)]
 mod line;
 #[cfg(test)]
+mod reading;
+#[cfg(test)]
 mod rows;
 #[cfg(test)]
 mod scenes;

@@ -2,13 +2,13 @@
 
 mod records;
 
+use crate::reading::scene_of;
 use ec_check::Mapped;
 use ec_ring::{Ring, Travel, Weather};
 use ec_wire::Kind;
 use ecat_scene::{LineFault, Scene, SceneFault};
 use ecat_setup::{
-    LineFailure, records_of, ring_of, scene_for_packets, scene_of, set_link, slaves_of,
-    weathers_of, work_of,
+    LineFailure, for_packets, records_of, ring_of, set_link, slaves_of, weathers_of, work_of,
 };
 use ecat_source::{Bytes, FailsAt};
 use std::process::Abort;
@@ -85,7 +85,10 @@ fn is_read_so(done: &Result<Scene, LineFailure>, wanted: Read) -> bool {
 fn each_text_is_a_scene_for_packets_or_told(rt: HostRuntime) {
     for row in &ROWS {
         let text = row.text;
-        let done = scene_for_packets(rt.alloc(), &mut Bytes::new(text.as_bytes()));
+        let done = match scene_of(rt.alloc(), &mut Bytes::new(text.as_bytes())) {
+            Ok(scene) => for_packets(scene),
+            Err(failure) => Err(failure),
+        };
         assert!(rt; is_read_so(&done, row.read), "{text}");
     }
 }

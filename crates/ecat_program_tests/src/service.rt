@@ -3,9 +3,13 @@
 mod controlling;
 mod serving;
 
+use crate::reading::scene_of;
 use ecat_scene::SceneFault;
-use ecat_service::Service;
+use ecat_serve::Served;
+use ecat_service::{Service, line_to_serve};
 use ecat_setup::LineFailure;
+use ecat_source::Source;
+use std::alloc::Global;
 use std::io::Cursor;
 use std::net::Ipv4Addr;
 
@@ -27,6 +31,11 @@ const SERVICE: Service = Service {
 fn written(cursor: &Cursor<[u8; ROOM]>) -> &[u8] {
     let count = cursor.position().min(ROOM as u64) as usize;
     &cursor.get_ref()[..count]
+}
+
+/// The line of a source, as it is served.
+fn line_of<S: Source>(alloc: Global, source: &mut S) -> Result<Served, LineFailure> {
+    line_to_serve(alloc, scene_of(alloc, source)?)
 }
 
 /// Did memory run out?

@@ -15,8 +15,8 @@ mod running;
 mod sweeps;
 
 use ecat_record::unrecorded;
-use ecat_scene::SceneFault;
-use ecat_setup::LineFailure;
+use ecat_scene::{Scene, SceneFault};
+use ecat_setup::{LineFailure, text_of};
 use ecat_simulation::{check, cover, lint, run, sweep, where_broken};
 use ecat_source::{Bytes, Source};
 use std::alloc::Global;
@@ -46,14 +46,16 @@ impl Command {
         source: &mut S,
         out: &mut W,
     ) -> Result<u8, LineFailure> {
+        let text = text_of(alloc, source)?;
+        let scene = Scene::read(alloc, text.as_slice())?;
         match self {
-            Command::Check => check(alloc, source, out),
-            Command::Cover => cover(alloc, source, out),
-            Command::Judge => run(alloc, true, &mut unrecorded(), source, out),
-            Command::Lint => lint(alloc, source, out),
-            Command::Run => run(alloc, false, &mut unrecorded(), source, out),
-            Command::Sweep => sweep(alloc, source, out),
-            Command::Where => where_broken(alloc, source, out),
+            Command::Check => check(alloc, &scene, out),
+            Command::Cover => cover(alloc, &scene, out),
+            Command::Judge => run(alloc, true, &mut unrecorded(), scene, out),
+            Command::Lint => lint(alloc, text.as_slice(), &scene, out),
+            Command::Run => run(alloc, false, &mut unrecorded(), scene, out),
+            Command::Sweep => sweep(alloc, scene, out),
+            Command::Where => where_broken(alloc, scene, out),
         }
     }
 }

@@ -8,9 +8,9 @@ use crate::raw::RawWhereText;
 use crate::service::Service;
 use ec_ring::Ring;
 use ecat_log::Log;
+use ecat_scene::Scene;
 use ecat_serve::{Counts, Ends, Served, Unwatched, Watch};
-use ecat_setup::{LineFailure, applications_of, ring_of, scene_for_packets};
-use ecat_source::Source;
+use ecat_setup::{LineFailure, applications_of, for_packets, ring_of};
 use ecat_text::{GOOD, Lines, print_areas};
 use std::alloc::Global;
 use std::fmt;
@@ -89,10 +89,10 @@ impl fmt::Display for CountsText {
     }
 }
 
-/// The line of the scene that the source holds, which has no actions and no weathers, as it is served; its
-/// items are a master's, and are passed over.
-pub fn line_to_serve<S: Source>(alloc: Global, source: &mut S) -> Result<Served, LineFailure> {
-    let scene = scene_for_packets(alloc, source)?;
+/// The line of the scene, which has no actions and no weathers, as it is served; its items are a master's,
+/// and are passed over.
+pub fn line_to_serve(alloc: Global, scene: Scene) -> Result<Served, LineFailure> {
+    let scene = for_packets(scene)?;
     let applications = applications_of(alloc, scene.slaves.as_slice())?;
     let ring = ring_of(alloc, scene.slaves, scene.links_down.as_slice())?;
     Ok(Served::acting(ring, applications))

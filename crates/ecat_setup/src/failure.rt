@@ -2,7 +2,7 @@
 
 ghost use Rattle.std.specs.Prelude.{◌≡◌};
 ghost use Rattle.ecat_setup.specs.Failures.{failed_cycle};
-ghost use Rattle.ecat_setup.specs.declared.failure.LineFailure.TheVariants.{Output, Port};
+ghost use Rattle.ecat_setup.specs.declared.failure.LineFailure.TheVariants.{Output, Port, Scene};
 
 use ec_master::{CycleFault, PortFault};
 use ecat_scene::SceneFault;
@@ -27,6 +27,14 @@ pub enum LineFailure {
     Stranger,
     /// A send or a receive failed.
     Port,
+}
+
+impl From<SceneFault> for LineFailure {
+    fn from(fault: SceneFault) -> LineFailure
+        ensures { result ≡ Scene fault }
+    {
+        LineFailure::Scene(fault)
+    }
 }
 
 impl From<io::Error> for LineFailure {

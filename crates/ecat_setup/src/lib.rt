@@ -5,18 +5,22 @@
 //! One use:
 //!
 //! ```text
-//! let scene = scene_of(alloc, &mut source)?;
+//! let text = text_of(alloc, &mut source)?;
+//! let scene = Scene::read(alloc, text.as_slice())?;
 //! let weathers = weathers_of(alloc, scene.weathers.as_slice())?;
 //! let ring = ring_of(alloc, scene.slaves, scene.links_down.as_slice())?;
 //! let work = work_of(scene.items)?;
+//! let expected = Expected::of(ring.slaves(), &work);
 //! ```
 //!
-//! What is promised: as what a source counts that could not be read to its end (`unread`), and the trips of a
-//! service over the line ([`SteppingPorts`]): each under the next weather, and then every slave takes its
-//! step. That a line is the one that its scene describes is tested, here and by the scenes and cases of the
-//! program; so is that the records alone ([`records_of`]), by which a line is checked, are mapped as its
-//! slaves.
+//! What is promised: as what a source counts that could not be read to its end (`unread`), which scenes a
+//! line has that packets reach ([`for_packets`]), what is expected of each item ([`Expected`]), and the
+//! trips of a service over the line ([`SteppingPorts`]): each under the next weather, and then every slave
+//! takes its step. That a line is the one that its scene describes is tested, here and by the scenes and
+//! cases of the program; so is that the records alone ([`records_of`]), by which a line is checked, are
+//! mapped as its slaves.
 
+mod expected;
 mod failure;
 mod line;
 mod reading;
@@ -25,9 +29,10 @@ mod stepping_ports;
 mod weathers;
 mod work;
 
+pub use expected::Expected;
 pub use failure::LineFailure;
 pub use line::{applications_of, ring_of, set_link, slaves_of};
-pub use reading::{scene_for_packets, scene_of, unread};
+pub use reading::{for_packets, is_for_run_alone, text_of, unread};
 pub use records::records_of;
 pub use stepping_ports::SteppingPorts;
 pub use weathers::weathers_of;

@@ -1,22 +1,19 @@
-//! The scene of a source.
+//! The text of a scene, and the scene of a command on a line that packets reach.
 
 ghost use Rattle.std.specs.Prelude.{◌≡◌};
 ghost use Rattle.ecat_setup.specs.Failures.{unread};
+ghost use Rattle.ecat_setup.specs.Packets.{for_packets, is_for_run_alone};
 
 use crate::failure::LineFailure;
 use ecat_scene::{MAX_TEXT, Scene, SceneFault};
 use ecat_source::{ReadAllFault, Source, read_all};
 use std::alloc::Global;
 
-/// Reads the scene of a source.
-pub fn scene_of<S: Source>(alloc: Global, source: &mut S) -> Result<Scene, LineFailure> {
-    let text = match read_all(alloc, source, MAX_TEXT) {
-        Ok(text) => text,
-        Err(fault) => return Err(unread(fault)),
-    };
-    match Scene::read(alloc, text.as_slice()) {
-        Ok(scene) => Ok(scene),
-        Err(fault) => Err(LineFailure::Scene(fault)),
+/// Reads the text of a scene, which the source holds whole.
+pub fn text_of<S: Source>(alloc: Global, source: &mut S) -> Result<Vec<u8>, LineFailure> {
+    match read_all(alloc, source, MAX_TEXT) {
+        Ok(text) => Ok(text),
+        Err(fault) => Err(unread(fault)),
     }
 }
 
@@ -31,11 +28,20 @@ pub fn unread(fault: ReadAllFault) -> LineFailure
     }
 }
 
-/// Reads the scene of a source for a line that packets reach, which can have no actions and no weathers.
-pub fn scene_for_packets<S: Source>(alloc: Global, source: &mut S) -> Result<Scene, LineFailure> {
-    let scene = scene_of(alloc, source)?;
-    if !scene.actions.is_empty() || !scene.weathers.is_empty() {
-        return Err(LineFailure::Actions);
+/// Is a scene for `run` alone? It is where it has actions or weathers, for which there are no packets.
+pub fn is_for_run_alone(scene: &Scene) -> bool
+    ensures { result ≡ is_for_run_alone scene.now }
+{
+    !scene.actions.is_empty() || !scene.weathers.is_empty()
+}
+
+/// The scene of a command on a line that packets reach, unless it is for `run` alone.
+pub fn for_packets(scene: Scene) -> Result<Scene, LineFailure>
+    ensures { result ≡ for_packets scene }
+{
+    if is_for_run_alone(&scene) {
+        Err(LineFailure::Actions)
+    } else {
+        Ok(scene)
     }
-    Ok(scene)
 }

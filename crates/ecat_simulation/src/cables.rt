@@ -4,22 +4,17 @@ use ec_app::Slave;
 use ec_diag::{Located, probe};
 use ec_ring::{Arrivals, HeardPorts, Ring, Travel, Weather};
 use ec_wire::FrameBuf;
-use ecat_setup::{LineFailure, ring_of, scene_of, slaves_of, weathers_of};
-use ecat_source::Source;
+use ecat_scene::Scene;
+use ecat_setup::{LineFailure, ring_of, slaves_of, weathers_of};
 use ecat_text::{Lines, print_arrived, print_break, print_copies};
 use std::alloc::Global;
 use std::io::{self, Write};
 
-/// Sends one frame over the line of the scene that the source holds, in its first weather, or under its links
-/// where it has none, and prints where the copies came back and where the cable is broken. The actions and
-/// items of the scene are passed over.
+/// Sends one frame over the line of the scene, in its first weather, or under its links where it has none,
+/// and prints where the copies came back and where the cable is broken. The actions and items of the scene
+/// are passed over.
 #[inline(never)]
-pub fn where_broken<S: Source, W: Write>(
-    alloc: Global,
-    source: &mut S,
-    out: &mut W,
-) -> Result<u8, LineFailure> {
-    let scene = scene_of(alloc, source)?;
+pub fn where_broken<W: Write>(alloc: Global, scene: Scene, out: &mut W) -> Result<u8, LineFailure> {
     let weathers = weathers_of(alloc, scene.weathers.as_slice())?;
     let mut ring = ring_of(alloc, scene.slaves, scene.links_down.as_slice())?;
     let weather = match weathers.first() {
@@ -41,15 +36,14 @@ fn print_probe<W: Write>(
     print_told(ring.slaves(), &sent, &came, lines)
 }
 
-/// Sends one frame over ports to a line somewhere else, whose slaves are those of the scene that the source
-/// holds, and prints where the copies came back and where the cable is broken.
-pub fn where_far<P: HeardPorts, S: Source, W: Write>(
+/// Sends one frame over ports to a line somewhere else, whose slaves are those of the scene, and prints where
+/// the copies came back and where the cable is broken.
+pub fn where_far<P: HeardPorts, W: Write>(
     alloc: Global,
     ports: &mut P,
-    source: &mut S,
+    scene: Scene,
     out: &mut W,
 ) -> Result<u8, LineFailure> {
-    let scene = scene_of(alloc, source)?;
     let line = slaves_of(alloc, scene.slaves)?;
     let sent = probe();
     let Ok(came) = ports.trip_heard(&sent) else {

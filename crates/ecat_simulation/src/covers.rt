@@ -4,8 +4,8 @@ ghost use Rattle.std.specs.Prelude.{Some};
 ghost use Rattle.ecat_simulation.specs.Covers.{gap_words, not_shown_words, place_words};
 
 use ec_map::{Gap, Item, Mapped, NotShown, Way, WhyNotShown, first_not_shown, first_uncovered};
-use ecat_setup::{LineFailure, records_of, scene_of};
-use ecat_source::Source;
+use ecat_scene::Scene;
+use ecat_setup::{LineFailure, records_of};
 use ecat_text::{GOOD, Lines, REFUSED, refuse_mapped};
 use std::alloc::Global;
 use std::fmt;
@@ -67,16 +67,11 @@ impl fmt::Display for NotShownText {
     }
 }
 
-/// Checks the line of the scene that the source holds and its items, and then prints `covered`, or the first
-/// mapped bit that no item carries, or the first area of outputs that is not shown to its application. The
-/// actions and weathers of the scene are passed over.
+/// Checks the line of the scene and its items, and then prints `covered`, or the first mapped bit that no
+/// item carries, or the first area of outputs that is not shown to its application. The actions and weathers
+/// of the scene are passed over.
 #[inline(never)]
-pub fn cover<S: Source, W: Write>(
-    alloc: Global,
-    source: &mut S,
-    out: &mut W,
-) -> Result<u8, LineFailure> {
-    let scene = scene_of(alloc, source)?;
+pub fn cover<W: Write>(alloc: Global, scene: &Scene, out: &mut W) -> Result<u8, LineFailure> {
     let slaves = records_of(alloc, scene.slaves.as_slice())?;
     let mut lines = Lines::new(out);
     if refuse_mapped(slaves.as_slice(), scene.items.as_slice(), &mut lines)? {

@@ -1,11 +1,11 @@
 #![tactic(auto)]
-//! The commands over a ring of simulated slaves: each reads the scene of a source, prints what comes of it,
-//! and answers the exit status.
+//! The commands over a ring of simulated slaves: each takes a scene, prints what comes of it, and answers the
+//! exit status.
 //!
 //! One use:
 //!
 //! ```text
-//! let status = check(alloc, &mut source, &mut out)?;
+//! let status = check(alloc, &scene, &mut out)?;
 //! ```
 //!
 //! What is promised: the words of what is printed here alone (`specs/Covers`, `specs/Sweeps`). What a command

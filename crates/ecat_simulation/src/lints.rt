@@ -1,30 +1,22 @@
 //! `ecat lint`: what a scene says that is accepted and yet seldom meant.
 
 use ecat_lint::odd_lines;
-use ecat_scene::{MAX_TEXT, Scene};
-use ecat_setup::{LineFailure, records_of, unread};
-use ecat_source::{Source, read_all};
+use ecat_scene::Scene;
+use ecat_setup::{LineFailure, records_of};
 use ecat_text::{GOOD, Lines, REFUSED, refuse_mapped};
 use std::alloc::Global;
 use std::io::Write;
 
-/// Prints what is odd in the scene that the source holds, a line each; and where it has no items, why its
-/// line is refused if it is, which no cycle would tell.
+/// Prints what is odd in the text of the scene, a line each; and where it has no items, why its line is
+/// refused if it is, which no cycle would tell.
 #[inline(never)]
-pub fn lint<S: Source, W: Write>(
+pub fn lint<W: Write>(
     alloc: Global,
-    source: &mut S,
+    text: &[u8],
+    scene: &Scene,
     out: &mut W,
 ) -> Result<u8, LineFailure> {
-    let text = match read_all(alloc, source, MAX_TEXT) {
-        Ok(text) => text,
-        Err(fault) => return Err(unread(fault)),
-    };
-    let scene = match Scene::read(alloc, text.as_slice()) {
-        Ok(scene) => scene,
-        Err(fault) => return Err(LineFailure::Scene(fault)),
-    };
-    let Ok(found) = odd_lines(alloc, text.as_slice()) else {
+    let Ok(found) = odd_lines(alloc, text) else {
         return Err(LineFailure::NoMemory);
     };
     let mut status = GOOD;

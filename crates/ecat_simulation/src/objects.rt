@@ -10,8 +10,7 @@ use ec_regs::AlState;
 use ec_run::{Seen, look_for, peer_between};
 use ec_services::{MasterFault, Peer, download_surely, sdo_download, sdo_upload, upload_surely};
 use ecat_scene::Scene;
-use ecat_setup::{LineFailure, SteppingPorts, ring_of, scene_of, slaves_of, weathers_of};
-use ecat_source::Source;
+use ecat_setup::{LineFailure, SteppingPorts, ring_of, slaves_of, weathers_of};
 use ecat_text::{FaultText, Lines, REFUSED, TripsText, print_line, print_read, print_written};
 use std::alloc::Global;
 use std::io::{self, Write};
@@ -37,24 +36,21 @@ pub struct Asked {
     pub surely: bool,
 }
 
-/// Reads or writes an object of a slave of the scene that the source holds, over its ring, and prints the
-/// value, `written`, or what is in the way. The actions and items of the scene are passed over, and so are
-/// its weathers, unless it is done surely: each trip is under the next of them then, and `err` is told how
-/// many trips there were.
+/// Reads or writes an object of a slave of the scene, over its ring, and prints the value, `written`, or what
+/// is in the way. The actions and items of the scene are passed over, and so are its weathers, unless it is
+/// done surely: each trip is under the next of them then, and `err` is told how many trips there were.
 #[inline(never)]
-pub fn sdo<S, W, V>(
+pub fn sdo<W, V>(
     alloc: Global,
     asked: &Asked,
-    source: &mut S,
+    scene: Scene,
     out: &mut W,
     err: &mut V,
 ) -> Result<u8, LineFailure>
 where
-    S: Source,
     W: Write,
     V: Write,
 {
-    let scene = scene_of(alloc, source)?;
     let mut lines = Lines::new(out);
     if asked.surely {
         return sdo_surely(alloc, asked, scene, &mut lines, err);
@@ -68,17 +64,16 @@ where
 }
 
 /// Reads or writes an object of a slave of a line somewhere else, over these ports, as `sdo` does; the scene
-/// that the source holds says where the slave's mailboxes are. Why there is no answer is told `err` for a
-/// person, as far as it is known.
-pub fn sdo_far<P: Ports, S: Source, W: Write, V: Write>(
+/// says where the slave's mailboxes are. Why there is no answer is told `err` for a person, as far as it is
+/// known.
+pub fn sdo_far<P: Ports, W: Write, V: Write>(
     alloc: Global,
     asked: &Asked,
     ports: &mut P,
-    source: &mut S,
+    scene: Scene,
     out: &mut W,
     err: &mut V,
 ) -> Result<u8, LineFailure> {
-    let scene = scene_of(alloc, source)?;
     let line = slaves_of(alloc, scene.slaves)?;
     let mut lines = Lines::new(out);
     let Some(peer) = peer_at(line.as_slice(), asked.station) else {

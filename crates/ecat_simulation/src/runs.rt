@@ -4,36 +4,33 @@ use crate::carry::carry;
 use crate::cycles::cycle;
 use crate::judge::{judged_cycle, print_cable};
 use ec_applications::Applications;
-use ec_master::{Reporting, Work, all_expected};
+use ec_master::{Reporting, Work};
 use ec_ring::Weather;
 use ecat_record::{Moments, Recorder, TapedPorts, TapedRing};
-use ecat_scene::Action;
-use ecat_setup::{LineFailure, applications_of, push_items, ring_of, scene_of, weathers_of};
-use ecat_source::Source;
+use ecat_scene::{Action, Scene};
+use ecat_setup::{Expected, LineFailure, applications_of, push_items, ring_of, weathers_of};
 use ecat_text::{GOOD, Lines, REFUSED, print_areas, print_items, refuse, status_of};
 use std::alloc::Global;
 use std::io::Write;
 
-/// Runs the scene that the source holds: its frames and steps in their order; if it has items, one cycle of
-/// them, where the line as it then is and the items are accepted; then a line for each active buffered area
-/// that the master writes. Applications act behind each step and behind the cycle. With `judge` the cycle is
-/// judged whatever the scene has, and what is in the way of a good verdict is printed. All memory is taken
-/// before anything is printed. Each copy of its frames is recorded, if anybody wants it.
+/// Runs the scene: its frames and steps in their order; if it has items, one cycle of them, where the line
+/// as it then is and the items are accepted; then a line for each active buffered area that the master
+/// writes. Applications act behind each step and behind the cycle. With `judge` the cycle is judged whatever
+/// the scene has, and what is in the way of a good verdict is printed. All memory is taken before anything
+/// is printed. Each copy of its frames is recorded, if anybody wants it.
 #[inline(never)]
-pub fn run<'t, 'o, S, W, T, M>(
+pub fn run<'t, 'o, W, T, M>(
     alloc: Global,
     judge: bool,
     recorder: &'t mut Recorder<T, M>,
-    source: &mut S,
+    scene: Scene,
     out: &'o mut W,
 ) -> Result<u8, LineFailure>
 where
-    S: Source,
     W: Write,
     T: Write,
     M: Moments,
 {
-    let scene = scene_of(alloc, source)?;
     let weathers = weathers_of(alloc, scene.weathers.as_slice())?;
     let mut applications = applications_of(alloc, scene.slaves.as_slice())?;
     let ring = ring_of(alloc, scene.slaves, scene.links_down.as_slice())?;
@@ -76,15 +73,14 @@ fn judged<T: Write, M: Moments, W: Write>(
     weathers: &[Weather],
     lines: &mut Lines<'_, W>,
 ) -> Result<u8, LineFailure> {
-    let expected = all_expected(ring.ring.slaves(), work);
-    let count = work.len();
+    let expected = Expected::of(ring.ring.slaves(), work);
     let mut ports = Reporting::new(TapedPorts::new(ring, weathers));
-    let verdict = judged_cycle(&mut ports, work, &expected[..count], lines)?;
+    let verdict = judged_cycle(&mut ports, work, expected.counters(), lines)?;
     let (ports, report) = ports.into_parts();
     let mut ring = ports.into_ring();
     applications.act(&mut ring);
     print_cable(verdict, &report, &mut ring, weathers, lines)?;
-    print_items(work, &expected, lines)?;
+    print_items(work, expected.table(), lines)?;
     print_areas(ring.slaves(), lines)?;
     Ok(status_of(verdict))
 }

@@ -9,8 +9,7 @@ use ec_map::Item;
 use ec_master::{CheckedRing, MAX_ITEMS, Verdict, Work, frame_from};
 use ec_ring::{Links, Port, Ring, Travel, Weather};
 use ecat_scene::{Action, Scene};
-use ecat_setup::{LineFailure, push_items, ring_of, scene_of, set_link};
-use ecat_source::Source;
+use ecat_setup::{LineFailure, push_items, ring_of, set_link};
 use ecat_text::{GOOD, Lines, Missing, PortText, REFUSED, VerdictText, missing_of, refuse};
 use std::alloc::Global;
 use std::fmt;
@@ -109,16 +108,11 @@ impl Sums {
     }
 }
 
-/// Checks the line and the items of the scene that the source holds, and does its cycle once for each case:
-/// the whole ring, each link down, each two links down, each copy of each frame lost. Prints a line for each,
-/// and then how many were good, short and over. The status is 0 where the whole ring and each single break
-/// are good. The actions of the scene are done before, its links are mended, its weathers passed over.
-pub fn sweep<S: Source, W: Write>(
-    alloc: Global,
-    source: &mut S,
-    out: &mut W,
-) -> Result<u8, LineFailure> {
-    let scene = scene_of(alloc, source)?;
+/// Checks the line and the items of the scene, and does its cycle once for each case: the whole ring, each
+/// link down, each two links down, each copy of each frame lost. Prints a line for each, and then how many
+/// were good, short and over. The status is 0 where the whole ring and each single break are good. The
+/// actions of the scene are done before, its links are mended, its weathers passed over.
+pub fn sweep<W: Write>(alloc: Global, scene: Scene, out: &mut W) -> Result<u8, LineFailure> {
     let mut lines = Lines::new(out);
     if scene.items.is_empty() {
         lines.text("no items: nothing to sweep")?;

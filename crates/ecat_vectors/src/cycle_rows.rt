@@ -5,9 +5,9 @@ use ec_merge::join_frames;
 use ec_ring::{Came, Links, MAX_LINKS, Travel, Weather};
 use ec_wire::{Form, FrameBuf};
 use ecat_record::{TapedRing, unrecorded};
-use ecat_setup::{LineFailure, ring_of, scene_of, weathers_of, work_of};
+use ecat_scene::Scene;
+use ecat_setup::{LineFailure, ring_of, weathers_of, work_of};
 use ecat_simulation::cycle;
-use ecat_source::Bytes;
 use ecat_text::Lines;
 use std::alloc::Global;
 use std::io::Cursor;
@@ -50,7 +50,7 @@ fn came_of(
     for_a: Option<usize>,
     for_b: Option<usize>,
 ) -> Result<Came, LineFailure> {
-    let scene = scene_of(alloc, &mut Bytes::new(THREE))?;
+    let scene = Scene::read(alloc, THREE)?;
     let mut ring = ring_of(alloc, scene.slaves, &[])?;
     let weather = Weather {
         a: links_without(for_a),
@@ -116,7 +116,7 @@ pub fn a_lost_copy_still_counts(alloc: Global) -> Result<bool, LineFailure> {
 fn a_counter_passes_its_end(alloc: Global) -> Result<bool, LineFailure> {
     let text = b"slave 0x1001\nstate 8\nslave 0x1002\nstate 4\nslave 0x1003\nstate 8\n\
         brd 0x0130 0000\nweather - 0 a a\n";
-    let mut scene = scene_of(alloc, &mut Bytes::new(text))?;
+    let mut scene = Scene::read(alloc, text)?;
     for item in scene.items.iter_mut() {
         item.set_counter(65_535);
     }

@@ -2,9 +2,9 @@
 
 use arrayvec::ArrayVec;
 use ecat_record::unrecorded;
+use ecat_scene::Scene;
 use ecat_setup::LineFailure;
 use ecat_simulation::{check, run};
-use ecat_source::Bytes;
 use std::alloc::Global;
 use std::io::Cursor;
 
@@ -31,20 +31,15 @@ pub fn prints(
         return Ok(false);
     }
     let mut out = Cursor::new([0u8; ROOM]);
-    let answer = run(
-        alloc,
-        false,
-        &mut unrecorded(),
-        &mut Bytes::new(text.as_slice()),
-        &mut out,
-    )?;
+    let scene = Scene::read(alloc, text.as_slice())?;
+    let answer = run(alloc, false, &mut unrecorded(), scene, &mut out)?;
     Ok(answer == status && written(&out) == printed)
 }
 
 /// Does `check` print so of this scene?
-fn checks(alloc: Global, scene: &[u8], printed: &[u8], status: u8) -> Result<bool, LineFailure> {
+fn checks(alloc: Global, text: &[u8], printed: &[u8], status: u8) -> Result<bool, LineFailure> {
     let mut out = Cursor::new([0u8; ROOM]);
-    let answer = check(alloc, &mut Bytes::new(scene), &mut out)?;
+    let answer = check(alloc, &Scene::read(alloc, text)?, &mut out)?;
     Ok(answer == status && written(&out) == printed)
 }
 

@@ -1,17 +1,17 @@
 //! A master that runs, on a line of simulated slaves whose cables break and heal.
 
-ghost use Rattle.std.specs.Prelude.{⊤};
+ghost use Rattle.std.specs.Prelude.{⊤, ◌≡◌, length};
 
 use crate::chance::Chance;
 use crate::digest::Digest;
 use crate::line::Line;
-use ec_master::{MAX_ITEMS, PortFault, Work, all_expected};
+use ec_master::{PortFault, Work};
 use ec_ring::{Arrivals, HeardPorts, Ring, Travel, Weather};
 use ec_run::{Outputs, Wanted, wanted_of};
 use ec_wire::{Command, FrameBuf};
 use ecat_master::{Pace, Plan, master};
-use ecat_setup::{ring_of, scene_of, set_link, slaves_of, work_of};
-use ecat_source::Bytes;
+use ecat_scene::Scene;
+use ecat_setup::{Expected, ring_of, set_link, slaves_of, work_of};
 use std::alloc::Global;
 
 /// What happens at one of so many frames, in each of three ways.
@@ -107,15 +107,16 @@ impl Pace for Count {
 struct Course {
     line: Vec<Wanted>,
     work: Work,
-    expected: [u16; MAX_ITEMS],
+    expected: Expected,
+    ghost each_expected: { length expected ≡ length work },
 }
 
 /// What the master of a scene asks.
 fn course_of(alloc: Global, scene: &[u8]) -> Option<Course> {
-    let scene = scene_of(alloc, &mut Bytes::new(scene)).ok()?;
+    let scene = Scene::read(alloc, scene).ok()?;
     let work = work_of(scene.items).ok()?;
     let slaves = slaves_of(alloc, scene.slaves).ok()?;
-    let expected = all_expected(slaves.as_slice(), &work);
+    let expected = Expected::of(slaves.as_slice(), &work);
     let line = wanted_of(alloc, slaves.as_slice()).ok()?;
     Some(Course {
         line,
@@ -129,7 +130,7 @@ pub(crate) fn mastered(alloc: Global, seed: u32, slaves: u32, cycles: u32) -> Op
     let mut chance = Chance::new(seed);
     let scene = Line::of_bytes(alloc, &mut chance, slaves, true)?;
     let course = course_of(alloc, scene.text())?;
-    let served = scene_of(alloc, &mut Bytes::new(scene.text())).ok()?;
+    let served = Scene::read(alloc, scene.text()).ok()?;
     let ports = Machine {
         ring: ring_of(alloc, served.slaves, &[]).ok()?,
         chance,
@@ -156,7 +157,6 @@ fn run(ports: Machine, course: Course, cycles: u32) -> Option<u64> {
         work,
         expected,
     } = course;
-    let count = work.len();
     let mut out = Digest::new();
     let mut err = Digest::new();
     let mut log = Digest::new();
@@ -164,7 +164,7 @@ fn run(ports: Machine, course: Course, cycles: u32) -> Option<u64> {
         ports,
         line.as_slice(),
         work,
-        &expected[..count],
+        expected.counters(),
         &plan,
         &mut Count { left: cycles },
         &mut out,

@@ -3,8 +3,8 @@
 use crate::chance::Chance;
 use crate::digest::Digest;
 use crate::line::Line;
+use ecat_scene::Scene;
 use ecat_simulation::{check, cover, lint, sweep};
-use ecat_source::Bytes;
 use std::alloc::Global;
 
 /// How many slaves a line of the checker has that map whole bytes.
@@ -28,7 +28,8 @@ pub(crate) fn swept_bits(alloc: Global, seed: u32, slaves: u32) -> Option<u64> {
 /// The digest of a sweep.
 fn sweep_of(alloc: Global, line: &Line) -> Option<u64> {
     let mut digest = Digest::new();
-    let status = sweep(alloc, &mut Bytes::new(line.text()), &mut digest).ok()?;
+    let scene = Scene::read(alloc, line.text()).ok()?;
+    let status = sweep(alloc, scene, &mut digest).ok()?;
     digest.take(u64::from(status));
     Some(digest.value())
 }
@@ -49,11 +50,12 @@ pub(crate) fn checked(alloc: Global, seed: u32, pairs: u32) -> Option<u64> {
 
 /// What the checker says of a line.
 fn check_of(alloc: Global, line: &Line, digest: &mut Digest) -> Option<()> {
-    let status = check(alloc, &mut Bytes::new(line.text()), digest).ok()?;
+    let scene = Scene::read(alloc, line.text()).ok()?;
+    let status = check(alloc, &scene, digest).ok()?;
     digest.take(u64::from(status));
-    let status = cover(alloc, &mut Bytes::new(line.text()), digest).ok()?;
+    let status = cover(alloc, &scene, digest).ok()?;
     digest.take(u64::from(status));
-    let status = lint(alloc, &mut Bytes::new(line.text()), digest).ok()?;
+    let status = lint(alloc, line.text(), &scene, digest).ok()?;
     digest.take(u64::from(status));
     Some(())
 }

@@ -1,12 +1,12 @@
 //! Each command that reads a scene: that it is the one that is done, and what it tells of a text that is
 //! none.
 
-ghost use Rattle.std.specs.Prelude.{◌≡◌, false};
-ghost use Rattle.ecat_acts.specs.Commands.{has_a_way_of_its_own};
-
-use super::answers;
-use ecat_args::{Args, Value};
+use super::{Command, ROOM, answers, written};
+use ec_app::Value;
+use ecat_acts::act::{Alone, act_vectors};
+use ecat_simulation::Asked;
 use ecat_source::{Bytes, FailsAt};
+use std::io::Cursor;
 use std::process::Abort;
 
 /// A slave in Pre-Op with both mailboxes and an object, and an item.
@@ -16,77 +16,30 @@ const SCENE: &str = "slave 0x1001\nstate 2\nsm 0 0x1800 32 mailbox-write\n\
 /// A text that is no scene.
 const FAULTY: &str = "slave 0x1001\nslave\n";
 
-/// The commands that read a scene and have no way of their own.
-#[derive(Clone, Copy)]
-enum Command {
-    Check,
-    Cover,
-    Judge,
-    Lint,
-    Read,
-    Run,
-    Surely,
-    Sweep,
-    Where,
-    Write,
-}
+/// What `sdo` asks of it.
+const READ: Asked = Asked {
+    station: 0x1001,
+    index: 0x2000,
+    sub: 0,
+    value: None,
+    surely: false,
+};
 
-impl Command {
-    /// The words of the command.
-    fn args(self) -> Args<'static>
-        ensures { has_a_way_of_its_own result ≡ false }
-    {
-        match self {
-            Command::Check => Args::Check { scene: "s" },
-            Command::Cover => Args::Cover { scene: "s" },
-            Command::Judge => run_with(true),
-            Command::Lint => Args::Lint { scene: "s" },
-            Command::Read => sdo_with(None, false),
-            Command::Run => run_with(false),
-            Command::Surely => sdo_with(None, true),
-            Command::Sweep => Args::Sweep { scene: "s" },
-            Command::Where => Args::Where {
-                scene: "s",
-                at: None,
-                raw: None,
-            },
-            Command::Write => sdo_with(Some(Value::Two(0x1234)), false),
-        }
-    }
-}
+/// The same, surely.
+const SURELY: Asked = Asked {
+    surely: true,
+    ..READ
+};
 
-/// The words of `run`.
-fn run_with(judge: bool) -> Args<'static>
-    ensures { has_a_way_of_its_own result ≡ false }
-{
-    Args::Run {
-        scene: "s",
-        judge,
-        pcap: None,
-        force: false,
-    }
-}
-
-/// The words of `sdo`.
-fn sdo_with(value: Option<Value>, surely: bool) -> Args<'static>
-    ensures { has_a_way_of_its_own result ≡ false }
-{
-    Args::Sdo {
-        scene: "s",
-        station: 0x1001,
-        index: 0x2000,
-        sub: 0,
-        value,
-        surely,
-        once: false,
-        at: None,
-        raw: None,
-    }
-}
+/// A value that it writes.
+const WRITE: Asked = Asked {
+    value: Some(Value::Two(0x1234)),
+    ..READ
+};
 
 /// What a command prints and tells of the scene.
 struct Row {
-    command: Command,
+    command: Alone,
     out: &'static str,
     err: &'static str,
 }
@@ -94,53 +47,53 @@ struct Row {
 /// Each command, and what it prints of the scene; all are good.
 const ROWS: [Row; 10] = [
     Row {
-        command: Command::Check,
+        command: Alone::Check,
         out: "accepted\n",
         err: "",
     },
     Row {
-        command: Command::Cover,
+        command: Alone::Cover,
         out: "covered\n",
         err: "",
     },
     Row {
-        command: Command::Judge,
+        command: Alone::Run { judge: true },
         out: "good\nitem 0 BRD data 0200 wkc 1 of 1 adp 1\n",
         err: "",
     },
     Row {
-        command: Command::Lint,
+        command: Alone::Lint,
         out: "",
         err: "",
     },
     Row {
-        command: Command::Read,
+        command: Alone::Sdo(READ),
         out: "value 0x0000\n",
         err: "",
     },
     Row {
-        command: Command::Run,
+        command: Alone::Run { judge: false },
         out: "item 0 BRD data 0200 wkc 1 of 1 adp 1\n",
         err: "",
     },
     Row {
-        command: Command::Surely,
+        command: Alone::Sdo(SURELY),
         out: "value 0x0000\n",
         err: "trips 4\n",
     },
     Row {
-        command: Command::Sweep,
+        command: Alone::Sweep,
         out: "whole: good\nlink 0: good\nlink 1: good\nlinks 0,1: short 0, slave 0 unknown\n\
             frame 0 copy A lost: short 0\nframe 0 copy B lost: good\ncycles 6 good 4 short 2 over 0\n",
         err: "",
     },
     Row {
-        command: Command::Where,
+        command: Alone::Where,
         out: "A back at B after 1, B back at A after 0\nwhole\n",
         err: "",
     },
     Row {
-        command: Command::Write,
+        command: Alone::Sdo(WRITE),
         out: "written\n",
         err: "",
     },
@@ -149,11 +102,11 @@ const ROWS: [Row; 10] = [
 #[test]
 fn each_command_is_done(rt: HostRuntime) {
     for row in &ROWS {
-        let args = row.command.args();
+        let command = Command::Scene(row.command);
         let source = &mut Bytes::new(SCENE.as_bytes());
         answers(
             &rt,
-            &args,
+            command,
             source,
             0,
             row.out.as_bytes(),
@@ -165,18 +118,18 @@ fn each_command_is_done(rt: HostRuntime) {
 #[test]
 fn a_text_that_is_no_scene_is_told_by_each_command(rt: HostRuntime) {
     for row in &ROWS {
-        let args = row.command.args();
+        let command = Command::Scene(row.command);
         let source = &mut Bytes::new(FAULTY.as_bytes());
-        answers(&rt, &args, source, 1, b"scene: line 2: WrongCount\n", b"");
+        answers(&rt, command, source, 1, b"scene: line 2: WrongCount\n", b"");
     }
 }
 
 #[test]
 fn a_source_that_fails_is_told_by_each_command(rt: HostRuntime) {
     for row in &ROWS {
-        let args = row.command.args();
+        let command = Command::Scene(row.command);
         let source = &mut FailsAt::new(SCENE.as_bytes(), 7, 1);
-        answers(&rt, &args, source, 3, b"", b"file: Read\n");
+        answers(&rt, command, source, 3, b"", b"file: Read\n");
     }
 }
 
@@ -187,5 +140,11 @@ fn the_worked_rows_are_run(rt: HostRuntime) {
         row 13 ok\nrow 14 ok\nrow 15 ok\nrow 16 ok\nrow 17 ok\nrow 18 ok\n\
         row 19 ok\nrow 20 ok\nrow 21 ok\nrow 22 ok\nrow 23 ok\nrow 24 ok\n\
         row 25 ok\nrow 26 ok\n";
-    answers(&rt, &Args::Vectors, &mut Bytes::new(b""), 0, rows, b"");
+    let mut printed = Cursor::new([0u8; ROOM]);
+    let mut complained = Cursor::new([0u8; ROOM]);
+    let status = act_vectors(rt.alloc(), &mut printed, &mut complained);
+    if status != 3 {
+        assert_eq!(rt; written(&printed), rows.as_slice());
+        assert!(rt; status == 0 && written(&complained).is_empty());
+    }
 }

@@ -8,10 +8,10 @@ use ec_run::{ImageFault, ImagesFault};
 use ec_wire::PACKET_ROOM;
 use ecat_acts::failure::{Failure, report, unbound};
 use ecat_acts::udp::{act_udp, prepare_udp};
-use ecat_scene::{LineFault, SceneFault};
+use ecat_scene::{LineFault, Scene, SceneFault};
 use ecat_serve::BindFault;
 use ecat_setup::LineFailure;
-use ecat_source::{Bytes, PcapFault};
+use ecat_source::PcapFault;
 use ecat_udp::{PacketLine, Socket};
 use std::io::{self, Cursor, Write};
 use std::process::Abort;
@@ -72,8 +72,8 @@ fn each_write_that_fails_ends_a_cycle_over_packets(rt: HostRuntime) {
     for writes in 0..4usize {
         let mut err = Cursor::new([0u8; ROOM]);
         let mut out = Stops { left: writes };
-        let mut source = Bytes::new(EXAMPLE);
-        let answer = match prepare_udp(rt.alloc(), &mut source, &mut out, &mut err) {
+        let scene = Scene::read(rt.alloc(), EXAMPLE);
+        let answer = match prepare_udp(rt.alloc(), scene, &mut out, &mut err) {
             Ok(prepared) => act_udp(prepared, false, Silent, &mut out, &mut err),
             Err(status) => status,
         };

@@ -6,7 +6,7 @@ use super::{ROOM, written};
 use ec_master::PortFault;
 use ec_wire::PACKET_ROOM;
 use ecat_acts::udp::{act_udp, prepare_udp};
-use ecat_source::{Bytes, FailsAt};
+use ecat_scene::Scene;
 use ecat_udp::{PacketLine, Socket, UdpLine};
 use std::io::Cursor;
 use std::net::Net;
@@ -110,8 +110,8 @@ fn goes_as<L: PacketLine + Drop>(
 ) {
     let mut printed = Cursor::new([0u8; ROOM]);
     let mut complained = Cursor::new([0u8; ROOM]);
-    let source = &mut Bytes::new(scene);
-    let answer = match prepare_udp(rt.alloc(), source, &mut printed, &mut complained) {
+    let scene = Scene::read(rt.alloc(), scene);
+    let answer = match prepare_udp(rt.alloc(), scene, &mut printed, &mut complained) {
         Ok(prepared) => act_udp(prepared, judge, line, &mut printed, &mut complained),
         Err(status) => status,
     };
@@ -225,15 +225,7 @@ fn a_line_that_is_not_fit_is_refused(rt: HostRuntime) {
 }
 
 #[test]
-fn a_faulty_scene_and_a_reader_that_fails_are_named(rt: HostRuntime) {
+fn a_faulty_scene_is_named(rt: HostRuntime) {
     let faulty = b"scene: line 1: UnknownWord\n";
     goes(&rt, b"slaves\n", Fake::new(Way::Fails), 1, faulty, b"");
-    let mut out = Cursor::new([0u8; ROOM]);
-    let mut err = Cursor::new([0u8; ROOM]);
-    let source = &mut FailsAt::new(EXAMPLE, 7, 1);
-    let answer = prepare_udp(rt.alloc(), source, &mut out, &mut err);
-    if written(&err) != b"scene: NoMemory\n".as_slice() {
-        assert_eq!(rt; written(&err), b"file: Read\n".as_slice());
-    }
-    assert!(rt; matches!(answer, Err(3)));
 }

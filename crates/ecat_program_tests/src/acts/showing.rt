@@ -1,10 +1,7 @@
 //! Captures.
 
-use super::{answers, shows};
-use ecat_args::Args;
+use super::{Command, answers, shows};
 use ecat_source::{FailsAt, Pieces};
-
-const SHOW: Args<'static> = Args::Show { file: "f" };
 
 /// A capture of no packet.
 const HEADER: [u8; 24] = [
@@ -74,11 +71,11 @@ fn a_cut_capture_is_short_but_between_packets(rt: HostRuntime) {
         for cut in 0..=70usize {
             let mut source = Pieces::new(&ONE[..cut], most);
             if cut == 70 {
-                answers(&rt, &SHOW, &mut source, 0, ONE_SHOWN, b"");
+                answers(&rt, Command::Show, &mut source, 0, ONE_SHOWN, b"");
             } else if cut == 24 {
-                answers(&rt, &SHOW, &mut source, 0, b"", b"");
+                answers(&rt, Command::Show, &mut source, 0, b"", b"");
             } else {
-                answers(&rt, &SHOW, &mut source, 1, b"capture: Short\n", b"");
+                answers(&rt, Command::Show, &mut source, 1, b"capture: Short\n", b"");
             }
         }
     }
@@ -88,7 +85,7 @@ fn a_cut_capture_is_short_but_between_packets(rt: HostRuntime) {
 fn a_reader_that_fails_is_named(rt: HostRuntime) {
     for read in 0..10 {
         let mut source = FailsAt::new(&ONE, 7, read);
-        answers(&rt, &SHOW, &mut source, 3, b"", b"capture: Read\n");
+        answers(&rt, Command::Show, &mut source, 3, b"", b"capture: Read\n");
     }
 }
 

@@ -5,121 +5,144 @@ use clap::error::ErrorKind;
 
 /// The commands that do no cycle by sockets: with their words, and with what may be asked beside them.
 const COMMANDS: &str = "\
-show a.pcap | Ok(Show { file: \"a.pcap\" })
-check a.scene | Ok(Check { scene: \"a.scene\" })
-lint a.scene | Ok(Lint { scene: \"a.scene\" })
-run a.scene | Ok(Run { scene: \"a.scene\", judge: false, pcap: None, force: false })
-cover a.scene | Ok(Cover { scene: \"a.scene\" })
-where a.scene | Ok(Where { scene: \"a.scene\", at: None, raw: None })
-sweep a.scene | Ok(Sweep { scene: \"a.scene\" })
+show a.pcap | Ok(Capture(Show { file: \"a.pcap\" }))
+check a.scene | Ok(Scene { path: \"a.scene\", command: Check })
+lint a.scene | Ok(Scene { path: \"a.scene\", command: Lint })
+run a.scene | Ok(Scene { path: \"a.scene\", command: Run { judge: false, pcap: None, force: false } })
+cover a.scene | Ok(Scene { path: \"a.scene\", command: Cover })
+where a.scene | Ok(Scene { path: \"a.scene\", command: Where { at: None, raw: None } })
+sweep a.scene | Ok(Scene { path: \"a.scene\", command: Sweep })
 vectors | Ok(Vectors)
-show -- --help | Ok(Show { file: \"--help\" })
-list - --faults | Ok(List { file: \"-\", csv: false, faults: true, stats: false, by_index: false })
-list --csv a.pcap --stats | Ok(List { file: \"a.pcap\", csv: true, faults: false, stats: true, \
-    by_index: false })
-list --index --stats a.pcap | Ok(List { file: \"a.pcap\", csv: false, faults: false, stats: true, \
-    by_index: true })
-learn a.pcap | Ok(Learn { file: \"a.pcap\", at: None, asked: false, values: false })
-learn --asked - --at 0x10 --data | Ok(Learn { file: \"-\", at: Some(16), asked: true, values: true })
-judge a.pcap | Ok(Judge { file: \"a.pcap\", scene: None, csv: false, lines: None })
+show -- --help | Ok(Capture(Show { file: \"--help\" }))
+list - --faults | Ok(Capture(List { file: \"-\", csv: false, faults: true, stats: false, by_index: false }))
+list --csv a.pcap --stats | Ok(Capture(List { file: \"a.pcap\", csv: true, faults: false, stats: true, \
+    by_index: false }))
+list --index --stats a.pcap | Ok(Capture(List { file: \"a.pcap\", csv: false, faults: false, stats: true, \
+    by_index: true }))
+learn a.pcap | Ok(Capture(Learn { file: \"a.pcap\", at: None, asked: false, values: false }))
+learn --asked - --at 0x10 --data | Ok(Capture(Learn { file: \"-\", at: Some(16), asked: true, values: true }))
+judge a.pcap | Ok(Capture(Judge { file: \"a.pcap\", scene: None, csv: false, lines: None }))
 judge a.pcap --csv a.scene --limit 7 | \
-    Ok(Judge { file: \"a.pcap\", scene: Some(\"a.scene\"), csv: true, lines: Some(7) })
-where a.scene --at a:1,b:2 | Ok(Where { scene: \"a.scene\", at: Some(\"a:1,b:2\"), raw: None })
-where --raw=10 a.scene | Ok(Where { scene: \"a.scene\", at: None, raw: Some(\"10\") })
-scan --at=a:1,b:2 --limit 50 | Ok(Scan { at: Some(\"a:1,b:2\"), raw: None, limit: Some(50), late: None, \
-    scene: None, force: false })
-scan --raw 10,11 | Ok(Scan { at: None, raw: Some(\"10,11\"), limit: None, late: None, \
-    scene: None, force: false })
-scan --at a:1 --scene found.scene --force | Ok(Scan { at: Some(\"a:1\"), raw: None, limit: None, late: None, \
-    scene: Some(\"found.scene\"), force: true })
-scan --late 0x10 --at a:1 | Ok(Scan { at: Some(\"a:1\"), raw: None, limit: None, late: Some(16), \
-    scene: None, force: false })
+    Ok(Capture(Judge { file: \"a.pcap\", scene: Some(\"a.scene\"), csv: true, lines: Some(7) }))
+where a.scene --at a:1,b:2 | Ok(Scene { path: \"a.scene\", command: Where { at: Some(\"a:1,b:2\"), \
+    raw: None } })
+where --raw=10 a.scene | Ok(Scene { path: \"a.scene\", command: Where { at: None, raw: Some(\"10\") } })
+scan --at=a:1,b:2 --limit 50 | Ok(Scan(ScanWords { at: Some(\"a:1,b:2\"), raw: None, limit: Some(50), \
+    late: None, \
+    scene: None, force: false }))
+scan --raw 10,11 | Ok(Scan(ScanWords { at: None, raw: Some(\"10,11\"), limit: None, late: None, \
+    scene: None, force: false }))
+scan --at a:1 --scene found.scene --force | Ok(Scan(ScanWords { at: Some(\"a:1\"), raw: None, limit: None, \
+    late: None, \
+    scene: Some(\"found.scene\"), force: true }))
+scan --late 0x10 --at a:1 | Ok(Scan(ScanWords { at: Some(\"a:1\"), raw: None, limit: None, late: Some(16), \
+    scene: None, force: false }))
 master a.scene --at a:1 | \
-    Ok(Master { scene: \"a.scene\", at: Some(\"a:1\"), raw: None, cycles: None, every: None, limit: None, \
+    Ok(Scene { path: \"a.scene\", command: Master(MasterWords { at: Some(\"a:1\"), raw: None, \
+    cycles: None, every: None, limit: None, \
     late: None, outputs: None, log: None, log_images: false, stop: false, recover: false, leave: None, \
-    pcap: None, force: false })
+    pcap: None, force: false }) })
 master a.scene --late 250 --leave safe-op | \
-    Ok(Master { scene: \"a.scene\", at: None, raw: None, cycles: None, every: None, limit: None, \
+    Ok(Scene { path: \"a.scene\", command: Master(MasterWords { at: None, raw: None, cycles: None, \
+    every: None, limit: None, \
     late: Some(250), outputs: None, log: None, log_images: false, stop: false, recover: false, \
-    leave: Some(\"safe-op\"), pcap: None, force: false })
+    leave: Some(\"safe-op\"), pcap: None, force: false }) })
 master a.scene --raw 10 --cycles 7 --every 1000 --limit 2000 --outputs count --log f --stop --recover | \
-    Ok(Master { scene: \"a.scene\", at: None, raw: Some(\"10\"), cycles: Some(7), every: Some(1000), \
+    Ok(Scene { path: \"a.scene\", command: Master(MasterWords { at: None, raw: Some(\"10\"), \
+    cycles: Some(7), every: Some(1000), \
     limit: Some(2000), late: None, outputs: Some(\"count\"), log: Some(\"f\"), log_images: false, \
-    stop: true, recover: true, leave: None, pcap: None, force: false })
+    stop: true, recover: true, leave: None, pcap: None, force: false }) })
 master a.scene --at a:1 --log f --log-images --pcap a.pcap --force | \
-    Ok(Master { scene: \"a.scene\", at: Some(\"a:1\"), raw: None, cycles: None, every: None, limit: None, \
+    Ok(Scene { path: \"a.scene\", command: Master(MasterWords { at: Some(\"a:1\"), raw: None, \
+    cycles: None, every: None, limit: None, \
     late: None, outputs: None, log: Some(\"f\"), log_images: true, stop: false, recover: false, leave: None, \
-    pcap: Some(\"a.pcap\"), force: true })
+    pcap: Some(\"a.pcap\"), force: true }) })
 sdo a.scene 0x1001 0x1018 1 | \
-    Ok(Sdo { scene: \"a.scene\", station: 4097, index: 4120, sub: 1, value: None, surely: false, \
-    once: false, at: None, raw: None })
+    Ok(Scene { path: \"a.scene\", command: Sdo { station: 4097, index: 4120, sub: 1, value: None, \
+    surely: false, once: false, at: None, raw: None } })
 sdo a.scene 1 2 3 0x0405 | \
-    Ok(Sdo { scene: \"a.scene\", station: 1, index: 2, sub: 3, value: Some(Two(1029)), surely: false, \
-    once: false, at: None, raw: None })
+    Ok(Scene { path: \"a.scene\", command: Sdo { station: 1, index: 2, sub: 3, value: Some(Two(1029)), \
+    surely: false, once: false, at: None, raw: None } })
 sdo a.scene 1 2 3 --surely | \
-    Ok(Sdo { scene: \"a.scene\", station: 1, index: 2, sub: 3, value: None, surely: true, \
-    once: false, at: None, raw: None })
+    Ok(Scene { path: \"a.scene\", command: Sdo { station: 1, index: 2, sub: 3, value: None, surely: true, \
+    once: false, at: None, raw: None } })
 sdo --surely a.scene 1 2 3 | \
-    Ok(Sdo { scene: \"a.scene\", station: 1, index: 2, sub: 3, value: None, surely: true, \
-    once: false, at: None, raw: None })
+    Ok(Scene { path: \"a.scene\", command: Sdo { station: 1, index: 2, sub: 3, value: None, surely: true, \
+    once: false, at: None, raw: None } })
 sdo --once a.scene 1 2 3 --raw 10,11 | \
-    Ok(Sdo { scene: \"a.scene\", station: 1, index: 2, sub: 3, value: None, surely: false, \
-    once: true, at: None, raw: Some(\"10,11\") })
+    Ok(Scene { path: \"a.scene\", command: Sdo { station: 1, index: 2, sub: 3, value: None, surely: false, \
+    once: true, at: None, raw: Some(\"10,11\") } })
 sdo a.scene 1 2 3 --surely 0x04 | \
-    Ok(Sdo { scene: \"a.scene\", station: 1, index: 2, sub: 3, value: Some(One(4)), surely: true, \
-    once: false, at: None, raw: None })";
+    Ok(Scene { path: \"a.scene\", command: Sdo { station: 1, index: 2, sub: 3, value: Some(One(4)), \
+    surely: true, \
+    once: false, at: None, raw: None } })";
 
 /// Cycles: judged, with their copies kept, and by the port that is given or by 34980.
 const CYCLES: &str = "\
-udp a.scene | Ok(Udp { scene: \"a.scene\", port: 34980, judge: false, pcap: None, force: false })
-udp a.scene --port 4000 | Ok(Udp { scene: \"a.scene\", port: 4000, judge: false, pcap: None, force: false })
-udp --port=4000 a.scene | Ok(Udp { scene: \"a.scene\", port: 4000, judge: false, pcap: None, force: false })
-run a.scene --judge | Ok(Run { scene: \"a.scene\", judge: true, pcap: None, force: false })
-run --judge a.scene | Ok(Run { scene: \"a.scene\", judge: true, pcap: None, force: false })
+udp a.scene | Ok(Scene { path: \"a.scene\", command: Udp { port: 34980, judge: false, pcap: None, \
+    force: false } })
+udp a.scene --port 4000 | Ok(Scene { path: \"a.scene\", command: Udp { port: 4000, judge: false, \
+    pcap: None, force: false } })
+udp --port=4000 a.scene | Ok(Scene { path: \"a.scene\", command: Udp { port: 4000, judge: false, \
+    pcap: None, force: false } })
+run a.scene --judge | Ok(Scene { path: \"a.scene\", command: Run { judge: true, pcap: None, force: false } })
+run --judge a.scene | Ok(Scene { path: \"a.scene\", command: Run { judge: true, pcap: None, force: false } })
 udp --judge --port 4000 a.scene | \
-    Ok(Udp { scene: \"a.scene\", port: 4000, judge: true, pcap: None, force: false })
-run -- --judge | Ok(Run { scene: \"--judge\", judge: false, pcap: None, force: false })
+    Ok(Scene { path: \"a.scene\", command: Udp { port: 4000, judge: true, pcap: None, force: false } })
+run -- --judge | Ok(Scene { path: \"--judge\", command: Run { judge: false, pcap: None, force: false } })
 run a.scene --pcap a.pcap | \
-    Ok(Run { scene: \"a.scene\", judge: false, pcap: Some(\"a.pcap\"), force: false })
+    Ok(Scene { path: \"a.scene\", command: Run { judge: false, pcap: Some(\"a.pcap\"), force: false } })
 udp a.scene --force --pcap=a.pcap | \
-    Ok(Udp { scene: \"a.scene\", port: 34980, judge: false, pcap: Some(\"a.pcap\"), force: true })";
+    Ok(Scene { path: \"a.scene\", command: Udp { port: 34980, judge: false, pcap: Some(\"a.pcap\"), \
+    force: true } })";
 
 /// A line that is served: by the port that is given or by 34980, at this machine's address or another, until
 /// so many packets or the end of the input.
 const SERVED: &str = "\
 serve a.scene | \
-    Ok(Serve { scene: \"a.scene\", port: 34980, packets: None, address: 127.0.0.1, forever: false, \
-    control: false, log: false, raw: None, pcap: None, force: false })
+    Ok(Scene { path: \"a.scene\", command: Serve { port: 34980, packets: None, address: 127.0.0.1, \
+    forever: false, \
+    control: false, log: false, raw: None, pcap: None, force: false } })
 serve a.scene --port 4000 | \
-    Ok(Serve { scene: \"a.scene\", port: 4000, packets: None, address: 127.0.0.1, forever: false, \
-    control: false, log: false, raw: None, pcap: None, force: false })
+    Ok(Scene { path: \"a.scene\", command: Serve { port: 4000, packets: None, address: 127.0.0.1, \
+    forever: false, \
+    control: false, log: false, raw: None, pcap: None, force: false } })
 serve --port=4000 a.scene | \
-    Ok(Serve { scene: \"a.scene\", port: 4000, packets: None, address: 127.0.0.1, forever: false, \
-    control: false, log: false, raw: None, pcap: None, force: false })
+    Ok(Scene { path: \"a.scene\", command: Serve { port: 4000, packets: None, address: 127.0.0.1, \
+    forever: false, \
+    control: false, log: false, raw: None, pcap: None, force: false } })
 serve a.scene --packets 100 | \
-    Ok(Serve { scene: \"a.scene\", port: 34980, packets: Some(100), address: 127.0.0.1, forever: false, \
-    control: false, log: false, raw: None, pcap: None, force: false })
+    Ok(Scene { path: \"a.scene\", command: Serve { port: 34980, packets: Some(100), address: 127.0.0.1, \
+    forever: false, \
+    control: false, log: false, raw: None, pcap: None, force: false } })
 serve --packets=0x64 a.scene --port 4000 | \
-    Ok(Serve { scene: \"a.scene\", port: 4000, packets: Some(100), address: 127.0.0.1, forever: false, \
-    control: false, log: false, raw: None, pcap: None, force: false })
+    Ok(Scene { path: \"a.scene\", command: Serve { port: 4000, packets: Some(100), address: 127.0.0.1, \
+    forever: false, \
+    control: false, log: false, raw: None, pcap: None, force: false } })
 serve --port 4000 --packets 100 a.scene | \
-    Ok(Serve { scene: \"a.scene\", port: 4000, packets: Some(100), address: 127.0.0.1, forever: false, \
-    control: false, log: false, raw: None, pcap: None, force: false })
+    Ok(Scene { path: \"a.scene\", command: Serve { port: 4000, packets: Some(100), address: 127.0.0.1, \
+    forever: false, \
+    control: false, log: false, raw: None, pcap: None, force: false } })
 serve a.scene --control | \
-    Ok(Serve { scene: \"a.scene\", port: 34980, packets: None, address: 127.0.0.1, forever: false, \
-    control: true, log: false, raw: None, pcap: None, force: false })
+    Ok(Scene { path: \"a.scene\", command: Serve { port: 34980, packets: None, address: 127.0.0.1, \
+    forever: false, \
+    control: true, log: false, raw: None, pcap: None, force: false } })
 serve --control --packets=100 --port 4000 a.scene | \
-    Ok(Serve { scene: \"a.scene\", port: 4000, packets: Some(100), address: 127.0.0.1, forever: false, \
-    control: true, log: false, raw: None, pcap: None, force: false })
+    Ok(Scene { path: \"a.scene\", command: Serve { port: 4000, packets: Some(100), address: 127.0.0.1, \
+    forever: false, \
+    control: true, log: false, raw: None, pcap: None, force: false } })
 serve --log a.scene --bind 192.168.0.7 --forever | \
-    Ok(Serve { scene: \"a.scene\", port: 34980, packets: None, address: 192.168.0.7, forever: true, \
-    control: false, log: true, raw: None, pcap: None, force: false })
+    Ok(Scene { path: \"a.scene\", command: Serve { port: 34980, packets: None, address: 192.168.0.7, \
+    forever: true, \
+    control: false, log: true, raw: None, pcap: None, force: false } })
 serve --forever --bind=192.168.0.7 --log a.scene | \
-    Ok(Serve { scene: \"a.scene\", port: 34980, packets: None, address: 192.168.0.7, forever: true, \
-    control: false, log: true, raw: None, pcap: None, force: false })
+    Ok(Scene { path: \"a.scene\", command: Serve { port: 34980, packets: None, address: 192.168.0.7, \
+    forever: true, \
+    control: false, log: true, raw: None, pcap: None, force: false } })
 serve a.scene --pcap a.pcap --force | \
-    Ok(Serve { scene: \"a.scene\", port: 34980, packets: None, address: 127.0.0.1, forever: false, \
-    control: false, log: false, raw: None, pcap: Some(\"a.pcap\"), force: true })";
+    Ok(Scene { path: \"a.scene\", command: Serve { port: 34980, packets: None, address: 127.0.0.1, \
+    forever: false, \
+    control: false, log: false, raw: None, pcap: Some(\"a.pcap\"), force: true } })";
 
 /// A flag has no value, is given once and to some commands alone; an option has a value.
 const FLAGS: &str = "\

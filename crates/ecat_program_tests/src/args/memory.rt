@@ -3,7 +3,7 @@
 //! after another refused.
 use super::{Refusal, read};
 use clap::error::ErrorKind;
-use ecat_args::Args;
+use ecat_args::{Args, SceneCommand};
 use std::alloc::Global;
 use std::process::Abort;
 
@@ -17,7 +17,12 @@ fn assert_refused(rt: &impl Abort, alloc: Global, words: &[&str], wanted: Refusa
 #[test]
 fn a_line_gives_its_answer_or_memory_ran_out(rt: HostRuntime) {
     match read(rt.alloc(), &["ecat", "check", "a.scene"]) {
-        Ok(Args::Check { scene }) => assert!(rt; scene == "a.scene"),
+        Ok(
+            Args::Scene {
+                path,
+                command: SceneCommand::Check,
+            },
+        ) => assert!(rt; path == "a.scene"),
         Err(Refusal::NoMemory) => {}
         _ => panic!(rt; "another answer"),
     }

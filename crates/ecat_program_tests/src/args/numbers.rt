@@ -5,67 +5,69 @@ use super::{assert_bad_numbers, assert_rows};
 /// of digits is read.
 const OBJECTS: &str = "\
 sdo a.scene 0 0 0 | \
-    Ok(Sdo { scene: \"a.scene\", station: 0, index: 0, sub: 0, value: None, surely: false, \
-    once: false, at: None, raw: None })
+    Ok(Scene { path: \"a.scene\", command: Sdo { station: 0, index: 0, sub: 0, value: None, surely: false, \
+    once: false, at: None, raw: None } })
 sdo a.scene 65535 65534 0 | \
-    Ok(Sdo { scene: \"a.scene\", station: 65535, index: 65534, sub: 0, value: None, surely: false, \
-    once: false, at: None, raw: None })
+    Ok(Scene { path: \"a.scene\", command: Sdo { station: 65535, index: 65534, sub: 0, value: None, \
+    surely: false, once: false, at: None, raw: None } })
 sdo a.scene 65534 65535 0 | \
-    Ok(Sdo { scene: \"a.scene\", station: 65534, index: 65535, sub: 0, value: None, surely: false, \
-    once: false, at: None, raw: None })
+    Ok(Scene { path: \"a.scene\", command: Sdo { station: 65534, index: 65535, sub: 0, value: None, \
+    surely: false, once: false, at: None, raw: None } })
 sdo a.scene 65536 0 0 | Err(BadNumber)
 sdo a.scene 0 65536 0 | Err(BadNumber)
 sdo a.scene 0x10000 0 0 | Err(BadNumber)
 sdo a.scene 4294967296 0 0 | Err(BadNumber)
 sdo a.scene 1 2 255 | \
-    Ok(Sdo { scene: \"a.scene\", station: 1, index: 2, sub: 255, value: None, surely: false, \
-    once: false, at: None, raw: None })
+    Ok(Scene { path: \"a.scene\", command: Sdo { station: 1, index: 2, sub: 255, value: None, surely: false, \
+    once: false, at: None, raw: None } })
 sdo a.scene 1 2 0xff | \
-    Ok(Sdo { scene: \"a.scene\", station: 1, index: 2, sub: 255, value: None, surely: false, \
-    once: false, at: None, raw: None })
+    Ok(Scene { path: \"a.scene\", command: Sdo { station: 1, index: 2, sub: 255, value: None, surely: false, \
+    once: false, at: None, raw: None } })
 sdo a.scene 1 2 256 | Err(BadNumber)
 sdo a.scene 1 2 0x100 | Err(BadNumber)
 sdo a.scene 0xabcd 0xABCD 0xeF | \
-    Ok(Sdo { scene: \"a.scene\", station: 43981, index: 43981, sub: 239, value: None, surely: false, \
-    once: false, at: None, raw: None })
+    Ok(Scene { path: \"a.scene\", command: Sdo { station: 43981, index: 43981, sub: 239, value: None, \
+    surely: false, once: false, at: None, raw: None } })
 sdo a.scene 0x9 0xa 0xF | \
-    Ok(Sdo { scene: \"a.scene\", station: 9, index: 10, sub: 15, value: None, surely: false, \
-    once: false, at: None, raw: None })
+    Ok(Scene { path: \"a.scene\", command: Sdo { station: 9, index: 10, sub: 15, value: None, surely: false, \
+    once: false, at: None, raw: None } })
 sdo a.scene 000000000000000000000000065535 0x00000000000000000000000000ffff 007 | \
-    Ok(Sdo { scene: \"a.scene\", station: 65535, index: 65535, sub: 7, value: None, surely: false, \
-    once: false, at: None, raw: None })
+    Ok(Scene { path: \"a.scene\", command: Sdo { station: 65535, index: 65535, sub: 7, value: None, \
+    surely: false, once: false, at: None, raw: None } })
 sdo a.scene 999999999999999999999999999999 0 0 | Err(BadNumber)
 sdo a.scene 0xffffffffffffffffffffffffffffff 0 0 | Err(BadNumber)";
 
 /// The digits of a value give its size.
 const VALUES: &str = "\
 sdo a.scene 1 1 1 0x02 | \
-    Ok(Sdo { scene: \"a.scene\", station: 1, index: 1, sub: 1, value: Some(One(2)), surely: false, \
-    once: false, at: None, raw: None })
+    Ok(Scene { path: \"a.scene\", command: Sdo { station: 1, index: 1, sub: 1, value: Some(One(2)), \
+    surely: false, once: false, at: None, raw: None } })
 sdo a.scene 1 1 1 0xFf | \
-    Ok(Sdo { scene: \"a.scene\", station: 1, index: 1, sub: 1, value: Some(One(255)), surely: false, \
-    once: false, at: None, raw: None })
+    Ok(Scene { path: \"a.scene\", command: Sdo { station: 1, index: 1, sub: 1, value: Some(One(255)), \
+    surely: false, once: false, at: None, raw: None } })
 sdo a.scene 1 1 1 0x0002 | \
-    Ok(Sdo { scene: \"a.scene\", station: 1, index: 1, sub: 1, value: Some(Two(2)), surely: false, \
-    once: false, at: None, raw: None })
+    Ok(Scene { path: \"a.scene\", command: Sdo { station: 1, index: 1, sub: 1, value: Some(Two(2)), \
+    surely: false, once: false, at: None, raw: None } })
 sdo a.scene 1 1 1 0xABcd | \
-    Ok(Sdo { scene: \"a.scene\", station: 1, index: 1, sub: 1, value: Some(Two(43981)), surely: false, \
-    once: false, at: None, raw: None })
+    Ok(Scene { path: \"a.scene\", command: Sdo { station: 1, index: 1, sub: 1, value: Some(Two(43981)), \
+    surely: false, once: false, at: None, raw: None } })
 sdo a.scene 1 1 1 0x00000002 | \
-    Ok(Sdo { scene: \"a.scene\", station: 1, index: 1, sub: 1, value: Some(Four(2)), surely: false, \
-    once: false, at: None, raw: None })
+    Ok(Scene { path: \"a.scene\", command: Sdo { station: 1, index: 1, sub: 1, value: Some(Four(2)), \
+    surely: false, once: false, at: None, raw: None } })
 sdo a.scene 1 1 1 0xffffffff | \
-    Ok(Sdo { scene: \"a.scene\", station: 1, index: 1, sub: 1, value: Some(Four(4294967295)), surely: false, \
-    once: false, at: None, raw: None })";
+    Ok(Scene { path: \"a.scene\", command: Sdo { station: 1, index: 1, sub: 1, \
+    value: Some(Four(4294967295)), surely: false, \
+    once: false, at: None, raw: None } })";
 
 /// The port is from 1024 to 65534.
 const PORTS: &str = "\
 udp a.scene --port 1023 | Err(BadNumber)
-udp a.scene --port 1024 | Ok(Udp { scene: \"a.scene\", port: 1024, judge: false, pcap: None, force: false })
+udp a.scene --port 1024 | Ok(Scene { path: \"a.scene\", command: Udp { port: 1024, judge: false, \
+    pcap: None, force: false } })
 udp a.scene --port 65534 | \
-    Ok(Udp { scene: \"a.scene\", port: 65534, judge: false, pcap: None, force: false })
+    Ok(Scene { path: \"a.scene\", command: Udp { port: 65534, judge: false, pcap: None, force: false } })
 udp a.scene --port 0xfffe | \
-    Ok(Udp { scene: \"a.scene\", port: 65534, judge: false, pcap: None, force: false })
+    Ok(Scene { path: \"a.scene\", command: Udp { port: 65534, judge: false, pcap: None, force: false } })
 udp a.scene --port 65535 | Err(BadNumber)
 udp a.scene --port x | Err(BadNumber)";
 
@@ -73,31 +75,38 @@ udp a.scene --port x | Err(BadNumber)";
 /// decimal numbers.
 const SERVED: &str = "\
 serve a.scene --port 1024 | \
-    Ok(Serve { scene: \"a.scene\", port: 1024, packets: None, address: 127.0.0.1, forever: false, \
-    control: false, log: false, raw: None, pcap: None, force: false })
+    Ok(Scene { path: \"a.scene\", command: Serve { port: 1024, packets: None, address: 127.0.0.1, \
+    forever: false, \
+    control: false, log: false, raw: None, pcap: None, force: false } })
 serve a.scene --port 0xfffe | \
-    Ok(Serve { scene: \"a.scene\", port: 65534, packets: None, address: 127.0.0.1, forever: false, \
-    control: false, log: false, raw: None, pcap: None, force: false })
+    Ok(Scene { path: \"a.scene\", command: Serve { port: 65534, packets: None, address: 127.0.0.1, \
+    forever: false, \
+    control: false, log: false, raw: None, pcap: None, force: false } })
 serve a.scene --packets 1 | \
-    Ok(Serve { scene: \"a.scene\", port: 34980, packets: Some(1), address: 127.0.0.1, forever: false, \
-    control: false, log: false, raw: None, pcap: None, force: false })
+    Ok(Scene { path: \"a.scene\", command: Serve { port: 34980, packets: Some(1), address: 127.0.0.1, \
+    forever: false, \
+    control: false, log: false, raw: None, pcap: None, force: false } })
 serve a.scene --packets 4294967295 | \
-    Ok(Serve { scene: \"a.scene\", port: 34980, packets: Some(4294967295), address: 127.0.0.1, \
-    forever: false, control: false, log: false, raw: None, pcap: None, force: false })
+    Ok(Scene { path: \"a.scene\", command: Serve { port: 34980, packets: Some(4294967295), \
+    address: 127.0.0.1, \
+    forever: false, control: false, log: false, raw: None, pcap: None, force: false } })
 serve a.scene --packets 0xffffffff | \
-    Ok(Serve { scene: \"a.scene\", port: 34980, packets: Some(4294967295), address: 127.0.0.1, \
-    forever: false, control: false, log: false, raw: None, pcap: None, force: false })
+    Ok(Scene { path: \"a.scene\", command: Serve { port: 34980, packets: Some(4294967295), \
+    address: 127.0.0.1, \
+    forever: false, control: false, log: false, raw: None, pcap: None, force: false } })
 learn a.pcap --at 0 | Err(BadNumber)
 judge a.pcap --limit 0 | Err(BadNumber)
 judge a.pcap --limit 4294967296 | Err(BadNumber)
 serve s --port 1 --packets 1 | Err(BadNumber)
 serve s --port 4000 --packets 0 | Err(BadNumber)
 serve a.scene --bind 0.0.0.0 | \
-    Ok(Serve { scene: \"a.scene\", port: 34980, packets: None, address: 0.0.0.0, forever: false, \
-    control: false, log: false, raw: None, pcap: None, force: false })
+    Ok(Scene { path: \"a.scene\", command: Serve { port: 34980, packets: None, address: 0.0.0.0, \
+    forever: false, \
+    control: false, log: false, raw: None, pcap: None, force: false } })
 serve a.scene --bind 255.10.9.1 | \
-    Ok(Serve { scene: \"a.scene\", port: 34980, packets: None, address: 255.10.9.1, forever: false, \
-    control: false, log: false, raw: None, pcap: None, force: false })";
+    Ok(Scene { path: \"a.scene\", command: Serve { port: 34980, packets: None, address: 255.10.9.1, \
+    forever: false, \
+    control: false, log: false, raw: None, pcap: None, force: false } })";
 
 /// Forms that are no numbers.
 static NO_NUMBERS: [&str; 14] = [

@@ -1,6 +1,7 @@
 //! `ecat check` as it was first written, over whole slaves.
 
-use ecat_setup::{LineFailure, scene_of, slaves_of};
+use crate::reading::scene_of;
+use ecat_setup::{LineFailure, slaves_of};
 use ecat_source::Source;
 use ecat_text::{GOOD, Lines, REFUSED, refuse};
 use std::alloc::Global;

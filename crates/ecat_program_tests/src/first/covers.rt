@@ -1,8 +1,9 @@
 //! `ecat cover` as it was first written, over whole slaves.
 
+use crate::reading::scene_of;
 use ec_app::Slave;
 use ec_map::{Gap, Item, NotShown, Way, WhyNotShown, first_not_shown, first_uncovered};
-use ecat_setup::{LineFailure, scene_of, slaves_of};
+use ecat_setup::{LineFailure, slaves_of};
 use ecat_source::Source;
 use ecat_text::{GOOD, Lines, REFUSED, refuse};
 use std::alloc::Global;

@@ -2,13 +2,14 @@
 //! compared with: it reckons for each cycle what is expected, counts the frames that travel, and sends one
 //! more to learn where the cable is broken.
 
+use crate::reading::scene_of;
 use ec_diag::locate_ring;
-use ec_master::{MAX_ITEMS, Verdict, Work, all_expected, weather_cycle};
+use ec_master::{MAX_ITEMS, Verdict, Work, weather_cycle};
 use ec_merge::{JoinFault, join_frames};
 use ec_ring::{Came, Links, Port, Ring, Travel, Weather};
 use ec_wire::FrameBuf;
 use ecat_scene::{Action, Scene};
-use ecat_setup::{LineFailure, ring_of, scene_of, set_link, work_of};
+use ecat_setup::{Expected, LineFailure, ring_of, set_link, work_of};
 use ecat_source::Source;
 use ecat_text::{GOOD, Lines, Missing, PortText, REFUSED, VerdictText, missing_of, refuse};
 use std::alloc::Global;
@@ -267,9 +268,8 @@ impl<'a, W: Write> Sweeper<'a, W> {
 
 /// Does the cycle once, and sets its counters back.
 fn cycle(ring: &mut CountedRing, weathers: &[Weather], work: &mut Work) -> Verdict {
-    let expected = all_expected(ring.ring.slaves(), work);
-    let count = work.len();
-    let verdict = weather_cycle(ring, weathers, &expected[..count], work);
+    let expected = Expected::of(ring.ring.slaves(), work);
+    let verdict = weather_cycle(ring, weathers, expected.counters(), work);
     work.rewind();
     verdict
 }

@@ -6,13 +6,14 @@ ghost use Rattle.ec_regs.specs.declared.registers.TheConstants.{FMMU_COUNT};
 
 use super::{assert_alike, is_want_of_memory};
 use crate::chance::Chance;
+use crate::reading::scene_of;
 use crate::scenes::mapped::{BITS, LENGTHS, LOGICAL, Mapping, PHYSICAL};
 use ec_app::{Objects, Slave};
 use ec_check::{Mapped, Records};
 use ec_regs::{AlState, Fmmu, SyncMan};
 use ec_wire::{Kind, address_of};
 use ecat_scene::{FmmuSetting, SceneSlave, Setting, SyncManSetting};
-use ecat_setup::{LineFailure, records_of, scene_of, slaves_of};
+use ecat_setup::{LineFailure, records_of, slaves_of};
 use ecat_source::Bytes;
 use std::alloc::{AllocError, Global};
 use std::process::Abort;

@@ -2,12 +2,12 @@
 
 ghost use Rattle.ecat_serve.specs.Ends.{any_receive, any_send};
 
-use super::{ROOM, SERVICE, is_want_of_memory, written};
+use super::{ROOM, SERVICE, is_want_of_memory, line_of, written};
 use ec_master::PortFault;
 use ec_ring::Port;
 use ec_wire::PACKET_ROOM;
 use ecat_serve::{Arrived, Console, Disturb, Disturbance, Ends, InputLine, LINE_ROOM};
-use ecat_service::{Service, control, line_to_serve};
+use ecat_service::{Service, control};
 use ecat_source::Bytes;
 use std::io::Cursor;
 use std::net::SocketAddr;
@@ -56,7 +56,7 @@ impl Disturb for Typed<'_> {
 /// Serves the line under these commands, and asserts what is printed between its first line and its counts
 /// and areas, or that memory ran out.
 fn assert_answered(rt: &(impl AllocGlobal + Abort), commands: &[&[u8]], told: &[u8]) {
-    let served = match line_to_serve(rt.alloc(), &mut Bytes::new(LINE)) {
+    let served = match line_of(rt.alloc(), &mut Bytes::new(LINE)) {
         Ok(served) => served,
         Err(failure) => {
             assert!(rt; is_want_of_memory(&failure));

@@ -2,12 +2,12 @@
 
 ghost use Rattle.ecat_serve.specs.Ends.{any_receive, any_send};
 
-use super::{ROOM, SERVICE, is_want_of_memory, written};
+use super::{ROOM, SERVICE, is_want_of_memory, line_of, written};
 use ec_master::PortFault;
 use ec_ring::Port;
 use ec_wire::PACKET_ROOM;
 use ecat_serve::{Arrived, Ends};
-use ecat_service::{Service, line_to_serve, serve};
+use ecat_service::{Service, serve};
 use ecat_setup::LineFailure;
 use ecat_source::{Bytes, FailsAt, Source};
 use std::io::{self, Cursor, Write};
@@ -105,7 +105,7 @@ impl Write for NoRoom {
 fn assert_served(rt: &(impl AllocGlobal + Abort), service: Service, told: &Told) {
     let mut printed = Cursor::new([0u8; ROOM]);
     let mut complained = Cursor::new([0u8; ROOM]);
-    if let Ok(served) = line_to_serve(rt.alloc(), &mut Bytes::new(LINE)) {
+    if let Ok(served) = line_of(rt.alloc(), &mut Bytes::new(LINE)) {
         let mut ends = Two::new(0);
         let done = serve(served, service, &mut ends, &mut printed, &mut complained);
         assert!(rt; matches!(done, Ok(0)));
@@ -153,7 +153,7 @@ fn each_call_that_fails_ends_the_service(rt: HostRuntime) {
     for failing in 1..5usize {
         let mut printed = Cursor::new([0u8; ROOM]);
         let mut complained = Cursor::new([0u8; ROOM]);
-        if let Ok(served) = line_to_serve(rt.alloc(), &mut Bytes::new(LINE)) {
+        if let Ok(served) = line_of(rt.alloc(), &mut Bytes::new(LINE)) {
             let mut ends = Two::new(failing);
             let done = serve(served, SERVICE, &mut ends, &mut printed, &mut complained);
             assert!(rt; matches!(done, Err(LineFailure::Port)), "call {failing}");
@@ -164,7 +164,7 @@ fn each_call_that_fails_ends_the_service(rt: HostRuntime) {
 
 /// Is a source refused as a line that is served, for its actions, or since memory ran out?
 fn is_refused<S: Source>(rt: &impl AllocGlobal, source: &mut S) -> bool {
-    match &line_to_serve(rt.alloc(), source) {
+    match &line_of(rt.alloc(), source) {
         Ok(_) => false,
         Err(failure) => matches!(failure, LineFailure::Actions) || is_want_of_memory(failure),
     }
@@ -174,7 +174,7 @@ fn is_refused<S: Source>(rt: &impl AllocGlobal, source: &mut S) -> bool {
 fn a_scene_that_acts_or_cannot_be_read_is_not_served(rt: HostRuntime) {
     assert!(rt; is_refused(&rt, &mut Bytes::new(b"slave 1\nstep\n")));
     assert!(rt; is_refused(&rt, &mut Bytes::new(b"slave 1\nweather - - - a\n")));
-    let failed = match &line_to_serve(rt.alloc(), &mut FailsAt::new(LINE, 7, 1)) {
+    let failed = match &line_of(rt.alloc(), &mut FailsAt::new(LINE, 7, 1)) {
         Ok(_) => false,
         Err(failure) => matches!(failure, LineFailure::Read) || is_want_of_memory(failure),
     };
@@ -184,7 +184,7 @@ fn a_scene_that_acts_or_cannot_be_read_is_not_served(rt: HostRuntime) {
 /// Where nothing can be printed nothing is received.
 #[test]
 fn an_output_that_fails_ends_the_service(rt: HostRuntime) {
-    if let Ok(served) = line_to_serve(rt.alloc(), &mut Bytes::new(LINE)) {
+    if let Ok(served) = line_of(rt.alloc(), &mut Bytes::new(LINE)) {
         let mut complained = Cursor::new([0u8; ROOM]);
         let mut ends = Two::new(0);
         let done = serve(served, SERVICE, &mut ends, &mut NoRoom, &mut complained);

@@ -6,6 +6,7 @@ use crate::chance::Chance;
 use crate::first;
 use crate::scenes::mapped::Mapping;
 use crate::scenes::swept::Line;
+use ecat_scene::Scene;
 use ecat_setup::LineFailure;
 use ecat_simulation::{check, cover, lint, sweep};
 use ecat_source::Bytes;
@@ -89,12 +90,12 @@ enum Rewritten {
 impl Rewritten {
     /// Does the command as it is now.
     fn act(self, alloc: Global, text: &str, out: &mut Bounded) -> Result<u8, LineFailure> {
-        let mut source = Bytes::new(text.as_bytes());
+        let scene = Scene::read(alloc, text.as_bytes())?;
         match self {
-            Rewritten::Check => check(alloc, &mut source, out),
-            Rewritten::Cover => cover(alloc, &mut source, out),
-            Rewritten::Lint => lint(alloc, &mut source, out),
-            Rewritten::Sweep => sweep(alloc, &mut source, out),
+            Rewritten::Check => check(alloc, &scene, out),
+            Rewritten::Cover => cover(alloc, &scene, out),
+            Rewritten::Lint => lint(alloc, text.as_bytes(), &scene, out),
+            Rewritten::Sweep => sweep(alloc, scene, out),
         }
     }
 

@@ -1,6 +1,7 @@
 //! Reads and writes that fail, each in turn.
 
 use super::{Command, ROOM, is_want_of_memory, written};
+use crate::reading::scene_of;
 use ecat_setup::LineFailure;
 use ecat_simulation::{Asked, sdo};
 use ecat_source::{Bytes, FailsAt, Source};
@@ -77,7 +78,7 @@ fn transfer<S: Source, W: Write>(
     out: &mut W,
 ) -> Result<u8, LineFailure> {
     let mut err = Cursor::new([0u8; ROOM]);
-    sdo(alloc, &ASKED, source, out, &mut err)
+    sdo(alloc, &ASKED, scene_of(alloc, source)?, out, &mut err)
 }
 
 /// Asserts that a command ended since the output failed, or memory ran out.

@@ -2,9 +2,11 @@
 
 use super::{ROOM, is_want_of_memory, written};
 use ec_app::Value;
+use ecat_scene::Scene;
+use ecat_setup::LineFailure;
 use ecat_simulation::{Asked, sdo};
-use ecat_source::Bytes;
-use std::io::Cursor;
+use std::alloc::Global;
+use std::io::{Cursor, Write};
 use std::process::Abort;
 
 /// A slave in Pre-Op with both mailboxes, an object that is read and one that is read and written.
@@ -297,6 +299,17 @@ const TRANSFERS: [Transfer; 18] = [
     },
 ];
 
+/// `sdo` of the scene that a text is.
+fn transferred<W: Write>(
+    alloc: Global,
+    asked: &Asked,
+    text: &str,
+    out: &mut W,
+    err: &mut W,
+) -> Result<u8, LineFailure> {
+    sdo(alloc, asked, Scene::read(alloc, text.as_bytes())?, out, err)
+}
+
 /// Asserts what `sdo` answers and prints, or that memory ran out before it printed anything.
 fn assert_transfer(rt: &(impl AllocGlobal + Abort), transfer: &Transfer) {
     let Transfer {
@@ -308,8 +321,7 @@ fn assert_transfer(rt: &(impl AllocGlobal + Abort), transfer: &Transfer) {
     } = transfer;
     let mut printed = Cursor::new([0u8; ROOM]);
     let mut complained = Cursor::new([0u8; ROOM]);
-    let source = &mut Bytes::new(scene.as_bytes());
-    match sdo(rt.alloc(), asked, source, &mut printed, &mut complained) {
+    match transferred(rt.alloc(), asked, scene, &mut printed, &mut complained) {
         Ok(answer) => {
             assert!(rt; written(&printed) == told.as_bytes(), "{scene}");
             assert!(rt; written(&complained) == trips.as_bytes(), "{scene}");
