@@ -186,12 +186,28 @@ impl Trial {
     ) -> Result<(), AllocError> {
         self.page.look(packet.time);
         for _ in 0..u64::MAX {
-            match self.trips.take(marks, packet, frame)? {
-                Step::Ended(kept) => self.take_trip(kept.trip())?,
-                Step::Taken(_, fate) => return self.take_fate(frame, &fate),
+            let step = self.trips.take(marks, packet, frame)?;
+            let is_taken = self.take_step(frame, &step)?;
+            self.trips.reuse(step);
+            if is_taken {
+                break;
             }
         }
         Ok(())
+    }
+
+    /// Takes what happens; is the packet taken?
+    fn take_step(&mut self, frame: &FrameBuf, step: &Step) -> Result<bool, AllocError> {
+        match step {
+            Step::Ended(kept) => {
+                self.take_trip(kept.trip())?;
+                Ok(false)
+            }
+            Step::Taken(_, fate) => {
+                self.take_fate(frame, fate)?;
+                Ok(true)
+            }
+        }
     }
 
     /// Takes what becomes of a packet.
@@ -235,7 +251,7 @@ impl Trial {
     /// Takes a trip that ended.
     fn take_trip(&mut self, trip: &Trip) -> Result<(), AllocError> {
         match &trip.came {
-            Some(came) => self.take_back(trip, came),
+            Some(came) => self.take_back(trip, came.frame()),
             None => self.take_lost(trip),
         }
     }

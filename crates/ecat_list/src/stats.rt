@@ -195,7 +195,7 @@ impl Stats {
                     at: place_of(&came_in(trip)),
                     began: trip.first.time,
                 };
-                self.take_frame(by_index, &seen, &trip.sent.frame, came)
+                self.take_frame(by_index, &seen, &trip.sent.frame, came.frame())
             }
             None => {
                 let seen = seen_in(What::Lost, &trip.first);

@@ -150,15 +150,24 @@ impl Tallying {
         for _ in 0..u64::MAX {
             let step = self.trips.take(marks, packet, frame)?;
             self.stats.take_step(self.by_index, packet, frame, &step)?;
-            match step {
-                Step::Ended(_) => {}
-                Step::Taken(told, _) => {
-                    self.ways.take(told);
-                    return Ok(());
-                }
+            let is_taken = self.take_way(&step);
+            self.trips.reuse(step);
+            if is_taken {
+                break;
             }
         }
         Ok(())
+    }
+
+    /// Takes what tells the way of the packet, if it is taken; is it?
+    fn take_way(&mut self, step: &Step) -> bool {
+        match step {
+            Step::Ended(_) => false,
+            Step::Taken(told, _) => {
+                self.ways.take(*told);
+                true
+            }
+        }
     }
 
     /// Puts all sums, and writes them.

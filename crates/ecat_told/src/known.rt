@@ -577,7 +577,8 @@ impl Known {
                 Ok(())
             }
             Some(came) => {
-                self.take_frame(trip.is_open, came_whole(trip), &trip.sent.frame, came)
+                let frame = came.frame();
+                self.take_frame(trip.is_open, came_whole(trip), &trip.sent.frame, frame)
             }
         }
     }

@@ -128,16 +128,35 @@ impl Learner {
         self.last = packet.number;
         for _ in 0..u64::MAX {
             let step = self.trips.take(marks, packet, frame)?;
-            self.sums.count(&step);
-            match step {
-                Step::Ended(kept) => self.take_trip(kept.trip())?,
-                Step::Taken(told, fate) => {
-                    self.ways.take(told);
-                    return self.take_fate(marks, packet, frame, &fate);
-                }
+            let is_taken = self.take_step(marks, packet, frame, &step)?;
+            self.trips.reuse(step);
+            if is_taken {
+                break;
             }
         }
         Ok(())
+    }
+
+    /// Takes what happens; is the packet taken?
+    fn take_step(
+        &mut self,
+        marks: &Marks,
+        packet: &Outline,
+        frame: &FrameBuf,
+        step: &Step,
+    ) -> Result<bool, KnownFault> {
+        self.sums.count(step);
+        match step {
+            Step::Ended(kept) => {
+                self.take_trip(kept.trip())?;
+                Ok(false)
+            }
+            Step::Taken(told, fate) => {
+                self.ways.take(*told);
+                self.take_fate(marks, packet, frame, fate)?;
+                Ok(true)
+            }
+        }
     }
 
     /// Takes what becomes of a packet.
@@ -162,7 +181,7 @@ impl Learner {
                 let ready = self.known.is_ready();
                 self.tell(trip)?;
                 self.take_start(ready, trip.first.number);
-                self.take_frame(&trip.first, &trip.sent.frame, came)
+                self.take_frame(&trip.first, &trip.sent.frame, came.frame())
             }
             None => {
                 if self.asked {

@@ -3,7 +3,8 @@
 use arrayvec::ArrayVec;
 use ec_wire::{Command, Datagram, FrameBuf, address_of};
 use ecat_told::{Byte, Known, KnownFault};
-use ecat_trips::{Outline, SentFrame, Source, Trip};
+use ecat_trips::{CameFrame, Outline, SentFrame, Source, Trip};
+use std::alloc::{AllocError, Global};
 use std::process::Abort;
 
 /// What went out and came back.
@@ -61,8 +62,9 @@ fn packet() -> Outline {
 }
 
 /// A trip of two copies, which both came back.
-fn both(sent: FrameBuf, came: FrameBuf, is_open: bool) -> Trip {
-    Trip {
+fn both(alloc: Global, sent: FrameBuf, came: &FrameBuf, is_open: bool) -> Result<Trip, AllocError> {
+    let came = CameFrame::new(alloc, came)?;
+    Ok(Trip {
         sent: SentFrame {
             frame: sent,
             turned: false,
@@ -73,14 +75,23 @@ fn both(sent: FrameBuf, came: FrameBuf, is_open: bool) -> Trip {
         back: Some(packet()),
         again: Some(packet()),
         is_open,
-    }
+    })
 }
 
 /// A trip of a frame, of which this came back.
-fn trip(sent: FrameBuf, came: Option<FrameBuf>, half: bool) -> Trip {
+fn trip(
+    alloc: Global,
+    sent: FrameBuf,
+    came: Option<FrameBuf>,
+    half: bool,
+) -> Result<Trip, AllocError> {
     let back = if came.is_some() { Some(packet()) } else { None };
     let second = if half { Some(packet()) } else { None };
-    Trip {
+    let came = match came {
+        Some(came) => Some(CameFrame::new(alloc, &came)?),
+        None => None,
+    };
+    Ok(Trip {
         sent: SentFrame {
             frame: sent,
             turned: false,
@@ -91,22 +102,24 @@ fn trip(sent: FrameBuf, came: Option<FrameBuf>, half: bool) -> Trip {
         back,
         again: None,
         is_open: false,
-    }
+    })
 }
 
 /// The trip of a row.
-fn trip_of(passed: &Passed) -> Trip {
+fn trip_of(alloc: Global, passed: &Passed) -> Result<Trip, AllocError> {
     match *passed {
         Passed::Back(command, adp, register, sent, came, moved, grown) => {
             let behind = address_of(adp.wrapping_add(grown), register);
             let back = frame(command, behind, came, moved);
             trip(
+                alloc,
                 frame(command, address_of(adp, register), sent, 0),
                 Some(back),
                 false,
             )
         }
         Passed::Lost(command, adp, register, sent) => trip(
+            alloc,
             frame(command, address_of(adp, register), sent, 0),
             None,
             false,
@@ -114,25 +127,26 @@ fn trip_of(passed: &Passed) -> Trip {
         Passed::Half(command, adp, register, sent, moved) => {
             let address = address_of(adp, register);
             let back = frame(command, address, sent, moved);
-            trip(frame(command, address, sent, 0), Some(back), true)
+            trip(alloc, frame(command, address, sent, 0), Some(back), true)
         }
         Passed::Alone(command, adp, register, bytes, moved, grown) => {
             let behind = address_of(adp.wrapping_add(grown), register);
             let back = frame(command, behind, bytes, moved);
             let sent = frame(command, address_of(adp, register), bytes, 0);
-            trip(sent, Some(back), true)
+            trip(alloc, sent, Some(back), true)
         }
         Passed::Open(command, adp, register, bytes, moved, grown) => {
             let behind = address_of(adp.wrapping_add(grown), register);
             let sent = frame(command, address_of(adp, register), bytes, 0);
-            both(sent, frame(command, behind, bytes, moved), true)
+            both(alloc, sent, &frame(command, behind, bytes, moved), true)
         }
         Passed::Closed(command, adp, register, bytes, moved, grown) => {
             let behind = address_of(adp.wrapping_add(grown), register);
             let sent = frame(command, address_of(adp, register), bytes, 0);
-            both(sent, frame(command, behind, bytes, moved), false)
+            both(alloc, sent, &frame(command, behind, bytes, moved), false)
         }
         Passed::Cycle(moved) => trip(
+            alloc,
             frame(Command::Lrw, 0x0001_0000, &[0], 0),
             Some(frame(Command::Lrw, 0x0001_0000, &[0], moved)),
             false,
@@ -155,9 +169,12 @@ fn assert_row(rt: &impl Abort, known: &Known, number: usize, row: &Row) {
 }
 
 /// Asserts what is told behind each trip, unless memory runs out.
-pub fn assert_played(rt: &impl Abort, known: &mut Known, rows: &[Row]) {
+pub fn assert_played<R: Abort + AllocGlobal>(rt: &R, known: &mut Known, rows: &[Row]) {
     for (number, row) in rows.iter().enumerate() {
-        match known.take(&trip_of(&row.0)) {
+        let Ok(trip) = trip_of(rt.alloc(), &row.0) else {
+            return;
+        };
+        match known.take(&trip) {
             Ok(()) => assert_row(rt, known, number, row),
             Err(fault) => {
                 assert_eq!(rt; fault, KnownFault::NoMemory);

@@ -9,7 +9,7 @@ ghost use Rattle.ecat_trips.specs.Copies.{with_fields, with_indexes};
 
 use crate::alike::moves_adp;
 use ec_merge::{Counter, Flag, Irq, Merge, join_bytes};
-use ec_wire::FrameBuf;
+use ec_wire::{Form, FrameBuf};
 
 /// How far the working counter of the datagram at `k` has moved from the sent one, modulo 65,536: in the
 /// copies that came back together.
@@ -31,15 +31,31 @@ pub fn grown(sent: &FrameBuf, came: &FrameBuf, k: usize) -> u16
     came.adp(k).wrapping_sub(sent.adp(k))
 }
 
+/// Puts a frame in the place of another one, of which no more is written than its bytes.
+pub(crate) fn put_frame(into: &mut FrameBuf, frame: &FrameBuf)
+    ensures { into.new ≡ frame.now }
+{
+    // For the prover: its bytes spell it.
+    let _count = frame.count();
+    let _ = into.refill(frame.bytes(), Form::Ethernet);
+}
+
+/// Gives a frame the indexes of the sent one.
+pub(crate) fn take_indexes(sent: &FrameBuf, own: &mut FrameBuf)
+    ensures { own.new ≡ with_indexes sent.now own.old }
+{
+    let shared = sent.count().min(own.count());
+    for k in 0..shared {
+        own.set_index(k, sent.index(k));
+    }
+}
+
 /// A frame that came, with the indexes of the sent one.
 pub(crate) fn with_indexes(sent: &FrameBuf, frame: &FrameBuf) -> FrameBuf
     ensures { result ≡ with_indexes sent.now frame.now }
 {
     let mut own = frame.copy();
-    let shared = sent.count().min(frame.count());
-    for k in 0..shared {
-        own.set_index(k, sent.index(k));
-    }
+    take_indexes(sent, &mut own);
     own
 }
 

@@ -13,9 +13,14 @@
 //! // The second one: what each packet is.
 //! let mut trips = Trips::new(rt.alloc())?;
 //! loop {
-//!     match trips.take(&marks, &packet, &frame)? {
-//!         Step::Ended(kept) => {} // a trip ended in front of the packet, which is still to be taken
-//!         Step::Taken(told, fate) => break,
+//!     let step = trips.take(&marks, &packet, &frame)?;
+//!     let is_taken = match &step {
+//!         Step::Ended(kept) => false, // a trip ended in front of the packet, which is still to be taken
+//!         Step::Taken(told, fate) => true,
+//!     };
+//!     trips.reuse(step); // it need not be called, and saves memory and copies
+//!     if is_taken {
+//!         break;
 //!     }
 //! }
 //! // At the end: what is on the way still.
@@ -41,7 +46,7 @@
 //! frame that the capture dropped from one that the line lost.
 //!
 //! It takes 180 KB of memory at first, and 4 KB for each trip that is on the way, of which there are 4,096 at
-//! most.
+//! most, and for the one that ended last.
 
 mod alike;
 mod bases;
@@ -63,6 +68,6 @@ pub use marks::Marks;
 pub use packet::{Outline, Ports, Source};
 pub use promises::{copies_add_up, each_packet_once, each_trip_once};
 pub use sums::Sums;
-pub use trip::{Kept, SentFrame, Trip};
+pub use trip::{CameFrame, Kept, SentFrame, Trip};
 pub use trips::{Fate, MAX_ON_THE_WAY, Step, Trips};
 pub use way::{By, Told, Way};

@@ -1,10 +1,10 @@
 //! A trip: what was sent, and what came back of it.
 
-ghost use Rattle.std.specs.Prelude.{◌≡◌, IfOk};
-ghost use Rattle.ecat_trips.specs.Copies.{both_moved, joined_with};
+ghost use Rattle.std.specs.Prelude.{◌≡◌, IfOk, None, Some, is_some, true};
+ghost use Rattle.ecat_trips.specs.Copies.{both_moved, joined_with, with_indexes};
 
 use crate::alike::{first_number, is_still, same_frame, same_key};
-use crate::copies::{join_in, with_indexes};
+use crate::copies::{join_in, put_frame, take_indexes, with_indexes};
 use crate::packet::Outline;
 use ec_wire::FrameBuf;
 use std::alloc::{AllocError, Global};
@@ -40,6 +40,62 @@ impl SentFrame {
     }
 }
 
+/// A frame that came back, in a place of its own: so the trip that has it is handed on with no frame moved.
+#[derive(Drop)]
+pub struct CameFrame {
+    frame: Box<FrameBuf>,
+}
+
+impl Model for CameFrame {
+    ghost use Rattle.std.specs.Prelude.{List};
+    ghost use Rattle.ec_wire.specs.Datagram.{DatagramRecord};
+
+    ghost Value = { List DatagramRecord };
+
+    ghost view = { λ c. c.frame.value };
+}
+
+impl CameFrame {
+    ghost use Rattle.ecat_trips.specs.Copies.{joined, with_indexes};
+
+    /// This frame, as it came back: 2 KB of memory.
+    pub fn new(alloc: Global, frame: &FrameBuf) -> Result<CameFrame, AllocError>
+        ensures { IfOk result (λ came. came ≡ frame.now) }
+    {
+        let frame = Box::new(alloc, frame.copy())?;
+        Ok(CameFrame { frame })
+    }
+
+    /// The frame.
+    pub fn frame(&self) -> &FrameBuf
+        ensures { result.now ≡ self.now }
+    {
+        &self.frame
+    }
+
+    /// A frame that came takes the place, with the indexes of the sent one.
+    fn put(&mut self, sent: &FrameBuf, frame: &FrameBuf)
+        ensures { self.new ≡ with_indexes sent.now frame.now }
+    {
+        self.fill(frame);
+        take_indexes(sent, &mut self.frame);
+    }
+
+    /// A frame takes the place.
+    fn fill(&mut self, frame: &FrameBuf)
+        ensures { self.new ≡ frame.now }
+    {
+        put_frame(&mut self.frame, frame);
+    }
+
+    /// Joins another copy in.
+    fn join(&mut self, sent: &FrameBuf, other: &FrameBuf)
+        ensures { self.new ≡ joined sent.now self.old other.now }
+    {
+        join_in(sent, &mut self.frame, other);
+    }
+}
+
 /// What was sent, once or by both ports of a master, and what came back of it.
 #[derive(Drop)]
 pub struct Trip {
@@ -50,7 +106,7 @@ pub struct Trip {
     /// That of the second, which the other port sent.
     pub second: Option<Outline>,
     /// What came back, with the indexes of the first sent copy: of two copies the join.
-    pub came: Option<FrameBuf>,
+    pub came: Option<CameFrame>,
     /// The packet of the first copy that came back.
     pub back: Option<Outline>,
     /// That of the second.
@@ -82,6 +138,21 @@ impl Trip {
         }
     }
 
+    /// A trip that begins with a packet takes the place of this one; gives the place of what came back.
+    pub(crate) fn begin(&mut self, first: Outline, frame: &FrameBuf) -> Option<CameFrame>
+        ensures trip { self.new ≡ begun first frame.now }
+        ensures place { result ≡ self.old.came }
+    {
+        put_frame(&mut self.sent.frame, frame);
+        self.sent.turned = false;
+        self.first = first;
+        self.second = None;
+        self.back = None;
+        self.again = None;
+        self.is_open = false;
+        self.came.take()
+    }
+
     /// Is a packet the second sent copy of the trip, with its indexes turned or not?
     pub(crate) fn is_second(&self, turned: bool, packet: &Outline, frame: &FrameBuf) -> bool
         ensures { result ≡ is_second turned packet.now frame.now self.now }
@@ -106,54 +177,101 @@ impl Trip {
         self.second = Some(packet);
     }
 
-    /// Takes the first copy that came back.
-    fn take_back(&mut self, packet: Outline, frame: &FrameBuf)
+    /// Takes the first copy that came back; it goes to this place where the trip has none.
+    fn take_back(&mut self, packet: Outline, frame: &FrameBuf, place: Option<CameFrame>)
+        requires { self.old.came ≡ None → is_some place ≡ true }
         ensures { self.new ≡ with_back packet frame.now self.old }
     {
-        self.came = Some(with_indexes(&self.sent.frame, frame));
+        let place = first_of(self.came.take(), place);
+        self.came = filled(place, &self.sent.frame, frame);
         self.back = Some(packet);
     }
 
-    /// Takes the second copy that came back.
-    fn take_again(&mut self, packet: Outline, frame: &FrameBuf)
+    /// Takes the second copy that came back; it goes to this place where no first one is.
+    fn take_again(&mut self, packet: Outline, frame: &FrameBuf, place: Option<CameFrame>)
+        requires { self.old.came ≡ None → is_some place ≡ true }
         ensures { self.new ≡ with_again packet frame.now self.old }
     {
         let other = with_indexes(&self.sent.frame, frame);
         self.is_open = both_moved(&self.sent.frame, &self.came, &other);
-        self.came = Some(joined_with(&self.sent.frame, self.came.take(), other));
+        self.came = joined_with(&self.sent.frame, self.came.take(), &other, place);
         self.again = Some(packet);
     }
 
-    /// Takes one more copy that came back.
-    pub(crate) fn take_return(&mut self, packet: Outline, frame: &FrameBuf)
-        ensures { self.new ≡ with_return packet frame.now self.old }
+    /// Takes one more copy that came back; it goes to this place where the trip has none.
+    pub(crate) fn take_return(
+        &mut self,
+        packet: Outline,
+        frame: &FrameBuf,
+        place: Option<CameFrame>,
+    )
+        requires { self.old.came ≡ None → is_some place ≡ true }
+        ensures trip { self.new ≡ with_return packet frame.now self.old }
+        ensures came { is_some self.new.came ≡ true }
     {
         match self.back {
-            None => self.take_back(packet, frame),
-            Some(_) => self.take_again(packet, frame),
+            None => self.take_back(packet, frame, place),
+            Some(_) => self.take_again(packet, frame, place),
         }
     }
 }
 
 /// Did slaves process both the copy that came and another one?
-fn both_moved(sent: &FrameBuf, came: &Option<FrameBuf>, other: &FrameBuf) -> bool
+fn both_moved(sent: &FrameBuf, came: &Option<CameFrame>, other: &FrameBuf) -> bool
     ensures { result ≡ both_moved sent.now other.now came.now }
 {
     match came {
         None => false,
-        Some(came) => !is_still(sent, came) && !is_still(sent, other),
+        Some(came) => !is_still(sent, came.frame()) && !is_still(sent, other),
     }
 }
 
-/// What came, with another copy joined in; of none that one.
-fn joined_with(sent: &FrameBuf, came: Option<FrameBuf>, other: FrameBuf) -> FrameBuf
-    ensures { result ≡ joined_with sent.now other came }
+/// The first place, or where there is none the second.
+fn first_of(place: Option<CameFrame>, other: Option<CameFrame>) -> Option<CameFrame>
+    requires { place ≡ None → is_some other ≡ true }
+    ensures { is_some result ≡ true }
+{
+    match place {
+        Some(place) => Some(place),
+        None => other,
+    }
+}
+
+/// A place with a frame that came, with the indexes of the sent one.
+fn filled(place: Option<CameFrame>, sent: &FrameBuf, frame: &FrameBuf) -> Option<CameFrame>
+    requires { is_some place ≡ true }
+    ensures { result ≡ Some (with_indexes sent.now frame.now) }
+{
+    match place {
+        None => None,
+        Some(mut place) => {
+            place.put(sent, frame);
+            Some(place)
+        }
+    }
+}
+
+/// What came, with another copy joined in; of none that one, in this place.
+fn joined_with(
+    sent: &FrameBuf,
+    came: Option<CameFrame>,
+    other: &FrameBuf,
+    place: Option<CameFrame>,
+) -> Option<CameFrame>
+    requires { came ≡ None → is_some place ≡ true }
+    ensures { result ≡ Some (joined_with sent.now other.now came) }
 {
     match came {
-        None => other,
+        None => match place {
+            None => None,
+            Some(mut place) => {
+                place.fill(other);
+                Some(place)
+            }
+        },
         Some(mut came) => {
-            join_in(sent, &mut came, &other);
-            came
+            came.join(sent, other);
+            Some(came)
         }
     }
 }
@@ -164,6 +282,8 @@ pub struct Kept {
     /// What is told fast of its key.
     number: u64,
     trip: Box<Trip>,
+    /// Where what comes back is put, until the trip has it.
+    place: Option<CameFrame>,
 }
 
 impl Model for Kept {
@@ -173,23 +293,40 @@ impl Model for Kept {
 
     ghost view = { λ k. k.trip.value };
 
-    ghost use Rattle.std.specs.Prelude.{◌≡◌};
+    ghost use Rattle.std.specs.Prelude.{◌≡◌, None, is_some, true};
     ghost use Rattle.ecat_trips.specs.Alike.{first_number};
 
-    ghost invariant = { λ k. k.number ≡ first_number k.trip.value.sent.frame };
+    ghost invariant = { λ k. (k.number ≡ first_number k.trip.value.sent.frame)
+        × (k.trip.value.came ≡ None → is_some k.place ≡ true) };
 }
 
 impl Kept {
     ghost use Rattle.ecat_trips.specs.Alike.{first_number};
-    ghost use Rattle.ecat_trips.specs.Trip.{bears, with_return, with_second};
+    ghost use Rattle.ecat_trips.specs.Trip.{bears, begun, with_return, with_second};
 
     /// Keeps a trip: 4 KB of memory.
     pub(crate) fn new(alloc: Global, trip: Trip) -> Result<Kept, AllocError>
         ensures { IfOk result (λ kept. kept ≡ trip) }
     {
         let number = first_number(&trip.sent.frame);
+        let place = Some(CameFrame::new(alloc, &trip.sent.frame)?);
         let trip = Box::new(alloc, trip)?;
-        Ok(Kept { number, trip })
+        Ok(Kept {
+            number,
+            trip,
+            place,
+        })
+    }
+
+    /// A trip that begins with a packet takes the place of this one.
+    pub(crate) fn begin(&mut self, first: Outline, frame: &FrameBuf)
+        ensures { self.new ≡ begun first frame.now }
+    {
+        self.number = first_number(frame);
+        match self.trip.begin(first, frame) {
+            Some(place) => self.place = Some(place),
+            None => {}
+        }
     }
 
     /// Does a frame, of which this is told fast, bear the key of the trip?
@@ -218,6 +355,7 @@ impl Kept {
     pub(crate) fn take_return(&mut self, packet: Outline, frame: &FrameBuf)
         ensures { self.new ≡ with_return packet frame.now self.old }
     {
-        self.trip.take_return(packet, frame);
+        let place = self.place.take();
+        self.trip.take_return(packet, frame, place);
     }
 }

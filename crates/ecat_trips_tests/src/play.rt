@@ -171,6 +171,7 @@ fn closed(kept: &Kept) -> Seen {
     let sent = &trip.sent.frame;
     match &trip.came {
         Some(came) => {
+            let came = came.frame();
             if 0 < sent.count() && 0 < came.count() {
                 let byte = came.data(0).first().copied().unwrap_or(0);
                 Seen::Closes(
@@ -258,6 +259,7 @@ fn assert_row(
         assert_eq!(rt; told_of(&step), *wanted, "packet {number}");
         let told = if k + 1 < last { None } else { Some(row.1) };
         assert_eq!(rt; by(&step), told, "packet {number}");
+        trips.reuse(step);
     }
     Ok(())
 }

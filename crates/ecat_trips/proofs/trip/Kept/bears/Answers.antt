@@ -11,7 +11,7 @@ unequal m n other = grind (arith, nat_tests)
 pub returns-else-self-number : goal.returns-else-self-number
 returns-else-self-number c =
     let number : c.self.inside.number ≡ first_number c.args.self.now.sent.frame =
-    c.self.invariant ∙ ap (λ (t : Trip). first_number t.sent.frame) c.self.view_is in
+    c.self.invariant.0 ∙ ap (λ (t : Trip). first_number t.sent.frame) c.self.view_is in
     unequal c.self.inside.number c.args.number c.if-self-number.false
     ∙ sym (other_number c.args.frame.now c.args.self.now.sent
     (λ e. c.if-self-number.false (number ∙ e ∙ sym c.requires)))
