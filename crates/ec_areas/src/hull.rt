@@ -2,7 +2,7 @@
 //! FMMU). A slave maps nothing of most datagrams on a line: a look at the hull tells that, and no FMMU need
 //! be asked.
 
-ghost use Rattle.std.specs.Prelude.{◌≡◌, ◌*◌};
+ghost use Rattle.std.specs.Prelude.{◌≡◌, ◌||◌, ◌*◌, min, max, nat_le};
 ghost use Rattle.ec_areas.specs.Hull.{nowhere, widened, widened_by_reader, widened_by_writer};
 ghost use Rattle.ec_areas.specs.Hull.{read_hull_of, write_hull_of, misses};
 
@@ -40,10 +40,10 @@ fn widened(hull: LogicalHull, fmmu: &PlannedFmmu) -> LogicalHull
         return hull;
     }
     let first = fmmu.first_logical();
-    LogicalHull {
-        first: hull.first.min(first),
-        end: hull.end.max(first + bits),
-    }
+    hull.with(LogicalHull {
+        first,
+        end: first + bits,
+    })
 }
 
 /// The least hull that holds a hull and the bits that the master reads through the FMMU.
@@ -92,5 +92,25 @@ impl LogicalHull {
     {
         let from = BYTE * u64::from(address);
         self.end <= from || from <= self.first && bytes as u64 <= (self.first - from) / BYTE
+    }
+
+    /// Does one of the two hulls end in front of the other? Then they share no bit.
+    pub fn is_apart(self, other: LogicalHull) -> bool
+        ensures { result ≡ (nat_le self.end other.first || nat_le other.end self.first) }
+    {
+        self.end <= other.first || other.end <= self.first
+    }
+
+    /// The least hull that holds both.
+    pub fn with(self, other: LogicalHull) -> LogicalHull
+        ensures { result ≡ record {
+          first = min self.first other.first;
+          end = max self.end other.end;
+        } }
+    {
+        LogicalHull {
+            first: self.first.min(other.first),
+            end: self.end.max(other.end),
+        }
     }
 }

@@ -9,27 +9,27 @@ use Rattle.ec_check.specs.declared.fault.MapFault.TheVariants.{ReadAndWritten}
 use Rattle.ec_check.specs.Order.{BeginsWith}
 use Rattle.ec_check.specs.Line.{fmmu_of}
 use Rattle.ec_check.specs.Rules.{IsReadAndWritten}
-use Rattle.ec_check.specs.Fit.{Breaks, numbers}
+use Rattle.ec_check.specs.Fit.{Breaks, numbers, read_and_written_rule}
 use Rattle.ec_check.specs.Search.{HasNone, IsFirstOf}
 use Rattle.ec_check.proofs.SearchLemmas.{GoesOnBelow, IsFirstOf-itself, IsFirstOf-shorter}
 
 -- the fault goes on with a slave
 pub crossed_go_on : (line : List ControllerState) (bound : ℕ) → length line ≤ bound
-    → GoesOnBelow (7 ∷ []) line bound
+    → GoesOnBelow (read_and_written_rule ∷ []) line bound
 crossed_go_on line bound end (ReadAndWritten i k j m b) broken begins =
     (i, let there : i < length line = broken.read.there.slave_there in omega arith, (refl, (refl, tt)))
 crossed_go_on line bound end fault broken begins = absurd (omega (arith, begins.0))
 
 -- then with an FMMU
 pub reader_go_on : (line : List ControllerState) (reader bound : ℕ) → FMMU_COUNT ≤ bound
-    → GoesOnBelow (7 ∷ reader ∷ []) line bound
+    → GoesOnBelow (read_and_written_rule ∷ reader ∷ []) line bound
 reader_go_on line reader bound end (ReadAndWritten i k j m b) broken begins =
     (k, let there : k < FMMU_COUNT = broken.read.there.number_there in omega arith, (refl, (begins.1.0, (refl, tt))))
 reader_go_on line reader bound end fault broken begins = absurd (omega (arith, begins.0))
 
 -- then with another slave
 pub reader_fmmu_go_on : (line : List ControllerState) (reader reader_fmmu bound : ℕ) → length line ≤ bound
-    → GoesOnBelow (7 ∷ reader ∷ reader_fmmu ∷ []) line bound
+    → GoesOnBelow (read_and_written_rule ∷ reader ∷ reader_fmmu ∷ []) line bound
 reader_fmmu_go_on line reader reader_fmmu bound end (ReadAndWritten i k j m b) broken begins = (
   j,
   let there : j < length line = broken.written.there.slave_there in omega arith,
@@ -39,7 +39,7 @@ reader_fmmu_go_on line reader reader_fmmu bound end fault broken begins = absurd
 
 -- and then with one of its FMMUs
 pub writer_go_on : (line : List ControllerState) (reader reader_fmmu writer bound : ℕ) → FMMU_COUNT ≤ bound
-    → GoesOnBelow (7 ∷ reader ∷ reader_fmmu ∷ writer ∷ []) line bound
+    → GoesOnBelow (read_and_written_rule ∷ reader ∷ reader_fmmu ∷ writer ∷ []) line bound
 writer_go_on line reader reader_fmmu writer bound end (ReadAndWritten i k j m b) broken begins = (
   m,
   let there : m < FMMU_COUNT = broken.written.there.number_there in omega arith,
@@ -50,21 +50,22 @@ writer_go_on line reader reader_fmmu writer bound end fault broken begins = absu
 -- there is no fault of an FMMU that does not read
 none_of_writer : (line : List ControllerState) (reader reader_fmmu : ℕ)
     → reads (fmmu_of line reader reader_fmmu) ≡ false
-    → (fault : MapFault) → Breaks line fault → BeginsWith (7 ∷ reader ∷ reader_fmmu ∷ []) (numbers fault) → ⊥
+    → (fault : MapFault) → Breaks line fault
+    → BeginsWith (read_and_written_rule ∷ reader ∷ reader_fmmu ∷ []) (numbers fault) → ⊥
 none_of_writer line reader reader_fmmu not_read (ReadAndWritten i k j m b) broken begins =
     both_ways (reads (fmmu_of line i k)) (rw (begins.1.0, begins.1.1.0) at not_read) broken.read.for_reading
 none_of_writer line reader reader_fmmu not_read fault broken begins = absurd (omega (arith, begins.0))
 
 pub HasNone-not_reading : (line : List ControllerState) (reader reader_fmmu : ℕ)
     → reads (fmmu_of line reader reader_fmmu) ≡ false
-    → HasNone (7 ∷ reader ∷ reader_fmmu ∷ []) line
+    → HasNone (read_and_written_rule ∷ reader ∷ reader_fmmu ∷ []) line
 HasNone-not_reading line reader reader_fmmu not_read =
     record { none = none_of_writer line reader reader_fmmu not_read }
 
 -- nor one of a slave with itself
 none_of_itself : (line : List ControllerState) (reader reader_fmmu writer : ℕ) → reader ≡ writer
     → (fault : MapFault) → Breaks line fault
-    → BeginsWith (7 ∷ reader ∷ reader_fmmu ∷ writer ∷ []) (numbers fault) → ⊥
+    → BeginsWith (read_and_written_rule ∷ reader ∷ reader_fmmu ∷ writer ∷ []) (numbers fault) → ⊥
 none_of_itself line reader reader_fmmu writer itself (ReadAndWritten i k j m b) broken begins =
     let same : reader ≡ i = begins.1.0 in
     let same_writer : writer ≡ j = begins.1.1.1.0 in
@@ -72,7 +73,7 @@ none_of_itself line reader reader_fmmu writer itself (ReadAndWritten i k j m b) 
 none_of_itself line reader reader_fmmu writer itself fault broken begins = absurd (omega (arith, begins.0))
 
 pub HasNone-itself : (line : List ControllerState) (reader reader_fmmu writer : ℕ) → reader ≡ writer
-    → HasNone (7 ∷ reader ∷ reader_fmmu ∷ writer ∷ []) line
+    → HasNone (read_and_written_rule ∷ reader ∷ reader_fmmu ∷ writer ∷ []) line
 HasNone-itself line reader reader_fmmu writer itself =
     record { none = none_of_itself line reader reader_fmmu writer itself }
 
@@ -80,7 +81,8 @@ HasNone-itself line reader reader_fmmu writer itself =
 none_of_two : (line : List ControllerState) (reader reader_fmmu writer writer_fmmu : ℕ)
     → ((bit : ℕ) → ¬ IsReadAndWritten line reader reader_fmmu writer writer_fmmu bit)
     → (fault : MapFault) → Breaks line fault
-    → BeginsWith (7 ∷ reader ∷ reader_fmmu ∷ writer ∷ writer_fmmu ∷ []) (numbers fault) → ⊥
+    → BeginsWith (read_and_written_rule ∷ reader ∷ reader_fmmu ∷ writer ∷ writer_fmmu ∷ []) (numbers fault)
+    → ⊥
 none_of_two line reader reader_fmmu writer writer_fmmu none (ReadAndWritten i k j m b) broken begins =
     none b (rw (begins.1.0, begins.1.1.0, begins.1.1.1.0, begins.1.1.1.1.0) broken)
 none_of_two line reader reader_fmmu writer writer_fmmu none fault broken begins =
@@ -88,7 +90,7 @@ none_of_two line reader reader_fmmu writer writer_fmmu none fault broken begins 
 
 pub HasNone-crossed : (line : List ControllerState) (reader reader_fmmu writer writer_fmmu : ℕ)
     → ((bit : ℕ) → ¬ IsReadAndWritten line reader reader_fmmu writer writer_fmmu bit)
-    → HasNone (7 ∷ reader ∷ reader_fmmu ∷ writer ∷ writer_fmmu ∷ []) line
+    → HasNone (read_and_written_rule ∷ reader ∷ reader_fmmu ∷ writer ∷ writer_fmmu ∷ []) line
 HasNone-crossed line reader reader_fmmu writer writer_fmmu none =
     record { none = none_of_two line reader reader_fmmu writer writer_fmmu none }
 
@@ -96,7 +98,9 @@ HasNone-crossed line reader reader_fmmu writer writer_fmmu none =
 none_of_bit : (line : List ControllerState) (reader reader_fmmu writer writer_fmmu bit : ℕ)
     → ¬ IsReadAndWritten line reader reader_fmmu writer writer_fmmu bit
     → (fault : MapFault) → Breaks line fault
-    → BeginsWith (7 ∷ reader ∷ reader_fmmu ∷ writer ∷ writer_fmmu ∷ bit ∷ []) (numbers fault) → ⊥
+    → BeginsWith (read_and_written_rule ∷ reader ∷ reader_fmmu ∷ writer ∷ writer_fmmu ∷ bit ∷ [])
+    (numbers fault)
+    → ⊥
 none_of_bit line reader reader_fmmu writer writer_fmmu bit none (ReadAndWritten i k j m b) broken begins =
     none (rw (begins.1.0, begins.1.1.0, begins.1.1.1.0, begins.1.1.1.1.0, begins.1.1.1.1.1.0) broken)
 none_of_bit line reader reader_fmmu writer writer_fmmu bit none fault broken begins =
@@ -106,11 +110,12 @@ none_of_bit line reader reader_fmmu writer writer_fmmu bit none fault broken beg
 pub IsFirstOf-crossed : (line : List ControllerState) (reader reader_fmmu writer writer_fmmu bit : ℕ)
     → IsReadAndWritten line reader reader_fmmu writer writer_fmmu bit
     → ((n : ℕ) → IsReadAndWritten line reader reader_fmmu writer writer_fmmu n → bit ≤ n)
-    → IsFirstOf (7 ∷ reader ∷ reader_fmmu ∷ writer ∷ writer_fmmu ∷ []) line
+    → IsFirstOf (read_and_written_rule ∷ reader ∷ reader_fmmu ∷ writer ∷ writer_fmmu ∷ []) line
     (ReadAndWritten reader reader_fmmu writer writer_fmmu bit)
 IsFirstOf-crossed line reader reader_fmmu writer writer_fmmu bit broken lowest =
     let fault : MapFault = ReadAndWritten reader reader_fmmu writer writer_fmmu bit in
-    IsFirstOf-shorter (7 ∷ reader ∷ reader_fmmu ∷ writer ∷ writer_fmmu ∷ []) line bit fault
+    IsFirstOf-shorter (read_and_written_rule ∷ reader ∷ reader_fmmu ∷ writer ∷ writer_fmmu ∷ []) line bit
+    fault
     (λ n below. record {
       none = none_of_bit line reader reader_fmmu writer writer_fmmu n
           (λ crossed. let least : bit ≤ n = lowest n crossed in absurd (omega arith));

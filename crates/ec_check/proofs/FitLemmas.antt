@@ -7,16 +7,18 @@ use Rattle.ec_check.specs.declared.fault.MapFault.TheVariants.{TwinStation, BadF
 use Rattle.ec_check.specs.declared.fault.MapFault.TheVariants.{TwiceWritten, TwiceRead, ReadAndWritten}
 use Rattle.ec_check.specs.Order.{BeginsWith}
 use Rattle.ec_check.specs.Fit.{Breaks, numbers, IsFit, IsFirstFault}
+use Rattle.ec_check.specs.Fit.{twin_station_rule, bad_fmmu_rule, areas_meet_rule, outside_area_rule}
+use Rattle.ec_check.specs.Fit.{twice_written_rule, twice_read_rule, read_and_written_rule}
 use Rattle.ec_check.specs.Search.{HasNone, HasNoneBelow, IsFirstOf, Answers}
 use Rattle.ec_check.proofs.SearchLemmas.{GoesOnBelow, HasNone-all, IsFirstOf-shorter}
 
--- rules are numbered from 1
+-- no rule comes before the first
 none_of_zero : (line : List ControllerState) (fault : MapFault) → Breaks line fault
     → BeginsWith (0 ∷ []) (numbers fault) → ⊥
 none_of_zero line (TwinStation i j) broken begins = absurd (omega (arith, begins.0))
 none_of_zero line fault broken begins = absurd (omega (arith, begins.0))
 
-pub no_rule_yet : (line : List ControllerState) → HasNoneBelow [] line 1
+pub no_rule_yet : (line : List ControllerState) → HasNoneBelow [] line twin_station_rule
 no_rule_yet line n below = let zero : n ≡ 0 = omega arith in rw zero (record { none = none_of_zero line })
 
 -- one rule more is kept
@@ -25,19 +27,21 @@ pub one_rule_more : (line : List ControllerState) (rule : ℕ) → HasNoneBelow 
     → HasNoneBelow [] line (rule + 1)
 one_rule_more line rule below here = below_more (λ n. HasNone (n ∷ []) line) rule below here
 
--- to 7
-rules_go_on : (line : List ControllerState) → GoesOnBelow [] line 8
-rules_go_on line (TwinStation i j) broken begins = (1, omega arith, (refl, tt))
-rules_go_on line (BadFmmu i k) broken begins = (2, omega arith, (refl, tt))
-rules_go_on line (AreasMeet i k m a) broken begins = (3, omega arith, (refl, tt))
-rules_go_on line (OutsideArea i k a) broken begins = (4, omega arith, (refl, tt))
-rules_go_on line (TwiceWritten i k m b) broken begins = (5, omega arith, (refl, tt))
-rules_go_on line (TwiceRead i k j m b) broken begins = (6, omega arith, (refl, tt))
-rules_go_on line (ReadAndWritten i k j m b) broken begins = (7, omega arith, (refl, tt))
+-- up to the last
+rules_go_on : (line : List ControllerState) → GoesOnBelow [] line (read_and_written_rule + 1)
+rules_go_on line (TwinStation i j) broken begins = (twin_station_rule, omega arith, (refl, tt))
+rules_go_on line (BadFmmu i k) broken begins = (bad_fmmu_rule, omega arith, (refl, tt))
+rules_go_on line (AreasMeet i k m a) broken begins = (areas_meet_rule, omega arith, (refl, tt))
+rules_go_on line (OutsideArea i k a) broken begins = (outside_area_rule, omega arith, (refl, tt))
+rules_go_on line (TwiceWritten i k m b) broken begins = (twice_written_rule, omega arith, (refl, tt))
+rules_go_on line (TwiceRead i k j m b) broken begins = (twice_read_rule, omega arith, (refl, tt))
+rules_go_on line (ReadAndWritten i k j m b) broken begins = (read_and_written_rule, omega arith, (refl, tt))
 
 -- a line that keeps all rules is fit
-pub IsFit-rules : (line : List ControllerState) → HasNoneBelow [] line 8 → IsFit line
-IsFit-rules line below fault broken = (HasNone-all [] line 8 below (rules_go_on line)).none fault broken tt
+pub IsFit-rules : (line : List ControllerState) → HasNoneBelow [] line (read_and_written_rule + 1)
+    → IsFit line
+IsFit-rules line below fault broken =
+    (HasNone-all [] line (read_and_written_rule + 1) below (rules_go_on line)).none fault broken tt
 
 -- the first fault of a rule is the first of all if the rules before it are kept
 pub IsFirstFault-rule : (line : List ControllerState) (rule : ℕ) (fault : MapFault)
@@ -49,13 +53,15 @@ IsFirstFault-rule line rule fault below found =
 
 -- what the last rule answers is the answer for all
 pub last_rule-accepted : {T : Type 0} (line : List ControllerState) (result : Result T MapFault)
-    → HasNoneBelow [] line 7
-    → Answers (7 ∷ []) line result → OnOk result (IsFit line)
-last_rule-accepted line (Ok x) below answer = IsFit-rules line (one_rule_more line 7 below answer)
+    → HasNoneBelow [] line read_and_written_rule
+    → Answers (read_and_written_rule ∷ []) line result → OnOk result (IsFit line)
+last_rule-accepted line (Ok x) below answer =
+    IsFit-rules line (one_rule_more line read_and_written_rule below answer)
 last_rule-accepted line (Err fault) below answer = tt
 
 pub last_rule-refused : {T : Type 0} (line : List ControllerState) (result : Result T MapFault)
-    → HasNoneBelow [] line 7
-    → Answers (7 ∷ []) line result → IfErr result (IsFirstFault line)
+    → HasNoneBelow [] line read_and_written_rule
+    → Answers (read_and_written_rule ∷ []) line result → IfErr result (IsFirstFault line)
 last_rule-refused line (Ok x) below answer = tt
-last_rule-refused line (Err fault) below answer = IsFirstFault-rule line 7 fault below answer
+last_rule-refused line (Err fault) below answer =
+    IsFirstFault-rule line read_and_written_rule fault below answer

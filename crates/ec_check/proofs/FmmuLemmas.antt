@@ -17,7 +17,7 @@ use Rattle.ec_regs.specs.declared.registers.TheConstants.{LOGICAL_BITS}
 use Rattle.ec_check.specs.Order.{BeginsWith}
 use Rattle.ec_check.specs.Rules.{IsGoodFmmu, IsBadFmmu}
 use Rattle.ec_check.specs.Runs.{is_good}
-use Rattle.ec_check.specs.Fit.{Breaks, numbers}
+use Rattle.ec_check.specs.Fit.{Breaks, numbers, bad_fmmu_rule}
 use Rattle.ec_check.specs.Search.{HasNone}
 use Rattle.ec_check.proofs.RunLemmas.{IsInRun-MapsLogical, MapsLogical-IsInRun, IsInRun-MapsPhysical}
 use Rattle.ec_check.proofs.RunLemmas.{MapsPhysical-IsInRun}
@@ -25,26 +25,27 @@ use Rattle.ec_check.proofs.SearchLemmas.{GoesOnBelow}
 
 -- the fault goes on with a slave
 pub bad_go_on : (line : List ControllerState) (bound : ℕ) → length line ≤ bound
-    → GoesOnBelow (2 ∷ []) line bound
+    → GoesOnBelow (bad_fmmu_rule ∷ []) line bound
 bad_go_on line bound end (BadFmmu i k) broken begins =
     (i, let there : i < length line = broken.there.slave_there in omega arith, (refl, (refl, tt)))
 bad_go_on line bound end fault broken begins = absurd (omega (arith, begins.0))
 
 -- and then with an FMMU
 pub bad_of_go_on : (line : List ControllerState) (slave bound : ℕ) → FMMU_COUNT ≤ bound
-    → GoesOnBelow (2 ∷ slave ∷ []) line bound
+    → GoesOnBelow (bad_fmmu_rule ∷ slave ∷ []) line bound
 bad_of_go_on line slave bound end (BadFmmu i k) broken begins =
     (k, let there : k < FMMU_COUNT = broken.there.number_there in omega arith, (refl, (begins.1.0, (refl, tt))))
 bad_of_go_on line slave bound end fault broken begins = absurd (omega (arith, begins.0))
 
 -- there is no fault of this one if it is not bad
 none_of_one : (line : List ControllerState) (slave fmmu : ℕ) → ¬ IsBadFmmu line slave fmmu
-    → (fault : MapFault) → Breaks line fault → BeginsWith (2 ∷ slave ∷ fmmu ∷ []) (numbers fault) → ⊥
+    → (fault : MapFault) → Breaks line fault
+    → BeginsWith (bad_fmmu_rule ∷ slave ∷ fmmu ∷ []) (numbers fault) → ⊥
 none_of_one line slave fmmu none (BadFmmu i k) broken begins = none (rw (begins.1.0, begins.1.1.0) broken)
 none_of_one line slave fmmu none fault broken begins = absurd (omega (arith, begins.0))
 
 pub HasNone-bad : (line : List ControllerState) (slave fmmu : ℕ) → ¬ IsBadFmmu line slave fmmu
-    → HasNone (2 ∷ slave ∷ fmmu ∷ []) line
+    → HasNone (bad_fmmu_rule ∷ slave ∷ fmmu ∷ []) line
 HasNone-bad line slave fmmu none = record { none = none_of_one line slave fmmu none }
 
 -- ---- the test

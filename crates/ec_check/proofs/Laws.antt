@@ -7,6 +7,8 @@ use Rattle.ec_regs.specs.Bits.{AreBytes}
 use Rattle.ec_regs.specs.Fmmu.{fmmu_of}
 use Rattle.ec_regs.specs.SyncMan.{sync_man_of}
 use Rattle.ec_regs.specs.declared.registers.TheConstants.{MEMORY_SIZE, STATION_ADDRESS}
+use Rattle.ec_regs.specs.declared.registers.TheConstants.{FMMU_COUNT, FMMU_SIZE}
+use Rattle.ec_regs.specs.declared.registers.TheConstants.{SYNC_MANAGER_COUNT, SYNC_MANAGER_SIZE}
 use Rattle.ec_areas.specs.Records.{fmmu_at, sync_manager_at}
 use Rattle.ec_esc.specs.Application.{put_inputs_fault, with_inputs}
 use Rattle.ec_esc.specs.State.{ControllerState, IsController, word_at}
@@ -19,6 +21,7 @@ use Rattle.ec_check.specs.Line.{controllers, controllers_by, controller_of, stat
 use Rattle.ec_check.specs.Fit.{IsFit}
 use Rattle.ec_check.specs.Records.{controller_with, memory_of}
 use Rattle.ec_check.specs.declared.records.Records.{Records}
+use Rattle.ec_check.specs.declared.records.TheConstants.{FMMU_BYTES, SYNC_MANAGER_BYTES}
 use Rattle.ec_check.proofs.LineLemmas as lines
 use Rattle.ec_check.proofs.FactLemmas as facts
 use Rattle.ec_check.proofs.MappingLemmas as mappings
@@ -103,8 +106,8 @@ stood_before = places.stood_before
 -- ---- a slave by its records alone
 
 -- records of their sizes, whose elements are bytes, are those of a controller
-pub IsController-records : (r : Records) → r.station < 65536 → length r.fmmus ≡ 128 → AreBytes r.fmmus
-    → length r.sync_managers ≡ 64 → AreBytes r.sync_managers
+pub IsController-records : (r : Records) → r.station < 65536 → length r.fmmus ≡ FMMU_BYTES → AreBytes r.fmmus
+    → length r.sync_managers ≡ SYNC_MANAGER_BYTES → AreBytes r.sync_managers
     → IsController (controller_with r)
 IsController-records = by_records.IsController-records
 
@@ -113,14 +116,15 @@ pub station-records : (r : Records) → word_at (memory_of r) STATION_ADDRESS �
 station-records = by_records.station-records
 
 -- an FMMU's record does
-pub fmmu-records : (r : Records) (i : ℕ) → i < 8 → length r.fmmus ≡ 128
-    → fmmu_at (memory_of r) i ≡ fmmu_of (take 16 (drop (16 * i) r.fmmus))
+pub fmmu-records : (r : Records) (i : ℕ) → i < FMMU_COUNT → length r.fmmus ≡ FMMU_BYTES
+    → fmmu_at (memory_of r) i ≡ fmmu_of (take FMMU_SIZE (drop (FMMU_SIZE * i) r.fmmus))
 fmmu-records = by_records.fmmu-records
 
 -- and a sync manager's
-pub sync_manager-records : (r : Records) (i : ℕ) → i < 8 → length r.fmmus ≡ 128
-    → length r.sync_managers ≡ 64
-    → sync_manager_at (memory_of r) i ≡ sync_man_of (take 8 (drop (8 * i) r.sync_managers))
+pub sync_manager-records : (r : Records) (i : ℕ) → i < SYNC_MANAGER_COUNT → length r.fmmus ≡ FMMU_BYTES
+    → length r.sync_managers ≡ SYNC_MANAGER_BYTES
+    → sync_manager_at (memory_of r) i
+    ≡ sync_man_of (take SYNC_MANAGER_SIZE (drop (SYNC_MANAGER_SIZE * i) r.sync_managers))
 sync_manager-records = by_records.sync_manager-records
 
 -- a run of the middle one of three lists is a run of them all, so many elements further on

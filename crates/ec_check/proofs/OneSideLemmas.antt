@@ -7,12 +7,12 @@ use Rattle.std.proofs.lemmas.Bool.{cases_lt}
 use Rattle.ec_regs.specs.declared.registers.TheConstants.{FMMU_COUNT}
 use Rattle.ec_regs.specs.declared.fmmu.Fmmu.{Fmmu}
 use Rattle.ec_regs.specs.Pairs.{reads, writes}
+use Rattle.ec_areas.specs.declared.hull.LogicalHull.{LogicalHull}
 use Rattle.ec_esc.specs.State.{ControllerState}
 use Rattle.ec_check.specs.declared.fault.MapFault.{MapFault}
 use Rattle.ec_check.specs.declared.fault.MapFault.TheVariants.{TwiceRead, ReadAndWritten}
-use Rattle.ec_check.specs.declared.hulls.Hull.{Hull}
 use Rattle.ec_check.specs.declared.hulls.Exchanged.{Exchanged}
-use Rattle.ec_check.specs.Fit.{Breaks, numbers}
+use Rattle.ec_check.specs.Fit.{Breaks, numbers, read_and_written_rule, twice_read_rule}
 use Rattle.ec_check.specs.Hulls.{AreOnOneSide, IsBitBefore, IsReadBefore, IsWrittenBefore, IsHullOf}
 use Rattle.ec_check.specs.Hulls.{ReadsOnOneSide, EachReadsOnOneSide, ExchangesOnOneSide}
 use Rattle.ec_check.specs.Hulls.{EachExchangesOnOneSide}
@@ -34,7 +34,7 @@ itself P Q b aside p q =
     aside
 
 none_read : (line : List ControllerState) → EachReadsOnOneSide line
-    → (fault : MapFault) → Breaks line fault → BeginsWith (6 ∷ []) (numbers fault) → ⊥
+    → (fault : MapFault) → Breaks line fault → BeginsWith (twice_read_rule ∷ []) (numbers fault) → ⊥
 none_read line aside (TwiceRead i k j m b) broken begins =
     itself (IsReadBefore line j m) (ReadsLogical line j m) b (aside.each j m)
     (record { slave_before = i; number_before = k; before = broken.order; has = broken.first })
@@ -42,11 +42,12 @@ none_read line aside (TwiceRead i k j m b) broken begins =
 none_read line aside fault broken begins = absurd (omega (arith, begins.0))
 
 -- where each FMMU reads on one side no bit is read twice
-pub HasNone-read_on_one_side : (line : List ControllerState) → EachReadsOnOneSide line → HasNone (6 ∷ []) line
+pub HasNone-read_on_one_side : (line : List ControllerState) → EachReadsOnOneSide line
+    → HasNone (twice_read_rule ∷ []) line
 HasNone-read_on_one_side line aside = record { none = none_read line aside }
 
 none_crossed : (line : List ControllerState) → EachExchangesOnOneSide line
-    → (fault : MapFault) → Breaks line fault → BeginsWith (7 ∷ []) (numbers fault) → ⊥
+    → (fault : MapFault) → Breaks line fault → BeginsWith (read_and_written_rule ∷ []) (numbers fault) → ⊥
 none_crossed line aside (ReadAndWritten i k j m b) broken begins =
     ⊎_elim
     (λ (reader_first : i < j).
@@ -66,13 +67,14 @@ none_crossed line aside fault broken begins = absurd (omega (arith, begins.0))
 
 -- where each exchanges on one side no bit is read from one slave and written to another
 pub HasNone-exchanged_on_one_side : (line : List ControllerState) → EachExchangesOnOneSide line
-    → HasNone (7 ∷ []) line
+    → HasNone (read_and_written_rule ∷ []) line
 HasNone-exchanged_on_one_side line aside = record { none = none_crossed line aside }
 
 -- ---- the hull of one FMMU of the line
 
 -- the hull of what an FMMU maps where it reads is that of what it reads
-pub IsHullOf-reads : (line : List ControllerState) (slave number : ℕ) (counts : Bool) (f : Fmmu) (h : Hull)
+pub IsHullOf-reads : (line : List ControllerState) (slave number : ℕ) (counts : Bool) (f : Fmmu)
+    (h : LogicalHull)
     → HasFmmu line slave number → f ≡ fmmu_of line slave number → counts ≡ reads f
     → IsHullOf (λ l. (counts ≡ true) × MapsLogical f l) h
     → IsHullOf (ReadsLogical line slave number) h
@@ -86,7 +88,8 @@ IsHullOf-reads line slave number counts f h there is reading =
     (λ l r. (reading ∙ ap reads is ∙ r.for_reading, rw is r.maps))
 
 -- and where it writes of what it writes
-pub IsHullOf-writes : (line : List ControllerState) (slave number : ℕ) (counts : Bool) (f : Fmmu) (h : Hull)
+pub IsHullOf-writes : (line : List ControllerState) (slave number : ℕ) (counts : Bool) (f : Fmmu)
+    (h : LogicalHull)
     → HasFmmu line slave number → f ≡ fmmu_of line slave number → counts ≡ writes f
     → IsHullOf (λ l. (counts ≡ true) × MapsLogical f l) h
     → IsHullOf (WritesLogical line slave number) h
@@ -146,15 +149,16 @@ none_before a b (inr (same, inr (_, none))) = none
 abbrev HasByFmmus : (ℕ → ℕ → ℕ → Type 0) → Type 0
 HasByFmmus Has = (s n l : ℕ) → Has s n l → n < FMMU_COUNT
 
-hull_at_first : (Has : ℕ → ℕ → ℕ → Type 0) (h : Hull) → IsHullOf (λ l. ⊥) h
+hull_at_first : (Has : ℕ → ℕ → ℕ → Type 0) (h : LogicalHull) → IsHullOf (λ l. ⊥) h
     → IsHullOf (IsBitBefore Has 0 0) h
 hull_at_first Has h =
     IsHullOf-same (λ l. ⊥) (IsBitBefore Has 0 0) h (λ l none. absurd none)
     (λ l had. none_before had.slave_before had.number_before had.before)
 
-hull_at_next : (Has : ℕ → ℕ → ℕ → Type 0) (slave number : ℕ) (g h : Hull)
+hull_at_next : (Has : ℕ → ℕ → ℕ → Type 0) (slave number : ℕ) (g h : LogicalHull)
     → IsHullOf (IsBitBefore Has slave number) g → IsHullOf (Has slave number) h
-    → IsHullOf (IsBitBefore Has slave (number + 1)) (record { from = min g.from h.from; to = max g.to h.to })
+    → IsHullOf (IsBitBefore Has slave (number + 1))
+    (record { first = min g.first h.first; end = max g.end h.end })
 hull_at_next Has slave number g h before here =
     IsHullOf-same (λ l. IsBitBefore Has slave number l ⊎ Has slave number l)
     (IsBitBefore Has slave (number + 1)) _
@@ -187,7 +191,7 @@ hull_at_next Has slave number g h before here =
     (before_next had.slave_before had.number_before slave number had.before))
     (IsHullOf-both (IsBitBefore Has slave number) (Has slave number) g h before here)
 
-hull_at_slave : (Has : ℕ → ℕ → ℕ → Type 0) (slave : ℕ) (h : Hull) → HasByFmmus Has
+hull_at_slave : (Has : ℕ → ℕ → ℕ → Type 0) (slave : ℕ) (h : LogicalHull) → HasByFmmus Has
     → IsHullOf (IsBitBefore Has slave FMMU_COUNT) h → IsHullOf (IsBitBefore Has (slave + 1) 0) h
 hull_at_slave Has slave h by_fmmus =
     IsHullOf-same (IsBitBefore Has slave FMMU_COUNT) (IsBitBefore Has (slave + 1) 0) h
@@ -272,17 +276,17 @@ exchanges_past line s n past =
 
 -- ---- what is read so far
 
-pub IsReadSoFar-first : (line : List ControllerState) (h : Hull) → IsHullOf (λ l. ⊥) h
+pub IsReadSoFar-first : (line : List ControllerState) (h : LogicalHull) → IsHullOf (λ l. ⊥) h
     → IsReadSoFar line 0 0 h
 IsReadSoFar-first line h none = record {
   hull = hull_at_first (ReadsLogical line) h none;
   each = λ s n before. absurd (none_before s n before);
 }
 
-pub IsReadSoFar-next : (line : List ControllerState) (slave number : ℕ) (g h : Hull)
+pub IsReadSoFar-next : (line : List ControllerState) (slave number : ℕ) (g h : LogicalHull)
     → IsReadSoFar line slave number g → IsHullOf (ReadsLogical line slave number) h
-    → (leb g.to h.from || leb h.to g.from) ≡ true
-    → IsReadSoFar line slave (number + 1) (record { from = min g.from h.from; to = max g.to h.to })
+    → (leb g.end h.first || leb h.end g.first) ≡ true
+    → IsReadSoFar line slave (number + 1) (record { first = min g.first h.first; end = max g.end h.end })
 IsReadSoFar-next line slave number g h so_far here apart = record {
   hull = hull_at_next (ReadsLogical line) slave number g h so_far.hull here;
   each =
@@ -291,7 +295,7 @@ IsReadSoFar-next line slave number g h so_far here apart = record {
       here apart);
 }
 
-pub IsReadSoFar-slave : (line : List ControllerState) (slave : ℕ) (h : Hull)
+pub IsReadSoFar-slave : (line : List ControllerState) (slave : ℕ) (h : LogicalHull)
     → IsReadSoFar line slave FMMU_COUNT h → IsReadSoFar line (slave + 1) 0 h
 IsReadSoFar-slave line slave h so_far = record {
   hull = hull_at_slave (ReadsLogical line) slave h (reads_by_fmmus line) so_far.hull;
@@ -299,8 +303,8 @@ IsReadSoFar-slave line slave h so_far = record {
       each_at_slave (ReadsOnOneSide line) slave so_far.each (λ s n none. reads_past line s n (inr none));
 }
 
-pub EachReadsOnOneSide-end : (line : List ControllerState) (h : Hull) → IsReadSoFar line (length line) 0 h
-    → EachReadsOnOneSide line
+pub EachReadsOnOneSide-end : (line : List ControllerState) (h : LogicalHull)
+    → IsReadSoFar line (length line) 0 h → EachReadsOnOneSide line
 EachReadsOnOneSide-end line h so_far = record {
   each =
       each_at_end (ReadsOnOneSide line) (length line) so_far.each
@@ -308,9 +312,9 @@ EachReadsOnOneSide-end line h so_far = record {
 }
 
 -- an FMMU that reads within what those before it read is not on one side
-pub not-EachReadsOnOneSide : (line : List ControllerState) (slave number : ℕ) (g h : Hull)
+pub not-EachReadsOnOneSide : (line : List ControllerState) (slave number : ℕ) (g h : LogicalHull)
     → IsReadSoFar line slave number g → IsHullOf (ReadsLogical line slave number) h
-    → (leb g.to h.from || leb h.to g.from) ≡ false
+    → (leb g.end h.first || leb h.end g.first) ≡ false
     → EachReadsOnOneSide line → ⊥
 not-EachReadsOnOneSide line slave number g h so_far here meet each =
     not-AreOnOneSide (IsReadBefore line slave number) (ReadsLogical line slave number) g h so_far.hull here
@@ -329,18 +333,18 @@ IsExchangedSoFar-first line h no_read no_written = record {
 }
 
 -- the hulls with those of one FMMU more
-abbrev pub with_both : Exchanged → Hull → Hull → Exchanged
+abbrev pub with_both : Exchanged → LogicalHull → LogicalHull → Exchanged
 with_both hulls read written = record {
-  read = record { from = min hulls.read.from read.from; to = max hulls.read.to read.to };
-  written = record { from = min hulls.written.from written.from; to = max hulls.written.to written.to };
+  read = record { first = min hulls.read.first read.first; end = max hulls.read.end read.end };
+  written = record { first = min hulls.written.first written.first; end = max hulls.written.end written.end };
 }
 
 pub IsExchangedSoFar-next : (line : List ControllerState) (slave number : ℕ) (earlier hulls : Exchanged)
-    (read written : Hull)
+    (read written : LogicalHull)
     → AreHulls line slave 0 earlier → IsExchangedSoFar line slave number hulls
     → IsHullOf (ReadsLogical line slave number) read → IsHullOf (WritesLogical line slave number) written
-    → (leb earlier.written.to read.from || leb read.to earlier.written.from) ≡ true
-    → (leb earlier.read.to written.from || leb written.to earlier.read.from) ≡ true
+    → (leb earlier.written.end read.first || leb read.end earlier.written.first) ≡ true
+    → (leb earlier.read.end written.first || leb written.end earlier.read.first) ≡ true
     → IsExchangedSoFar line slave (number + 1) (with_both hulls read written)
 IsExchangedSoFar-next line slave number earlier hulls read written are so_far of_read of_written apart_read
     apart_written =
@@ -384,18 +388,18 @@ EachExchangesOnOneSide-end line h so_far = record {
 }
 
 -- an FMMU that reads within what earlier slaves write does not exchange on one side
-pub not-EachExchangesOnOneSide-read : (line : List ControllerState) (slave number : ℕ) (g h : Hull)
+pub not-EachExchangesOnOneSide-read : (line : List ControllerState) (slave number : ℕ) (g h : LogicalHull)
     → IsHullOf (IsWrittenBefore line slave 0) g → IsHullOf (ReadsLogical line slave number) h
-    → (leb g.to h.from || leb h.to g.from) ≡ false
+    → (leb g.end h.first || leb h.end g.first) ≡ false
     → EachExchangesOnOneSide line → ⊥
 not-EachExchangesOnOneSide-read line slave number g h before here meet each =
     not-AreOnOneSide (IsWrittenBefore line slave 0) (ReadsLogical line slave number) g h before here meet
     (each.each slave number).read
 
 -- and one that writes within what they read
-pub not-EachExchangesOnOneSide-written : (line : List ControllerState) (slave number : ℕ) (g h : Hull)
+pub not-EachExchangesOnOneSide-written : (line : List ControllerState) (slave number : ℕ) (g h : LogicalHull)
     → IsHullOf (IsReadBefore line slave 0) g → IsHullOf (WritesLogical line slave number) h
-    → (leb g.to h.from || leb h.to g.from) ≡ false
+    → (leb g.end h.first || leb h.end g.first) ≡ false
     → EachExchangesOnOneSide line → ⊥
 not-EachExchangesOnOneSide-written line slave number g h before here meet each =
     not-AreOnOneSide (IsReadBefore line slave 0) (WritesLogical line slave number) g h before here meet

@@ -22,7 +22,7 @@ use Rattle.ec_check.specs.Line.{fmmu_of, sync_manager_of, HasFmmu}
 use Rattle.ec_check.specs.Rules.{Area, Holds, HoldsAllOf, suits, IsGuarded, IsMailStatus, IsAreaFor}
 use Rattle.ec_check.specs.Rules.{IsAreaEnd, HasNoArea, first_byte, IsOutsideArea}
 use Rattle.ec_check.specs.Runs.{holds_first_byte, begins_at_mail_status}
-use Rattle.ec_check.specs.Fit.{Breaks, numbers}
+use Rattle.ec_check.specs.Fit.{Breaks, numbers, areas_meet_rule, outside_area_rule}
 use Rattle.ec_check.specs.Search.{HasNone, IsFirstOf}
 use Rattle.ec_check.proofs.RunLemmas.{IsInRun-MapsPhysical, MapsPhysical-IsInRun}
 use Rattle.ec_check.proofs.FmmuLemmas.{can_map-some}
@@ -30,14 +30,14 @@ use Rattle.ec_check.proofs.SearchLemmas.{GoesOnBelow, IsFirstOf-itself, IsFirstO
 
 -- the fault goes on with a slave
 pub outside_go_on : (line : List ControllerState) (bound : ℕ) → length line ≤ bound
-    → GoesOnBelow (4 ∷ []) line bound
+    → GoesOnBelow (outside_area_rule ∷ []) line bound
 outside_go_on line bound end (OutsideArea i k a) broken begins =
     (i, let there : i < length line = broken.there.slave_there in omega arith, (refl, (refl, tt)))
 outside_go_on line bound end fault broken begins = absurd (omega (arith, begins.0))
 
 -- and then with an FMMU
 pub outside_of_go_on : (line : List ControllerState) (slave bound : ℕ) → FMMU_COUNT ≤ bound
-    → GoesOnBelow (4 ∷ slave ∷ []) line bound
+    → GoesOnBelow (outside_area_rule ∷ slave ∷ []) line bound
 outside_of_go_on line slave bound end (OutsideArea i k a) broken begins =
     (k, let there : k < FMMU_COUNT = broken.there.number_there in omega arith, (refl, (begins.1.0, (refl, tt))))
 outside_of_go_on line slave bound end fault broken begins = absurd (omega (arith, begins.0))
@@ -45,19 +45,21 @@ outside_of_go_on line slave bound end fault broken begins = absurd (omega (arith
 -- there is no fault of an FMMU that leaves its area nowhere
 none_of_one : (line : List ControllerState) (slave fmmu : ℕ)
     → ((address : ℕ) → ¬ IsOutsideArea line slave fmmu address)
-    → (fault : MapFault) → Breaks line fault → BeginsWith (4 ∷ slave ∷ fmmu ∷ []) (numbers fault) → ⊥
+    → (fault : MapFault) → Breaks line fault
+    → BeginsWith (outside_area_rule ∷ slave ∷ fmmu ∷ []) (numbers fault) → ⊥
 none_of_one line slave fmmu none (OutsideArea i k a) broken begins =
     none a (rw (begins.1.0, begins.1.1.0) broken)
 none_of_one line slave fmmu none fault broken begins = absurd (omega (arith, begins.0))
 
 pub HasNone-outside : (line : List ControllerState) (slave fmmu : ℕ)
     → ((address : ℕ) → ¬ IsOutsideArea line slave fmmu address)
-    → HasNone (4 ∷ slave ∷ fmmu ∷ []) line
+    → HasNone (outside_area_rule ∷ slave ∷ fmmu ∷ []) line
 HasNone-outside line slave fmmu none = record { none = none_of_one line slave fmmu none }
 
 -- nor one at an address if it does not leave it there
 none_at : (line : List ControllerState) (slave fmmu address : ℕ) → ¬ IsOutsideArea line slave fmmu address
-    → (fault : MapFault) → Breaks line fault → BeginsWith (4 ∷ slave ∷ fmmu ∷ address ∷ []) (numbers fault)
+    → (fault : MapFault) → Breaks line fault
+    → BeginsWith (outside_area_rule ∷ slave ∷ fmmu ∷ address ∷ []) (numbers fault)
     → ⊥
 none_at line slave fmmu address none (OutsideArea i k a) broken begins =
     none (rw (begins.1.0, begins.1.1.0, begins.1.1.1.0) broken)
@@ -67,9 +69,9 @@ none_at line slave fmmu address none fault broken begins = absurd (omega (arith,
 pub IsFirstOf-outside : (line : List ControllerState) (slave fmmu address : ℕ)
     → IsOutsideArea line slave fmmu address
     → ((n : ℕ) → IsOutsideArea line slave fmmu n → address ≤ n)
-    → IsFirstOf (4 ∷ slave ∷ fmmu ∷ []) line (OutsideArea slave fmmu address)
+    → IsFirstOf (outside_area_rule ∷ slave ∷ fmmu ∷ []) line (OutsideArea slave fmmu address)
 IsFirstOf-outside line slave fmmu address broken lowest =
-    IsFirstOf-shorter (4 ∷ slave ∷ fmmu ∷ []) line address (OutsideArea slave fmmu address)
+    IsFirstOf-shorter (outside_area_rule ∷ slave ∷ fmmu ∷ []) line address (OutsideArea slave fmmu address)
     (λ n below. record {
       none = none_at line slave fmmu n
           (λ outside. let least : address ≤ n = lowest n outside in absurd (omega arith));
@@ -98,7 +100,8 @@ suits-active s f suitable =
     (and_parts (is_active s) (is_buffered s) direction.0).0
 
 -- two areas of sync managers that share a byte are of one sync manager
-same_manager : (line : List ControllerState) (slave m n address : ℕ) (f : Fmmu) → HasNone (3 ∷ []) line
+same_manager : (line : List ControllerState) (slave m n address : ℕ) (f : Fmmu)
+    → HasNone (areas_meet_rule ∷ []) line
     → slave < length line
     → n < SYNC_MANAGER_COUNT → suits (sync_manager_of line slave m) f ≡ true → suits (sync_manager_of line slave n) f ≡ true
     → (sync_manager_of line slave m).start ≤ address
@@ -119,7 +122,7 @@ same_manager line slave m n address f apart inside n8 suitable_m suitable_n from
 
 -- two areas of an FMMU's kind that share a byte end at one address
 guarded_ends : (line : List ControllerState) (slave address : ℕ) (f : Fmmu) (a b : Area)
-    → HasNone (3 ∷ []) line → slave < length line
+    → HasNone (areas_meet_rule ∷ []) line → slave < length line
     → IsGuarded line slave f a → IsGuarded line slave f b → Holds a address → Holds b address → a.to ≡ b.to
 guarded_ends line slave address f a b apart inside in_a in_b holds_a holds_b =
     let m : ℕ = in_a.number in
@@ -162,7 +165,7 @@ guarded_past_mail line slave address f a b in_a in_b holds_a holds_b =
     omega arith
 
 pub same_end : (line : List ControllerState) (slave address : ℕ) (f : Fmmu) (a b : Area)
-    → HasNone (3 ∷ []) line → slave < length line
+    → HasNone (areas_meet_rule ∷ []) line → slave < length line
     → IsAreaFor line slave f a → IsAreaFor line slave f b → Holds a address → Holds b address → a.to ≡ b.to
 same_end line slave address f a b apart inside (inl in_a) (inl in_b) holds_a holds_b =
     guarded_ends line slave address f a b apart inside in_a in_b holds_a holds_b
@@ -275,7 +278,8 @@ HasNoArea-none line slave f some none no_mail area (inr mail) holds =
 pub IsFirstOf-no_area : (line : List ControllerState) (slave fmmu : ℕ) → HasFmmu line slave fmmu
     → 1 ≤ pair_count (fmmu_of line slave fmmu)
     → HasNoArea line slave (fmmu_of line slave fmmu)
-    → IsFirstOf (4 ∷ slave ∷ fmmu ∷ []) line (OutsideArea slave fmmu (fmmu_of line slave fmmu).physical)
+    → IsFirstOf (outside_area_rule ∷ slave ∷ fmmu ∷ []) line
+    (OutsideArea slave fmmu (fmmu_of line slave fmmu).physical)
 IsFirstOf-no_area line slave fmmu there some none =
     let f : Fmmu = fmmu_of line slave fmmu in
     let first : first_byte f ≡ f.physical = first_byte-some f some in
@@ -298,11 +302,12 @@ IsFirstOf-no_area line slave fmmu there some none =
     outside.place)
 
 -- an FMMU that goes on behind the area that holds its first byte
-pub IsFirstOf-behind : (line : List ControllerState) (slave fmmu end : ℕ) → HasNone (3 ∷ []) line
+pub IsFirstOf-behind : (line : List ControllerState) (slave fmmu end : ℕ)
+    → HasNone (areas_meet_rule ∷ []) line
     → HasFmmu line slave fmmu
     → 1 ≤ pair_count (fmmu_of line slave fmmu) → IsAreaEnd line slave (fmmu_of line slave fmmu) end
     → end ≤ (first_physical (fmmu_of line slave fmmu) + pair_count (fmmu_of line slave fmmu) - 1) / 8
-    → IsFirstOf (4 ∷ slave ∷ fmmu ∷ []) line (OutsideArea slave fmmu end)
+    → IsFirstOf (outside_area_rule ∷ slave ∷ fmmu ∷ []) line (OutsideArea slave fmmu end)
 IsFirstOf-behind line slave fmmu end apart there some found past =
     let f : Fmmu = fmmu_of line slave fmmu in
     let behind : end ≡ found.area.to = found.behind in
@@ -340,7 +345,7 @@ IsFirstOf-behind line slave fmmu end apart there some found past =
 pub HasNone-inside : (line : List ControllerState) (slave fmmu end : ℕ)
     → IsAreaEnd line slave (fmmu_of line slave fmmu) end
     → (first_physical (fmmu_of line slave fmmu) + pair_count (fmmu_of line slave fmmu) - 1) / 8 < end
-    → HasNone (4 ∷ slave ∷ fmmu ∷ []) line
+    → HasNone (outside_area_rule ∷ slave ∷ fmmu ∷ []) line
 HasNone-inside line slave fmmu end found last =
     let f : Fmmu = fmmu_of line slave fmmu in
     let behind : end ≡ found.area.to = found.behind in
@@ -351,7 +356,7 @@ HasNone-inside line slave fmmu end found last =
 -- an FMMU that maps nothing
 pub HasNone-unmapped : (line : List ControllerState) (slave fmmu : ℕ)
     → pair_count (fmmu_of line slave fmmu) ≡ 0
-    → HasNone (4 ∷ slave ∷ fmmu ∷ []) line
+    → HasNone (outside_area_rule ∷ slave ∷ fmmu ∷ []) line
 HasNone-unmapped line slave fmmu none =
     HasNone-outside line slave fmmu
     (λ n outside.

@@ -11,10 +11,13 @@ use Rattle.ec_regs.specs.Bits.{AreBytes}
 use Rattle.ec_regs.specs.Fmmu.{fmmu_of}
 use Rattle.ec_regs.specs.SyncMan.{sync_man_of}
 use Rattle.ec_regs.specs.declared.registers.TheConstants.{STATION_ADDRESS, FMMU_BASE}
+use Rattle.ec_regs.specs.declared.registers.TheConstants.{FMMU_COUNT, FMMU_SIZE}
+use Rattle.ec_regs.specs.declared.registers.TheConstants.{SYNC_MANAGER_COUNT, SYNC_MANAGER_SIZE}
 use Rattle.ec_areas.specs.Records.{fmmu_at, sync_manager_at}
 use Rattle.ec_esc.specs.State.{IsController, word_at}
 use Rattle.ec_check.specs.Records.{station_bytes, memory_of, controller_with}
 use Rattle.ec_check.specs.declared.records.Records.{Records}
+use Rattle.ec_check.specs.declared.records.TheConstants.{FMMU_BYTES, SYNC_MANAGER_BYTES}
 
 -- ---- one part of a list between two others
 
@@ -74,8 +77,8 @@ below_bytes station small =
     (are_more (station / 256) (replicate 1518 0) (omega (arith, small)) (are_zeros 1518)))
 
 -- records of their sizes, whose elements are bytes, are those of a controller
-pub IsController-records : (r : Records) → r.station < 65536 → length r.fmmus ≡ 128 → AreBytes r.fmmus
-    → length r.sync_managers ≡ 64 → AreBytes r.sync_managers
+pub IsController-records : (r : Records) → r.station < 65536 → length r.fmmus ≡ FMMU_BYTES → AreBytes r.fmmus
+    → length r.sync_managers ≡ SYNC_MANAGER_BYTES → AreBytes r.sync_managers
     → IsController (controller_with r)
 unfolding memory_of
 IsController-records r small fmmus_size fmmus managers_size managers =
@@ -119,8 +122,8 @@ station-records r =
     omega (arith, low, high)
 
 -- an FMMU's record stands in the memory
-pub fmmu-records : (r : Records) (i : ℕ) → i < 8 → length r.fmmus ≡ 128
-    → fmmu_at (memory_of r) i ≡ fmmu_of (take 16 (drop (16 * i) r.fmmus))
+pub fmmu-records : (r : Records) (i : ℕ) → i < FMMU_COUNT → length r.fmmus ≡ FMMU_BYTES
+    → fmmu_at (memory_of r) i ≡ fmmu_of (take FMMU_SIZE (drop (FMMU_SIZE * i) r.fmmus))
 unfolding memory_of fmmu_at
 fmmu-records r i there size =
     ap fmmu_of
@@ -129,9 +132,10 @@ fmmu-records r i there size =
     (omega (arith, there, size)))
 
 -- a sync manager's record stands in the memory
-pub sync_manager-records : (r : Records) (i : ℕ) → i < 8 → length r.fmmus ≡ 128
-    → length r.sync_managers ≡ 64
-    → sync_manager_at (memory_of r) i ≡ sync_man_of (take 8 (drop (8 * i) r.sync_managers))
+pub sync_manager-records : (r : Records) (i : ℕ) → i < SYNC_MANAGER_COUNT → length r.fmmus ≡ FMMU_BYTES
+    → length r.sync_managers ≡ SYNC_MANAGER_BYTES
+    → sync_manager_at (memory_of r) i
+    ≡ sync_man_of (take SYNC_MANAGER_SIZE (drop (SYNC_MANAGER_SIZE * i) r.sync_managers))
 unfolding memory_of sync_manager_at
 sync_manager-records r i there fmmus_size size =
     let below = station_bytes r.station in

@@ -22,17 +22,40 @@ Breaks line (TwiceRead slave fmmu later_slave later_fmmu bit) =
 Breaks line (ReadAndWritten reader reader_fmmu writer writer_fmmu bit) =
     IsReadAndWritten line reader reader_fmmu writer writer_fmmu bit
 
+-- the places of the rules
+abbrev pub twin_station_rule : ℕ
+twin_station_rule = 1
+
+abbrev pub bad_fmmu_rule : ℕ
+bad_fmmu_rule = 2
+
+abbrev pub areas_meet_rule : ℕ
+areas_meet_rule = 3
+
+abbrev pub outside_area_rule : ℕ
+outside_area_rule = 4
+
+abbrev pub twice_written_rule : ℕ
+twice_written_rule = 5
+
+abbrev pub twice_read_rule : ℕ
+twice_read_rule = 6
+
+abbrev pub read_and_written_rule : ℕ
+read_and_written_rule = 7
+
 -- by these numbers faults are ordered: the rule's place, the parties, and the address or bit
 abbrev pub numbers : MapFault → List ℕ
-numbers (TwinStation slave later_slave) = 1 ∷ slave ∷ later_slave ∷ []
-numbers (BadFmmu slave fmmu) = 2 ∷ slave ∷ fmmu ∷ []
-numbers (AreasMeet slave number later_number address) = 3 ∷ slave ∷ number ∷ later_number ∷ address ∷ []
-numbers (OutsideArea slave fmmu address) = 4 ∷ slave ∷ fmmu ∷ address ∷ []
-numbers (TwiceWritten slave fmmu later_fmmu bit) = 5 ∷ slave ∷ fmmu ∷ later_fmmu ∷ bit ∷ []
+numbers (TwinStation slave later_slave) = twin_station_rule ∷ slave ∷ later_slave ∷ []
+numbers (BadFmmu slave fmmu) = bad_fmmu_rule ∷ slave ∷ fmmu ∷ []
+numbers (AreasMeet slave number later_number address) =
+    areas_meet_rule ∷ slave ∷ number ∷ later_number ∷ address ∷ []
+numbers (OutsideArea slave fmmu address) = outside_area_rule ∷ slave ∷ fmmu ∷ address ∷ []
+numbers (TwiceWritten slave fmmu later_fmmu bit) = twice_written_rule ∷ slave ∷ fmmu ∷ later_fmmu ∷ bit ∷ []
 numbers (TwiceRead slave fmmu later_slave later_fmmu bit) =
-    6 ∷ slave ∷ fmmu ∷ later_slave ∷ later_fmmu ∷ bit ∷ []
+    twice_read_rule ∷ slave ∷ fmmu ∷ later_slave ∷ later_fmmu ∷ bit ∷ []
 numbers (ReadAndWritten reader reader_fmmu writer writer_fmmu bit) =
-    7 ∷ reader ∷ reader_fmmu ∷ writer ∷ writer_fmmu ∷ bit ∷ []
+    read_and_written_rule ∷ reader ∷ reader_fmmu ∷ writer ∷ writer_fmmu ∷ bit ∷ []
 
 -- the line breaks no rule
 abbrev pub IsFit : List ControllerState → Type 0

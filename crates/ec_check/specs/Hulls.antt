@@ -1,8 +1,8 @@
 -- Most lines are mapped slave by slave in the order of their logical bits. There each FMMU lies on one side
 -- of those before it, so that no two share a bit, and the hull of those before tells it in one pass.
 use Rattle.std.specs.Prelude.{◌⊎◌, ◌^◌, ℕ, ◌<◌, ◌≤◌, List, [], ◌∷◌}
+use Rattle.ec_areas.specs.declared.hull.LogicalHull.{LogicalHull}
 use Rattle.ec_esc.specs.State.{ControllerState}
-use Rattle.ec_check.specs.declared.hulls.Hull.{Hull}
 use Rattle.ec_check.specs.declared.hulls.Exchanged.{Exchanged}
 use Rattle.ec_check.specs.Order.{IsBefore}
 use Rattle.ec_check.specs.Rules.{ReadsLogical, WritesLogical}
@@ -50,15 +50,15 @@ pub record EachExchangesOnOneSide (line : List ControllerState) : Type 0 where
 
 -- the hull of a set goes from its lowest bit up to the one behind its highest; that of no bits, which ends
 -- before it begins, is as narrow as 64 bits can say
-pub record IsHullOf (P : ℕ → Type 0) (h : Hull) : Type 0 where
-  pub from : (l : ℕ) → P l → h.from ≤ l
-  pub to : (l : ℕ) → P l → l < h.to
-  pub lowest : (n : ℕ) → n < 2 ^ 64 → ((l : ℕ) → P l → n ≤ l) → n ≤ h.from
-  pub highest : (n : ℕ) → ((l : ℕ) → P l → l < n) → h.to ≤ n
-  pub bound : h.to < 2 ^ 64
+pub record IsHullOf (P : ℕ → Type 0) (h : LogicalHull) : Type 0 where
+  pub first : (l : ℕ) → P l → h.first ≤ l
+  pub end : (l : ℕ) → P l → l < h.end
+  pub lowest : (n : ℕ) → n < 2 ^ 64 → ((l : ℕ) → P l → n ≤ l) → n ≤ h.first
+  pub highest : (n : ℕ) → ((l : ℕ) → P l → l < n) → h.end ≤ n
+  pub bound : h.end < 2 ^ 64
 
 -- this is the hull of what the FMMUs before this one read, and each of them reads on one side
-pub record IsReadSoFar (line : List ControllerState) (slave number : ℕ) (read : Hull) : Type 0 where
+pub record IsReadSoFar (line : List ControllerState) (slave number : ℕ) (read : LogicalHull) : Type 0 where
   pub hull : IsHullOf (IsReadBefore line slave number) read
   pub each : (s n : ℕ) → IsBefore (s ∷ n ∷ []) (slave ∷ number ∷ []) → ReadsOnOneSide line s n
 

@@ -6,6 +6,7 @@ use Rattle.ec_regs.specs.declared.registers.TheConstants.{STATION_ADDRESS, FMMU_
 use Rattle.ec_regs.specs.declared.registers.TheConstants.{MEMORY_SIZE, PROCESS_MEMORY_SIZE}
 use Rattle.ec_esc.specs.State.{ControllerState}
 use Rattle.ec_check.specs.declared.records.Records.{Records}
+use Rattle.ec_check.specs.declared.records.TheConstants.{FMMU_BYTES, SYNC_MANAGER_BYTES}
 
 -- the bytes below the FMMUs: those of the station address, its low byte first, and else 0
 abbrev pub station_bytes : ℕ → List ℕ
@@ -18,8 +19,8 @@ unfoldable pub memory_of : Records → List ℕ
 memory_of r =
     station_bytes r.station
     ++ (r.fmmus
-    ++ (replicate (SYNC_MANAGER_BASE - FMMU_BASE - 128) 0
-    ++ (r.sync_managers ++ replicate (MEMORY_SIZE - SYNC_MANAGER_BASE - 64) 0)))
+    ++ (replicate (SYNC_MANAGER_BASE - FMMU_BASE - FMMU_BYTES) 0
+    ++ (r.sync_managers ++ replicate (MEMORY_SIZE - SYNC_MANAGER_BASE - SYNC_MANAGER_BYTES) 0)))
 
 -- the controller that has them
 abbrev pub controller_with : Records → ControllerState

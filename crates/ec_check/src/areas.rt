@@ -3,6 +3,7 @@
 ghost use Rattle.std.specs.Prelude.{◌≡◌, ◌<◌, ◌≤◌, [], ◌∷◌, IsTrue, length};
 ghost use Rattle.ec_regs.specs.declared.registers.TheConstants.{SYNC_MANAGER_COUNT};
 ghost use Rattle.ec_regs.specs.declared.registers.TheConstants.{MEMORY_SIZE};
+ghost use Rattle.ec_check.specs.Fit.{areas_meet_rule};
 ghost use Rattle.ec_check.specs.Line.{controllers_by};
 ghost use Rattle.ec_check.specs.Order.{IsLowest};
 ghost use Rattle.ec_check.specs.Rules.{IsInArea};
@@ -16,7 +17,7 @@ use ec_regs::registers::SYNC_MANAGER_COUNT;
 
 /// Areas of all slaves.
 pub(crate) fn meeting_areas<S: Mapped>(line: &[S]) -> Result<(), MapFault>
-    ensures { Answers (3 ∷ []) (controllers_by S.controller line.now) result }
+    ensures { Answers (areas_meet_rule ∷ []) (controllers_by S.controller line.now) result }
 {
     for slave in 0..line.len() {
         areas_of(line, slave)?;
@@ -27,7 +28,7 @@ pub(crate) fn meeting_areas<S: Mapped>(line: &[S]) -> Result<(), MapFault>
 /// Areas of one slave.
 fn areas_of<S: Mapped>(line: &[S], slave: usize) -> Result<(), MapFault>
     requires { slave < length line.now }
-    ensures { Answers (3 ∷ slave ∷ []) (controllers_by S.controller line.now) result }
+    ensures { Answers (areas_meet_rule ∷ slave ∷ []) (controllers_by S.controller line.now) result }
 {
     for number in 0..SYNC_MANAGER_COUNT {
         areas_met_by(line, slave, number)?;
@@ -39,7 +40,7 @@ fn areas_of<S: Mapped>(line: &[S], slave: usize) -> Result<(), MapFault>
 fn areas_met_by<S: Mapped>(line: &[S], slave: usize, number: usize) -> Result<(), MapFault>
     requires slave { slave < length line.now }
     requires number { number < SYNC_MANAGER_COUNT }
-    ensures { Answers (3 ∷ slave ∷ number ∷ []) (controllers_by S.controller line.now) result }
+    ensures { Answers (areas_meet_rule ∷ slave ∷ number ∷ []) (controllers_by S.controller line.now) result }
 {
     for later_number in number + 1..SYNC_MANAGER_COUNT {
         compare_areas(line, slave, number, later_number)?;
@@ -57,7 +58,8 @@ fn compare_areas<S: Mapped>(
     requires slave { slave < length line.now }
     requires order { number < later_number }
     requires number { later_number < SYNC_MANAGER_COUNT }
-    ensures { Answers (3 ∷ slave ∷ number ∷ later_number ∷ []) (controllers_by S.controller line.now) result }
+    ensures { Answers (areas_meet_rule ∷ slave ∷ number ∷ later_number ∷ [])
+        (controllers_by S.controller line.now) result }
 {
     let first = sync_manager_of(line, slave, number);
     let second = sync_manager_of(line, slave, later_number);

@@ -2,6 +2,7 @@
 
 ghost use Rattle.std.specs.Prelude.{◌≡◌, ◌≢◌, ◌<◌, [], ◌∷◌, true, length};
 ghost use Rattle.ec_regs.specs.Pairs.{reads};
+ghost use Rattle.ec_check.specs.Fit.{read_and_written_rule};
 ghost use Rattle.ec_check.specs.Line.{controllers_by, HasFmmu, StandsOn};
 ghost use Rattle.ec_check.specs.Search.{Answers};
 
@@ -14,7 +15,7 @@ use ec_regs::registers::FMMU_COUNT;
 
 /// FMMUs that read, of all slaves. On most lines one pass tells that none reads what another slave writes.
 pub(crate) fn bits_read_and_written<S: Mapped>(line: &[S]) -> Result<(), MapFault>
-    ensures { Answers (7 ∷ []) (controllers_by S.controller line.now) result }
+    ensures { Answers (read_and_written_rule ∷ []) (controllers_by S.controller line.now) result }
 {
     if exchanges_on_one_side(line) {
         return Ok(());
@@ -28,7 +29,7 @@ pub(crate) fn bits_read_and_written<S: Mapped>(line: &[S]) -> Result<(), MapFaul
 /// FMMUs that read, of one slave.
 fn written_elsewhere<S: Mapped>(line: &[S], reader: usize) -> Result<(), MapFault>
     requires { reader < length line.now }
-    ensures { Answers (7 ∷ reader ∷ []) (controllers_by S.controller line.now) result }
+    ensures { Answers (read_and_written_rule ∷ reader ∷ []) (controllers_by S.controller line.now) result }
 {
     for reader_fmmu in 0..FMMU_COUNT {
         written_by_others(line, &standing_at(line, reader, reader_fmmu))?;
@@ -39,7 +40,7 @@ fn written_elsewhere<S: Mapped>(line: &[S], reader: usize) -> Result<(), MapFaul
 /// One FMMU that reads, and those of the other slaves that write.
 fn written_by_others<S: Mapped>(line: &[S], reader: &Standing) -> Result<(), MapFault>
     requires { StandsOn (controllers_by S.controller line.now) reader.now }
-    ensures { Answers (7 ∷ reader.now.slave ∷ reader.now.number ∷ [])
+    ensures { Answers (read_and_written_rule ∷ reader.now.slave ∷ reader.now.number ∷ [])
         (controllers_by S.controller line.now) result }
 {
     if !reader.record.reads() {
@@ -56,7 +57,7 @@ fn written_by<S: Mapped>(line: &[S], reader: &Standing, writer: usize) -> Result
     requires reader { StandsOn (controllers_by S.controller line.now) reader.now }
     requires there { writer < length line.now }
     requires for_reading { reads reader.now.record ≡ true }
-    ensures { Answers (7 ∷ reader.now.slave ∷ reader.now.number ∷ writer ∷ [])
+    ensures { Answers (read_and_written_rule ∷ reader.now.slave ∷ reader.now.number ∷ writer ∷ [])
         (controllers_by S.controller line.now) result }
 {
     if writer == reader.slave {
@@ -79,7 +80,8 @@ fn compare_crossed<S: Mapped>(
     requires apart { reader.now.slave ≢ writer }
     requires writer { HasFmmu (controllers_by S.controller line.now) writer writer_fmmu }
     requires for_reading { reads reader.now.record ≡ true }
-    ensures { Answers (7 ∷ reader.now.slave ∷ reader.now.number ∷ writer ∷ writer_fmmu ∷ [])
+    ensures { Answers
+        (read_and_written_rule ∷ reader.now.slave ∷ reader.now.number ∷ writer ∷ writer_fmmu ∷ [])
         (controllers_by S.controller line.now) result }
 {
     let second = fmmu_of(line, writer, writer_fmmu);

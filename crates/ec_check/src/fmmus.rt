@@ -2,6 +2,7 @@
 
 ghost use Rattle.std.specs.Prelude.{◌≡◌, ◌<◌, [], ◌∷◌, length};
 ghost use Rattle.ec_regs.specs.declared.registers.TheConstants.{FMMU_COUNT};
+ghost use Rattle.ec_check.specs.Fit.{bad_fmmu_rule};
 ghost use Rattle.ec_check.specs.Line.{controllers_by};
 ghost use Rattle.ec_check.specs.Search.{Answers};
 ghost use Rattle.ec_check.specs.Runs.{is_good};
@@ -17,7 +18,7 @@ const MEMORY_BITS: u32 = 8 * MEMORY_SIZE as u32;
 
 /// Bad FMMUs of all slaves.
 pub(crate) fn bad_fmmus<S: Mapped>(line: &[S]) -> Result<(), MapFault>
-    ensures { Answers (2 ∷ []) (controllers_by S.controller line.now) result }
+    ensures { Answers (bad_fmmu_rule ∷ []) (controllers_by S.controller line.now) result }
 {
     for slave in 0..line.len() {
         bad_fmmus_of(line, slave)?;
@@ -28,7 +29,7 @@ pub(crate) fn bad_fmmus<S: Mapped>(line: &[S]) -> Result<(), MapFault>
 /// Bad FMMUs of one slave.
 fn bad_fmmus_of<S: Mapped>(line: &[S], slave: usize) -> Result<(), MapFault>
     requires { slave < length line.now }
-    ensures { Answers (2 ∷ slave ∷ []) (controllers_by S.controller line.now) result }
+    ensures { Answers (bad_fmmu_rule ∷ slave ∷ []) (controllers_by S.controller line.now) result }
 {
     for fmmu in 0..FMMU_COUNT {
         test_fmmu(line, slave, fmmu)?;
@@ -40,7 +41,7 @@ fn bad_fmmus_of<S: Mapped>(line: &[S], slave: usize) -> Result<(), MapFault>
 fn test_fmmu<S: Mapped>(line: &[S], slave: usize, fmmu: usize) -> Result<(), MapFault>
     requires slave { slave < length line.now }
     requires fmmu { fmmu < FMMU_COUNT }
-    ensures { Answers (2 ∷ slave ∷ fmmu ∷ []) (controllers_by S.controller line.now) result }
+    ensures { Answers (bad_fmmu_rule ∷ slave ∷ fmmu ∷ []) (controllers_by S.controller line.now) result }
 {
     let record = fmmu_of(line, slave, fmmu);
     if !record.is_switched_on() {

@@ -1,7 +1,6 @@
 //! Lines of which one pass tells that no logical bit is read twice, or read and written.
 
-ghost use Rattle.std.specs.Prelude.{◌≡◌, ◌↔◌, ◌||◌, ◌<◌, ◌+◌, true, IsTrue, MatchOption, min, max, nat_le};
-ghost use Rattle.std.specs.Prelude.{length};
+ghost use Rattle.std.specs.Prelude.{◌≡◌, ◌↔◌, ◌<◌, ◌+◌, true, IsTrue, MatchOption, length};
 ghost use Rattle.ec_check.specs.Hulls.{IsHullOf, EachReadsOnOneSide, EachExchangesOnOneSide, IsReadSoFar};
 ghost use Rattle.ec_check.specs.Hulls.{AreHulls, IsExchangedSoFar};
 ghost use Rattle.ec_check.specs.Line.{controllers_by, HasFmmu};
@@ -9,39 +8,31 @@ ghost use Rattle.ec_check.specs.Rules.{MapsLogical};
 
 use crate::line::fmmu_of;
 use crate::mapped::Mapped;
+use ec_areas::LogicalHull;
 use ec_regs::Fmmu;
 use ec_regs::registers::FMMU_COUNT;
-
-/// The logical bits from a lowest one on up to the one behind the highest.
-#[derive(Clone, Copy)]
-pub(crate) struct Hull {
-    /// The lowest bit.
-    pub(crate) from: u64,
-    /// The bit behind the highest.
-    pub(crate) to: u64,
-}
 
 /// The hull of what is read, and that of what is written.
 #[derive(Clone, Copy)]
 pub(crate) struct Exchanged {
     /// What is read.
-    pub(crate) read: Hull,
+    pub(crate) read: LogicalHull,
     /// What is written.
-    pub(crate) written: Hull,
+    pub(crate) written: LogicalHull,
 }
 
 /// The hull of no bits, which lies apart from every other and widens none.
-fn of_no_bits() -> Hull
+fn of_no_bits() -> LogicalHull
     ensures { IsHullOf (λ l. ⊥) result }
 {
-    Hull {
-        from: u64::MAX,
-        to: 0,
+    LogicalHull {
+        first: u64::MAX,
+        end: 0,
     }
 }
 
 /// The hull of the bits that an FMMU maps where it counts, and else that of no bits.
-fn hull_if(counts: bool, fmmu: &Fmmu) -> Hull
+fn hull_if(counts: bool, fmmu: &Fmmu) -> LogicalHull
     ensures { IsHullOf (λ l. (counts ≡ true) × MapsLogical fmmu.now l) result }
 {
     if !counts {
@@ -51,29 +42,10 @@ fn hull_if(counts: bool, fmmu: &Fmmu) -> Hull
     if bits == 0 {
         return of_no_bits();
     }
-    let from = fmmu.first_logical();
-    Hull {
-        from,
-        to: from + u64::from(bits),
-    }
-}
-
-impl Hull {
-    /// Does one of the two hulls end in front of the other?
-    fn is_apart(self, other: Hull) -> bool
-        ensures { result ≡ (nat_le self.to other.from || nat_le other.to self.from) }
-    {
-        self.to <= other.from || other.to <= self.from
-    }
-
-    /// The hull of both.
-    fn with(self, other: Hull) -> Hull
-        ensures { result ≡ record { from = min self.from other.from; to = max self.to other.to } }
-    {
-        Hull {
-            from: self.from.min(other.from),
-            to: self.to.max(other.to),
-        }
+    let first = fmmu.first_logical();
+    LogicalHull {
+        first,
+        end: first + u64::from(bits),
     }
 }
 
@@ -93,7 +65,7 @@ pub(crate) fn reads_on_one_side<S: Mapped>(line: &[S]) -> bool
 }
 
 /// The hull of what earlier slaves and this one read, if each of its FMMUs reads on one side.
-fn with_reads_of<S: Mapped>(line: &[S], slave: usize, earlier: Hull) -> Option<Hull>
+fn with_reads_of<S: Mapped>(line: &[S], slave: usize, earlier: LogicalHull) -> Option<LogicalHull>
     requires there { slave < length line.now }
     requires earlier { IsReadSoFar (controllers_by S.controller line.now) slave 0 earlier }
     ensures { MatchOption result (¬ EachReadsOnOneSide (controllers_by S.controller line.now))
@@ -110,7 +82,12 @@ fn with_reads_of<S: Mapped>(line: &[S], slave: usize, earlier: Hull) -> Option<H
 }
 
 /// The hull of what is read so far and through one FMMU, if that reads on one side.
-fn with_read<S: Mapped>(line: &[S], slave: usize, number: usize, read: Hull) -> Option<Hull>
+fn with_read<S: Mapped>(
+    line: &[S],
+    slave: usize,
+    number: usize,
+    read: LogicalHull,
+) -> Option<LogicalHull>
     requires there { HasFmmu (controllers_by S.controller line.now) slave number }
     requires so_far { IsReadSoFar (controllers_by S.controller line.now) slave number read }
     ensures { MatchOption result (¬ EachReadsOnOneSide (controllers_by S.controller line.now))

@@ -3,6 +3,7 @@
 ghost use Rattle.std.specs.Prelude.{◌≡◌, ◌<◌, ◌≤◌, ◌+◌, ◌-◌, ◌/◌, [], ◌∷◌, IsTrue, length, MatchOption};
 ghost use Rattle.ec_regs.specs.declared.registers.TheConstants.{FMMU_COUNT};
 ghost use Rattle.ec_regs.specs.Pairs.{first_physical, pair_count};
+ghost use Rattle.ec_check.specs.Fit.{areas_meet_rule, outside_area_rule};
 ghost use Rattle.ec_check.specs.Line.{controllers_by, fmmu_of};
 ghost use Rattle.ec_check.specs.Rules.{suits, IsAreaEnd, HasNoArea};
 ghost use Rattle.ec_check.specs.Runs.{holds_first_byte, begins_at_mail_status};
@@ -17,8 +18,8 @@ use ec_regs::{Fmmu, SyncMan};
 
 /// FMMUs of all slaves. No two areas of a slave share a byte.
 pub(crate) fn fmmus_outside<S: Mapped>(line: &[S]) -> Result<(), MapFault>
-    requires { HasNone (3 ∷ []) (controllers_by S.controller line.now) }
-    ensures { Answers (4 ∷ []) (controllers_by S.controller line.now) result }
+    requires { HasNone (areas_meet_rule ∷ []) (controllers_by S.controller line.now) }
+    ensures { Answers (outside_area_rule ∷ []) (controllers_by S.controller line.now) result }
 {
     for slave in 0..line.len() {
         outside_of(line, slave)?;
@@ -29,8 +30,8 @@ pub(crate) fn fmmus_outside<S: Mapped>(line: &[S]) -> Result<(), MapFault>
 /// FMMUs of one slave.
 fn outside_of<S: Mapped>(line: &[S], slave: usize) -> Result<(), MapFault>
     requires slave { slave < length line.now }
-    requires areas { HasNone (3 ∷ []) (controllers_by S.controller line.now) }
-    ensures { Answers (4 ∷ slave ∷ []) (controllers_by S.controller line.now) result }
+    requires areas { HasNone (areas_meet_rule ∷ []) (controllers_by S.controller line.now) }
+    ensures { Answers (outside_area_rule ∷ slave ∷ []) (controllers_by S.controller line.now) result }
 {
     for fmmu in 0..FMMU_COUNT {
         place_fmmu(line, slave, fmmu)?;
@@ -42,8 +43,8 @@ fn outside_of<S: Mapped>(line: &[S], slave: usize) -> Result<(), MapFault>
 fn place_fmmu<S: Mapped>(line: &[S], slave: usize, fmmu: usize) -> Result<(), MapFault>
     requires slave { slave < length line.now }
     requires fmmu { fmmu < FMMU_COUNT }
-    requires areas { HasNone (3 ∷ []) (controllers_by S.controller line.now) }
-    ensures { Answers (4 ∷ slave ∷ fmmu ∷ []) (controllers_by S.controller line.now) result }
+    requires areas { HasNone (areas_meet_rule ∷ []) (controllers_by S.controller line.now) }
+    ensures { Answers (outside_area_rule ∷ slave ∷ fmmu ∷ []) (controllers_by S.controller line.now) result }
 {
     let record = fmmu_of(line, slave, fmmu);
     if record.mapped_bits() == 0 {

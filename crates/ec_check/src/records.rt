@@ -1,19 +1,24 @@
 //! A slave by its station address and its records alone.
 
-ghost use Rattle.std.specs.Prelude.{◌≡◌, ◌==◌, ◌<◌, ◌≤◌, ◌+◌, ◌*◌, if◌then◌else◌, length, take, drop};
+ghost use Rattle.std.specs.Prelude.{◌≡◌, ◌==◌, ◌<◌, ◌≤◌, ◌+◌, ◌*◌, ◌&&◌, length, take, drop};
 ghost use Rattle.ec_regs.specs.Bits.{AreBytes};
 ghost use Rattle.ec_regs.specs.Fmmu.{fmmu_bytes, fmmu_of};
 ghost use Rattle.ec_regs.specs.SyncMan.{sync_man_bytes, sync_man_of};
-ghost use Rattle.ec_regs.specs.declared.registers.TheConstants.{FMMU_COUNT, SYNC_MANAGER_COUNT};
-ghost use Rattle.ec_regs.specs.declared.registers.TheConstants.{STATION_ADDRESS};
+ghost use Rattle.ec_regs.specs.declared.registers.TheConstants.{FMMU_COUNT, FMMU_SIZE, STATION_ADDRESS};
+ghost use Rattle.ec_regs.specs.declared.registers.TheConstants.{SYNC_MANAGER_COUNT, SYNC_MANAGER_SIZE};
+ghost use Rattle.ec_wire.specs.Command.{addressing, reads, writes};
 ghost use Rattle.ec_wire.specs.Datagram.{ado_of, adp_of};
+ghost use Rattle.ec_wire.specs.Kind.{command_of};
 ghost use Rattle.ec_areas.specs.Records.{fmmu_at, fmmus_of, sync_manager_at, sync_managers_of};
 ghost use Rattle.ec_esc.specs.Pass.{serves_read, serves_write, serves_range_read, serves_range_write};
+ghost use Rattle.ec_esc.specs.Pass.{serves_reading, serves_writing};
 ghost use Rattle.ec_esc.specs.State.{IsController, with_run, word_at};
 ghost use Rattle.ec_check.specs.Records.{controller_with, memory_of};
+ghost use Rattle.ec_check.specs.declared.records.TheConstants.{FMMU_BYTES, SYNC_MANAGER_BYTES};
 
 use crate::mapped::Mapped;
 use ec_areas::{reads_some, serves_physical_read, serves_physical_write, writes_some};
+use ec_esc::gained;
 use ec_regs::registers::{FMMU_SIZE, SYNC_MANAGER_SIZE};
 use ec_regs::{AddressRange, Fmmu, Fmmus, PlannedFmmu, PlannedSyncMan, SyncMan, SyncManagers};
 use ec_wire::{Kind, ado_of, adp_of};
@@ -49,9 +54,9 @@ fn are_bytes(bytes: &[u8])
 fn are_records(station: u16, fmmus: &[u8; FMMU_BYTES], sync_managers: &[u8; SYNC_MANAGER_BYTES])
     ensures station { station < 65536 }
     ensures fmmus { AreBytes fmmus.now }
-    ensures fmmu_bytes { length fmmus.now ≡ 128 }
+    ensures fmmu_bytes { length fmmus.now ≡ FMMU_BYTES }
     ensures sync_managers { AreBytes sync_managers.now }
-    ensures sync_manager_bytes { length sync_managers.now ≡ 64 }
+    ensures sync_manager_bytes { length sync_managers.now ≡ SYNC_MANAGER_BYTES }
 {
     are_bytes(fmmus);
     are_bytes(sync_managers);
@@ -60,7 +65,7 @@ fn are_records(station: u16, fmmus: &[u8; FMMU_BYTES], sync_managers: &[u8; SYNC
 /// The FMMU with a number, of their bytes.
 fn fmmu_in(bytes: &[u8; FMMU_BYTES], number: usize) -> Fmmu
     requires { number < FMMU_COUNT }
-    ensures { result ≡ fmmu_of (take 16 (drop (16 * number) bytes.now)) }
+    ensures { result ≡ fmmu_of (take FMMU_SIZE (drop (FMMU_SIZE * number) bytes.now)) }
 {
     let at = FMMU_SIZE as usize * number;
     Fmmu::read(bytes[at..at + FMMU_SIZE as usize].try_into().unwrap())
@@ -69,7 +74,7 @@ fn fmmu_in(bytes: &[u8; FMMU_BYTES], number: usize) -> Fmmu
 /// The sync manager with a number, of their bytes.
 fn sync_manager_in(bytes: &[u8; SYNC_MANAGER_BYTES], number: usize) -> SyncMan
     requires { number < SYNC_MANAGER_COUNT }
-    ensures { result ≡ sync_man_of (take 8 (drop (8 * number) bytes.now)) }
+    ensures { result ≡ sync_man_of (take SYNC_MANAGER_SIZE (drop (SYNC_MANAGER_SIZE * number) bytes.now)) }
 {
     let at = SYNC_MANAGER_SIZE as usize * number;
     SyncMan::read(
@@ -87,14 +92,6 @@ fn put(bytes: &mut [u8], at: usize, run: &[u8])
     bytes[at..at + run.len()].copy_from_slice(run);
 }
 
-/// A gain where something is served, else 0.
-fn counted(served: bool, gain: u16) -> u16
-    ensures value { result ≡ (if served then gain else 0) }
-    ensures bound { result ≤ gain }
-{
-    if served { gain } else { 0 }
-}
-
 impl Records {
     ghost use Rattle.std.specs.Prelude.{replicate};
 
@@ -102,8 +99,8 @@ impl Records {
     pub fn of_station(station: u16) -> Records
         ensures { result ≡ record {
           station = station;
-          fmmus = replicate 128 0;
-          sync_managers = replicate 64 0;
+          fmmus = replicate FMMU_BYTES 0;
+          sync_managers = replicate SYNC_MANAGER_BYTES 0;
         } }
     {
         Records {
@@ -117,7 +114,7 @@ impl Records {
     pub fn set_fmmu(&mut self, number: usize, fmmu: &Fmmu)
         requires { number < FMMU_COUNT }
         ensures { self.new ≡ record self.old {
-          fmmus = with_run self.old.fmmus (16 * number) (fmmu_bytes fmmu.now);
+          fmmus = with_run self.old.fmmus (FMMU_SIZE * number) (fmmu_bytes fmmu.now);
         } }
     {
         put(&mut self.fmmus, FMMU_SIZE as usize * number, &fmmu.write());
@@ -127,7 +124,7 @@ impl Records {
     pub fn set_syncman(&mut self, number: usize, manager: &SyncMan)
         requires { number < SYNC_MANAGER_COUNT }
         ensures { self.new ≡ record self.old {
-          sync_managers = with_run self.old.sync_managers (8 * number)
+          sync_managers = with_run self.old.sync_managers (SYNC_MANAGER_SIZE * number)
               (sync_man_bytes (record manager.now { status = 0 }));
         } }
     {
@@ -242,6 +239,33 @@ impl Records {
     {
         adp_of(address) == self.named()
     }
+
+    /// Does an item of this kind read, and is its read served?
+    fn reads_at(&self, kind: Kind, address: u32, count: u16) -> bool
+        ensures { result
+            ≡ (reads (command_of kind)
+            && serves_reading (addressing (command_of kind)) (controller_with self.now) address count) }
+    {
+        match kind {
+            Kind::Lrd | Kind::Lrw => self.reads_bits(address, count),
+            Kind::Brd => self.serves_read(address, count),
+            Kind::Fprd => self.is_named(address) && self.serves_read(address, count),
+            Kind::Lwr | Kind::Fpwr => false,
+        }
+    }
+
+    /// Does an item of this kind write, and is its write served?
+    fn writes_at(&self, kind: Kind, address: u32, count: u16) -> bool
+        ensures { result
+            ≡ (writes (command_of kind)
+            && serves_writing (addressing (command_of kind)) (controller_with self.now) address count) }
+    {
+        match kind {
+            Kind::Lwr | Kind::Lrw => self.writes_bits(address, count),
+            Kind::Fpwr => self.is_named(address) && self.serves_write(address, count),
+            Kind::Lrd | Kind::Brd | Kind::Fprd => false,
+        }
+    }
 }
 
 /// A slave's records are mapped as the controller that has them.
@@ -260,24 +284,9 @@ impl Mapped for Records {
         self.sync_manager_numbered(number)
     }
 
-    #[tactic(auto, unfolding(ec_line::specs::Claims::gain))]
     fn gain(&self, kind: Kind, address: u32, count: u16) -> u16 {
-        match kind {
-            Kind::Lrd => counted(self.reads_bits(address, count), 1),
-            Kind::Lwr => counted(self.writes_bits(address, count), 1),
-            Kind::Lrw => {
-                counted(self.reads_bits(address, count), 1)
-                    + counted(self.writes_bits(address, count), 2)
-            }
-            Kind::Brd => counted(self.serves_read(address, count), 1),
-            Kind::Fprd => counted(
-                self.is_named(address) && self.serves_read(address, count),
-                1,
-            ),
-            Kind::Fpwr => counted(
-                self.is_named(address) && self.serves_write(address, count),
-                1,
-            ),
-        }
+        let is_read = self.reads_at(kind, address, count);
+        let is_written = self.writes_at(kind, address, count);
+        gained(kind.command(), is_read, is_written)
     }
 }

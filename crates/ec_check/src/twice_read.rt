@@ -3,6 +3,7 @@
 ghost use Rattle.std.specs.Prelude.{◌≡◌, ◌<◌, ◌≤◌, ℕ, [], ◌∷◌, true, length};
 ghost use Rattle.ec_regs.specs.declared.registers.TheConstants.{FMMU_COUNT};
 ghost use Rattle.ec_regs.specs.Pairs.{reads};
+ghost use Rattle.ec_check.specs.Fit.{twice_read_rule};
 ghost use Rattle.ec_check.specs.Line.{controllers_by, HasFmmu, StandsOn};
 ghost use Rattle.ec_check.specs.Order.{IsBefore};
 ghost use Rattle.ec_check.specs.Search.{Answers};
@@ -16,7 +17,7 @@ use ec_regs::registers::FMMU_COUNT;
 
 /// FMMUs of all slaves. Those of most lines read in the order of their bits, and no two need be compared.
 pub(crate) fn bits_read_twice<S: Mapped>(line: &[S]) -> Result<(), MapFault>
-    ensures { Answers (6 ∷ []) (controllers_by S.controller line.now) result }
+    ensures { Answers (twice_read_rule ∷ []) (controllers_by S.controller line.now) result }
 {
     if reads_on_one_side(line) {
         return Ok(());
@@ -30,7 +31,7 @@ pub(crate) fn bits_read_twice<S: Mapped>(line: &[S]) -> Result<(), MapFault>
 /// FMMUs of one slave, and the later ones of the line.
 fn read_twice_by<S: Mapped>(line: &[S], slave: usize) -> Result<(), MapFault>
     requires { slave < length line.now }
-    ensures { Answers (6 ∷ slave ∷ []) (controllers_by S.controller line.now) result }
+    ensures { Answers (twice_read_rule ∷ slave ∷ []) (controllers_by S.controller line.now) result }
 {
     for fmmu in 0..FMMU_COUNT {
         read_again(line, &standing_at(line, slave, fmmu))?;
@@ -41,7 +42,7 @@ fn read_twice_by<S: Mapped>(line: &[S], slave: usize) -> Result<(), MapFault>
 /// One FMMU, and the later ones of the line.
 fn read_again<S: Mapped>(line: &[S], first: &Standing) -> Result<(), MapFault>
     requires { StandsOn (controllers_by S.controller line.now) first.now }
-    ensures { Answers (6 ∷ first.now.slave ∷ first.now.number ∷ [])
+    ensures { Answers (twice_read_rule ∷ first.now.slave ∷ first.now.number ∷ [])
         (controllers_by S.controller line.now) result }
 {
     if !first.record.reads() {
@@ -63,7 +64,7 @@ fn read_again_by<S: Mapped>(
     requires order { first.now.slave ≤ later_slave }
     requires there { later_slave < length line.now }
     requires for_reading { reads first.now.record ≡ true }
-    ensures { Answers (6 ∷ first.now.slave ∷ first.now.number ∷ later_slave ∷ [])
+    ensures { Answers (twice_read_rule ∷ first.now.slave ∷ first.now.number ∷ later_slave ∷ [])
         (controllers_by S.controller line.now) result }
 {
     for later_fmmu in first_after(first, later_slave)..FMMU_COUNT {
@@ -99,7 +100,7 @@ fn compare_read<S: Mapped>(
     requires order { IsBefore (first.now.slave ∷ first.now.number ∷ []) (later_slave ∷ later_fmmu ∷ []) }
     requires second { HasFmmu (controllers_by S.controller line.now) later_slave later_fmmu }
     requires for_reading { reads first.now.record ≡ true }
-    ensures { Answers (6 ∷ first.now.slave ∷ first.now.number ∷ later_slave ∷ later_fmmu ∷ [])
+    ensures { Answers (twice_read_rule ∷ first.now.slave ∷ first.now.number ∷ later_slave ∷ later_fmmu ∷ [])
         (controllers_by S.controller line.now) result }
 {
     let second = fmmu_of(line, later_slave, later_fmmu);

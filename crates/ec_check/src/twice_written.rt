@@ -2,6 +2,7 @@
 
 ghost use Rattle.std.specs.Prelude.{◌≡◌, ◌<◌, [], ◌∷◌, length};
 ghost use Rattle.ec_regs.specs.declared.registers.TheConstants.{FMMU_COUNT};
+ghost use Rattle.ec_check.specs.Fit.{twice_written_rule};
 ghost use Rattle.ec_check.specs.Line.{controllers_by};
 ghost use Rattle.ec_check.specs.Search.{Answers};
 
@@ -13,7 +14,7 @@ use ec_regs::registers::FMMU_COUNT;
 
 /// FMMUs of all slaves.
 pub(crate) fn bits_written_twice<S: Mapped>(line: &[S]) -> Result<(), MapFault>
-    ensures { Answers (5 ∷ []) (controllers_by S.controller line.now) result }
+    ensures { Answers (twice_written_rule ∷ []) (controllers_by S.controller line.now) result }
 {
     for slave in 0..line.len() {
         written_twice_in(line, slave)?;
@@ -24,7 +25,7 @@ pub(crate) fn bits_written_twice<S: Mapped>(line: &[S]) -> Result<(), MapFault>
 /// FMMUs of one slave.
 fn written_twice_in<S: Mapped>(line: &[S], slave: usize) -> Result<(), MapFault>
     requires { slave < length line.now }
-    ensures { Answers (5 ∷ slave ∷ []) (controllers_by S.controller line.now) result }
+    ensures { Answers (twice_written_rule ∷ slave ∷ []) (controllers_by S.controller line.now) result }
 {
     for fmmu in 0..FMMU_COUNT {
         written_again(line, slave, fmmu)?;
@@ -36,7 +37,7 @@ fn written_twice_in<S: Mapped>(line: &[S], slave: usize) -> Result<(), MapFault>
 fn written_again<S: Mapped>(line: &[S], slave: usize, fmmu: usize) -> Result<(), MapFault>
     requires slave { slave < length line.now }
     requires fmmu { fmmu < FMMU_COUNT }
-    ensures { Answers (5 ∷ slave ∷ fmmu ∷ []) (controllers_by S.controller line.now) result }
+    ensures { Answers (twice_written_rule ∷ slave ∷ fmmu ∷ []) (controllers_by S.controller line.now) result }
 {
     for later_fmmu in fmmu + 1..FMMU_COUNT {
         compare_written(line, slave, fmmu, later_fmmu)?;
@@ -54,7 +55,8 @@ fn compare_written<S: Mapped>(
     requires slave { slave < length line.now }
     requires order { fmmu < later_fmmu }
     requires fmmu { later_fmmu < FMMU_COUNT }
-    ensures { Answers (5 ∷ slave ∷ fmmu ∷ later_fmmu ∷ []) (controllers_by S.controller line.now) result }
+    ensures { Answers (twice_written_rule ∷ slave ∷ fmmu ∷ later_fmmu ∷ [])
+        (controllers_by S.controller line.now) result }
 {
     let first = fmmu_of(line, slave, fmmu);
     let second = fmmu_of(line, slave, later_fmmu);

@@ -1,6 +1,6 @@
 //! What the working counter of a datagram gains at a slave (IEC 61158-4-12, working counter).
 
-ghost use Rattle.std.specs.Prelude.{◌≡◌, ◌<◌, ◌≤◌, ◌&&◌, if◌then◌else◌, length};
+ghost use Rattle.std.specs.Prelude.{◌≡◌, ◌<◌, ◌≤◌, ◌+◌, ◌&&◌, if◌then◌else◌, length};
 ghost use Rattle.ec_wire.specs.Command.{reads, writes, addressing};
 ghost use Rattle.ec_wire.specs.Datagram.{ado_of};
 ghost use Rattle.ec_esc.specs.Pass.{effect, gain_of, serves_reading, serves_writing};
@@ -54,6 +54,15 @@ fn write_gain(command: Command) -> u16
     }
 }
 
+/// What a working counter gains for a command, 0 to 3, by whether its read is served, and its write.
+pub fn gained(command: Command, is_read: bool, is_written: bool) -> u16
+    ensures value { result
+        ≡ (if is_read then 1 else 0) + (if is_written then (if reads command then 2 else 1) else 0) }
+    ensures bound { result ≤ 3 }
+{
+    counted(is_read, READ_GAIN) + counted(is_written, write_gain(command))
+}
+
 /// The range of a physical command with this address and number of data bytes.
 fn range_at(address: u32, count: u16) -> AddressRange
     ensures { result ≡ record { first = ado_of address; count = count } }
@@ -73,7 +82,7 @@ impl Controller {
     {
         let is_read = self.reads_at(command, address, count);
         let is_written = self.writes_at(command, address, count);
-        counted(is_read, READ_GAIN) + counted(is_written, write_gain(command))
+        gained(command, is_read, is_written)
     }
 
     /// Does the command read, and is its read served?

@@ -24,7 +24,8 @@
 //!   memory that the one before left, and each by the table of its command (`specs/Pass.antt`).
 //! - `Controller::new` makes one with a station address, in Init; `set_fmmu`, `set_syncman` and `load` set
 //!   records and process memory from the application's side.
-//! - `gain` is what the working counter of a datagram would gain, by the same table.
+//! - `gain` is what the working counter of a datagram would gain, by the same table; [`gained`] is that by
+//!   what of a command is served.
 //! - `byte`, `bytes`, `shown`, `shown_bytes`, `station`, `syncman` and `fmmu` read the memory, the shown
 //!   bytes and the records.
 //! - `take_control`, `set_al` and `al` are the application's AL control and AL status; `outputs`,
@@ -49,5 +50,5 @@ mod writing;
 
 pub use application::{AreaFault, LONGEST_MAIL};
 pub use controller::Controller;
-pub use counting::MOST_CONTROLLERS;
+pub use counting::{MOST_CONTROLLERS, gained};
 pub use ec_regs::NoMemory;

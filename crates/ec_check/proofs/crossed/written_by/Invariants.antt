@@ -1,8 +1,10 @@
 use Rattle.std.proofs.Common.{[], ◌∷◌}
+use Rattle.ec_check.specs.Fit.{read_and_written_rule}
 use Rattle.ec_check.specs.Line.{controllers_by}
 use Rattle.ec_check.specs.Search.{HasNoneBelow}
 use Rattle.ec_check.proofs.crossed.written_by.Given as goal
 
 abbrev pub invariant-loop-writer_fmmu : goal.invariant-loop-writer_fmmu
 invariant-loop-writer_fmmu g l =
-    HasNoneBelow (7 ∷ l.reader.slave ∷ l.reader.number ∷ l.writer ∷ []) (controllers_by g.S.Mapped.controller l.line) l.writer_fmmu
+    HasNoneBelow (read_and_written_rule ∷ l.reader.slave ∷ l.reader.number ∷ l.writer ∷ [])
+    (controllers_by g.S.Mapped.controller l.line) l.writer_fmmu

@@ -1,5 +1,6 @@
 use Rattle.std.proofs.Common.{[], ◌∷◌, below_more, arith, sym, ap, ◌∙◌}
 use Rattle.std.proofs.lemmas.Result.{err_from_is_err_and}
+use Rattle.ec_check.specs.Fit.{read_and_written_rule}
 use Rattle.ec_check.specs.Line.{controllers_by}
 use Rattle.ec_check.proofs.LineLemmas.{length-controllers_by}
 use Rattle.ec_check.proofs.SearchLemmas.{IsFirstOf-shorter, HasNone-all}
@@ -19,7 +20,7 @@ pub returns-in_err-written_by : goal.returns-in_err-written_by
 returns-in_err-written_by g c =
     let p = err_from_is_err_and c.from_residual.result c.from_residual.ensures.1 in
     rw (p.1, p.2)
-    (IsFirstOf-shorter (7 ∷ c.args.reader.now.slave ∷ c.args.reader.now.number ∷ [])
+    (IsFirstOf-shorter (read_and_written_rule ∷ c.args.reader.now.slave ∷ c.args.reader.now.number ∷ [])
     (controllers_by g.S.Mapped.controller c.args.line.now) c.loop-writer.writer _
     c.loop-writer.invariant c.in_err-written_by.ensures)
 
@@ -27,7 +28,8 @@ pub returns : goal.returns
 returns g c =
     let line = controllers_by g.S.Mapped.controller c.args.line.now in
     HasNone-all
-    (7 ∷ c.args.reader.now.slave ∷ c.args.reader.now.number ∷ []) line c.loop-writer.writer
+    (read_and_written_rule ∷ c.args.reader.now.slave ∷ c.args.reader.now.number ∷ []) line
+    c.loop-writer.writer
     c.loop-writer.invariant
     (reader_fmmu_go_on line c.args.reader.now.slave c.args.reader.now.number c.loop-writer.writer
     (omega (arith, length-controllers_by g.S.Mapped.controller c.args.line.now)))

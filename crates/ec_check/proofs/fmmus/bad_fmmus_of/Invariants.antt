@@ -1,7 +1,9 @@
 use Rattle.std.proofs.Common.{[], ◌∷◌}
+use Rattle.ec_check.specs.Fit.{bad_fmmu_rule}
 use Rattle.ec_check.specs.Line.{controllers_by}
 use Rattle.ec_check.specs.Search.{HasNoneBelow}
 use Rattle.ec_check.proofs.fmmus.bad_fmmus_of.Given as goal
 
 abbrev pub invariant-loop-fmmu : goal.invariant-loop-fmmu
-invariant-loop-fmmu g l = HasNoneBelow (2 ∷ l.slave ∷ []) (controllers_by g.S.Mapped.controller l.line) l.fmmu
+invariant-loop-fmmu g l =
+    HasNoneBelow (bad_fmmu_rule ∷ l.slave ∷ []) (controllers_by g.S.Mapped.controller l.line) l.fmmu

@@ -14,7 +14,7 @@ returns-then-bits-eq0 c =
 
 pub returns : goal.returns
 returns c =
-    rw (c.from.ensures, c.first_logical-from.ensures.value, c.mapped_bits-bits.ensures.value)
+    rw (c.from.ensures, c.first_logical-first.ensures.value, c.mapped_bits-bits.ensures.value)
     (IsHullOf-run c.args.counts c.args.fmmu.now c.if-not-counts.false
     (omega (arith, c.mapped_bits-bits.ensures.value, c.if-bits-eq0.false))
-    (omega (arith, c.mapped_bits-bits.ensures, c.first_logical-from.ensures)))
+    (omega (arith, c.mapped_bits-bits.ensures, c.first_logical-first.ensures)))

@@ -1,5 +1,6 @@
 use Rattle.std.proofs.Common.{[], ◌∷◌, below_more, arith}
 use Rattle.std.proofs.lemmas.Result.{err_from_is_err_and}
+use Rattle.ec_check.specs.Fit.{twin_station_rule}
 use Rattle.ec_check.specs.Line.{controllers_by}
 use Rattle.ec_check.proofs.LineLemmas.{length-controllers_by}
 use Rattle.ec_check.proofs.SearchLemmas.{IsFirstOf-shorter, HasNone-all}
@@ -13,11 +14,11 @@ pub returns-in_err-twins_of : goal.returns-in_err-twins_of
 returns-in_err-twins_of g c =
     let p = err_from_is_err_and c.from_residual.result c.from_residual.ensures.1 in
     rw (p.1, p.2)
-    (IsFirstOf-shorter (1 ∷ [])
+    (IsFirstOf-shorter (twin_station_rule ∷ [])
     (controllers_by g.S.Mapped.controller c.args.line.now) c.loop-slave.slave _ c.loop-slave.invariant c.in_err-twins_of.ensures)
 
 pub returns : goal.returns
 returns g c =
     let line = controllers_by g.S.Mapped.controller c.args.line.now in
-    HasNone-all (1 ∷ []) line c.loop-slave.slave c.loop-slave.invariant
+    HasNone-all (twin_station_rule ∷ []) line c.loop-slave.slave c.loop-slave.invariant
     (twins_go_on line c.loop-slave.slave (omega (arith, length-controllers_by g.S.Mapped.controller c.args.line.now)))

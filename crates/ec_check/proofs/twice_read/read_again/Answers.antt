@@ -1,5 +1,6 @@
 use Rattle.std.proofs.Common.{[], ◌∷◌, below_more, arith, sym, ap, ◌∙◌}
 use Rattle.std.proofs.lemmas.Result.{err_from_is_err_and}
+use Rattle.ec_check.specs.Fit.{twice_read_rule}
 use Rattle.ec_check.specs.Line.{controllers_by}
 use Rattle.ec_check.proofs.LineLemmas.{length-controllers_by}
 use Rattle.ec_check.proofs.SearchLemmas.{IsFirstOf-shorter, HasNone-all}
@@ -23,7 +24,7 @@ pub returns-in_err-read_again_by : goal.returns-in_err-read_again_by
 returns-in_err-read_again_by g c =
     let p = err_from_is_err_and c.from_residual.result c.from_residual.ensures.1 in
     rw (p.1, p.2)
-    (IsFirstOf-shorter (6 ∷ c.args.first.now.slave ∷ c.args.first.now.number ∷ [])
+    (IsFirstOf-shorter (twice_read_rule ∷ c.args.first.now.slave ∷ c.args.first.now.number ∷ [])
     (controllers_by g.S.Mapped.controller c.args.line.now) c.loop-later_slave.later_slave _
     c.loop-later_slave.invariant c.in_err-read_again_by.ensures)
 
@@ -31,7 +32,8 @@ pub returns : goal.returns
 returns g c =
     let line = controllers_by g.S.Mapped.controller c.args.line.now in
     HasNone-all
-    (6 ∷ c.args.first.now.slave ∷ c.args.first.now.number ∷ []) line c.loop-later_slave.later_slave
+    (twice_read_rule ∷ c.args.first.now.slave ∷ c.args.first.now.number ∷ []) line
+    c.loop-later_slave.later_slave
     c.loop-later_slave.invariant
     (read_again_go_on line c.args.first.now.slave c.args.first.now.number c.loop-later_slave.later_slave
     (omega (arith, length-controllers_by g.S.Mapped.controller c.args.line.now)))

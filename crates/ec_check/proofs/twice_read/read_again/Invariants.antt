@@ -1,8 +1,10 @@
 use Rattle.std.proofs.Common.{[], ◌∷◌}
+use Rattle.ec_check.specs.Fit.{twice_read_rule}
 use Rattle.ec_check.specs.Line.{controllers_by}
 use Rattle.ec_check.specs.Search.{HasNoneBelow}
 use Rattle.ec_check.proofs.twice_read.read_again.Given as goal
 
 abbrev pub invariant-loop-later_slave : goal.invariant-loop-later_slave
 invariant-loop-later_slave g l =
-    HasNoneBelow (6 ∷ l.first.slave ∷ l.first.number ∷ []) (controllers_by g.S.Mapped.controller l.line) l.later_slave
+    HasNoneBelow (twice_read_rule ∷ l.first.slave ∷ l.first.number ∷ [])
+    (controllers_by g.S.Mapped.controller l.line) l.later_slave

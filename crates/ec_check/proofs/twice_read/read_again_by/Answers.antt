@@ -1,5 +1,6 @@
 use Rattle.std.proofs.Common.{[], ◌∷◌, below_more, arith}
 use Rattle.std.proofs.lemmas.Result.{err_from_is_err_and}
+use Rattle.ec_check.specs.Fit.{twice_read_rule}
 use Rattle.ec_check.specs.Line.{controllers_by}
 use Rattle.ec_check.proofs.SearchLemmas.{IsFirstOf-shorter, HasNone-all}
 use Rattle.ec_check.proofs.ReadLemmas.{read_again_by_go_on, HasNone-read}
@@ -18,7 +19,8 @@ pub returns-in_err-compare_read : goal.returns-in_err-compare_read
 returns-in_err-compare_read g c =
     let p = err_from_is_err_and c.from_residual.result c.from_residual.ensures.1 in
     rw (p.1, p.2)
-    (IsFirstOf-shorter (6 ∷ c.args.first.now.slave ∷ c.args.first.now.number ∷ c.args.later_slave ∷ [])
+    (IsFirstOf-shorter
+    (twice_read_rule ∷ c.args.first.now.slave ∷ c.args.first.now.number ∷ c.args.later_slave ∷ [])
     (controllers_by g.S.Mapped.controller c.args.line.now) c.loop-later_fmmu.later_fmmu _
     c.loop-later_fmmu.invariant c.in_err-compare_read.ensures)
 
@@ -26,7 +28,7 @@ pub returns : goal.returns
 returns g c =
     let line = controllers_by g.S.Mapped.controller c.args.line.now in
     HasNone-all
-    (6 ∷ c.args.first.now.slave ∷ c.args.first.now.number ∷ c.args.later_slave ∷ []) line
+    (twice_read_rule ∷ c.args.first.now.slave ∷ c.args.first.now.number ∷ c.args.later_slave ∷ []) line
     c.loop-later_fmmu.later_fmmu c.loop-later_fmmu.invariant
     (read_again_by_go_on line c.args.first.now.slave c.args.first.now.number c.args.later_slave
     c.loop-later_fmmu.later_fmmu (omega arith))

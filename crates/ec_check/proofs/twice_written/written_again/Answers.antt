@@ -1,5 +1,6 @@
 use Rattle.std.proofs.Common.{[], ◌∷◌, below_more, arith, ◌<◌}
 use Rattle.std.proofs.lemmas.Result.{err_from_is_err_and}
+use Rattle.ec_check.specs.Fit.{twice_written_rule}
 use Rattle.ec_check.specs.Line.{controllers_by}
 use Rattle.ec_check.proofs.SearchLemmas.{IsFirstOf-shorter, HasNone-all}
 use Rattle.ec_check.proofs.WrittenLemmas.{written_again_go_on, HasNone-written}
@@ -17,7 +18,7 @@ pub returns-in_err-compare_written : goal.returns-in_err-compare_written
 returns-in_err-compare_written g c =
     let p = err_from_is_err_and c.from_residual.result c.from_residual.ensures.1 in
     rw (p.1, p.2)
-    (IsFirstOf-shorter (5 ∷ c.args.slave ∷ c.args.fmmu ∷ [])
+    (IsFirstOf-shorter (twice_written_rule ∷ c.args.slave ∷ c.args.fmmu ∷ [])
     (controllers_by g.S.Mapped.controller c.args.line.now) c.loop-later_fmmu.later_fmmu _
     c.loop-later_fmmu.invariant c.in_err-compare_written.ensures)
 
@@ -25,5 +26,6 @@ pub returns : goal.returns
 returns g c =
     let line = controllers_by g.S.Mapped.controller c.args.line.now in
     HasNone-all
-    (5 ∷ c.args.slave ∷ c.args.fmmu ∷ []) line c.loop-later_fmmu.later_fmmu c.loop-later_fmmu.invariant
+    (twice_written_rule ∷ c.args.slave ∷ c.args.fmmu ∷ []) line
+    c.loop-later_fmmu.later_fmmu c.loop-later_fmmu.invariant
     (written_again_go_on line c.args.slave c.args.fmmu c.loop-later_fmmu.later_fmmu (omega arith))

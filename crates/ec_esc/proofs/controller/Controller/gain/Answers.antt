@@ -4,11 +4,5 @@ use Rattle.ec_esc.proofs.controller.Controller.gain.Goals as goal
 
 pub returns-clause-value : goal.returns-clause-value
 returns-clause-value c =
-    rw (
-      c.counted.ensures.value,
-      c.counted-2.ensures.value,
-      c.reads_at-is_read.ensures,
-      c.writes_at-is_written.ensures,
-      c.write_gain.ensures.value,
-    )
+    rw (c.gained.ensures.value, c.reads_at-is_read.ensures, c.writes_at-is_written.ensures)
     (sym (gain-effect c.args.command c.args.self.now c.args.address c.args.count))
