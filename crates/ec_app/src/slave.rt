@@ -93,14 +93,9 @@ impl Slave {
           simple = true;
         }) }
     {
-        Ok(Slave {
-            controller: Controller::new(alloc, station)?,
-            objects,
-            kept: None,
-            out_length: out_len,
-            in_length: in_len,
-            simple: true,
-        })
+        let mut slave = Slave::new(alloc, station, objects, out_len, in_len)?;
+        slave.simple = true;
+        Ok(slave)
     }
 
     /// The controller, by which the master reaches the slave.

@@ -30,7 +30,8 @@ use Rattle.ec_areas.proofs.Laws.{read_map_mapped, reads_some_mapped, write_map_m
 use Rattle.ec_areas.proofs.Laws.{written_byte_mapped}
 use Rattle.ec_regs.specs.AddressRange.{within}
 use Rattle.ec_esc.specs.Pass.{is_written, written_places}
-use Rattle.ec_esc.specs.Planned.{AreUsed, ChangesWithin}
+use Rattle.ec_esc.specs.Reached.{AreUsed}
+use Rattle.ec_esc.specs.Renewal.{ChangesWithin}
 use Rattle.ec_esc.specs.State.{NamesState, with_run}
 use Rattle.ec_esc.proofs.ApplicationLemmas.{length-with_run, get_or-with_run_before, get_or-with_run_behind}
 use Rattle.ec_esc.proofs.ApplicationLemmas.{get_or-with_run_inside}

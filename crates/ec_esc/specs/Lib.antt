@@ -3,4 +3,6 @@ pub mod Writing
 pub mod Pass
 pub mod Application
 pub mod Planned
+pub mod Renewal
+pub mod Reached
 pub mod Place

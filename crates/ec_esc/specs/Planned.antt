@@ -1,11 +1,11 @@
 -- A controller keeps the records of its memory decoded (IEC 61158-4-12, register layout), and its AL status
--- names a state (IEC 61158-6-12, AL status); and where a write changes the memory.
-use Rattle.std.specs.Prelude.{◌≡◌, ◌⊎◌, ℕ, Bool, true, take, ◌+◌, ◌<◌, ◌≤◌, List, length, slice_index}
+-- names a state (IEC 61158-6-12, AL status).
+use Rattle.std.specs.Prelude.{◌≡◌, ℕ, Bool, true, List, length}
 use Rattle.ec_regs.specs.declared.fmmu.Fmmu.{Fmmu}
 use Rattle.ec_regs.specs.declared.registers.TheConstants.{MEMORY_SIZE}
 use Rattle.ec_regs.specs.declared.sync_man.SyncMan.{SyncMan}
 use Rattle.ec_areas.specs.declared.extent.Extent.{Extent}
-use Rattle.ec_areas.specs.Extent.{extent_of, mapped_count}
+use Rattle.ec_areas.specs.Extent.{extent_of}
 use Rattle.ec_areas.specs.Records.{fmmus_of, sync_managers_of}
 use Rattle.ec_esc.specs.State.{NamesState}
 
@@ -19,13 +19,3 @@ pub record IsPlanned
   pub extent_is : is_surveyed ≡ true → extent ≡ extent_of fmmus
   pub managers_are : managers ≡ sync_managers_of memory
   pub status : NamesState memory
-
--- of these FMMUs those need be looked at: all of them, or those up to the last that maps a bit
-abbrev pub AreUsed : List Fmmu → List Fmmu → Type 0
-AreUsed fmmus few = (few ≡ take (mapped_count fmmus) fmmus) ⊎ (few ≡ fmmus)
-
--- two memories of one length whose bytes are the same but for some of the n from an address on
-pub record ChangesWithin (from n : ℕ) (before after : List ℕ) : Type 0 where
-  pub size : length after ≡ length before
-  pub front : (a : ℕ) → a < from → slice_index after a ≡ slice_index before a
-  pub behind : (a : ℕ) → from + n ≤ a → slice_index after a ≡ slice_index before a

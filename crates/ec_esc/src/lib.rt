@@ -4,10 +4,11 @@
 //!
 //! A `Controller` is its memory, the bytes that its application is shown, and a mark that AL control was
 //! written. It keeps the FMMUs and sync managers of the memory decoded (`planned`), so that no datagram
-//! decodes them, and what the FMMUs reach all together, found when a frame comes, so that a datagram that
-//! reaches none of them costs little; and its AL status always names a state. One use, which `esc/door.rt` of
-//! `ec_controller_tests` tries; `INPUTS` and `READ` of `esc.rt` are the records of an area of one byte and of
-//! an FMMU that maps it, and `sent` is an LRD of that byte:
+//! decodes them: a write decodes anew those of which it changes a byte (`renewal`). It keeps what the FMMUs
+//! reach all together, found when a frame comes, so that a datagram that reaches none of them costs little
+//! (`reached`); and its AL status always names a state. One use, which `esc/door.rt` of `ec_controller_tests`
+//! tries; `INPUTS` and `READ` of `esc.rt` are the records of an area of one byte and of an FMMU that maps it,
+//! and `sent` is an LRD of that byte:
 //!
 //! ```text
 //! let mut slave = Controller::new(rt.alloc(), 0x1001)?;
@@ -44,7 +45,9 @@ mod mailbox;
 mod physical;
 mod planned;
 mod process;
+mod reached;
 mod reading;
+mod renewal;
 mod showing;
 mod writing;
 

@@ -1,54 +1,34 @@
 //! A controller's memory with the records in it decoded (IEC 61158-4-12, register layout). Each datagram asks
-//! for FMMUs and sync managers, so a record is decoded once: when a byte of it changes. What the FMMUs reach
-//! all together is found when the next frame comes. AL status is written as a status alone, so it always
-//! names a state.
+//! for FMMUs and sync managers, so a record is decoded once: when a byte of it changes. AL status is written
+//! as a status alone, so it always names a state.
 
-ghost use Rattle.std.specs.Prelude.{◌≡◌, ◌≢◌, ◌==◌, ◌+◌, ◌*◌, ◌%◌, ◌<◌, ◌≤◌, ◌&&◌, nat_lt, ℕ, List, [], ◌∷◌};
-ghost use Rattle.std.specs.Prelude.{IfOk, IsTrue, Some, true, false, ◌⊎◌, if◌then◌else◌, length};
+ghost use Rattle.std.specs.Prelude.{◌≡◌, ◌≢◌, ◌==◌, ◌+◌, ◌%◌, ◌<◌, ◌≤◌, ℕ, List, [], ◌∷◌};
+ghost use Rattle.std.specs.Prelude.{IfOk, Some, true, false, if◌then◌else◌, length};
 ghost use Rattle.std.specs.Prelude.{slice_index, slice_set};
 ghost use Rattle.ec_regs.specs.Al.{state_of, status_byte, status_of};
 ghost use Rattle.ec_regs.specs.Bits.{AreBytes, with_bits};
 ghost use Rattle.ec_regs.specs.declared.registers.TheConstants.{AL_STATUS, MEMORY_SIZE};
-ghost use Rattle.ec_regs.specs.declared.registers.TheConstants.{PROCESS_MEMORY};
-ghost use Rattle.ec_regs.specs.declared.registers.TheConstants.{FMMU_COUNT, SYNC_MANAGER_COUNT};
-ghost use Rattle.ec_regs.specs.SyncMan.{guards_outputs};
-ghost use Rattle.ec_areas.specs.Apart.{are_apart};
-ghost use Rattle.ec_areas.specs.Extent.{extent_of, mapped_count};
-ghost use Rattle.ec_areas.specs.Logical.{read_places, reads_some, writes_some};
-ghost use Rattle.ec_areas.specs.Logical.{write_map, target_places, names};
-ghost use Rattle.ec_areas.specs.Records.{fmmus_of, sync_manager_at, sync_managers_of};
-ghost use Rattle.ec_areas.specs.Showing.{last_byte};
+ghost use Rattle.ec_areas.specs.Records.{fmmus_of, sync_managers_of};
 ghost use Rattle.ec_esc.specs.Pass.{range_sources, written_places};
-ghost use Rattle.ec_esc.specs.Planned.{AreUsed, ChangesWithin};
 ghost use Rattle.ec_esc.specs.State.{with_run};
-ghost use Rattle.ec_esc.specs.Writing.{reaches_byte};
 
-use crate::process::are_bytes;
+use crate::renewal::{renew_fmmus, renew_managers};
 use crate::writing::{swap_run, write_run};
-use ec_areas::{
-    Extent, are_apart, extent_of, fmmu_at, fmmus_of, read_mapped, sync_manager_at,
-    sync_managers_of, write_mapped, writes_outputs,
-};
-use ec_regs::registers::{
-    AL_STATUS, FMMU_BASE, FMMU_COUNT, FMMU_SIZE, SYNC_MANAGER_BASE, SYNC_MANAGER_COUNT,
-    SYNC_MANAGER_SIZE,
-};
-use ec_regs::{
-    AddressRange, AlState, AlStatus, Fmmus, Memory, NoMemory, PlannedFmmu, PlannedSyncMan,
-    SyncManagers,
-};
+use ec_areas::{Extent, extent_of, fmmus_of, sync_managers_of};
+use ec_regs::registers::AL_STATUS;
+use ec_regs::{AddressRange, AlState, AlStatus, Fmmus, Memory, NoMemory, SyncManagers};
 use std::alloc::Global;
 use std::marker::Model;
 
 /// The memory of a controller and the records in it. Contracts see the list of its bytes.
 #[derive(Drop)]
 pub(crate) struct PlannedMemory {
-    memory: Memory,
-    fmmus: Fmmus,
-    managers: SyncManagers,
-    extent: Extent,
+    pub(crate) memory: Memory,
+    pub(crate) fmmus: Fmmus,
+    pub(crate) managers: SyncManagers,
+    pub(crate) extent: Extent,
     /// Is the extent that of the FMMUs? It may not be once a byte of a record was written.
-    is_surveyed: bool,
+    pub(crate) is_surveyed: bool,
 }
 
 impl Model for PlannedMemory {
@@ -60,78 +40,6 @@ impl Model for PlannedMemory {
     ghost view = { λ m. m.memory };
 
     ghost invariant = { λ m. IsPlanned m.memory m.fmmus m.extent m.is_surveyed m.managers };
-}
-
-/// The records of all FMMUs.
-const FMMU_RECORDS: AddressRange = AddressRange {
-    first: FMMU_BASE,
-    count: FMMU_SIZE * FMMU_COUNT as u16,
-};
-
-/// The records of all sync managers.
-const SYNC_MANAGER_RECORDS: AddressRange = AddressRange {
-    first: SYNC_MANAGER_BASE,
-    count: SYNC_MANAGER_SIZE * SYNC_MANAGER_COUNT as u16,
-};
-
-/// The record of the FMMU with a number.
-fn fmmu_record(number: usize) -> AddressRange
-    requires { number < FMMU_COUNT }
-    ensures { result ≡ record { first = FMMU_BASE + FMMU_SIZE * number; count = FMMU_SIZE } }
-{
-    AddressRange {
-        first: FMMU_BASE + FMMU_SIZE * number as u16,
-        count: FMMU_SIZE,
-    }
-}
-
-/// The record of the sync manager with a number.
-fn sync_manager_record(number: usize) -> AddressRange
-    requires { number < SYNC_MANAGER_COUNT }
-    ensures { result
-        ≡ record { first = SYNC_MANAGER_BASE + SYNC_MANAGER_SIZE * number; count = SYNC_MANAGER_SIZE } }
-{
-    AddressRange {
-        first: SYNC_MANAGER_BASE + SYNC_MANAGER_SIZE * number as u16,
-        count: SYNC_MANAGER_SIZE,
-    }
-}
-
-/// Decodes each FMMU of whose record a byte lies in the range that was written; the others stay. Where there
-/// is such a byte, what they reach all together is no longer known.
-fn renew_fmmus(fmmus: &mut Fmmus, is_surveyed: &mut bool, memory: &[u8], written: AddressRange)
-    requires { length memory.now ≡ MEMORY_SIZE }
-    ensures fmmus { (before : List ℕ) → fmmus.old ≡ fmmus_of before
-        → ChangesWithin written.first written.count before memory.now → fmmus.new ≡ fmmus_of memory.now }
-    ensures surveyed { IsTrue is_surveyed.new
-        → (is_surveyed.old ≡ true) × (fmmus.new ≡ fmmus.old) }
-{
-    if !FMMU_RECORDS.meets(&written) {
-        return;
-    }
-    *is_surveyed = false;
-    for number in 0..FMMU_COUNT {
-        if fmmu_record(number).meets(&written) {
-            fmmus[number] = PlannedFmmu::new(fmmu_at(memory, number));
-        }
-    }
-}
-
-/// Decodes each sync manager of whose record a byte lies in the range that was written; the others stay.
-fn renew_managers(managers: &mut SyncManagers, memory: &[u8], written: AddressRange)
-    requires { length memory.now ≡ MEMORY_SIZE }
-    ensures { (before : List ℕ) → managers.old ≡ sync_managers_of before
-        → ChangesWithin written.first written.count before memory.now
-        → managers.new ≡ sync_managers_of memory.now }
-{
-    if !SYNC_MANAGER_RECORDS.meets(&written) {
-        return;
-    }
-    for number in 0..SYNC_MANAGER_COUNT {
-        if sync_manager_record(number).meets(&written) {
-            managers[number] = PlannedSyncMan::new(sync_manager_at(memory, number));
-        }
-    }
 }
 
 impl PlannedMemory {
@@ -177,84 +85,6 @@ impl PlannedMemory {
         ensures { result.now ≡ fmmus_of self.now }
     {
         &self.fmmus
-    }
-
-    /// Does the master write through no FMMU any bit of the `count` bytes from the logical byte `address` on?
-    /// Most slaves on a line are asked so by most writes; a look at the hull of what is written tells it.
-    pub(crate) fn writes_elsewhere(&self, address: u32, count: usize) -> bool
-        ensures { IsTrue result → writes_some (sync_managers_of self.now) (fmmus_of self.now)
-            (8 * address) (8 * count) ≡ false }
-    {
-        self.is_surveyed && self.extent.writes.misses(address, count)
-    }
-
-    /// Does the master read through no FMMU any bit of the `count` bytes from the logical byte `address` on?
-    fn reads_elsewhere(&self, address: u32, count: usize) -> bool
-        ensures { IsTrue result → reads_some (sync_managers_of self.now) (fmmus_of self.now)
-            (8 * address) (8 * count) ≡ false }
-    {
-        self.is_surveyed && self.extent.reads.misses(address, count)
-    }
-
-    /// Finds what the FMMUs reach all together, where a record was written since it was found last.
-    pub(crate) fn survey(&mut self)
-        ensures { self.new ≡ self.old }
-    {
-        if !self.is_surveyed {
-            self.extent = extent_of(&self.fmmus);
-            self.is_surveyed = true;
-        }
-    }
-
-    /// How many FMMUs need be looked at: those up to the last that maps a bit, or all.
-    fn used_count(&self) -> usize
-        ensures count { (result ≡ mapped_count (fmmus_of self.now)) ⊎ (result ≡ FMMU_COUNT) }
-        ensures limit { result ≤ FMMU_COUNT }
-    {
-        if self.is_surveyed {
-            self.extent.count
-        } else {
-            FMMU_COUNT
-        }
-    }
-
-    /// The FMMUs that need be looked at.
-    fn used_fmmus(&self) -> &[PlannedFmmu]
-        ensures { AreUsed (fmmus_of self.now) result.now }
-    {
-        let count = self.used_count();
-        &self.fmmus[..count]
-    }
-
-    /// Does the sync manager with a number guard outputs, and does a write of `count` bytes at the logical
-    /// byte `address` reach the last of their bytes? Then they are handed over to the application.
-    pub(crate) fn hands_over(&self, number: usize, address: u32, count: usize) -> bool
-        requires { number < SYNC_MANAGER_COUNT }
-        ensures value { result ≡ (guards_outputs (sync_manager_at self.now number)
-            && reaches_byte self.now address count (last_byte (sync_manager_at self.now number))) }
-        ensures from { IsTrue result → PROCESS_MEMORY ≤ (sync_manager_at self.now number).start }
-        ensures to { IsTrue result → (sync_manager_at self.now number).start
-            + (sync_manager_at self.now number).length ≤ MEMORY_SIZE }
-    {
-        let managers = &self.managers[..];
-        writes_outputs(
-            managers,
-            self.used_fmmus(),
-            address,
-            count,
-            &managers[number],
-        )
-    }
-
-    /// Has no FMMU for reading a physical bit in common with one for writing?
-    pub(crate) fn is_apart(&self) -> bool
-        ensures { result ≡ are_apart (fmmus_of self.now) }
-    {
-        if self.is_surveyed {
-            self.extent.is_apart
-        } else {
-            are_apart(&self.fmmus)
-        }
     }
 
     /// All sync managers, by number.
@@ -355,37 +185,5 @@ impl PlannedMemory {
         let bytes = self.memory.bytes();
         renew_fmmus(&mut self.fmmus, &mut self.is_surveyed, bytes, written);
         renew_managers(&mut self.managers, bytes, written);
-    }
-
-    /// Fills the bits of the data that a read reaches, and says whether there is one; all others stay. The
-    /// first data byte stands at the logical byte `address`.
-    pub(crate) fn read_mapped(&self, address: u32, into: &mut [u8]) -> bool
-        ensures bits { into.new ≡ with_bits into.old self.now
-            (read_places (sync_managers_of self.now) (fmmus_of self.now) (8 * address)) }
-        ensures served { result ≡ reads_some
-            (sync_managers_of self.now) (fmmus_of self.now) (8 * address) (8 * length into.old) }
-    {
-        are_bytes(into);
-        if self.reads_elsewhere(address, into.len()) {
-            return false;
-        }
-        let memory = self.memory.bytes();
-        read_mapped(&self.managers, self.used_fmmus(), memory, address, into)
-    }
-
-    /// Writes the data to the physical bits of all FMMUs, of which a later one prevails, and says whether
-    /// there is such a bit; all else stays. The first data byte stands at the logical byte `address`. FMMUs
-    /// reach no register, so the records stay as they were decoded.
-    pub(crate) fn write_mapped(&mut self, address: u32, payload: &[u8]) -> bool
-        requires { AreBytes self.old }
-        ensures bits { self.new ≡ with_bits self.old payload.now (write_map
-            (sync_managers_of self.old) (fmmus_of self.old) (8 * address) (8 * length payload.now)) }
-        ensures served { result ≡ names (target_places
-            (sync_managers_of self.old) (fmmus_of self.old) (8 * address)) (8 * length payload.now) }
-        ensures size { length self.new ≡ MEMORY_SIZE }
-    {
-        let count = self.used_count();
-        let fmmus = &self.fmmus[..count];
-        write_mapped(&self.managers, fmmus, &mut self.memory, address, payload)
     }
 }

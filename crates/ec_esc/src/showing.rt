@@ -38,7 +38,7 @@ impl Controller {
     {
         // The sizes of memory and shown bytes are known of a controller of which a field is read.
         let _memory = &self.memory;
-        for i in 0..8usize {
+        for i in 0..SYNC_MANAGER_COUNT {
             let area = &after[i];
             if hands_over(&before[i], area, last_written[i]) {
                 self.show_area(&area.manager());

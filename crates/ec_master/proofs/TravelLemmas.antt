@@ -1,7 +1,7 @@
 -- What is left of a work's frames to travel over a ring comes to, once the first of them has come back.
 use Rattle.std.proofs.Common.{◌≡◌, ℕ, zero, suc, true, false, cond, ◌+◌, ◌<◌, ◌≤◌, ◌∙◌, ap, sym, refl, subst}
 use Rattle.std.proofs.Common.{arith, suc-add, zero-add}
-use Rattle.std.proofs.Common.{List, [], ◌∷◌, ◌++◌, length, drop, slice_index_or, length-append, length-drop}
+use Rattle.std.proofs.Common.{List, [], ◌∷◌, ◌++◌, length, drop, length-append, length-drop}
 use Rattle.std.specs.List.{AllByRecursion}
 use Rattle.std.proofs.lemmas.List.{drop-drop, get_or-drop, drop_all}
 use Rattle.ec_regs.proofs.Laws.{each-front, each-drop}
@@ -26,7 +26,7 @@ use Rattle.ec_ring.proofs.Laws.{length-front_pass, length-back_pass, line-betwee
 use Rattle.ec_ring.proofs.Laws.{with_controllers-controllers, length-controllers}
 use Rattle.ec_master.specs.Cut.{concat, entry_of, entries_from, cut, filled, frame_at, IsFrameOf}
 use Rattle.ec_master.specs.Travelled.{trips_of, run_under, answers_under}
-use Rattle.ec_ring.specs.Weather.{calm}
+use Rattle.ec_master.specs.WeatherTrips.{behind_next, next_weather}
 use Rattle.ec_master.specs.Work.{with_answer, with_answers, with_answers_at, no_item, nth_item}
 use Rattle.ec_master.proofs.CutLemmas.{rest_of, cut_onto-filled, filled-whole, entries-cons, entries-split}
 use Rattle.ec_master.proofs.CutLemmas.{first_or, behind, length-entries, filled-some}
@@ -63,16 +63,12 @@ cut-frame_at k items inside =
 
 -- ---- weathers
 
--- the weather of the first frame
-pub first_weather : List Weather → Links → Weather
-first_weather [] links = calm links
-first_weather (w ∷ ws) links = w
-
-pub trips_of-first : (ws : List Weather) (links : Links) (n : ℕ) (f : List Entry) (fs : List (List Entry))
-    → trips_of ws links n (f ∷ fs) ≡ trip_of (first_weather ws links) f n ∷ trips_of (drop 1 ws) links n fs
-unfolding trips_of first_weather
-trips_of-first [] links n f fs = refl
-trips_of-first (w ∷ ws) links n f fs = refl
+-- the trips of frames, the first one under the next weather
+pub trips-next : (ws : List Weather) (links : Links) (n : ℕ) (f : List Entry) (fs : List (List Entry))
+    → trips_of ws links n (f ∷ fs) ≡ trip_of (next_weather ws links) f n ∷ trips_of (behind_next ws) links n fs
+unfolding trips_of
+trips-next [] links n f fs = refl
+trips-next (w ∷ ws) links n f fs = refl
 
 -- ---- answers that come frame by frame
 
@@ -120,32 +116,32 @@ finished ws links n k items line =
 
 pub finished-next : (ws : List Weather) (links : Links) (n k : ℕ) (items : List ItemRecord)
     (line : List ControllerState) → k < length items
-    → let t = trip_of (first_weather ws links) (frame_at k items) n in let p = passed t line in let joined =
+    → let t = trip_of (next_weather ws links) (frame_at k items) n in let p = passed t line in let joined =
     joined_of t p
     in length joined ≡ length (frame_at k items)
     → finished ws links n k items line
-    ≡ finished (drop 1 ws) links n (k + length joined) (with_answers_at k items joined) p.line
+    ≡ finished (behind_next ws) links n (k + length joined) (with_answers_at k items joined) p.line
 unfolding finished trips_run
 finished-next ws links n k items line inside count =
     let f : List Entry = frame_at k items in
-    let t : Trip = trip_of (first_weather ws links) f n in
+    let t : Trip = trip_of (next_weather ws links) f n in
     let p : Passed = passed t line in
     let joined : List DatagramRecord = joined_of t p in
     let m : ℕ = k + length f in
     let rest : TripsRun =
-    trips_run (trips_of (drop 1 ws) links n (cut (entries_from m (drop m items)))) p.line in
+    trips_run (trips_of (behind_next ws) links n (cut (entries_from m (drop m items)))) p.line in
     ap (λ (fs : List (List Entry)). of_run k items (trips_run (trips_of ws links n fs) line))
     (cut-frame_at k items inside)
     ∙ ap (λ (ts : List Trip). of_run k items (trips_run ts line))
-    (trips_of-first ws links n f (cut (entries_from m (drop m items))))
+    (trips-next ws links n f (cut (entries_from m (drop m items))))
     ∙ ap (λ (rs : List ItemRecord). record { work = rs; line = rest.line })
     (with_answers_at-more k items joined (concat rest.joined))
     ∙ ap (λ (i : ℕ).
     of_run (k + length joined) (with_answers_at k items joined)
-    (trips_run (trips_of (drop 1 ws) links n (cut (entries_from i (drop i items)))) p.line))
+    (trips_run (trips_of (behind_next ws) links n (cut (entries_from i (drop i items)))) p.line))
     (ap (λ (i : ℕ). k + i) (sym count))
     ∙ ap (λ (rs : List ItemRecord). of_run (k + length joined) (with_answers_at k items joined)
-    (trips_run (trips_of (drop 1 ws) links n (cut (entries_from (k + length joined) rs))) p.line))
+    (trips_run (trips_of (behind_next ws) links n (cut (entries_from (k + length joined) rs))) p.line))
     (sym (drop-with_answers_at k items joined))
 
 -- ---- sizes
@@ -296,16 +292,6 @@ pub finished-all : (ws : List Weather) (r : RingState) (items : List ItemRecord)
     ≡ record { work = with_answers items (answers_under ws r items); line = (run_under ws r items).line }
 unfolding finished
 finished-all ws r items = refl
-
--- ---- weathers by number
-
-pub weather_at : (ws : List Weather) (links : Links) (k : ℕ)
-    → first_weather (drop k ws) links ≡ slice_index_or ws k (calm links)
-unfolding first_weather
-weather_at [] links zero = refl
-weather_at [] links (suc k) = refl
-weather_at (w ∷ ws) links zero = refl
-weather_at (w ∷ ws) links (suc k) = weather_at ws links k
 
 -- ---- the ring between frames
 

@@ -1,6 +1,6 @@
 -- Frames go out over a ring in weathers, each under its own: what comes back is what the ring's trips give.
-use Rattle.std.proofs.Common.{◌≡◌, ◌+◌, ◌∙◌, ℕ, zero, suc, refl, sym, ap, subst, inl, add-one, arith}
-use Rattle.std.proofs.Common.{List, [], ◌∷◌, drop, map, length, Ok, Err}
+use Rattle.std.proofs.Common.{◌≡◌, ◌∙◌, ℕ, refl, sym, ap, subst, inl, arith}
+use Rattle.std.proofs.Common.{List, [], ◌∷◌, map, length, Ok, Err}
 use Rattle.std.specs.Prelude.{Result}
 use Rattle.std.specs.List.{AllByRecursion}
 use Rattle.ec_esc.specs.State.{ControllerState}
@@ -20,27 +20,11 @@ use Rattle.ec_master.specs.Cut.{frames_of}
 use Rattle.ec_master.specs.Given.{AllThatCame}
 use Rattle.ec_master.specs.Suffice.{Brings, GivenBy, AllGivenBy}
 use Rattle.ec_master.specs.Travelled.{trips_of}
-use Rattle.ec_master.specs.WeatherTrips.{InWeather, WeatherTrips, next_weather, behind_next}
+use Rattle.ec_master.specs.WeatherTrips.{InWeather, WeatherTrips, next_weather}
 use Rattle.ec_master.proofs.CarryLemmas.{travelled-frame}
 use Rattle.ec_master.proofs.JudgedLemmas.{Sent, frames-sent}
 use Rattle.ec_master.proofs.TravelLemmas.{IsLaterRing, later_ring-start, later_ring-next, line-next}
-
-drop-next : (n : ℕ) (ws : List Weather) → drop (suc n) ws ≡ behind_next (drop n ws)
-drop-next zero [] = refl
-drop-next zero (w ∷ ws) = refl
-drop-next (suc n) [] = refl
-drop-next (suc n) (w ∷ ws) = drop-next n ws
-
-pub drop-behind : (n : ℕ) (ws : List Weather) → drop (n + 1) ws ≡ behind_next (drop n ws)
-drop-behind n ws = ap (λ (m : ℕ). drop m ws) (add-one n) ∙ drop-next n ws
-
--- the trips of frames, the first one under the next weather
-trips-next : (ws : List Weather) (r : RingState) (n : ℕ) (f : List Entry) (fs : List (List Entry))
-    → trips_of ws r.links n (f ∷ fs)
-    ≡ trip_of (next_weather ws r.links) f n ∷ trips_of (behind_next ws) r.links n fs
-unfolding trips_of
-trips-next [] r n f fs = refl
-trips-next (w ∷ ws) r n f fs = refl
+use Rattle.ec_master.proofs.TravelLemmas.{trips-next}
 
 -- what came of a frame is what a trip over the ring gives, and the ring behind it is the trip's
 record IsGiven (t : Trip) (now later : RingState) (came : Result Came PortFault) : Type 0 where
@@ -108,7 +92,7 @@ all_given (f ∷ fs) at_first before later (c ∷ more) is sent brings =
     (later_ring-next at_first before.ring between.ring t is here.ring) sent.1 brings.2 in
     let next : line_of between.ring ≡ (passed t line).line = line-next before.ring between.ring t here.ring in
     record {
-      gives = subst (λ (ts : List Trip). AllGivenBy ts line (c ∷ more)) (sym (trips-next ws at_first n f fs)) (
+      gives = subst (λ (ts : List Trip). AllGivenBy ts line (c ∷ more)) (sym (trips-next ws links n f fs)) (
         here.gives,
         subst (λ (vs : List Weather). AllGivenBy (trips_of vs links n fs) (passed t line).line more)
             brings.1.ahead
@@ -121,7 +105,7 @@ all_given (f ∷ fs) at_first before later (c ∷ more) is sent brings =
           ∙ ap (λ (vs : List Weather). with_line at_first (trips_run (trips_of vs links n fs) (passed t line).line).line)
           brings.1.ahead
           ∙ ap (λ (ts : List Trip). with_line at_first (trips_run ts line).line)
-          (sym (trips-next ws at_first n f fs));
+          (sym (trips-next ws links n f fs));
     }
 
 -- of the frames of a work

@@ -42,8 +42,9 @@
 //! links change and items begin rounds ([`between`], [`step_slaves`](between::step_slaves)).
 //!
 //! Inside, `work` is what a master asks, and what answers give it; `cut` the frames that a work goes out in;
-//! `ring`, `weather` and `cycle` the three cycles; `ports` what the third goes out over; `verdict` what the
-//! counters say; `promises`, `certificate`, `moments` and `between` laws over any ring and weathers.
+//! `ring`, `weather` and `cycle` the three cycles; `ports` what the third goes out over; `weathers_ahead` the
+//! weathers of the frames that have not gone out; `verdict` what the counters say; `promises`, `certificate`,
+//! `moments` and `between` laws over any ring and weathers.
 //!
 //! What the contracts speak of stands in specs/: the cycle in no order (`Unordered`), what comes back of
 //! frames (`Travelled`), what counters say (`Verdict`, `Certificate`), what frames alone say (`Suffice`), and
@@ -66,6 +67,7 @@ pub mod shown;
 mod verdict;
 mod weather;
 mod weather_ports;
+mod weathers_ahead;
 mod work;
 
 pub use acceptance::{Refusal, accept, all_expected, checked_cycle};
@@ -80,4 +82,5 @@ pub use ring_ports::RingPorts;
 pub use verdict::Verdict;
 pub use weather::{weather_cycle, weather_cycle_in};
 pub use weather_ports::WeatherPorts;
+pub use weathers_ahead::WeathersAhead;
 pub use work::{Full, MAX_ITEMS, Work};

@@ -1,6 +1,6 @@
 //! A master's cycle over a ring.
 
-ghost use Rattle.std.specs.Prelude.{◌≡◌, ◌+◌, ◌<◌, ◌≤◌, ℕ, [], List, length, map, slice_index_or};
+ghost use Rattle.std.specs.Prelude.{◌≡◌, ◌+◌, ◌<◌, ◌≤◌, ℕ, [], List, length, map};
 ghost use Rattle.std.specs.List.{AllByRecursion};
 ghost use Rattle.ec_wire.specs.Datagram.{nth};
 ghost use Rattle.ec_line.specs.After.{Entry};
@@ -13,7 +13,6 @@ ghost use Rattle.ec_master.specs.Cut.{IsFrameOf, frame_at};
 ghost use Rattle.ec_master.specs.Work.{with_answers, nth_item};
 ghost use Rattle.ec_master.specs.declared.work.TheConstants.{MAX_ITEMS};
 ghost use Rattle.ec_master.specs.Travelled.{answers_under, ring_under, AtMostOneDown, reached};
-ghost use Rattle.ec_ring.specs.Weather.{calm};
 ghost use Rattle.ec_master.specs.Travelled.{unreached};
 ghost use Rattle.ec_master.specs.Again.{AskTheSame};
 ghost use Rattle.ec_check.specs.Line.{controllers};
@@ -24,22 +23,12 @@ ghost use Rattle.ec_map.specs.Share.{expected_of};
 ghost use Rattle.ec_master.specs.Unordered.{station, by_station, IsCycle, IsAccepted};
 
 use crate::cut::frame_from;
+use crate::weathers_ahead::WeathersAhead;
 use crate::work::Work;
 use ec_map::fit_line;
 use ec_merge::join_frames;
-use ec_ring::{Links, Travel, Weather};
+use ec_ring::{Travel, Weather};
 use ec_wire::FrameBuf;
-
-/// The weather of a frame with a number: past the list of weathers the ring's own links.
-fn weather_of(weather: &[Weather], number: usize, links: Links) -> Weather
-    ensures { result ≡ slice_index_or weather.now number (calm links) }
-{
-    if number < weather.len() {
-        weather[number]
-    } else {
-        Weather::calm(links)
-    }
-}
 
 /// Sends a frame over a ring and joins what comes back. A ring makes no strangers, so the copies of a frame
 /// of items are always joined.
@@ -88,14 +77,13 @@ pub(crate) fn travel<T: Travel>(ring: &mut T, weather: &[Weather], work: &mut Wo
     ensures limit { length (T.ring ring.old).slaves ≤ MAX_SLAVES }
 {
     let links = ring.links();
+    let mut ahead = WeathersAhead::new(weather);
     let mut first = 0;
-    let mut number = 0;
     while first < work.len() {
-        let under = weather_of(weather, number, links);
+        let under = ahead.take_next(links);
         let joined = exchange(ring, &under, work, first);
         work.take_answers(first, &joined);
         first += joined.count();
-        number += 1;
     }
 }
 

@@ -1,9 +1,10 @@
 //! A ring of simulated slaves in weathers as the ports of a master.
 
-ghost use Rattle.std.specs.Prelude.{◌≡◌, drop};
-ghost use Rattle.ec_master.specs.WeatherTrips.{WeatherTrips, next_weather, behind_next};
+ghost use Rattle.std.specs.Prelude.{◌≡◌};
+ghost use Rattle.ec_master.specs.WeatherTrips.{WeatherTrips};
 
 use crate::ports::Ports;
+use crate::weathers_ahead::WeathersAhead;
 use ec_ring::{Came, PortFault, Ring, Travel, Weather};
 use ec_wire::FrameBuf;
 use std::marker::Model;
@@ -14,17 +15,15 @@ use std::marker::Model;
 #[derive(Drop)]
 pub struct WeatherPorts<'a> {
     ring: Ring,
-    weathers: &'a [Weather],
-    sent: usize,
+    ahead: WeathersAhead<'a>,
 }
 
 impl<'a> Model for WeatherPorts<'a> {
-    ghost use Rattle.std.specs.Prelude.{drop};
     ghost use Rattle.ec_master.specs.WeatherTrips.{InWeather};
 
     ghost Value = { InWeather };
 
-    ghost view = { λ p. record { ring = p.ring; ahead = drop p.sent p.weathers.now } };
+    ghost view = { λ p. record { ring = p.ring; ahead = p.ahead } };
 }
 
 impl<'a> WeatherPorts<'a> {
@@ -35,8 +34,7 @@ impl<'a> WeatherPorts<'a> {
     {
         WeatherPorts {
             ring,
-            weathers,
-            sent: 0,
+            ahead: WeathersAhead::new(weathers),
         }
     }
 
@@ -53,26 +51,6 @@ impl<'a> WeatherPorts<'a> {
     {
         self.ring
     }
-
-    /// The weather of the next frame.
-    fn next(&self) -> Weather
-        ensures { result ≡ next_weather self.now.ahead self.now.ring.links }
-    {
-        match self.weathers.get(self.sent) {
-            Some(weather) => *weather,
-            None => Weather::calm(self.ring.links()),
-        }
-    }
-
-    /// The next frame has gone out.
-    fn pass(&mut self)
-        ensures ring { self.new.ring ≡ self.old.ring }
-        ensures ahead { self.new.ahead ≡ behind_next self.old.ahead }
-    {
-        if self.sent < self.weathers.len() {
-            self.sent += 1;
-        }
-    }
 }
 
 impl<'a> Ports for WeatherPorts<'a> {
@@ -81,10 +59,8 @@ impl<'a> Ports for WeatherPorts<'a> {
     ghost failed = { λ ports. 0 };
 
     fn trip(&mut self, sent: &FrameBuf) -> Result<Came, PortFault> {
-        let weather = self.next();
-        let came = self.ring.trip(sent, &weather);
-        self.pass();
-        Ok(came)
+        let weather = self.ahead.take_next(self.ring.links());
+        Ok(self.ring.trip(sent, &weather))
     }
 
     fn failures(&self) -> u64 {

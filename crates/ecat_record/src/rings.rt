@@ -1,11 +1,11 @@
 //! A ring whose copies are recorded as they leave the master's ports and as they arrive there.
-ghost use Rattle.std.specs.Prelude.{◌≡◌, drop};
-ghost use Rattle.ec_master.specs.WeatherTrips.{WeatherTrips, behind_next, next_weather};
+ghost use Rattle.std.specs.Prelude.{◌≡◌};
+ghost use Rattle.ec_master.specs.WeatherTrips.{WeatherTrips};
 ghost use Rattle.ecat_record.specs.Recorded.{in_weather};
 
 use crate::copies::{Recorder, Way};
 use crate::moments::Moments;
-use ec_master::Ports;
+use ec_master::{Ports, WeathersAhead};
 use ec_ring::{Arrival, Arrivals, Came, Links, Port, PortFault, Ring, Travel, Weather};
 use ec_wire::FrameBuf;
 use std::io::Write;
@@ -78,13 +78,16 @@ fn record_copy<W: Write, M: Moments>(
 #[derive(Drop)]
 pub struct TapedPorts<'t, 'w, W: Write, M: Moments> {
     ring: TapedRing<'t, W, M>,
-    weathers: &'w [Weather],
+    ahead: WeathersAhead<'w>,
 }
 
 impl<'t, 'w, W: Write, M: Moments> TapedPorts<'t, 'w, W, M> {
     /// The ports at both ends of a ring, over which frame i travels under weather i.
     pub fn new(ring: TapedRing<'t, W, M>, weathers: &'w [Weather]) -> TapedPorts<'t, 'w, W, M> {
-        TapedPorts { ring, weathers }
+        TapedPorts {
+            ring,
+            ahead: WeathersAhead::new(weathers),
+        }
     }
 
     /// The ring, as the trips have left it.
@@ -96,22 +99,14 @@ impl<'t, 'w, W: Write, M: Moments> TapedPorts<'t, 'w, W, M> {
 }
 
 impl<W: Write, M: Moments> Ports for TapedPorts<'_, '_, W, M> {
-    ghost trips = { λ old sent came new. WeatherTrips (in_weather old.ring.ring old.weathers.now) sent came
-        (in_weather new.ring.ring new.weathers.now) };
+    ghost trips = { λ old sent came new. WeatherTrips (in_weather old.ring.ring old.ahead) sent came
+        (in_weather new.ring.ring new.ahead) };
 
     ghost failed = { λ ports. 0 };
 
     fn trip(&mut self, sent: &FrameBuf) -> Result<Came, PortFault> {
-        let weather = match self.weathers {
-            [first, ..] => *first,
-            [] => Weather::calm(self.ring.ring.links()),
-        };
-        let came = self.ring.trip(sent, &weather);
-        self.weathers = match self.weathers {
-            [_, rest @ ..] => rest,
-            [] => self.weathers,
-        };
-        Ok(came)
+        let weather = self.ahead.take_next(self.ring.ring.links());
+        Ok(self.ring.trip(sent, &weather))
     }
 
     fn failures(&self) -> u64 {

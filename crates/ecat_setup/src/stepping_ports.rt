@@ -1,10 +1,9 @@
 //! A ring of simulated slaves in weathers as the ports of a service.
 
 ghost use Rattle.std.specs.Prelude.{◌≡◌};
-ghost use Rattle.ec_master.specs.WeatherTrips.{behind_next, next_weather};
 ghost use Rattle.ecat_setup.specs.SteppingTrips.{SteppingTrips};
 
-use ec_master::{PortFault, Ports};
+use ec_master::{PortFault, Ports, WeathersAhead};
 use ec_ring::{Came, Ring, Travel, Weather};
 use ec_wire::FrameBuf;
 use std::marker::Model;
@@ -16,7 +15,7 @@ use std::marker::Model;
 #[derive(Drop)]
 pub struct SteppingPorts<'a> {
     ring: Ring,
-    ahead: &'a [Weather],
+    ahead: WeathersAhead<'a>,
     made: u32,
 }
 
@@ -25,7 +24,7 @@ impl<'a> Model for SteppingPorts<'a> {
 
     ghost Value = { Stepping };
 
-    ghost view = { λ p. record { ring = p.ring; ahead = p.ahead.now; made = p.made } };
+    ghost view = { λ p. record { ring = p.ring; ahead = p.ahead; made = p.made } };
 }
 
 impl<'a> SteppingPorts<'a> {
@@ -37,7 +36,7 @@ impl<'a> SteppingPorts<'a> {
     {
         SteppingPorts {
             ring,
-            ahead: weathers,
+            ahead: WeathersAhead::new(weathers),
             made: 0,
         }
     }
@@ -48,22 +47,6 @@ impl<'a> SteppingPorts<'a> {
     {
         self.made
     }
-
-    /// The weather of the next frame, which is behind then.
-    fn take_weather(&mut self) -> Weather
-        ensures weather { result ≡ next_weather self.old.ahead self.old.ring.links }
-        ensures ring { self.new.ring ≡ self.old.ring }
-        ensures ahead { self.new.ahead ≡ behind_next self.old.ahead }
-        ensures made { self.new.made ≡ self.old.made }
-    {
-        match self.ahead {
-            [] => Weather::calm(self.ring.links()),
-            [first, rest @ ..] => {
-                self.ahead = rest;
-                *first
-            }
-        }
-    }
 }
 
 impl<'a> Ports for SteppingPorts<'a> {
@@ -72,7 +55,7 @@ impl<'a> Ports for SteppingPorts<'a> {
     ghost failed = { λ ports. 0 };
 
     fn trip(&mut self, sent: &FrameBuf) -> Result<Came, PortFault> {
-        let weather = self.take_weather();
+        let weather = self.ahead.take_next(self.ring.links());
         let came = self.ring.trip(sent, &weather);
         self.ring.step_all();
         self.made = self.made.saturating_add(1);

@@ -1,7 +1,5 @@
 -- One frame more has travelled; in the end none is left.
-use Rattle.std.proofs.Common.{◌≡◌, ℕ, ◌+◌, ◌∙◌, ◌<◌, ◌≤◌, ap, sym, refl, arith, length, drop, List}
-use Rattle.std.proofs.Common.{slice_index_or}
-use Rattle.std.proofs.lemmas.List.{drop-drop}
+use Rattle.std.proofs.Common.{◌≡◌, ℕ, ◌+◌, ◌∙◌, ◌<◌, ◌≤◌, ap, sym, arith, length, List}
 use Rattle.ec_wire.specs.Datagram.{DatagramRecord}
 use Rattle.ec_line.specs.Trip.{Trip, Passed, passed, joined_of}
 use Rattle.ec_ring.specs.Ring.{RingState, line_of, with_line}
@@ -11,19 +9,19 @@ use Rattle.ec_ring.specs.declared.weather.Weather.{Weather}
 use Rattle.ec_ring.proofs.Laws.{length-controllers}
 use Rattle.ec_master.specs.Cut.{frame_at}
 use Rattle.ec_master.specs.Work.{with_answers_at}
-use Rattle.ec_ring.specs.Weather.{calm}
+use Rattle.ec_master.specs.WeatherTrips.{behind_next, next_weather}
 use Rattle.ec_master.proofs.TravelLemmas.{Finished, finished, finished-next, finished-none, finished-all}
-use Rattle.ec_master.proofs.TravelLemmas.{first_weather, weather_at}
 use Rattle.ec_master.proofs.TravelLemmas.{later_ring-start, later_ring-next, line-next}
 use Rattle.ec_master.proofs.WorkLemmas.{length-with_answers_at}
 use Rattle.ec_master.proofs.ring.travel.Goals as goal
 
 pub loop-first-init : goal.loop-first-init
 loop-first-init g c = record {
-  left = refl;
+  left = ap (λ (ws : List Weather). finished ws (g.T.Travel.ring c.args.ring.now).links
+      (length (g.T.Travel.ring c.args.ring.now).slaves) 0 c.args.work.now (line_of (g.T.Travel.ring c.args.ring.now)))
+      c.new-ahead.ensures;
   ring = later_ring-start (g.T.Travel.ring c.args.ring.now);
   inside = omega arith;
-  number = omega arith;
 }
 
 pub overflow_add-first : goal.overflow_add-first
@@ -31,15 +29,6 @@ overflow_add-first g c =
     omega (
       arith,
       c.count-first.ensures.count,
-      c.exchange-joined.ensures.room,
-      c.exchange-joined.ensures.limit,
-    )
-
-pub overflow_add-number : goal.overflow_add-number
-overflow_add-number g c =
-    omega (
-      arith,
-      c.loop-first.invariant.number,
       c.exchange-joined.ensures.room,
       c.exchange-joined.ensures.limit,
     )
@@ -63,15 +52,12 @@ loop-first-preserved g c =
     let n : ℕ = length r0.slaves in
     let k : ℕ = c.loop-first.first in
     let items = c.loop-first.work in
-    let ws : List Weather = drop c.loop-first.number c.args.weather.now in
-    let t : Trip = trip_of (first_weather ws r0.links) (frame_at k items) n in
+    let ws : List Weather = c.loop-first.ahead in
+    let t : Trip = trip_of (next_weather ws r0.links) (frame_at k items) n in
     let places : length r.slaves ≡ n = sym (length-controllers r.slaves) ∙ c.loop-first.invariant.ring.size in
-    let weather : c.weather_of-under.result ≡ first_weather ws r0.links
-    = c.weather_of-under.ensures
-    ∙ ap (λ (l : Links). slice_index_or c.args.weather.now c.loop-first.number (calm l))
-    c.links-links.ensures.links
-    ∙ sym (weather_at c.args.weather.now r0.links c.loop-first.number) in
-    let same : trip_of c.weather_of-under.result (frame_at k items) (length r.slaves) ≡ t
+    let weather : c.take_next-under.result ≡ next_weather ws r0.links
+    = c.take_next-under.ensures.weather ∙ ap (λ (l : Links). next_weather ws l) c.links-links.ensures.links in
+    let same : trip_of c.take_next-under.result (frame_at k items) (length r.slaves) ≡ t
     = (λ i. trip_of (weather i) (frame_at k items) (places i)) in
     let p : Passed = passed t (line_of r) in
     let joined : c.exchange-joined.result ≡ joined_of t p
@@ -83,8 +69,7 @@ loop-first-preserved g c =
     let count : length (joined_of t p) ≡ length (frame_at k items)
     = ap (λ (ds : List DatagramRecord). length ds) (sym joined) ∙ c.exchange-joined.ensures.count in
     let inside : k < length items = omega (arith, c.loop-first-test.true, c.len.ensures.count) in
-    let weathers : drop (c.loop-first.number + 1) c.args.weather.now ≡ drop 1 ws
-    = sym (drop-drop 1 c.loop-first.number c.args.weather.now) in
+    let weathers : c.take_next-under.new.self ≡ behind_next ws = c.take_next-under.ensures.ahead in
     let answered : c.take_answers.new.self ≡ with_answers_at k items (joined_of t p)
     = c.take_answers.ensures ∙ ap (with_answers_at k items) joined in
     let line : line_of later ≡ p.line = line-next r later t ring in
@@ -101,12 +86,6 @@ loop-first-preserved g c =
             ap length c.take_answers.ensures,
             length-with_answers_at k items c.exchange-joined.result,
           );
-      number = omega (
-        arith,
-        c.loop-first.invariant.number,
-        c.count-first.ensures.count,
-        c.exchange-joined.ensures.some,
-      );
     }
 
 pub returns-clause-work : goal.returns-clause-work

@@ -2,7 +2,7 @@ use Rattle.std.proofs.Common.{◌≡◌, ℕ, List, length, get_or, sym, ◌∙�
 use Rattle.ec_regs.specs.declared.registers.TheConstants.{AL_STATUS}
 use Rattle.ec_areas.specs.Extent.{extent_of}
 use Rattle.ec_areas.specs.Records.{fmmus_of, sync_managers_of}
-use Rattle.ec_esc.specs.Planned.{ChangesWithin}
+use Rattle.ec_esc.specs.Renewal.{ChangesWithin}
 use Rattle.ec_esc.proofs.ApplicationLemmas.{get_or-with_run_before}
 use Rattle.ec_esc.proofs.PlannedLemmas.{run_changes, status_stays}
 use Rattle.ec_esc.proofs.planned.PlannedMemory.load.Goals as goal

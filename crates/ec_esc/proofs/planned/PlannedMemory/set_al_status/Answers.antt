@@ -1,7 +1,7 @@
 use Rattle.std.proofs.Common.{◌≡◌, ℕ, List, [], ◌∷◌, length, refl, ◌∙◌, ap, arith, subst, sym}
 use Rattle.ec_regs.specs.Al.{status_byte}
 use Rattle.ec_regs.specs.declared.registers.TheConstants.{AL_STATUS}
-use Rattle.ec_esc.specs.Planned.{ChangesWithin}
+use Rattle.ec_esc.specs.Renewal.{ChangesWithin}
 use Rattle.ec_esc.specs.State.{NamesState, with_run}
 use Rattle.ec_esc.proofs.PlannedLemmas.{run_changes, fmmus_stay, managers_stay, status_names}
 use Rattle.ec_esc.proofs.planned.PlannedMemory.set_al_status.Goals as goal

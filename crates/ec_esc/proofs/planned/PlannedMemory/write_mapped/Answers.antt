@@ -7,7 +7,7 @@ use Rattle.ec_regs.proofs.Laws.{length-with_bits, with_bits_same_places}
 use Rattle.ec_areas.specs.Logical.{write_map, writes_some}
 use Rattle.ec_areas.specs.Records.{fmmus_of, sync_managers_of}
 use Rattle.ec_areas.proofs.Laws.{fmmus_same, sync_managers_same}
-use Rattle.ec_esc.specs.Planned.{AreUsed}
+use Rattle.ec_esc.specs.Reached.{AreUsed}
 use Rattle.ec_esc.proofs.PlannedLemmas.{registers_stay, status_stays, first_are_used, written_by_used}
 use Rattle.ec_esc.proofs.PlannedLemmas.{writes_some_by_used}
 use Rattle.ec_esc.proofs.planned.PlannedMemory.write_mapped.Goals as goal

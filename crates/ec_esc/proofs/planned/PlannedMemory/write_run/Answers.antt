@@ -1,8 +1,8 @@
-use Rattle.std.proofs.Common.{◌≡◌, ℕ, List, length, sym, ◌∙◌, ap, subst}
+use Rattle.std.proofs.Common.{ℕ, List, length, sym, ◌∙◌, ap, subst}
 use Rattle.ec_regs.specs.Bits.{AreBytes}
 use Rattle.ec_areas.specs.Extent.{extent_of}
 use Rattle.ec_areas.specs.Records.{fmmus_of, sync_managers_of}
-use Rattle.ec_esc.specs.Planned.{ChangesWithin}
+use Rattle.ec_esc.specs.Renewal.{ChangesWithin}
 use Rattle.ec_esc.proofs.PlannedLemmas.{written_changes, written_names}
 use Rattle.ec_esc.proofs.planned.PlannedMemory.write_run.Goals as goal
 

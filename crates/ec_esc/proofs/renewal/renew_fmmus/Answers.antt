@@ -6,8 +6,8 @@ use Rattle.ec_areas.specs.Records.{fmmu_at}
 use Rattle.ec_areas.proofs.Laws.{get_or-fmmus_of}
 use Rattle.ec_esc.proofs.PlannedLemmas.{renewed_none, renewed_more, renewed_kept, fmmus_renewed, fmmu_stays}
 use Rattle.ec_esc.proofs.PlannedLemmas.{fmmus_stay}
-use Rattle.ec_esc.proofs.planned.renew_fmmus.Goals as goal
-use Rattle.ec_esc.proofs.planned.renew_fmmus.Goals.{then-meets, else-meets}
+use Rattle.ec_esc.proofs.renewal.renew_fmmus.Goals as goal
+use Rattle.ec_esc.proofs.renewal.renew_fmmus.Goals.{then-meets, else-meets}
 
 pub returns-then-not-meets-clause-fmmus : goal.returns-then-not-meets-clause-fmmus
 returns-then-not-meets-clause-fmmus c before old_is changes =

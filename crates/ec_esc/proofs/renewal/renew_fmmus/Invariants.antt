@@ -1,9 +1,9 @@
 use Rattle.std.proofs.Common.{◌≡◌, ℕ, List, length}
 use Rattle.ec_regs.specs.declared.registers.TheConstants.{FMMU_COUNT}
 use Rattle.ec_areas.specs.Records.{fmmu_at, fmmus_of}
-use Rattle.ec_esc.specs.Planned.{ChangesWithin}
+use Rattle.ec_esc.specs.Renewal.{ChangesWithin}
 use Rattle.ec_esc.proofs.PlannedLemmas.{RenewedTo}
-use Rattle.ec_esc.proofs.planned.renew_fmmus.Given as goal
+use Rattle.ec_esc.proofs.renewal.renew_fmmus.Given as goal
 
 -- the FMMUs before this one are those of the memory
 abbrev pub invariant-loop-number : goal.invariant-loop-number

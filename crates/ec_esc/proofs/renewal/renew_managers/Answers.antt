@@ -6,8 +6,8 @@ use Rattle.ec_areas.specs.Records.{sync_manager_at}
 use Rattle.ec_areas.proofs.Laws.{get_or-sync_managers_of}
 use Rattle.ec_esc.proofs.PlannedLemmas.{renewed_none, renewed_more, renewed_kept, managers_renewed}
 use Rattle.ec_esc.proofs.PlannedLemmas.{manager_stays, managers_stay}
-use Rattle.ec_esc.proofs.planned.renew_managers.Goals as goal
-use Rattle.ec_esc.proofs.planned.renew_managers.Goals.{then-meets, else-meets}
+use Rattle.ec_esc.proofs.renewal.renew_managers.Goals as goal
+use Rattle.ec_esc.proofs.renewal.renew_managers.Goals.{then-meets, else-meets}
 
 pub returns-then-not-meets : goal.returns-then-not-meets
 returns-then-not-meets c before old_is changes =
