@@ -2,20 +2,24 @@
 use Rattle.std.proofs.Common.{◌≡◌, ◌≤◌, ℕ, true, false, ◌||◌, List, length, get_or}
 use Rattle.ec_regs.specs.SyncMan.{is_active, is_mailbox, master_reads}
 use Rattle.ec_regs.specs.declared.al.AlStatus.{AlStatus}
-use Rattle.ec_regs.specs.declared.registers.TheConstants.{MEMORY_SIZE, PROCESS_MEMORY}
+use Rattle.ec_regs.specs.declared.registers.TheConstants.{AL_STATUS, MEMORY_SIZE, PROCESS_MEMORY}
 use Rattle.ec_regs.specs.declared.sync_man.SyncMan.{SyncMan}
-use Rattle.ec_esc.specs.Application.{with_al}
+use Rattle.ec_esc.specs.Application.{with_al, with_mail_taken}
 use Rattle.ec_areas.specs.Areas.{locks}
 use Rattle.ec_areas.specs.Records.{sync_manager_at}
 use Rattle.ec_esc.specs.State.{ControllerState, with_run}
 use Rattle.ec_app.specs.AlStep.{al_step}
 use Rattle.ec_app.specs.Left.{SameLeft}
-use Rattle.ec_app.specs.MailStep.{mail_step}
+use Rattle.ec_app.specs.MailStep.{can_answer, mail_step}
+use Rattle.ec_app.specs.Sdo.{sdo_bytes}
 use Rattle.ec_app.specs.Slave.{step}
 use Rattle.ec_app.specs.State.{SlaveState}
 use Rattle.ec_app.specs.declared.roles.TheConstants.{ANSWER_MAILBOX}
+use Rattle.ec_app.specs.declared.sdo.Sdo.TheVariants.{UploadAnswer}
+use Rattle.ec_app.specs.declared.value.Value.{Value}
 use Rattle.ec_app.proofs.LeftLemmas as left
 use Rattle.ec_app.proofs.AreaLemmas as areas
+use Rattle.ec_app.proofs.MailStepLemmas as mails
 
 -- a step leaves the registers that neither of its machines writes
 pub step_leaves : (s : SlaveState) → length s.controller.memory ≡ MEMORY_SIZE
@@ -47,7 +51,12 @@ pub mail_step_left : (s : SlaveState) → length s.controller.memory ≡ MEMORY_
     → SameLeft s.controller.memory (mail_step s).controller.memory
 mail_step_left = left.mail_step_left
 
--- which leaves each byte of process memory that the mailbox of answers does not lock
+-- and AL status
+pub mail_step_status : (s : SlaveState) → length s.controller.memory ≡ MEMORY_SIZE
+    → get_or (mail_step s).controller.memory AL_STATUS 0 ≡ get_or s.controller.memory AL_STATUS 0
+mail_step_status = left.mail_step_status
+
+-- and each byte of process memory that the mailbox of answers does not lock
 pub mail_step_bytes : (s : SlaveState) (a : ℕ) → length s.controller.memory ≡ MEMORY_SIZE → PROCESS_MEMORY ≤ a
     → locks (sync_manager_at s.controller.memory ANSWER_MAILBOX) a ≡ false
     → get_or (mail_step s).controller.memory a 0 ≡ get_or s.controller.memory a 0
@@ -57,6 +66,14 @@ mail_step_bytes s a size process free = (left.mail_step_outputs s size).bytes a 
 pub mail_step_shown : (s : SlaveState) → length s.controller.memory ≡ MEMORY_SIZE
     → (mail_step s).controller.shown ≡ s.controller.shown
 mail_step_shown s size = (left.mail_step_outputs s size).shown
+
+-- whether it can answer does not depend on whether a request is taken
+pub can_answer-taken : (c : ControllerState) → can_answer (with_mail_taken c 0) ≡ can_answer c
+can_answer-taken = mails.can_answer-taken
+
+-- the SDO of an answer to an upload has eight bytes
+pub uploaded_eight : (i j : ℕ) (v : Value) → length (sdo_bytes (UploadAnswer i j v)) ≡ 8
+uploaded_eight = left.uploaded_eight
 
 -- ---- areas
 

@@ -1,6 +1,6 @@
 -- A step of a slave leaves the registers that neither of its two machines writes.
-use Rattle.std.proofs.Common.{◌≡◌, ℕ, ◌+◌, ◌-◌, ◌≤◌, Bool, true, false, ◌&&◌, ◌||◌, cond, List, [], ◌∷◌}
-use Rattle.std.proofs.Common.{length, get_or, set, Option, None, Some, ◌∙◌, ap, refl, arith, inl, inr}
+use Rattle.std.proofs.Common.{◌≡◌, ◌≢◌, ℕ, ◌+◌, ◌-◌, ◌<◌, ◌≤◌, Bool, true, false, ◌&&◌, ◌||◌, cond}
+use Rattle.std.proofs.Common.{List, [], ◌∷◌, length, get_or, set, Option, None, Some, ◌∙◌, ap, refl, arith, inl, inr}
 use Rattle.std.proofs.Common.{length-append, get_or-set_other}
 use Rattle.std.specs.Prelude.{replicate, bit_and, bit_or}
 use Rattle.std.specs.Int.{w16, to_le_bytes}
@@ -8,7 +8,7 @@ use Rattle.std.proofs.lemmas.Bool.{and_parts}
 use Rattle.std.proofs.lemmas.List.{length-set, length-replicate}
 use Rattle.ec_regs.specs.Al.{status_byte}
 use Rattle.ec_regs.specs.AlStatusCode.{al_status_code}
-use Rattle.ec_regs.specs.SyncMan.{is_active, is_mailbox, master_reads}
+use Rattle.ec_regs.specs.SyncMan.{is_active, is_mailbox, master_reads, status_address}
 use Rattle.ec_regs.specs.declared.al.AlStatus.{AlStatus}
 use Rattle.ec_regs.specs.declared.registers.TheConstants.{AL_STATUS, AL_STATUS_CODE}
 use Rattle.ec_regs.specs.declared.registers.TheConstants.{MEMORY_SIZE, PROCESS_MEMORY}
@@ -36,6 +36,7 @@ use Rattle.ec_app.specs.declared.mail.Mail.{Mail}
 use Rattle.ec_app.specs.declared.mail.TheConstants.{REQUEST, RESPONSE}
 use Rattle.ec_app.specs.declared.mail_step.MailAnswer.{MailAnswer}
 use Rattle.ec_app.specs.declared.mail_step.MailAnswer.TheVariants.{Nothing, Aborted, Uploaded, Downloaded}
+use Rattle.ec_app.specs.declared.roles.TheConstants.{REQUEST_MAILBOX, ANSWER_MAILBOX}
 use Rattle.ec_app.specs.declared.sdo.Sdo.{Sdo}
 use Rattle.ec_app.specs.declared.sdo.Sdo.TheVariants.{Abort, UploadAnswer, DownloadAnswer}
 use Rattle.ec_app.specs.declared.value.Value.{Value}
@@ -142,25 +143,43 @@ al_step_process s size =
 
 -- ---- mail
 
-taken_left : (c : ControllerState) → SameLeft c.memory (with_mail_taken c 0).memory
-taken_left c =
+-- the address is that of a register, and of neither mailbox's status
+record IsBesideMail (address : ℕ) : Type 0 where
+  requests : address ≢ status_address REQUEST_MAILBOX
+  answers : address ≢ status_address ANSWER_MAILBOX
+  register : address < PROCESS_MEMORY
+
+-- two memories of one length in which these registers are the same
+record SameBeside (before after : List ℕ) : Type 0 where
+  size : length after ≡ length before
+  bytes : (address : ℕ) → IsBesideMail address → get_or after address 0 ≡ get_or before address 0
+
+beside_refl : (m : List ℕ) → SameBeside m m
+beside_refl m = record { size = refl; bytes = λ a beside. refl }
+
+beside_then : (x y z : List ℕ) → SameBeside x y → SameBeside y z → SameBeside x z
+beside_then x y z one two =
+    record { size = two.size ∙ one.size; bytes = λ a beside. two.bytes a beside ∙ one.bytes a beside }
+
+taken_beside : (c : ControllerState) → SameBeside c.memory (with_mail_taken c 0).memory
+taken_beside c =
     let status : ℕ = bit_and (get_or c.memory 2053 0) 247 in
     record {
       size = length-set c.memory 2053 status;
-      bytes = λ a left. get_or-set_other c.memory 2053 a status 0 left.requests;
+      bytes = λ a beside. get_or-set_other c.memory 2053 a status 0 beside.requests;
     }
 
-filled_left : (m : List ℕ) (status : ℕ) → SameLeft m (set m 2061 status)
-filled_left m status =
+filled_beside : (m : List ℕ) (status : ℕ) → SameBeside m (set m 2061 status)
+filled_beside m status =
     record {
       size = length-set m 2061 status;
-      bytes = λ a left. get_or-set_other m 2061 a status 0 left.answers;
+      bytes = λ a beside. get_or-set_other m 2061 a status 0 beside.answers;
     }
 
 -- a mail of sixteen bytes lies in the mailbox of answers
-put_left : (c : ControllerState) (mail : List ℕ) → length c.memory ≡ MEMORY_SIZE → can_answer c ≡ true
-    → length mail ≡ 16 → SameLeft c.memory (with_mail_put c 1 mail).memory
-put_left c mail size room sixteen =
+put_beside : (c : ControllerState) (mail : List ℕ) → length c.memory ≡ MEMORY_SIZE → can_answer c ≡ true
+    → length mail ≡ 16 → SameBeside c.memory (with_mail_put c 1 mail).memory
+put_beside c mail size room sixteen =
     let s : SyncMan = sync_manager_at c.memory 1 in
     let answers : is_answer_mailbox s ≡ true = (and_parts _ _ (and_parts _ _ room).0).1 in
     let area = and_parts (is_active s && is_mailbox s) (master_reads s) answers in
@@ -174,58 +193,83 @@ put_left c mail size room sixteen =
     omega (arith, length-append mail zeros, zeros_size, sixteen, enough) in
     let inside : s.start + length bytes ≤ length c.memory = omega (arith, place.1) in
     let put : List ℕ = with_run c.memory s.start bytes in
-    same_then c.memory put (with_mail_put c 1 mail).memory
+    beside_then c.memory put (with_mail_put c 1 mail).memory
     (record {
       size = length-with_run c.memory bytes s.start inside;
-      bytes = λ a left.
-          get_or-with_run_beside c.memory bytes s.start a inside (inl (omega (arith, left.register, place.0)));
+      bytes = λ a beside.
+          get_or-with_run_beside c.memory bytes s.start a inside (inl (omega (arith, beside.register, place.0)));
     })
-    (filled_left put (bit_or (get_or put 2061 0) 8))
+    (filled_beside put (bit_or (get_or put 2061 0) 8))
 
 -- an answer to a mail has sixteen bytes, and its SDO eight of them
-back_left : (c : ControllerState) (m : Mail) (service : ℕ) (sdo : Sdo) → length c.memory ≡ MEMORY_SIZE
+back_beside : (c : ControllerState) (m : Mail) (service : ℕ) (sdo : Sdo) → length c.memory ≡ MEMORY_SIZE
     → can_answer c ≡ true → length (sdo_bytes sdo) ≡ 8
-    → SameLeft c.memory (with_reply c (Some (mail_back m service sdo))).memory
-back_left c m service sdo size room eight =
-    put_left c (mail_bytes (sent (mail_back m service sdo))) size room (omega (arith, eight))
+    → SameBeside c.memory (with_reply c (Some (mail_back m service sdo))).memory
+back_beside c m service sdo size room eight =
+    put_beside c (mail_bytes (sent (mail_back m service sdo))) size room (omega (arith, eight))
 
-reply_left : (c : ControllerState) (m : Mail) (answer : MailAnswer) → length c.memory ≡ MEMORY_SIZE
-    → can_answer c ≡ true → SameLeft c.memory (with_reply c (reply m answer)).memory
-reply_left c m Nothing size room = same_refl c.memory
-reply_left c m (Aborted reason) size room =
-    back_left c m REQUEST (Abort (index m.sdo) (sub m.sdo) (abort_code reason)) size room refl
-reply_left c m (Uploaded value) size room =
-    back_left c m RESPONSE (UploadAnswer (index m.sdo) (sub m.sdo) value) size room (eight value)
-  where
-    eight : (v : Value) → length (sdo_bytes (UploadAnswer (index m.sdo) (sub m.sdo) v)) ≡ 8
-    eight (One x) = refl
-    eight (Two x) = refl
-    eight (Four x) = refl
-reply_left c m (Downloaded value) size room =
-    back_left c m RESPONSE (DownloadAnswer (index m.sdo) (sub m.sdo)) size room refl
+-- the SDO of an answer to an upload has eight bytes
+pub uploaded_eight : (i j : ℕ) (v : Value) → length (sdo_bytes (UploadAnswer i j v)) ≡ 8
+uploaded_eight i j (One x) = refl
+uploaded_eight i j (Two x) = refl
+uploaded_eight i j (Four x) = refl
 
-bytes_left : (bytes : List ℕ) (s : SlaveState) → length s.controller.memory ≡ MEMORY_SIZE
-    → can_answer s.controller ≡ true → SameLeft s.controller.memory (after_bytes bytes s).controller.memory
-bytes_left bytes s size room =
+reply_beside : (c : ControllerState) (m : Mail) (answer : MailAnswer) → length c.memory ≡ MEMORY_SIZE
+    → can_answer c ≡ true → SameBeside c.memory (with_reply c (reply m answer)).memory
+reply_beside c m Nothing size room = beside_refl c.memory
+reply_beside c m (Aborted reason) size room =
+    back_beside c m REQUEST (Abort (index m.sdo) (sub m.sdo) (abort_code reason)) size room refl
+reply_beside c m (Uploaded value) size room =
+    back_beside c m RESPONSE (UploadAnswer (index m.sdo) (sub m.sdo) value) size room
+    (uploaded_eight (index m.sdo) (sub m.sdo) value)
+reply_beside c m (Downloaded value) size room =
+    back_beside c m RESPONSE (DownloadAnswer (index m.sdo) (sub m.sdo)) size room refl
+
+bytes_beside : (bytes : List ℕ) (s : SlaveState) → length s.controller.memory ≡ MEMORY_SIZE
+    → can_answer s.controller ≡ true → SameBeside s.controller.memory (after_bytes bytes s).controller.memory
+bytes_beside bytes s size room =
     let m : Mail = mail_of bytes in
-    either (λ (t : SlaveState). SameLeft s.controller.memory t.controller.memory)
-    (is_dropped s.application.kept bytes) s (after_mail m s) (λ dropped. same_refl s.controller.memory)
-    (λ kept. reply_left s.controller m (mail_answer m s.application.objects) size room)
+    either (λ (t : SlaveState). SameBeside s.controller.memory t.controller.memory)
+    (is_dropped s.application.kept bytes) s (after_mail m s) (λ dropped. beside_refl s.controller.memory)
+    (λ kept. reply_beside s.controller m (mail_answer m s.application.objects) size room)
 
-pub mail_step_left : (s : SlaveState) → length s.controller.memory ≡ MEMORY_SIZE
-    → SameLeft s.controller.memory (mail_step s).controller.memory
+mail_step_beside : (s : SlaveState) → length s.controller.memory ≡ MEMORY_SIZE
+    → SameBeside s.controller.memory (mail_step s).controller.memory
 unfolding mail_step
-mail_step_left s size =
+mail_step_beside s size =
     let c : ControllerState = s.controller in
     let taken : SlaveState = record s { controller = with_mail_taken c 0 } in
-    let first = taken_left c in
-    either (λ (t : SlaveState). SameLeft c.memory t.controller.memory) (can_answer c && has_request c)
+    let first = taken_beside c in
+    either (λ (t : SlaveState). SameBeside c.memory t.controller.memory) (can_answer c && has_request c)
     (after_bytes (request_bytes c) taken) s
     (λ both.
-    same_then c.memory taken.controller.memory (after_bytes (request_bytes c) taken).controller.memory first
-    (bytes_left (request_bytes c) taken (first.size ∙ size)
+    beside_then c.memory taken.controller.memory (after_bytes (request_bytes c) taken).controller.memory first
+    (bytes_beside (request_bytes c) taken (first.size ∙ size)
     (can_answer-taken c ∙ (and_parts (can_answer c) (has_request c) both).0)))
-    (λ none. same_refl c.memory)
+    (λ none. beside_refl c.memory)
+
+-- so it leaves what a step leaves
+pub mail_step_left : (s : SlaveState) → length s.controller.memory ≡ MEMORY_SIZE
+    → SameLeft s.controller.memory (mail_step s).controller.memory
+mail_step_left s size =
+    let same = mail_step_beside s size in
+    record {
+      size = same.size;
+      bytes = λ a left.
+          same.bytes a
+          (record { requests = left.requests; answers = left.answers; register = left.register });
+    }
+
+-- and AL status
+pub mail_step_status : (s : SlaveState) → length s.controller.memory ≡ MEMORY_SIZE
+    → get_or (mail_step s).controller.memory AL_STATUS 0 ≡ get_or s.controller.memory AL_STATUS 0
+mail_step_status s size =
+    (mail_step_beside s size).bytes AL_STATUS
+    (record {
+      requests = λ is. omega (arith, is);
+      answers = λ is. omega (arith, is);
+      register = omega arith;
+    })
 
 -- ---- the outputs
 
@@ -269,18 +313,14 @@ back_outputs : (c : ControllerState) (m : Mail) (service : ℕ) (sdo : Sdo) → 
 back_outputs c m service sdo size room eight =
     put_outputs c (mail_bytes (sent (mail_back m service sdo))) size room (omega (arith, eight))
 
-uploaded_eight : (m : Mail) (v : Value) → length (sdo_bytes (UploadAnswer (index m.sdo) (sub m.sdo) v)) ≡ 8
-uploaded_eight m (One x) = refl
-uploaded_eight m (Two x) = refl
-uploaded_eight m (Four x) = refl
-
 reply_outputs : (c : ControllerState) (m : Mail) (answer : MailAnswer) → length c.memory ≡ MEMORY_SIZE
     → can_answer c ≡ true → LeavesOutputs c (with_reply c (reply m answer))
 reply_outputs c m Nothing size room = outputs_same c
 reply_outputs c m (Aborted reason) size room =
     back_outputs c m REQUEST (Abort (index m.sdo) (sub m.sdo) (abort_code reason)) size room refl
 reply_outputs c m (Uploaded value) size room =
-    back_outputs c m RESPONSE (UploadAnswer (index m.sdo) (sub m.sdo) value) size room (uploaded_eight m value)
+    back_outputs c m RESPONSE (UploadAnswer (index m.sdo) (sub m.sdo) value) size room
+    (uploaded_eight (index m.sdo) (sub m.sdo) value)
 reply_outputs c m (Downloaded value) size room =
     back_outputs c m RESPONSE (DownloadAnswer (index m.sdo) (sub m.sdo)) size room refl
 
@@ -302,7 +342,7 @@ mail_step_outputs s size =
     either (λ (t : SlaveState). LeavesOutputs c t.controller) (can_answer c && has_request c)
     (after_bytes (request_bytes c) taken) s
     (λ both.
-    let answered = bytes_outputs (request_bytes c) taken ((taken_left c).size ∙ size)
+    let answered = bytes_outputs (request_bytes c) taken ((taken_beside c).size ∙ size)
     (can_answer-taken c ∙ (and_parts (can_answer c) (has_request c) both).0) in
     record {
       shown = answered.shown;

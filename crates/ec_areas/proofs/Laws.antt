@@ -100,6 +100,16 @@ pub emptied_registers : (managers : List SyncMan) (from n : ℕ) → 1 ≤ n →
     → emptied_by managers from n ≡ None
 emptied_registers = met.emptied_registers
 
+-- a write of registers meets no locked area
+pub locked_registers : (managers : List SyncMan) (from n : ℕ) → from + n ≤ PROCESS_MEMORY
+    → meets_locked managers from n ≡ false
+locked_registers = met.locked_registers
+
+-- and fills no mailbox
+pub filled_registers : (managers : List SyncMan) (from n : ℕ) → from + n ≤ PROCESS_MEMORY
+    → filled_by managers from n ≡ None
+filled_registers = met.filled_before
+
 -- a range in a buffered area lies in process memory
 pub buffered_place : (s : SyncMan) (from n : ℕ) → LiesBuffered s from n
     → (PROCESS_MEMORY ≤ from) × (from + n ≤ MEMORY_SIZE)

@@ -8,7 +8,7 @@ use Rattle.ec_areas.specs.Records.{sync_manager_at, sync_managers_of}
 use Rattle.ec_esc.specs.Application.{put_inputs_fault, with_inputs}
 use Rattle.ec_esc.specs.Writing.{shown_byte, shown_after}
 use Rattle.ec_esc.specs.State.{ControllerState, IsController, with_run}
-use Rattle.ec_esc.specs.Pass.{Half, touches, written_by, effect, gain_of, serves_reading, serves_writing}
+use Rattle.ec_esc.specs.Pass.{Half, nothing, touches, written_by, effect, gain_of, serves_reading, serves_writing}
 use Rattle.ec_wire.specs.Command.{addressing, reads, writes}
 use Rattle.ec_wire.specs.declared.command.Command.{Command}
 use Rattle.ec_esc.proofs.GainLemmas as gains
@@ -51,6 +51,12 @@ pub shown_after_nothing : (managers : List SyncMan) (memory shown : List ℕ)
 shown_after_nothing = idle.shown_after_nothing
 
 -- ---- writing
+
+-- a write of nothing leaves the controller
+pub written_nothing : (c : ControllerState) (payload : List ℕ) → IsController c
+    → written_by nothing payload c ≡ c
+written_nothing c payload controller =
+    idle.written_by_nothing c payload controller.memory controller.memory_size
 
 -- a half that fills no mailbox and reaches no register changes memory bits and shown bytes alone
 pub written_plain : (c : ControllerState) (half : Half) (payload : List ℕ) → IsController c → half.mail ≡ None

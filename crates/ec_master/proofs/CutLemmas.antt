@@ -7,6 +7,7 @@ use Rattle.ec_line.specs.After.{Entry}
 use Rattle.ec_line.specs.Answered.{sent_of}
 use Rattle.ec_wire.specs.Datagram.{DatagramRecord, datagram_length}
 use Rattle.ec_wire.specs.Spelling.{body_length}
+use Rattle.ec_wire.specs.declared.layout.TheConstants.{MAX_LENGTH}
 use Rattle.std.proofs.lemmas.Bool.{le-leb, lt-leb, true≢false, cases_lt}
 use Rattle.std.proofs.lemmas.List.Sums.{sum_by-append}
 use Rattle.ec_map.specs.Item.{ItemRecord}
@@ -91,11 +92,12 @@ body_length-more es e =
     ap body_length (sent_of-more es e) ∙ sum_by-append datagram_length (sent_of es) (e.sent ∷ [])
     ∙ ap (λ n. body_length (sent_of es) + n) (omega arith)
 
-pub fits-more : (es : List Entry) (e : Entry) → body_length (sent_of es) + datagram_length e.sent ≤ 1498
+pub fits-more : (es : List Entry) (e : Entry) → body_length (sent_of es) + datagram_length e.sent ≤ MAX_LENGTH
     → fits_frame (es ++ e ∷ []) ≡ true
 fits-more es e room = le-leb _ _ (omega (arith, room, body_length-more es e))
 
-pub fits-no_more : (es : List Entry) (e : Entry) → 1498 < body_length (sent_of es) + datagram_length e.sent
+pub fits-no_more : (es : List Entry) (e : Entry)
+    → MAX_LENGTH < body_length (sent_of es) + datagram_length e.sent
     → fits_frame (es ++ e ∷ []) ≡ false
 fits-no_more es e full = lt-leb _ _ (omega (arith, full, body_length-more es e))
 

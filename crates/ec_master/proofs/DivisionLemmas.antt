@@ -8,6 +8,7 @@ use Rattle.std.proofs.lemmas.List.{map-append}
 use Rattle.std.proofs.lemmas.List.Sums.{sum_by-append}
 use Rattle.ec_wire.specs.Datagram.{datagram_length}
 use Rattle.ec_wire.specs.Spelling.{body_length}
+use Rattle.ec_wire.specs.declared.layout.TheConstants.{MAX_LENGTH}
 use Rattle.ec_line.specs.After.{Entry}
 use Rattle.ec_line.specs.Answered.{sent_of}
 use Rattle.ec_map.specs.Item.{ItemRecord, IsItem}
@@ -97,7 +98,7 @@ body_length-append xs ys =
 -- what fits with more behind it fits
 fits-front : (xs ys : List Entry) → fits_frame (xs ++ ys) ≡ true → fits_frame xs ≡ true
 fits-front xs ys fits =
-    let all : body_length (sent_of (xs ++ ys)) ≤ 1498 = leb-true _ _ fits in
+    let all : body_length (sent_of (xs ++ ys)) ≤ MAX_LENGTH = leb-true _ _ fits in
     le-leb _ _ (omega (arith, all, body_length-append xs ys))
 
 -- entries that fit go onto the frame

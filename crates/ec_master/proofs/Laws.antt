@@ -3,6 +3,7 @@ use Rattle.std.proofs.Common.{◌≡◌, ℕ, suc, ◌+◌, ◌<◌, ◌≤◌, 
 use Rattle.std.proofs.Common.{get_or, set, map, take}
 use Rattle.ec_wire.specs.Datagram.{datagram_length}
 use Rattle.ec_wire.specs.Spelling.{body_length}
+use Rattle.ec_wire.specs.declared.layout.TheConstants.{MAX_LENGTH}
 use Rattle.ec_line.specs.After.{Entry}
 use Rattle.ec_line.specs.Answered.{sent_of}
 use Rattle.ec_map.specs.Item.{ItemRecord}
@@ -22,12 +23,13 @@ pub body_length-more : (es : List Entry) (e : Entry)
 body_length-more = cutting.body_length-more
 
 -- one more fits where there is room for it
-pub fits-more : (es : List Entry) (e : Entry) → body_length (sent_of es) + datagram_length e.sent ≤ 1498
+pub fits-more : (es : List Entry) (e : Entry) → body_length (sent_of es) + datagram_length e.sent ≤ MAX_LENGTH
     → fits_frame (es ++ e ∷ []) ≡ true
 fits-more = cutting.fits-more
 
 -- and does not where there is none
-pub fits-no_more : (es : List Entry) (e : Entry) → 1498 < body_length (sent_of es) + datagram_length e.sent
+pub fits-no_more : (es : List Entry) (e : Entry)
+    → MAX_LENGTH < body_length (sent_of es) + datagram_length e.sent
     → fits_frame (es ++ e ∷ []) ≡ false
 fits-no_more = cutting.fits-no_more
 

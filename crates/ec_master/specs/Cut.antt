@@ -5,6 +5,7 @@ use Rattle.std.specs.Prelude.{List, [], ◌∷◌, ◌++◌, take, drop}
 use Rattle.std.specs.List.{AllByRecursion}
 use Rattle.ec_wire.specs.Datagram.{DatagramRecord}
 use Rattle.ec_wire.specs.Spelling.{body_length}
+use Rattle.ec_wire.specs.declared.layout.TheConstants.{MAX_LENGTH}
 use Rattle.ec_line.specs.After.{Entry}
 use Rattle.ec_line.specs.Answered.{sent_of}
 use Rattle.ec_line.specs.Request.{OnWay}
@@ -27,7 +28,7 @@ entries_from k (r ∷ rs) = entry_of r k ∷ entries_from (suc k) rs
 
 -- do datagrams fit into one frame
 abbrev pub fits_frame : List Entry → Bool
-fits_frame es = nat_le (body_length (sent_of es)) 1498
+fits_frame es = nat_le (body_length (sent_of es)) MAX_LENGTH
 
 -- entries are put onto a frame while they fit, else onto a new one
 unfoldable pub cut_onto : List Entry → List Entry → List (List Entry)

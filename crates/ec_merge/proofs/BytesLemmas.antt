@@ -9,7 +9,7 @@ use Rattle.std.proofs.lemmas.Nat.Bits.{bit_at-lt, same_from_bits}
 use Rattle.std.proofs.lemmas.Simd.{length-chunk, get_or-chunk, length-put_chunk, get_or-put_chunk_below}
 use Rattle.std.proofs.lemmas.Simd.{get_or-put_chunk_at, get_or-put_chunk_above}
 use Rattle.ec_merge.specs.Rule.{joined_bits, joined_flag, IsJoinedBit}
-use Rattle.ec_merge.specs.Laws.{joined_at, bit_at_joined, joined_bits_unit}
+use Rattle.ec_merge.specs.Laws.{joined_at, bit_at_joined, joined_bits_unit, joined_bits_symmetric}
 use Rattle.ec_merge.specs.Bytes.{IsJoined, IsJoinedUpTo, joined_bytes}
 
 -- ---- the bit rule
@@ -90,6 +90,26 @@ pub joined_from_each : (s a b now : List ℕ) → length a ≡ length s → leng
 joined_from_each s a b now ha hb hn each =
     same_number_lists now (joined_bytes s a b) (hn ∙ sym (length-joined s a b ha hb))
     (λ k within. each k (omega arith) ∙ sym (get_or-joined s a b k ha hb))
+
+-- ---- beside a copy as it was sent
+
+-- a copy of the data as they were sent changes nothing
+pub joined_unit : (ss xs : List ℕ) → length xs ≡ length ss → joined_bytes ss xs ss ≡ xs
+joined_unit [] [] size = refl
+joined_unit [] (x ∷ xs) size = absurd (omega (arith, size))
+joined_unit (s ∷ ss) [] size = absurd (omega (arith, size))
+joined_unit (s ∷ ss) (x ∷ xs) size =
+    ap (λ (n : ℕ). n ∷ joined_bytes ss xs ss) (joined_bits_unit s x)
+    ∙ ap (λ (ns : List ℕ). x ∷ ns) (joined_unit ss xs (omega (arith, size)))
+
+-- whichever of the two it is
+pub joined_unit_first : (ss xs : List ℕ) → length xs ≡ length ss → joined_bytes ss ss xs ≡ xs
+joined_unit_first [] [] size = refl
+joined_unit_first [] (x ∷ xs) size = absurd (omega (arith, size))
+joined_unit_first (s ∷ ss) [] size = absurd (omega (arith, size))
+joined_unit_first (s ∷ ss) (x ∷ xs) size =
+    ap (λ (n : ℕ). n ∷ joined_bytes ss ss xs) (joined_bits_symmetric s s x ∙ joined_bits_unit s x)
+    ∙ ap (λ (ns : List ℕ). x ∷ ns) (joined_unit_first ss xs (omega (arith, size)))
 
 -- ---- by lanes
 

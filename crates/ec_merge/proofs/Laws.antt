@@ -19,6 +19,14 @@ pub get_or-joined : (s a b : List ℕ) (k : ℕ) → length a ≡ length s → l
     → get_or (joined_bytes s a b) k 0 ≡ joined_bits (get_or s k 0) (get_or a k 0) (get_or b k 0)
 get_or-joined = bytes.get_or-joined
 
+-- a copy of the data as they were sent changes nothing
+pub joined_unit : (ss xs : List ℕ) → length xs ≡ length ss → joined_bytes ss xs ss ≡ xs
+joined_unit = bytes.joined_unit
+
+-- whichever of the two it is
+pub joined_unit_first : (ss xs : List ℕ) → length xs ≡ length ss → joined_bytes ss ss xs ≡ xs
+joined_unit_first = bytes.joined_unit_first
+
 -- the order of two copies does not matter
 pub joined_frame_symmetric : (s a b : List DatagramRecord) → joined_frame s a b ≡ joined_frame s b a
 joined_frame_symmetric = frames.joined_frame_symmetric

@@ -20,11 +20,11 @@ use Rattle.ec_app.specs.AlStep.{has_outputs}
 use Rattle.ec_app.specs.AlStep.{lacks_mailboxes, with_al_answer, with_state}
 use Rattle.ec_app.specs.Slave.{step}
 use Rattle.ec_app.specs.State.{SlaveState}
+use Rattle.ec_app.proofs.Laws.{mail_step_status}
 use Rattle.ec_over_ring.specs.Fit.{FitsRegisters}
 use Rattle.ec_over_ring.specs.Started.{HoldsManager}
 use Rattle.ec_over_ring.proofs.AlLemmas.{al_stands, status_stands}
 use Rattle.ec_over_ring.proofs.ControlLemmas.{HasControl}
-use Rattle.ec_over_ring.proofs.MailLemmas.{mail_step_same}
 use Rattle.ec_over_ring.proofs.ManagerLemmas.{manager_is}
 
 -- ---- the table
@@ -112,7 +112,7 @@ met_step state t has allows =
     ap (λ (o : Option ℕ). (after_request o taken).controller) asked
     ∙ is_met state taken (as_taken state allows) in
     ap (λ (b : ℕ). (status_of b).error)
-    (mail_step_same (al_step t) (al_stands state t has).size
+    (mail_step_status (al_step t) (al_stands state t has).size
     ∙ ap (λ (c : ControllerState). get_or c.memory AL_STATUS 0) answered
     ∙ status_stands taken.controller status 0 has.size)
     ∙ ap (λ (x : AlStatus). x.error) (status_of-status_byte status)

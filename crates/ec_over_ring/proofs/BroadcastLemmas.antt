@@ -15,7 +15,7 @@ use Rattle.ec_esc.specs.Pass.{Effect, address_after, applied, broadcast_sources,
 use Rattle.ec_esc.specs.Pass.{range_given, serves_range_read, where_served}
 use Rattle.ec_line.specs.Trip.{PassedLine, line_pass}
 use Rattle.ec_esc.specs.Pass.{frame_pass}
-use Rattle.ec_over_ring.proofs.PassLemmas.{written_nothing}
+use Rattle.ec_esc.proofs.Laws.{written_nothing}
 
 -- ---- one slave
 

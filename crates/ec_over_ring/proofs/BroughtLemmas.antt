@@ -19,6 +19,7 @@ use Rattle.ec_app.specs.Mail.{mail_of}
 use Rattle.ec_app.specs.Slave.{step}
 use Rattle.ec_app.specs.State.{SlaveState}
 use Rattle.ec_app.specs.declared.mail.Mail.{Mail}
+use Rattle.ec_app.proofs.Laws.{mail_step_status}
 use Rattle.ec_ring.specs.Links.{IsOnlyDown}
 use Rattle.ec_ring.specs.Ring.{RingState, line_of, stepped}
 use Rattle.ec_ring.specs.declared.port.PortFault.{PortFault}
@@ -42,7 +43,6 @@ use Rattle.ec_over_ring.specs.Question.{after_question}
 use Rattle.ec_over_ring.specs.States.{HasStation, asked_ring, asked_slave}
 use Rattle.ec_over_ring.proofs.HoldersLemmas.{HasOne, SaysCount, control_gains, decides_one, holders}
 use Rattle.ec_over_ring.proofs.HoldersLemmas.{one_holds, trip_counted, write_told}
-use Rattle.ec_over_ring.proofs.MailLemmas.{mail_step_same}
 use Rattle.ec_over_ring.proofs.SlaveLemmas.{table_holds}
 use Rattle.ec_over_ring.proofs.StateLemmas.{ComesTo, has_between, requested, slaves_between}
 use Rattle.ec_over_ring.proofs.StateLemmas.{stands_state, status_stands}
@@ -104,7 +104,7 @@ pub status_stays : (s : SlaveState) → s.controller.written ≡ false → lengt
 unfolding step
 status_stays s none size =
     ap (λ (t : SlaveState). get_or (mail_step t).controller.memory AL_STATUS 0) (idle_al s none)
-    ∙ mail_step_same s size
+    ∙ mail_step_status s size
 
 -- ---- the write
 

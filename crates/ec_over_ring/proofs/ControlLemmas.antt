@@ -14,7 +14,7 @@ use Rattle.ec_regs.specs.Bits.{AreBytes, with_bits}
 use Rattle.ec_regs.specs.declared.registers.TheConstants.{STATION_ADDRESS, AL_CONTROL, MEMORY_SIZE}
 use Rattle.ec_regs.proofs.Laws.{get_or-with_bits_kept}
 use Rattle.ec_regs.proofs.Laws.{AreBytes-with_bits, length-with_bits, bit_of_byte, bit-with_bits_taken}
-use Rattle.ec_areas.proofs.Laws.{names_at}
+use Rattle.ec_areas.proofs.Laws.{filled_registers, locked_registers, names_at}
 use Rattle.ec_areas.specs.Ranges.{filled_by, takes_writes, some_address}
 use Rattle.ec_areas.specs.Ranges.{serves_physical_write}
 use Rattle.ec_areas.specs.Records.{sync_managers_of}
@@ -27,7 +27,6 @@ use Rattle.ec_esc.specs.Pass.{is_written, written_places, touches, serves_range_
 use Rattle.ec_esc.proofs.Laws.{length-shown_after}
 use Rattle.ec_services.specs.Ask.{request}
 use Rattle.ec_over_ring.proofs.MailboxLemmas.{bytes_shown, either_small}
-use Rattle.ec_over_ring.proofs.RegisterLemmas.{unlocked, none_filled}
 
 -- ---- what the write does
 
@@ -41,7 +40,7 @@ pub control_served : (m : List ℕ) → serves_physical_write m (sync_managers_o
 control_served m =
     let rest : Bool = is_some (filled_by (sync_managers_of m) 288 2) in
     ap (λ (b : Bool). (not b && some_address (takes_writes m) 288 2) || rest)
-    (unlocked (sync_managers_of m) 288 2 (omega arith))
+    (locked_registers (sync_managers_of m) 288 2 (omega arith))
     ∙ ap (λ (b : Bool). b || rest) (control_taken m)
 
 write_effect : ControllerState → Effect
@@ -71,7 +70,7 @@ control_effect c address meant place =
     ∙ ap (λ (o : Option ℕ). record {
       reading = nothing;
       writing = record { places = range_targets c 288 2; gain = 1; mail = o };
-    }) (none_filled (sync_managers_of c.memory) 288 2 (omega arith))
+    }) (filled_registers (sync_managers_of c.memory) 288 2 (omega arith))
 
 -- ---- the bytes of AL control
 

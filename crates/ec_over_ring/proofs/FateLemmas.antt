@@ -14,7 +14,7 @@ use Rattle.ec_ring.specs.declared.weather.Came.{Came}
 use Rattle.ec_master.specs.Ports.{came_or}
 use Rattle.ec_services.specs.Ask.{Answer, Brings, told_by}
 use Rattle.ec_over_ring.specs.Recovery.{ComesSo, Fared, Fate, fared, passed_if}
-use Rattle.ec_over_ring.proofs.JoinLemmas.{joined_unit, joined_unit_first}
+use Rattle.ec_merge.proofs.Laws.{joined_unit, joined_unit_first}
 use Rattle.ec_over_ring.proofs.LineLemmas.{turned, turned_pass}
 
 -- ---- a datagram that passes a slave, and passes it again

@@ -1,34 +1,14 @@
 -- Of two copies one brings a pass, and the other the datagram as it was sent: joined they carry the pass.
-use Rattle.std.proofs.Common.{◌≡◌, ℕ, zero, suc, ◌<◌, Bool, true, List, [], ◌∷◌, length, refl, ap, ◌∙◌}
+use Rattle.std.proofs.Common.{◌≡◌, ℕ, zero, suc, ◌<◌, Bool, true, [], ◌∷◌, length, refl, ap, ◌∙◌}
 use Rattle.std.proofs.Common.{arith, eqb, ◌&&◌}
 use Rattle.std.proofs.lemmas.Bool.{eq-eqb}
 use Rattle.ec_wire.specs.Datagram.{DatagramRecord, nth, code_of}
 use Rattle.ec_wire.specs.declared.command.Command.{Command}
-use Rattle.ec_merge.specs.Bytes.{joined_bytes}
 use Rattle.ec_merge.specs.Frames.{belongs, fixed_address, IsOwn, joined_frame}
-use Rattle.ec_merge.specs.Laws.{joined_bits_unit, joined_bits_symmetric, joined_count_unit}
-use Rattle.ec_merge.specs.Laws.{joined_count_symmetric}
+use Rattle.ec_merge.specs.Laws.{joined_count_unit, joined_count_symmetric}
+use Rattle.ec_merge.proofs.Laws.{joined_unit, joined_unit_first}
 use Rattle.ec_over_ring.specs.Question.{Carries}
 use Rattle.ec_over_ring.proofs.LineLemmas.{IsPassed, turned}
-
--- ---- data
-
--- a copy of the data as they were sent changes nothing
-pub joined_unit : (ss xs : List ℕ) → length xs ≡ length ss → joined_bytes ss xs ss ≡ xs
-joined_unit [] [] size = refl
-joined_unit [] (x ∷ xs) size = absurd (omega (arith, size))
-joined_unit (s ∷ ss) [] size = absurd (omega (arith, size))
-joined_unit (s ∷ ss) (x ∷ xs) size =
-    ap (λ (n : ℕ). n ∷ joined_bytes ss xs ss) (joined_bits_unit s x)
-    ∙ ap (λ (ns : List ℕ). x ∷ ns) (joined_unit ss xs (omega (arith, size)))
-
-pub joined_unit_first : (ss xs : List ℕ) → length xs ≡ length ss → joined_bytes ss ss xs ≡ xs
-joined_unit_first [] [] size = refl
-joined_unit_first [] (x ∷ xs) size = absurd (omega (arith, size))
-joined_unit_first (s ∷ ss) [] size = absurd (omega (arith, size))
-joined_unit_first (s ∷ ss) (x ∷ xs) size =
-    ap (λ (n : ℕ). n ∷ joined_bytes ss ss xs) (joined_bits_symmetric s s x ∙ joined_bits_unit s x)
-    ∙ ap (λ (ns : List ℕ). x ∷ ns) (joined_unit_first ss xs (omega (arith, size)))
 
 -- ---- a frame of one datagram
 

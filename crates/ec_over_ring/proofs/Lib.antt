@@ -8,7 +8,6 @@ pub mod NobodyLemmas
 pub mod RegisterLemmas
 pub mod ControlLemmas
 pub mod AlLemmas
-pub mod MailLemmas
 pub mod TalkLemmas
 pub mod StationLemmas
 pub mod StateLemmas

@@ -34,11 +34,10 @@ use Rattle.ec_esc.specs.Pass.{Effect, Half, nothing, where_served, effect, appli
 use Rattle.ec_esc.specs.Pass.{range_given, range_sources, range_targets, is_written, written_places, touches}
 use Rattle.ec_esc.specs.Pass.{written_by, pass}
 use Rattle.ec_esc.specs.Pass.{serves_range_read, serves_range_write}
-use Rattle.ec_esc.proofs.Laws.{written_plain, length-shown_after, get_or-shown_after}
+use Rattle.ec_esc.proofs.Laws.{get_or-shown_after, length-shown_after, written_nothing, written_plain}
 use Rattle.ec_app.specs.Roles.{is_answer_mailbox, is_request_mailbox}
 use Rattle.ec_services.specs.Ask.{request}
 use Rattle.ec_over_ring.proofs.ManagerLemmas.{SameBut}
-use Rattle.ec_over_ring.proofs.PassLemmas.{written_nothing}
 
 -- ---- which mailbox a range is
 

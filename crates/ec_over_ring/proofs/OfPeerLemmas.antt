@@ -34,11 +34,11 @@ use Rattle.ec_app.specs.declared.sdo.Sdo.TheVariants.{Abort, DownloadAnswer, Upl
 use Rattle.ec_app.specs.declared.value.Rights.TheVariants.{ReadOnly}
 use Rattle.ec_app.specs.declared.value.Value.{Value}
 use Rattle.ec_app.specs.declared.value.Value.TheVariants.{One}
+use Rattle.ec_app.proofs.Laws.{can_answer-taken, uploaded_eight}
 use Rattle.ec_services.specs.declared.mailbox.Area.{Area}
 use Rattle.ec_services.specs.declared.mailbox.Peer.{Peer}
 use Rattle.ec_over_ring.specs.Recovery.{IsMailboxAt, IsOfPeer, steps_of}
 use Rattle.ec_over_ring.specs.Transfers.{IsSlave}
-use Rattle.ec_over_ring.proofs.MailLemmas.{eight_of, taken_room}
 use Rattle.ec_over_ring.proofs.ManagerLemmas.{SameBut, but_then, start_same, length_same, meets_one_same}
 use Rattle.ec_over_ring.proofs.ManagerLemmas.{answers_same, requests_same}
 use Rattle.ec_over_ring.proofs.PeerLemmas.{station_same}
@@ -152,7 +152,7 @@ reply_stays c m objects size room =
                   aborts c m WrongLength size room,
                   (
                     back_stays c m RESPONSE (UploadAnswer (index m.sdo) (sub m.sdo) value) size room
-                        (eight_of (index m.sdo) (sub m.sdo) value),
+                        (uploaded_eight (index m.sdo) (sub m.sdo) value),
                     tt,
                   ),
                 ),
@@ -206,7 +206,7 @@ mail_stays s size =
     (stays_then c taken.controller (after_mail (mail_of bytes) taken).controller first
     (replies_stay taken.controller (after_mail (mail_of bytes) taken).controller
     (reply_stays taken.controller (mail_of bytes) s.application.objects (first.same.size ∙ size)
-    (taken_room c ∙ (and_parts (can_answer c) (has_request c) both).0)))))
+    (can_answer-taken c ∙ (and_parts (can_answer c) (has_request c) both).0)))))
     (stays c)
 
 pub step_stays : (s : SlaveState) → length s.controller.memory ≡ MEMORY_SIZE → s.controller.written ≡ false

@@ -2,22 +2,19 @@
 use Rattle.std.proofs.Common.{◌≡◌, ℕ, ◌+◌, ◌*◌, ◌%◌, ◌<◌, Bool, true, false, cond, eqb, ◌&&◌, List}
 use Rattle.std.proofs.Common.{length, None, refl, ap, ◌∙◌, arith}
 use Rattle.std.proofs.lemmas.Bool.{ne_eqb}
-use Rattle.ec_regs.specs.Bits.{AreBytes, with_bits}
+use Rattle.ec_regs.specs.Bits.{AreBytes}
 use Rattle.ec_regs.specs.declared.registers.TheConstants.{STATION_ADDRESS}
 use Rattle.ec_regs.proofs.Laws.{with_bits_none}
-use Rattle.ec_areas.proofs.Laws.{names_nowhere}
-use Rattle.ec_areas.specs.Records.{sync_managers_of}
 use Rattle.ec_wire.specs.Command.{addressing, reads, writes, is_counted}
 use Rattle.ec_wire.specs.Datagram.{DatagramRecord, adp, ado, adp_of, ado_of}
 use Rattle.ec_wire.specs.declared.command.Addressing.{Addressing}
 use Rattle.ec_wire.specs.declared.command.Addressing.TheVariants.{ConfiguredStation}
 use Rattle.ec_wire.specs.declared.command.Command.{Command}
-use Rattle.ec_esc.specs.State.{ControllerState, IsController, word_at}
-use Rattle.ec_esc.specs.Writing.{shown_after}
+use Rattle.ec_esc.specs.State.{ControllerState, word_at}
 use Rattle.ec_esc.specs.Pass.{Half, Effect, nothing, where_served, effect, read_half, write_half, applied}
 use Rattle.ec_esc.specs.Pass.{serves_range_read, serves_range_write, range_given, range_taken, range_sources}
-use Rattle.ec_esc.specs.Pass.{touches, written_by, pass, datagram_after, state_after, address_after}
-use Rattle.ec_esc.proofs.Laws.{written_plain, shown_after_same, shown_after_nothing}
+use Rattle.ec_esc.specs.Pass.{pass, datagram_after, state_after, address_after}
+use Rattle.ec_esc.proofs.Laws.{written_nothing}
 use Rattle.ec_over_ring.specs.Question.{IsOther}
 
 -- ---- nothing is done
@@ -65,25 +62,6 @@ unaddressed c x address n station other =
     effect_halves c x address n
     ∙ ap (λ (a : Addressing). halves c address n a (reads x) (writes x)) station
     ∙ halves_other c address n (reads x) (writes x) other
-
--- a write of nothing leaves the controller
-pub written_nothing : (c : ControllerState) (payload : List ℕ) → IsController c
-    → written_by nothing payload c ≡ c
-written_nothing c payload controller =
-    let kept : with_bits c.memory payload (λ _. None) ≡ c.memory =
-    with_bits_none c.memory payload (λ _. None) controller.memory (λ i inside. refl) in
-    let managers = sync_managers_of c.memory in
-    let untouched : (a : ℕ) → touches (λ _. None) a ≡ false =
-    λ a. names_nowhere (λ _. None) 8 (λ i below. refl) in
-    let shown : shown_after (touches (λ _. None)) managers managers c.memory c.shown ≡ c.shown =
-    shown_after_same (touches (λ _. None)) (λ _. false) managers managers c.memory c.shown untouched
-    ∙ shown_after_nothing managers c.memory c.shown in
-    written_plain c nothing payload controller refl (λ p register. refl)
-    ∙ ap (λ (m : List ℕ). record c {
-      memory = m;
-      shown = shown_after (touches (λ _. None)) managers managers m c.shown;
-    }) kept
-    ∙ ap (λ (bytes : List ℕ). record c { shown = bytes }) shown
 
 -- an address that no slave counts up stays
 pub address_stays : (d : DatagramRecord) → addressing d.command ≡ ConfiguredStation

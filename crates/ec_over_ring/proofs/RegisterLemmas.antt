@@ -1,19 +1,11 @@
--- Registers are read and written by station: what the slave that is meant answers, and what it is left as.
-use Rattle.std.proofs.Common.{◌≡◌, ℕ, ◌+◌, ◌≤◌, Bool, true, false, cond, eqb}
-use Rattle.std.proofs.Common.{ltb, ◌&&◌, ◌||◌, List, [], ◌∷◌, length, take, drop, get_or, Option, None}
-use Rattle.std.proofs.Common.{refl, sym, ap, ◌∙◌, arith, ⊎_elim, replicate}
-use Rattle.std.specs.List.{filter}
-use Rattle.std.proofs.lemmas.Bool.{cases_Bool}
-use Rattle.std.proofs.lemmas.Bool.Decides.{nat_tests}
+-- Registers are read by station: what the slave that is meant answers, and what it is left as.
+use Rattle.std.proofs.Common.{◌≡◌, ℕ, ◌+◌, ◌≤◌, Bool, true, eqb, ◌&&◌, List, length, take, drop}
+use Rattle.std.proofs.Common.{Option, None, sym, ap, ◌∙◌, arith, replicate}
 use Rattle.std.proofs.lemmas.List.{length-take-le, length-drop, length-replicate}
-use Rattle.std.proofs.lemmas.List.Folds.{list_any_none}
 use Rattle.ec_regs.specs.Bits.{with_bits}
-use Rattle.ec_regs.specs.SyncMan.{is_active, is_mailbox, master_reads}
-use Rattle.ec_regs.specs.declared.sync_man.SyncMan.{SyncMan}
 use Rattle.ec_regs.specs.declared.registers.TheConstants.{STATION_ADDRESS, PROCESS_MEMORY, MEMORY_SIZE}
 use Rattle.ec_regs.proofs.Laws.{copied_run, get_or-run, AreBytes-run}
-use Rattle.ec_areas.proofs.Laws.{reads_registers, emptied_registers, active_place}
-use Rattle.ec_areas.specs.Ranges.{meets, meets_locked, filled_by}
+use Rattle.ec_areas.proofs.Laws.{reads_registers, emptied_registers}
 use Rattle.ec_areas.specs.Records.{sync_managers_of}
 use Rattle.ec_wire.specs.Datagram.{DatagramRecord, adp_of, ado_of}
 use Rattle.ec_wire.specs.declared.command.Command.TheVariants.{Fprd}
@@ -21,10 +13,8 @@ use Rattle.ec_esc.specs.State.{ControllerState, IsController, word_at}
 use Rattle.ec_esc.specs.Pass.{Effect, nothing, where_served, effect, applied, range_given, range_sources}
 use Rattle.ec_esc.specs.Pass.{serves_range_read}
 use Rattle.ec_esc.specs.Pass.{written_by, pass}
+use Rattle.ec_esc.proofs.Laws.{written_nothing}
 use Rattle.ec_services.specs.Ask.{request}
-use Rattle.ec_over_ring.proofs.PassLemmas.{written_nothing}
-
--- ---- a read
 
 -- what a read of n registers does in the controller that is addressed
 read_effect : ControllerState → ℕ → Effect
@@ -97,38 +87,3 @@ registers_read c address from n controller meant place some inside =
       datagram = record (request Fprd address (take n (drop from c.memory))) { counter = 1 };
       state = x;
     }) (written_nothing c (replicate n 0) controller)
-
--- ---- a write
-
--- registers meet no area
-unmet : (s : SyncMan) (from n : ℕ) → from + n ≤ PROCESS_MEMORY → meets s from n ≡ false
-unfolding meets
-unmet s from n inside =
-    ⊎_elim
-    (λ (active : is_active s ≡ true).
-    let place = (active_place s active).0 in
-    let starts : ltb s.start (from + n) ≡ false = grind (arith, nat_tests) in
-    rw (active, starts) refl)
-    (λ (inactive : is_active s ≡ false). rw inactive refl)
-    (cases_Bool (is_active s))
-
--- so none is locked there
-pub unlocked : (managers : List SyncMan) (from n : ℕ) → from + n ≤ PROCESS_MEMORY
-    → meets_locked managers from n ≡ false
-unlocked managers from n inside =
-    let test : SyncMan → Bool = λ s. meets s from n && (is_mailbox s || master_reads s) in
-    list_any_none test managers (λ k d below. rw (unmet (get_or managers k d) from n inside) refl)
-
--- and no mailbox is filled
-none_met : (managers : List SyncMan) (from n : ℕ) → from + n ≤ PROCESS_MEMORY
-    → filter (λ s. meets s from n) managers ≡ []
-none_met [] from n inside = refl
-none_met (s ∷ ss) from n inside =
-    ap (λ b. cond b (s ∷ filter (λ x. meets x from n) ss) (filter (λ x. meets x from n) ss))
-    (unmet s from n inside)
-    ∙ none_met ss from n inside
-
-pub none_filled : (managers : List SyncMan) (from n : ℕ) → from + n ≤ PROCESS_MEMORY
-    → filled_by managers from n ≡ None
-unfolding filled_by
-none_filled managers from n inside = rw (none_met managers from n inside) refl

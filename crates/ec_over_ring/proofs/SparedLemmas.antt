@@ -29,6 +29,7 @@ use Rattle.ec_esc.specs.Pass.{serves_range_write}
 use Rattle.ec_esc.specs.Pass.{where_served, write_half}
 use Rattle.ec_esc.specs.State.{ControllerState, IsController, word_at}
 use Rattle.ec_esc.specs.Writing.{settled, settled_byte, with_emptied, with_filled}
+use Rattle.ec_esc.proofs.Laws.{written_nothing}
 use Rattle.ec_line.specs.Trip.{back_pass, front_pass, line_pass}
 use Rattle.ec_app.specs.Left.{IsBeside, IsLeft, SameLeft}
 use Rattle.ec_app.specs.Lending.{with_controller}
@@ -51,7 +52,7 @@ use Rattle.ec_over_ring.specs.Transfers.{IsSlave}
 use Rattle.ec_over_ring.proofs.BroughtLemmas.{status_stays, step_taken}
 use Rattle.ec_over_ring.proofs.HoldersLemmas.{HasOne, one_more}
 use Rattle.ec_over_ring.proofs.NeedsLemmas.{needs, step_needs}
-use Rattle.ec_over_ring.proofs.PassLemmas.{address_stays, unaddressed, written_nothing}
+use Rattle.ec_over_ring.proofs.PassLemmas.{address_stays, unaddressed}
 use Rattle.ec_over_ring.proofs.QuietLemmas.{IsQuiet, is_marked, marked_is, pass_mark, quiet_step}
 use Rattle.ec_over_ring.proofs.ShapeLemmas.{shape_of, step_shape}
 use Rattle.ec_over_ring.proofs.StationLemmas.{others_step, station_of, station_stays}

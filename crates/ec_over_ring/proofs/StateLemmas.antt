@@ -22,6 +22,7 @@ use Rattle.ec_app.specs.Lending.{with_controller}
 use Rattle.ec_app.specs.Slave.{step}
 use Rattle.ec_app.specs.State.{SlaveState}
 use Rattle.ec_app.specs.Table.{first_fitting}
+use Rattle.ec_app.proofs.Laws.{mail_step_status}
 use Rattle.ec_ring.specs.Ring.{RingState, line_of, stepped}
 use Rattle.ec_master.specs.RingTrips.{RingTrips}
 use Rattle.ec_services.specs.Ask.{request, Answer, Asks, Talks, write, write_decides}
@@ -34,7 +35,6 @@ use Rattle.ec_over_ring.specs.Transfers.{IsSlave}
 use Rattle.ec_over_ring.proofs.AlLemmas.{Stands, IsTold, al_stands}
 use Rattle.ec_over_ring.proofs.ControlLemmas.{HasControl, control_controller, control_counted}
 use Rattle.ec_over_ring.proofs.ControlLemmas.{control_station, control_written}
-use Rattle.ec_over_ring.proofs.MailLemmas.{mail_step_same}
 use Rattle.ec_over_ring.proofs.QuestionLemmas.{asked_alone}
 use Rattle.ec_over_ring.proofs.RegisterLemmas.{registers_read}
 use Rattle.ec_over_ring.proofs.StationLemmas.{parts_of, ado_is, reaches, meant, has_later}
@@ -159,7 +159,7 @@ status_stands station state r before s behind has =
     let control : HasControl (code_of state + 16) t.controller =
     written_slave station state r before s behind has in
     let told : IsTold state (al_step t).controller.memory = al_stands state t control in
-    subst (Stands state) (sym (mail_step_same (al_step t) told.size)) told.stands
+    subst (Stands state) (sym (mail_step_status (al_step t) told.size)) told.stands
 
 -- ---- both trips
 

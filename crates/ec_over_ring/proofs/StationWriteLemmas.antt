@@ -17,7 +17,7 @@ use Rattle.ec_regs.specs.declared.registers.TheConstants.{AL_CONTROL, MEMORY_SIZ
 use Rattle.ec_regs.specs.declared.sync_man.SyncMan.{SyncMan}
 use Rattle.ec_regs.proofs.Laws.{get_or-run, kept_byte, taken_byte, with_bits_by_bytes}
 use Rattle.ec_regs.proofs.Laws.{with_bits_none}
-use Rattle.ec_areas.proofs.Laws.{active_place, names_nowhere}
+use Rattle.ec_areas.proofs.Laws.{active_place, filled_registers, locked_registers, names_nowhere}
 use Rattle.ec_areas.specs.Ranges.{filled_by, is_in_sync_manager, serves_physical_write, some_address}
 use Rattle.ec_areas.specs.Ranges.{sync_manager_number, sync_manager_offset, takes_writes}
 use Rattle.ec_areas.specs.Records.{sync_manager_at, sync_managers_of}
@@ -29,12 +29,10 @@ use Rattle.ec_esc.specs.Writing.{shown_byte}
 use Rattle.ec_esc.specs.Pass.{Effect, Half, address_after, applied, datagram_after, effect, is_written}
 use Rattle.ec_esc.specs.Pass.{nothing, pass, range_taken, range_targets, serves_range_write, state_after}
 use Rattle.ec_esc.specs.Pass.{touches, where_served, written_places}
-use Rattle.ec_esc.proofs.Laws.{get_or-with_run_beside, length-with_run}
+use Rattle.ec_esc.proofs.Laws.{get_or-with_run_beside, length-with_run, written_nothing}
 use Rattle.ec_services.specs.Ask.{request}
 use Rattle.ec_over_ring.specs.Stations.{restationed}
 use Rattle.ec_over_ring.proofs.ManagerLemmas.{manager_is}
-use Rattle.ec_over_ring.proofs.PassLemmas.{written_nothing}
-use Rattle.ec_over_ring.proofs.RegisterLemmas.{none_filled, unlocked}
 use Rattle.ec_over_ring.proofs.SlaveLemmas.{run_bytes, word_bytes}
 use Rattle.ec_over_ring.proofs.StepLemmas.{run_put}
 
@@ -50,7 +48,7 @@ station_served : (m : List ℕ) → serves_physical_write m (sync_managers_of m)
 station_served m =
     let rest : Bool = is_some (filled_by (sync_managers_of m) 16 2) in
     ap (λ (b : Bool). (not b && some_address (takes_writes m) 16 2) || rest)
-    (unlocked (sync_managers_of m) 16 2 (omega arith))
+    (locked_registers (sync_managers_of m) 16 2 (omega arith))
     ∙ ap (λ (b : Bool). b || rest) (station_taken m)
 
 write_effect : ControllerState → Effect
@@ -81,7 +79,7 @@ meant_effect c address meant place =
     ∙ ap (λ (o : Option ℕ). record {
       reading = nothing;
       writing = record { places = range_targets c 16 2; gain = 1; mail = o };
-    }) (none_filled (sync_managers_of c.memory) 16 2 (omega arith))
+    }) (filled_registers (sync_managers_of c.memory) 16 2 (omega arith))
 
 abbrev silent : Effect
 silent = record { reading = nothing; writing = nothing }

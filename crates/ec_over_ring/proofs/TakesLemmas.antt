@@ -16,9 +16,9 @@ use Rattle.ec_app.specs.MailStep.{mail_step, request_bytes}
 use Rattle.ec_app.specs.Roles.{is_answer_mailbox}
 use Rattle.ec_app.specs.Slave.{step}
 use Rattle.ec_app.specs.State.{SlaveState}
+use Rattle.ec_app.proofs.Laws.{can_answer-taken}
 use Rattle.ec_services.specs.declared.mailbox.Peer.{Peer}
 use Rattle.ec_over_ring.specs.Recovery.{IsOfPeer, TakesMail, answer_stands, request_stands, steps_of}
-use Rattle.ec_over_ring.proofs.MailLemmas.{taken_room}
 use Rattle.ec_over_ring.proofs.MailboxLemmas.{clear_bit}
 use Rattle.ec_over_ring.proofs.ManagerLemmas.{SameBut}
 use Rattle.ec_over_ring.proofs.OfPeerLemmas.{RepliesOnly, of_peer_step, reply_stays, step_stays}
@@ -87,7 +87,7 @@ taken_byte s size can has =
     let same_size : length taken.controller.memory ≡ MEMORY_SIZE =
     length-set c.memory 2053 v ∙ size in
     let replies : RepliesOnly taken.controller (after_mail (mail_of bytes) taken).controller =
-    reply_stays taken.controller (mail_of bytes) s.application.objects same_size (taken_room c ∙ can) in
+    reply_stays taken.controller (mail_of bytes) s.application.objects same_size (can_answer-taken c ∙ can) in
     ap (λ (b : Bool). get_or (cond b (after_bytes bytes taken) s).controller.memory 2053 0)
     (and_from _ _ can has)
     ∙ either_byte (is_dropped s.application.kept bytes) taken (after_mail (mail_of bytes) taken) v cleared

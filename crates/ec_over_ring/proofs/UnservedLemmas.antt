@@ -25,10 +25,11 @@ use Rattle.ec_wire.specs.declared.command.Command.TheVariants.{Fprd, Fpwr}
 use Rattle.ec_esc.specs.Pass.{Effect, applied, effect, nothing, pass, range_given, range_sources, range_taken}
 use Rattle.ec_esc.specs.Pass.{serves_range_read, serves_range_write, state_after, where_served}
 use Rattle.ec_esc.specs.State.{ControllerState, IsController, word_at}
+use Rattle.ec_esc.proofs.Laws.{written_nothing}
 use Rattle.ec_app.specs.Roles.{is_answer_mailbox, is_request_mailbox}
 use Rattle.ec_services.specs.Ask.{request}
 use Rattle.ec_over_ring.proofs.BytesLemmas.{zero_bytes}
-use Rattle.ec_over_ring.proofs.PassLemmas.{silent, silent_datagram, written_nothing}
+use Rattle.ec_over_ring.proofs.PassLemmas.{silent, silent_datagram}
 use Rattle.ec_over_ring.proofs.ReadyLemmas.{meets_itself}
 
 -- ---- of several one alone is met

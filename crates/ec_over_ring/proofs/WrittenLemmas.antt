@@ -12,13 +12,13 @@ use Rattle.ec_regs.specs.declared.registers.TheConstants.{MEMORY_SIZE, PROCESS_M
 use Rattle.ec_regs.proofs.Laws.{AreBytes-with_bits, bit-with_bits_taken, bit_of_byte, length-with_bits}
 use Rattle.ec_areas.specs.Ranges.{filled_by, is_range, serves_physical_write, some_address, takes_writes}
 use Rattle.ec_areas.specs.Records.{sync_managers_of}
+use Rattle.ec_areas.proofs.Laws.{filled_registers, locked_registers}
 use Rattle.ec_wire.specs.Datagram.{DatagramRecord, ado_of, adp_of}
 use Rattle.ec_wire.specs.declared.command.Command.TheVariants.{Fpwr}
 use Rattle.ec_esc.specs.Pass.{Effect, applied, effect, is_written, nothing, pass, range_taken, range_targets}
 use Rattle.ec_esc.specs.Pass.{serves_range_write, where_served, written_places}
 use Rattle.ec_esc.specs.State.{ControllerState, IsController, word_at}
 use Rattle.ec_services.specs.Ask.{request}
-use Rattle.ec_over_ring.proofs.RegisterLemmas.{none_filled, unlocked}
 use Rattle.ec_over_ring.proofs.SparedLemmas.{settled_kept}
 
 -- registers of which one takes writes
@@ -36,7 +36,7 @@ write_served m from n can =
     let first : leb 1 n ≡ true = grind (arith, nat_tests) in
     let last : leb (from + n) 12288 ≡ true = grind (arith, nat_tests) in
     ap (λ (b : Bool). is_range from n && ((not b && some_address (takes_writes m) from n) || rest))
-    (unlocked (sync_managers_of m) from n inside)
+    (locked_registers (sync_managers_of m) from n inside)
     ∙ ap (λ (b : Bool). is_range from n && (b || rest)) can.takes
     ∙ and_from _ _ (and_from _ _ first last) refl
 
@@ -67,7 +67,7 @@ range_effect c address from n meant place can =
     ∙ ap (λ (o : Option ℕ). record {
       reading = nothing;
       writing = record { places = range_targets c from n; gain = 1; mail = o };
-    }) (none_filled (sync_managers_of c.memory) from n can.inside)
+    }) (filled_registers (sync_managers_of c.memory) from n can.inside)
 
 -- it is counted once
 pub range_counted : (c : ControllerState) (address from : ℕ) (bytes : List ℕ)

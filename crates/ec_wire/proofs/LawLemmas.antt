@@ -22,6 +22,7 @@ use Rattle.ec_wire.specs.Frame.{starts_from, records_at}
 use Rattle.ec_wire.specs.declared.fault.Form.{Form}
 use Rattle.ec_wire.specs.declared.fault.Form.TheVariants.{Ethernet, Udp}
 use Rattle.ec_wire.specs.declared.fault.WireFault.{WireFault}
+use Rattle.ec_wire.specs.declared.layout.TheConstants.{MAX_LENGTH}
 use Rattle.ec_wire.proofs.DatagramLemmas.{record_at-datagram, says_more-datagram, data_length-datagram}
 use Rattle.ec_wire.proofs.DatagramLemmas.{length_field-datagram, code_of-lt}
 use Rattle.ec_wire.proofs.SpellingLemmas.{body_length-cons, length-datagram, length-spelling}
@@ -277,7 +278,7 @@ HeaderSays-spelt bytes rs behind spelt =
     let t3 : not (from_le_bytes w16 bytes / 2048 % 2 == 0) ≡ false = let k : (n + 4096) / 2048 % 2 ≡ 0 =
     omega arith in ap (λ w. not (w / 2048 % 2 == 0)) word ∙ ap (λ w. not (w == 0)) k in
     let t4 : (stated_length bytes == 0) ≡ false = grind (arith, nat_tests) in
-    let t5 : nat_lt 1498 (stated_length bytes) ≡ false = grind (arith, nat_tests) in
+    let t5 : nat_lt MAX_LENGTH (stated_length bytes) ≡ false = grind (arith, nat_tests) in
     let t6 : nat_lt (length bytes) (frame_end bytes) ≡ false = grind (arith, nat_tests) in
     record {
       stated = stated;
@@ -289,6 +290,19 @@ HeaderSays-spelt bytes rs behind spelt =
     positive : (xs : List DatagramRecord) → is_nil xs ≡ false → 0 < body_length xs
     positive [] e = absurd (true≢false e)
     positive (x ∷ xs) e = let c = body_length-cons x xs in omega arith
+
+-- the length that the header of a frame's spelling says is that of its datagrams
+pub stated_length-spelling : (rs : List DatagramRecord) → IsFrameValue rs
+    → stated_length (spelling rs) ≡ body_length rs
+stated_length-spelling rs value =
+    (HeaderSays-spelt (spelling rs) rs []
+    (record { value = value; split = sym (append-nil (spelling rs)) })).stated
+
+-- so the frame ends by its header where its spelling ends
+pub frame_end-spelling : (rs : List DatagramRecord) → IsFrameValue rs
+    → frame_end (spelling rs) ≡ length (spelling rs)
+frame_end-spelling rs value =
+    ap (λ n. 2 + n) (stated_length-spelling rs value) ∙ sym (length-spelling rs)
 
 -- Bytes that are spelt in a form have one value there.
 pub one_value : (form : Form) (bytes : List ℕ) (rs ss : List DatagramRecord) → IsSpelt form bytes rs

@@ -1,9 +1,12 @@
--- The laws that crates above cite: on the codes of commands, and on how many bytes a frame's spelling has.
+-- The laws that crates above cite: on the codes of commands, and on how many bytes a frame's spelling has and
+-- says that it has.
 use Rattle.std.proofs.Common.{◌≡◌, ◌+◌, Bool, List, length}
 use Rattle.ec_wire.specs.declared.command.Command.{Command}
 use Rattle.ec_wire.specs.Datagram.{DatagramRecord, datagram_length, command_of, code_of}
-use Rattle.ec_wire.specs.Spelling.{datagram, body, body_length, spelling}
+use Rattle.ec_wire.specs.Fault.{stated_length, frame_end}
+use Rattle.ec_wire.specs.Spelling.{datagram, body, body_length, spelling, IsFrameValue}
 use Rattle.ec_wire.proofs.DatagramLemmas as datagrams
+use Rattle.ec_wire.proofs.LawLemmas as frames
 use Rattle.ec_wire.proofs.SpellingLemmas as spellings
 
 -- the code of a command names it
@@ -21,3 +24,13 @@ length-body = spellings.length-body
 -- the spelling of a frame has two bytes more, its header
 pub length-spelling : (rs : List DatagramRecord) → length (spelling rs) ≡ 2 + body_length rs
 length-spelling = spellings.length-spelling
+
+-- the length that the header of a frame's spelling says is that of its datagrams
+pub stated_length-spelling : (rs : List DatagramRecord) → IsFrameValue rs
+    → stated_length (spelling rs) ≡ body_length rs
+stated_length-spelling = frames.stated_length-spelling
+
+-- so the frame ends by its header where its spelling ends
+pub frame_end-spelling : (rs : List DatagramRecord) → IsFrameValue rs
+    → frame_end (spelling rs) ≡ length (spelling rs)
+frame_end-spelling = frames.frame_end-spelling

@@ -21,6 +21,7 @@ use Rattle.ec_wire.specs.Fault.{datagram_tests, datagram_fault, AreSpelt, IsSpel
 use Rattle.ec_wire.specs.Fault.{MayStandBehind, IsSpelt, IsOutline}
 use Rattle.ec_wire.specs.declared.fault.Form.{Form}
 use Rattle.ec_wire.specs.declared.fault.WireFault.{WireFault}
+use Rattle.ec_wire.specs.declared.layout.TheConstants.{MAX_LENGTH}
 use Rattle.ec_wire.proofs.DatagramLemmas.{AreBytes, Passes, datagram-record_at, Fits-record_at, AreBytes-drop}
 use Rattle.ec_wire.proofs.DatagramLemmas.{le_bytes_first}
 use Rattle.ec_wire.proofs.SpellingLemmas.{length-body, length-starts_from, length-spelling}
@@ -201,7 +202,7 @@ pub record HeaderGoesOn (bytes : List ℕ) : Type 0 where
   pub two : 2 ≤ length bytes
   pub word : header_word bytes ≡ stated_length bytes + 4096
   pub some : 0 < stated_length bytes
-  pub room : stated_length bytes ≤ 1498
+  pub room : stated_length bytes ≤ MAX_LENGTH
   pub whole : frame_end bytes ≤ length bytes
 
 -- the header's number by its parts
@@ -216,7 +217,7 @@ HeaderGoesOn-none bytes all none =
     let t2 : (header_word bytes / 4096 == 1) ≡ true = not_false _ tests.1.0 in
     let t3 : (header_word bytes / 2048 % 2 == 0) ≡ true = not_false _ tests.1.1.0 in
     let t4 : (stated_length bytes == 0) ≡ false = tests.1.1.1.0 in
-    let t5 : nat_lt 1498 (stated_length bytes) ≡ false = tests.1.1.1.1.0 in
+    let t5 : nat_lt MAX_LENGTH (stated_length bytes) ≡ false = tests.1.1.1.1.0 in
     let t6 : nat_lt (length bytes) (frame_end bytes) ≡ false = tests.1.1.1.1.1.0 in
     let type_is : header_word bytes / 4096 ≡ 1 = grind (arith, nat_tests) in
     let reserved : header_word bytes / 2048 % 2 ≡ 0 = grind (arith, nat_tests) in

@@ -13,6 +13,7 @@ use Rattle.ec_wire.specs.Datagram.{DatagramRecord, datagram_length, nth, blank, 
 use Rattle.ec_wire.specs.Spelling.{datagram, is_nil, body, body_length, header, spelling, IsFrameValue, front}
 use Rattle.ec_wire.specs.Spelling.{length_word}
 use Rattle.ec_wire.specs.Frame.{starts_from, start_of, Keeps}
+use Rattle.ec_wire.specs.declared.layout.TheConstants.{MAX_LENGTH}
 use Rattle.ec_wire.proofs.SpellingLemmas.{length-datagram, length-front, length-spelling, body_length-cons}
 use Rattle.ec_wire.proofs.FrameLemmas.{split-at, replaced, start-room}
 
@@ -134,7 +135,7 @@ header-over n m xs cells e = ap (λ l. overwritten 0 (header m) l) e
 
 -- the frame of one datagram
 pub Keeps-of : (c0 c1 c2 starts : List ℕ) (r : DatagramRecord) → length c0 ≡ 1500 → Fits r
-    → datagram_length r ≤ 1498 → c1 ≡ overwritten 0 (header (datagram_length r)) c0
+    → datagram_length r ≤ MAX_LENGTH → c1 ≡ overwritten 0 (header (datagram_length r)) c0
     → c2 ≡ take 2 c1 ++ (datagram false r ++ drop (2 + datagram_length r) c1) → starts ≡ 2 ∷ []
     → Keeps c2 (2 + datagram_length r) starts (r ∷ [])
 Keeps-of c0 c1 c2 starts r long fits room e1 e2 es =

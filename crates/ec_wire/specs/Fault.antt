@@ -15,6 +15,7 @@ use Rattle.ec_wire.specs.declared.fault.FaultKind.TheVariants.{Short, BadType, R
 use Rattle.ec_wire.specs.declared.fault.FaultKind.TheVariants.{BadCommand, Overrun, MoreAtEnd, LeftOver}
 use Rattle.ec_wire.specs.declared.fault.FaultKind.TheVariants.{Trailing}
 use Rattle.ec_wire.specs.declared.fault.WireFault.{WireFault}
+use Rattle.ec_wire.specs.declared.layout.TheConstants.{MAX_LENGTH}
 
 -- a fault of this kind at this place
 abbrev pub fault : FaultKind → ℕ → WireFault
@@ -44,7 +45,7 @@ header_tests bytes =
     ∷ (not (header_word bytes / 4096 == 1), fault BadType 1)
     ∷ (not (header_word bytes / 2048 % 2 == 0), fault Reserved 1)
     ∷ (stated_length bytes == 0, fault Empty 0)
-    ∷ (nat_lt 1498 (stated_length bytes), fault TooLong 0)
+    ∷ (nat_lt MAX_LENGTH (stated_length bytes), fault TooLong 0)
     ∷ (nat_lt (length bytes) (frame_end bytes), fault Short (length bytes))
     ∷ []
 

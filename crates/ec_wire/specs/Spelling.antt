@@ -6,6 +6,7 @@ use Rattle.std.specs.Prelude.{sum_by, All, if◌then◌else◌}
 use Rattle.std.specs.Int.{w16, w32, to_le_bytes}
 use Rattle.std.specs.List.{flat_map}
 use Rattle.ec_wire.specs.Datagram.{DatagramRecord, code_of, datagram_length, Fits}
+use Rattle.ec_wire.specs.declared.layout.TheConstants.{MAX_LENGTH}
 
 -- a bit as a number
 abbrev pub bit_of : Bool → ℕ
@@ -55,4 +56,4 @@ spelling rs = header (body_length rs) ++ body rs
 pub record IsFrameValue (rs : List DatagramRecord) : Type 0 where
   pub some : is_nil rs ≡ false
   pub fits : All Fits rs
-  pub room : body_length rs ≤ 1498
+  pub room : body_length rs ≤ MAX_LENGTH

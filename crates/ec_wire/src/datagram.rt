@@ -1,6 +1,7 @@
 //! One datagram by itself, as it is put into a frame and copied out of one (IEC 61158-4-12, datagrams).
 
 ghost use Rattle.std.specs.Prelude.{◌≡◌, ◌≤◌};
+ghost use Rattle.ec_wire.specs.declared.layout.TheConstants.{MAX_LENGTH};
 
 use crate::command::Command;
 use crate::layout::OVERHEAD;
@@ -34,7 +35,7 @@ impl Datagram {
     /// The bytes that it takes in a frame: ten of its head, the data, and two of the working counter.
     pub fn wire_length(&self) -> usize
         ensures value { result ≡ datagram_length (record_of self.now) }
-        ensures room { result ≤ 1498 }
+        ensures room { result ≤ MAX_LENGTH }
         ensures fits { Fits (record_of self.now) }
     {
         // The fields' types bound them, which a proof knows of fields that are read.

@@ -6,8 +6,9 @@ use crate::frame::MAX_FRAME;
 /// The bytes of the frame's header; the first datagram follows it.
 pub(crate) const HEADER: usize = 2;
 
-/// The most bytes of all datagrams.
-pub(crate) const MAX_LENGTH: usize = MAX_FRAME - HEADER;
+/// The most bytes of all datagrams of a frame together, and so the most that the length in its header may say
+/// (IEC 61158-4-12, the EtherCAT frame structure): an Ethernet payload without that header.
+pub const MAX_LENGTH: usize = MAX_FRAME - HEADER;
 
 /// Both length fields, the header's and a datagram's: the length is what is below this.
 pub(crate) const LENGTHS: u16 = 1 << 11;

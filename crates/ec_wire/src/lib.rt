@@ -48,5 +48,6 @@ pub use datagram::{Datagram, MAX_DATA};
 pub use fault::{FaultKind, Form, WireFault};
 pub use frame::{FrameBuf, MAX_DATAGRAMS, MAX_FRAME, PACKET_ROOM};
 pub use kind::Kind;
+pub use layout::MAX_LENGTH;
 pub use read::one_spelling;
 pub use write::Full;

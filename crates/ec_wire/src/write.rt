@@ -4,6 +4,7 @@ ghost use Rattle.std.specs.Prelude.{◌≡◌, ℕ, ◌+◌, ◌*◌, ◌<◌, �
 ghost use Rattle.std.specs.Prelude.{IsErr, OnOk, OnErr};
 ghost use Rattle.ec_wire.specs.Datagram.{record_of, datagram_length};
 ghost use Rattle.ec_wire.specs.Spelling.{datagram, bit_of, body_length};
+ghost use Rattle.ec_wire.specs.declared.layout.TheConstants.{MAX_LENGTH};
 
 use crate::cells::Cells;
 use crate::datagram::Datagram;
@@ -73,7 +74,7 @@ impl FrameBuf {
         ensures ok { OnOk result (self.new ≡ self.old ++ record_of datagram.now ∷ []) }
         ensures err { OnErr result (self.new ≡ self.old) }
         ensures full { IsErr result
-            ↔ (1498 < body_length self.old + datagram_length (record_of datagram.now)) }
+            ↔ (MAX_LENGTH < body_length self.old + datagram_length (record_of datagram.now)) }
     {
         let at = self.size;
         let end = at + datagram.wire_length();

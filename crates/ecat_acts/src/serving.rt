@@ -96,12 +96,8 @@ where
     };
     if service.control {
         ends.keep_lines();
-        let mut ends = TapedEnds::new(&mut ends, recorder);
-        control_disturbed(rt, served, service, &mut ends, out, err)
-    } else {
-        let mut ends = TapedEnds::new(&mut ends, recorder);
-        status_of(serve(served, service, &mut ends, out, err), out, err)
     }
+    serve_ends(rt, service, &mut ends, served, recorder, out, err)
 }
 
 /// Serves a line at packet sockets.
@@ -128,10 +124,33 @@ where
     };
     if service.control {
         ends.keep_lines();
-        let mut ends = TapedEnds::new(&mut ends, recorder);
+    }
+    serve_ends(rt, service, &mut ends, served, recorder, out, err)
+}
+
+/// Serves a line that has these ends, under commands where the service takes them, and records each copy at
+/// its ends, if anybody wants it.
+fn serve_ends<R, E, T, M, W, V>(
+    rt: &R,
+    service: Service,
+    ends: &mut E,
+    served: Served,
+    recorder: &mut Recorder<T, M>,
+    out: &mut W,
+    err: &mut V,
+) -> u8
+where
+    R: Clock + AllocGlobal,
+    E: LineConsole + TimedEnds,
+    T: io::Write,
+    M: Moments,
+    W: io::Write,
+    V: io::Write,
+{
+    let mut ends = TapedEnds::new(ends, recorder);
+    if service.control {
         control_disturbed(rt, served, service, &mut ends, out, err)
     } else {
-        let mut ends = TapedEnds::new(&mut ends, recorder);
         status_of(serve(served, service, &mut ends, out, err), out, err)
     }
 }

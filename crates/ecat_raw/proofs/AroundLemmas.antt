@@ -1,33 +1,17 @@
 -- What is put around a frame is taken out again.
-use Rattle.std.proofs.Common.{arith, ◌≡◌, ◌+◌, ◌-◌, ◌%◌, ◌==◌, ◌||◌, ◌∙◌, ℕ, false, nat_lt}
+use Rattle.std.proofs.Common.{arith, ◌≡◌, ◌+◌, ◌-◌, ◌==◌, ◌||◌, ◌∙◌, ℕ, false, nat_lt}
 use Rattle.std.proofs.Common.{List, [], ◌∷◌, ◌++◌, length, take, drop, replicate, Some, None}
 use Rattle.std.proofs.Common.{if◌then◌else◌, sym, ap}
 use Rattle.std.specs.Int.{w16, from_be_bytes}
 use Rattle.std.proofs.Math.Seq.{take-append_seam, drop-append_seam}
 use Rattle.std.proofs.lemmas.Bool.Decides.{nat_tests}
 use Rattle.std.proofs.lemmas.List.{append_assoc, length-append}
-use Rattle.std.proofs.lemmas.Nat.{from_le_bytes-to_le_bytes_2}
-use Rattle.ec_wire.specs.Datagram.{DatagramRecord}
 use Rattle.ec_wire.specs.Fault.{frame_end}
-use Rattle.ec_wire.specs.Spelling.{body_length, spelling, IsFrameValue}
-use Rattle.ec_wire.proofs.Laws.{length-body}
 use Rattle.ecat_raw.specs.Ethernet.{broadcast, header_of, packet_of, typed, type_of, untagged, cut, frame_in}
 
 -- ---- where a frame ends by its header
 
--- a frame ends where its header says
-pub ends : (rs : List DatagramRecord) → IsFrameValue rs → frame_end (spelling rs) ≡ length (spelling rs)
-unfolding spelling
-ends rs value =
-    let room = value.room in
-    let long = length-body rs in
-    let word = from_le_bytes-to_le_bytes_2 (body_length rs + 4096) (omega arith) in
-    let stated : (body_length rs + 4096) % 2048 ≡ body_length rs = omega arith in
-    let end : frame_end (spelling rs) ≡ 2 + body_length rs = ap (λ w. 2 + w % 2048) word ∙ ap (λ n. 2 + n) stated in
-    let whole : length (spelling rs) ≡ 2 + body_length rs = omega arith in
-    end ∙ sym whole
-
--- so padding behind it is cut
+-- padding behind it is cut
 cut_padding : (frame zeros : List ℕ) → frame_end frame ≡ length frame → cut (frame ++ zeros) ≡ frame
 cut_padding [] zeros is = absurd (omega (arith, is))
 cut_padding (a ∷ []) zeros is = absurd (omega (arith, is))

@@ -7,6 +7,7 @@ use Rattle.ec_line.specs.After.{Entry}
 use Rattle.ec_line.specs.Answered.{sent_of}
 use Rattle.ec_wire.specs.Datagram.{datagram_length}
 use Rattle.ec_wire.specs.Spelling.{body_length}
+use Rattle.ec_wire.specs.declared.layout.TheConstants.{MAX_LENGTH}
 use Rattle.std.proofs.lemmas.List.{get_or-map, length-map, length-take-le, length-drop, take_more, drop_all}
 use Rattle.std.proofs.lemmas.List.{get_or-drop}
 use Rattle.std.proofs.lemmas.List.Sums.{sum_by-cons}
@@ -162,7 +163,7 @@ between-count image items first count inside =
 pub record IsFilling (image : List ℕ) (items : List Item) (first k bytes : ℕ) : Type 0 where
   pub ordered : first < k
   pub bytes_are : bytes ≡ body_length (sent_of (between first k (map (asked image) items)))
-  pub fits : bytes ≤ 1498
+  pub fits : bytes ≤ MAX_LENGTH
   pub rest : filled (between first k (map (asked image) items))
       (entries_from k (drop k (map (asked image) items)))
       ≡ frame_at first (map (asked image) items)
@@ -197,7 +198,7 @@ filling-first image items first are inside =
 -- one more fits on it
 pub filling-more : (image : List ℕ) (items : List Item) (first k bytes : ℕ) → AreTaken (length image) items
     → k < length items → IsFilling image items first k bytes
-    → bytes + (12 + (get_or items k no_item).length) ≤ 1498
+    → bytes + (12 + (get_or items k no_item).length) ≤ MAX_LENGTH
     → IsFilling image items first (suc k) (bytes + (12 + (get_or items k no_item).length))
 filling-more image items first k bytes are inside is room =
     let asks : List ItemRecord = map (asked image) items in
@@ -238,7 +239,7 @@ carried image items first k bytes inside is whole =
 -- one more does not fit on it
 pub filling-full : (image : List ℕ) (items : List Item) (first k bytes : ℕ) → AreTaken (length image) items
     → k < length items → IsFilling image items first k bytes
-    → 1498 < bytes + (12 + (get_or items k no_item).length)
+    → MAX_LENGTH < bytes + (12 + (get_or items k no_item).length)
     → IsCarried items image first (record { items = k - first; bytes = bytes })
 filling-full image items first k bytes are inside is full =
     let asks : List ItemRecord = map (asked image) items in
@@ -246,7 +247,7 @@ filling-full image items first k bytes are inside is full =
     let frame : List Entry = between first k asks in
     let size : datagram_length e.sent ≡ 12 + (get_or items k no_item).length =
     bytes_at image items k are inside in
-    let over : 1498 < body_length (sent_of frame) + datagram_length e.sent =
+    let over : MAX_LENGTH < body_length (sent_of frame) + datagram_length e.sent =
     omega (arith, full, is.bytes_are, size) in
     carried image items first k bytes (omega (arith, inside)) is
     (sym is.rest ∙ ap (filled frame) (entries-asked image items k inside)

@@ -7,6 +7,7 @@ use Rattle.std.proofs.lemmas.List.{append_assoc, append-nil, length-append}
 use Rattle.std.proofs.lemmas.List.Sums.{sum_by-cons}
 use Rattle.ec_wire.specs.Datagram.{DatagramRecord, datagram_length, code_of}
 use Rattle.ec_wire.specs.Spelling.{datagram, is_nil, body, body_length, header, spelling, length_word}
+use Rattle.ec_wire.proofs.Laws.{length-body, length-spelling}
 use Rattle.ec_line.specs.After.{Entry}
 use Rattle.ec_line.specs.Answered.{sent_of}
 use Rattle.ec_map.specs.Item.{ItemRecord}
@@ -61,8 +62,23 @@ pub record IsSpelling (image : List ℕ) (items : List Item) (first end k at : �
   pub is : IsWritten written before at room
   pub rest : written ++ body (sent_of (between k end (map (asked image) items)))
       ≡ spelling (sent_of (between first end (map (asked image) items)))
-  pub bytes : at + body_length (sent_of (between k end (map (asked image) items)))
-      ≡ 2 + body_length (sent_of (between first end (map (asked image) items)))
+
+-- so what is written and what is left have as many bytes as the frame
+spelling-bytes : (image : List ℕ) (items : List Item) (first end k at : ℕ) (before room : List ℕ)
+    → IsSpelling image items first end k at before room
+    → at + body_length (sent_of (between k end (map (asked image) items)))
+    ≡ 2 + body_length (sent_of (between first end (map (asked image) items)))
+spelling-bytes image items first end k at before room is =
+    let left : List DatagramRecord = sent_of (between k end (map (asked image) items)) in
+    let frame : List DatagramRecord = sent_of (between first end (map (asked image) items)) in
+    omega (
+      arith,
+      is.is.at_is,
+      length-body left,
+      length-append is.written (body left),
+      ap length is.rest,
+      length-spelling frame,
+    )
 
 -- the header is written
 pub spelling-first : (image : List ℕ) (items : List Item) (first end at : ℕ) (before room written : List ℕ)
@@ -75,7 +91,6 @@ spelling-first image items first end at before room written same is =
       written = written;
       is = is;
       rest = ap (λ l. l ++ body frame) same;
-      bytes = ap (λ n. n + body_length frame) (is.at_is ∙ ap length same);
     }
 
 -- another datagram follows exactly where there is another item
@@ -115,22 +130,20 @@ pub spelling-room : (image : List ℕ) (items : List Item) (first end k at : ℕ
 spelling-room image items first end k at before room are ordered inside is =
     omega (
       arith,
-      is.bytes,
+      spelling-bytes image items first end k at before room is,
       bytes-left image items k end ordered inside,
       bytes_at image items k are (omega (arith, ordered, inside)),
     )
 
 -- one more datagram is written
 pub spelling-more : (image : List ℕ) (items : List Item) (first end k at next : ℕ)
-    (before room later : List ℕ) (more : Bool) → AreTaken (length image) items → k < end
-    → end ≤ length items → (suc k < end → more ≡ true) → (end ≤ suc k → more ≡ false)
+    (before room later : List ℕ) (more : Bool) → k < end → end ≤ length items
+    → (suc k < end → more ≡ true) → (end ≤ suc k → more ≡ false)
     → IsSpelling image items first end k at before room
-    → next ≡ at + (12 + (get_or items k no_item).length)
     → ((written before : List ℕ) → IsWritten written before at room
     → IsWritten (written ++ datagram more (entry_at image items k).sent) before next later)
     → IsSpelling image items first end (suc k) next before later
-spelling-more image items first end k at next before room later more are ordered inside if_more if_last is
-    next_is put =
+spelling-more image items first end k at next before room later more ordered inside if_more if_last is put =
     let asks : List ItemRecord = map (asked image) items in
     let e : Entry = entry_at image items k in
     let left : List Entry = between (suc k) end asks in
@@ -144,14 +157,6 @@ spelling-more image items first end k at next before room later more are ordered
           ∙ ap (λ es. is.written ++ body (sent_of es))
           (sym (between-cons image items k end ordered (omega (arith, ordered, inside))))
           ∙ is.rest;
-      bytes =
-          omega (
-            arith,
-            next_is,
-            is.bytes,
-            bytes-left image items k end ordered inside,
-            bytes_at image items k are (omega (arith, ordered, inside)),
-          );
     }
 
 -- all are written
@@ -165,11 +170,9 @@ spelling-end image items first end k at before room all size is =
     let none : between k end asks ≡ [] = ap (λ n. between k n asks) (sym all) ∙ between-none asks k in
     let whole : is.written ≡ spelling frame =
     sym (append-nil is.written) ∙ ap (λ es. is.written ++ body (sent_of es)) (sym none) ∙ is.rest in
-    let count : at ≡ 2 + body_length frame =
-    omega (arith, is.bytes, ap (λ es. body_length (sent_of es)) none) in
     let long : at ≡ length (spelling frame) = is.is.at_is ∙ ap length whole in
     record {
-      count_is = sym count ∙ long;
+      count_is = sym (length-spelling frame);
       fits = fits (is.is.room_is) (is.is.at_is) long;
       bytes_are = is.is.room_is ∙ ap (λ l. l ++ drop at before) whole
           ∙ ap (λ n. spelling frame ++ drop n before) long;

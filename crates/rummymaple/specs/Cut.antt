@@ -1,6 +1,7 @@
 -- What one frame carries of a master's items, and how many bytes their datagrams take.
 use Rattle.std.specs.Prelude.{◌≡◌, ◌<◌, ◌≤◌, ◌+◌, ℕ, List, map, length, slice_range}
 use Rattle.ec_wire.specs.Spelling.{body_length}
+use Rattle.ec_wire.specs.declared.layout.TheConstants.{MAX_LENGTH}
 use Rattle.ec_line.specs.After.{Entry}
 use Rattle.ec_line.specs.Answered.{sent_of}
 use Rattle.ec_map.specs.Item.{ItemRecord}
@@ -20,4 +21,4 @@ pub record IsCarried (items : List Item) (image : List ℕ) (first : ℕ) (carri
   pub items_are : frame_at first (map (asked image) items)
       ≡ between first (first + carried.items) (map (asked image) items)
   pub bytes_are : carried.bytes ≡ body_length (sent_of (frame_at first (map (asked image) items)))
-  pub fits : carried.bytes ≤ 1498
+  pub fits : carried.bytes ≤ MAX_LENGTH

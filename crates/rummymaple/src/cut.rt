@@ -5,8 +5,8 @@ ghost use Rattle.rummymaple.specs.Cut.{IsCarried};
 ghost use Rattle.rummymaple.specs.Items.{AreTaken};
 
 use crate::item::Item;
-use crate::layout::{HEADER, OVERHEAD};
-use ec_wire::MAX_FRAME;
+use crate::layout::OVERHEAD;
+use ec_wire::MAX_LENGTH;
 
 /// What one frame carries.
 #[derive(Drop)]
@@ -36,7 +36,7 @@ pub(crate) fn carried_from(items: &[Item], first: usize) -> Carried
     let mut bytes = items[first].wire_length();
     for k in first + 1..items.len() {
         let more = bytes + items[k].wire_length();
-        if more > MAX_FRAME - HEADER {
+        if more > MAX_LENGTH {
             return Carried {
                 items: k - first,
                 bytes,

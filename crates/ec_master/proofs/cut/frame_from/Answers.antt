@@ -7,6 +7,7 @@ use Rattle.ec_line.specs.Answered.{sent_of}
 use Rattle.ec_map.specs.Item.{ItemRecord}
 use Rattle.ec_wire.specs.Datagram.{DatagramRecord, datagram_length, record_of}
 use Rattle.ec_wire.specs.Spelling.{body_length}
+use Rattle.ec_wire.specs.declared.layout.TheConstants.{MAX_LENGTH}
 use Rattle.ec_master.specs.Cut.{entry_of, entries_from, filled}
 use Rattle.ec_master.specs.Work.{nth_item, no_item}
 use Rattle.ec_master.proofs.CutLemmas.{entries-cons, filled-more, filled-full, filled-none, sent_of-more}
@@ -27,12 +28,14 @@ loop-k-init c =
 -- what the frame and the pushed datagram take is what the entries take
 over : (es : List Entry) (e : Entry) (frame : List DatagramRecord) (d : DatagramRecord) → frame ≡ sent_of es
     → d ≡ e.sent
-    → 1498 < body_length frame + datagram_length d → 1498 < body_length (sent_of es) + datagram_length e.sent
+    → MAX_LENGTH < body_length frame + datagram_length d
+    → MAX_LENGTH < body_length (sent_of es) + datagram_length e.sent
 over es e frame d same one h = omega (arith, h, ap body_length same, ap datagram_length one)
 
 within : (es : List Entry) (e : Entry) (frame : List DatagramRecord) (d : DatagramRecord) → frame ≡ sent_of es
     → d ≡ e.sent
-    → body_length frame + datagram_length d ≤ 1498 → body_length (sent_of es) + datagram_length e.sent ≤ 1498
+    → body_length frame + datagram_length d ≤ MAX_LENGTH
+    → body_length (sent_of es) + datagram_length e.sent ≤ MAX_LENGTH
 within es e frame d same one h = omega (arith, h, ap body_length same, ap datagram_length one)
 
 pub returns-in-Err : goal.returns-in-Err
@@ -41,7 +44,7 @@ returns-in-Err c =
     let k : ℕ = c.loop-k.k in
     let es = c.loop-k.invariant.entries in
     let e : Entry = entry_of (nth_item items k) k in
-    let full : 1498 < body_length (sent_of es) + datagram_length e.sent
+    let full : MAX_LENGTH < body_length (sent_of es) + datagram_length e.sent
     = over es e _ _ c.loop-k.invariant.frame c.put_datagram.ensures
     (c.in-Err.ensures.full.0 refl) in
     let inside : k < length items = omega (arith, c.loop-k-test.true, c.len-k-end.ensures.count) in
@@ -63,7 +66,7 @@ loop-k-preserved c =
     ∙ ap (λ (ds : List DatagramRecord). ds ++ record_of c.put_datagram.new.datagram ∷ [])
     c.loop-k.invariant.frame
     ∙ ap (λ (d : DatagramRecord). sent_of es ++ d ∷ []) c.put_datagram.ensures in
-    let fits : body_length (sent_of es) + datagram_length e.sent ≤ 1498
+    let fits : body_length (sent_of es) + datagram_length e.sent ≤ MAX_LENGTH
     = within es e _ _ c.loop-k.invariant.frame c.put_datagram.ensures
     (not_full _ _ c.in-Ok.ensures.full.1) in
     record {

@@ -12,20 +12,20 @@ loop-k-init c = record {
   bytes = c.wire_length-bytes.ensures.most;
 }
 
-pub returns-then-more : goal.returns-then-more
-returns-then-more c image taken =
+pub returns-then-more-gt-MAX_LENGTH : goal.returns-then-more-gt-MAX_LENGTH
+returns-then-more-gt-MAX_LENGTH c image taken =
     filling-full image c.args.items.now c.args.first c.loop-k.k c.loop-k.bytes taken c.loop-k-test.true
-    (c.loop-k.invariant.filling image taken) (omega (arith, c.if-more.true, c.wire_length.ensures.length))
+    (c.loop-k.invariant.filling image taken) (omega (arith, c.if-more-gt-MAX_LENGTH.true, c.wire_length.ensures.length))
 
 pub loop-k-preserved : goal.loop-k-preserved
 loop-k-preserved c = record {
   filling = λ image taken. rw (add-one c.loop-k.k, c.wire_length.ensures.length)
       (filling-more image c.args.items.now c.args.first c.loop-k.k c.loop-k.bytes taken c.loop-k-test.true
       (c.loop-k.invariant.filling image taken)
-      (omega (arith, c.if-more.false, c.wire_length.ensures.length)));
+      (omega (arith, c.if-more-gt-MAX_LENGTH.false, c.wire_length.ensures.length)));
   ordered = omega (arith, c.loop-k.invariant.ordered);
   inside = omega (arith, c.loop-k-test.true);
-  bytes = omega (arith, c.if-more.false);
+  bytes = omega (arith, c.if-more-gt-MAX_LENGTH.false);
 }
 
 pub returns : goal.returns

@@ -46,9 +46,9 @@ loop-k-preserved c =
           rw (add-one k)
           (spelling-more c.args.image.now c.args.items.now c.args.first
           (c.args.first + c.args.carried.now.items) k c.loop-k.at c.put_datagram-at.result c.args.room.now
-          c.loop-k.room _ _ c.requires.taken before c.requires.carried.inside
+          c.loop-k.room _ _ before c.requires.carried.inside
           (λ h. lt-ltb _ _ (omega (arith, h))) (λ h. le-ltb _ _ (omega (arith, h)))
-          c.loop-k.invariant.spelling c.put_datagram-at.ensures.end c.put_datagram-at.ensures.written);
+          c.loop-k.invariant.spelling c.put_datagram-at.ensures.written);
       inside = omega (arith, before);
       size = c.put_datagram-at.ensures.size ∙ c.loop-k.invariant.size;
     }

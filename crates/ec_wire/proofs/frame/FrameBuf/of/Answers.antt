@@ -4,6 +4,7 @@ use Rattle.std.specs.Int.{w16, to_le_bytes}
 use Rattle.ec_wire.specs.Datagram.{record_of, datagram_length}
 use Rattle.ec_wire.specs.Spelling.{header}
 use Rattle.ec_wire.specs.Frame.{Keeps}
+use Rattle.ec_wire.specs.declared.layout.TheConstants.{MAX_LENGTH}
 use Rattle.ec_wire.proofs.SpellingLemmas.{records_at-keeps, Keeps-seen}
 use Rattle.ec_wire.proofs.WriteLemmas.{overwritten, Keeps-of}
 use Rattle.ec_wire.proofs.frame.FrameBuf.of.Goals as goal
@@ -15,7 +16,7 @@ kept_new : (c : goal.After-push)
 kept_new c =
     let r = record_of c.args.datagram.now in
     let size : c.wire_length-length.result ≡ datagram_length r = c.wire_length-length.ensures.value in
-    let room : datagram_length r ≤ 1498 = omega (arith, c.wire_length-length.ensures.room) in
+    let room : datagram_length r ≤ MAX_LENGTH = omega (arith, c.wire_length-length.ensures.room) in
     let blank_cells : length c.new-cells.result.bytes ≡ 1500 =
     ap length c.new-cells.ensures ∙ length-replicate {A = ℕ} 1500 0 in
     let word : c.to_le_bytes.result ≡ header (datagram_length r) =
