@@ -19,22 +19,27 @@ use Rattle.ec_app.specs.declared.value.Value.{Value}
 use Rattle.ec_ring.specs.Ring.{RingState, line_of, stepped}
 use Rattle.ec_master.specs.RingTrips.{RingTrips}
 use Rattle.ec_master.specs.Travelled.{AtMostOneDown}
+use Rattle.ec_services.specs.Acknowledgement.{IsAcknowledged}
 use Rattle.ec_services.specs.Ask.{Answer, Asks}
 use Rattle.ec_services.specs.Mailbox.{skipped}
+use Rattle.ec_services.specs.Settling.{IsSettled}
 use Rattle.ec_services.specs.States.{IsRequested}
 use Rattle.ec_services.specs.Transfer.{IsTransferred, uploaded_by, downloaded_by}
 use Rattle.ec_services.specs.declared.fault.MasterFault.{MasterFault}
 use Rattle.ec_services.specs.declared.mailbox.Peer.{Peer}
 use Rattle.ec_over_ring.specs.Question.{IsByStation, IsOther, ReachesOne, Tells, ring_after}
-use Rattle.ec_over_ring.specs.States.{HasStation, asked_slave, asked_ring, told_state}
+use Rattle.ec_over_ring.specs.States.{HasStation, acknowledged_ring, acknowledged_slave, asked_slave}
+use Rattle.ec_over_ring.specs.States.{asked_ring, told_state}
 use Rattle.ec_over_ring.specs.Transfers.{HasPeer, IsAnswered, IsRequest, IsSlave, answered, answered_ring}
 use Rattle.ec_over_ring.specs.Transfers.{AreMailboxes, IsReady, prepared}
 use Rattle.ec_over_ring.specs.Transfers.{download_of, objects_after, two_steps, upload_of}
 use Rattle.ec_over_ring.proofs.QuestionLemmas as questions
 use Rattle.ec_over_ring.proofs.NobodyLemmas as nobody
 use Rattle.ec_over_ring.proofs.StateLemmas as states
+use Rattle.ec_over_ring.proofs.AcknowledgeLemmas as acknowledging
 use Rattle.ec_over_ring.proofs.ObjectLemmas as objects
 use Rattle.ec_over_ring.proofs.ReadyLemmas as ready
+use Rattle.ec_over_ring.proofs.SettleLemmas as settling
 pub use Rattle.ec_over_ring.proofs.BroughtLemmas.{entered, recovered}
 pub use Rattle.ec_over_ring.proofs.CallLemmas.{keeps}
 pub use Rattle.ec_over_ring.proofs.LineBroughtLemmas.{all_entered, all_in_op}
@@ -119,6 +124,45 @@ pub state_ring : (station limit : ℕ) (state : AlState) (r : RingState) (before
 state_ring station limit state r before behind s result later has slaves some talk =
     (states.requested station limit state r before s behind result later has
     (states.slaves_between station state r before s behind has slaves) some talk).ring
+
+-- ---- an error that is acknowledged
+
+-- the result is the state in which the read found the slave, where no error stands behind the write
+pub acknowledged_told : (station limit : ℕ) (r : RingState) (before behind : List SlaveState) (s : SlaveState)
+    (result : Result AlState MasterFault) (later : RingState) → HasStation station r before s behind
+    → AllByRecursion IsSlave r.slaves → 1 ≤ limit → IsAcknowledged RingTrips r station limit result later
+    → (al_status (acknowledged_slave station s).controller).error ≡ false
+    → result ≡ Ok (al_status s.controller).state
+acknowledged_told station limit r before behind s result later has slaves some is none =
+    (acknowledging.acknowledged station limit r before s behind result later has slaves some is
+    none).result_is
+
+-- and the slave is in that state
+pub acknowledged_entered : (station : ℕ) (r : RingState) (before behind : List SlaveState) (s : SlaveState)
+    → HasStation station r before s behind → AllByRecursion IsSlave r.slaves
+    → (al_status (acknowledged_slave station s).controller).error ≡ false
+    → (al_status (acknowledged_slave station s).controller).state ≡ (al_status s.controller).state
+acknowledged_entered station r before behind s =
+    acknowledging.acknowledged_state station r before s behind
+
+-- behind the last read each slave took one step more
+pub acknowledged_left : (station limit : ℕ) (r : RingState) (before behind : List SlaveState) (s : SlaveState)
+    (result : Result AlState MasterFault) (later : RingState) → HasStation station r before s behind
+    → AllByRecursion IsSlave r.slaves → 1 ≤ limit → IsAcknowledged RingTrips r station limit result later
+    → (al_status (acknowledged_slave station s).controller).error ≡ false
+    → later ≡ stepped (acknowledged_ring station r before s behind)
+acknowledged_left station limit r before behind s result later has slaves some is none =
+    (acknowledging.acknowledged station limit r before s behind result later has slaves some is none).ring
+
+-- ---- mailboxes that are empty
+
+-- it is seen at once, and each slave took one step
+pub settled_at_once : (peer : Peer) (limit : ℕ) (r : RingState) (before behind : List SlaveState)
+    (s : SlaveState) (result : Result (Unit {0}) MasterFault) (later : RingState)
+    → HasPeer peer r before s behind → 1 ≤ limit → IsSettled RingTrips r peer limit result later
+    → (result ≡ Ok tt) × (later ≡ stepped r)
+settled_at_once peer limit r before behind s result later =
+    settling.settles peer limit r before s behind result later
 
 -- ---- transfers
 

@@ -11,6 +11,7 @@ pub mod AlLemmas
 pub mod TalkLemmas
 pub mod StationLemmas
 pub mod StateLemmas
+pub mod AcknowledgeLemmas
 pub mod ManagerLemmas
 pub mod SpellingLemmas
 pub mod BytesLemmas
@@ -44,6 +45,7 @@ pub mod RingRecoveryLemmas
 pub mod CalmLemmas
 pub mod TakesLemmas
 pub mod TenTripsLemmas
+pub mod SettleLemmas
 pub mod AnsweredLemmas
 pub mod KeptLemmas
 pub mod CalmRingLemmas

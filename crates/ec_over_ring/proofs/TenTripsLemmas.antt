@@ -131,10 +131,10 @@ carries_on d (Err fault) tells = absurd tells
 carries_on d (Ok back) tells = refl
 
 -- what is seen of both mailboxes
-abbrev seen : Bool → Bool → Boxes
+abbrev pub seen : Bool → Bool → Boxes
 seen answer request = cond answer answer_there (cond request unknown both_empty)
 
-boxes_told : (peer : Peer) (s : SlaveState) (answer : Answer) → Tells (records_told peer s) answer
+pub boxes_told : (peer : Peer) (s : SlaveState) (answer : Answer) → Tells (records_told peer s) answer
     → mailboxes_by answer ≡ seen (answer_stands s) (request_stands s)
 boxes_told peer s (Err fault) tells = absurd tells
 boxes_told peer s (Ok back) tells =

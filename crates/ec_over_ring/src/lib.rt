@@ -14,9 +14,12 @@
 //! - `states_over_ring`: a state request ([`ec_services::request_state`]) comes to what AL status of that
 //!   slave tells once it took the step after the write: the state that was asked for, or Refused and its
 //!   code;
+//! - `acknowledged_over_ring`: an error that is acknowledged ([`ec_services::acknowledge`]) leaves the slave
+//!   in the state in which AL status was read, and that is told, where no error stands behind the write;
 //! - `transfers_over_ring`: an object that is read or written ([`ec_services::sdo_upload`] and
 //!   [`ec_services::sdo_download`]) comes to its value, to Ok, or to the abort code that says why not, and
 //!   the law applies again to the next transfer;
+//! - `settled_over_ring`: empty mailboxes are seen so ([`ec_services::settle`]) by the first look;
 //! - `objects_over_ring`: an object that may be read is read, and one that may be written holds the value;
 //! - `ready_at_first`: a slave in Pre-Op with two mailboxes takes a peer's first request.
 //!

@@ -18,14 +18,17 @@ ghost use Rattle.ec_app.specs.declared.value.Value.{Value};
 ghost use Rattle.ec_ring.specs.Ring.{RingState, line_of, stepped};
 ghost use Rattle.ec_master.specs.RingTrips.{RingTrips};
 ghost use Rattle.ec_master.specs.Travelled.{AtMostOneDown};
+ghost use Rattle.ec_services.specs.Acknowledgement.{IsAcknowledged};
 ghost use Rattle.ec_services.specs.Ask.{Answer, Asks};
 ghost use Rattle.ec_services.specs.Mailbox.{skipped};
+ghost use Rattle.ec_services.specs.Settling.{IsSettled};
 ghost use Rattle.ec_services.specs.States.{IsRequested};
 ghost use Rattle.ec_services.specs.Transfer.{IsTransferred, uploaded_by, downloaded_by};
 ghost use Rattle.ec_services.specs.declared.fault.MasterFault.{MasterFault};
 ghost use Rattle.ec_services.specs.declared.mailbox.Peer.{Peer};
 ghost use Rattle.ec_over_ring.specs.Question.{IsByStation, IsOther, ReachesOne, Tells, ring_after};
-ghost use Rattle.ec_over_ring.specs.States.{HasStation, asked_slave, asked_ring, told_state};
+ghost use Rattle.ec_over_ring.specs.States.{HasStation, acknowledged_ring, acknowledged_slave, asked_slave};
+ghost use Rattle.ec_over_ring.specs.States.{asked_ring, told_state};
 ghost use Rattle.ec_over_ring.specs.Transfers.{HasPeer, IsAnswered, IsRequest, IsSlave, answered};
 ghost use Rattle.ec_over_ring.specs.Transfers.{AreMailboxes, IsReady, answered_ring, download_of};
 ghost use Rattle.ec_over_ring.specs.Transfers.{objects_after, prepared, two_steps, upload_of};
@@ -83,6 +86,34 @@ pub fn states_over_ring()
         → later ≡ stepped (asked_ring station state r before s behind) }
 {}
 
+/// An error of such a slave is acknowledged (`acknowledge`), and at least one read of AL status is allowed
+/// behind the write. AL status is read, and each slave takes its step; the state that was read is asked for
+/// with the acknowledgement, and each takes its step. Where the slave has no error then, it is in the state
+/// that was read (`entered`), and that is the result: behind the read that tells so every slave took one step
+/// more, and nothing else has changed. A slave that had a request to serve when AL status was read may be in
+/// another state by the time it is asked, and refuse.
+pub fn acknowledged_over_ring()
+    ensures result { (station limit : ℕ) (r : RingState) (before behind : List SlaveState) (s : SlaveState)
+        (result : Result AlState MasterFault) (later : RingState)
+        → HasStation station r before s behind
+        → AllByRecursion IsSlave r.slaves
+        → 1 ≤ limit → IsAcknowledged RingTrips r station limit result later
+        → (al_status (acknowledged_slave station s).controller).error ≡ false
+        → result ≡ Ok (al_status s.controller).state }
+    ensures entered { (station : ℕ) (r : RingState) (before behind : List SlaveState) (s : SlaveState)
+        → HasStation station r before s behind
+        → AllByRecursion IsSlave r.slaves
+        → (al_status (acknowledged_slave station s).controller).error ≡ false
+        → (al_status (acknowledged_slave station s).controller).state ≡ (al_status s.controller).state }
+    ensures ring { (station limit : ℕ) (r : RingState) (before behind : List SlaveState) (s : SlaveState)
+        (result : Result AlState MasterFault) (later : RingState)
+        → HasStation station r before s behind
+        → AllByRecursion IsSlave r.slaves
+        → 1 ≤ limit → IsAcknowledged RingTrips r station limit result later
+        → (al_status (acknowledged_slave station s).controller).error ≡ false
+        → later ≡ stepped (acknowledged_ring station r before s behind) }
+{}
+
 /// An object of one slave is read or written over a ring with at most one link down (`sdo_upload` and
 /// `sdo_download`), where that slave alone has the station, is in Pre-Op or above, and has the peer's areas
 /// as its two mailboxes, both empty; the mail that it took last has another counter than the peer's, and at
@@ -114,6 +145,15 @@ pub fn transfers_over_ring()
         (s : SlaveState) → HasPeer peer r before s behind → IsRequest asked
         → HasPeer (skipped peer) (answered_ring peer asked r before s behind) (two_steps before)
         (answered peer asked s) (two_steps behind) }
+{}
+
+/// Over such a ring both mailboxes of that slave are seen empty (`settle`) by the first look at them: it
+/// comes to Ok, and every slave took one step.
+pub fn settled_over_ring()
+    ensures { (peer : Peer) (limit : ℕ) (r : RingState) (before behind : List SlaveState)
+        (s : SlaveState) (result : Result (Unit {0}) MasterFault) (later : RingState)
+        → HasPeer peer r before s behind → 1 ≤ limit → IsSettled RingTrips r peer limit result later
+        → (result ≡ Ok tt) × (later ≡ stepped r) }
 {}
 
 /// Over such a ring an upload of an object that may be read is Ok of its value; a download to an object that
