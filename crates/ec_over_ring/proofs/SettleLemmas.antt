@@ -11,11 +11,11 @@ use Rattle.ec_ring.specs.Ring.{RingState, stepped}
 use Rattle.ec_master.specs.RingTrips.{RingTrips}
 use Rattle.ec_services.specs.Ask.{Answer, Asks}
 use Rattle.ec_services.specs.Course.{Runs}
+use Rattle.ec_services.specs.Progress.{Boxes, both_empty, unknown}
 use Rattle.ec_services.specs.Settling.{IsSettled, mailboxes_by, records_read, settled, settled_by}
+use Rattle.ec_services.specs.Settling.{settling}
 use Rattle.ec_services.specs.declared.fault.MasterFault.{MasterFault}
 use Rattle.ec_services.specs.declared.mailbox.Peer.{Peer}
-use Rattle.ec_services.specs.declared.settling.Mailboxes.{Mailboxes}
-use Rattle.ec_services.specs.declared.settling.Mailboxes.TheVariants.{Empty}
 use Rattle.ec_over_ring.specs.Question.{Tells, ReachesOne}
 use Rattle.ec_over_ring.specs.Recovery.{request_stands}
 use Rattle.ec_over_ring.specs.States.{HasStation}
@@ -32,11 +32,11 @@ record IsLooked (r : RingState) (answer : Answer) (later : RingState) : Type 0 w
   ring : later ≡ stepped r
   decides : settled_by answer ≡ Ok (Some tt)
 
-decided : (told : DatagramRecord) (answer : Answer) → Tells told answer → mailboxes_by answer ≡ Empty
+decided : (told : DatagramRecord) (answer : Answer) → Tells told answer → mailboxes_by answer ≡ both_empty
     → settled_by answer ≡ Ok (Some tt)
 decided told (Err fault) tells empty = absurd tells
 decided told (Ok back) tells empty =
-    ap {B = Result (Option (Unit {0})) MasterFault} (λ (known : Mailboxes). Ok (settled known)) empty
+    ap {B = Result (Option (Unit {0})) MasterFault} (λ (known : Boxes). Ok (settled known)) empty
 
 looked : (peer : Peer) (r : RingState) (before : List SlaveState) (s : SlaveState) (behind : List SlaveState)
     (answer : Answer) (later : RingState) → HasPeer peer r before s behind
@@ -65,26 +65,32 @@ looked peer r before s behind answer later has asks =
           ∙ ap (λ (requests : Bool). seen false requests) has.ready.to.empty);
     }
 
-pub settles : (peer : Peer) (limit : ℕ) (r : RingState) (before : List SlaveState) (s : SlaveState)
-    (behind : List SlaveState) (result : Result (Unit {0}) MasterFault) (later : RingState)
-    → HasPeer peer r before s behind → 1 ≤ limit → IsSettled RingTrips r peer limit result later
+-- so the first trip decides
+runs_settle : (peer : Peer) (n : ℕ) (r : RingState) (before : List SlaveState) (s : SlaveState)
+    (behind : List SlaveState) (result : Result (Unit {0}) MasterFault) (known : Boxes) (later : RingState)
+    → HasPeer peer r before s behind
+    → Runs RingTrips r (settling peer) unknown (suc n) result known later
     → (result ≡ Ok tt) × (later ≡ stepped r)
 unfolding Runs
-settles peer zero r before s behind result later has some is = absurd (omega (arith, some))
-settles peer (suc n) r before s behind result later has some (
-  known, Err fault, learned, between, step, left) =
+runs_settle peer n r before s behind result known later has (Err fault, learned, between, step, left) =
     let look : IsLooked r step.answer between =
     looked peer r before s behind step.answer between has step.asks in
     let so : Err fault ≡ Ok (Some tt) = step.decides ∙ look.decides in
     absurd (cc (so))
-settles peer (suc n) r before s behind result later has some (
-  known, Ok None, learned, between, step, left) =
+runs_settle peer n r before s behind result known later has (Ok None, learned, between, step, left) =
     let look : IsLooked r step.answer between =
     looked peer r before s behind step.answer between has step.asks in
     let so : Ok None ≡ Ok (Some tt) = step.decides ∙ look.decides in
     absurd (cc (so))
-settles peer (suc n) r before s behind result later has some (
-  known, Ok (Some value), learned, between, step, left) =
+runs_settle peer n r before s behind result known later has (Ok (Some value), learned, between, step, left) =
     let look : IsLooked r step.answer between =
     looked peer r before s behind step.answer between has step.asks in
-    (left.0, left.1.1 ∙ look.ring)
+    (left.0, left.2 ∙ look.ring)
+
+pub settles : (peer : Peer) (limit : ℕ) (r : RingState) (before : List SlaveState) (s : SlaveState)
+    (behind : List SlaveState) (result : Result (Unit {0}) MasterFault) (later : RingState)
+    → HasPeer peer r before s behind → 1 ≤ limit → IsSettled RingTrips r peer limit result later
+    → (result ≡ Ok tt) × (later ≡ stepped r)
+settles peer zero r before s behind result later has some is = absurd (omega (arith, some))
+settles peer (suc n) r before s behind result later has some (known, runs) =
+    runs_settle peer n r before s behind result known later has runs
