@@ -7,7 +7,7 @@ import shutil
 import subprocess
 import sys
 
-from launcher import OTHER, Clone, toolchain
+from launcher import OTHER, RELEASES, Clone, toolchain
 
 CASES = []
 
@@ -149,11 +149,16 @@ def what_is_installed_lies_below_destdir(ecat, folder, _limit):
     to = os.path.join(folder, "to")
     told = "".join(f"{to}/usr/{name}\n" for name in FILES.split())
     yield "install", told + "0\n", install(ecat, folder, "install", "PREFIX=/usr", f"DESTDIR={to}")
+    modes = "".join(f"{os.stat(f'{to}/usr/{name}').st_mode & 0o777:o} {name}\n" for name in FILES.split())
+    programs = ("bin/ecat", "lib/ecat/ecat")
+    wanted = "".join(f"{755 if name in programs else 644} {name}\n" for name in FILES.split())
+    yield "modes", wanted, modes
     prefix = lines_of(to, "usr/lib/pkgconfig/rummymaple.pc", "prefix=")
     yield "prefix", "prefix=/usr\n", prefix
     place = os.path.join(to, "usr/share/bash-completion/completions/ecat")
     for words, wanted in [
         (("sw",), "sweep"),
+        (("-",), "--help --version -V"),
         (("--v",), "--version"),
         (("help", "sc"), "scan"),
         (("list", "--"), "--csv --faults --stats --index --help"),
@@ -192,6 +197,43 @@ def the_version_is_one(ecat, _folder, _limit):
     with open(os.path.join(ROOT, "VERSION"), encoding="ascii") as file:
         version = file.read()
     yield "version", version + "0\n", left(os.path.join(ROOT, "tools/version"), ecat)
+
+
+@case
+def another_version_is_named_by_its_place(_ecat, folder, _limit):
+    places = ["include/rummymaple.h", "bindings/rust/Cargo.toml", "CHANGELOG.md", "crates/ecat/src/main.rt"]
+    for name in ["tools/version", "VERSION", *places]:
+        os.makedirs(os.path.dirname(os.path.join(folder, name)), exist_ok=True)
+        shutil.copy(os.path.join(ROOT, name), os.path.join(folder, name))
+    version = lines_of(folder, "VERSION", "").strip()
+    for place in places:
+        text = lines_of(folder, place, "")
+        found = version if version in text else version.removesuffix(".0")
+        with open(os.path.join(folder, place), "w", encoding="utf-8") as file:
+            file.write(text.replace(found, "77.7", 1) if place != "CHANGELOG.md" else "## 77.7\n" + text)
+        told = f"{place} has version '77.7', and VERSION '{version}'\n1\n"
+        yield place, told, left(os.path.join(folder, "tools/version"))
+        with open(os.path.join(folder, place), "w", encoding="utf-8") as file:
+            file.write(text)
+    yield "as they are", f"{version}\n0\n", left(os.path.join(folder, "tools/version"))
+
+
+@case
+def the_released_program_is_compared_with_one_that_was_built(_ecat, folder, limit):
+    clone = Clone(folder, limit)
+    shutil.copy(os.path.join(ROOT, "tools/release"), clone.at("tools/release"))
+    os.symlink(shutil.which("cmp"), os.path.join(clone.bin, "cmp"))
+    clone.file("same", '#!/bin/sh\necho packed "$@"\n')
+    clone.file("other", '#!/bin/sh\necho other "$@"\n')
+    clone.rt(toolchain(RELEASES))
+    for name, told in [
+        ("same", "the released program is the one that was built\n0\n"),
+        ("other", "the released program is not the one that was built\n1\n"),
+    ]:
+        yield name, told, "".join(clone.run(clone.at("tools/release"), "--compare", clone.at(name)))
+    clone.rt(toolchain(OTHER))
+    told = "the released program was made by another toolchain\n77\n"
+    yield "another toolchain", told, "".join(clone.run(clone.at("tools/release"), "--compare", clone.at("same")))
 
 
 @case

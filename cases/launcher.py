@@ -246,7 +246,9 @@ def strays_change_nothing(clone):
     os.symlink("lib.rt", clone.at("crates/low/src/.#lib.rt"))
     yield "an editor's lock", before, clone.sum()
     yield "run", "packed\n0\n", clone.ecat()
-    for name in ["crates/low/src/more.rt", "crates/low/specs/Low.antt", "crates/ecat/args", "crates.txt"]:
+    names = ["crates/low/src/more.rt", "crates/low/specs/Low.antt", "crates/ecat/args", "crates.txt"]
+    names += [f"crates/ecat/{name}" for name in ("stdin", "stdout", "status", "BUILD.bazel")]
+    for name in names:
         with open(clone.at(name), "a", encoding="latin-1") as file:
             file.write("# changed\n")
         yield f"{name} counts", "True", str(clone.sum() not in ("", before))

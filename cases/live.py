@@ -8,6 +8,7 @@ import pty
 import re
 import select
 import shutil
+import signal
 import socket
 import struct
 import subprocess
@@ -1698,3 +1699,248 @@ def late_packets_are_dropped_before_a_trip(stage):
             yield "looks", "[(5, 1), (7, 1)]", str([place for place in looks if place[0] < 9])
         with open(os.path.join(stage.folder, "log"), encoding="latin-1") as log:
             yield "log", "".join(f"cycle {k} good counts 9 3\n" for k in range(10)), log.read()
+
+
+@case
+def cycles_out_of_op_are_counted_until_all_are_in_op_again(stage):
+    """A slave is out of Op in the cycles 5, 6 and 7."""
+    commands = {(5, 0): "state 1 2", (8, 0): "state 1 8"}
+
+    def begins(place):
+        if place in commands:
+            command(line, commands[place])
+
+    with master_behind(stage, 10, *PATIENCE, gives=as_it_came, begins=begins) as (line, between, master):
+        rows = between.until_the_end_of(master).splitlines(True)[len(STARTED.splitlines()):]
+        yield "out of Op", "cycle 5: not all in Op\n", rows[0]
+        yield "in Op", "cycle 8: all in Op again after 3 cycles\n", "".join(row for row in rows if "again" in row)
+        sums_told = "cycles 10 good 10 short 0 over 0 fault 0 not-in-op 3\n"
+        yield "sums", sums_told, "".join(row for row in rows if row.startswith("cycles"))
+
+
+def as_it_came(_place, _sent, leaves, packet):
+    """Each answer is given back where it leaves."""
+    return [(leaves, packet)]
+
+
+@case
+def a_port_is_told_at_which_nothing_came_for_100_cycles(stage):
+    """From the cycle 5 on what is given at port B is no copy, and more of it than a port passes over, so that
+    the master does not wait; from the cycle 110 on copies come there again."""
+    def gives(place, _sent, leaves, packet):
+        if leaves == B and 5 <= place[0] < 110 and place[1] == 0:
+            return 65 * [(B, b"late")]
+        return [(leaves, packet)]
+
+    with master_behind(stage, 112, *PATIENCE, gives=gives) as (_line, between, master):
+        told_of = "cycle 104: nothing came at port B for 100 cycles\ncycle 110: copies come at port B again\n"
+        end = between.until_the_end_of(master)
+        yield "ports", told_of, "".join(row for row in end.splitlines(True) if "port" in row)
+
+
+@case
+def times_that_are_seldom_are_among_99_of_100(stage):
+    """Five of a hundred cycles take 30 milliseconds and more: the 99th is one of them."""
+    def begins(place):
+        if place[0] in range(10, 15) and place[1] == 0:
+            time.sleep(0.03)
+
+    with master_behind(stage, 100, *PATIENCE, gives=as_it_came, begins=begins) as (_line, between, master):
+        end = between.until_the_end_of(master)
+        within = re.search(r"^cycle time .* within (\d+)$", end, re.M)
+        yield "within", "True", str(int(within[1]) >= 30000) if within else end
+
+
+@case
+def a_cycle_that_takes_long_does_not_hurry_those_behind_it(stage):
+    """The cycle 1 takes as long as fifteen others. Those behind it begin no sooner one after the other."""
+    began = {}
+
+    def begins(place):
+        began[place] = time.monotonic()
+        if place == (1, 0):
+            time.sleep(0.3)
+
+    words = ("--every", "20000", *PATIENCE)
+    with master_behind(stage, 16, *words, gives=as_it_came, begins=begins) as (_line, between, master):
+        end = between.until_the_end_of(master)
+        yield "status", "0", end.splitlines()[-1]
+        # It is 13 times 20 milliseconds, and half of it on a machine that is loaded.
+        yield "apart", "True", str(began[(15, 0)] - began[(2, 0)] >= 0.13)
+
+
+@case
+def an_error_of_a_slave_in_init_is_no_other_state(stage):
+    """A slave that was asked for Op in Init shows an error there, and takes no mail all the same."""
+    with stage.serve(MACHINE, "--forever") as _line, stage.master() as master:
+        stage.file("m", MACHINE)
+        asked(master, stage.port, bytes.fromhex("0e10 0500 0210 2001 0200 0000 0800 0000"))
+        status = bytes.fromhex("1210 0400 0210 3001 0600 0000 000000000000 0000")
+        yield "an error", "110000001100", asked(master, stage.port, status)[24:36]
+        words = ("sdo", "m", "0x1002", "0x1018", "2", "--at", both_ends(stage))
+        init = "slave 0x1002 is in Init, where it takes no mail; Pre-Op is wanted"
+        yield "sdo", f"fault NoAnswer\n{init}\n1\n", stage.ends(*words)
+
+
+@case
+def a_command_comes_behind_32_packets_in_a_row(stage):
+    """A hundred packets and a command wait when the service goes on."""
+    with controlled(stage, "slave 1\n") as line, stage.master() as master:
+        line.process.send_signal(signal.SIGSTOP)
+        for _ in range(100):
+            master.sendto(b"no frame", ("127.0.0.1", stage.port))
+        line.process.stdin.write(b"counts\n")
+        line.process.send_signal(signal.SIGCONT)
+        yield "counts", "packets 32 frames 0 dropped 32\n", line.line()
+        yield "ok", "ok\n", line.line()
+
+
+@case
+def a_scan_writes_who_the_slaves_are(stage):
+    """The entries 1 and 2 of the object 0x1018, of which a slave that was brought up tells."""
+    with stage.serve(MACHINE, "--forever") as _line:
+        stage.file("m", MACHINE)
+        words = ("master", "m", "--at", both_ends(stage), "--cycles", "1", "--leave", "op", *PATIENCE)
+        yield "master", "0", stage.ends(*words).splitlines()[-1]
+        scan = ("scan", "--at", both_ends(stage), *PATIENCE, "--scene", "found")
+        yield "scan", "0", stage.ends(*scan).splitlines()[-1]
+    objects = [(0x1018, sub, 4, value) for k in range(3) for sub, value in ((1, 2), (2, 0x100 + k))]
+    with open(os.path.join(stage.folder, "found"), encoding="latin-1") as found:
+        rows = [row.split() for row in found.read().splitlines() if row.startswith("object")]
+    seen = [tuple(int(word, 0) for word in (*row[1:4], row[5])) for row in rows]
+    yield "objects", str(objects), str(seen)
+
+
+@case
+def an_answer_of_two_slaves_is_told_though_the_ring_is_whole(stage):
+    """A slave more counts on each read of a station: that is told, and no broken cable is to blame."""
+    def gives(_place, sent, leaves, packet):
+        if sent == B or packet[2] != 1 or packet[6:8] != b"\x10\x00":
+            return [(leaves, packet)]
+        counter = int.from_bytes(packet[14:16], "little") + 1
+        return [(leaves, packet[:14] + counter.to_bytes(2, "little") + packet[16:])]
+
+    with controlled(stage, MACHINE) as _line, Between(stage, gives) as between:
+        with stage.start("scan", "--at", between.ends(), *PATIENCE) as scan:
+            wanted = "slaves 3\nring whole\n" + "".join(f"slave {k} BadAnswer\n" for k in range(3)) + "1\n"
+            yield "scan", wanted, between.until_the_end_of(scan)
+
+
+@case
+def copies_of_a_run_are_kept_as_the_weather_has_them_come(stage):
+    """Copy B comes first, which passes no slave on a whole ring."""
+    stage.file("s", "slave 1\nbrd 0x0130 0000\nweather - - - b\n")
+    told = "good\nitem 0 BRD data 0100 wkc 1 of 1 adp 1\n0\n"
+    yield "run", told, stage.ends("run", "s", "--pcap", "p")
+    asks, tells = "0 BRD 0x0000:0x0130 2 wkc 0 0000", "0 BRD 0x0001:0x0130 2 wkc 1 0100"
+    wanted = [("10", "b", asks), ("12", "a", asks), ("10", "a", asks), ("12", "b", tells)]
+    rows = "".join(
+        f"{k + 1} 0.00000{k} {byte}:52:4d:50:00:0{end} {row}\n" for k, (byte, end, row) in enumerate(wanted)
+    )
+    yield "list", rows + "0\n", stage.ends("list", "p")
+
+
+@case
+def capture_of_a_service_has_what_comes_while_a_copy_waits(stage):
+    again = ASKED.replace(b"\x07\x07", b"\x07\x08")
+    with controlled(stage, "slave 1\n", "--pcap", "c") as line, stage.master() as master:
+        yield "late", "ok\n", command(line, "late A 300 1")
+        master.sendto(ASKED, ("127.0.0.1", stage.port))
+        yield "the next one", ONE.replace("0707", "0708"), asked(master, stage.port, again)
+        yield "the late one", ONE, master.recv(2000).hex()
+        yield "quit", "ok\n", command(line, "quit")
+        yield "end", "packets 2 frames 2 dropped 0\n0\n", line.end()
+    rows = [row.split()[2] for row in stage.ends("list", "c").splitlines()[:-1]]
+    wanted = 2 * ["10:52:4d:50:00:0a"] + 2 * ["12:52:4d:50:00:0a"]
+    yield "packets", str(wanted), str(rows)
+
+
+@case
+def an_object_that_two_start_ups_write_is_learned_of_the_last_one(stage):
+    """Both start-ups write the same, and nothing else: the line is that of the second one."""
+    scene = MACHINE.replace("object 0x1018 2 4 ro 257\n", "object 0x8000 1 2 rw 0\nstartup 0x8000 1 e803\n")
+    with stage.serve(scene, "--forever", "--pcap", "c") as _line:
+        stage.file("m", scene)
+        words = ("master", "m", "--at", both_ends(stage), "--cycles", "3", *PATIENCE)
+        for _ in range(2):
+            yield "master", "0", stage.ends(*words).splitlines()[-1]
+    rows = [row for row in stage.ends("learn", "c").splitlines() if "start" in row]
+    yield "start-ups", "the line is that of start-up 2", rows[0].split("; ")[-1] if rows else ""
+    yield "startup", "[['startup', '0x8000', '1', 'e803']]", str([row.split() for row in rows[1:]])
+
+
+def capture_of_reads(count, counter):
+    """A capture of logical reads without data, each of an address of its own, as many in a frame as may be."""
+    capture = CAPTURE
+    for first in range(0, count, 124):
+        addresses = range(first, min(first + 124, count))
+        more = [0x8000] * (len(addresses) - 1) + [0]
+        heads = (struct.pack("<BBIHHH", 10, 0, 16 * k, bit, 0, counter) for k, bit in zip(addresses, more))
+        frame = b"".join(heads)
+        packet = bytes.fromhex("ffffffffffff 020000000001 88a4") + struct.pack("<H", 0x1000 | len(frame)) + frame
+        capture += struct.pack("<IIII", 1000, first, len(packet), len(packet)) + packet
+    return capture.decode("latin-1")
+
+
+@case
+def datagrams_of_too_many_groups_are_counted_together(stage):
+    stage.file("c", capture_of_reads(4097, 0))
+    rows = stage.ends("list", "c", "--stats").splitlines()
+    last = "LRD 0x0000fff0 0 bytes: 1 sent, 0 back, 1 on the way"
+    yield "groups", f"4096 {last}", f"{len(rows) - 4} {rows[-3]}"
+    yield "left out", "1 datagrams of further groups left out 0", " ".join(rows[-2:])
+
+
+@case
+def groups_past_the_1024th_are_not_told_apart(stage):
+    stage.file("s", "slave 1\nlrd 0x10000 00\n")
+    item = "item 0 LRD 0x00010000 1 bytes: sent 0 good 0 short 0 over 0 lost 0\n"
+    for count, groups in ((1024, "1024"), (1025, "more than 1024")):
+        stage.file("c", capture_of_reads(count, 1))
+        wanted = f"{item}not in the scene: {groups} groups, {count} datagrams\njudge: NoItems\n1\n"
+        yield f"{count}", wanted, stage.ends("judge", "c", "s")
+
+
+def capture_of_objects(slaves, objects):
+    """A capture of a master that gives so many slaves their stations and mailboxes, and reads of each slave so
+    many objects, one after the other."""
+    packets = []
+
+    def trip(command, sent, back, counter, data, came):
+        index = len(packets) // 2 % 256
+        for source, address, count, row in (("00", sent, 0, data), ("02", back, counter, came)):
+            head = struct.pack("<BBHHHH", command, index, *address, len(row), 0)
+            datagram = head + row + struct.pack("<H", count)
+            ethernet = bytes.fromhex(f"ffffffffffff {source}0105100000 88a4")
+            packets.append(ethernet + struct.pack("<H", 0x1000 | len(datagram)) + datagram)
+
+    trip(7, (0, 0), (slaves, 0), slaves, bytes(1), b"\x11")
+    for k in range(slaves):
+        station = struct.pack("<H", 0x1001 + k)
+        trip(2, (-k % 65536, 0x10), (slaves - k, 0x10), 1, station, station)
+    mailboxes = bytes.fromhex("0018 1000 26 00 01 00 8018 1000 22 00 01 00")
+    for k in range(slaves):
+        station = 0x1001 + k
+        trip(5, (station, 0x800), (station, 0x800), 1, mailboxes, mailboxes)
+        for number in range(objects):
+            name = struct.pack("<HB", 0x2000 + number, 1)
+            request = bytes.fromhex("0a0000000013002040") + name + bytes(4)
+            trip(5, (station, 0x1800), (station, 0x1800), 1, request, request)
+            answer = bytes.fromhex("0a0000000013003043") + name + struct.pack("<I", number)
+            trip(4, (station, 0x1880), (station, 0x1880), 1, bytes(16), answer)
+    records = [struct.pack("<IIII", 1000, k, len(one), len(one)) + one for k, one in enumerate(packets)]
+    return (CAPTURE + b"".join(records)).decode("latin-1")
+
+
+@case
+def a_scene_that_is_learned_has_as_many_objects_as_it_has_room_for(stage):
+    """A scene has 65,536 bytes at the most. First the comments are left out, and then the objects, from the
+    last slave on."""
+    stage.file("c", capture_of_objects(60, 32))
+    text = stage.ends("learn", "c").rsplit("\n", 2)[0] + "\n"
+    found = [slave.count("\nobject ") for slave in text.split("slave ")[1:]]
+    some = found.count(32)
+    yield "the first ones", str([32] * some + [0] * (60 - some)), str(found)
+    yield "comments", "0", str(text.count("#"))
+    of_one = sum(len(row) for row in text.split("slave ")[1].splitlines(True) if row.startswith("object "))
+    yield "room", "True", str(0 < some < 60 and len(text) <= 65536 < len(text) + of_one)
