@@ -759,15 +759,20 @@ def a_master_logs_what_it_sent_and_holds_and_keeps_its_packets(stage):
         yield "kept", told, stage.ends(*words, "--pcap", "c")
 
 
+def brought_up_and_scanned(stage, scan):
+    """A master brings the served machine to Op and leaves it there; then the scan is made."""
+    stage.file("m", MACHINE)
+    words = ("master", "m", "--at", both_ends(stage), "--cycles", "1", "--leave", "op", *PATIENCE)
+    yield "master", "0", stage.ends(*words).splitlines()[-1]
+    yield "scan", "0", stage.ends(*scan).splitlines()[-1]
+
+
 @case
 def a_scan_writes_the_line_that_it_finds(stage):
     """The scene is that of the line: a machine that was brought up is mapped as the scene that did it."""
     with stage.serve(MACHINE, "--forever") as _line:
-        stage.file("m", MACHINE)
-        words = ("master", "m", "--at", both_ends(stage), "--cycles", "1", "--leave", "op", *PATIENCE)
-        yield "master", "0", stage.ends(*words).splitlines()[-1]
         scan = ("scan", "--at", both_ends(stage), *PATIENCE, "--scene", "found")
-        yield "scan", "0", stage.ends(*scan).splitlines()[-1]
+        yield from brought_up_and_scanned(stage, scan)
         told = "scene: Exists\nfound: it is kept; --force overwrites it\n3\n"
         yield "kept", told, stage.ends(*scan)
         yield "forced", "0", stage.ends(*scan, "--force").splitlines()[-1]
@@ -1799,11 +1804,8 @@ def a_command_comes_behind_32_packets_in_a_row(stage):
 def a_scan_writes_who_the_slaves_are(stage):
     """The entries 1 and 2 of the object 0x1018, of which a slave that was brought up tells."""
     with stage.serve(MACHINE, "--forever") as _line:
-        stage.file("m", MACHINE)
-        words = ("master", "m", "--at", both_ends(stage), "--cycles", "1", "--leave", "op", *PATIENCE)
-        yield "master", "0", stage.ends(*words).splitlines()[-1]
         scan = ("scan", "--at", both_ends(stage), *PATIENCE, "--scene", "found")
-        yield "scan", "0", stage.ends(*scan).splitlines()[-1]
+        yield from brought_up_and_scanned(stage, scan)
     objects = [(0x1018, sub, 4, value) for k in range(3) for sub, value in ((1, 2), (2, 0x100 + k))]
     with open(os.path.join(stage.folder, "found"), encoding="latin-1") as found:
         rows = [row.split() for row in found.read().splitlines() if row.startswith("object")]
