@@ -123,6 +123,22 @@ Keeps-made cells size starts rs behind value bytes starts_are size_is cells_are 
       cells_are = cells_are;
     }
 
+-- Cells that begin with the bytes of a frame that is kept keep it, whatever stood there before.
+pub Keeps-copied : (cells before copied : List ℕ) (size : ℕ) (starts starts' : List ℕ)
+    (rs : List DatagramRecord) (bytes : List ℕ) → Keeps cells size starts rs → bytes ≡ spelling rs
+    → length before ≡ 1500 → copied ≡ overwritten 0 bytes before → starts' ≡ starts
+    → Keeps copied size starts' rs
+unfolding spelling
+Keeps-copied cells before copied size starts starts' rs bytes kept spelt long made same =
+    let long_is : length bytes ≡ size = ap length spelt ∙ length-spelling rs ∙ sym kept.size_is in
+    let behind = drop (0 + length bytes) before in
+    let fits : 0 + length bytes ≤ length before =
+    omega (arith, kept.value.room, kept.size_is) in
+    Keeps-made copied size starts' rs behind kept.value
+    (made ∙ ap (λ xs. xs ++ behind) spelt ∙ append_assoc (header (body_length rs)) (body rs) behind)
+    (same ∙ kept.starts_are) kept.size_is
+    (ap length made ∙ length-overwritten 0 bytes before fits ∙ long)
+
 -- a list that ends with a datagram is not empty
 pub is_nil-push : (xs : List DatagramRecord) (r : DatagramRecord) → is_nil (xs ++ r ∷ []) ≡ false
 is_nil-push [] r = refl

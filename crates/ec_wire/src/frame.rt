@@ -197,4 +197,17 @@ impl FrameBuf {
             starts,
         }
     }
+
+    /// Another frame takes the place of this one, of which no more is written than its bytes and where its
+    /// datagrams begin.
+    pub fn copy_from(&mut self, frame: &FrameBuf)
+        ensures { self.new ≡ frame.now }
+    {
+        self.size = frame.size;
+        self.cells.put(0, frame.bytes());
+        self.starts.clear();
+        self.starts
+            .try_extend_from_slice(frame.starts.as_slice())
+            .unwrap();
+    }
 }

@@ -27,6 +27,7 @@
 //! - [`FrameBuf::read`] takes exactly the bytes that spell a frame, and names the first fault of all others
 //!   (`found`, `only_found`, `fault`, `only_fault`); no two frames have one spelling ([`one_spelling`]);
 //! - [`FrameBuf::refill`] reads the same into a frame that is kept, which a fault leaves as it is;
+//! - [`FrameBuf::copy_from`] puts another frame in the place of one that is kept;
 //! - each setter, and [`FrameBuf::data_mut`], replaces one field of one datagram and leaves all else;
 //! - [`FrameBuf::push`] adds a datagram behind the others, or leaves the frame as it is where none fits.
 

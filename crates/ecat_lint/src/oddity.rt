@@ -44,7 +44,8 @@ pub(crate) enum Oddity {
     #[error("a sync manager of this length is never active")]
     NeverActive,
     /// The application has process data of another length than those of its sync manager.
-    #[error("sync manager {manager} is no area of so many {kind} ({wanted} bytes wanted, {there} there): Safe-Op is refused")]
+    #[error("sync manager {manager} is no area of so many {kind} ({wanted} bytes wanted, {there} there): \
+         Safe-Op is refused")]
     AreaDiffers {
         /// The number of the sync manager.
         manager: usize,
@@ -71,7 +72,8 @@ pub(crate) enum Oddity {
     #[error("the object has another number of bytes: its write is aborted")]
     StartsOtherSize,
     /// Bytes of an area of process data that no FMMU maps for the way that they go.
-    #[error("sync manager {manager} has {kind} that no FMMU maps: {count} of {length} bytes, first {first:#06x}, last {last:#06x}")]
+    #[error("sync manager {manager} has {kind} that no FMMU maps: {count} of {length} bytes, \
+         first {first:#06x}, last {last:#06x}")]
     Unmapped {
         /// The number of the sync manager.
         manager: usize,
@@ -97,7 +99,8 @@ pub(crate) enum Oddity {
         wanted: u16,
     },
     /// An area begins where a controller keeps the other two buffers of a buffered area.
-    #[error("sync manager {next} begins at {at:#06x}, within the three buffers of {length} bytes from {start:#06x}")]
+    #[error("sync manager {next} begins at {at:#06x}, within the three buffers of {length} bytes \
+         from {start:#06x}")]
     BuffersMeet {
         /// The first byte of the buffered area.
         start: u16,

@@ -9,7 +9,7 @@ ghost use Rattle.ecat_trips.specs.Copies.{with_fields, with_indexes};
 
 use crate::alike::moves_adp;
 use ec_merge::{Counter, Flag, Irq, Merge, join_bytes};
-use ec_wire::{Form, FrameBuf};
+use ec_wire::FrameBuf;
 
 /// How far the working counter of the datagram at `k` has moved from the sent one, modulo 65,536: in the
 /// copies that came back together.
@@ -29,15 +29,6 @@ pub fn grown(sent: &FrameBuf, came: &FrameBuf, k: usize) -> u16
     ensures { result ≡ grown (nth sent.now k) (nth came.now k) }
 {
     came.adp(k).wrapping_sub(sent.adp(k))
-}
-
-/// Puts a frame in the place of another one, of which no more is written than its bytes.
-pub(crate) fn put_frame(into: &mut FrameBuf, frame: &FrameBuf)
-    ensures { into.new ≡ frame.now }
-{
-    // For the prover: its bytes spell it.
-    let _count = frame.count();
-    let _ = into.refill(frame.bytes(), Form::Ethernet);
 }
 
 /// Gives a frame the indexes of the sent one.

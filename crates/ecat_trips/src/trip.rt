@@ -4,7 +4,7 @@ ghost use Rattle.std.specs.Prelude.{◌≡◌, IfOk, None, Some, is_some, true};
 ghost use Rattle.ecat_trips.specs.Copies.{both_moved, joined_with, with_indexes};
 
 use crate::alike::{first_number, is_still, same_frame, same_key};
-use crate::copies::{join_in, put_frame, take_indexes, with_indexes};
+use crate::copies::{join_in, take_indexes, with_indexes};
 use crate::packet::Outline;
 use ec_wire::FrameBuf;
 use std::alloc::{AllocError, Global};
@@ -85,7 +85,7 @@ impl CameFrame {
     fn fill(&mut self, frame: &FrameBuf)
         ensures { self.new ≡ frame.now }
     {
-        put_frame(&mut self.frame, frame);
+        self.frame.copy_from(frame);
     }
 
     /// Joins another copy in.
@@ -143,7 +143,7 @@ impl Trip {
         ensures trip { self.new ≡ begun first frame.now }
         ensures place { result ≡ self.old.came }
     {
-        put_frame(&mut self.sent.frame, frame);
+        self.sent.frame.copy_from(frame);
         self.sent.turned = false;
         self.first = first;
         self.second = None;
