@@ -1730,30 +1730,33 @@ def as_it_came(_place, _sent, leaves, packet):
 
 @case
 def a_port_is_told_at_which_nothing_came_for_100_cycles(stage):
-    """From the cycle 5 on what is given at port B is no copy, and more of it than a port passes over, so that
-    the master does not wait; from the cycle 110 on copies come there again."""
+    """In the cycle 2, and from the cycle 5 on, what is given at port B is no copy, and more of it than a port
+    passes over, so that the master does not wait; from the cycle 110 on copies come there again. In the cycle
+    50 none comes at either port, which tells nothing of one of them."""
     def gives(place, _sent, leaves, packet):
-        if leaves == B and 5 <= place[0] < 110 and place[1] == 0:
-            return 65 * [(B, b"late")]
+        is_silent = place[0] == 2 or 5 <= place[0] < 110
+        if place[1] == 0 and (leaves == B and is_silent or place[0] == 50):
+            return 65 * [(leaves, b"late")]
         return [(leaves, packet)]
 
     with master_behind(stage, 112, *PATIENCE, gives=gives) as (_line, between, master):
-        told_of = "cycle 104: nothing came at port B for 100 cycles\ncycle 110: copies come at port B again\n"
+        told_of = "cycle 105: nothing came at port B for 100 cycles\ncycle 110: copies come at port B again\n"
         end = between.until_the_end_of(master)
         yield "ports", told_of, "".join(row for row in end.splitlines(True) if "port" in row)
 
 
 @case
 def times_that_are_seldom_are_among_99_of_100(stage):
-    """Five of a hundred cycles take 30 milliseconds and more: the 99th is one of them."""
+    """Four of a hundred cycles take 200 milliseconds and more, and one takes 700: the 99th is one of the
+    four."""
     def begins(place):
         if place[0] in range(10, 15) and place[1] == 0:
-            time.sleep(0.03)
+            time.sleep(0.7 if place[0] == 12 else 0.2)
 
     with master_behind(stage, 100, *PATIENCE, gives=as_it_came, begins=begins) as (_line, between, master):
         end = between.until_the_end_of(master)
         within = re.search(r"^cycle time .* within (\d+)$", end, re.M)
-        yield "within", "True", str(int(within[1]) >= 30000) if within else end
+        yield "within", "True", str(200000 <= int(within[1]) < 400000) if within else end
 
 
 @case
@@ -1764,14 +1767,14 @@ def a_cycle_that_takes_long_does_not_hurry_those_behind_it(stage):
     def begins(place):
         began[place] = time.monotonic()
         if place == (1, 0):
-            time.sleep(0.3)
+            time.sleep(0.6)
 
-    words = ("--every", "20000", *PATIENCE)
+    words = ("--every", "40000", *PATIENCE)
     with master_behind(stage, 16, *words, gives=as_it_came, begins=begins) as (_line, between, master):
         end = between.until_the_end_of(master)
         yield "status", "0", end.splitlines()[-1]
-        # It is 13 times 20 milliseconds, and half of it on a machine that is loaded.
-        yield "apart", "True", str(began[(15, 0)] - began[(2, 0)] >= 0.13)
+        # It is 13 times 40 milliseconds, and two thirds of it on a machine that is loaded.
+        yield "apart", "True", str(began[(15, 0)] - began[(2, 0)] >= 0.34)
 
 
 @case
@@ -1859,23 +1862,29 @@ def capture_of_a_service_has_what_comes_while_a_copy_waits(stage):
 
 @case
 def an_object_that_two_start_ups_write_is_learned_of_the_last_one(stage):
-    """Both start-ups write the same, and nothing else: the line is that of the second one."""
-    scene = MACHINE.replace("object 0x1018 2 4 ro 257\n", "object 0x8000 1 2 rw 0\nstartup 0x8000 1 e803\n")
-    with stage.serve(scene, "--forever", "--pcap", "c") as _line:
-        stage.file("m", scene)
-        words = ("master", "m", "--at", both_ends(stage), "--cycles", "3", *PATIENCE)
-        for _ in range(2):
-            yield "master", "0", stage.ends(*words).splitlines()[-1]
-    rows = [row for row in stage.ends("learn", "c").splitlines() if "start" in row]
-    yield "start-ups", "the line is that of start-up 2", rows[0].split("; ")[-1] if rows else ""
-    yield "startup", "[['startup', '0x8000', '1', 'e803']]", str([row.split() for row in rows[1:]])
+    """The second start-up writes what the first one wrote, or another value, and nothing else: the line is
+    that of the second one."""
+    def scene(value):
+        written = f"object 0x8000 1 2 rw 0\nstartup 0x8000 1 {value}\n"
+        return MACHINE.replace("object 0x1018 2 4 ro 257\n", written)
+
+    for capture, last in (("same", "e803"), ("other", "d107")):
+        with stage.serve(scene("e803"), "--forever", "--pcap", capture) as _line:
+            words = ("master", "m", "--at", both_ends(stage), "--cycles", "3", *PATIENCE)
+            for value in ("e803", last):
+                stage.file("m", scene(value))
+                yield f"{capture}: master", "0", stage.ends(*words).splitlines()[-1]
+        told, *rows = [row for row in stage.ends("learn", capture).splitlines() if "start" in row] or [""]
+        yield f"{capture}: start-ups", "the line is that of start-up 2", told.split("; ")[-1]
+        yield f"{capture}: startup", f"startup 0x8000 1 {last}", " ".join(" ".join(rows).split())
 
 
-def capture_of_reads(count, counter):
-    """A capture of logical reads without data, each of an address of its own, as many in a frame as may be."""
+def capture_of_reads(groups, counter):
+    """A capture of logical reads without data, of groups that are told apart by their addresses, as many in a
+    frame as may be."""
     capture = CAPTURE
-    for first in range(0, count, 124):
-        addresses = range(first, min(first + 124, count))
+    for first in range(0, len(groups), 124):
+        addresses = groups[first:first + 124]
         more = [0x8000] * (len(addresses) - 1) + [0]
         heads = (struct.pack("<BBIHHH", 10, 0, 16 * k, bit, 0, counter) for k, bit in zip(addresses, more))
         frame = b"".join(heads)
@@ -1886,26 +1895,28 @@ def capture_of_reads(count, counter):
 
 @case
 def datagrams_of_too_many_groups_are_counted_together(stage):
-    stage.file("c", capture_of_reads(4097, 0))
+    """The first group, which is told apart, is counted behind the further ones too."""
+    stage.file("c", capture_of_reads([*range(4098), 0], 0))
     rows = stage.ends("list", "c", "--stats").splitlines()
+    first = "LRD 0x00000000 0 bytes: 2 sent, 0 back, 2 on the way"
     last = "LRD 0x0000fff0 0 bytes: 1 sent, 0 back, 1 on the way"
-    yield "groups", f"4096 {last}", f"{len(rows) - 4} {rows[-3]}"
-    yield "left out", "1 datagrams of further groups left out 0", " ".join(rows[-2:])
+    yield "groups", f"4096 {first} {last}", f"{len(rows) - 4} {rows[2]} {rows[-3]}"
+    yield "left out", "2 datagrams of further groups left out 0", " ".join(rows[-2:])
 
 
 @case
 def groups_past_the_1024th_are_not_told_apart(stage):
     stage.file("s", "slave 1\nlrd 0x10000 00\n")
     item = "item 0 LRD 0x00010000 1 bytes: sent 0 good 0 short 0 over 0 lost 0\n"
-    for count, groups in ((1024, "1024"), (1025, "more than 1024")):
-        stage.file("c", capture_of_reads(count, 1))
-        wanted = f"{item}not in the scene: {groups} groups, {count} datagrams\njudge: NoItems\n1\n"
-        yield f"{count}", wanted, stage.ends("judge", "c", "s")
+    for last, groups in ((0, "1024"), (1024, "more than 1024")):
+        stage.file("c", capture_of_reads([*range(1024), last], 1))
+        wanted = f"{item}not in the scene: {groups} groups, 1025 datagrams\njudge: NoItems\n1\n"
+        yield groups, wanted, stage.ends("judge", "c", "s")
 
 
-def capture_of_objects(slaves, objects):
-    """A capture of a master that gives so many slaves their stations and mailboxes, and reads of each slave so
-    many objects, one after the other."""
+def capture_of_objects(slaves, longer):
+    """A capture of a master that gives so many slaves their stations and mailboxes, and reads of each slave
+    32 objects, one after the other: so many of all of them by a subindex of two digits, the others of one."""
     packets = []
 
     def trip(command, sent, back, counter, data, came):
@@ -1924,8 +1935,8 @@ def capture_of_objects(slaves, objects):
     for k in range(slaves):
         station = 0x1001 + k
         trip(5, (station, 0x800), (station, 0x800), 1, mailboxes, mailboxes)
-        for number in range(objects):
-            name = struct.pack("<HB", 0x2000 + number, 1)
+        for number in range(32):
+            name = struct.pack("<HB", 0x2000 + number, 10 if 32 * k + number < longer else 1)
             request = bytes.fromhex("0a0000000013002040") + name + bytes(4)
             trip(5, (station, 0x1800), (station, 0x1800), 1, request, request)
             answer = bytes.fromhex("0a0000000013003043") + name + struct.pack("<I", number)
@@ -1938,11 +1949,14 @@ def capture_of_objects(slaves, objects):
 def a_scene_that_is_learned_has_as_many_objects_as_it_has_room_for(stage):
     """A scene has 65,536 bytes at the most. First the comments are left out, and then the objects, from the
     last slave on."""
-    stage.file("c", capture_of_objects(60, 32))
-    text = stage.ends("learn", "c").rsplit("\n", 2)[0] + "\n"
-    found = [slave.count("\nobject ") for slave in text.split("slave ")[1:]]
-    some = found.count(32)
-    yield "the first ones", str([32] * some + [0] * (60 - some)), str(found)
-    yield "comments", "0", str(text.count("#"))
-    of_one = sum(len(row) for row in text.split("slave ")[1].splitlines(True) if row.startswith("object "))
-    yield "room", "True", str(0 < some < 60 and len(text) <= 65536 < len(text) + of_one)
+    def learned(slaves, longer):
+        """How many bytes the text has, whether it has comments, and how many objects each slave has."""
+        stage.file("c", capture_of_objects(slaves, longer))
+        text = stage.ends("learn", "c").rsplit("\n", 2)[0] + "\n"
+        return len(text), "#" in text, [slave.count("\nobject ") for slave in text.split("slave ")[1:]]
+
+    for slaves, comments, fewer in ((55, True, [32] * 55), (59, False, [32] * 58 + [0])):
+        room = 65536 - learned(slaves, 0)[0]
+        yield f"{slaves} slaves", str((65536, comments, [32] * slaves)), str(learned(slaves, room))
+        yield f"{slaves} slaves, a byte more", str((False, fewer)), str(learned(slaves, room + 1)[1:])
+    yield "64 slaves", str((False, [32] * 59 + [0] * 5)), str(learned(64, 0)[1:])
