@@ -1,12 +1,12 @@
 //! Why a command ends before its output does, and how that is told.
 
-ghost use Rattle.std.specs.Prelude.{◌≡◌, IfOk};
+ghost use Rattle.std.specs.Prelude.{◌≡◌, IfErr, IfOk};
 ghost use Rattle.ecat_acts.specs.Exits.{IsExit, IsAskedExit, IsCaptureExit, IsImagesExit, IsLineExit};
 ghost use Rattle.ecat_acts.specs.Exits.{IsRefusal};
 ghost use Rattle.ecat_acts.specs.Failures.{unbound};
 ghost use Rattle.ecat_acts.specs.declared.failure.Failure.TheVariants.{Line};
 ghost use Rattle.ecat_setup.specs.declared.failure.LineFailure.TheVariants.{Output};
-ghost use Rattle.ecat_text.specs.declared.status.TheConstants.{BAD_ARGUMENTS, FAILED};
+ghost use Rattle.ecat_text.specs.declared.status.TheConstants.{BAD_ARGUMENTS, FAILED, REFUSED};
 
 use crate::raw::RawFaultText;
 use ec_run::ImagesFault;
@@ -289,9 +289,11 @@ fn failed<V: Write>(err: &mut V, line: &[u8]) -> u8
     FAILED
 }
 
-/// The status once the line of a refusal was written.
+/// The status once the line of a refusal was written: that of a failure where the output took no line.
 fn refused<V: Write>(written: io::Result<()>, err: &mut V) -> u8
-    ensures { IsRefusal result }
+    ensures either { IsRefusal result }
+    ensures written { IfOk written (λ _. result ≡ REFUSED) }
+    ensures lost { IfErr written (λ _. result ≡ FAILED) }
 {
     match written {
         Ok(()) => REFUSED,
