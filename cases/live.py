@@ -1747,16 +1747,20 @@ def a_port_is_told_at_which_nothing_came_for_100_cycles(stage):
 
 @case
 def times_that_are_seldom_are_among_99_of_100(stage):
-    """Four of a hundred cycles take 200 milliseconds and more, and one takes 700: the 99th is one of the
-    four."""
+    """Of a hundred cycles four take 200 milliseconds and one takes 400: the 99th is one of the four. On a
+    machine that is loaded others may take as long, so there are three tries."""
     def begins(place):
         if place[0] in range(10, 15) and place[1] == 0:
-            time.sleep(0.7 if place[0] == 12 else 0.2)
+            time.sleep(0.4 if place[0] == 12 else 0.2)
 
-    with master_behind(stage, 100, *PATIENCE, gives=as_it_came, begins=begins) as (_line, between, master):
-        end = between.until_the_end_of(master)
-        within = re.search(r"^cycle time .* within (\d+)$", end, re.M)
-        yield "within", "True", str(200000 <= int(within[1]) < 400000) if within else end
+    acts = {"gives": as_it_came, "begins": begins}
+    ends, is_one = [], False
+    while len(ends) < 3 and not is_one:
+        with master_behind(stage, 100, *PATIENCE, **acts) as (_line, between, master):
+            ends.append(between.until_the_end_of(master))
+        times = re.search(r"^cycle time .* greatest (\d+) .* within (\d+)$", ends[-1], re.M)
+        is_one = times is not None and 200000 <= int(times[2]) < int(times[1])
+    yield "within", "True", "True" if is_one else "".join(ends)
 
 
 @case
@@ -1773,8 +1777,8 @@ def a_cycle_that_takes_long_does_not_hurry_those_behind_it(stage):
     with master_behind(stage, 16, *words, gives=as_it_came, begins=begins) as (_line, between, master):
         end = between.until_the_end_of(master)
         yield "status", "0", end.splitlines()[-1]
-        # It is 13 times 40 milliseconds, and two thirds of it on a machine that is loaded.
-        yield "apart", "True", str(began[(15, 0)] - began[(2, 0)] >= 0.34)
+        # It is 13 times 40 milliseconds, and three quarters of it on a machine that is loaded.
+        yield "apart", "True", str(began[(15, 0)] - began[(2, 0)] >= 0.39)
 
 
 @case
