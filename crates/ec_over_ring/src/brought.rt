@@ -124,8 +124,8 @@ pub fn start_succeeds()
 
 /// A call that recovers (`upload_surely` and `download_surely`) over such a ring leaves each slave of a line
 /// that was started as it is, the one that is asked as well: in Op without an error, alone with its station
-/// address, and with all its records, whatever the call comes to and whatever mails are in the mailboxes. All
-/// that it writes lies in process memory.
+/// address, and with its FMMUs and the sync managers of its process data, whatever the call comes to and
+/// whatever mails are in the mailboxes. All that it writes lies in process memory.
 pub fn calls_leave_line()
     ensures upload { (peer peer_later : Peer) (index sub limit : ℕ) (result : Result Value MasterFault)
         (wanted : Wanted) (r later : RingState) → ReachesAll r → IsWanted wanted → HasAreas peer
