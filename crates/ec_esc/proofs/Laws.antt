@@ -1,5 +1,5 @@
 -- The laws that crates above cite: on what a working counter gains, on what the application is shown, on the
--- half of a pass that writes, and on what stays where the application writes.
+-- half of a pass that writes, on a controller behind a pass, and on what stays where the application writes.
 use Rattle.std.proofs.Common.{◌≡◌, ◌⊎◌, ◌+◌, ◌&&◌, cond, ℕ, ◌<◌, ◌≤◌, Bool, false, List, length, get_or, ◌/◌, None}
 use Rattle.ec_regs.specs.declared.sync_man.SyncMan.{SyncMan}
 use Rattle.ec_regs.specs.declared.registers.TheConstants.{PROCESS_MEMORY, MEMORY_SIZE}
@@ -8,7 +8,9 @@ use Rattle.ec_areas.specs.Records.{sync_manager_at, sync_managers_of}
 use Rattle.ec_esc.specs.Application.{put_inputs_fault, with_inputs}
 use Rattle.ec_esc.specs.Writing.{shown_byte, shown_after}
 use Rattle.ec_esc.specs.State.{ControllerState, IsController, with_run}
-use Rattle.ec_esc.specs.Pass.{Half, nothing, touches, written_by, effect, gain_of, serves_reading, serves_writing}
+use Rattle.ec_esc.specs.Pass.{Half, pass, frame_pass, nothing, touches, written_by, effect, gain_of}
+use Rattle.ec_esc.specs.Pass.{serves_reading, serves_writing}
+use Rattle.ec_wire.specs.Datagram.{DatagramRecord}
 use Rattle.ec_wire.specs.Command.{addressing, reads, writes}
 use Rattle.ec_wire.specs.declared.command.Command.{Command}
 use Rattle.ec_esc.proofs.GainLemmas as gains
@@ -16,6 +18,7 @@ use Rattle.ec_esc.proofs.ShowLemmas as showing
 use Rattle.ec_esc.proofs.IdleLemmas as idle
 use Rattle.ec_esc.proofs.ApplicationLemmas as application
 use Rattle.ec_esc.proofs.LeftLemmas as left
+use Rattle.ec_esc.proofs.BehindLemmas as behind
 
 -- ---- the working counter
 
@@ -49,6 +52,17 @@ shown_after_same = idle.shown_after_same
 pub shown_after_nothing : (managers : List SyncMan) (memory shown : List ℕ)
     → shown_after (λ _. false) managers managers memory shown ≡ shown
 shown_after_nothing = idle.shown_after_nothing
+
+-- ---- behind a pass
+
+-- a controller behind a datagram is one
+pub pass_is : (c : ControllerState) (d : DatagramRecord) → IsController c → IsController (pass c d).state
+pass_is = behind.pass_is
+
+-- a controller behind a frame is one
+pub frame_is : (c : ControllerState) (ds : List DatagramRecord) → IsController c
+    → IsController (frame_pass c ds).state
+frame_is = behind.frame_is
 
 -- ---- writing
 

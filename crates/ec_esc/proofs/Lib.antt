@@ -11,4 +11,5 @@ pub mod PlannedLemmas
 pub mod ExchangeLemmas
 pub mod GainLemmas
 pub mod LeftLemmas
+pub mod BehindLemmas
 pub mod Laws

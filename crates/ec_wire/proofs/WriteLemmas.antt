@@ -1,5 +1,5 @@
 -- Bytes that are written one part after another, and the frames that are made so.
-use Rattle.std.proofs.Common.{◌≡◌, ℕ, suc, ◌+◌, ◌-◌, ◌<◌, ◌≤◌, Bool, true, false, not, List, [], ◌∷◌, ◌++◌}
+use Rattle.std.proofs.Common.{◌≡◌, ℕ, zero, suc, ◌+◌, ◌-◌, ◌<◌, ◌≤◌, Bool, true, false, not, List, [], ◌∷◌, ◌++◌}
 use Rattle.std.proofs.Common.{length, take, drop, refl, sym, ap, ◌∙◌, arith, add_assoc, add-zero}
 use Rattle.std.specs.Int.{w16, w32, to_le_bytes}
 use Rattle.std.proofs.lemmas.List.{append_assoc, length-append, length-drop, length-take-le, take_at, drop_at}
@@ -7,14 +7,15 @@ use Rattle.std.proofs.lemmas.List.{drop-drop, append-nil, take_all, take_more}
 use Rattle.std.proofs.Math.ListN.{drop_of_length-le}
 use Rattle.std.proofs.lemmas.List.Concat.{flat_map-cons}
 use Rattle.std.proofs.lemmas.Grind.{flat_map-append}
-use Rattle.std.proofs.lemmas.List.Elements.{All-push, All-cons, All-nil}
-use Rattle.std.proofs.lemmas.List.Sums.{sum_by_push}
+use Rattle.std.proofs.lemmas.List.Elements.{All-push, All-cons, All-nil, All-take}
+use Rattle.std.proofs.lemmas.List.Sums.{sum_by_push, sum_by-take-drop}
 use Rattle.ec_wire.specs.Datagram.{DatagramRecord, datagram_length, nth, blank, Fits, code_of}
 use Rattle.ec_wire.specs.Spelling.{datagram, is_nil, body, body_length, header, spelling, IsFrameValue, front}
 use Rattle.ec_wire.specs.Spelling.{length_word}
 use Rattle.ec_wire.specs.Frame.{starts_from, start_of, Keeps}
 use Rattle.ec_wire.specs.declared.layout.TheConstants.{MAX_LENGTH}
 use Rattle.ec_wire.proofs.SpellingLemmas.{length-datagram, length-front, length-spelling, body_length-cons}
+use Rattle.ec_wire.proofs.SpellingLemmas.{more_behind}
 use Rattle.ec_wire.proofs.FrameLemmas.{split-at, replaced, start-room}
 
 -- these bytes are xs with the bytes from `at` on overwritten by `part`
@@ -273,3 +274,70 @@ Keeps-push c0 c1 c2 c3 size starts starts' rs k r kept last fits room e1 e2 e3 e
   where
     minus_two : size ≡ 2 + body_length rs → size + datagram_length r - 2 ≡ body_length rs + datagram_length r
     minus_two e = omega arith
+
+-- the starts of some datagrams at the front
+take-starts_from : (k : ℕ) (rs : List DatagramRecord) (from : ℕ)
+    → take k (starts_from from rs) ≡ starts_from from (take k rs)
+take-starts_from zero rs from = refl
+take-starts_from (suc k) [] from = refl
+take-starts_from (suc k) (r ∷ rs) from =
+    ap (λ xs. from ∷ xs) (take-starts_from k rs (from + datagram_length r))
+
+-- a datagram before the last says that more follow
+says_more-before : (rs : List DatagramRecord) (j : ℕ) → j + 1 < length rs → more_behind j rs ≡ true
+says_more-before rs j h = ap not (some (drop (suc j) rs) (omega (arith, length-drop (suc j) rs)))
+  where
+    some : (xs : List DatagramRecord) → 0 < length xs → is_nil xs ≡ false
+    some [] h = absurd (omega arith)
+    some (x ∷ xs) h = refl
+
+-- the frame without its last datagram
+pub Keeps-pop : (c0 c1 c2 : List ℕ) (size : ℕ) (starts starts' : List ℕ) (rs : List DatagramRecord) (j : ℕ)
+    → Keeps c0 size starts rs → j + 2 ≡ length rs
+    → c1 ≡ overwritten (start_of rs j + 6) (to_le_bytes w16 (length_word false (nth rs j))) c0
+    → c2 ≡ overwritten 0 (header (start_of rs (j + 1) - 2)) c1 → starts' ≡ take (j + 1) starts
+    → Keeps c2 (start_of rs (j + 1)) starts' (take (j + 1) rs)
+unfolding datagram
+Keeps-pop c0 c1 c2 size starts starts' rs j kept last e1 e2 es =
+    let bl = body_length rs in
+    let r = nth rs j in
+    let fewer = take (j + 1) rs in
+    let h : j < length rs = omega arith in
+    let before = header bl ++ front (take j rs) in
+    let rest = body (drop (suc j) rs) ++ drop size c0 in
+    let now : c0 ≡ before ++ (datagram true r ++ rest) =
+    split-at c0 size starts rs j kept h
+    ∙ ap (λ b. before ++ (datagram b r ++ rest)) (says_more-before rs j (omega arith)) in
+    let long : length before ≡ start_of rs j = length-append (header bl) (front (take j rs))
+    ∙ ap (λ n. 2 + n) (length-front (take j rs)) in
+    let changed : overwritten (start_of rs j + 6) (to_le_bytes w16 (length_word false r)) c0
+    ≡ before ++ (datagram false r ++ rest) =
+    replaced before (take 6 (datagram false r)) (to_le_bytes w16 (length_word true r))
+    (to_le_bytes w16 (length_word false r)) (drop 8 (datagram false r)) rest c0 (start_of rs j + 6)
+    (now ∙ ap (λ xs. before ++ (xs ++ rest)) (field-more true r)) refl (ap (λ n. n + 6) (sym long))
+    ∙ ap (λ xs. before ++ (xs ++ rest)) (sym (field-more false r)) in
+    let parts : fewer ≡ take j rs ++ r ∷ [] = take_more rs j blank h in
+    let bodies : body fewer ≡ front (take j rs) ++ datagram false r =
+    ap body parts ∙ body-push (take j rs) r in
+    let first : c1 ≡ header bl ++ (body fewer ++ rest) =
+    e1 ∙ changed ∙ append_assoc (header bl) (front (take j rs)) (datagram false r ++ rest)
+    ∙ ap (λ xs. header bl ++ xs)
+    (sym (append_assoc (front (take j rs)) (datagram false r) rest) ∙ ap (λ xs. xs ++ rest) (sym bodies)) in
+    let number : start_of rs (j + 1) - 2 ≡ body_length fewer = omega arith in
+    let second : c2 ≡ header (body_length fewer) ++ (body fewer ++ rest) =
+    e2 ∙ ap (λ n. overwritten 0 (header n) c1) number ∙ header-over bl (body_length fewer) (body fewer ++ rest) c1 first in
+    let whole = sum_by-take-drop datagram_length rs (j + 1) in
+    let in_cells : start_of rs j + 8 ≤ 1500 = let piece = start-room c0 size starts rs j kept h in
+    omega (arith, kept.size_is, kept.value.room) in
+    let c1_long : length c1 ≡ 1500 =
+    ap length e1 ∙ length-overwritten (start_of rs j + 6) (to_le_bytes w16 (length_word false r)) c0
+    (omega (arith, kept.cells_are)) ∙ kept.cells_are in
+    let c2_long : length c2 ≡ 1500 =
+    ap length e2 ∙ length-overwritten 0 (header (start_of rs (j + 1) - 2)) c1 (omega arith) ∙ c1_long in
+    Keeps-made c2 (start_of rs (j + 1)) starts' fewer rest
+    (record {
+      some = ap is_nil parts ∙ is_nil-push (take j rs) r;
+      fits = All-take Fits (j + 1) rs kept.value.fits;
+      room = omega (arith, kept.value.room, whole);
+    })
+    second (es ∙ ap (λ xs. take (j + 1) xs) kept.starts_are ∙ take-starts_from (j + 1) rs 2) refl c2_long

@@ -1,6 +1,6 @@
 //! A frame made of a datagram, and one more datagram put behind its last.
 
-ghost use Rattle.std.specs.Prelude.{◌≡◌, ℕ, ◌+◌, ◌*◌, ◌<◌, ◌≤◌, ◌↔◌, [], ◌∷◌, ◌++◌, length, take, drop};
+ghost use Rattle.std.specs.Prelude.{◌≡◌, ℕ, ◌+◌, ◌-◌, ◌*◌, ◌<◌, ◌≤◌, ◌↔◌, [], ◌∷◌, ◌++◌, length, take, drop};
 ghost use Rattle.std.specs.Prelude.{IsErr, OnOk, OnErr};
 ghost use Rattle.ec_wire.specs.Datagram.{record_of, datagram_length};
 ghost use Rattle.ec_wire.specs.Spelling.{datagram, bit_of, body_length};
@@ -90,5 +90,21 @@ impl FrameBuf {
         self.starts.push(at as u16);
         self.size = end;
         Ok(())
+    }
+
+    /// Takes the last datagram off a frame of more than one.
+    pub fn pop(&mut self)
+        requires { 1 < length self.old }
+        ensures { self.new ≡ take (length self.old - 1) self.old }
+    {
+        let last = self.count() - 1;
+        let end = self.start(last);
+        let before = last - 1;
+        let field_at = self.start(before) + LENGTH;
+        let field = length_field(self.data_len(before), self.circulating(before), false);
+        self.cells.put(field_at, &field.to_le_bytes());
+        self.cells.put(0, &header_field(end - HEADER).to_le_bytes());
+        self.starts.truncate(last);
+        self.size = end;
     }
 }
