@@ -11,7 +11,7 @@ use Rattle.ec_ring.specs.Walk.{Walked, walked, walked_from_a, walked_from_b, is_
 use Rattle.ec_ring.specs.declared.links.Links.{Links}
 use Rattle.ec_ring.specs.declared.port.Port.{Port}
 use Rattle.ec_ring.specs.declared.port.Port.TheVariants.{A, B}
-use Rattle.ec_seal.specs.Seal.{CountersFit}
+use Rattle.ec_seal.specs.Trips.{CountersFit}
 use Rattle.ec_seal.proofs.ComesLemmas.{FrameComes, sent_comes, start_comes, line_comes, weaker}
 use Rattle.ec_seal.proofs.WalkLemmas.{way}
 

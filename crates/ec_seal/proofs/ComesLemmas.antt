@@ -8,16 +8,14 @@ use Rattle.ec_regs.proofs.Laws.{length-with_bits}
 use Rattle.ec_wire.specs.Command.{addressing, reads, writes, counts_adp}
 use Rattle.ec_wire.specs.Datagram.{DatagramRecord, nth, code_of}
 use Rattle.ec_wire.specs.declared.command.Command.{Command}
-use Rattle.ec_merge.specs.Frames.{belongs, fixed_address}
-use Rattle.ec_merge.specs.Rule.{distance}
+use Rattle.ec_merge.specs.Frames.{belongs, fixed_address, IsOwn}
 use Rattle.ec_esc.specs.Pass.{Effect, pass, frame_pass, effect, gain_of, address_after}
 use Rattle.ec_esc.specs.Pass.{serves_reading, serves_writing}
 use Rattle.ec_esc.specs.State.{ControllerState}
 use Rattle.ec_esc.proofs.Laws.{gain_served}
 use Rattle.ec_line.specs.Moved.{IsMoved}
 use Rattle.ec_line.specs.Trip.{line_pass, circulated}
-use Rattle.ec_seal.specs.Came.{CameOf, most_gained}
-use Rattle.ec_seal.specs.Seal.{CountersFit}
+use Rattle.ec_seal.specs.Trips.{CountersFit}
 
 -- ---- one datagram
 
@@ -175,36 +173,19 @@ comes_belongs n s d comes =
     let address : fixed_address s.command d.address ≡ fixed_address s.command s.address = comes.address in
     grind (arith, nat_tests)
 
--- a counter of 16 bits that moved by so little has that distance
-pub moved_distance : (n s d gain : ℕ) → s < 65536 → gain ≤ n → d ≡ (s + gain) % 65536 → distance s d ≤ n
-moved_distance n s d gain small few is = omega arith
-
-pub comes_came : (n : ℕ) (ss ds : List DatagramRecord) → n ≤ most_gained → CountersFit ss
-    → FrameComes n ss ds
-    → CameOf ss ds
+-- a frame on its way is no stranger
+pub comes_own : (n : ℕ) (ss ds : List DatagramRecord) → FrameComes n ss ds → IsOwn ss ds
 unfolding FrameComes
-comes_came n [] [] few fit comes = record {
-  own = record { count = refl; each = λ k inside. absurd (omega (arith, inside)) };
-  gained = λ k inside. absurd (omega (arith, inside));
-}
-comes_came n [] (d ∷ ds) few fit comes = absurd comes
-comes_came n (s ∷ ss) [] few fit comes = absurd comes
-comes_came n (s ∷ ss) (d ∷ ds) few fit comes =
-    let rest : CameOf ss ds = comes_came n ss ds few fit.1 comes.1 in
-    let moved = comes.0.moved in
+comes_own n [] [] comes = record { count = refl; each = λ k inside. absurd (omega (arith, inside)) }
+comes_own n [] (d ∷ ds) comes = absurd comes
+comes_own n (s ∷ ss) [] comes = absurd comes
+comes_own n (s ∷ ss) (d ∷ ds) comes =
+    let rest : IsOwn ss ds = comes_own n ss ds comes.1 in
     let P : ℕ → Type 0 = λ k. k < length (s ∷ ss) → belongs (nth (s ∷ ss) k) (nth (d ∷ ds) k) ≡ true in
-    let Q : ℕ → Type 0 = λ k. k < length (s ∷ ss)
-    → distance (nth (s ∷ ss) k).counter (nth (d ∷ ds) k).counter ≤ most_gained in
-    let first : distance s.counter d.counter ≤ n =
-    moved_distance n s.counter d.counter moved.gain fit.0 moved.few moved.counter in
     record {
-      own = record {
-        count = ap suc rest.own.count;
-        each = λ k. elim k as P [
-          | zero ↦ λ inside. comes_belongs n s d comes.0
-          | suc j ↦ λ inside. rest.own.each j (omega arith)
-        ];
-      };
-      gained = λ k. elim k as Q
-          [ zero ↦ λ inside. omega (arith, first, few) | suc j ↦ λ inside. rest.gained j (omega arith) ];
+      count = ap suc rest.count;
+      each = λ k. elim k as P [
+        | zero ↦ λ inside. comes_belongs n s d comes.0
+        | suc j ↦ λ inside. rest.each j (omega arith)
+      ];
     }

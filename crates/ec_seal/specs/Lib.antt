@@ -1,5 +1,3 @@
-pub mod Came
-pub mod Seal
-pub mod Opened
-pub mod Seals
-pub mod Network
+pub mod Trips
+pub mod Taken
+pub mod Moving

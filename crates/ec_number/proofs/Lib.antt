@@ -1,0 +1,4 @@
+pub mod CopyLemmas
+pub mod NumberLemmas
+pub mod UnderLemmas
+pub mod Laws
