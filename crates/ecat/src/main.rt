@@ -27,18 +27,18 @@ use std::fs::OpenFile;
 use std::io::IsTerminal;
 use std::net::Net;
 use std::process::ExitCode;
+use std::random::RandomSource;
 use std::rt::{Clock, Env, Files, Stdin};
 use std::{env, fs, io};
 
 /// The name of the program and of this version, as `--version` and `-V` print it.
-const VERSION: &str = "ecat 1.0";
+const VERSION: &str = "ecat 2.0";
 
 fn main(rt: HostRuntime) -> ExitCode {
     let console = Console {
         input: rt.stdin(),
         is_watched: rt.stderr().is_terminal(),
         is_read: rt.stdout().is_terminal(),
-        notes: rt.stderr(),
     };
     ExitCode::from(start(&rt, console, &mut rt.stdout(), &mut rt.stderr()))
 }
@@ -46,7 +46,7 @@ fn main(rt: HostRuntime) -> ExitCode {
 /// Reads the command line, opens the file that it names, and does the command.
 fn start<R, W, V>(rt: &R, console: Console, out: &mut W, err: &mut V) -> u8
 where
-    R: Clock + Env + Files + Net + AllocGlobal,
+    R: Clock + Env + Files + Net + RandomSource + AllocGlobal,
     W: io::Write,
     V: io::Write,
 {
@@ -138,7 +138,7 @@ fn tell_refusal<V: io::Write>(fault: ArgsFault, err: &mut V) -> u8
 /// Opens what a command opens first, and does the command.
 fn open<R, W, V>(rt: &R, args: &Args<'_>, console: Console, out: &mut W, err: &mut V) -> u8
 where
-    R: Clock + Files + Net + AllocGlobal,
+    R: Clock + Files + Net + RandomSource + AllocGlobal,
     W: io::Write,
     V: io::Write,
 {
@@ -151,7 +151,7 @@ where
             }
             Err(error) => report_file(&Failure::Open, path, &error, out, err),
         },
-        Args::Scan(words) => scan_by(rt, words, console.notes, out, err),
+        Args::Scan(words) => scan_by(rt, words, out, err),
         Args::Vectors => act_vectors(rt.alloc(), out, err),
     }
 }
@@ -217,7 +217,7 @@ fn over_scene<R, S, W, V>(
     err: &mut V,
 ) -> u8
 where
-    R: Clock + Files + Net + AllocGlobal,
+    R: Clock + Files + Net + RandomSource + AllocGlobal,
     S: Source,
     W: io::Write,
     V: io::Write,

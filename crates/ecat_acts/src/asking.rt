@@ -5,7 +5,7 @@ ghost use Rattle.std.specs.Prelude.{◌≡◌, IfOk, is_some};
 use crate::failure::{Failure, report, report_file, status_of};
 use crate::finding::Finding;
 use crate::piped::Piped;
-use crate::remote::{Reach, Waiting, raw_ports, remote_ports};
+use crate::remote::{Reach, raw_ports, remote_ports, tell_late};
 use crate::tape::{ToScene, make_scene};
 use ec_master::Ports;
 use ec_ring::HeardPorts;
@@ -20,15 +20,16 @@ use ecat_text::{GOOD, Lines, REFUSED};
 use std::alloc::Global;
 use std::io::{self, Write};
 use std::net::Net;
-use std::rt::{Clock, Files, Stderr};
+use std::random::RandomSource;
+use std::rt::{Clock, Files};
 
 /// What the words of `scan` say.
 #[derive(Clone, Copy)]
 struct Scanning<'a> {
     /// How the line is reached.
     reach: Reach<'a>,
-    /// How long copies are waited for.
-    waiting: Waiting,
+    /// For how many microseconds copies are waited for, where the words say so.
+    limit: Option<u32>,
     /// Where a scene is written.
     scene: Option<ToScene<'a>>,
 }
@@ -36,20 +37,14 @@ struct Scanning<'a> {
 impl<'a> Scanning<'a> {
     /// What the words say, unless they do not say how the line is reached.
     fn of(words: &ScanWords<'a>) -> Result<Scanning<'a>, Failure>
-        ensures limit { IfOk result (λ scanning. scanning.waiting.limit ≡ words.now.limit) }
-        ensures late { IfOk result (λ scanning. scanning.waiting.late ≡ words.now.late) }
+        ensures limit { IfOk result (λ scanning. scanning.limit ≡ words.now.limit) }
         ensures scene { IfOk result (λ scanning. is_some scanning.scene ≡ is_some words.now.scene) }
     {
         let reach = Reach::of(words.at, words.raw)?;
-        let waiting = Waiting {
-            limit: words.limit,
-            late: words.late,
-        };
-        let scene = ToScene::of(words.scene, words.force);
         Ok(Scanning {
             reach,
-            waiting,
-            scene,
+            limit: words.limit,
+            scene: ToScene::of(words.scene, words.force),
         })
     }
 }
@@ -57,15 +52,9 @@ impl<'a> Scanning<'a> {
 /// Asks the slaves of a line somewhere else what they are, as the words of `scan` say, and answers the exit
 /// status.
 #[inline(never)]
-pub fn scan_by<R, W, V>(
-    rt: &R,
-    words: &ScanWords<'_>,
-    notes: Stderr,
-    out: &mut W,
-    err: &mut V,
-) -> u8
+pub fn scan_by<R, W, V>(rt: &R, words: &ScanWords<'_>, out: &mut W, err: &mut V) -> u8
 where
-    R: Clock + Files + Net + AllocGlobal,
+    R: Clock + Files + Net + RandomSource + AllocGlobal,
     W: io::Write,
     V: io::Write,
 {
@@ -73,14 +62,10 @@ where
         Ok(scanning) => scanning,
         Err(failure) => return report(&failure, out, err),
     };
-    let Scanning {
-        reach,
-        waiting,
-        scene,
-    } = scanning;
-    match scene {
-        None => scan_at(rt, reach, waiting, notes, &mut Unfound, out, err),
-        Some(scene) => scan_to(rt, reach, waiting, notes, scene, out, err),
+    tell_late(words.late, err);
+    match scanning.scene {
+        None => scan_at(rt, scanning.reach, scanning.limit, &mut Unfound, out, err),
+        Some(scene) => scan_to(rt, scanning.reach, scanning.limit, scene, out, err),
     }
 }
 
@@ -88,14 +73,13 @@ where
 fn scan_to<R, W, V>(
     rt: &R,
     reach: Reach<'_>,
-    waiting: Waiting,
-    notes: Stderr,
+    limit: Option<u32>,
     scene: ToScene<'_>,
     out: &mut W,
     err: &mut V,
 ) -> u8
 where
-    R: Clock + Files + Net + AllocGlobal,
+    R: Clock + Files + Net + RandomSource + AllocGlobal,
     W: io::Write,
     V: io::Write,
 {
@@ -104,7 +88,7 @@ where
         Err(status) => return status,
     };
     let mut finding = Finding::new(rt.alloc());
-    let status = scan_at(rt, reach, waiting, notes, &mut finding, out, err);
+    let status = scan_at(rt, reach, limit, &mut finding, out, err);
     match finding.scene() {
         Ok(text) => match file.write_all(text.as_bytes()) {
             Ok(()) => status,
@@ -118,30 +102,23 @@ where
 fn scan_at<R, F, W, V>(
     rt: &R,
     reach: Reach<'_>,
-    waiting: Waiting,
-    notes: Stderr,
+    limit: Option<u32>,
     finder: &mut F,
     out: &mut W,
     err: &mut V,
 ) -> u8
 where
-    R: Clock + Net + AllocGlobal,
+    R: Clock + Net + RandomSource + AllocGlobal,
     F: Finder,
     W: io::Write,
     V: io::Write,
 {
     match reach {
-        Reach::At(at) => match remote_ports(rt, at, waiting, notes, &mut unrecorded()) {
+        Reach::At(at) => match remote_ports(rt, at, limit, &mut unrecorded()) {
             Ok(ports) => act_scan(ports, finder, out, err),
             Err(failure) => report(&failure, out, err),
         },
-        Reach::Raw(descriptors) => match raw_ports(
-            rt,
-            descriptors,
-            waiting,
-            notes,
-            &mut unrecorded(),
-        ) {
+        Reach::Raw(descriptors) => match raw_ports(rt, descriptors, limit, &mut unrecorded()) {
             Ok(ports) => act_scan(ports, finder, out, err),
             Err(failure) => report(&failure, out, err),
         },
@@ -153,28 +130,21 @@ where
 pub fn where_at<R, W, V>(
     rt: &R,
     reach: Reach<'_>,
-    notes: Stderr,
     scene: Result<Scene, SceneFault>,
     out: &mut W,
     err: &mut V,
 ) -> u8
 where
-    R: Clock + Net + AllocGlobal,
+    R: Clock + Net + RandomSource + AllocGlobal,
     W: io::Write,
     V: io::Write,
 {
     let told = match reach {
-        Reach::At(at) => match remote_ports(rt, at, Waiting::USUAL, notes, &mut unrecorded()) {
+        Reach::At(at) => match remote_ports(rt, at, None, &mut unrecorded()) {
             Ok(mut ports) => located(rt.alloc(), &mut ports, scene, out),
             Err(failure) => return report(&failure, out, err),
         },
-        Reach::Raw(descriptors) => match raw_ports(
-            rt,
-            descriptors,
-            Waiting::USUAL,
-            notes,
-            &mut unrecorded(),
-        ) {
+        Reach::Raw(descriptors) => match raw_ports(rt, descriptors, None, &mut unrecorded()) {
             Ok(mut ports) => located(rt.alloc(), &mut ports, scene, out),
             Err(failure) => return report(&failure, out, err),
         },
@@ -198,28 +168,21 @@ pub fn sdo_at<R, W, V>(
     rt: &R,
     reach: Reach<'_>,
     asked: &Asked,
-    notes: Stderr,
     scene: Result<Scene, SceneFault>,
     out: &mut W,
     err: &mut V,
 ) -> u8
 where
-    R: Clock + Net + AllocGlobal,
+    R: Clock + Net + RandomSource + AllocGlobal,
     W: io::Write,
     V: io::Write,
 {
     let told = match reach {
-        Reach::At(at) => match remote_ports(rt, at, Waiting::USUAL, notes, &mut unrecorded()) {
+        Reach::At(at) => match remote_ports(rt, at, None, &mut unrecorded()) {
             Ok(mut ports) => transferred(rt.alloc(), asked, &mut ports, scene, out, err),
             Err(failure) => return report(&failure, out, err),
         },
-        Reach::Raw(descriptors) => match raw_ports(
-            rt,
-            descriptors,
-            Waiting::USUAL,
-            notes,
-            &mut unrecorded(),
-        ) {
+        Reach::Raw(descriptors) => match raw_ports(rt, descriptors, None, &mut unrecorded()) {
             Ok(mut ports) => transferred(rt.alloc(), asked, &mut ports, scene, out, err),
             Err(failure) => return report(&failure, out, err),
         },

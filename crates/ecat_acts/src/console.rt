@@ -2,7 +2,7 @@
 
 ghost use Rattle.std.specs.Prelude.{◌≡◌, ◌||◌, not};
 
-use std::rt::{Stderr, Stdin};
+use std::rt::Stdin;
 
 /// What somebody at a terminal has.
 #[derive(Drop)]
@@ -13,8 +13,6 @@ pub struct Console {
     pub is_watched: bool,
     /// Whether standard output is a terminal.
     pub is_read: bool,
-    /// Standard error once more, for what is told in the middle of a trip.
-    pub notes: Stderr,
 }
 
 impl Console {

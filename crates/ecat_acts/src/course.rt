@@ -3,6 +3,7 @@
 ghost use Rattle.std.specs.Prelude.{◌≡◌, length};
 
 use crate::failure::{Failure, report};
+use crate::room::refuse_full;
 use ec_master::Work;
 use ec_ring::HeardPorts;
 use ec_run::{MAX_STARTUP, StartupObject, Wanted, add_states, image_length, wanted_of};
@@ -80,6 +81,9 @@ fn checked_course<W: Write>(
     let Ok(mut line) = wanted_of(alloc, ring.slaves()) else {
         return Err(LineFailure::NoMemory);
     };
+    if refuse_full(line.as_slice(), &work, &mut lines)? {
+        return Ok(None);
+    }
     for (wanted, startup) in line.iter_mut().zip(startups.iter()) {
         wanted.startup = *startup;
     }

@@ -33,6 +33,7 @@ pub mod on_scene;
 mod piped;
 mod raw;
 mod remote;
+mod room;
 mod serving;
 pub mod show;
 mod tape;

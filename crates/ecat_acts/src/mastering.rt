@@ -7,7 +7,7 @@ use crate::console::Console;
 use crate::course::{Course, act_master, course_of};
 use crate::failure::{Failure, report, report_file};
 use crate::images::images_at;
-use crate::remote::{Reach, Waiting, left_in, raw_ports, remote_ports};
+use crate::remote::{Reach, left_in, raw_ports, remote_ports, tell_late};
 use crate::tape::{Pcap, end, make};
 use ec_regs::AlState;
 use ec_run::{Image, Outputs};
@@ -17,6 +17,7 @@ use ecat_pace::{Beat, Ending};
 use ecat_record::{Moments, Recorder, WallClock, unrecorded};
 use ecat_scene::{Scene, SceneFault};
 use std::net::Net;
+use std::random::RandomSource;
 use std::rt::{Clock, Files, Stdin};
 use std::time::Duration;
 use std::{fs, io};
@@ -30,8 +31,8 @@ struct Running<'a> {
     cycles: Option<u32>,
     /// How many microseconds lie between the beginnings of cycles.
     every: Option<u32>,
-    /// How long copies are waited for.
-    waiting: Waiting,
+    /// For how many microseconds copies are waited for, where the words say so.
+    limit: Option<u32>,
     /// What the outputs are: `count`, or the path of a file.
     outputs: Option<&'a str>,
     /// The path of a file that gets a line for each cycle.
@@ -55,8 +56,7 @@ impl<'w> Running<'w> {
     fn of(words: &MasterWords<'w>, console: &Console) -> Result<Running<'w>, Failure>
         ensures cycles { IfOk result (λ running. running.cycles ≡ words.now.cycles) }
         ensures every { IfOk result (λ running. running.every ≡ words.now.every) }
-        ensures limit { IfOk result (λ running. running.waiting.limit ≡ words.now.limit) }
-        ensures late { IfOk result (λ running. running.waiting.late ≡ words.now.late) }
+        ensures limit { IfOk result (λ running. running.limit ≡ words.now.limit) }
         ensures outputs { IfOk result (λ running. running.outputs ≡ words.now.outputs) }
         ensures log { IfOk result (λ running. running.log ≡ words.now.log) }
         ensures log_images { IfOk result (λ running. running.log_images ≡ words.now.log_images) }
@@ -72,10 +72,7 @@ impl<'w> Running<'w> {
             reach,
             cycles: words.cycles,
             every: words.every,
-            waiting: Waiting {
-                limit: words.limit,
-                late: words.late,
-            },
+            limit: words.limit,
             outputs: words.outputs,
             log: words.log,
             log_images: words.log_images,
@@ -152,12 +149,15 @@ pub fn master_by<R, W, V>(
     err: &mut V,
 ) -> u8
 where
-    R: Clock + Files + Net + AllocGlobal,
+    R: Clock + Files + Net + RandomSource + AllocGlobal,
     W: io::Write,
     V: io::Write,
 {
     match Running::of(words, &console) {
-        Ok(running) => master_at(rt, running, console, scene, out, err),
+        Ok(running) => {
+            tell_late(words.late, err);
+            master_at(rt, running, console, scene, out, err)
+        }
         Err(failure) => report(&failure, out, err),
     }
 }
@@ -173,7 +173,7 @@ fn master_at<R, W, V>(
     err: &mut V,
 ) -> u8
 where
-    R: Clock + Files + Net + AllocGlobal,
+    R: Clock + Files + Net + RandomSource + AllocGlobal,
     W: io::Write,
     V: io::Write,
 {
@@ -221,7 +221,7 @@ fn master_logged<R, T, M, W, V>(
     err: &mut V,
 ) -> u8
 where
-    R: Clock + Files + Net + AllocGlobal,
+    R: Clock + Files + Net + RandomSource + AllocGlobal,
     T: io::Write,
     M: Moments,
     W: io::Write,
@@ -252,7 +252,7 @@ fn run_master<R, T, M, W, V, L>(
     log: &mut L,
 ) -> u8
 where
-    R: Clock + Net + AllocGlobal,
+    R: Clock + Net + RandomSource + AllocGlobal,
     T: io::Write,
     M: Moments,
     W: io::Write,
@@ -263,17 +263,11 @@ where
         return report(&Failure::Clock, out, err);
     };
     match running.reach {
-        Reach::At(at) => match remote_ports(rt, at, running.waiting, console.notes, recorder) {
+        Reach::At(at) => match remote_ports(rt, at, running.limit, recorder) {
             Ok(ports) => act_master(course, ports, plan, &mut beat, out, err, log),
             Err(failure) => report(&failure, out, err),
         },
-        Reach::Raw(descriptors) => match raw_ports(
-            rt,
-            descriptors,
-            running.waiting,
-            console.notes,
-            recorder,
-        ) {
+        Reach::Raw(descriptors) => match raw_ports(rt, descriptors, running.limit, recorder) {
             Ok(ports) => act_master(course, ports, plan, &mut beat, out, err, log),
             Err(failure) => report(&failure, out, err),
         },

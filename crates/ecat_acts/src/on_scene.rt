@@ -21,6 +21,7 @@ use ecat_simulation::run;
 use ecat_udp::UdpLine;
 use std::io;
 use std::net::{Ipv4Addr, Net};
+use std::random::RandomSource;
 use std::rt::{Clock, Files};
 
 /// Does a command on the scene that was read of this text, and answers the exit status. Where the text is no
@@ -36,7 +37,7 @@ pub fn on_scene<R, W, V>(
     err: &mut V,
 ) -> u8
 where
-    R: Clock + Files + Net + AllocGlobal,
+    R: Clock + Files + Net + RandomSource + AllocGlobal,
     W: io::Write,
     V: io::Write,
 {
@@ -51,7 +52,7 @@ where
             raw: None,
         } => act(alloc, &Alone::Where, text, scene, out, err),
         SceneCommand::Where { at, raw } => match Reach::of(*at, *raw) {
-            Ok(reach) => where_at(rt, reach, console.notes, scene, out, err),
+            Ok(reach) => where_at(rt, reach, scene, out, err),
             Err(failure) => report(&failure, out, err),
         },
         SceneCommand::Run {
@@ -95,7 +96,7 @@ where
         } => {
             let asked = asked_of(*station, *index, *sub, *value, !*once);
             match Reach::of(*at, *raw) {
-                Ok(reach) => sdo_at(rt, reach, &asked, console.notes, scene, out, err),
+                Ok(reach) => sdo_at(rt, reach, &asked, scene, out, err),
                 Err(failure) => report(&failure, out, err),
             }
         }

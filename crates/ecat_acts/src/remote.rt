@@ -3,71 +3,43 @@
 ghost use Rattle.std.specs.Prelude.{◌≡◌, ◌<◌, ◌*◌, None, Ok, Some};
 ghost use Rattle.std.specs.Option.{unwrap_or};
 ghost use Rattle.ec_regs.specs.declared.al.AlState.TheVariants.{Init};
-ghost use Rattle.ec_seal.specs.declared.seals.TheConstants.{TRIPS};
 ghost use Rattle.ecat_acts.specs.Failures.{unscanned};
 ghost use Rattle.ecat_acts.specs.declared.failure.Failure.TheVariants.{Remote};
 
 use crate::failure::Failure;
 use arrayvec::ArrayVec;
+use ec_number::Trip;
 use ec_regs::AlState;
-use ec_seal::{Seals, TRIPS};
 use ec_wire::{Command, Datagram, FrameBuf};
 use ecat_master::ScanEnd;
 use ecat_raw::{Descriptors, RawCarrier, descriptors_of};
 use ecat_record::{Moments, Recorder, TapedCarrier};
-use ecat_remote::{
-    Carrier, ClockTimer, OpenFault, Patience, RemotePorts, TellingTimer, Timer, UdpCarrier,
-    ends_of, greet,
-};
+use ecat_remote::{Carrier, ClockTimer, OpenFault, RemotePorts, UdpCarrier, ends_of, greet};
 use ecat_setup::LineFailure;
 use std::io::Write;
 use std::net::Net;
-use std::rt::{Clock, Stderr};
+use std::random::RandomSource;
+use std::rt::Clock;
 use std::time::{SystemTime, UNIX_EPOCH};
 
 /// How long a trip waits for its copies where the words don't say, in microseconds.
 const LIMIT: u32 = 20_000;
 
-/// For how long a copy that did not come may still be on its way where the words don't say, in milliseconds.
-const LATE: u32 = 1000;
-
-/// How many microseconds a millisecond has.
-const MICROS: u64 = 1000;
-
-/// How long a master waits for copies, as the words say it.
-#[derive(Clone, Copy)]
-pub struct Waiting {
-    /// After how many microseconds a copy counts as lost.
-    pub limit: Option<u32>,
-    /// For how many milliseconds a missing copy may still come.
-    pub late: Option<u32>,
+/// How many microseconds a trip waits for its copies, as a word says: 20,000 where there is none.
+pub fn patience(limit: Option<u32>) -> u64
+    ensures { result ≡ unwrap_or limit 20000 }
+{
+    u64::from(limit.unwrap_or(LIMIT))
 }
 
-impl Waiting {
-    /// As is usual.
-    pub const USUAL: Waiting = Waiting {
-        limit: None,
-        late: None,
-    };
-
-    /// In microseconds: 20 ms and a second where the words don't say.
-    fn patience(self) -> Patience
-        ensures limit { result.limit ≡ unwrap_or self.limit 20000 }
-        ensures late { result.late ≡ unwrap_or self.late 1000 * 1000 }
-    {
-        Patience {
-            limit: u64::from(self.limit.unwrap_or(LIMIT)),
-            late: u64::from(self.late.unwrap_or(LATE)) * MICROS,
-        }
+/// Tells of `--late` that it has no effect any more, where it is given. A fault of that line is passed over.
+pub fn tell_late<V: Write>(late: Option<u32>, err: &mut V) {
+    if late.is_some() {
+        let _ = err.write_all(
+            b"--late has no effect: no number is used twice, so none is waited for\n",
+        );
     }
 }
-
-/// What a master's ports tell the time by, which tells standard error when a trip waits for late copies.
-pub type RemoteTimer<'a, R> = TellingTimer<ClockTimer<'a, R>, Stderr>;
-
-/// In how many microseconds the first trip of a master that begins then is the next one: all have had their
-/// turn in about a second.
-const TURN: u128 = 128;
 
 /// The state in which slaves are left that a word names: Init where there is none, and as they are where it
 /// names Op.
@@ -141,10 +113,7 @@ impl From<ScanEnd> for Failure {
 }
 
 /// A master's two ports, of which each packet is recorded if anybody wants it.
-pub type TapedPorts<'a, 't, R, C, W, M> = RemotePorts<
-    TapedCarrier<'t, C, W, M>,
-    RemoteTimer<'a, R>,
->;
+pub type TapedPorts<'a, 't, R, C, W, M> = RemotePorts<TapedCarrier<'t, C, W, M>, ClockTimer<'a, R>>;
 
 /// The two ports of a master whose line lies there, `HOST:PORT` or two of them with a comma between. A first
 /// frame that asks nothing has gone out from each, so that whoever serves the line knows where both are: that
@@ -152,51 +121,35 @@ pub type TapedPorts<'a, 't, R, C, W, M> = RemotePorts<
 pub fn remote_ports<'a, 't, R, W, M>(
     rt: &'a R,
     at: &str,
-    waiting: Waiting,
-    notes: Stderr,
+    limit: Option<u32>,
     recorder: &'t mut Recorder<W, M>,
 ) -> Result<TapedPorts<'a, 't, R, UdpCarrier, W, M>, Failure>
 where
-    R: Clock + Net + AllocGlobal,
+    R: Clock + Net + RandomSource + AllocGlobal,
     W: Write,
     M: Moments,
 {
     let mut carrier = TapedCarrier::new(UdpCarrier::open(rt, ends_of(at))?, recorder);
-    greet(&mut carrier, &greeting(), waiting.patience().limit);
-    let timer = timer_of(rt)?;
-    ports_over(rt, carrier, timer, waiting, notes)
+    greet(&mut carrier, &greeting(), patience(limit));
+    ports_over(rt, carrier, limit)
 }
 
-/// The two ports of a master at packet sockets. What an earlier master may have sent over the same interfaces
-/// is waited for first: it is late once they are there.
+/// The two ports of a master at packet sockets. What an earlier master sent over the same interfaces bears other
+/// numbers, so nothing is waited for.
 pub fn raw_ports<'a, 't, R, W, M>(
     rt: &'a R,
     descriptors: Descriptors,
-    waiting: Waiting,
-    notes: Stderr,
+    limit: Option<u32>,
     recorder: &'t mut Recorder<W, M>,
 ) -> Result<TapedPorts<'a, 't, R, RawCarrier, W, M>, Failure>
 where
-    R: Clock + AllocGlobal,
+    R: Clock + RandomSource + AllocGlobal,
     W: Write,
     M: Moments,
 {
     match RawCarrier::open(descriptors) {
-        Ok(carrier) => {
-            let mut timer = timer_of(rt)?;
-            timer.rest(waiting.patience().late);
-            let carrier = TapedCarrier::new(carrier, recorder);
-            ports_over(rt, carrier, timer, waiting, notes)
-        }
+        Ok(carrier) => ports_over(rt, TapedCarrier::new(carrier, recorder), limit),
         Err(fault) => Err(Failure::Raw(fault)),
-    }
-}
-
-/// A timer over the system's clock.
-fn timer_of<R: Clock>(rt: &R) -> Result<ClockTimer<'_, R>, Failure> {
-    match ClockTimer::new(rt) {
-        Ok(timer) => Ok(timer),
-        Err(_) => Err(Failure::Clock),
     }
 }
 
@@ -204,31 +157,35 @@ fn timer_of<R: Clock>(rt: &R) -> Result<ClockTimer<'_, R>, Failure> {
 fn ports_over<'a, R, C>(
     rt: &'a R,
     carrier: C,
-    timer: ClockTimer<'a, R>,
-    waiting: Waiting,
-    notes: Stderr,
-) -> Result<RemotePorts<C, RemoteTimer<'a, R>>, Failure>
+    limit: Option<u32>,
+) -> Result<RemotePorts<C, ClockTimer<'a, R>>, Failure>
 where
-    R: Clock + AllocGlobal,
+    R: Clock + RandomSource + AllocGlobal,
     C: Carrier + Drop,
 {
-    let Ok(seals) = Seals::new(rt.alloc(), first_trip(rt)) else {
-        return Err(Failure::Line(LineFailure::NoMemory));
-    };
-    let timer = TellingTimer::new(timer, notes);
-    Ok(RemotePorts::new(carrier, timer, waiting.patience(), seals))
+    match ClockTimer::new(rt) {
+        Ok(timer) => Ok(RemotePorts::new(carrier, timer, patience(limit), first_trip(rt))),
+        Err(_) => Err(Failure::Clock),
+    }
 }
 
-/// The number of the first trip, by the time of the day: a master does not begin where one that ran just
-/// before did. A clock that fails counts from 0.
-fn first_trip(clock: &impl Clock) -> usize
-    ensures { result < TRIPS }
-{
+/// The first trip of a run: 63 bits that the system draws, or the nanoseconds since 1970 where it draws none. No
+/// other run has its numbers, unless by a chance of one in some thousand million for as many trips.
+fn first_trip<R: Clock + RandomSource>(rt: &R) -> Trip {
+    let mut drawn = [0; 8];
+    match rt.fill_bytes(&mut drawn) {
+        Ok(()) => Trip::of(u64::from_le_bytes(drawn)),
+        Err(_) => Trip::of(nanoseconds(rt)),
+    }
+}
+
+/// The nanoseconds since 1970; 0 where the clock fails.
+fn nanoseconds(clock: &impl Clock) -> u64 {
     let Ok(now) = SystemTime::now(clock) else {
         return 0;
     };
     match now.duration_since(UNIX_EPOCH) {
-        Ok(passed) => (passed.as_micros() / TURN % TRIPS as u128) as usize,
+        Ok(passed) => u64::try_from(passed.as_nanos()).unwrap_or(0),
         Err(_) => 0,
     }
 }

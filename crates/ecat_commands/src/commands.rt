@@ -84,11 +84,11 @@ fn limit<'a>(alloc: Global) -> Arg<'a>
     option(alloc, "LIMIT", "limit", help)
 }
 
-// How late a copy may come.
+// How late a copy may come: taken, and without effect.
 fn late<'a>(alloc: Global) -> Arg<'a>
     ensures { IsWord late_rule result }
 {
-    let help = "For how many milliseconds a missing copy may still come; 1000 if not given";
+    let help = "Has no effect: no number is used twice, so nothing is waited for";
     option(alloc, "LATE", "late", help)
 }
 

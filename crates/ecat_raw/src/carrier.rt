@@ -14,9 +14,6 @@ use ec_wire::{MAX_FRAME, PACKET_ROOM};
 use ecat_remote::{Carrier, copy_front};
 use std::io::{self, ErrorKind};
 
-/// How many late packets are dropped at a port before a trip, at the most.
-const MOST_LATE: usize = 1024;
-
 /// A packet socket at each port of the master; with one alone port B sends and receives nothing.
 ///
 /// A frame goes out to every station from `ADDRESS_A` or `ADDRESS_B`. What comes in is taken for an answer
@@ -72,13 +69,6 @@ impl Carrier for RawCarrier {
 
     fn speaks(&self, at: Port) -> bool {
         self.socket(at).is_some()
-    }
-
-    fn drain(&mut self) {
-        drop_late(&self.a);
-        if let Some(socket) = &self.b {
-            drop_late(socket);
-        }
     }
 
     fn send(&mut self, from: Port, bytes: &[u8]) -> Result<(), PortFault> {
@@ -142,16 +132,6 @@ fn take_answer(packet: &[u8], into: &mut [u8; PACKET_ROOM]) -> usize
     match answer_in(packet) {
         Some(frame) => copy_front(frame, into),
         None => 0,
-    }
-}
-
-/// Drops what waits at a socket.
-fn drop_late(socket: &PacketSocket) {
-    let mut room = [0; PACKET];
-    for _late in 0..MOST_LATE {
-        if socket.receive(&mut room).is_err() {
-            break;
-        }
     }
 }
 

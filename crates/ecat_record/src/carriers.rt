@@ -8,7 +8,7 @@ use ec_wire::PACKET_ROOM;
 use ecat_remote::Carrier;
 use std::io::Write;
 
-/// A carrier of which each packet is recorded as it is on the wire, under its seal: as it leaves a port of
+/// A carrier of which each packet is recorded as it is on the wire, with its number: as it leaves a port of
 /// the master that speaks with an end of the line, and as it arrives at one. Contracts see the carrier.
 #[derive(Drop)]
 pub struct TapedCarrier<'t, C, W: Write, M: Moments> {
@@ -34,10 +34,6 @@ impl<C: Carrier, W: Write, M: Moments> Carrier for TapedCarrier<'_, C, W, M> {
 
     fn speaks(&self, at: Port) -> bool {
         self.carrier.speaks(at)
-    }
-
-    fn drain(&mut self) {
-        self.carrier.drain();
     }
 
     fn send(&mut self, from: Port, bytes: &[u8]) -> Result<(), PortFault> {

@@ -1,3 +1,4 @@
 mod CopyLemmas
 pub mod HistoryLemmas
 pub mod NetworkLemmas
+pub mod MovingLemmas

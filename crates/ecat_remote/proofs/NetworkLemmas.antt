@@ -1,10 +1,10 @@
--- Over a network that holds copies back, what a cycle brings is what the ring's own trips give.
-use Rattle.std.specs.Prelude.{◌≡◌, ◌≢◌, ◌⊎◌, ◌+◌, ◌%◌, ◌≤◌, ◌<◌, ℕ, Bool, true, false}
+-- Over a network that gives whatever it will, what a cycle brings is what the ring's own trips give.
+use Rattle.std.specs.Prelude.{◌≡◌, ◌≢◌, ◌⊎◌, ◌+◌, ◌≤◌, ◌<◌, ℕ, Bool, true, false}
 use Rattle.std.specs.Prelude.{List, [], ◌∷◌, ◌++◌, length, map, Option, None, Some, Ok, Err, Result, refl}
 use Rattle.std.specs.List.{AllByRecursion}
 use Rattle.std.proofs.Common.{arith, ap, sym, subst, ◌∙◌, inl, inr, cond, suc}
 use Rattle.ec_wire.specs.Datagram.{DatagramRecord}
-use Rattle.ec_esc.specs.State.{ControllerState}
+use Rattle.ec_esc.specs.State.{ControllerState, IsController}
 use Rattle.ec_line.specs.After.{Entry}
 use Rattle.ec_line.specs.Answered.{sent_of}
 use Rattle.ec_line.specs.Trip.{Trip, passed}
@@ -25,10 +25,9 @@ use Rattle.ec_ring.specs.declared.weather.Came.{Came}
 use Rattle.ec_ring.specs.declared.weather.Weather.{Weather}
 use Rattle.ec_ring.proofs.Laws.{travelled-trip, length-walked_from_a, length-walked_from_b}
 use Rattle.ec_ring.proofs.Laws.{length-controllers}
-use Rattle.ec_seal.specs.Network.{Made, MeetsLate, losing}
-use Rattle.ec_seal.specs.Opened.{opened_sealed, sealed_trip}
-use Rattle.ec_seal.specs.declared.seals.TheConstants.{TRIPS}
-use Rattle.ec_seal.proofs.Laws.{brings_own, line_behind}
+use Rattle.ec_seal.specs.Taken.{Made, losing}
+use Rattle.ec_seal.specs.Trips.{numbered_trip, both_opened}
+use Rattle.ec_seal.proofs.Laws.{brings_own, line_behind, numbered_is}
 use Rattle.ec_master.specs.Cut.{entries_from, fits_frame, cut_onto, cut, frames_of}
 use Rattle.ec_master.specs.Given.{AllThatCame, exchanged}
 use Rattle.ec_master.specs.Suffice.{Brings, GivenBy, AllGivenBy}
@@ -37,119 +36,101 @@ use Rattle.ec_master.specs.Travelled.{trips_of}
 use Rattle.ec_master.specs.Unordered.{IsAccepted}
 use Rattle.ec_master.specs.declared.cycle.CycleFault.{CycleFault}
 use Rattle.ec_master.specs.declared.verdict.Verdict.{Verdict}
-use Rattle.ecat_remote.specs.History.{PastTrip, Went, Gave}
-use Rattle.ecat_remote.specs.Network.{by_seal, TripTaken, Takes, NoneFailed, TakesAll, NetworkGaveAll}
-use Rattle.ecat_remote.specs.Network.{AreAllTaken, IsGivenBy, IsOfCycle, past_of, pasts_of}
+use Rattle.ecat_remote.specs.History.{Went}
+use Rattle.ecat_remote.specs.Network.{by_number, Takes, NoneFailed, TakesAll, Gave, NetworkGaveAll}
+use Rattle.ecat_remote.specs.Network.{AreAllTaken, IsGivenBy, IsOfCycle, pasts_of}
 use Rattle.ecat_remote.specs.Taken.{Gives, Heard, AreBoth, IsCopyOfTrip, sent_from, opened_came}
-use Rattle.ecat_remote.specs.Trips.{RemoteState, Speaks, RemoteTrip, RemoteTrips, HeardCopies, HeardTrips, IsTurn}
-use Rattle.ecat_remote.specs.Trips.{all_came, arrivals_of, came_of}
-use Rattle.ecat_remote.specs.declared.copies.SealedCopy.{SealedCopy}
+use Rattle.ecat_remote.specs.Trips.{RemoteState, RemoteTrip, RemoteTrips, HeardCopies, HeardTrips, IsTurn}
+use Rattle.ecat_remote.specs.Trips.{HasRoom, arrivals_of, came_of}
+use Rattle.ecat_remote.specs.declared.copies.NumberedCopy.{NumberedCopy}
 use Rattle.ecat_remote.specs.declared.ports.Both.{Both}
-use Rattle.ecat_remote.proofs.HistoryLemmas.{MeetsSome, meets, made_now, went_one, turn_next}
+use Rattle.ecat_remote.proofs.HistoryLemmas.{meets, made_now}
 
 -- ---- two copies of one trip
 
 -- a copy that is taken is not the one that was taken already
 another : (trip : ℕ) (sent : List DatagramRecord) (already : Option Port) (packet : Option (List ℕ))
-    (copy : SealedCopy) → IsCopyOfTrip trip sent already packet (Some copy) → already ≢ Some copy.from
+    (copy : NumberedCopy) → IsCopyOfTrip trip sent already packet (Some copy) → already ≢ Some copy.from
 another trip sent already None copy is = absurd (let no : Some copy ≡ None = is in cc)
 another trip sent already (Some packet) copy is = is.another
 
--- copies as they were received are those by their seals, or exchanged
-abbrev InEither : ℕ → List DatagramRecord → Option SealedCopy → Option SealedCopy → Type 0
-InEither trip sent a b =
+-- copies as they were received are those by their numbers, or exchanged
+abbrev InEither : Option NumberedCopy → Option NumberedCopy → Type 0
+InEither a b =
     let both : Both = record { a = a; b = b } in
-    (opened_came trip sent both ≡ opened_sealed trip sent (by_seal both))
-    ⊎ (opened_came trip sent both ≡ exchanged (opened_sealed trip sent (by_seal both)))
+    (opened_came both ≡ both_opened (by_number both))
+    ⊎ (opened_came both ≡ exchanged (both_opened (by_number both)))
 
 -- a copy that was sent from a port
-abbrev copy_from : Port → List DatagramRecord → Option SealedCopy
+abbrev copy_from : Port → List DatagramRecord → Option NumberedCopy
 copy_from from frame = Some (record { from = from; frame = frame })
 
-first_alone : (trip : ℕ) (sent : List DatagramRecord) (from : Port) (frame : List DatagramRecord)
-    → InEither trip sent (copy_from from frame) None
-first_alone trip sent A frame = inl refl
-first_alone trip sent B frame = inr refl
+first_alone : (from : Port) (frame : List DatagramRecord)
+    → InEither (copy_from from frame) None
+first_alone A frame = inl refl
+first_alone B frame = inr refl
 
-second_alone : (trip : ℕ) (sent : List DatagramRecord) (from : Port) (frame : List DatagramRecord)
-    → InEither trip sent None (copy_from from frame)
-second_alone trip sent A frame = inr refl
-second_alone trip sent B frame = inl refl
+second_alone : (from : Port) (frame : List DatagramRecord)
+    → InEither None (copy_from from frame)
+second_alone A frame = inr refl
+second_alone B frame = inl refl
 
-two : (trip : ℕ) (sent : List DatagramRecord) (from other : Port) (frame second : List DatagramRecord)
-    → Some from ≢ Some other → InEither trip sent (copy_from from frame) (copy_from other second)
-two trip sent A A frame second apart = absurd (apart refl)
-two trip sent A B frame second apart = inl refl
-two trip sent B A frame second apart = inr refl
-two trip sent B B frame second apart = absurd (apart refl)
+two : (from other : Port) (frame second : List DatagramRecord)
+    → Some from ≢ Some other → InEither (copy_from from frame) (copy_from other second)
+two A A frame second apart = absurd (apart refl)
+two A B frame second apart = inl refl
+two B A frame second apart = inr refl
+two B B frame second apart = absurd (apart refl)
 
-in_either : (trip : ℕ) (sent : List DatagramRecord) (a b : Option SealedCopy)
-    → ((copy : SealedCopy) → b ≡ Some copy → sent_from a ≢ Some copy.from) → InEither trip sent a b
-in_either trip sent None None apart = inl refl
-in_either trip sent (Some copy) None apart = first_alone trip sent copy.from copy.frame
-in_either trip sent None (Some copy) apart = second_alone trip sent copy.from copy.frame
-in_either trip sent (Some copy) (Some other) apart =
-    two trip sent copy.from other.from copy.frame other.frame (apart other refl)
+in_either : (a b : Option NumberedCopy)
+    → ((copy : NumberedCopy) → b ≡ Some copy → sent_from a ≢ Some copy.from) → InEither a b
+in_either None None apart = inl refl
+in_either (Some copy) None apart = first_alone copy.from copy.frame
+in_either None (Some copy) apart = second_alone copy.from copy.frame
+in_either (Some copy) (Some other) apart =
+    two copy.from other.from copy.frame other.frame (apart other refl)
 
-both_in_either : {C : Type 0} (gives : Gives C) (heard : Heard C) (since trip : ℕ)
+pub both_in_either : {C : Type 0} (gives : Gives C) (heard : Heard C) (since trip : ℕ)
     (sent : List DatagramRecord) (both : Both) (later : C) → AreBoth gives heard since trip sent both later
-    → InEither trip sent both.a both.b
+    → InEither both.a both.b
 both_in_either gives heard since trip sent both later are =
-    in_either trip sent both.a both.b
+    in_either both.a both.b
     (λ copy is.
     another trip sent (sent_from both.a) are.b.packet copy
-    (subst (λ (b : Option SealedCopy). IsCopyOfTrip trip sent (sent_from both.a) are.b.packet b) is are.b.is))
+    (subst (λ (b : Option NumberedCopy). IsCopyOfTrip trip sent (sent_from both.a) are.b.packet b) is are.b.is))
 
 -- ---- one trip
 
--- what came of a trip that met late copies is what its own copies give, with nothing late
-given_meeting : {C : Type 0} (gives : Gives C) (heard : Heard C) (since n : ℕ) (es : List Entry) (both : Both)
-    (came : Came) (carrier : C) (w : Weather) (line : List ControllerState) (late : List Made)
-    → is_circulating (sent_of es) ≡ false → AreBoth gives heard since n (sent_of es) both carrier
-    → came ≡ opened_came n (sent_of es) both
-    → MeetsLate (record { number = n; frame = sent_of es; weather = w; line = line }) late (by_seal both)
-    → GivenBy (trip_of (losing (by_seal both) w) es (length line)) line (Ok came)
-given_meeting gives heard since n es both came carrier w line late still are opened meets =
+-- what came of a trip is what its own copies give, with nothing late
+pub trip_given : {C : Type 0} (gives : Gives C) (heard : Heard C) (before later : RemoteState C)
+    (es : List Entry) (both : Both) (came : Came) (w : Weather) (line : List ControllerState)
+    → AllByRecursion IsController line → is_circulating (sent_of es) ≡ false
+    → Takes gives heard before (sent_of es) both came later
+    → Gave (record { number = before.next; frame = sent_of es; weather = w; line = line }) (by_number both)
+    → GivenBy (trip_of (losing (by_number both) w) es (length line)) line (Ok came)
+trip_given gives heard before later es both came w line are still takes gave =
     let f : List DatagramRecord = sent_of es in
+    let n : ℕ = before.next in
     let m : Made = record { number = n; frame = f; weather = w; line = line } in
-    let v : Weather = losing (by_seal both) w in
+    let v : Weather = losing (by_number both) w in
     let t : Trip = trip_of v es (length line) in
-    let own : opened_sealed n f (by_seal both) ≡ (as_trip t (passed t line)).came =
-    brings_own m late (by_seal both) meets
+    let own : both_opened (by_number both) ≡ (as_trip t (passed t line)).came =
+    brings_own m (by_number both) (meets gives heard before later f both w line are takes.turn takes.taken gave)
     ∙ ap (λ (x : Travelled). x.came) (travelled-trip v es line still) in
-    elim (both_in_either gives heard since n f both carrier are) [
-      | inl is ↦ inl (opened ∙ is ∙ own)
-      | inr is ↦ inr (opened ∙ is ∙ ap exchanged own)
+    elim (both_in_either gives heard (heard before.carrier) n f both later.carrier takes.taken) [
+      | inl is ↦ inl (takes.opened ∙ is ∙ own)
+      | inr is ↦ inr (takes.opened ∙ is ∙ ap exchanged own)
     ]
 
--- what came of a trip is so, behind others of which copies may still come
-pub trip_given : {C : Type 0} (speaks : Speaks C) (gives : Gives C) (heard : Heard C)
-    (first before later : RemoteState C) (past : List PastTrip) (es : List Entry) (t : TripTaken) (came : Came)
-    (w : Weather) (line : List ControllerState) → length line ≤ MAX_SLAVES
-    → is_circulating (sent_of es) ≡ false → Went first past before
-    → Takes speaks gives heard before (sent_of es) t came later
-    → Gave before.late t.at past
-    (record { number = before.seals.next; frame = sent_of es; weather = w; line = line }) (by_seal t.both)
-    → GivenBy (trip_of (losing (by_seal t.both) w) es (length line)) line (Ok came)
-trip_given speaks gives heard first before later past es t came w line room still went takes gave =
-    let f : List DatagramRecord = sent_of es in
-    let n : ℕ = before.seals.next in
-    let m : Made = record { number = n; frame = f; weather = w; line = line } in
-    let some : MeetsSome m (by_seal t.both) =
-    meets gives heard first before later f t.at t.settled past t.both w line room went takes.turn takes.taken
-    gave in
-    given_meeting gives heard (heard before.carrier) n es t.both came later.carrier w line some.late still
-    takes.taken takes.opened some.meets
-
 -- and the trips leave the same line
-pub line_left : {C : Type 0} (before later : RemoteState C) (es : List Entry) (at : ℕ) (settled : Bool)
-    (w : Weather) (line : List ControllerState) (taken : Came) → length line ≤ MAX_SLAVES
-    → is_circulating (sent_of es) ≡ false → IsTurn before (sent_of es) at settled later
-    → (sealed_trip before.seals.next w (sent_of es) line).line
+pub line_left : {C : Type 0} (before later : RemoteState C) (es : List Entry)
+    (w : Weather) (line : List ControllerState) (taken : Came) → AllByRecursion IsController line
+    → is_circulating (sent_of es) ≡ false → IsTurn before (sent_of es) later
+    → (numbered_trip before.next w (sent_of es) line).line
     ≡ (passed (trip_of (losing taken w) es (length line)) line).line
-line_left before later es at settled w line taken room still turn =
-    let m : Made = record { number = before.seals.next; frame = sent_of es; weather = w; line = line } in
-    sym (line_behind m taken (made_now before later (sent_of es) at settled w line room turn))
+line_left before later es w line taken are still turn =
+    let m : Made = record { number = before.next; frame = sent_of es; weather = w; line = line } in
+    sym (line_behind m taken (made_now before later (sent_of es) w line are turn))
     ∙ ap (λ (x : Travelled). x.line) (travelled-trip (losing taken w) es line still)
 
 -- a trip leaves as many controllers as there were
@@ -164,45 +145,47 @@ length-travelled w f line =
       | false ↦ length-walked_from_b w.b f (walked_from_a w.a f line).line ∙ length-walked_from_a w.a f line
     ]
 
-length-left : {C : Type 0} (before later : RemoteState C) (es : List Entry) (at : ℕ) (settled : Bool)
-    (w : Weather) (line : List ControllerState) (taken : Came) → length line ≤ MAX_SLAVES
-    → IsTurn before (sent_of es) at settled later
-    → length (sealed_trip before.seals.next w (sent_of es) line).line ≡ length line
-length-left before later es at settled w line taken room turn =
-    let m : Made = record { number = before.seals.next; frame = sent_of es; weather = w; line = line } in
+length-left : {C : Type 0} (before later : RemoteState C) (es : List Entry) (w : Weather)
+    (line : List ControllerState) (taken : Came) → AllByRecursion IsController line
+    → IsTurn before (sent_of es) later
+    → length (numbered_trip before.next w (sent_of es) line).line ≡ length line
+length-left before later es w line taken are turn =
+    let m : Made = record { number = before.next; frame = sent_of es; weather = w; line = line } in
     ap (λ (l : List ControllerState). length l)
-    (sym (line_behind m taken (made_now before later (sent_of es) at settled w line room turn)))
+    (sym (line_behind m taken (made_now before later (sent_of es) w line are turn)))
     ∙ length-travelled (losing taken w) (sent_of es) line
 
 -- ---- the trips of frames
 
+-- a trip of a frame that has room for a number is made
+trip_made : {C : Type 0} (gives : Gives C) (heard : Heard C) (before later : RemoteState C)
+    (sent : List DatagramRecord) (came : Came) → HasRoom sent
+    → RemoteTrips gives heard before sent (Ok came) later → RemoteTrip gives heard before sent came later
+trip_made gives heard before later sent came room (inl refused) =
+    absurd (omega (arith, refused.full, room))
+trip_made gives heard before later sent came room (inr trip) = trip
+
 -- on trips of which none failed copies were taken
-pub all_taken : {C : Type 0} (speaks : Speaks C) (gives : Gives C) (heard : Heard C)
+pub all_taken : {C : Type 0} (gives : Gives C) (heard : Heard C)
     (before later : RemoteState C) (frames : List (List DatagramRecord)) (came : AllThatCame) → NoneFailed came
-    → Brings (RemoteTrips speaks gives heard) before frames came later
-    → AreAllTaken speaks gives heard before frames came later
+    → AllByRecursion HasRoom frames → Brings (RemoteTrips gives heard) before frames came later
+    → AreAllTaken gives heard before frames came later
 unfolding Brings TakesAll
-all_taken speaks gives heard before later frames [] none brought =
+all_taken gives heard before later frames [] none room brought =
     record { taken = []; takes = (refl, brought) }
-all_taken speaks gives heard before later [] (came ∷ more) none brought = absurd brought
-all_taken speaks gives heard before later (sent ∷ frames) (Err failed ∷ more) none brought = absurd none
-all_taken {C} speaks gives heard before later (sent ∷ frames) (Ok came ∷ more) none brought =
+all_taken gives heard before later [] (c ∷ more) none room brought = absurd brought
+all_taken gives heard before later (sent ∷ frames) (Err failed ∷ more) none room brought = absurd none
+all_taken {C} gives heard before later (sent ∷ frames) (Ok came ∷ more) none room brought =
     let between : RemoteState C = brought.0 in
-    let trip : RemoteTrip speaks gives heard before sent came between = brought.1 in
-    let both : Both = trip.taken.both in
-    let rest : AreAllTaken speaks gives heard between frames more later =
-    all_taken speaks gives heard between later frames more none brought.2 in
+    let trip : RemoteTrip gives heard before sent came between =
+    trip_made gives heard before between sent came room.0 brought.1 in
+    let rest : AreAllTaken gives heard between frames more later =
+    all_taken gives heard between later frames more none room.1 brought.2 in
     record {
-      taken = record { at = trip.at; both = both; settled = all_came (speaks between.carrier) both }
-          ∷ rest.taken;
+      taken = trip.taken.both ∷ rest.taken;
       takes = (
         between,
-        record {
-          taken = trip.taken.taken;
-          opened = trip.taken.opened;
-          settled = refl;
-          turn = trip.turn;
-        },
+        record { taken = trip.taken.taken; opened = trip.taken.opened; turn = trip.turn },
         rest.takes,
       );
     }
@@ -225,59 +208,58 @@ copies_arrived : (came : Came) → copies_of (arrivals_of came) ≡ came
 copies_arrived came = both_arrived came.a came.b
 
 -- a trip of which it is known where the copies arrived is such a trip of these copies
-pub heard_trip : {C : Type 0} (speaks : Speaks C) (gives : Gives C) (heard : Heard C)
+pub heard_trip : {C : Type 0} (gives : Gives C) (heard : Heard C)
     (before later : RemoteState C) (sent : List DatagramRecord) (arrivals : Result Arrivals PortFault)
-    → HeardTrips speaks gives heard before sent arrivals later
-    → RemoteTrips speaks gives heard before sent (came_of arrivals) later
-heard_trip speaks gives heard before later sent (Ok arrivals) trip =
-    subst (λ (came : Came). RemoteTrip speaks gives heard before sent came later)
+    → HeardTrips gives heard before sent arrivals later
+    → RemoteTrips gives heard before sent (came_of arrivals) later
+heard_trip gives heard before later sent (Ok arrivals) trip =
+    subst (λ (came : Came). RemoteTrips gives heard before sent (Ok came) later)
     (sym (copies_arrived trip.copies) ∙ sym (ap copies_of trip.arrived)) trip.trip
-heard_trip speaks gives heard before later sent (Err failed) trip = trip
+heard_trip gives heard before later sent (Err failed) trip = trip
 
-brings_copies : {C : Type 0} (speaks : Speaks C) (gives : Gives C) (heard : Heard C)
+brings_copies : {C : Type 0} (gives : Gives C) (heard : Heard C)
     (before later : RemoteState C) (frames : List (List DatagramRecord)) (came : AllThatCame)
-    → Brings (HeardCopies speaks gives heard) before frames came later
-    → Brings (RemoteTrips speaks gives heard) before frames came later
+    → Brings (HeardCopies gives heard) before frames came later
+    → Brings (RemoteTrips gives heard) before frames came later
 unfolding Brings
-brings_copies speaks gives heard before later frames [] brought = brought
-brings_copies speaks gives heard before later [] (c ∷ more) brought = absurd brought
-brings_copies speaks gives heard before later (sent ∷ frames) (c ∷ more) brought =
-    let trip : HeardCopies speaks gives heard before sent c brought.0 = brought.1 in (
+brings_copies gives heard before later frames [] brought = brought
+brings_copies gives heard before later [] (c ∷ more) brought = absurd brought
+brings_copies gives heard before later (sent ∷ frames) (c ∷ more) brought =
+    let trip : HeardCopies gives heard before sent c brought.0 = brought.1 in (
       brought.0,
-      subst (λ (came : Result Came PortFault). RemoteTrips speaks gives heard before sent came brought.0)
-          (sym trip.copies) (heard_trip speaks gives heard before brought.0 sent trip.arrivals trip.made),
-      brings_copies speaks gives heard brought.0 later frames more brought.2,
+      subst (λ (came : Result Came PortFault). RemoteTrips gives heard before sent came brought.0)
+          (sym trip.copies) (heard_trip gives heard before brought.0 sent trip.arrivals trip.made),
+      brings_copies gives heard brought.0 later frames more brought.2,
     )
 
 -- so copies were taken on them
-pub all_watched : {C : Type 0} (speaks : Speaks C) (gives : Gives C) (heard : Heard C)
+pub all_watched : {C : Type 0} (gives : Gives C) (heard : Heard C)
     (before later : RemoteState C) (frames : List (List DatagramRecord)) (came : AllThatCame) → NoneFailed came
-    → Brings (HeardCopies speaks gives heard) before frames came later
-    → AreAllTaken speaks gives heard before frames came later
-all_watched speaks gives heard before later frames came none brought =
-    all_taken speaks gives heard before later frames came none
-    (brings_copies speaks gives heard before later frames came brought)
+    → AllByRecursion HasRoom frames → Brings (HeardCopies gives heard) before frames came later
+    → AreAllTaken gives heard before frames came later
+all_watched gives heard before later frames came none room brought =
+    all_taken gives heard before later frames came none room
+    (brings_copies gives heard before later frames came brought)
 
 -- these trips are of the past behind them
-pub all_past : {C : Type 0} (speaks : Speaks C) (gives : Gives C) (heard : Heard C)
-    (before later : RemoteState C) (frames : List (List DatagramRecord)) (taken : List TripTaken)
-    (came : AllThatCame) → TakesAll speaks gives heard before frames taken came later
-    → Went before (pasts_of before.seals.next frames taken) later
+pub all_past : {C : Type 0} (gives : Gives C) (heard : Heard C)
+    (before later : RemoteState C) (frames : List (List DatagramRecord)) (taken : List Both)
+    (came : AllThatCame) → TakesAll gives heard before frames taken came later
+    → Went before (pasts_of before.next frames taken) later
 unfolding TakesAll
-all_past speaks gives heard before later frames taken [] takes =
-    subst (λ (l : List TripTaken). Went before (pasts_of before.seals.next frames l) later) (sym takes.0)
-    (no_past before.seals.next frames before later takes.1)
-all_past speaks gives heard before later [] taken (c ∷ more) takes = absurd takes
-all_past speaks gives heard before later (sent ∷ frames) [] (c ∷ more) takes = absurd takes
-all_past speaks gives heard before later (sent ∷ frames) (t ∷ taken) (Err f ∷ more) takes = absurd takes
-all_past {C} speaks gives heard before later (sent ∷ frames) (t ∷ taken) (Ok came ∷ more) takes =
+all_past gives heard before later frames taken [] takes =
+    subst (λ (l : List Both). Went before (pasts_of before.next frames l) later) (sym takes.0)
+    (no_past before.next frames before later takes.1)
+all_past gives heard before later [] taken (c ∷ more) takes = absurd takes
+all_past gives heard before later (sent ∷ frames) [] (c ∷ more) takes = absurd takes
+all_past gives heard before later (sent ∷ frames) (both ∷ taken) (Err f ∷ more) takes = absurd takes
+all_past {C} gives heard before later (sent ∷ frames) (both ∷ taken) (Ok came ∷ more) takes =
     let between : RemoteState C = takes.0 in
-    let turn : IsTurn before sent t.at t.settled between = takes.1.turn in (
+    let turn : IsTurn before sent between = takes.1.turn in (
       between,
       record { number = refl; turn = turn },
-      subst (λ (k : ℕ). Went between (pasts_of k frames taken) later)
-          (turn_next before.late t.at before.seals.next t.settled before.seals between.seals turn.run)
-          (all_past speaks gives heard between later frames taken more takes.2),
+      subst (λ (k : ℕ). Went between (pasts_of k frames taken) later) turn.next
+          (all_past gives heard between later frames taken more takes.2),
     )
 
 -- a frame whose first circulating bit is not set
@@ -291,69 +273,55 @@ record AllGiven (links : Links) (n : ℕ) (fs : List (List Entry)) (line : List 
   given : AllGivenBy (trips_of weathers links n fs) line came
   left : length came ≡ length fs → behind ≡ (trips_run (trips_of weathers links n fs) line).line
 
-none_out : (late : ℕ) (past : List PastTrip) (trip : ℕ) (line behind : List ControllerState)
-    (frames : List (List DatagramRecord)) (taken : List TripTaken) → taken ≡ []
-    → NetworkGaveAll late past trip line frames taken behind → behind ≡ line
-none_out late past trip line behind frames taken is gave =
-    subst (λ (l : List TripTaken). NetworkGaveAll late past trip line frames l behind) is gave
+none_out : (trip : ℕ) (line behind : List ControllerState) (frames : List (List DatagramRecord))
+    (taken : List Both) → taken ≡ [] → NetworkGaveAll trip line frames taken behind → behind ≡ line
+none_out trip line behind frames taken is gave =
+    subst (λ (l : List Both). NetworkGaveAll trip line frames l behind) is gave
 
-all_given : {C : Type 0} (speaks : Speaks C) (gives : Gives C) (heard : Heard C)
-    (first before later : RemoteState C) (past : List PastTrip) (links : Links) (n : ℕ) (fs : List (List Entry))
-    (line : List ControllerState) (taken : List TripTaken) (came : AllThatCame)
+all_given : {C : Type 0} (gives : Gives C) (heard : Heard C) (before later : RemoteState C) (links : Links)
+    (n : ℕ) (fs : List (List Entry)) (line : List ControllerState) (taken : List Both) (came : AllThatCame)
     (behind : List ControllerState)
-    → length line ≡ n → n ≤ MAX_SLAVES → AllByRecursion Still fs → Went first past before
-    → TakesAll speaks gives heard before (map sent_of fs) taken came later
-    → NetworkGaveAll before.late past before.seals.next line (map sent_of fs) taken behind
+    → length line ≡ n → AllByRecursion IsController line → AllByRecursion Still fs
+    → TakesAll gives heard before (map sent_of fs) taken came later
+    → NetworkGaveAll before.next line (map sent_of fs) taken behind
     → AllGiven links n fs line came behind
 unfolding TakesAll AllGivenBy trips_of trips_run
-all_given speaks gives heard first before later past links n [] line taken [] behind size room still went
-    takes gave = record {
-      weathers = [];
-      given = tt;
-      left = λ same. none_out before.late past before.seals.next line behind [] taken takes.0 gave;
-    }
-all_given speaks gives heard first before later past links n (es ∷ fs) line taken [] behind size room still
-    went takes gave =
+all_given gives heard before later links n [] line taken [] behind size are still takes gave = record {
+  weathers = [];
+  given = tt;
+  left = λ same. none_out before.next line behind [] taken takes.0 gave;
+}
+all_given gives heard before later links n (es ∷ fs) line taken [] behind size are still takes gave =
     record { weathers = []; given = tt; left = λ same. absurd (omega (arith, same)) }
-all_given speaks gives heard first before later past links n [] line taken (c ∷ more) behind size room still
-    went takes gave = absurd takes
-all_given speaks gives heard first before later past links n (es ∷ fs) line [] (c ∷ more) behind size room
-    still went takes gave = absurd takes
-all_given speaks gives heard first before later past links n (es ∷ fs) line (t ∷ taken) (Err f ∷ more) behind
-    size room still went takes gave = absurd takes
-all_given {C} speaks gives heard first before later past links n (es ∷ fs) line (t ∷ taken) (Ok came ∷ more)
-    behind size room still went takes gave =
+all_given gives heard before later links n [] line taken (c ∷ more) behind size are still takes gave =
+    absurd takes
+all_given gives heard before later links n (es ∷ fs) line [] (c ∷ more) behind size are still takes gave =
+    absurd takes
+all_given gives heard before later links n (es ∷ fs) line (both ∷ taken) (Err f ∷ more) behind size are still
+    takes gave = absurd takes
+all_given {C} gives heard before later links n (es ∷ fs) line (both ∷ taken) (Ok came ∷ more) behind size are
+    still takes gave =
     let between : RemoteState C = takes.0 in
-    let here : Takes speaks gives heard before (sent_of es) t came between = takes.1 in
-    let turn : IsTurn before (sent_of es) t.at t.settled between = here.turn in
-    let number : ℕ = before.seals.next in
+    let here : Takes gives heard before (sent_of es) both came between = takes.1 in
+    let turn : IsTurn before (sent_of es) between = here.turn in
+    let number : ℕ = before.next in
     let w : Weather = gave.0 in
-    let v : Weather = losing (by_seal t.both) w in
-    let fits : length line ≤ MAX_SLAVES = omega (arith, size, room) in
-    let next : List ControllerState = (sealed_trip number w (sent_of es) line).line in
-    let more_past : List PastTrip = past ++ past_of number (sent_of es) t ∷ [] in
-    let counted : between.seals.next ≡ (number + 1) % TRIPS =
-    turn_next before.late t.at number t.settled before.seals between.seals turn.run in
-    let gave_more : NetworkGaveAll between.late more_past between.seals.next next (map sent_of fs) taken
-    behind =
-    subst (λ (late : ℕ). NetworkGaveAll late more_past between.seals.next next (map sent_of fs) taken behind)
-    (sym turn.late)
-    (subst (λ (k : ℕ). NetworkGaveAll before.late more_past k next (map sent_of fs) taken behind)
-    (sym counted) gave.2) in
+    let v : Weather = losing (by_number both) w in
+    let next : List ControllerState = (numbered_trip number w (sent_of es) line).line in
+    let gave_more : NetworkGaveAll between.next next (map sent_of fs) taken behind =
+    subst (λ (k : ℕ). NetworkGaveAll k next (map sent_of fs) taken behind) (sym turn.next) gave.2 in
     let rest : AllGiven links n fs next more behind =
-    all_given speaks gives heard first between later more_past links n fs next taken more behind
-    (length-left before between es t.at t.settled w line (by_seal t.both) fits turn ∙ size) room still.1
-    (went_one first before between past (past_of number (sent_of es) t) went
-    (record { number = refl; turn = turn })) takes.2 gave_more in
+    all_given gives heard between later links n fs next taken more behind
+    (length-left before between es w line (by_number both) are turn ∙ size)
+    (numbered_is number w (sent_of es) line are) still.1 takes.2 gave_more in
     let left : next ≡ (passed (trip_of v es n) line).line =
     subst (λ (k : ℕ). next ≡ (passed (trip_of v es k) line).line) size
-    (line_left before between es t.at t.settled w line (by_seal t.both) fits still.0 turn) in
+    (line_left before between es w line (by_number both) are still.0 turn) in
     record {
       weathers = v ∷ rest.weathers;
       given = (
         subst (λ (k : ℕ). GivenBy (trip_of v es k) line (Ok came)) size
-            (trip_given speaks gives heard first before between past es t came w line fits still.0 went here
-            gave.1),
+            (trip_given gives heard before between es both came w line are still.0 here gave.1),
         subst (λ (l : List ControllerState). AllGivenBy (trips_of rest.weathers links n fs) l more) left
             rest.given,
       );
@@ -411,38 +379,32 @@ still_frames ([] ∷ fs) all = (refl, still_frames fs all.1)
 still_frames ((e ∷ es) ∷ fs) all = (all.0.1.0, still_frames fs all.1)
 
 -- over a ring in some weathers the frames of items bring what they brought
-pub given_by : {C : Type 0} (speaks : Speaks C) (gives : Gives C) (heard : Heard C)
-    (first before later : RemoteState C) (past : List PastTrip) (r : RingState) (items : List ItemRecord)
-    (taken : List TripTaken) (came : AllThatCame) (behind : List ControllerState)
-    → length r.slaves ≤ MAX_SLAVES → Went first past before
-    → TakesAll speaks gives heard before (map sent_of (frames_of items)) taken came later
-    → NetworkGaveAll before.late past before.seals.next (line_of r) (map sent_of (frames_of items)) taken
-    behind
+pub given_by : {C : Type 0} (gives : Gives C) (heard : Heard C) (before later : RemoteState C) (r : RingState)
+    (items : List ItemRecord) (taken : List Both) (came : AllThatCame) (behind : List ControllerState)
+    → AllByRecursion IsController (line_of r)
+    → TakesAll gives heard before (map sent_of (frames_of items)) taken came later
+    → NetworkGaveAll before.next (line_of r) (map sent_of (frames_of items)) taken behind
     → IsGivenBy r items came behind
-given_by speaks gives heard first before later past r items taken came behind room went takes gave =
+given_by gives heard before later r items taken came behind are takes gave =
     let is : AllGiven r.links (length r.slaves) (frames_of items) (line_of r) came behind =
-    all_given speaks gives heard first before later past r.links (length r.slaves) (frames_of items)
-    (line_of r) taken came behind (length-controllers r.slaves) room
-    (still_frames (frames_of items) (each_cut Calm (entries_from 0 items) (calm_entries 0 items))) went takes
-    gave in
+    all_given gives heard before later r.links (length r.slaves) (frames_of items) (line_of r) taken came behind
+    (length-controllers r.slaves) are
+    (still_frames (frames_of items) (each_cut Calm (entries_from 0 items) (calm_entries 0 items))) takes gave in
     record { weathers = is.weathers; given = is.given; left = is.left }
 
 -- so the end of the cycle says of the ring all that a cycle over it says
-pub says_of : {C : Type 0} (speaks : Speaks C) (gives : Gives C) (heard : Heard C)
-    (first before later : RemoteState C) (past : List PastTrip) (r : RingState) (items : List ItemRecord)
-    (expected : List ℕ) (taken : List TripTaken) (came : AllThatCame) (behind : List ControllerState)
-    (result : Result Verdict CycleFault) (items_later : List ItemRecord)
+pub says_of : {C : Type 0} (gives : Gives C) (heard : Heard C) (before later : RemoteState C) (r : RingState)
+    (items : List ItemRecord) (expected : List ℕ) (taken : List Both) (came : AllThatCame)
+    (behind : List ControllerState) (result : Result Verdict CycleFault) (items_later : List ItemRecord)
     → length r.slaves ≤ MAX_SLAVES → IsAccepted r.slaves items
     → expected ≡ map (expected_of (line_of r)) items → SaysOfEach items expected came result items_later
-    → Went first past before
-    → TakesAll speaks gives heard before (map sent_of (frames_of items)) taken came later
-    → NetworkGaveAll before.late past before.seals.next (line_of r) (map sent_of (frames_of items)) taken
-    behind
+    → TakesAll gives heard before (map sent_of (frames_of items)) taken came later
+    → NetworkGaveAll before.next (line_of r) (map sent_of (frames_of items)) taken behind
     → IsOfCycle r items came behind result items_later
-says_of speaks gives heard first before later past r items expected taken came behind result items_later room
-    accepted counts says went takes gave =
+says_of gives heard before later r items expected taken came behind result items_later room accepted counts
+    says takes gave =
     let is : IsGivenBy r items came behind =
-    given_by speaks gives heard first before later past r items taken came behind room went takes gave in
+    given_by gives heard before later r items taken came behind accepted.are takes gave in
     record {
       weathers = is.weathers;
       says = says is.weathers r room accepted counts is.given;

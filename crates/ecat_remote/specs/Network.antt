@@ -1,8 +1,7 @@
--- A network that holds copies back behind the line, seen from the ports: which copies were taken on each
--- trip, and that each is of this trip or of an earlier one of which a copy may still come (IEC 61158-4-12,
--- index and working counter).
-use Rattle.std.specs.Prelude.{◌≡◌, ℕ, ◌+◌, ◌%◌, Bool, List, [], ◌∷◌, ◌++◌, length, Option, None, Some}
-use Rattle.std.specs.Prelude.{Result, Ok, Err}
+-- A network that gives packets whenever and as often as it will, of these trips, of others, of earlier runs and of
+-- other masters, seen from the ports: which copies were taken on each trip, and what is asked of them.
+use Rattle.std.specs.Prelude.{◌≡◌, ℕ, ◌+◌, ◌%◌, ◌^◌, List, [], ◌∷◌, length, Option, None, Some}
+use Rattle.std.specs.Prelude.{IfSome, Result, Ok, Err}
 use Rattle.ec_wire.specs.Datagram.{DatagramRecord}
 use Rattle.ec_esc.specs.State.{ControllerState}
 use Rattle.ec_map.specs.Item.{ItemRecord}
@@ -11,8 +10,8 @@ use Rattle.ec_ring.specs.declared.port.Port.{Port}
 use Rattle.ec_ring.specs.declared.port.Port.TheVariants.{A, B}
 use Rattle.ec_ring.specs.declared.weather.Came.{Came}
 use Rattle.ec_ring.specs.declared.weather.Weather.{Weather}
-use Rattle.ec_seal.specs.Opened.{sealed_trip}
-use Rattle.ec_seal.specs.declared.seals.TheConstants.{TRIPS}
+use Rattle.ec_seal.specs.Taken.{Made, GoesBack, BearsOneOf}
+use Rattle.ec_seal.specs.Trips.{numbered_trip}
 use Rattle.ec_master.specs.Cut.{frames_of}
 use Rattle.ec_master.specs.Given.{AllThatCame}
 use Rattle.ec_master.specs.Suffice.{AllGivenBy, SaysOf}
@@ -20,9 +19,9 @@ use Rattle.ec_master.specs.Travelled.{trips_under, run_under, ring_under}
 use Rattle.ec_master.specs.declared.cycle.CycleFault.{CycleFault}
 use Rattle.ec_master.specs.declared.verdict.Verdict.{Verdict}
 use Rattle.ecat_remote.specs.Taken.{Gives, Heard, AreBoth, opened_came}
-use Rattle.ecat_remote.specs.History.{PastTrip, Gave}
-use Rattle.ecat_remote.specs.Trips.{RemoteState, Speaks, IsTurn, all_came}
-use Rattle.ecat_remote.specs.declared.copies.SealedCopy.{SealedCopy}
+use Rattle.ecat_remote.specs.History.{PastTrip}
+use Rattle.ecat_remote.specs.Trips.{RemoteState, IsTurn}
+use Rattle.ecat_remote.specs.declared.copies.NumberedCopy.{NumberedCopy}
 use Rattle.ecat_remote.specs.declared.ports.Both.{Both}
 
 -- ---- what was taken
@@ -34,7 +33,7 @@ frame_from A B frame = None
 frame_from B A frame = None
 frame_from B B frame = Some frame
 
-abbrev pub frame_if : Port → Option SealedCopy → Option (List DatagramRecord)
+abbrev pub frame_if : Port → Option NumberedCopy → Option (List DatagramRecord)
 frame_if from None = None
 frame_if from (Some copy) = frame_from from copy.from copy.frame
 
@@ -45,25 +44,18 @@ first_of None second = second
 first_of (Some frame) second = Some frame
 
 -- what was taken on a trip, by the port from which it was sent, at whatever port it was received
-abbrev pub by_seal : Both → Came
-by_seal both = record {
+abbrev pub by_number : Both → Came
+by_number both = record {
   a = first_of (frame_if A both.a) (frame_if A both.b);
   b = first_of (frame_if B both.a) (frame_if B both.b);
 }
 
--- what was taken on a trip, whose seals were given at a time and, where it is settled, handed back
-pub record TripTaken : Type 0 where
-  pub at : ℕ
-  pub both : Both
-  pub settled : Bool
-
 -- this was taken on a trip; opened, the copies are what came, and the trip had its turn
-pub record Takes {C : Type 0} (speaks : Speaks C) (gives : Gives C) (heard : Heard C) (before : RemoteState C)
-    (sent : List DatagramRecord) (t : TripTaken) (came : Came) (later : RemoteState C) : Type 0 where
-  pub taken : AreBoth gives heard (heard before.carrier) before.seals.next sent t.both later.carrier
-  pub opened : came ≡ opened_came before.seals.next sent t.both
-  pub settled : t.settled ≡ all_came (speaks later.carrier) t.both
-  pub turn : IsTurn before sent t.at t.settled later
+pub record Takes {C : Type 0} (gives : Gives C) (heard : Heard C) (before : RemoteState C)
+    (sent : List DatagramRecord) (both : Both) (came : Came) (later : RemoteState C) : Type 0 where
+  pub taken : AreBoth gives heard (heard before.carrier) before.next sent both later.carrier
+  pub opened : came ≡ opened_came both
+  pub turn : IsTurn before sent later
 
 -- no trip failed
 abbrev pub NoneFailed : AllThatCame → Type 0
@@ -73,47 +65,47 @@ NoneFailed (Err failed ∷ more) = ⊥
 
 -- frames go out one after the other, none of these trips fails, and on each this was taken; the last frames
 -- may not have gone out
-unfoldable pub TakesAll : {C : Type 0} → Speaks C → Gives C → Heard C → RemoteState C
-    → List (List DatagramRecord) → List TripTaken → AllThatCame → RemoteState C → Type 0
-TakesAll speaks gives heard before frames taken [] later = (taken ≡ []) × (later ≡ before)
-TakesAll {C} speaks gives heard before (sent ∷ frames) (t ∷ taken) (Ok came ∷ more) later =
-    (between : RemoteState C) × Takes speaks gives heard before sent t came between
-    × TakesAll speaks gives heard between frames taken more later
-TakesAll speaks gives heard before frames taken (came ∷ more) later = ⊥
-
--- a trip on which this was taken, as one of the past
-abbrev pub past_of : ℕ → List DatagramRecord → TripTaken → PastTrip
-past_of number sent t = record { number = number; frame = sent; at = t.at; settled = t.settled }
+unfoldable pub TakesAll : {C : Type 0} → Gives C → Heard C → RemoteState C
+    → List (List DatagramRecord) → List Both → AllThatCame → RemoteState C → Type 0
+TakesAll gives heard before frames taken [] later = (taken ≡ []) × (later ≡ before)
+TakesAll {C} gives heard before (sent ∷ frames) (both ∷ taken) (Ok came ∷ more) later =
+    (between : RemoteState C) × Takes gives heard before sent both came between
+    × TakesAll gives heard between frames taken more later
+TakesAll gives heard before frames taken (came ∷ more) later = ⊥
 
 -- the trips of frames from a number on
-abbrev pub pasts_of : ℕ → List (List DatagramRecord) → List TripTaken → List PastTrip
-pasts_of number (sent ∷ frames) (t ∷ taken) =
-    past_of number sent t ∷ pasts_of ((number + 1) % TRIPS) frames taken
+abbrev pub pasts_of : ℕ → List (List DatagramRecord) → List Both → List PastTrip
+pasts_of number (sent ∷ frames) (both ∷ taken) =
+    record { number = number; frame = sent } ∷ pasts_of ((number + 1) % 2 ^ 63) frames taken
 pasts_of number _ _ = []
 
 -- ---- what the network gave
 
--- frames go out one after the other, each on the next trip over the line that the last one left, behind
--- others; and on each trip the network gave what was taken, under some weather. This is the line behind the
--- last trip
-abbrev pub NetworkGaveAll : ℕ → List PastTrip → ℕ → List ControllerState → List (List DatagramRecord)
-    → List TripTaken → List ControllerState → Type 0
-NetworkGaveAll late past trip line frames [] behind = behind ≡ line
-NetworkGaveAll late past trip line [] (t ∷ taken) behind = ⊥
-NetworkGaveAll late past trip line (sent ∷ frames) (t ∷ taken) behind =
+-- what was taken on a trip: what bears a number of this trip is one of its two copies. Nobody else makes packets
+-- with its numbers, and each copy walked once over the line; what bears other numbers, or none, may be anything
+pub record Gave (m : Made) (taken : Came) : Type 0 where
+  pub a : IfSome taken.a (λ (copy : List DatagramRecord). BearsOneOf m.number copy → GoesBack m copy)
+  pub b : IfSome taken.b (λ (copy : List DatagramRecord). BearsOneOf m.number copy → GoesBack m copy)
+
+-- frames go out one after the other, each on the next trip over the line that the last one left; and on each
+-- trip the network gave what was taken, under some weather. This is the line behind the last trip
+abbrev pub NetworkGaveAll : ℕ → List ControllerState → List (List DatagramRecord) → List Both
+    → List ControllerState → Type 0
+NetworkGaveAll trip line frames [] behind = behind ≡ line
+NetworkGaveAll trip line [] (both ∷ taken) behind = ⊥
+NetworkGaveAll trip line (sent ∷ frames) (both ∷ taken) behind =
     (w : Weather)
-    × Gave late t.at past (record { number = trip; frame = sent; weather = w; line = line }) (by_seal t.both)
-    × NetworkGaveAll late (past ++ past_of trip sent t ∷ []) ((trip + 1) % TRIPS)
-    (sealed_trip trip w sent line).line frames taken behind
+    × Gave (record { number = trip; frame = sent; weather = w; line = line }) (by_number both)
+    × NetworkGaveAll ((trip + 1) % 2 ^ 63) (numbered_trip trip w sent line).line frames taken behind
 
 -- ---- what it says of the ring
 
 -- this was taken on the trips, none of which failed
-pub record AreAllTaken {C : Type 0} (speaks : Speaks C) (gives : Gives C) (heard : Heard C)
+pub record AreAllTaken {C : Type 0} (gives : Gives C) (heard : Heard C)
     (before : RemoteState C) (frames : List (List DatagramRecord)) (came : AllThatCame)
     (later : RemoteState C) : Type 0 where
-  pub taken : List TripTaken
-  pub takes : TakesAll speaks gives heard before frames taken came later
+  pub taken : List Both
+  pub takes : TakesAll gives heard before frames taken came later
 
 -- in some weathers the ring's own trips, with nothing late, give what came; where all frames went out, they
 -- leave the line that was left

@@ -1,16 +1,15 @@
 -- What a master takes of the packets that its ports give (IEC 61158-4-12, the datagram structure): each copy
--- of a frame goes out under a seal of its own, and a packet is taken for a copy exactly where it spells a
--- frame that came of that sealed copy.
+-- of a frame goes out under a number of its own, and a packet is taken for a copy exactly where it spells a
+-- frame that came of that numbered copy.
 use Rattle.std.specs.Prelude.{◌≡◌, ◌≢◌, ◌≤◌, ℕ, List, Option, None, Some}
 use Rattle.std.specs.Option.{option_map}
 use Rattle.ec_wire.specs.Datagram.{DatagramRecord}
 use Rattle.ec_ring.specs.declared.port.Port.{Port}
 use Rattle.ec_ring.specs.declared.port.Port.TheVariants.{A, B}
 use Rattle.ec_ring.specs.declared.weather.Came.{Came}
-use Rattle.ec_seal.specs.Came.{IsCopy}
-use Rattle.ec_seal.specs.Seal.{opened_by, sealed_by, seal_a, seal_b}
+use Rattle.ec_number.specs.Number.{IsCopy, numbered, opened, number_a, number_b}
 use Rattle.ecat_remote.specs.declared.copies.Outgoing.{Outgoing}
-use Rattle.ecat_remote.specs.declared.copies.SealedCopy.{SealedCopy}
+use Rattle.ecat_remote.specs.declared.copies.NumberedCopy.{NumberedCopy}
 use Rattle.ecat_remote.specs.declared.ports.Both.{Both}
 
 -- what receives give: the carrier before, the port, a packet or none, and the carrier after
@@ -21,31 +20,36 @@ Gives C = C → Port → Option (List ℕ) → C → Type 0
 abbrev pub Heard : Type 0 → Type 0
 Heard C = C → ℕ
 
--- the seal of the copy that goes out from a port on the trip with a number
-abbrev pub seal_from : ℕ → Port → ℕ
-seal_from trip A = seal_a trip
-seal_from trip B = seal_b trip
+-- the number of the copy that goes out from a port on the trip with a number
+abbrev pub number_from : ℕ → Port → ℕ
+number_from trip A = number_a trip
+number_from trip B = number_b trip
 
--- what goes out on the trip with a number: the frame under the seal of either port
-abbrev pub IsSealed : ℕ → List DatagramRecord → Port → List DatagramRecord → Type 0
-IsSealed trip sent from frame = frame ≡ sealed_by (seal_from trip from) sent
+-- what goes out on the trip with a number: the frame under the number of either port
+abbrev pub IsNumbered : ℕ → List DatagramRecord → Port → List DatagramRecord → Type 0
+IsNumbered trip sent from frame = frame ≡ numbered (number_from trip from) sent
 
-pub record AreSealed (trip : ℕ) (sent : List DatagramRecord) (out : Outgoing) : Type 0 where
-  pub a : IsSealed trip sent A out.a
-  pub b : IsSealed trip sent B out.b
+pub record AreNumbered (trip : ℕ) (sent : List DatagramRecord) (out : Outgoing) : Type 0 where
+  pub a : IsNumbered trip sent A out.a
+  pub b : IsNumbered trip sent B out.b
+
+-- what went out from a port
+abbrev pub out_from : Port → Outgoing → List DatagramRecord
+out_from A out = out.a
+out_from B out = out.b
 
 -- the port from which a copy was sent
-abbrev pub sent_from : Option SealedCopy → Option Port
-sent_from copy = option_map (λ (c : SealedCopy). c.from) copy
+abbrev pub sent_from : Option NumberedCopy → Option Port
+sent_from copy = option_map (λ (c : NumberedCopy). c.from) copy
 
 -- a packet is a copy of the frame that was sent from a port, but not of the one that was taken already
 pub record IsCopyFrom (trip : ℕ) (sent : List DatagramRecord) (already : Option Port) (packet : List ℕ)
     (from : Port) (copy : List DatagramRecord) : Type 0 where
   pub another : already ≢ Some from
-  pub is : IsCopy (sealed_by (seal_from trip from) sent) packet copy
+  pub is : IsCopy (numbered (number_from trip from) sent) packet copy
 
 -- the copy that a packet is, if it is one
-abbrev pub IsCopyOfTrip : ℕ → List DatagramRecord → Option Port → Option (List ℕ) → Option SealedCopy → Type 0
+abbrev pub IsCopyOfTrip : ℕ → List DatagramRecord → Option Port → Option (List ℕ) → Option NumberedCopy → Type 0
 IsCopyOfTrip trip sent already None copy = copy ≡ None
 IsCopyOfTrip trip sent already (Some packet) (Some copy) =
     IsCopyFrom trip sent already packet copy.from copy.frame
@@ -55,33 +59,29 @@ IsCopyOfTrip trip sent already (Some packet) None =
 -- the last receive at a port gave a packet or none, no sooner than behind so many receives, and this is the
 -- copy
 pub record IsTaken {C : Type 0} (gives : Gives C) (heard : Heard C) (since : ℕ) (at : Port) (trip : ℕ)
-    (sent : List DatagramRecord) (already : Option Port) (copy : Option SealedCopy) (later : C) : Type 0 where
+    (sent : List DatagramRecord) (already : Option Port) (copy : Option NumberedCopy) (later : C) : Type 0 where
   pub before : C
   pub packet : Option (List ℕ)
   pub gave : gives before at packet later
   pub in_time : since ≤ heard before
   pub is : IsCopyOfTrip trip sent already packet copy
 
--- a copy with its seal taken off
-abbrev pub opened_copy : ℕ → List DatagramRecord → SealedCopy → List DatagramRecord
-opened_copy trip sent copy = opened_by (seal_from trip copy.from) sent copy.frame
-
--- what was taken at port A, and then at port B, each of another sealed copy
+-- what was taken at port A, and then at port B, each of another copy
 pub record AreBoth {C : Type 0} (gives : Gives C) (heard : Heard C) (since : ℕ) (trip : ℕ)
     (sent : List DatagramRecord) (both : Both) (later : C) : Type 0 where
   pub between : C
   pub a : IsTaken gives heard since A trip sent None both.a between
   pub b : IsTaken gives heard since B trip sent (sent_from both.a) both.b later
 
--- the copies of a trip, with their seals taken off
-abbrev pub opened_came : ℕ → List DatagramRecord → Both → Came
-opened_came trip sent both = record {
-  a = option_map (opened_copy trip sent) both.a;
-  b = option_map (opened_copy trip sent) both.b;
-}
+-- the copies of a trip, with their numbers taken off
+abbrev pub opened_copy : NumberedCopy → List DatagramRecord
+opened_copy copy = opened copy.frame
+
+abbrev pub opened_came : Both → Came
+opened_came both = record { a = option_map opened_copy both.a; b = option_map opened_copy both.b }
 
 pub record AreTaken {C : Type 0} (gives : Gives C) (heard : Heard C) (since : ℕ) (trip : ℕ)
     (sent : List DatagramRecord) (came : Came) (later : C) : Type 0 where
   pub both : Both
   pub taken : AreBoth gives heard since trip sent both later
-  pub opened : came ≡ opened_came trip sent both
+  pub opened : came ≡ opened_came both

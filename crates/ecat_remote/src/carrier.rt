@@ -29,11 +29,6 @@ pub trait Carrier {
     fn speaks(&self, at: Port) -> bool
         ensures { result ≡ speaks self.now at };
 
-    /// Drops what waits at both ports: it is late for what goes out next.
-    fn drain(&mut self)
-        ensures never_lower { failed self.old ≤ failed self.new }
-        ensures heard_on { heard self.old ≤ heard self.new };
-
     /// Sends a packet from a port to the line's end there; a port that speaks with no end sends nothing. At
     /// the greatest count of failures, 2^64 - 1, the answer is `Ok` where a fault would be.
     fn send(&mut self, from: Port, bytes: &[u8]) -> Result<(), PortFault>

@@ -1,26 +1,29 @@
-//! Which packets are copies of a frame that went out under the seals of a trip.
+//! Which packets are copies of a frame that went out under the numbers of a trip.
 
-ghost use Rattle.std.specs.Prelude.{◌≡◌, ◌≢◌, ℕ, ◌<◌, List, Some, None, IfSome};
+ghost use Rattle.std.specs.Prelude.{◌≡◌, ◌≢◌, ℕ, ◌<◌, ◌+◌, true, false, List, length, Some, None, IfSome};
 ghost use Rattle.ec_wire.specs.Datagram.{DatagramRecord};
-ghost use Rattle.ec_wire.specs.Spelling.{IsFrameValue};
-ghost use Rattle.ec_seal.specs.Came.{IsCopy};
-ghost use Rattle.ec_seal.specs.Seal.{sealed_by};
-ghost use Rattle.ecat_remote.specs.Taken.{AreSealed, IsCopyOfTrip, IsSealed, opened_copy};
+ghost use Rattle.ec_wire.specs.Spelling.{IsFrameValue, body_length};
+ghost use Rattle.ec_wire.specs.declared.layout.TheConstants.{MAX_LENGTH};
+ghost use Rattle.ec_ring.specs.declared.port.Port.{Port};
+ghost use Rattle.ec_number.specs.Number.{CameBack, numbered};
+ghost use Rattle.ec_number.specs.declared.number.TheConstants.{NUMBER_LENGTH};
+ghost use Rattle.ecat_remote.specs.Taken.{AreNumbered, IsCopyOfTrip, opened_copy, out_from};
+ghost use Rattle.ecat_remote.specs.Trips.{HasRoom};
 
+use ec_number::{Trip, came_of, number_frame, number_of, open_frame};
 use ec_ring::Port;
-use ec_seal::{Seal, TRIPS, copy_in, open_frame, seal_frame};
-use ec_wire::FrameBuf;
+use ec_wire::{Form, FrameBuf};
 
-/// A frame that came back, under its seal, and the port from which it was sent.
+/// A frame that came back, under its number, and the port from which it was sent.
 #[derive(Drop)]
-pub struct SealedCopy {
+pub struct NumberedCopy {
     /// The port from which it was sent.
     pub from: Port,
     /// The frame as it came.
     pub frame: FrameBuf,
 }
 
-/// What goes out on a trip: a copy of the frame from each port, each under its seal.
+/// What goes out on a trip: a copy of the frame from each port, each under its number.
 #[derive(Drop)]
 pub struct Outgoing {
     /// The copy from port A.
@@ -29,79 +32,105 @@ pub struct Outgoing {
     pub b: FrameBuf,
 }
 
-/// A frame as it goes out on the trip with a number.
-pub(crate) fn seal_both(sent: &FrameBuf, trip: usize) -> Outgoing
-    requires { trip < TRIPS }
-    ensures sealed { AreSealed trip sent.now result }
+/// What a packet tells.
+#[derive(Drop)]
+pub(crate) struct Told {
+    /// The copy of what went out, if it is one that was not taken already.
+    pub(crate) copy: Option<NumberedCopy>,
+    /// The number that it bears, if it bears one.
+    pub(crate) number: Option<u64>,
+}
+
+/// A frame as it goes out on a trip; none where it has no room for a number.
+pub(crate) fn number_both(sent: &FrameBuf, trip: Trip) -> Option<Outgoing>
+    ensures some { IfSome result (AreNumbered trip.number sent.now) }
+    ensures room { IfSome result (λ out. HasRoom sent.now) }
+    ensures none { result ≡ None → MAX_LENGTH < body_length sent.now + NUMBER_LENGTH }
     ensures frame { IsFrameValue sent.now }
 {
     let _frame = sent.count();
-    Outgoing {
-        a: sealed(sent, Seal::a(trip)),
-        b: sealed(sent, Seal::b(trip)),
+    match numbered(sent, trip.a()) {
+        Some(a) => match numbered(sent, trip.b()) {
+            Some(b) => Some(Outgoing { a, b }),
+            None => None,
+        },
+        None => None,
     }
 }
 
-/// A copy of a frame under a seal.
-fn sealed(sent: &FrameBuf, seal: Seal) -> FrameBuf
-    ensures { result ≡ sealed_by seal.number sent.now }
+/// A copy of a frame under a number, if it has room for one.
+fn numbered(sent: &FrameBuf, number: u64) -> Option<FrameBuf>
+    ensures some { IfSome result (λ copy. copy ≡ numbered number sent.now) }
+    ensures room { IfSome result (λ copy. HasRoom sent.now) }
+    ensures none { result ≡ None → MAX_LENGTH < body_length sent.now + NUMBER_LENGTH }
 {
     let mut copy = sent.copy();
-    seal_frame(&mut copy, seal);
-    copy
+    match number_frame(&mut copy, number) {
+        Ok(()) => Some(copy),
+        Err(_) => None,
+    }
 }
 
-/// The copy of what went out that a packet is, if it is one, but for the one that was taken already.
-pub(crate) fn copy_of_trip(
-    sent: &Outgoing,
-    already: Option<Port>,
-    packet: &[u8],
-) -> Option<SealedCopy>
-    ensures { (trip : ℕ) (frame : List DatagramRecord) → AreSealed trip frame sent.now
-        → IsCopyOfTrip trip frame already (Some packet.now) result }
+/// What a packet tells: whether it is a copy of what went out, but for the one that was taken already, and which
+/// number it bears.
+pub(crate) fn told_by(sent: &Outgoing, already: Option<Port>, packet: &[u8]) -> Told
+    ensures { (trip : ℕ) (frame : List DatagramRecord) → AreNumbered trip frame sent.now
+        → IsCopyOfTrip trip frame already (Some packet.now) result.copy }
 {
-    match copy_from(Port::A, &sent.a, already, packet) {
-        Some(frame) => Some(SealedCopy {
-            from: Port::A,
-            frame,
-        }),
-        None => match copy_from(Port::B, &sent.b, already, packet) {
-            Some(frame) => Some(SealedCopy {
-                from: Port::B,
-                frame,
-            }),
-            None => None,
+    match FrameBuf::read(packet, Form::Udp) {
+        Ok(frame) => {
+            let number = number_of(&frame);
+            Told {
+                copy: own_copy(sent, already, frame),
+                number,
+            }
+        }
+        Err(_) => Told {
+            copy: None,
+            number: None,
         },
     }
 }
 
-/// The copy that a packet is of the one that went out from a port, if it is one and was not taken already.
-fn copy_from(
-    from: Port,
-    sealed: &FrameBuf,
-    already: Option<Port>,
-    packet: &[u8],
-) -> Option<FrameBuf>
-    ensures found { IfSome result (λ copy. (already ≢ Some from) × IsCopy sealed.now packet.now copy) }
-    ensures every { result ≡ None → already ≢ Some from → (copy : List DatagramRecord)
-        → IsCopy sealed.now packet.now copy → ⊥ }
+/// The copy of what went out that a frame is, if it is one that was not taken already.
+fn own_copy(sent: &Outgoing, already: Option<Port>, frame: FrameBuf) -> Option<NumberedCopy>
+    ensures found { IfSome result (λ copy. (copy.frame ≡ frame) × (already ≢ Some copy.from)
+        × CameBack (out_from copy.from sent.now) frame) }
+    ensures every { result ≡ None → (from : Port) → already ≢ Some from
+        → CameBack (out_from from sent.now) frame → ⊥ }
 {
-    if already == Some(from) {
-        return None;
+    if is_from(Port::A, &sent.a, already, &frame) {
+        return Some(NumberedCopy {
+            from: Port::A,
+            frame,
+        });
     }
-    copy_in(sealed, packet)
+    if is_from(Port::B, &sent.b, already, &frame) {
+        return Some(NumberedCopy {
+            from: Port::B,
+            frame,
+        });
+    }
+    None
 }
 
-/// What came of a trip, with its seal taken off.
-pub(crate) fn opened(copy: SealedCopy, trip: usize, sent: &FrameBuf) -> FrameBuf
-    requires { trip < TRIPS }
-    ensures { result ≡ opened_copy trip sent.now copy }
+/// Whether a frame is the copy that went out from a port, if this was not taken already.
+fn is_from(from: Port, numbered: &FrameBuf, already: Option<Port>, frame: &FrameBuf) -> bool
+    ensures is { result ≡ true → (already ≢ Some from) × CameBack numbered.now frame.now }
+    ensures no { result ≡ false → already ≢ Some from → CameBack numbered.now frame.now → ⊥ }
+{
+    if already == Some(from) {
+        return false;
+    }
+    came_of(numbered, frame)
+}
+
+/// What came of a trip, with its number taken off.
+pub(crate) fn opened(copy: NumberedCopy) -> FrameBuf
+    requires { 1 < length copy.frame }
+    ensures { result ≡ opened_copy copy }
 {
     let mut frame = copy.frame;
-    let seal = match copy.from {
-        Port::A => Seal::a(trip),
-        Port::B => Seal::b(trip),
-    };
-    open_frame(&mut frame, seal, sent);
+    open_frame(&mut frame);
     frame
 }

@@ -9,7 +9,7 @@ use ec_wire::{FrameBuf, PACKET_ROOM};
 /// Sends a frame that asks nothing from each port that speaks, from port A first, and waits so many
 /// microseconds at the most for what comes of each at port A: there it comes back while nobody has spoken at
 /// end B yet, and there it arrives from port B. So at the first trip both ports are known, and no copy of it
-/// is missing. The frame bears no seal, and no trip takes what comes of it, since no other frame is like it.
+/// is missing. The frame bears no number, so no trip takes what comes of it.
 pub fn greet<C: Carrier>(carrier: &mut C, greeting: &FrameBuf, within: u64)
     ensures never_lower { C.failed carrier.old ≤ C.failed carrier.new }
 {

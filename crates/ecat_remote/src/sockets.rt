@@ -14,9 +14,6 @@ use std::io::{self, ErrorKind};
 use std::net::{Ipv4Addr, Ipv6Addr, Net, UdpSocket};
 use std::time::Duration;
 
-/// How many late packets are dropped at a port before a trip, at the most.
-const MOST_LATE: usize = 1024;
-
 /// Which socket could not be opened: its end's name does not resolve, or the system refuses.
 #[derive(Debug, Drop)]
 pub struct OpenFault {
@@ -125,13 +122,6 @@ impl Carrier for UdpCarrier {
         self.socket(at).is_some()
     }
 
-    fn drain(&mut self) {
-        drop_late(&self.a.socket);
-        if let Some(b) = &self.b {
-            drop_late(&b.socket);
-        }
-    }
-
     fn send(&mut self, from: Port, bytes: &[u8]) -> Result<(), PortFault> {
         let Some(socket) = self.socket(from) else {
             return Ok(());
@@ -182,20 +172,6 @@ fn connected(net: &impl Net, name: &str) -> io::Result<UdpSocket> {
             _ => Err(fault),
         },
     }
-}
-
-/// Drops what waits at a socket.
-fn drop_late(socket: &UdpSocket) {
-    let mut room = [0; 1];
-    if socket.set_nonblocking(true).is_err() {
-        return;
-    }
-    for _late in 0..MOST_LATE {
-        if socket.recv(&mut room).is_err() {
-            break;
-        }
-    }
-    let _ = socket.set_nonblocking(false);
 }
 
 /// Does the error say that nothing came, or that nobody listens there?

@@ -48,8 +48,6 @@ impl<'a> Carrier for Tape<'a> {
         true
     }
 
-    fn drain(&mut self) {}
-
     fn send(&mut self, _from: Port, _bytes: &[u8]) -> Result<(), PortFault> {
         Ok(())
     }

@@ -9,11 +9,10 @@ mod tape;
 
 use crate::asserts::assert_same;
 use ec_master::Ports;
-use ec_seal::Seals;
+use ec_number::Trip;
 use ec_wire::{Form, FrameBuf};
-use ecat_remote::{Patience, RemoteEnds, RemotePorts, ends_of};
+use ecat_remote::{RemoteEnds, RemotePorts, ends_of};
 use script::{Script, Wound};
-use std::alloc::Global;
 use std::process::Abort;
 
 /// An LRW of one byte at 0x00010000 with the index 0 and the counter 0, as the standard spells it over UDP.
@@ -21,38 +20,38 @@ const SENT: [u8; 15] = [
     0x0D, 0x10, 0x0C, 0, 0, 0, 0x01, 0, 0x01, 0, 0, 0, 0x55, 0, 0,
 ];
 
-/// How long a trip waits, and for how long its seals are held where copies are missing.
-const PATIENCE: Patience = Patience {
-    limit: 20_000,
-    late: 1_000_000,
-};
+/// That under the number 0, which stands in eight bytes from byte 25 on.
+const NUMBERED: [u8; 35] = [
+    0x21, 0x10, 0x0C, 0, 0, 0, 0x01, 0, 0x01, 0x80, 0, 0, 0x55, 0, 0, 0, 0, 0, 0, 0, 0, 0x08, 0, 0,
+    0, 0, 0, 0, 0, 0, 0, 0, 0, 0, 0,
+];
 
-/// What was sent, with this byte in its place.
-fn with(at: usize, byte: u8) -> [u8; 15]
-    requires { at < 15 }
+/// A packet of 35 bytes.
+type Packet = [u8; 35];
+
+/// How many microseconds a trip waits.
+const LIMIT: u64 = 20_000;
+
+/// What was sent under number 0, with this byte in its place.
+fn with(at: usize, byte: u8) -> Packet
+    requires { at < 35 }
 {
-    let mut packet = SENT;
+    let mut packet = NUMBERED;
     packet[at] = byte;
     packet
 }
 
-/// What was sent, with this index and this low byte of its counter.
-fn under(index: u8, counter: u8) -> [u8; 15] {
-    let mut packet = SENT;
-    packet[3] = index;
+/// What was sent, under this number and with this counter.
+fn under(number: u8, counter: u8) -> Packet {
+    let mut packet = NUMBERED;
     packet[13] = counter;
+    packet[25] = number;
     packet
 }
 
-/// Ports over a script, whose first trip has the seals 0 and 1.
-fn ports_over(
-    rt: &impl Abort,
-    alloc: Global,
-    script: Script,
-    timer: Wound,
-) -> RemotePorts<Script, Wound> {
-    let seals = Seals::new(alloc, 0).ok().expect(rt, "memory");
-    RemotePorts::new(script, timer, PATIENCE, seals)
+/// Ports over a script, whose first trip has the numbers 0 and 1.
+fn ports_over(script: Script, timer: Wound) -> RemotePorts<Script, Wound> {
+    RemotePorts::new(script, timer, LIMIT, Trip::of(0))
 }
 
 /// The last byte of data and the counter of the copies that come, at port A and at port B.

@@ -51,20 +51,6 @@ fn an_answer_is_received_and_nothing_else_is(rt: HostRuntime) {
 }
 
 #[test]
-fn what_is_late_is_dropped(rt: HostRuntime) {
-    let (a, line_a) = cabled(&rt);
-    let (b, line_b) = cabled(&rt);
-    let mut carrier = over(a, Some(b));
-    for _late in 0..20u8 {
-        put(&rt, &line_a, &with(6, 0x12));
-        put(&rt, &line_b, &with(6, 0x12));
-    }
-    carrier.drain();
-    assert_received(&rt, &mut carrier, Port::A, None);
-    assert_received(&rt, &mut carrier, Port::B, None);
-}
-
-#[test]
 fn a_frame_that_is_too_long_counts_as_a_failure(rt: HostRuntime) {
     let (a, _line) = cabled(&rt);
     let mut carrier = over(a, None);

@@ -1,25 +1,28 @@
 //! Packets that come as they are written down, and calls that fail in turn.
 
-ghost use Rattle.std.specs.Prelude.{⊤, ◌≡◌, ◌+◌, ◌-◌, ◌^◌, ◌≤◌, ◌<◌, IsErr, min, true};
+ghost use Rattle.std.specs.Prelude.{⊤, ◌≡◌, ◌≤◌, ◌<◌, IsErr, true};
 
+use super::Packet;
 use ec_ring::{Port, PortFault};
 use ec_wire::PACKET_ROOM;
 use ecat_remote::{Carrier, Timer};
 
-/// How many packets come at a port, at the most.
+/// How many packets are written down for a port.
 pub const ROOM: usize = 4;
 
-/// A carrier whose packets are written down for each port, of 15 bytes each.
+/// A carrier whose packets are written down for each port, of 35 bytes each.
 #[derive(Drop)]
 pub struct Script {
     /// What comes at port A, one packet after the other.
-    pub a: [[u8; 15]; ROOM],
+    pub a: [Packet; ROOM],
     /// What comes at port B.
-    pub b: [[u8; 15]; ROOM],
+    pub b: [Packet; ROOM],
     /// How many packets come at port A.
     pub most_a: usize,
     /// How many come at port B.
     pub most_b: usize,
+    /// How often the first packet of a port comes before the others.
+    pub repeated: usize,
     /// How many have come at port A and at port B.
     pub taken: [usize; 2],
     /// Which call fails, from 1 on.
@@ -34,12 +37,13 @@ pub struct Script {
 
 impl Script {
     /// A carrier at which these packets come, so many of them at each port, and no call fails.
-    pub fn new(a: [[u8; 15]; ROOM], most_a: usize, b: [[u8; 15]; ROOM], most_b: usize) -> Script {
+    pub fn new(a: [Packet; ROOM], most_a: usize, b: [Packet; ROOM], most_b: usize) -> Script {
         Script {
             a,
             b,
             most_a,
             most_b,
+            repeated: 0,
             taken: [0; 2],
             failing: 0,
             made: 0,
@@ -62,7 +66,7 @@ impl Script {
     }
 
     /// The next packet of a port.
-    fn next(&mut self, at: Port) -> Option<[u8; 15]>
+    fn next(&mut self, at: Port) -> Option<Packet>
         ensures { self.new.failed ≡ self.old.failed }
     {
         let (packets, most, place) = match at {
@@ -70,11 +74,12 @@ impl Script {
             Port::B => (self.b, self.most_b, 1),
         };
         let k = self.taken[place];
-        if k >= most || k >= ROOM {
+        let written = k.saturating_sub(self.repeated);
+        if k >= most || written >= ROOM {
             return None;
         }
         self.taken[place] = k + 1;
-        Some(packets[k])
+        Some(packets[written])
     }
 }
 
@@ -91,8 +96,6 @@ impl Carrier for Script {
         true
     }
 
-    fn drain(&mut self) {}
-
     fn send(&mut self, _from: Port, _bytes: &[u8]) -> Result<(), PortFault> {
         self.call()
     }
@@ -107,8 +110,8 @@ impl Carrier for Script {
         self.call()?;
         match self.next(at) {
             Some(packet) => {
-                into[..15].copy_from_slice(&packet);
-                Ok(Some(15))
+                into[..35].copy_from_slice(&packet);
+                Ok(Some(35))
             }
             None => Ok(None),
         }
@@ -119,25 +122,19 @@ impl Carrier for Script {
     }
 }
 
-/// A timer that is wound by hand: each look at it takes so long, and each rest as long as it says.
+/// A timer that is wound by hand: each look at it takes so long.
 #[derive(Drop)]
 pub struct Wound {
     /// The microseconds since it began.
     pub now: u64,
     /// How many microseconds pass before each look.
     pub step: u64,
-    /// For how long it rested.
-    pub rested: u64,
 }
 
 impl Wound {
     /// A timer that stands still.
     pub fn still() -> Wound {
-        Wound {
-            now: 0,
-            step: 0,
-            rested: 0,
-        }
+        Wound { now: 0, step: 0 }
     }
 }
 
@@ -147,10 +144,5 @@ impl Timer for Wound {
     fn now(&mut self) -> u64 {
         self.now = self.now.saturating_add(self.step);
         self.now
-    }
-
-    fn rest(&mut self, micros: u64) {
-        self.now = self.now.saturating_add(micros);
-        self.rested = self.rested.saturating_add(micros);
     }
 }

@@ -1,11 +1,10 @@
 use Rattle.std.proofs.Common.{◌≡◌, ◌≤◌}
 use Rattle.ecat_remote.proofs.ports.RemotePorts.receive_copy.Given as goal
 
--- no count has fallen, no time has passed back, and all else is the same
+-- no count has fallen, and all else is the same
 abbrev pub invariant-loop-passed : goal.invariant-loop-passed
 invariant-loop-passed g l = record {
   counted : g.C.Carrier.failed l.initial.self.carrier ≤ g.C.Carrier.failed l.self.carrier;
   heard_on : g.C.Carrier.heard l.initial.self.carrier ≤ g.C.Carrier.heard l.self.carrier;
-  time : l.initial.self.time ≤ l.self.time;
-  rest : l.self ≡ record l.initial.self { carrier = l.self.carrier; time = l.self.time };
+  rest : l.self ≡ record l.initial.self { carrier = l.self.carrier };
 }
