@@ -12,7 +12,7 @@ use crate::times::{At, Times};
 use crate::verdict::{Counted, Standing, is_good};
 use ec_map::{Item, Mapped};
 use ec_wire::FrameBuf;
-use ecat_trips::{Fate, Marks, Outline, Step, Trip, Trips, grown, moved};
+use ecat_trips::{Fate, Marks, Outline, Step, Trip, Trips, grown, moved, own_count};
 use std::alloc::{AllocError, Global};
 
 /// What became of the datagrams of an item, and when.
@@ -226,9 +226,9 @@ impl Trial {
         }
     }
 
-    /// Takes the datagrams of a frame that no item asks for.
+    /// Takes the datagrams of a frame that no item asks for, but for the one that carries its number.
     fn take_strangers(&mut self, frame: &FrameBuf) -> Result<(), AllocError> {
-        for k in 0..frame.count() {
+        for k in 0..own_count(frame) {
             let key = key_of(frame, k);
             if self.table.item_of(key).is_none() {
                 self.strangers.take(key)?;
@@ -300,10 +300,11 @@ impl Trial {
 
     // ---- trips that came back
 
-    /// Finds the items of a trip and their counters, and counts what no item asks for.
+    /// Finds the items of a trip and their counters, and counts what no item asks for, but for the number of
+    /// the frame.
     fn find(&mut self, sent: &FrameBuf, came: &FrameBuf) -> Result<(), AllocError> {
         self.found.clear();
-        let shared = sent.count().min(came.count());
+        let shared = own_count(sent).min(came.count());
         for k in 0..shared {
             let key = key_of(sent, k);
             match self.table.item_of(key) {

@@ -11,4 +11,6 @@ mod losses;
 #[cfg(test)]
 mod missing;
 #[cfg(test)]
+mod numbered;
+#[cfg(test)]
 mod play;

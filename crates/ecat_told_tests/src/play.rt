@@ -65,10 +65,7 @@ fn packet() -> Outline {
 fn both(alloc: Global, sent: FrameBuf, came: &FrameBuf, is_open: bool) -> Result<Trip, AllocError> {
     let came = CameFrame::new(alloc, came)?;
     Ok(Trip {
-        sent: SentFrame {
-            frame: sent,
-            turned: false,
-        },
+        sent: SentFrame { frame: sent },
         first: packet(),
         second: Some(packet()),
         came: Some(came),
@@ -92,10 +89,7 @@ fn trip(
         None => None,
     };
     Ok(Trip {
-        sent: SentFrame {
-            frame: sent,
-            turned: false,
-        },
+        sent: SentFrame { frame: sent },
         first: packet(),
         second,
         came,

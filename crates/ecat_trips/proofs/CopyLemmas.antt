@@ -1,5 +1,5 @@
 -- A measure of all copies of a trip, with one more of them.
-use Rattle.std.proofs.Common.{◌≡◌, ℕ, ◌+◌, Bool, Option, None, Some, List, refl, ap, arith}
+use Rattle.std.proofs.Common.{◌≡◌, ℕ, ◌+◌, Option, None, Some, List, refl, ap, arith}
 use Rattle.ec_wire.specs.Datagram.{DatagramRecord}
 use Rattle.ecat_trips.specs.declared.packet.Outline.{Outline}
 use Rattle.ecat_trips.specs.declared.trip.Trip.{Trip}
@@ -11,10 +11,10 @@ module _ (w : Outline → ℕ) (p : Outline) where
   unfolding of_copies
   of_copies-begun frame = omega arith
 
-  pub of_copies-second : (turned : Bool) (t : Trip) → t.second ≡ None
-      → of_copies w (with_second turned p t) ≡ of_copies w t + w p
+  pub of_copies-second : (t : Trip) → t.second ≡ None
+      → of_copies w (with_second p t) ≡ of_copies w t + w p
   unfolding of_copies
-  of_copies-second turned t e =
+  of_copies-second t e =
       let none : of_some w t.second ≡ 0 = ap (of_some w) e in omega (arith, none)
 
   pub of_copies-return : (frame : List DatagramRecord) (t : Trip) → t.again ≡ None

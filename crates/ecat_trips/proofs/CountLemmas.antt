@@ -14,10 +14,11 @@ use Rattle.ecat_trips.specs.declared.way.Told.{Told}
 use Rattle.ecat_trips.specs.declared.way.Way.{Way}
 use Rattle.ecat_trips.specs.declared.way.Way.TheVariants.{Sent, Returned}
 use Rattle.ecat_trips.specs.declared.trips.TheConstants.{MAX_ON_THE_WAY}
-use Rattle.ecat_trips.specs.Trip.{begun, has_room, is_second, with_second, with_return}
+use Rattle.ecat_trips.specs.Alike.{number_behind}
+use Rattle.ecat_trips.specs.Trip.{asks_again, begun, has_room, is_second, with_second, with_return}
 use Rattle.ecat_trips.specs.Steps.{TripsState, Move, bears_trip, ends, oldest_ends, begins, replaces}
 use Rattle.ecat_trips.specs.Steps.{seconds}
-use Rattle.ecat_trips.specs.Steps.{comes_back, closes, strays, twin_sent, sent, returned, by_way, step}
+use Rattle.ecat_trips.specs.Steps.{comes_back, closes, strays, sent_new, sent, returned, by_way, step}
 use Rattle.ecat_trips.specs.Runs.{Happened, Runs, begun_by, ended_by, came_back, did_not, sent_trip}
 use Rattle.ecat_trips.specs.Runs.{returned_trip, lost_trip}
 use Rattle.std.proofs.Common.{length-append, length-take, length-drop, length-set}
@@ -73,9 +74,9 @@ module _ (p : Outline) (frame : List DatagramRecord) (s : TripsState)
   set_keeps : (i : ℕ) (t : Trip) → length (set ts i t) ≡ length ts
   set_keeps i t = length-set ts i t
 
-  seconds_keeps : (turned : Bool) (told : Told) (i : ℕ) → KeepsTrips s (seconds turned p frame s told i)
-  seconds_keeps turned told i =
-      let e = set_keeps i (with_second turned p (get_or ts i d)) in
+  seconds_keeps : (told : Told) (i : ℕ) → KeepsTrips s (seconds p frame s told i)
+  seconds_keeps told i =
+      let e = set_keeps i (with_second p (get_or ts i d)) in
       record { count = omega (arith, e); most = omega (arith, e) }
 
   comes_back_keeps : (told : Told) (i : ℕ) → KeepsTrips s (comes_back p frame s told i)
@@ -103,18 +104,21 @@ module _ (p : Outline) (frame : List DatagramRecord) (s : TripsState)
       let one = one_of (get_or ts i d) in
       record { count = omega (arith, e, one); most = omega (arith, e) }
 
-  twin_keeps : (told : Told) (at : Option ℕ) → KeepsTrips s (twin_sent p frame s told at)
-  twin_keeps told None = begins_keeps told
-  twin_keeps told (Some j) = seconds_keeps true told j
+  new_keeps : (told : Told) (at : Option ℕ) (numbered : Bool)
+      → at ≡ cond numbered (position (asks_again frame) ts) None → KeepsTrips s (sent_new p frame s told at)
+  new_keeps told None numbered e = begins_keeps told
+  new_keeps told (Some j) false e = cc
+  new_keeps told (Some j) true e =
+      replaces_keeps told j (position-Some (asks_again frame) ts j d (sym e)).0
 
   sent_keeps : (m : Marks) (told : Told) (at : Option ℕ) → at ≡ position (bears_trip frame) ts
       → KeepsTrips s (sent m p frame s told at)
-  sent_keeps m told None e = twin_keeps told _
-  sent_keeps m told (Some i) e = by (m.two && is_second false p frame (get_or ts i d)) refl
+  sent_keeps m told None e = new_keeps told _ (is_some (number_behind frame)) refl
+  sent_keeps m told (Some i) e = by (m.two && is_second p frame (get_or ts i d)) refl
     where
-      by : (b : Bool) → (m.two && is_second false p frame (get_or ts i d)) ≡ b
+      by : (b : Bool) → (m.two && is_second p frame (get_or ts i d)) ≡ b
           → KeepsTrips s (sent m p frame s told (Some i))
-      by true h = rw h (seconds_keeps false told i)
+      by true h = rw h (seconds_keeps told i)
       by false h = rw h (replaces_keeps told i (position-Some (bears_trip frame) ts i d (sym e)).0)
 
   returned_keeps : (m : Marks) (told : Told) (at : Option ℕ) → at ≡ position (bears_trip frame) ts

@@ -1,5 +1,5 @@
 pub mod Pairs
-pub mod NumberLemmas
+pub mod FastLemmas
 pub mod LostLemmas
 pub mod BasesLemmas
 pub mod ZippedLemmas

@@ -7,30 +7,30 @@ use Rattle.std.proofs.lemmas.List.{map-append}
 use Rattle.std.proofs.lemmas.Bool.Decides.{nat_tests}
 use Rattle.ec_wire.specs.Datagram.{DatagramRecord}
 use Rattle.ecat_trips.specs.declared.trip.SentFrame.{SentFrame}
-use Rattle.ecat_trips.specs.Alike.{first_number}
+use Rattle.ecat_trips.specs.Alike.{told_fast}
 use Rattle.ecat_trips.specs.Trip.{bears}
 use Rattle.ecat_trips.specs.Lost.{number_of}
-use Rattle.ecat_trips.proofs.NumberLemmas.{other_number}
+use Rattle.ecat_trips.proofs.FastLemmas.{other_fast}
 
 one_more : (m n : ℕ) → m ≡ n → 1 + m ≡ suc n
 one_more m n e = omega arith
 
 -- a frame whose number none has bears the key of none
 none_first : (f : List DatagramRecord) (lost : List SentFrame)
-    → list_any (λ n. eqb n (first_number f)) (map number_of lost) ≡ false
+    → list_any (λ n. eqb n (told_fast f)) (map number_of lost) ≡ false
     → position_or_len (bears f) lost ≡ length lost
 none_first f [] e = refl
 none_first f (s ∷ ss) e =
-    let parts = or_parts (eqb (number_of s) (first_number f))
-    (list_any (λ n. eqb n (first_number f)) (map number_of ss)) e in
-    rw (other_number f s (eqb-false (number_of s) (first_number f) parts.0))
+    let parts = or_parts (eqb (number_of s) (told_fast f))
+    (list_any (λ n. eqb n (told_fast f)) (map number_of ss)) e in
+    rw (other_fast f s (eqb-false (number_of s) (told_fast f) parts.0))
     (one_more (position_or_len (bears f) ss) (length ss) (none_first f ss parts.1))
 
 not_below : (n : ℕ) → nat_lt n n ≡ false
 not_below n = grind (arith, nat_tests)
 
 pub none_bears : (f : List DatagramRecord) (lost : List SentFrame)
-    → list_any (λ n. eqb n (first_number f)) (map number_of lost) ≡ false → position (bears f) lost ≡ None
+    → list_any (λ n. eqb n (told_fast f)) (map number_of lost) ≡ false → position (bears f) lost ≡ None
 none_bears f lost e =
     let all = none_first f lost e in
     ap (λ n. cond (nat_lt n (length lost)) (Some n) None) all

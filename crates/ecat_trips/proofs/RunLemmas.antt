@@ -1,6 +1,6 @@
 -- One step keeps each packet.
 use Rattle.std.proofs.Common.{◌≡◌, ℕ, suc, ◌+◌, ◌-◌, ◌<◌, ◌&&◌, Bool, true, false, cond}
-use Rattle.std.proofs.Common.{Option, None, Some, is_none, List, [], ◌∷◌, length, get_or, refl, sym}
+use Rattle.std.proofs.Common.{Option, None, Some, is_none, is_some, List, [], ◌∷◌, length, get_or, refl, sym}
 use Rattle.std.proofs.Common.{ap, arith, eqb, nat_lt, All, position, remove}
 use Rattle.std.specs.List.{sum_by}
 use Rattle.std.proofs.lemmas.Bool.{and_parts}
@@ -16,10 +16,11 @@ use Rattle.ecat_trips.specs.declared.way.Told.{Told}
 use Rattle.ecat_trips.specs.declared.way.Way.{Way}
 use Rattle.ecat_trips.specs.declared.way.Way.TheVariants.{Sent, Returned}
 use Rattle.ecat_trips.specs.declared.trips.TheConstants.{MAX_ON_THE_WAY}
-use Rattle.ecat_trips.specs.Trip.{begun, has_room, is_second, with_second, with_return}
+use Rattle.ecat_trips.specs.Alike.{number_behind}
+use Rattle.ecat_trips.specs.Trip.{asks_again, begun, has_room, is_second, with_second, with_return}
 use Rattle.ecat_trips.specs.Steps.{TripsState, Move, bears_trip, ends, oldest_ends, begins, replaces}
 use Rattle.ecat_trips.specs.Steps.{seconds}
-use Rattle.ecat_trips.specs.Steps.{comes_back, closes, strays, twin_sent, sent, returned, by_way, step}
+use Rattle.ecat_trips.specs.Steps.{comes_back, closes, strays, sent_new, sent, returned, by_way, step}
 use Rattle.ecat_trips.specs.Runs.{Happened, Runs, of_copies, of_taken, of_ended, of_astray, taken_by}
 use Rattle.ecat_trips.specs.Runs.{astray_by, ended_by}
 use Rattle.ecat_trips.proofs.CopyLemmas.{of_copies-begun, of_copies-second, of_copies-return}
@@ -78,14 +79,14 @@ module _ (w : Outline → ℕ) (p : Outline) (frame : List DatagramRecord) (s : 
           some : nat_lt (length ts) MAX_ON_THE_WAY ≡ false → 0 < length ts
           some e = grind (arith, nat_tests)
 
-  seconds_keeps : (turned : Bool) (told : Told) (i : ℕ) → i < length ts → (get_or ts i d).second ≡ None
-      → Keeps w p s (seconds turned p frame s told i)
-  seconds_keeps turned told i inside none = record {
+  seconds_keeps : (told : Told) (i : ℕ) → i < length ts → (get_or ts i d).second ≡ None
+      → Keeps w p s (seconds p frame s told i)
+  seconds_keeps told i inside none = record {
     measure =
-        let e = sum_by-set f ts i (with_second turned p (get_or ts i d)) d inside in
-        let g = of_copies-second w p turned (get_or ts i d) none in
+        let e = sum_by-set f ts i (with_second p (get_or ts i d)) d inside in
+        let g = of_copies-second w p (get_or ts i d) none in
         omega (arith, e, g);
-    awaits = All-set AwaitsOne ts i (with_second turned p (get_or ts i d))
+    awaits = All-set AwaitsOne ts i (with_second p (get_or ts i d))
         (All-get_or AwaitsOne ts i d inside awaits) awaits;
   }
 
@@ -133,31 +134,30 @@ module _ (w : Outline → ℕ) (p : Outline) (frame : List DatagramRecord) (s : 
   }
 
   -- a trip that a packet is the second copy of has none
-  second_none : (turned : Bool) (t : Trip) → is_second turned p frame t ≡ true → t.second ≡ None
-  second_none turned t e =
+  second_none : (t : Trip) → is_second p frame t ≡ true → t.second ≡ None
+  second_none t e =
       is_none-None t.second (and_parts _ _ (and_parts _ _ e).0).0
 
-  twin_keeps : (told : Told) (at : Option ℕ) → (two : Bool)
-      → at ≡ cond two (position (is_second true p frame) ts) None → Keeps w p s (twin_sent p frame s told at)
-  twin_keeps told None two e = begins_keeps told
-  twin_keeps told (Some j) false e = cc
-  twin_keeps told (Some j) true e =
-      let found = position-Some (is_second true p frame) ts j d (sym e) in
-      seconds_keeps true told j found.0 (second_none true (get_or ts j d) found.1)
+  new_keeps : (told : Told) (at : Option ℕ) (numbered : Bool)
+      → at ≡ cond numbered (position (asks_again frame) ts) None → Keeps w p s (sent_new p frame s told at)
+  new_keeps told None numbered e = begins_keeps told
+  new_keeps told (Some j) false e = cc
+  new_keeps told (Some j) true e =
+      replaces_keeps told j (position-Some (asks_again frame) ts j d (sym e)).0
 
   sent_keeps : (m : Marks) (told : Told) (at : Option ℕ) → at ≡ position (bears_trip frame) ts
       → Keeps w p s (sent m p frame s told at)
-  sent_keeps m told None e = twin_keeps told _ m.two refl
-  sent_keeps m told (Some i) e = by (m.two && is_second false p frame (get_or ts i d)) refl
+  sent_keeps m told None e = new_keeps told _ (is_some (number_behind frame)) refl
+  sent_keeps m told (Some i) e = by (m.two && is_second p frame (get_or ts i d)) refl
     where
       inside : i < length ts
       inside = (position-Some (bears_trip frame) ts i d (sym e)).0
 
-      by : (b : Bool) → (m.two && is_second false p frame (get_or ts i d)) ≡ b
+      by : (b : Bool) → (m.two && is_second p frame (get_or ts i d)) ≡ b
           → Keeps w p s (sent m p frame s told (Some i))
       by true h = rw h
-          (seconds_keeps false told i inside
-          (second_none false (get_or ts i d) (and_parts m.two (is_second false p frame (get_or ts i d)) h).1))
+          (seconds_keeps told i inside
+          (second_none (get_or ts i d) (and_parts m.two (is_second p frame (get_or ts i d)) h).1))
       by false h = rw h (replaces_keeps told i inside)
 
   returned_keeps : (m : Marks) (told : Told) (at : Option ℕ) → at ≡ position (bears_trip frame) ts

@@ -1,20 +1,28 @@
 -- What a returned copy adds to those of its trip that came before (IEC 61158-4-12, the datagram structure).
 use Rattle.std.specs.Prelude.{ℕ, ◌+◌, ◌*◌, ◌/◌, ◌%◌, ◌==◌, ◌&&◌, if◌then◌else◌, Bool, List, length}
-use Rattle.std.specs.Prelude.{Option, None, Some, false, not}
-use Rattle.ec_wire.specs.Datagram.{DatagramRecord}
+use Rattle.std.specs.Prelude.{Option, None, Some, false, not, nat_lt, slice_set}
+use Rattle.ec_wire.specs.Datagram.{DatagramRecord, nth}
 use Rattle.ec_wire.specs.declared.command.Command.{Command}
 use Rattle.ec_merge.specs.Rule.{distance, joined_count, joined_bits, joined_flag}
 use Rattle.ec_merge.specs.Bytes.{joined_bytes}
-use Rattle.ecat_trips.specs.Alike.{is_still, moves_adp}
+use Rattle.ecat_trips.specs.Alike.{is_still, moves_adp, own_count}
 use Rattle.ecat_trips.specs.Zipped.{zipped}
 
--- a datagram that came, with the index of the sent one
-abbrev pub with_index : DatagramRecord → DatagramRecord → DatagramRecord → DatagramRecord
-with_index sent d _ = record d { index = sent.index }
+-- is the data of two datagrams as long
+abbrev pub same_size_at : DatagramRecord → DatagramRecord → Bool
+same_size_at sent d = length d.payload == length sent.payload
 
--- a frame that came, with the indexes of the sent one
-unfoldable pub with_indexes : List DatagramRecord → List DatagramRecord → List DatagramRecord
-with_indexes sent frame = zipped with_index sent frame sent
+-- a datagram that came, with the data of the sent one where these are as long
+abbrev pub with_data : DatagramRecord → DatagramRecord → DatagramRecord
+with_data sent d = if same_size_at sent d then record d { payload = sent.payload } else d
+
+-- a frame that came, with the number of the sent one, which the other copy bears otherwise
+unfoldable pub with_number : List DatagramRecord → List DatagramRecord → List DatagramRecord
+with_number sent frame =
+    let k = own_count sent in
+    if nat_lt k (length sent) && nat_lt k (length frame)
+    then slice_set frame k (with_data (nth sent k) (nth frame k))
+    else frame
 
 -- the joined ADP below the address's ADO where slaves count it up, else the address
 abbrev pub joined_address : Command → ℕ → ℕ → ℕ → ℕ
@@ -41,9 +49,6 @@ with_fields sent a b = record a {
 }
 
 -- copies of one datagram have data of one length; else the first stays
-abbrev pub same_size_at : DatagramRecord → DatagramRecord → Bool
-same_size_at sent d = length d.payload == length sent.payload
-
 abbrev pub joined_or : DatagramRecord → DatagramRecord → DatagramRecord → DatagramRecord
 joined_or sent a b = if same_size_at sent a && same_size_at sent b then joined_at sent a b else a
 

@@ -2,7 +2,7 @@
 use Rattle.std.specs.Prelude.{ℕ, List, ◌∷◌, take}
 use Rattle.ecat_trips.specs.declared.trip.SentFrame.{SentFrame}
 use Rattle.ecat_trips.specs.declared.lost.TheConstants.{MAX_LOST}
-use Rattle.ecat_trips.specs.Alike.{first_number}
+use Rattle.ecat_trips.specs.Alike.{told_fast}
 
 -- one more is remembered, and the oldest forgotten where there are as many as may be
 unfoldable pub remembered : SentFrame → List SentFrame → List SentFrame
@@ -10,4 +10,4 @@ remembered sent lost = take MAX_LOST (sent ∷ lost)
 
 -- what is told fast of the key of a sent frame
 abbrev pub number_of : SentFrame → ℕ
-number_of sent = first_number sent.frame
+number_of sent = told_fast sent.frame

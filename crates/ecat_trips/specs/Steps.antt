@@ -1,6 +1,6 @@
 -- What becomes of a packet: of which trip it is, and which trips end by it.
-use Rattle.std.specs.Prelude.{ℕ, ◌+◌, ◌-◌, ◌==◌, ◌&&◌, Bool, true, false, if◌then◌else◌, nat_lt}
-use Rattle.std.specs.Prelude.{is_none, Option, None, Some, List, ◌∷◌, length, position}
+use Rattle.std.specs.Prelude.{ℕ, ◌+◌, ◌-◌, ◌==◌, ◌&&◌, Bool, if◌then◌else◌, nat_lt}
+use Rattle.std.specs.Prelude.{is_none, is_some, Option, None, Some, List, ◌∷◌, length, position}
 use Rattle.std.specs.Prelude.{slice_index_or, slice_set, remove}
 use Rattle.ec_wire.specs.Datagram.{DatagramRecord}
 use Rattle.ecat_trips.specs.declared.packet.Outline.{Outline}
@@ -14,9 +14,10 @@ use Rattle.ecat_trips.specs.declared.trips.Fate.TheVariants.{Begins, Replaces, S
 use Rattle.ecat_trips.specs.declared.trips.Fate.TheVariants.{Stray}
 use Rattle.ecat_trips.specs.declared.trips.Step.{Step}
 use Rattle.ecat_trips.specs.declared.trips.Step.TheVariants.{Ended, Taken}
+use Rattle.ecat_trips.specs.Alike.{number_behind}
 use Rattle.ecat_trips.specs.Lost.{remembered}
 use Rattle.ecat_trips.specs.declared.trips.TheConstants.{MAX_ON_THE_WAY}
-use Rattle.ecat_trips.specs.Trip.{bears, begun, has_room, is_second, with_return, with_second}
+use Rattle.ecat_trips.specs.Trip.{asks_again, bears, begun, has_room, is_second, with_return, with_second}
 use Rattle.ecat_trips.specs.Ways.{told}
 
 -- the trips that are on the way, the newest first, and the sent frames of those that were lost last, the
@@ -70,18 +71,18 @@ begins p frame s told =
     }
     else oldest_ends p frame s
 
--- the packet begins a trip, and the one at a place, whose key it bears, ends
+-- the packet begins a trip, and the one at a place, whose question it asks again, ends
 abbrev pub replaces : Outline → List DatagramRecord → TripsState → Told → ℕ → Move
 replaces p frame s told i = let t = trip_at p frame s i in record {
   step = Taken told (Replaces t);
   after = record { on_the_way = begun p frame ∷ remove s.on_the_way i; lost = lost_with t s.lost };
 }
 
--- it is the second sent copy of the trip at a place, with its indexes turned or not
-abbrev pub seconds : Bool → Outline → List DatagramRecord → TripsState → Told → ℕ → Move
-seconds turned p frame s told i = let t = trip_at p frame s i in record {
+-- it is the second sent copy of the trip at a place
+abbrev pub seconds : Outline → List DatagramRecord → TripsState → Told → ℕ → Move
+seconds p frame s told i = let t = trip_at p frame s i in record {
   step = Taken told (Second t.first.number);
-  after = record { on_the_way = slice_set s.on_the_way i (with_second turned p t); lost = s.lost };
+  after = record { on_the_way = slice_set s.on_the_way i (with_second p t); lost = s.lost };
 }
 
 -- it is a copy that came back, and one more is to come back of the trip
@@ -116,18 +117,21 @@ is_late p frame s told = strays s told (position (bears frame) s.lost)
 
 -- ---- what happens
 
--- a packet that was sent, and no trip of its key is on the way: it may be the second copy of one by its
--- turned indexes
-abbrev pub twin_sent : Outline → List DatagramRecord → TripsState → Told → Option ℕ → Move
-twin_sent p frame s told None = begins p frame s told
-twin_sent p frame s told (Some j) = seconds true p frame s told j
+-- the place of the newest trip whose question a frame with a number asks again
+abbrev pub asked_before : List DatagramRecord → List Trip → Option ℕ
+asked_before frame ts = if is_some (number_behind frame) then position (asks_again frame) ts else None
+
+-- a packet that was sent, and no trip of its key is on the way: it may ask again, under another number, what
+-- the one at a place asked, which its master has given up
+abbrev pub sent_new : Outline → List DatagramRecord → TripsState → Told → Option ℕ → Move
+sent_new p frame s told None = begins p frame s told
+sent_new p frame s told (Some j) = replaces p frame s told j
 
 -- a packet that was sent: the second copy of the trip of its key, or this ends and another one begins
 abbrev pub sent : Marks → Outline → List DatagramRecord → TripsState → Told → Option ℕ → Move
-sent m p frame s told None =
-    twin_sent p frame s told (if m.two then position (is_second true p frame) s.on_the_way else None)
+sent m p frame s told None = sent_new p frame s told (asked_before frame s.on_the_way)
 sent m p frame s told (Some i) =
-    if m.two && is_second false p frame (trip_at p frame s i) then seconds false p frame s told i
+    if m.two && is_second p frame (trip_at p frame s i) then seconds p frame s told i
     else replaces p frame s told i
 
 -- a packet that returned: with two ports a trip awaits two copies

@@ -1,24 +1,28 @@
 -- A trip: what was sent, once or by both ports of a master, and what came back of it.
-use Rattle.std.specs.Prelude.{◌==◌, ◌&&◌, ◌||◌, Bool, true, false, not, Option, None, Some, is_none}
+use Rattle.std.specs.Prelude.{◌==◌, ◌&&◌, ◌||◌, Bool, false, not, Option, None, Some, is_none}
 use Rattle.std.specs.Prelude.{is_some}
 use Rattle.std.specs.Prelude.{List}
 use Rattle.ec_wire.specs.Datagram.{DatagramRecord}
 use Rattle.ecat_trips.specs.declared.packet.Outline.{Outline}
 use Rattle.ecat_trips.specs.declared.trip.SentFrame.{SentFrame}
 use Rattle.ecat_trips.specs.declared.trip.Trip.{Trip}
-use Rattle.ecat_trips.specs.Alike.{same_key, same_frame}
-use Rattle.ecat_trips.specs.Copies.{both_moved, with_indexes, joined_with}
+use Rattle.ecat_trips.specs.Alike.{same_frame, same_key, same_question}
+use Rattle.ecat_trips.specs.Copies.{both_moved, joined_with, with_number}
 
--- a frame bears the key of a sent one: that of its first copy, or of its second
+-- a frame bears the key of a sent one
 abbrev pub bears : List DatagramRecord → SentFrame → Bool
-bears frame sent = same_key false sent.frame frame || (sent.turned && same_key true sent.frame frame)
+bears frame sent = same_key sent.frame frame
+
+-- a frame asks what the one of a trip asked, under whatever number
+abbrev pub asks_again : List DatagramRecord → Trip → Bool
+asks_again frame t = same_question t.sent.frame frame
 
 -- ---- what a trip becomes
 
 -- a trip that begins with this packet
 abbrev pub begun : Outline → List DatagramRecord → Trip
 begun p frame = record {
-  sent = record { frame = frame; turned = false };
+  sent = record { frame = frame };
   first = p;
   second = None;
   came = None;
@@ -27,13 +31,13 @@ begun p frame = record {
   is_open = false;
 }
 
--- a packet is the second sent copy of a trip: of another base, the same frame, with its indexes turned or not
-abbrev pub is_second : Bool → Outline → List DatagramRecord → Trip → Bool
-is_second turned p frame t =
-    is_none t.second && not (p.source.base == t.first.source.base) && same_frame turned t.sent.frame frame
+-- a packet is the second sent copy of a trip: of another base, the other copy of the frame
+abbrev pub is_second : Outline → List DatagramRecord → Trip → Bool
+is_second p frame t =
+    is_none t.second && not (p.source.base == t.first.source.base) && same_frame t.sent.frame frame
 
-abbrev pub with_second : Bool → Outline → Trip → Trip
-with_second turned p t = record t { sent = record t.sent { turned = turned }; second = Some p }
+abbrev pub with_second : Outline → Trip → Trip
+with_second p t = record t { second = Some p }
 
 -- no more copies may come back than were sent
 abbrev pub has_room : Trip → Bool
@@ -41,11 +45,11 @@ has_room t = is_none t.back || is_some t.second
 
 -- the first copy that comes back, and the second
 abbrev pub with_back : Outline → List DatagramRecord → Trip → Trip
-with_back p frame t = record t { came = Some (with_indexes t.sent.frame frame); back = Some p }
+with_back p frame t = record t { came = Some (with_number t.sent.frame frame); back = Some p }
 
 abbrev pub with_again : Outline → List DatagramRecord → Trip → Trip
 with_again p frame t =
-    let other = with_indexes t.sent.frame frame in
+    let other = with_number t.sent.frame frame in
     record t {
       came = Some (joined_with t.sent.frame other t.came);
       again = Some p;

@@ -30,7 +30,7 @@ abbrev pub is_over_again : Marks → Outline → List DatagramRecord → Trip �
 is_over_again m p frame t None = false
 is_over_again m p frame t (Some second) =
     p.source.base == second.source.base && not (m.interfaces && p.interface == second.interface)
-    && same_frame t.sent.turned t.sent.frame frame
+    && same_frame t.sent.frame frame
 
 -- rule 2, of a master with two ports: the copy that no slave processed came back
 abbrev pub by_place : Marks → Outline → List DatagramRecord → Option Trip → Option Told

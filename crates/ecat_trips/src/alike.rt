@@ -1,11 +1,14 @@
 //! Which frames are copies of one that was sent (IEC 61158-4-12, the datagram structure).
 
-ghost use Rattle.std.specs.Prelude.{◌≡◌, ◌<◌, length};
+ghost use Rattle.std.specs.Prelude.{◌≡◌, ◌<◌, ◌≤◌, is_some, length, take};
+ghost use Rattle.std.specs.Cmp.Lexicographic.{pointwise};
 ghost use Rattle.ec_wire.specs.Datagram.{nth};
-ghost use Rattle.ecat_trips.specs.Alike.{first_number, has_count, has_counted, index_of, is_still};
-ghost use Rattle.ecat_trips.specs.Alike.{kept_address, moves_adp, number_at};
-ghost use Rattle.ecat_trips.specs.Alike.{same_at, same_frame, same_key, same_key_at, still_at, turned_index};
+ghost use Rattle.ecat_trips.specs.Alike.{are_both, has_count, has_counted, is_still, kept_address, moves_adp};
+ghost use Rattle.ecat_trips.specs.Alike.{number_at, number_at_first, number_behind, own_count, same_at};
+ghost use Rattle.ecat_trips.specs.Alike.{same_frame, same_key, same_question, same_question_at, same_trip};
+ghost use Rattle.ecat_trips.specs.Alike.{still_at, told_fast};
 
+use ec_number::number_of;
 use ec_wire::{Command, FrameBuf};
 
 /// One more ADO in an address: the ADP has the 16 bits below it.
@@ -39,64 +42,111 @@ pub fn kept_address(command: Command, address: u32) -> u32
     }
 }
 
-/// The index of a copy: the sent one, or that with its lowest bit turned.
-pub(crate) fn index_of(turned: bool, index: u8) -> u8
-    ensures { result ≡ index_of turned index }
+/// The number that a frame bears behind datagrams of its own, if it bears one.
+fn number_behind(frame: &FrameBuf) -> Option<u64>
+    ensures { result ≡ number_behind frame.now }
 {
-    if !turned {
-        index
-    } else if index % 2 == 0 {
-        index + 1
+    if 1 < frame.count() {
+        number_of(frame)
     } else {
-        index - 1
+        None
     }
 }
 
-/// Has the datagram at `k` the key of the sent one?
-fn same_key_at(turned: bool, sent: &FrameBuf, frame: &FrameBuf, k: usize) -> bool
+/// Does a frame bear a number behind datagrams of its own?
+pub(crate) fn is_numbered(frame: &FrameBuf) -> bool
+    ensures { result ≡ is_some (number_behind frame.now) }
+{
+    number_behind(frame).is_some()
+}
+
+/// How many datagrams of a frame are its own, in front: all but the one that carries its number, where it
+/// bears one.
+pub fn own_count(frame: &FrameBuf) -> usize
+    ensures value { result ≡ own_count frame.now }
+    ensures within { result ≤ length frame.now }
+{
+    match number_behind(frame) {
+        None => frame.count(),
+        Some(_) => frame.count() - 1,
+    }
+}
+
+/// Are two numbers those of one trip, or none?
+fn same_trip(sent: Option<u64>, number: Option<u64>) -> bool
+    ensures { result ≡ same_trip sent number }
+{
+    match (sent, number) {
+        (None, None) => true,
+        (Some(sent), Some(number)) => sent / 2 == number / 2,
+        (_, _) => false,
+    }
+}
+
+/// Are two numbers those of the two copies of one trip, or none?
+fn are_both(sent: Option<u64>, number: Option<u64>) -> bool
+    ensures { result ≡ are_both sent number }
+{
+    match (sent, number) {
+        (None, None) => true,
+        (Some(sent), Some(number)) => sent / 2 == number / 2 && sent != number,
+        (_, _) => false,
+    }
+}
+
+/// Does the datagram at `k` ask what the sent one asked?
+fn same_question_at(sent: &FrameBuf, frame: &FrameBuf, k: usize) -> bool
     requires sent { k < length sent.now }
     requires frame { k < length frame.now }
-    ensures { result ≡ same_key_at turned (nth sent.now k) (nth frame.now k) }
+    ensures { result ≡ same_question_at (nth sent.now k) (nth frame.now k) }
 {
     let command = sent.command(k);
     frame.command(k).code() == command.code()
-        && frame.index(k) == index_of(turned, sent.index(k))
+        && frame.index(k) == sent.index(k)
         && frame.data(k).len() == sent.data(k).len()
         && kept_address(command, frame.address(k)) == kept_address(command, sent.address(k))
 }
 
-/// Has a frame the key of a sent one: in the same order the same commands, indexes, addresses but for an ADP
-/// that slaves count up, and lengths? `turned` asks for indexes with their lowest bits turned.
-pub fn same_key(turned: bool, sent: &FrameBuf, frame: &FrameBuf) -> bool
-    ensures { result ≡ same_key turned sent.now frame.now }
+/// Does a frame ask what a sent one asked: in the same order the same commands, indexes, addresses but for an
+/// ADP that slaves count up, and lengths? It may do so under another number.
+pub(crate) fn same_question(sent: &FrameBuf, frame: &FrameBuf) -> bool
+    ensures { result ≡ same_question sent.now frame.now }
 {
     if sent.count() != frame.count() {
         return false;
     }
     for k in 0..sent.count() {
-        if !same_key_at(turned, sent, frame, k) {
+        if !same_question_at(sent, frame, k) {
             return false;
         }
     }
     true
 }
 
-/// Command, index without its lowest bit, length and kept address of the datagram at `k`, as one number.
+/// Has a frame the key of a sent one: does it ask the same, under a number of the same trip where they bear
+/// numbers?
+pub fn same_key(sent: &FrameBuf, frame: &FrameBuf) -> bool
+    ensures { result ≡ same_key sent.now frame.now }
+{
+    same_trip(number_behind(sent), number_behind(frame)) && same_question(sent, frame)
+}
+
+/// Command, index, length and kept address of the datagram at `k`, as one number.
 fn number_at(frame: &FrameBuf, k: usize) -> u64
     requires { k < length frame.now }
     ensures { result ≡ number_at (nth frame.now k) }
 {
     let command = frame.command(k);
     let code = u64::from(command.code());
-    let half_index = u64::from(frame.index(k) / 2);
+    let index = u64::from(frame.index(k));
     let length = frame.data(k).len() as u64;
     let address = u64::from(kept_address(command, frame.address(k)));
-    code + 16 * half_index + 2048 * length + 4_194_304 * address
+    code + 16 * index + 4096 * length + 8_388_608 * address
 }
 
-/// What of a frame's key is told fast: a number of the first datagram. Frames of one key have one number.
-pub(crate) fn first_number(frame: &FrameBuf) -> u64
-    ensures { result ≡ first_number frame.now }
+/// What the first datagram of a frame asks, as one number.
+fn number_at_first(frame: &FrameBuf) -> u64
+    ensures { result ≡ number_at_first frame.now }
 {
     if frame.count() == 0 {
         0
@@ -105,33 +155,58 @@ pub(crate) fn first_number(frame: &FrameBuf) -> u64
     }
 }
 
-/// Is the datagram at `k` the sent one, but for the index where it is turned?
-fn same_at(turned: bool, sent: &FrameBuf, frame: &FrameBuf, k: usize) -> bool
+/// What of a frame's key is told fast, as one number: that of its trip, or of a frame without a number what
+/// its first datagram asks. Frames of one key have one.
+pub(crate) fn told_fast(frame: &FrameBuf) -> u64
+    ensures { result ≡ told_fast frame.now }
+{
+    match number_behind(frame) {
+        None => number_at_first(frame),
+        Some(number) => number / 2,
+    }
+}
+
+/// Is the datagram at `k` the sent one?
+fn same_at(sent: &FrameBuf, frame: &FrameBuf, k: usize) -> bool
     requires sent { k < length sent.now }
     requires frame { k < length frame.now }
-    ensures { result ≡ same_at turned (nth sent.now k) (nth frame.now k) }
+    ensures { result ≡ same_at (nth sent.now k) (nth frame.now k) }
 {
     frame.command(k).code() == sent.command(k).code()
-        && frame.index(k) == index_of(turned, sent.index(k))
+        && frame.index(k) == sent.index(k)
         && frame.address(k) == sent.address(k)
         && frame.irq(k) == sent.irq(k)
         && frame.counter(k) == sent.counter(k)
         && frame.data(k) == sent.data(k)
 }
 
-/// Is a frame the sent one, but for its indexes where they are turned?
-pub fn same_frame(turned: bool, sent: &FrameBuf, frame: &FrameBuf) -> bool
-    ensures { result ≡ same_frame turned sent.now frame.now }
+/// Are the first datagrams of a frame, so many, the sent ones?
+fn same_datagrams(count: usize, sent: &FrameBuf, frame: &FrameBuf) -> bool
+    requires sent { count ≤ length sent.now }
+    requires frame { count ≤ length frame.now }
+    ensures { result ≡ pointwise same_at (take count sent.now) (take count frame.now) }
 {
-    if sent.count() != frame.count() {
-        return false;
-    }
-    for k in 0..sent.count() {
-        if !same_at(turned, sent, frame, k) {
+    for k in 0..count {
+        if !same_at(sent, frame, k) {
             return false;
         }
     }
     true
+}
+
+/// Is a frame the other copy of a sent one: has it the same datagrams, and where they bear numbers the other
+/// number of the same trip?
+pub fn same_frame(sent: &FrameBuf, frame: &FrameBuf) -> bool
+    ensures { result ≡ same_frame sent.now frame.now }
+{
+    if !are_both(number_behind(sent), number_behind(frame)) {
+        return false;
+    }
+    let count = own_count(sent);
+    if own_count(frame) != count {
+        return false;
+    }
+    same_datagrams(count, sent, frame)
 }
 
 /// Have neither the counter nor the address of the datagram at `k` moved?

@@ -4,10 +4,10 @@ ghost use Rattle.std.specs.Prelude.{◌≡◌, ◌<◌, length, slice_set};
 ghost use Rattle.ec_wire.specs.Datagram.{nth};
 ghost use Rattle.ec_merge.specs.Bytes.{joined_bytes};
 ghost use Rattle.ecat_trips.specs.Copies.{grown, joined, joined_address, joined_at, joined_or};
-ghost use Rattle.ecat_trips.specs.Copies.{moved, same_size_at, with_index};
-ghost use Rattle.ecat_trips.specs.Copies.{with_fields, with_indexes};
+ghost use Rattle.ecat_trips.specs.Copies.{moved, same_size_at, with_data};
+ghost use Rattle.ecat_trips.specs.Copies.{with_fields, with_number};
 
-use crate::alike::moves_adp;
+use crate::alike::{moves_adp, own_count};
 use ec_merge::{Counter, Flag, Irq, Merge, join_bytes};
 use ec_wire::FrameBuf;
 
@@ -31,22 +31,45 @@ pub fn grown(sent: &FrameBuf, came: &FrameBuf, k: usize) -> u16
     came.adp(k).wrapping_sub(sent.adp(k))
 }
 
-/// Gives a frame the indexes of the sent one.
-pub(crate) fn take_indexes(sent: &FrameBuf, own: &mut FrameBuf)
-    ensures { own.new ≡ with_indexes sent.now own.old }
+/// Gives the datagram at `k` the data of the sent one, which is as long.
+fn put_data(sent: &FrameBuf, own: &mut FrameBuf, k: usize)
+    requires sent { k < length sent.now }
+    requires own { k < length own.old }
+    requires size { length (nth own.old k).payload ≡ length (nth sent.now k).payload }
+    ensures { let sent = nth sent.now k in let came = nth own.old k
+        in own.new ≡ slice_set own.old k (record came { payload = sent.payload }) }
 {
-    let shared = sent.count().min(own.count());
-    for k in 0..shared {
-        own.set_index(k, sent.index(k));
+    own.data_mut(k).copy_from_slice(sent.data(k));
+}
+
+/// Gives the datagram at `k` the data of the sent one, if these are as long.
+fn take_data(sent: &FrameBuf, own: &mut FrameBuf, k: usize)
+    requires sent { k < length sent.now }
+    requires own { k < length own.old }
+    ensures { own.new ≡ slice_set own.old k (with_data (nth sent.now k) (nth own.old k)) }
+{
+    if same_size_at(sent, own, k) {
+        put_data(sent, own, k);
     }
 }
 
-/// A frame that came, with the indexes of the sent one.
-pub(crate) fn with_indexes(sent: &FrameBuf, frame: &FrameBuf) -> FrameBuf
-    ensures { result ≡ with_indexes sent.now frame.now }
+/// Gives a frame the number of the sent one, if both have a datagram at its place.
+#[tactic(auto, unfolding(crate::specs::Copies::with_number))]
+pub(crate) fn take_number(sent: &FrameBuf, own: &mut FrameBuf)
+    ensures { own.new ≡ with_number sent.now own.old }
+{
+    let k = own_count(sent);
+    if k < sent.count() && k < own.count() {
+        take_data(sent, own, k);
+    }
+}
+
+/// A frame that came, with the number of the sent one.
+pub(crate) fn with_number(sent: &FrameBuf, frame: &FrameBuf) -> FrameBuf
+    ensures { result ≡ with_number sent.now frame.now }
 {
     let mut own = frame.copy();
-    take_indexes(sent, &mut own);
+    take_number(sent, &mut own);
     own
 }
 

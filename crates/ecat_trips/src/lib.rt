@@ -30,6 +30,11 @@
 //! A [`Trip`] has one or two sent copies, and at most as many that came back. Its datagrams have [`moved`]
 //! counters, [`grown`] ADPs and joined data, by the frame that was sent and the one that came.
 //!
+//! A master may put a number behind the datagrams of each copy (`ec_number`). Then the two sent copies bear the
+//! two numbers of one trip, what comes back is of the trip whose number it bears, and a frame that asks again
+//! under another number ends the trip that asked before. [`own_count`] datagrams of a frame are its own: the
+//! one that carries the number asks nothing.
+//!
 //! What is promised:
 //!
 //! - [`Bases`] tells of up to 64 addresses whether they occur with the mark and without (`IsTold`), and
@@ -60,7 +65,7 @@ mod trip;
 mod trips;
 mod way;
 
-pub use alike::{has_counted, is_still, kept_address, moves_adp, same_frame, same_key};
+pub use alike::{has_counted, is_still, kept_address, moves_adp, own_count, same_frame, same_key};
 pub use bases::{Base, Bases, MAX_BASES};
 pub use copies::{grown, moved};
 pub use lost::MAX_LOST;

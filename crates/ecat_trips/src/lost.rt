@@ -2,7 +2,7 @@
 
 ghost use Rattle.std.specs.Prelude.{◌≡◌, ◌<◌, [], IfOk, IfSome, remove, position, length};
 
-use crate::alike::first_number;
+use crate::alike::told_fast;
 use crate::trip::SentFrame;
 use ec_wire::FrameBuf;
 use std::alloc::{AllocError, Global};
@@ -58,7 +58,7 @@ impl Lost {
             let _ = self.frames.pop_back();
             let _ = self.numbers.pop_back();
         }
-        self.numbers.push_front_reserved(first_number(&sent.frame));
+        self.numbers.push_front_reserved(told_fast(&sent.frame));
         self.frames.push_front_reserved(sent);
     }
 
@@ -67,7 +67,7 @@ impl Lost {
         ensures value { result ≡ position (bears frame.now) self.now }
         ensures within { IfSome result (λ i. i < length self.now) }
     {
-        if self.numbers.contains(&first_number(frame)) {
+        if self.numbers.contains(&told_fast(frame)) {
             self.frames.iter().position(|sent| sent.bears(frame))
         } else {
             None

@@ -73,7 +73,7 @@ impl Marks {
             Some(second) => {
                 packet.source.base == second.source.base
                     && !(self.interfaces && packet.interface == second.interface)
-                    && same_frame(trip.sent.turned, &trip.sent.frame, frame)
+                    && same_frame(&trip.sent.frame, frame)
             }
         }
     }

@@ -1,10 +1,10 @@
 //! A trip: what was sent, and what came back of it.
 
 ghost use Rattle.std.specs.Prelude.{◌≡◌, IfOk, None, Some, is_some, true};
-ghost use Rattle.ecat_trips.specs.Copies.{both_moved, joined_with, with_indexes};
+ghost use Rattle.ecat_trips.specs.Copies.{both_moved, joined_with, with_number};
 
-use crate::alike::{first_number, is_still, same_frame, same_key};
-use crate::copies::{join_in, take_indexes, with_indexes};
+use crate::alike::{is_still, same_frame, same_key, same_question, told_fast};
+use crate::copies::{join_in, take_number, with_number};
 use crate::packet::Outline;
 use ec_wire::FrameBuf;
 use std::alloc::{AllocError, Global};
@@ -15,18 +15,16 @@ use std::marker::Model;
 pub struct SentFrame {
     /// The frame of the first copy.
     pub frame: FrameBuf,
-    /// Did a second copy go out whose indexes are the first one's with their lowest bits turned?
-    pub turned: bool,
 }
 
 impl SentFrame {
     ghost use Rattle.ecat_trips.specs.Trip.{bears};
 
-    /// Does a frame bear the key of the first copy, or of the second?
+    /// Does a frame bear the key of this one?
     pub fn bears(&self, frame: &FrameBuf) -> bool
         ensures { result ≡ bears frame.now self.now }
     {
-        same_key(false, &self.frame, frame) || self.turned && same_key(true, &self.frame, frame)
+        same_key(&self.frame, frame)
     }
 
     /// The same once more.
@@ -35,7 +33,6 @@ impl SentFrame {
     {
         SentFrame {
             frame: self.frame.copy(),
-            turned: self.turned,
         }
     }
 }
@@ -56,7 +53,7 @@ impl Model for CameFrame {
 }
 
 impl CameFrame {
-    ghost use Rattle.ecat_trips.specs.Copies.{joined, with_indexes};
+    ghost use Rattle.ecat_trips.specs.Copies.{joined, with_number};
 
     /// This frame, as it came back: 2 KB of memory.
     pub fn new(alloc: Global, frame: &FrameBuf) -> Result<CameFrame, AllocError>
@@ -73,12 +70,12 @@ impl CameFrame {
         &self.frame
     }
 
-    /// A frame that came takes the place, with the indexes of the sent one.
+    /// A frame that came takes the place, with the number of the sent one.
     fn put(&mut self, sent: &FrameBuf, frame: &FrameBuf)
-        ensures { self.new ≡ with_indexes sent.now frame.now }
+        ensures { self.new ≡ with_number sent.now frame.now }
     {
         self.fill(frame);
-        take_indexes(sent, &mut self.frame);
+        take_number(sent, &mut self.frame);
     }
 
     /// A frame takes the place.
@@ -105,7 +102,7 @@ pub struct Trip {
     pub first: Outline,
     /// That of the second, which the other port sent.
     pub second: Option<Outline>,
-    /// What came back, with the indexes of the first sent copy: of two copies the join.
+    /// What came back, with the number of the first sent copy: of two copies the join.
     pub came: Option<CameFrame>,
     /// The packet of the first copy that came back.
     pub back: Option<Outline>,
@@ -117,8 +114,8 @@ pub struct Trip {
 }
 
 impl Trip {
-    ghost use Rattle.ecat_trips.specs.Trip.{begun, has_room, is_second, with_back, with_again, with_return};
-    ghost use Rattle.ecat_trips.specs.Trip.{with_second};
+    ghost use Rattle.ecat_trips.specs.Trip.{asks_again, begun, has_room, is_second, with_again, with_back};
+    ghost use Rattle.ecat_trips.specs.Trip.{with_return, with_second};
 
     /// A trip that begins with a packet.
     pub(crate) fn begun(first: Outline, frame: &FrameBuf) -> Trip
@@ -127,7 +124,6 @@ impl Trip {
         Trip {
             sent: SentFrame {
                 frame: frame.copy(),
-                turned: false,
             },
             first,
             second: None,
@@ -144,7 +140,6 @@ impl Trip {
         ensures place { result ≡ self.old.came }
     {
         self.sent.frame.copy_from(frame);
-        self.sent.turned = false;
         self.first = first;
         self.second = None;
         self.back = None;
@@ -153,13 +148,20 @@ impl Trip {
         self.came.take()
     }
 
-    /// Is a packet the second sent copy of the trip, with its indexes turned or not?
-    pub(crate) fn is_second(&self, turned: bool, packet: &Outline, frame: &FrameBuf) -> bool
-        ensures { result ≡ is_second turned packet.now frame.now self.now }
+    /// Is a packet the second sent copy of the trip?
+    pub(crate) fn is_second(&self, packet: &Outline, frame: &FrameBuf) -> bool
+        ensures { result ≡ is_second packet.now frame.now self.now }
     {
         self.second.is_none()
             && packet.source.base != self.first.source.base
-            && same_frame(turned, &self.sent.frame, frame)
+            && same_frame(&self.sent.frame, frame)
+    }
+
+    /// Does a frame ask what this one asked, under whatever number?
+    pub(crate) fn asks_again(&self, frame: &FrameBuf) -> bool
+        ensures { result ≡ asks_again frame.now self.now }
+    {
+        same_question(&self.sent.frame, frame)
     }
 
     /// May one more copy come back? No more may than were sent.
@@ -170,10 +172,9 @@ impl Trip {
     }
 
     /// Takes the second sent copy.
-    pub(crate) fn take_second(&mut self, turned: bool, packet: Outline)
-        ensures { self.new ≡ with_second turned packet self.old }
+    pub(crate) fn take_second(&mut self, packet: Outline)
+        ensures { self.new ≡ with_second packet self.old }
     {
-        self.sent.turned = turned;
         self.second = Some(packet);
     }
 
@@ -192,7 +193,7 @@ impl Trip {
         requires { self.old.came ≡ None → is_some place ≡ true }
         ensures { self.new ≡ with_again packet frame.now self.old }
     {
-        let other = with_indexes(&self.sent.frame, frame);
+        let other = with_number(&self.sent.frame, frame);
         self.is_open = both_moved(&self.sent.frame, &self.came, &other);
         self.came = joined_with(&self.sent.frame, self.came.take(), &other, place);
         self.again = Some(packet);
@@ -237,10 +238,10 @@ fn first_of(place: Option<CameFrame>, other: Option<CameFrame>) -> Option<CameFr
     }
 }
 
-/// A place with a frame that came, with the indexes of the sent one.
+/// A place with a frame that came, with the number of the sent one.
 fn filled(place: Option<CameFrame>, sent: &FrameBuf, frame: &FrameBuf) -> Option<CameFrame>
     requires { is_some place ≡ true }
-    ensures { result ≡ Some (with_indexes sent.now frame.now) }
+    ensures { result ≡ Some (with_number sent.now frame.now) }
 {
     match place {
         None => None,
@@ -280,7 +281,7 @@ fn joined_with(
 #[derive(Drop)]
 pub struct Kept {
     /// What is told fast of its key.
-    number: u64,
+    fast: u64,
     trip: Box<Trip>,
     /// Where what comes back is put, until the trip has it.
     place: Option<CameFrame>,
@@ -294,35 +295,31 @@ impl Model for Kept {
     ghost view = { λ k. k.trip.value };
 
     ghost use Rattle.std.specs.Prelude.{◌≡◌, None, is_some, true};
-    ghost use Rattle.ecat_trips.specs.Alike.{first_number};
+    ghost use Rattle.ecat_trips.specs.Alike.{told_fast};
 
-    ghost invariant = { λ k. (k.number ≡ first_number k.trip.value.sent.frame)
+    ghost invariant = { λ k. (k.fast ≡ told_fast k.trip.value.sent.frame)
         × (k.trip.value.came ≡ None → is_some k.place ≡ true) };
 }
 
 impl Kept {
-    ghost use Rattle.ecat_trips.specs.Alike.{first_number};
+    ghost use Rattle.ecat_trips.specs.Alike.{told_fast};
     ghost use Rattle.ecat_trips.specs.Trip.{bears, begun, with_return, with_second};
 
     /// Keeps a trip: 4 KB of memory.
     pub(crate) fn new(alloc: Global, trip: Trip) -> Result<Kept, AllocError>
         ensures { IfOk result (λ kept. kept ≡ trip) }
     {
-        let number = first_number(&trip.sent.frame);
+        let fast = told_fast(&trip.sent.frame);
         let place = Some(CameFrame::new(alloc, &trip.sent.frame)?);
         let trip = Box::new(alloc, trip)?;
-        Ok(Kept {
-            number,
-            trip,
-            place,
-        })
+        Ok(Kept { fast, trip, place })
     }
 
     /// A trip that begins with a packet takes the place of this one.
     pub(crate) fn begin(&mut self, first: Outline, frame: &FrameBuf)
         ensures { self.new ≡ begun first frame.now }
     {
-        self.number = first_number(frame);
+        self.fast = told_fast(frame);
         match self.trip.begin(first, frame) {
             Some(place) => self.place = Some(place),
             None => {}
@@ -330,11 +327,11 @@ impl Kept {
     }
 
     /// Does a frame, of which this is told fast, bear the key of the trip?
-    pub(crate) fn bears(&self, number: u64, frame: &FrameBuf) -> bool
-        requires { number ≡ first_number frame.now }
+    pub(crate) fn bears(&self, fast: u64, frame: &FrameBuf) -> bool
+        requires { fast ≡ told_fast frame.now }
         ensures { result ≡ bears frame.now self.now.sent }
     {
-        self.number == number && self.trip.sent.bears(frame)
+        self.fast == fast && self.trip.sent.bears(frame)
     }
 
     /// The trip.
@@ -345,10 +342,10 @@ impl Kept {
     }
 
     /// Takes the second sent copy.
-    pub(crate) fn take_second(&mut self, turned: bool, packet: Outline)
-        ensures { self.new ≡ with_second turned packet self.old }
+    pub(crate) fn take_second(&mut self, packet: Outline)
+        ensures { self.new ≡ with_second packet self.old }
     {
-        self.trip.take_second(turned, packet);
+        self.trip.take_second(packet);
     }
 
     /// Takes one more copy that came back.

@@ -3,7 +3,7 @@
 ghost use Rattle.std.specs.Prelude.{◌≡◌, ◌<◌, length, position, IfOk, OnErr, IfSome};
 ghost use Rattle.std.specs.Option.{ForSome};
 
-use crate::alike::first_number;
+use crate::alike::{is_numbered, told_fast};
 use crate::lost::Lost;
 use crate::marks::Marks;
 use crate::packet::Outline;
@@ -21,7 +21,7 @@ pub const MAX_ON_THE_WAY: usize = 4096;
 pub enum Fate {
     /// It begins a trip.
     Begins,
-    /// It begins a trip, and ends this one, whose key it bears.
+    /// It begins a trip, and ends this one, whose question it asks again.
     Replaces(Kept),
     /// It is the second sent copy of the trip that the packet with this number began.
     Second(u64),
@@ -64,11 +64,13 @@ impl Model for Trips {
 }
 
 impl Trips {
-    ghost use Rattle.std.specs.Prelude.{[], ◌∷◌, if◌then◌else◌, true, OnOk};
-    ghost use Rattle.ecat_trips.specs.Trip.{begun, is_second};
+    ghost use Rattle.std.specs.Prelude.{[], ◌∷◌, OnOk};
+    ghost use Rattle.ecat_trips.specs.Trip.{asks_again, begun};
     ghost use Rattle.ecat_trips.specs.Ways.{told};
-    ghost use Rattle.ecat_trips.specs.Steps.{bears_trip, begins, closes, comes_back, ends, is_late};
-    ghost use Rattle.ecat_trips.specs.Steps.{oldest_ends, replaces, returned, seconds, sent, step, trip_of};
+    ghost use Rattle.ecat_trips.specs.Steps.{asked_before, bears_trip, begins, closes, comes_back, ends};
+    ghost use Rattle.ecat_trips.specs.Steps.{is_late};
+    ghost use Rattle.ecat_trips.specs.Steps.{oldest_ends, replaces, returned, seconds, sent, sent_new, step};
+    ghost use Rattle.ecat_trips.specs.Steps.{trip_of};
 
     /// No packet was taken yet.
     pub fn new(alloc: Global) -> Result<Trips, AllocError>
@@ -89,10 +91,10 @@ impl Trips {
         ensures value { result ≡ position (bears_trip frame.now) self.now.on_the_way }
         ensures within { IfSome result (λ i. i < length self.now.on_the_way) }
     {
-        let number = first_number(frame);
+        let fast = told_fast(frame);
         self.on_the_way
             .iter()
-            .position(|kept| kept.bears(number, frame))
+            .position(|kept| kept.bears(fast, frame))
     }
 
     /// The way of a packet whose trip on the way, by its key, stands at this place.
@@ -106,7 +108,7 @@ impl Trips {
         }
     }
 
-    /// The place of a trip, whose key the packet bears, goes to the one that the packet begins.
+    /// The place of a trip, whose question the packet asks again, goes to the one that the packet begins.
     fn replace(
         &mut self,
         packet: &Outline,
@@ -193,19 +195,12 @@ impl Trips {
     }
 
     /// The packet is the second sent copy of the trip at a place.
-    fn second(
-        &mut self,
-        turned: bool,
-        packet: &Outline,
-        frame: &FrameBuf,
-        told: Told,
-        i: usize,
-    ) -> Step
+    fn second(&mut self, packet: &Outline, frame: &FrameBuf, told: Told, i: usize) -> Step
         requires { i < length self.old.on_the_way }
-        ensures step { result ≡ (seconds turned packet.now frame.now self.old told i).step }
-        ensures after { self.new ≡ (seconds turned packet.now frame.now self.old told i).after }
+        ensures step { result ≡ (seconds packet.now frame.now self.old told i).step }
+        ensures after { self.new ≡ (seconds packet.now frame.now self.old told i).after }
     {
-        self.on_the_way[i].take_second(turned, *packet);
+        self.on_the_way[i].take_second(*packet);
         Step::Taken(told, Fate::Second(self.on_the_way[i].trip().first.number))
     }
 
@@ -248,46 +243,44 @@ impl Trips {
         }
     }
 
-    /// The place of the newest trip whose second sent copy the packet is by its turned indexes; only a master
-    /// with two ports sends any.
-    fn twin_of(&self, marks: &Marks, packet: &Outline, frame: &FrameBuf) -> Option<usize>
-        ensures value { result ≡ (if marks.now.two
-            then position (is_second true packet.now frame.now) self.now.on_the_way else None) }
+    /// The place of the newest trip on the way whose question a frame with a number asks again. A frame
+    /// without one has the key of such a trip.
+    fn asked_before(&self, frame: &FrameBuf) -> Option<usize>
+        ensures value { result ≡ asked_before frame.now self.now.on_the_way }
         ensures within { IfSome result (λ i. i < length self.now.on_the_way) }
     {
-        if marks.two {
-            self.place_of_twin(packet, frame)
+        if is_numbered(frame) {
+            self.place_asked(frame)
         } else {
             None
         }
     }
 
-    /// The place of the newest trip whose second sent copy the packet is by its turned indexes.
-    fn place_of_twin(&self, packet: &Outline, frame: &FrameBuf) -> Option<usize>
-        ensures value { result ≡ position (is_second true packet.now frame.now) self.now.on_the_way }
+    /// The place of the newest trip on the way whose question a frame asks again.
+    fn place_asked(&self, frame: &FrameBuf) -> Option<usize>
+        ensures value { result ≡ position (asks_again frame.now) self.now.on_the_way }
         ensures within { IfSome result (λ i. i < length self.now.on_the_way) }
     {
         self.on_the_way
             .iter()
-            .position(|kept| kept.trip().is_second(true, packet, frame))
+            .position(|kept| kept.trip().asks_again(frame))
     }
 
     /// The packet was sent, and no trip of its key is on the way.
     fn send_new(
         &mut self,
-        marks: &Marks,
         packet: &Outline,
         frame: &FrameBuf,
         told: Told,
     ) -> Result<Step, AllocError>
-        ensures step { IfOk result (λ happened.
-            happened ≡ (sent marks.now packet.now frame.now self.old told None).step) }
-        ensures after { OnOk result
-            (self.new ≡ (sent marks.now packet.now frame.now self.old told None).after) }
+        ensures step { IfOk result (λ happened. happened ≡ (sent_new packet.now frame.now self.old told
+            (asked_before frame.now self.old.on_the_way)).step) }
+        ensures after { OnOk result (self.new ≡ (sent_new packet.now frame.now self.old told
+            (asked_before frame.now self.old.on_the_way)).after) }
         ensures kept { OnErr result (self.new ≡ self.old) }
     {
-        match self.twin_of(marks, packet, frame) {
-            Some(j) => Ok(self.second(true, packet, frame, told, j)),
+        match self.asked_before(frame) {
+            Some(j) => self.replace(packet, frame, told, j),
             None => self.begin(packet, frame, told),
         }
     }
@@ -308,8 +301,8 @@ impl Trips {
             (self.new ≡ (sent marks.now packet.now frame.now self.old told (Some i)).after) }
         ensures kept { OnErr result (self.new ≡ self.old) }
     {
-        if marks.two && self.on_the_way[i].trip().is_second(false, packet, frame) {
-            Ok(self.second(false, packet, frame, told, i))
+        if marks.two && self.on_the_way[i].trip().is_second(packet, frame) {
+            Ok(self.second(packet, frame, told, i))
         } else {
             self.replace(packet, frame, told, i)
         }
@@ -357,7 +350,7 @@ impl Trips {
         match told.way {
             Way::Sent => match at {
                 Some(i) => self.send_again(marks, packet, frame, told, i),
-                None => self.send_new(marks, packet, frame, told),
+                None => self.send_new(packet, frame, told),
             },
             Way::Returned => match at {
                 Some(i) => Ok(self.return_to(marks, packet, frame, told, i)),

@@ -7,6 +7,8 @@ mod lost;
 #[cfg(test)]
 mod marked;
 #[cfg(test)]
+mod numbered;
+#[cfg(test)]
 mod play;
 #[cfg(test)]
 mod two;

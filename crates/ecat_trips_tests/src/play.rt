@@ -1,7 +1,7 @@
 //! A capture that is played from a table of its packets.
 
 use arrayvec::ArrayVec;
-use ec_wire::{Command, Datagram, FrameBuf, address_of};
+use ec_wire::{Command, Datagram, Form, FrameBuf, address_of};
 use ecat_trips::{Bases, By, Fate, Kept, Marks, Outline, Ports, Source, Step, Trips, grown, moved};
 use std::process::Abort;
 use std::test::Fail;
@@ -15,7 +15,7 @@ pub const A_MARKED: u64 = 0x0201_0510_0000;
 
 pub const B_MARKED: u64 = 0x0201_0510_0001;
 
-/// A packet with a frame of one datagram, which has one byte of data.
+/// A packet with a frame, in most of one datagram, which has one byte of data.
 #[derive(Clone, Copy)]
 pub enum Packet {
     /// An LRW at 0x00010000: the Ethernet address that it comes from, its index, its byte and its counter.
@@ -28,6 +28,8 @@ pub enum Packet {
     Brd(u64, u8, u16, u8, u16),
     /// An FPRD of the station at 0x0130 from port A with index 0: the station, and its counter.
     Fprd(u16, u16),
+    /// The frame that these bytes spell, captured on this interface, and the address that it comes from.
+    Spelt(u32, u64, &'static [u8]),
 }
 
 /// What of a packet its datagram is.
@@ -96,11 +98,17 @@ impl Packet {
                 byte: 0,
                 counter,
             },
+            Packet::Spelt(_, _, _) => lrw(0, 0, 0),
         }
     }
 
     /// Its frame.
     pub fn frame(&self) -> FrameBuf {
+        if let Packet::Spelt(_, _, bytes) = *self
+            && let Ok(frame) = FrameBuf::read(bytes, Form::Ethernet)
+        {
+            return frame;
+        }
         let gram = self.gram();
         let mut payload = ArrayVec::new();
         payload.push(gram.byte);
@@ -123,6 +131,7 @@ impl Packet {
             Packet::LrwUdp(_, _, source, _, _, _) => source,
             Packet::Brd(source, _, _, _, _) => source,
             Packet::Fprd(_, _) => A,
+            Packet::Spelt(_, source, _) => source,
         }
     }
 
@@ -130,6 +139,7 @@ impl Packet {
     fn interface(&self) -> u32 {
         match *self {
             Packet::LrwOn(interface, _, _, _, _) => interface,
+            Packet::Spelt(interface, _, _) => interface,
             _ => 0,
         }
     }
