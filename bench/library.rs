@@ -1,5 +1,5 @@
 //! The library's benchmark: frame, join, judge and store of one LRW of 1,280 bytes and one BRD of 2, and
-//! these with the sealing and opening of both copies, by `librummymaple.a` and in plain Rust by hand, over
+//! these with the numbering and opening of both copies, by `librummymaple.a` and in plain Rust by hand, over
 //! the same plain data and with no proof. Both are tried to come to the same before they are measured. It
 //! prints a line of each: the nanoseconds of a cycle, ours and the peer's.
 
@@ -37,7 +37,7 @@ struct Joined {
 }
 
 #[repr(C)]
-struct Sealed {
+struct Written {
     bytes: usize,
     at: usize,
     code: u32,
@@ -54,9 +54,9 @@ extern "C" {
         room: *mut u8, room_size: usize) -> Framed;
     fn rmp_join(form: u32, sent: *const u8, sent_size: usize, a: *const u8, a_size: usize, b: *const u8,
         b_size: usize, room: *mut u8, room_size: usize) -> Joined;
-    fn rmp_seal(seal: u32, sent: *const u8, sent_size: usize, room: *mut u8, room_size: usize) -> Sealed;
-    fn rmp_open(form: u32, seal: u32, sent: *const u8, sent_size: usize, packet: *const u8, size: usize,
-        room: *mut u8, room_size: usize) -> Sealed;
+    fn rmp_seal(number: u64, sent: *const u8, sent_size: usize, room: *mut u8, room_size: usize) -> Written;
+    fn rmp_open(form: u32, number: u64, sent: *const u8, sent_size: usize, packet: *const u8, size: usize,
+        room: *mut u8, room_size: usize) -> Written;
     fn rmp_judge(items: *mut Item, n: usize, first: usize, joined: *const u8, size: usize) -> Answer;
     fn rmp_store(items: *const Item, n: usize, first: usize, joined: *const u8, size: usize, image: *mut u8,
         image_size: usize) -> Answer;
@@ -115,15 +115,28 @@ mod peer {
 
         /// May it have come of the sent frame?
         fn is_own(&self, sent: &Frame) -> bool {
-            self.count == sent.count
-                && (0..sent.count).all(|k| {
-                    let (at, _) = sent.place(k);
-                    let fixed = if counts_adp(sent.bytes[at]) { at + 4 } else { at + 2 };
-                    self.starts[k] == sent.starts[k]
-                        && self.bytes[at..at + 2] == sent.bytes[at..at + 2]
-                        && self.bytes[fixed..at + 6] == sent.bytes[fixed..at + 6]
-                        && (word(self.bytes, at + 6) ^ word(sent.bytes, at + 6)) & 0x7FF == 0
-                })
+            self.count == sent.count && self.begins_with(sent)
+        }
+
+        /// May its first datagrams, as many as were sent, have come of the sent frame?
+        fn begins_with(&self, sent: &Frame) -> bool {
+            (0..sent.count).all(|k| {
+                let (at, _) = sent.place(k);
+                let fixed = if counts_adp(sent.bytes[at]) { at + 4 } else { at + 2 };
+                self.starts[k] == sent.starts[k]
+                    && self.bytes[at..at + 2] == sent.bytes[at..at + 2]
+                    && self.bytes[fixed..at + 6] == sent.bytes[fixed..at + 6]
+                    && (word(self.bytes, at + 6) ^ word(sent.bytes, at + 6)) & 0x7FF == 0
+            })
+        }
+
+        /// Does it end with this number from a place on?
+        fn bears(&self, number: u64, at: usize) -> bool {
+            let (last, end) = self.place(self.count - 1);
+            last == at
+                && end == at + 18
+                && self.bytes[at..at + 6] == [0; 6]
+                && self.bytes[at + 10..end] == number.to_le_bytes()
         }
 
         /// Are its datagrams answers of the items from `first` on?
@@ -179,48 +192,38 @@ mod peer {
         Some((at, count))
     }
 
-    /// The frame with the seal's index and counter in each datagram.
-    pub fn seal(seal: u16, sent: &[u8], room: &mut [u8]) -> Option<usize> {
+    /// The frame with a number behind it.
+    pub fn seal(number: u64, sent: &[u8], room: &mut [u8]) -> Option<usize> {
         let frame = Frame::read(sent)?;
-        if seal >= 16384 || room.len() < sent.len() {
+        let (end, whole) = (sent.len(), sent.len() + 20);
+        if whole > 1500 || room.len() < whole {
             return None;
         }
-        room[..sent.len()].copy_from_slice(sent);
-        for k in 0..frame.count {
-            let (at, end) = frame.place(k);
-            room[at + 1] = seal as u8;
-            room[end..end + 2].copy_from_slice(&(seal >> 8 << 10).to_le_bytes());
-        }
-        Some(sent.len())
+        let (last, _) = frame.place(frame.count - 1);
+        room[..end].copy_from_slice(sent);
+        room[..2].copy_from_slice(&(word(sent, 0) + 20).to_le_bytes());
+        room[last + 7] |= 0x80;
+        room[end..whole].copy_from_slice(&[0; 20]);
+        room[end + 6] = 8;
+        room[end + 10..end + 18].copy_from_slice(&number.to_le_bytes());
+        Some(whole)
     }
 
-    /// What a packet is without the seal, where it came of the frame under it.
-    pub fn open(seal: u16, sent: &[u8], packet: &[u8], room: &mut [u8]) -> Option<usize> {
+    /// What a packet is without its number, where it came of the frame with it.
+    pub fn open(number: u64, sent: &[u8], packet: &[u8], room: &mut [u8]) -> Option<usize> {
         let (s, copy) = (Frame::read(sent)?, Frame::read(packet)?);
-        if seal >= 16384 || copy.count != s.count || room.len() < sent.len() {
+        let end = sent.len();
+        if copy.count != s.count + 1 || !copy.bears(number, end) || !copy.begins_with(&s) {
             return None;
         }
-        for k in 0..s.count {
-            let (at, end) = s.place(k);
-            let fixed = if counts_adp(sent[at]) { at + 4 } else { at + 2 };
-            let gained = word(packet, end).wrapping_sub(seal >> 8 << 10);
-            if copy.starts[k] != s.starts[k]
-                || packet[at..at + 2] != [sent[at], seal as u8]
-                || packet[fixed..at + 6] != sent[fixed..at + 6]
-                || (word(packet, at + 6) ^ word(sent, at + 6)) & 0x7FF != 0
-                || gained > 1023
-            {
-                return None;
-            }
+        if room.len() < end {
+            return None;
         }
-        room[..sent.len()].copy_from_slice(packet);
-        for k in 0..s.count {
-            let (at, end) = s.place(k);
-            let gained = word(packet, end).wrapping_sub(seal >> 8 << 10);
-            room[at + 1] = sent[at + 1];
-            room[end..end + 2].copy_from_slice(&word(sent, end).wrapping_add(gained).to_le_bytes());
-        }
-        Some(sent.len())
+        let (last, _) = s.place(s.count - 1);
+        room[..end].copy_from_slice(&packet[..end]);
+        room[..2].copy_from_slice(&(word(packet, 0) - 20).to_le_bytes());
+        room[last + 7] &= 0x7F;
+        Some(end)
     }
 
     pub fn join(sent: &[u8], a: &[u8], b: &[u8], room: &mut [u8]) -> Option<usize> {
@@ -287,8 +290,8 @@ mod peer {
 
 const DATA: u16 = 1280;
 
-/// The seals of both copies: one index and the next, and the counter 1,024.
-const SEALS: [u16; 2] = [0x0122, 0x0123];
+/// The numbers of both copies.
+const NUMBERS: [u64; 2] = [0x0123_4567_89AB_CDEE, 0x0123_4567_89AB_CDEF];
 
 /// What a master holds, and what its ring brings back.
 struct Master {
@@ -298,9 +301,9 @@ struct Master {
     joined: [u8; 1500],
     a: Vec<u8>,
     b: Vec<u8>,
-    /// Both copies as they come under their seals, what goes out, and both copies opened.
+    /// Both copies as they come with their numbers, what goes out, and both copies opened.
     packets: [Vec<u8>; 2],
-    sealed: [u8; 1500],
+    numbered: [u8; 1500],
     opened: [[u8; 1500]; 2],
 }
 
@@ -318,27 +321,27 @@ impl Master {
             a: vec![],
             b: vec![],
             packets: [vec![], vec![]],
-            sealed: [0; 1500],
+            numbered: [0; 1500],
             opened: [[0; 1500]; 2],
         };
         let (bytes, _) = peer::frame(&master.items, &master.image, 0, &mut master.sent).unwrap();
         let (mut a, mut b) = (master.sent[..bytes].to_vec(), master.sent[..bytes].to_vec());
         (a[20], a[12 + 1280], a[1296], a[1306]) = (0x33, 10, 1, 8); // one slave reads and writes on the way
         (b[21], b[1296], b[1306], b[9]) = (0x44, 1, 8, b[9] | 0x40);
-        master.packets = [a.to_vec(), b.to_vec()];
-        for (seal, packet) in SEALS.iter().zip(&mut master.packets) {
-            for end in &[1292, 1306] {
-                packet[*end] -= 7; // the counter of the seal is 1,024, and those that are sent are 7
-                packet[end + 1] = 4;
-            }
-            (packet[3], packet[1295]) = (*seal as u8, *seal as u8);
+        for ((packet, number), copy) in master.packets.iter_mut().zip(NUMBERS).zip([&a, &b]) {
+            packet.extend(&copy[..]);
+            packet.extend([0, 0, 0, 0, 0, 0, 8, 0, 0, 0]);
+            packet.extend(number.to_le_bytes());
+            packet.extend([0, 0]);
+            packet[0] += 20; // the length, 1,306, has room for it in its low byte
+            packet[1301] |= 0x80; // the last datagram says now that another follows
         }
         (master.a, master.b) = (a, b);
         master
     }
 
-    /// What goes out under both seals, and the copies that come back under them.
-    fn ours_sealed(&mut self) -> [u32; 8] {
+    /// What goes out with both numbers, and the copies that come back with them.
+    fn ours_numbered(&mut self) -> [u32; 8] {
         let (n, size) = (self.items.len(), self.image.len());
         let (items, image) = (self.items.as_mut_ptr(), self.image.as_mut_ptr());
         let (sent, joined) = (self.sent.as_mut_ptr(), self.joined.as_mut_ptr());
@@ -347,33 +350,32 @@ impl Master {
             let made = rmp_frame(items, n, image, size, 0, sent, 1500);
             let (mut codes, mut sizes) = ([0; 4], [0; 2]);
             for c in 0..2 {
-                let seal = u32::from(SEALS[c]);
-                codes[c] = rmp_seal(seal, sent, made.bytes, self.sealed.as_mut_ptr(), 1500).code;
+                codes[c] = rmp_seal(NUMBERS[c], sent, made.bytes, self.numbered.as_mut_ptr(), 1500).code;
             }
             for c in 0..2 {
-                let (seal, packet) = (u32::from(SEALS[c]), &self.packets[c]);
+                let (number, packet) = (NUMBERS[c], &self.packets[c]);
                 let room = self.opened[c].as_mut_ptr();
-                let open = rmp_open(1, seal, sent, made.bytes, packet.as_ptr(), packet.len(), room, 1500);
+                let open = rmp_open(1, number, sent, made.bytes, packet.as_ptr(), packet.len(), room, 1500);
                 (codes[2 + c], sizes[c]) = (open.code, open.bytes);
             }
             let (a, b) = (self.opened[0].as_ptr(), self.opened[1].as_ptr());
             let came = rmp_join(1, sent, made.bytes, a, sizes[0], b, sizes[1], joined, 1500);
             let verdict = rmp_judge(items, n, 0, joined, came.bytes);
             let stored = rmp_store(items, n, 0, joined, came.bytes, image, size);
-            let [sealed_a, sealed_b, opened_a, opened_b] = codes;
+            let [numbered_a, numbered_b, opened_a, opened_b] = codes;
             let rest = [made.code, came.code, verdict.code, stored.code];
-            [sealed_a, sealed_b, opened_a, opened_b, rest[0], rest[1], rest[2], rest[3]]
+            [numbered_a, numbered_b, opened_a, opened_b, rest[0], rest[1], rest[2], rest[3]]
         }
     }
 
-    fn peer_sealed(&mut self) -> Option<()> {
+    fn peer_numbered(&mut self) -> Option<()> {
         let (bytes, _) = peer::frame(&self.items, &self.image, 0, &mut self.sent)?;
         let (sent, mut sizes) = (&self.sent[..bytes], [0; 2]);
         for c in 0..2 {
-            peer::seal(SEALS[c], sent, &mut self.sealed)?;
+            peer::seal(NUMBERS[c], sent, &mut self.numbered)?;
         }
         for c in 0..2 {
-            sizes[c] = peer::open(SEALS[c], sent, &self.packets[c], &mut self.opened[c])?;
+            sizes[c] = peer::open(NUMBERS[c], sent, &self.packets[c], &mut self.opened[c])?;
         }
         let (a, b) = (&self.opened[0][..sizes[0]], &self.opened[1][..sizes[1]]);
         let bytes = peer::join(sent, a, b, &mut self.joined)?;
@@ -447,21 +449,21 @@ fn compare(ours: &mut Master, peers: &mut Master, ran: fn(&mut Master), peer: fn
 fn main() {
     let (mut ours, mut peers) = (Master::new(), Master::new());
     let first = ours.image;
-    for &sealed in &[false, true] {
+    for &numbered in &[false, true] {
         (ours.image, peers.image) = (first, first);
-        if sealed {
-            assert_eq!(ours.ours_sealed(), [0; 8]);
-            assert_eq!(peers.peer_sealed(), Some(()));
+        if numbered {
+            assert_eq!(ours.ours_numbered(), [0; 8]);
+            assert_eq!(peers.peer_numbered(), Some(()));
             assert!(ours.opened[0][..ours.a.len()] == ours.a && ours.opened[1][..ours.b.len()] == ours.b);
-            assert!(ours.opened == peers.opened && ours.sealed == peers.sealed);
+            assert!(ours.opened == peers.opened && ours.numbered == peers.numbered);
         } else {
             assert_eq!(ours.ours(), [0; 4]);
             assert_eq!(peers.peer(), Some(()));
         }
         assert!(ours.image != first && ours.image == peers.image && ours.joined == peers.joined);
         assert!(ours.sent == peers.sent && ours.items == peers.items);
-        let (here, there) = if sealed {
-            compare(&mut ours, &mut peers, |m| keep(m.ours_sealed()), |m| keep(m.peer_sealed()))
+        let (here, there) = if numbered {
+            compare(&mut ours, &mut peers, |m| keep(m.ours_numbered()), |m| keep(m.peer_numbered()))
         } else {
             compare(&mut ours, &mut peers, |m| keep(m.ours()), |m| keep(m.peer()))
         };

@@ -24,9 +24,12 @@
 enum { OUTPUTS, INPUTS, ITEMS };
 enum { SLAVES = 5, CYCLES = 1000 };
 
-/* How late a packet may come: no seal is given again before. And how long a copy is awaited. */
-enum { LATE_MS = 1000 };
+/* How long a copy is awaited. */
 static uint64_t wait_ms = 200;
+
+/* The number of the next trip's copy from port A, an even one; that from port B has the next one. They count
+ * up, and none is used twice. */
+static uint64_t next_number;
 
 /* The process image, a byte out and a byte in for each slave, and the items that exchange them. */
 static uint8_t image[2 * SLAVES];
@@ -37,7 +40,7 @@ static uint8_t status[2];
 static struct rmp_item probe;
 
 /* The frame of a trip, what of it is out, a packet that came, and what both copies are joined to. */
-static uint8_t sent[RMP_FRAME_SIZE], sealed[RMP_FRAME_SIZE], joined[RMP_FRAME_SIZE];
+static uint8_t sent[RMP_FRAME_SIZE], numbered[RMP_FRAME_SIZE], joined[RMP_FRAME_SIZE];
 static uint8_t packet[RMP_FRAME_SIZE + 1];
 
 /* The copies of the trip that came, by the port at which they came, opened. */
@@ -84,39 +87,41 @@ static int connect_to(int port) {
     return port_socket;
 }
 
-/* The seal of the next trip's copy from port A; that from port B has the next one. They are given in turn,
- * and none again while a packet under it may come. */
-static uint32_t next_seal(void) {
-    static uint64_t free_at[RMP_TRIPS];
-    static uint32_t trip;
-    uint32_t given = trip;
-    while (now() < free_at[given])
-        pause_for(1);
-    free_at[given] = now() + LATE_MS;
-    trip = (trip + 1) % RMP_TRIPS;
-    return 2 * given;
+/* The first number of a run, for answers to another run may still come: drawn by chance, or where that cannot
+ * be read the time. */
+static uint64_t first_number(void) {
+    uint64_t drawn = 0;
+    FILE *chance = fopen("/dev/urandom", "rb");
+    if (!chance || fread(&drawn, sizeof drawn, 1, chance) != 1) {
+        struct timespec time;
+        clock_gettime(CLOCK_REALTIME, &time);
+        drawn = (uint64_t)time.tv_sec * 1000000000 + (uint64_t)time.tv_nsec;
+    }
+    if (chance)
+        fclose(chance);
+    return 2 * drawn;
 }
 
 /* Opens what came at a port, where it is a copy of this trip that did not come yet. */
-static void take(struct copy *copy, size_t packet_size, uint32_t seal, size_t sent_size, int has_come[2]) {
+static void take(struct copy *copy, size_t packet_size, uint64_t number, size_t sent_size, int has_come[2]) {
     for (int c = 0; c < 2 && copy->size == 0; c++)
         if (!has_come[c]) {
-            copy->size = rmp_open(RMP_UDP, seal + (uint32_t)c, sent, sent_size, packet, packet_size,
+            copy->size = rmp_open(RMP_UDP, number + (uint64_t)c, sent, sent_size, packet, packet_size,
                                   copy->bytes, sizeof copy->bytes)
                              .bytes;
             has_come[c] = copy->size > 0;
         }
 }
 
-/* The frame goes out at both ports, each copy under its seal, and comes back. What is late is passed over. */
+/* The frame goes out at both ports, each copy with its number, and comes back. The rest is passed over. */
 static void travel(const int ports[2], size_t size) {
-    uint32_t seal = next_seal();
-    uint64_t begun = now();
+    uint64_t number = next_number, begun = now();
     int has_come[2] = {0, 0};
     for (int p = 0; p < 2; p++) {
-        struct rmp_written out = rmp_seal(seal + (uint32_t)p, sent, size, sealed, sizeof sealed);
-        send(ports[p], sealed, out.bytes, 0); /* where it fails, the copy is lost */
+        struct rmp_written out = rmp_seal(number + (uint64_t)p, sent, size, numbered, sizeof numbered);
+        send(ports[p], numbered, out.bytes, 0); /* where it fails, the copy is lost */
     }
+    next_number = number + 2;
     for (int p = 0; p < 2; p++)
         for (came[p].size = 0; came[p].size == 0;) {
             struct pollfd ready = {ports[p], POLLIN, 0};
@@ -124,7 +129,7 @@ static void travel(const int ports[2], size_t size) {
             if (poll(&ready, 1, gone < wait_ms ? (int)(wait_ms - gone) : 0) <= 0)
                 break; /* the copy is lost */
             ssize_t got = recv(ports[p], packet, sizeof packet, 0);
-            take(&came[p], got > 0 ? (size_t)got : 0, seal, size, has_come);
+            take(&came[p], got > 0 ? (size_t)got : 0, number, size, has_come);
         }
 }
 
@@ -203,6 +208,7 @@ int main(int count, char **words) {
     probe = item(RMP_BRD, 0x0130, 0, sizeof status);
     if (prints_each)
         wait_ms = (uint64_t)atoi(words[2]);
+    next_number = first_number();
     await_line(ports, told, sizeof told);
     for (int k = 0; k < CYCLES; k++) {
         if (k % 200 == 0 && k > 0) {

@@ -5,12 +5,12 @@
  * call that says where the cable is broken, three that are a cycle by turns, one that makes the frames of a
  * start-up, and five that check the slaves' records and the items before the first cycle. Between the calls
  * of a cycle the master does what it likes: it sends each frame both ways round the ring, works, and
- * receives. With one array for the joined bytes of each frame k, and two seals for each trip:
+ * receives. With one array for the joined bytes of each frame k, and two numbers for each trip:
  *
  *     for (k = 0, first = 0; first < n; first += made.items, k++) {
  *         made = rmp_frame(items, n, image, sizeof image, first, sent, sizeof sent);
  *         ... where made.code is not RMP_GOOD, give up: made.items is 0 ...
- *         ... send what rmp_seal makes of sent[0 .. made.bytes], from each port under a seal of its own ...
+ *         ... send what rmp_seal makes of sent[0 .. made.bytes], from each port with a number of its own ...
  *         ... receive until rmp_open has opened a packet at each port, a and b, or time is up ...
  *         came = rmp_join(RMP_UDP, sent, made.bytes, a, a_size, b, b_size, joined[k], sizeof joined[k]);
  *         verdict = rmp_judge(items, n, first, joined[k], came.bytes);
@@ -38,10 +38,13 @@ extern "C" {
 #endif
 
 /* The version of the library and of this header, which is that of the program `ecat` too. */
-#define RMP_VERSION "1.0.0"
+#define RMP_VERSION "2.0.0"
 
-/* The most bytes of a frame, without the Ethernet or UDP header before it. */
+/* The most bytes of a frame, its number included, without the Ethernet or UDP header before it. */
 #define RMP_FRAME_SIZE 1500
+
+/* How many bytes of a frame its number takes. */
+#define RMP_NUMBER_LENGTH 20
 
 /* The most items of a master. */
 #define RMP_MAX_ITEMS 256
@@ -54,10 +57,6 @@ extern "C" {
 
 /* The most slaves of a line: what is promised of lines ends there. */
 #define RMP_MAX_SLAVES 256
-
-/* How many seals there are, and how many trips have two of their own: trip n has 2 * n and 2 * n + 1. */
-#define RMP_SEALS 16384
-#define RMP_TRIPS 8192
 
 /* How a call ended: the member `code` of each answer. */
 enum rmp_code {
@@ -94,11 +93,11 @@ enum rmp_code {
     RMP_OUTSIDE_READ = 27,  /* it reads neither registers nor one buffered area that the master reads */
     RMP_OUTSIDE_WRITE = 28, /* it does not write one buffered area that the master writes */
     RMP_NOT_ASKED = 29,     /* of rmp_covered: no item asks for a logical bit that is mapped */
-    RMP_BAD_SEAL = 30,      /* there is no such seal: the number is RMP_SEALS or more */
-    /* of rmp_open: the packet is a frame, but no copy of the sealed one; it may be late. Datagram `at` is the
-       first that differs: */
-    RMP_OTHER_FRAME = 31,   /* by command, index, length or address, or since one of the frames ends there */
-    RMP_OTHER_COUNTER = 32, /* by its counter, which is not 0 to 1,023 past that of the seal */
+    RMP_FULL = 30,          /* the frame has no place for a number: fewer than RMP_NUMBER_LENGTH free bytes */
+    /* of rmp_open: the packet is a frame, but no copy of the numbered one: */
+    RMP_OTHER_FRAME = 31,   /* it has the number; datagram `at` is the first that differs by command, index,
+                               length or address, or since one of the frames ends there */
+    RMP_OTHER_NUMBER = 32,  /* it has another number, or none: it is late, or not of this master */
     RMP_NOT_BROADCAST = 33, /* of rmp_where: the frame does not begin with a BRD that goes out */
     RMP_BAD_COMMAND = 34,   /* of rmp_single: there is no such command */
     /* of rmp_shown, `at` and `sync_manager` being those of an area of outputs that FMMUs map: */
@@ -154,7 +153,7 @@ struct rmp_item {
     uint16_t expected; /* by how much its working counter has to move; of LRW a slave adds 1 for reading and 2
                           for writing, else 1 (rmp_expected). AN ITEM THAT IS EXPECTED TO MOVE BY 0 IS GOOD
                           WHERE NOTHING CAME BACK: so is one whose `expected` was forgotten */
-    uint16_t sent;     /* the working counter with which it goes out. Under seals leave it 0. Without them:
+    uint16_t sent;     /* the working counter with which it goes out. With numbers leave it 0. Without them:
                           (uint16_t)(2048 * k) in cycle k, so that a copy up to fifteen cycles late shows */
     uint16_t came;     /* written by rmp_judge: the working counter with which it came back; it has moved by
                           (uint16_t)(came - sent) */
@@ -323,45 +322,50 @@ struct rmp_framed rmp_frame(const struct rmp_item *items, size_t n, const uint8_
                             size_t first, uint8_t *room, size_t room_size);
 
 /*
- * Puts the frame `sent` under a seal at the front of `room`: what goes out in its place. A seal is a number
- * below RMP_SEALS: each datagram gets its low 8 bits as index, and as working counter 1,024 times its high 6
- * bits, whatever it had; all else is as in `sent`. The slaves serve a sealed frame as they serve the frame.
+ * Puts the frame `sent` with a number behind it at the front of `room`: what goes out in its place. Behind
+ * its last datagram stands one more of RMP_NUMBER_LENGTH bytes: a NOP, which no slave serves, with eight data
+ * bytes that are the number, the low one first. All else is as in `sent`, but for the length in the header
+ * and the bit of the datagram before it that says that another follows.
  *
- * Give each copy that goes out a seal of its own: trip n those of 2 * (n % RMP_TRIPS) and one more, from port
- * A and from port B. Give no seal again before a packet under it can come no more: by the time that a packet
- * may be late, or since both copies of its trip came. A master that starts anew waits that time first. Frames
- * of every sort bear seals: those of cycles, of the start-up, and those for rmp_where.
+ * Give each copy that goes out a number of its own, and use none twice: trip t has 2 * t for the copy from
+ * port A and 2 * t + 1 for that from port B, and the next trip is t + 1. Let each run begin at another trip,
+ * since answers to the last one may still come: at 63 bits that are drawn by chance, or at the nanoseconds
+ * since 1970. Frames of every sort bear numbers: those of cycles, of the start-up, and those for rmp_where.
  *
- * Proved: the bytes spell exactly that frame (`sealed_by` of ec_seal). Else the first of these that is so:
- * RMP_BAD_SEAL; RMP_NOT_SENT: `sent` is no frame, byte `at` being the first at fault; RMP_NO_ROOM. Any end
- * but RMP_GOOD leaves `room` as it is.
+ * A frame has a place for a number as long as its datagrams have no more than 1,478 bytes. rmp_frame fills
+ * frames with up to 1,498: docs/LIBRARY.md says how to keep them smaller. An array of RMP_FRAME_SIZE bytes is
+ * room for each frame with its number.
+ *
+ * Proved: the bytes spell exactly that frame (`numbered` of ec_number). Else the first of these that is so:
+ * RMP_NOT_SENT: `sent` is no frame, byte `at` being the first at fault; RMP_FULL; RMP_NO_ROOM. Any end but
+ * RMP_GOOD leaves `room` as it is.
  */
-struct rmp_written rmp_seal(uint32_t seal, const uint8_t *sent, size_t sent_size, uint8_t *room,
+struct rmp_written rmp_seal(uint64_t number, const uint8_t *sent, size_t sent_size, uint8_t *room,
                            size_t room_size);
 
 /*
- * Opens a packet that came back: says whether it is a copy of the frame `sent` that went out under this
- * seal, and puts what it is without the seal at the front of `room`: each datagram with the index that was
- * sent, and with the counter that was sent plus what it has gained, modulo 65,536. What is opened goes into
+ * Opens a packet that came back: says whether it is a copy of the frame `sent` that went out with this
+ * number behind it, and puts what it is without the number at the front of `room`. What is opened goes into
  * the calls below, each copy once:
  *
  *     for (copy = 0; copy < 2; copy++)
  *         if (!came[copy]) {
- *             open = rmp_open(RMP_UDP, seal + copy, sent, sent_size, packet, packet_size, a, sizeof a);
+ *             open = rmp_open(RMP_UDP, 2 * t + copy, sent, sent_size, packet, packet_size, a, sizeof a);
  *             ... where open.code is RMP_GOOD: came[copy] = 1, and a_size = open.bytes ...
  *         }
  *
- * In an unbroken ring copy A comes at port B, and copy B at port A. A packet that neither seal opens is late,
- * or not of this master: drop it, and receive the next one.
+ * In an unbroken ring copy A comes at port B, and copy B at port A. A packet that opens under neither number
+ * is late, or not of this master: drop it, and receive the next one.
  *
- * Proved: RMP_GOOD exactly where the packet spells a frame that came of the sealed one (`CameOf`, `opened_by`
- * of ec_seal): as many datagrams, each with its command, index, length and address, but for the ADP where
- * slaves count it up, and with a counter that has gained 1,023 at most. Over at most 256 slaves each copy is
- * so of its own seal, and of no other. Else the first of these that is so: RMP_BAD_FORM, RMP_BAD_SEAL,
- * RMP_NOT_SENT, RMP_FAULT_.. of the packet (RMP_FAULT_SHORT of length 0), RMP_OTHER_FRAME, RMP_OTHER_COUNTER,
- * RMP_NO_ROOM. Any end but RMP_GOOD leaves `room` as it is.
+ * Proved: RMP_GOOD exactly where the packet spells a frame that came of the numbered one (`CameUnder` of
+ * ec_number): as many datagrams, each with its command, index, length and address, but for the ADP where
+ * slaves count it up, and the number's eight bytes as the data of the last one. What is put is that frame
+ * without its last datagram (`opened`), and no stranger to rmp_join. No packet opens under two numbers. Else
+ * the first of these that is so: RMP_BAD_FORM, RMP_NOT_SENT, RMP_FULL, RMP_FAULT_.. of the packet
+ * (RMP_FAULT_SHORT of length 0), RMP_OTHER_NUMBER, RMP_OTHER_FRAME, RMP_NO_ROOM. Any end but RMP_GOOD leaves
+ * `room` as it is.
  */
-struct rmp_written rmp_open(uint32_t form, uint32_t seal, const uint8_t *sent, size_t sent_size,
+struct rmp_written rmp_open(uint32_t form, uint64_t number, const uint8_t *sent, size_t sent_size,
                            const uint8_t *packet, size_t packet_size, uint8_t *room, size_t room_size);
 
 /*
@@ -406,8 +410,8 @@ struct rmp_answer rmp_store(const struct rmp_item *items, size_t n, size_t first
  * Puts the frame of one datagram at the front of `room`, of any command of the standard: what a start-up
  * asks, as APWR (2) of the station address at 0x0010, FPWR (5) of AL control at 0x0120, FPRD (4) and BRD (7)
  * of AL status at 0x0130. `address` is the logical one, or ADP + 65,536 * ADO; APWR reaches the n-th slave,
- * counted from 0, with ADP (uint16_t)-n. The index and the working counter are 0: under a seal they are the
- * seal's.
+ * counted from 0, with ADP (uint16_t)-n. The index and the working counter are 0. With a number behind it the
+ * frame has a place for RMP_MAX_DATA - RMP_NUMBER_LENGTH data bytes.
  *
  * Proved: the bytes spell exactly that frame. Else the first of these that is so: RMP_BAD_COMMAND: the code
  * is above 14; RMP_BAD_LENGTH: no data, or more than RMP_MAX_DATA bytes; RMP_NO_ROOM. Any end but RMP_GOOD
@@ -433,7 +437,7 @@ struct rmp_reading rmp_read(uint32_t form, const uint8_t *bytes, size_t size, st
  *     while (cycle.state == RMP_UNDER_WAY) {
  *         made = rmp_cycle_next(&cycle, items, n, image, size, sent, sizeof sent);
  *         ... where made.code is not RMP_GOOD, give up ...
- *         ... send sent[0 .. made.bytes] under two seals, and open what comes back of it: a and b ...
+ *         ... send sent[0 .. made.bytes] with two numbers, and open what comes back of it: a and b ...
  *         turn = rmp_cycle_came(&cycle, items, n, sent, made.bytes, a, a_size, b, b_size, waiting, size,
  *                               image, size);
  *         ... of a code above RMP_OVER give up: what is wrong stays; but of RMP_STRANGER_A (_B), which no
@@ -586,9 +590,9 @@ static inline const char *rmp_code_text(uint32_t code) {
         "an item reads where a cycle may not",
         "an item writes where a cycle may not",
         "no item asks for a mapped bit",
-        "no such seal",
-        "the packet is no copy of the sealed frame",
-        "the packet is no copy under this seal: its counter is another",
+        "the frame has no place for a number",
+        "the packet has the number, and is no copy of the frame",
+        "the packet has another number, or none",
         "the frame does not begin with a broadcast read",
         "no such command",
         "an item writes an area of outputs without its last byte",

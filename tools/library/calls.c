@@ -127,65 +127,95 @@ static void copies(void) {
     CHECK(rmp_join(RMP_UDP, NULL, 0, NULL, 0, NULL, 0, NULL, 0).code == RMP_NOT_SENT);
 }
 
-/* The frame under seal 0x0123, which is index 0x23 and counter 0x0400; and FROM_A under it. */
-static const uint8_t SEALED[] = {
-    28, 0x10,
-    0x0C, 0x23, 0x00, 0x00, 0x01, 0x00, 2, 0x80, 0, 0, 0xAA, 0x55, 0x00, 0x04,
-    0x07, 0x23, 0x00, 0x00, 0x30, 0x01, 2, 0x00, 0, 0, 0x00, 0x00, 0x00, 0x04,
+/* The frame with the number 0x0123456789ABCDEE behind it; and FROM_A and FROM_B with it. */
+#define NUMBER 0x0123456789ABCDEEu
+static const uint8_t NUMBERED[] = {
+    48, 0x10, /* 48 bytes of datagrams; the BRD says now that more follow */
+    0x0C, 0, 0x00, 0x00, 0x01, 0x00, 2, 0x80, 0, 0, 0xAA, 0x55, 0x00, 0x08,
+    0x07, 1, 0x00, 0x00, 0x30, 0x01, 2, 0x80, 0, 0, 0x00, 0x00, 0x00, 0x08,
+    0x00, 0, 0x00, 0x00, 0x00, 0x00, 8, 0x00, 0, 0, 0xEE, 0xCD, 0xAB, 0x89, 0x67, 0x45, 0x23, 0x01, 0, 0,
 };
-static const uint8_t SEALED_FROM_A[] = {
-    28, 0x10,
-    0x0C, 0x23, 0x00, 0x00, 0x01, 0x00, 2, 0x80, 0, 0, 0x12, 0x55, 0x03, 0x04,
-    0x07, 0x23, 0x01, 0x00, 0x30, 0x01, 2, 0x00, 0, 0, 0x08, 0x00, 0x01, 0x04,
+static const uint8_t NUMBERED_FROM_A[] = {
+    48, 0x10,
+    0x0C, 0, 0x00, 0x00, 0x01, 0x00, 2, 0x80, 0, 0, 0x12, 0x55, 0x03, 0x08,
+    0x07, 1, 0x01, 0x00, 0x30, 0x01, 2, 0x80, 0, 0, 0x08, 0x00, 0x01, 0x08,
+    0x00, 0, 0x00, 0x00, 0x00, 0x00, 8, 0x00, 0, 0, 0xEE, 0xCD, 0xAB, 0x89, 0x67, 0x45, 0x23, 0x01, 0, 0,
+};
+static const uint8_t NUMBERED_FROM_B[] = {
+    48, 0x10, /* where it turned round: the circulating bits are set, that of the number too */
+    0x0C, 0, 0x00, 0x00, 0x01, 0x00, 2, 0xC0, 0, 0, 0xAA, 0x34, 0x03, 0x08,
+    0x07, 1, 0x01, 0x00, 0x30, 0x01, 2, 0xC0, 0, 0, 0x08, 0x00, 0x01, 0x08,
+    0x00, 0, 0x00, 0x00, 0x00, 0x00, 8, 0x40, 0, 0, 0xEE, 0xCD, 0xAB, 0x89, 0x67, 0x45, 0x23, 0x01, 0, 0,
 };
 
-/* A packet that is not opened: nothing is written. */
-static void unopened(uint32_t seal, const uint8_t *packet, size_t size, uint32_t code, size_t at) {
-    struct rmp_written opened;
-    joined[0] = 0x5A;
-    opened = rmp_open(RMP_UDP, seal, FRAME, sizeof FRAME, packet, size, joined, sizeof joined);
-    CHECK(opened.code == code && opened.at == at && opened.bytes == 0 && joined[0] == 0x5A);
+/* A packet that is opened: it is these bytes without its number. */
+static void opened(const uint8_t *packet, size_t size, const uint8_t wanted[sizeof FRAME]) {
+    struct rmp_written out;
+    memset(joined, 0x5A, sizeof joined);
+    out = rmp_open(RMP_UDP, NUMBER, FRAME, sizeof FRAME, packet, size, joined, sizeof FRAME);
+    CHECK(out.code == RMP_GOOD && out.bytes == sizeof FRAME && out.at == 0);
+    CHECK(memcmp(joined, wanted, sizeof FRAME) == 0 && joined[sizeof FRAME] == 0x5A);
 }
 
-static void sealing(void) {
-    static const uint8_t late_probe[] = {14, 0x10, 0x07, 0x23, 1, 0, 0x30, 0x01, 2, 0, 0, 0, 8, 0, 1, 4};
-    uint8_t other[sizeof FRAME], padded[46] = {0};
+/* A packet that is not opened: nothing is written. */
+static void unopened(uint64_t number, const uint8_t *packet, size_t size, uint32_t code, size_t at) {
+    struct rmp_written out;
+    joined[0] = 0x5A;
+    out = rmp_open(RMP_UDP, number, FRAME, sizeof FRAME, packet, size, joined, sizeof joined);
+    CHECK(out.code == code && out.at == at && out.bytes == 0 && joined[0] == 0x5A);
+}
+
+static void numbering(void) {
+    static const uint8_t probe[] = {34, 0x10, /* another frame with the number */
+                                    7,  1,    1, 0, 0x30, 0x01, 2, 0x80, 0, 0, 8,    0,    1,    0,
+                                    0,  0,    0, 0, 0,    0,    8, 0,    0, 0, 0xEE, 0xCD, 0xAB, 0x89,
+                                    0x67, 0x45, 0x23, 0x01, 0, 0};
+    static const uint8_t data[RMP_MAX_DATA];
+    uint8_t other[sizeof NUMBERED], padded[60] = {0};
     struct rmp_written out;
     memset(sent, 0x5A, sizeof sent);
-    out = rmp_seal(0x0123, FRAME, sizeof FRAME, sent, sizeof sent);
-    CHECK(out.code == RMP_GOOD && out.bytes == sizeof FRAME && out.at == 0);
-    CHECK(memcmp(sent, SEALED, sizeof SEALED) == 0 && sent[sizeof SEALED] == 0x5A);
-    out = rmp_seal(RMP_SEALS - 1, FRAME, sizeof FRAME, sent, sizeof FRAME);
-    CHECK(out.code == RMP_GOOD && sent[3] == 0xFF && sent[14] == 0x00 && sent[15] == 0xFC);
+    out = rmp_seal(NUMBER, FRAME, sizeof FRAME, sent, sizeof sent);
+    CHECK(out.code == RMP_GOOD && out.bytes == sizeof FRAME + RMP_NUMBER_LENGTH && out.at == 0);
+    CHECK(memcmp(sent, NUMBERED, sizeof NUMBERED) == 0 && sent[sizeof NUMBERED] == 0x5A);
+    out = rmp_seal(UINT64_MAX, FRAME, sizeof FRAME, sent, sizeof NUMBERED);
+    CHECK(out.code == RMP_GOOD && sent[39] == 0 && sent[40] == 0xFF && sent[47] == 0xFF && sent[48] == 0);
     sent[0] = 0x5A;
-    CHECK(rmp_seal(RMP_SEALS, FRAME, sizeof FRAME, sent, sizeof sent).code == RMP_BAD_SEAL);
-    CHECK(rmp_seal(0x10000123, FRAME, sizeof FRAME, sent, sizeof sent).code == RMP_BAD_SEAL);
-    CHECK(rmp_seal(0, FRAME, sizeof FRAME, sent, sizeof FRAME - 1).code == RMP_NO_ROOM);
+    CHECK(rmp_seal(0, FRAME, sizeof FRAME, sent, sizeof NUMBERED - 1).code == RMP_NO_ROOM);
     out = rmp_seal(0, FRAME, sizeof FRAME - 1, sent, sizeof sent);
     CHECK(out.code == RMP_NOT_SENT && out.at == sizeof FRAME - 1 && out.bytes == 0 && sent[0] == 0x5A);
     CHECK(rmp_seal(0, NULL, 0, NULL, 0).code == RMP_NOT_SENT);
-    memset(joined, 0x5A, sizeof joined);
-    out = rmp_open(RMP_UDP, 0x0123, FRAME, sizeof FRAME, SEALED_FROM_A, sizeof SEALED_FROM_A, joined,
-                   sizeof FRAME);
-    CHECK(out.code == RMP_GOOD && out.bytes == sizeof FROM_A && out.at == 0);
-    CHECK(memcmp(joined, FROM_A, sizeof FROM_A) == 0 && joined[sizeof FROM_A] == 0x5A);
-    memcpy(padded, SEALED_FROM_A, sizeof SEALED_FROM_A);
-    out = rmp_open(RMP_ETHERNET, 0x0123, FRAME, sizeof FRAME, padded, sizeof padded, joined, sizeof joined);
+    out = rmp_single(2, 0, data, RMP_MAX_DATA - RMP_NUMBER_LENGTH, sent, sizeof sent);
+    out = rmp_seal(NUMBER, sent, out.bytes, joined, sizeof joined);
+    CHECK(out.code == RMP_GOOD && out.bytes == RMP_FRAME_SIZE && joined[RMP_FRAME_SIZE - 3] == 0x01);
+    out = rmp_single(2, 0, data, RMP_MAX_DATA - RMP_NUMBER_LENGTH + 1, sent, sizeof sent);
+    CHECK(rmp_open(RMP_UDP, 0, sent, out.bytes, NULL, 0, NULL, 0).code == RMP_FULL);
+    out = rmp_seal(NUMBER, sent, out.bytes, joined, sizeof joined);
+    CHECK(out.code == RMP_FULL && out.bytes == 0 && out.at == 0);
+    opened(NUMBERED, sizeof NUMBERED, FRAME);
+    opened(NUMBERED_FROM_A, sizeof NUMBERED, FROM_A);
+    opened(NUMBERED_FROM_B, sizeof NUMBERED, FROM_B);
+    memcpy(other, NUMBERED_FROM_A, sizeof other);
+    other[38] = 0x04; /* events, and a counter that somebody raised */
+    other[48] = 1;
+    opened(other, sizeof other, FROM_A);
+    memcpy(padded, NUMBERED_FROM_A, sizeof NUMBERED_FROM_A);
+    out = rmp_open(RMP_ETHERNET, NUMBER, FRAME, sizeof FRAME, padded, sizeof padded, joined, sizeof joined);
     CHECK(out.code == RMP_GOOD && out.bytes == sizeof FROM_A);
-    unopened(0x0123, padded, sizeof padded, RMP_FAULT_TRAILING, sizeof FROM_A);
-    unopened(0x0122, SEALED_FROM_A, sizeof SEALED_FROM_A, RMP_OTHER_FRAME, 0); /* the other copy's seal */
-    unopened(0x0023, SEALED_FROM_A, sizeof SEALED_FROM_A, RMP_OTHER_COUNTER, 0); /* of a trip before */
-    unopened(0x0223, SEALED_FROM_A, sizeof SEALED_FROM_A, RMP_OTHER_COUNTER, 0);
-    unopened(0x0123, late_probe, sizeof late_probe, RMP_OTHER_FRAME, 0);
-    unopened(0x0123, NULL, 0, RMP_FAULT_SHORT, 0);
-    unopened(RMP_SEALS, SEALED_FROM_A, sizeof SEALED_FROM_A, RMP_BAD_SEAL, 0);
-    memcpy(other, SEALED_FROM_A, sizeof other);
-    other[29] = 0x08; /* the second datagram has gained 1,025 */
-    unopened(0x0123, other, sizeof other, RMP_OTHER_COUNTER, 1);
-    out = rmp_open(RMP_UDP, 0x0123, FRAME, 9, SEALED_FROM_A, sizeof SEALED_FROM_A, joined, sizeof joined);
+    unopened(NUMBER, padded, sizeof padded, RMP_FAULT_TRAILING, sizeof NUMBERED);
+    for (int byte = 0; byte < 8; byte++) /* copy B's, and those of other trips and runs */
+        unopened(NUMBER ^ (uint64_t)1 << 8 * byte, NUMBERED_FROM_A, sizeof NUMBERED, RMP_OTHER_NUMBER, 0);
+    unopened(NUMBER, FROM_A, sizeof FROM_A, RMP_OTHER_NUMBER, 0); /* it has none */
+    unopened(NUMBER, probe, sizeof probe, RMP_OTHER_FRAME, 0);
+    unopened(NUMBER, NULL, 0, RMP_FAULT_SHORT, 0);
+    other[17] = 7; /* the second datagram has another index */
+    unopened(NUMBER, other, sizeof other, RMP_OTHER_FRAME, 1);
+    other[17] = 1;
+    other[30] = RMP_LRD; /* the number is in no NOP */
+    unopened(NUMBER, other, sizeof other, RMP_OTHER_FRAME, 2);
+    out = rmp_open(RMP_UDP, NUMBER, FRAME, 9, NUMBERED_FROM_A, sizeof NUMBERED, joined, sizeof joined);
     CHECK(out.code == RMP_NOT_SENT && out.at == 9);
     CHECK(rmp_open(2, 0, FRAME, sizeof FRAME, NULL, 0, NULL, 0).code == RMP_BAD_FORM);
-    CHECK(rmp_open(RMP_UDP, 0x0123, FRAME, sizeof FRAME, SEALED_FROM_A, sizeof SEALED_FROM_A, joined,
+    CHECK(rmp_open(RMP_UDP, NUMBER, FRAME, sizeof FRAME, NUMBERED_FROM_A, sizeof NUMBERED, joined,
                    sizeof FRAME - 1)
               .code == RMP_NO_ROOM);
 }
@@ -384,6 +414,8 @@ static void texts(void) {
     CHECK(strcmp(rmp_code_text(RMP_BAD_PLACE), "the data of an item do not lie in the image") == 0);
     CHECK(strcmp(rmp_code_text(RMP_FAULT_SHORT), "the bytes end before the frame does") == 0);
     CHECK(strcmp(rmp_code_text(RMP_NOT_UNDER_WAY), "the cycle is done or ended") == 0);
+    CHECK(strcmp(rmp_code_text(RMP_FULL), "the frame has no place for a number") == 0);
+    CHECK(strcmp(rmp_code_text(RMP_OTHER_NUMBER), "the packet has another number, or none") == 0);
     CHECK(strcmp(rmp_code_text(RMP_BAD_COMMAND), "no such command") == 0);
     CHECK(strcmp(rmp_code_text(RMP_NEVER_COMPLETED),
                  "no item writes the last byte of an area of outputs") == 0);
@@ -635,9 +667,9 @@ static void call_join(void) {
     came = rmp_join(RMP_UDP, FRAME, sizeof FRAME, FROM_A, sizeof FROM_A, FROM_B, sizeof FROM_B, joined,
                     sizeof joined);
 }
-static void call_seal(void) { marked = rmp_seal(0x0123, FRAME, sizeof FRAME, sent, sizeof sent); }
+static void call_seal(void) { marked = rmp_seal(NUMBER, FRAME, sizeof FRAME, sent, sizeof sent); }
 static void call_open(void) {
-    marked = rmp_open(RMP_UDP, 0x0123, FRAME, sizeof FRAME, SEALED_FROM_A, sizeof SEALED_FROM_A, joined,
+    marked = rmp_open(RMP_UDP, NUMBER, FRAME, sizeof FRAME, NUMBERED_FROM_A, sizeof NUMBERED_FROM_A, joined,
                       sizeof joined);
 }
 static void call_single(void) { marked = rmp_single(2, 0, FRAME, sizeof FRAME, sent, sizeof sent); }
@@ -697,7 +729,7 @@ int main(void) {
     cycle();
     overlapping();
     copies();
-    sealing();
+    numbering();
     forms();
     refusals();
     cut();

@@ -1,5 +1,5 @@
 /* Damaged packets, many of them: each array that the library sees ends where no memory is mapped, and what
- * rmp_join, rmp_seal and rmp_open answer is compared with a reader, a join and seals that are written here
+ * rmp_join, rmp_seal and rmp_open answer is compared with a reader, a join and numbers that are written here
  * anew, byte by byte.
  *
  *     damaged [PAIRS [SEED]]
@@ -243,7 +243,7 @@ static size_t choose_copy(uint8_t *copy, const uint8_t *sent, size_t size) {
     for (int k = 0; k < count; k++) {
         uint8_t *d = copy + at[k];
         size_t length = word(d + 6) & 0x7FF;
-        for (size_t i = 0; i < length && chance(4); i++)
+        for (size_t i = 0; i < length && d[0] != 0 && chance(4); i++) /* no slave serves a NOP */
             d[10 + i] = chance(256);
         put_word(d + 10 + length, word(d + 10 + length) + chance(5));
         if (counts_adp(d[0]))
@@ -271,76 +271,76 @@ static size_t choose_copy(uint8_t *copy, const uint8_t *sent, size_t size) {
     return size;
 }
 
-/* The bytes of a frame under a seal. */
-static void put_seal(unsigned seal, const uint8_t *sent, size_t size, uint8_t *sealed) {
+/* The bytes of a frame with a number behind it. */
+static void put_number(uint64_t number, const uint8_t *sent, size_t size, uint8_t *numbered) {
     size_t at[MOST + 1];
     int count = places(sent, size, RMP_UDP, at);
-    memcpy(sealed, sent, size);
-    for (int k = 0; k < count; k++) {
-        sealed[at[k] + 1] = seal & 0xFF;
-        put_word(sealed + at[k + 1] - 2, seal >> 8 << 10);
-    }
+    memcpy(numbered, sent, size);
+    memset(numbered + size, 0, RMP_NUMBER_LENGTH); /* a NOP, */
+    numbered[size + 6] = 8;                        /* of eight bytes */
+    for (int k = 0; k < 8; k++)
+        numbered[size + 10 + k] = number >> 8 * k & 0xFF;
+    numbered[at[count - 1] + 7] |= 0x80;
+    put_word(numbered, word(sent) + RMP_NUMBER_LENGTH);
 }
 
-/* What a packet is under a seal, and its bytes without it. */
-static struct rmp_written opened(uint32_t form, const uint8_t *sent, const uint8_t *sealed, size_t sent_size,
+/* What a packet is by a frame with its number, and its bytes without it. */
+static struct rmp_written opened(uint32_t form, const uint8_t *numbered, size_t numbered_size,
                                 const uint8_t *packet, size_t size, uint8_t *room) {
     struct rmp_written answer = {0, 0, RMP_GOOD};
     size_t at[MOST + 1], other[MOST + 1];
-    int count = places(sealed, sent_size, form, at), found = places(packet, size, form, other), k;
+    int count = places(numbered, numbered_size, form, at), found = places(packet, size, form, other), k;
+    const uint8_t *last = numbered + at[count - 1], *came;
     if (found == 0) { /* which fault it is, is_read asks */
         answer.code = RMP_FAULT_SHORT;
         return answer;
     }
+    came = packet + other[found - 1];
+    answer.code = RMP_OTHER_NUMBER;
+    if ((word(came + 6) & 0x7FF) != 8 || memcmp(came + 10, last + 10, 8) != 0)
+        return answer;
     for (k = 0; k < count && k < found; k++)
-        if (!belongs(sealed + at[k], packet + other[k]))
+        if (!belongs(numbered + at[k], packet + other[k]))
             break;
     answer.at = k;
     answer.code = RMP_OTHER_FRAME;
     if (k < count || k < found)
         return answer;
-    answer.code = RMP_OTHER_COUNTER;
-    memcpy(room, packet, at[count]);
-    for (k = 0; k < count; k++) {
-        unsigned gained = word(packet + at[k + 1] - 2) - word(sealed + at[k + 1] - 2);
-        answer.at = k;
-        if ((gained & 0xFFFF) > 1023)
-            return answer;
-        room[at[k] + 1] = sent[at[k] + 1];
-        put_word(room + at[k + 1] - 2, word(sent + at[k + 1] - 2) + gained);
-    }
     answer.at = 0;
     answer.code = RMP_GOOD;
-    answer.bytes = at[count];
+    answer.bytes = at[count - 1];
+    memcpy(room, packet, answer.bytes);
+    room[at[count - 2] + 7] &= 0x7F;
+    put_word(room, word(packet) - RMP_NUMBER_LENGTH);
     return answer;
 }
 
-/* Whether a frame is sealed, and a packet that came of it is opened, as they should be; 2 where it is a copy.
- * The room ends with the frame, and is unmapped behind it. */
-static int is_opened(uint32_t form, uint8_t *sent, size_t size, uint8_t *packet_end, uint8_t *room) {
-    static uint8_t sealed[RMP_FRAME_SIZE], packet[1700], wanted[RMP_FRAME_SIZE];
-    uint32_t seal = chance(RMP_SEALS), asked = seal;
-    struct rmp_written out = rmp_seal(seal, sent, size, room, size), open, want;
-    size_t came;
-    uint8_t *edge_packet;
-    put_seal(seal, sent, size, sealed);
-    if (out.code != RMP_GOOD || out.bytes != size || out.at != 0 || memcmp(room, sealed, size) != 0)
+/* Whether a frame gets its number, and a packet that came of it is opened, as they should be; 2 where it is a
+ * copy. The room ends with what is put there, and is unmapped behind it. */
+static int is_opened(uint32_t form, uint8_t *sent, size_t size, uint8_t *packet_end, uint8_t *room_end) {
+    static uint8_t numbered[RMP_FRAME_SIZE], packet[1700], wanted[RMP_FRAME_SIZE];
+    uint64_t number = (uint64_t)chance(UINT32_MAX) << 32 | chance(UINT32_MAX);
+    size_t whole = size + RMP_NUMBER_LENGTH, came;
+    uint8_t *room = room_end - size, *edge_packet;
+    struct rmp_written out = rmp_seal(number, sent, size, room_end - whole, whole), open, want;
+    if (whole > RMP_FRAME_SIZE)
+        return out.code == RMP_FULL && out.bytes == 0 &&
+               rmp_open(form, number, sent, size, sent, size, room, size).code == RMP_FULL;
+    put_number(number, sent, size, numbered);
+    if (out.code != RMP_GOOD || out.bytes != whole || out.at != 0 ||
+        memcmp(room_end - whole, numbered, whole) != 0)
         return 0;
-    came = choose_copy(packet, sealed, size);
-    if (chance(8) == 0 && came == size) /* a counter that moved far */
-        put_word(packet + size - 2, word(packet + size - 2) + chance(2048));
-    if (chance(4) == 0) { /* another trip's, next to it by index or by counter */
-        asked = (seal + (chance(2) ? 256 : 1) * (chance(2) ? 1 : RMP_SEALS - 1)) % RMP_SEALS;
-        put_seal(asked, sent, size, sealed);
+    came = choose_copy(packet, numbered, whole);
+    if (chance(4) == 0) { /* another trip's, or another run's */
+        number ^= (uint64_t)1 << chance(64);
+        put_number(number, sent, size, numbered);
     }
     edge_packet = packet_end - came;
     memcpy(edge_packet, packet, came);
     memset(room, 0xA5, size);
     memset(wanted, 0xA5, size);
-    open = rmp_open(form, asked, sent, size, edge_packet, came, room, size);
-    want = opened(form, sent, sealed, size, packet, came, wanted);
-    if (want.code != RMP_GOOD)
-        memset(wanted, 0xA5, size); /* nothing is written */
+    open = rmp_open(form, number, sent, size, edge_packet, came, room, size);
+    want = opened(form, numbered, whole, packet, came, wanted);
     if (memcmp(room, wanted, size) != 0 || open.bytes != want.bytes)
         return 0;
     if (want.code == RMP_FAULT_SHORT)
@@ -401,9 +401,9 @@ int main(int count, char **words) {
         } else {
             rmp_store(items, n, 0, a, sizes[0], image, 4096);
         }
-        is_copy = is_opened(form, sent, made.bytes, b_end, room);
+        is_copy = is_opened(form, sent, made.bytes, b_end, room_end);
         if (is_copy == 0) {
-            printf("damaged: pair %ld is not sealed or opened as it should be\n", i);
+            printf("damaged: pair %ld is not numbered or opened as it should be\n", i);
             return 1;
         }
         opens += is_copy == 2;

@@ -8,46 +8,32 @@
 //! and its inputs. Run it at the top of the repository. The status is 0 where the line was short for a while,
 //! and good at last.
 
-use rummymaple::{frame, locate, open, seal, Cable, Cycle, Fault, Form, Item, Kind, State, Verdict, TRIPS};
-use std::io::{Result, Write};
+use rummymaple::{frame, locate, open, seal, Cable, Cycle, Fault, Form, Item, Kind, State, Verdict};
+use std::fs::File;
+use std::io::{Read, Result, Write};
 use std::net::UdpSocket;
 use std::process::{Child, Command, Stdio};
 use std::thread::sleep;
-use std::time::{Duration, Instant};
+use std::time::{Duration, Instant, SystemTime};
 
 const SLAVES: usize = 5;
 const ROOM: usize = 1501;
 
-/// How late a packet may come: no seal is given again before.
-const LATE: Duration = Duration::from_millis(1000);
-
-/// Which trip's seals are given next, and when those of each trip were given.
-struct Seals {
-    next: u16,
-    given_at: Vec<Option<Instant>>,
-}
-
-impl Seals {
-    fn new() -> Seals {
-        Seals { next: 0, given_at: vec![None; TRIPS.into()] }
-    }
-
-    /// The seals of the copies from port A and port B: in turn, and none while a packet under it may come.
-    fn give(&mut self) -> [u16; 2] {
-        let (trip, given_at) = (self.next, &mut self.given_at[usize::from(self.next)]);
-        if let Some(given_at) = given_at {
-            sleep(LATE.saturating_sub(given_at.elapsed()));
-        }
-        *given_at = Some(Instant::now());
-        self.next = (trip + 1) % TRIPS;
-        [2 * trip, 2 * trip + 1]
+/// The first trip of a run, for answers to another run may still come: drawn by chance, or where that cannot
+/// be read the time.
+fn first_trip() -> u64 {
+    let mut drawn = [0; 8];
+    match File::open("/dev/urandom").and_then(|mut chance| chance.read_exact(&mut drawn)) {
+        Ok(()) => u64::from_le_bytes(drawn),
+        Err(_) => SystemTime::UNIX_EPOCH.elapsed().map_or(0, |since| since.as_nanos() as u64),
     }
 }
 
-/// Sockets that are connected to both ends of the line, and the seals of what goes out.
+/// Sockets that are connected to both ends of the line, and the next trip.
 struct Ports {
     sockets: [UdpSocket; 2],
-    seals: Seals,
+    /// Trips count up, so that no number of their copies is used twice.
+    trip: u64,
     /// How long a copy is awaited.
     wait: Duration,
 }
@@ -71,19 +57,20 @@ impl Ports {
             socket.connect(("127.0.0.1", port))?;
             Ok::<_, std::io::Error>(socket)
         };
-        Ok(Ports { sockets: [to(port)?, to(port + 1)?], seals: Seals::new(), wait })
+        Ok(Ports { sockets: [to(port)?, to(port + 1)?], trip: first_trip(), wait })
     }
 
-    /// A frame goes out at both ports, each copy under its seal, and this comes back. What is late is passed
+    /// A frame goes out at both ports, each copy with its number, and this comes back. What is late is passed
     /// over, and each copy is taken once.
     fn travel(&mut self, sent: &[u8]) -> Result<[Arrived; 2]> {
         let begun = Instant::now();
-        let seals = self.seals.give();
+        let numbers = [0, 1].map(|copy| self.trip.wrapping_mul(2) + copy);
+        self.trip = self.trip.wrapping_add(1);
         let mut awaited = [true; 2];
-        for (socket, number) in self.sockets.iter().zip(seals) {
-            let mut sealed = [0; ROOM];
-            let size = seal(number, sent, &mut sealed).expect("a frame, and its seal");
-            let _ = socket.send(&sealed[..size]); // where it fails, the copy is lost
+        for (socket, number) in self.sockets.iter().zip(numbers) {
+            let mut numbered = [0; ROOM];
+            let size = seal(number, sent, &mut numbered).expect("a frame with a place for its number");
+            let _ = socket.send(&numbered[..size]); // where it fails, the copy is lost
         }
         let mut arrived = [0, 1].map(|_| Arrived { bytes: [0; ROOM], size: 0 });
         for (socket, here) in self.sockets.iter().zip(&mut arrived) {
@@ -92,7 +79,7 @@ impl Ports {
                 let rest = self.wait.saturating_sub(begun.elapsed()).max(Duration::from_millis(1));
                 socket.set_read_timeout(Some(rest))?;
                 let Ok(size) = socket.recv(&mut packet) else { break };
-                for (number, awaited) in seals.into_iter().zip(&mut awaited) {
+                for (number, awaited) in numbers.into_iter().zip(&mut awaited) {
                     if *awaited && here.size == 0 {
                         let opened = open(Form::Udp, number, sent, &packet[..size], &mut here.bytes);
                         here.size = opened.unwrap_or(0);

@@ -39,11 +39,11 @@
 #![no_std]
 
 mod mapping;
-mod seals;
+mod numbers;
 
 pub use mapping::{check, check_item, covered, expected, shown};
 pub use mapping::{Gap, NotShown, Outside, Party, Records, Unfit, WhyNotShown};
-pub use seals::{open, seal, single, SEALS, TRIPS};
+pub use numbers::{open, seal, single, NUMBER_LENGTH};
 
 /// What an item does, by the standard's codes (IEC 61158-4-12).
 #[derive(Clone, Copy, PartialEq, Eq, Debug)]
@@ -85,7 +85,7 @@ pub struct Item {
     kind: u16,
     /// By how much its working counter has to move. **One that is to move by 0 is good where nothing came.**
     pub expected: u16,
-    /// The working counter with which it goes out: 0 under seals. Without them 2,048 times the number of the
+    /// The working counter with which it goes out: 0 with numbers. Without them 2,048 times the number of the
     /// cycle, modulo 65,536, so that a copy up to fifteen cycles late shows.
     pub sent: u16,
     /// The working counter with which it came back; it has moved by `came.wrapping_sub(sent)`.
@@ -385,14 +385,13 @@ pub enum Fault {
     BadPlace(usize),
     /// The cycle is done or ended.
     NotUnderWay,
-    /// There is no such seal: its number is 16,384 or more.
-    BadSeal,
-    /// The packet is a frame, but no copy of the sealed one: this datagram is the first that differs by
+    /// The frame has no place for a number: fewer than 20 free bytes.
+    Full,
+    /// The packet has the number, but is no copy of the frame: this datagram is the first that differs by
     /// command, index, length or address.
     OtherFrame(usize),
-    /// The packet is of such a frame, but no copy of the sealed one: the counter of this datagram is the
-    /// first that is not 0 to 1,023 past that of the seal.
-    OtherCounter(usize),
+    /// The packet is a frame, and has another number, or none: it is late, or not of this master.
+    OtherNumber,
     /// The frame that is said to be sent does not begin with a broadcast read that goes out.
     NotBroadcast,
     /// There is no such command: its code is above 14.
@@ -551,9 +550,9 @@ fn fault(code: u32, at: usize) -> Fault {
         24 => Fault::NoFrame(Wrong::LeftOver, at),
         25 => Fault::NoFrame(Wrong::Trailing, at),
         26 => Fault::NotUnderWay,
-        30 => Fault::BadSeal,
+        30 => Fault::Full,
         31 => Fault::OtherFrame(at),
-        32 => Fault::OtherCounter(at),
+        32 => Fault::OtherNumber,
         33 => Fault::NotBroadcast,
         34 => Fault::BadCommand,
         _ => Fault::Unknown(code),

@@ -31,7 +31,7 @@ use Rattle.rummymaple.specs.declared.judge.JudgeEnd.TheVariants.{Judged}
 use Rattle.rummymaple.specs.declared.store.StoreEnd.TheVariants.{Stored}
 use Rattle.rummymaple.proofs.CycleLemmas.{length-joined_frame}
 use Rattle.rummymaple.proofs.PacketLemmas.{Given, given}
-use Rattle.rummymaple.proofs.SealLemmas.{one-value}
+use Rattle.rummymaple.proofs.NumberLemmas.{one-value}
 use Rattle.rummymaple.proofs.TurnLemmas.{asked-with_counts_at, expected-with_counts_at, good-same}
 
 -- no two frames have one spelling

@@ -7,7 +7,7 @@ pub mod CableLemmas
 pub mod TurnLemmas
 pub mod ReadBackLemmas
 pub mod SpellLemmas
-pub mod SealLemmas
+pub mod NumberLemmas
 pub mod ImageLemmas
 pub mod TurnImageLemmas
 pub mod SameLineLemmas

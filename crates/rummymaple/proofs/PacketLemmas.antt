@@ -21,7 +21,7 @@ use Rattle.rummymaple.specs.declared.cycle.TurnEnd.{TurnEnd}
 use Rattle.rummymaple.specs.declared.cycle.TurnEnd.TheVariants.{Judged}
 use Rattle.rummymaple.specs.declared.numbers.Copy.{Copy}
 use Rattle.rummymaple.specs.declared.numbers.Copy.TheVariants.{Lost, Came, NoFrame}
-use Rattle.rummymaple.proofs.SealLemmas.{one-value}
+use Rattle.rummymaple.proofs.NumberLemmas.{one-value}
 
 -- what a port gives by a packet, which is the copy or stands for the sent frame
 pub record Given (form : Form) (packet : List ℕ) (sent copy : List DatagramRecord) : Type 0 where

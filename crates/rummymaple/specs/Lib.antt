@@ -1,7 +1,7 @@
 pub mod Numbers
 pub mod Copies
 pub mod Join
-pub mod Seals
+pub mod Numbered
 pub mod Single
 pub mod Items
 pub mod Cut

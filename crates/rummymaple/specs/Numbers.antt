@@ -13,7 +13,7 @@ use Rattle.rummymaple.specs.declared.numbers.Code.TheVariants.{FaultBadType, Fau
 use Rattle.rummymaple.specs.declared.numbers.Code.TheVariants.{FaultTooLong, FaultBadCommand, FaultOverrun}
 use Rattle.rummymaple.specs.declared.numbers.Code.TheVariants.{FaultMoreAtEnd, FaultLeftOver, FaultTrailing}
 use Rattle.rummymaple.specs.declared.numbers.Code.TheVariants.{NotUnderWay, OutsideRead, OutsideWrite}
-use Rattle.rummymaple.specs.declared.numbers.Code.TheVariants.{NotAsked, BadSeal, OtherFrame, OtherCounter}
+use Rattle.rummymaple.specs.declared.numbers.Code.TheVariants.{NotAsked, Full, OtherFrame, OtherNumber}
 use Rattle.rummymaple.specs.declared.numbers.Code.TheVariants.{NotBroadcast, BadCommand, LeftBy}
 use Rattle.rummymaple.specs.declared.numbers.Code.TheVariants.{NeverCompleted}
 use Rattle.rummymaple.specs.declared.numbers.Copy.{Copy}
@@ -51,9 +51,9 @@ number_of NotUnderWay = 26
 number_of OutsideRead = 27
 number_of OutsideWrite = 28
 number_of NotAsked = 29
-number_of BadSeal = 30
+number_of Full = 30
 number_of OtherFrame = 31
-number_of OtherCounter = 32
+number_of OtherNumber = 32
 number_of NotBroadcast = 33
 number_of BadCommand = 34
 number_of LeftBy = 35

@@ -8,9 +8,9 @@
 //!
 //! ```text
 //! let made = rmp_frame(&items, &image, 0, &mut sent);
-//! let out = rmp_seal(seal, &sent[..made.bytes], &mut sealed);
-//! // .. each copy goes out under its seal, one each way round the ring, and a packet comes back ..
-//! let a = rmp_open(UDP, seal, &sent[..made.bytes], &packet, &mut opened);
+//! let out = rmp_seal(number, &sent[..made.bytes], &mut numbered);
+//! // .. each copy goes out with its number, one each way round the ring, and a packet comes back ..
+//! let a = rmp_open(UDP, number, &sent[..made.bytes], &packet, &mut opened);
 //! let came = rmp_join(UDP, &sent[..made.bytes], &a, &b, &mut joined);
 //! let verdict = rmp_judge(&mut items, 0, &joined[..came.bytes]);
 //! let stored = rmp_store(&items, 0, &joined[..came.bytes], &mut image);
@@ -22,9 +22,9 @@
 //!   with its data from the image;
 //! - [`rmp_join`]: a packet is a copy exactly where it spells a frame (`ec_wire`, `IsSpelt`); the bytes spell
 //!   the joined frame (`ec_merge`, `joined_frame`), or the stranger is named (`IsFault`);
-//! - [`rmp_seal`], [`rmp_open`]: a copy goes out under a seal (`ec_seal`, `sealed_by`), and a packet is
-//!   opened exactly where it came of that sealed frame (`CameOf`, `opened_by`), under one seal alone
-//!   ([`packets_open_under_one_seal`]);
+//! - [`rmp_seal`], [`rmp_open`]: a copy goes out with a number behind it (`ec_number`, `numbered`), and a
+//!   packet is opened exactly where it came of that numbered frame (`CameUnder`, `opened`), under one number
+//!   alone ([`packets_open_under_one_number`]);
 //! - [`rmp_judge`]: the verdict is that on the items' counters (`ec_master`, `verdict_from`), and only what
 //!   came back is written into the items;
 //! - [`rmp_store`]: the image gets the data of those items that read, and nothing else;
@@ -44,9 +44,10 @@
 //!   `ec_master::run_cycle` over ports that give what came, with all that this certifies.
 //!
 //! Each export answers by a struct of numbers, and its contract says of which end they are the numbers
-//! (`Join`, `Seals`, `Single`, `Frame`, `Judge`, `Read`, `Cable`, `Turn`, `Mapping`, `Asked` and `Shown` of
-//! specs/). What an item is stands in `Items`, the controller of a slave's records in `ec_check` (`Records`),
-//! what a joined frame gives an item in `Answers`, the calls in their order in `Cycle`, and turns in `Turns`.
+//! (`Join`, `Numbered`, `Single`, `Frame`, `Judge`, `Read`, `Cable`, `Turn`, `Mapping`, `Asked` and `Shown`
+//! of specs/). What an item is stands in `Items`, the controller of a slave's records in `ec_check`
+//! (`Records`), what a joined frame gives an item in `Answers`, the calls in their order in `Cycle`, and
+//! turns in `Turns`.
 //! A call needs less than 8 KB of stack: nothing that has the size of a frame is moved or made twice where it
 //! can stay in its place.
 
@@ -91,7 +92,7 @@ pub use numbers::{Code, Copy};
 pub use open::{OpenEnd, rmp_open};
 pub use packet::WrittenAnswer;
 pub use promises::{
-    calls_are_a_cycle, packets_open_under_one_seal, records_are_the_line, turns_are_a_cycle,
+    calls_are_a_cycle, packets_open_under_one_number, records_are_the_line, turns_are_a_cycle,
     what_is_told_is_so,
 };
 pub use read::{DatagramPlace, ReadAnswer, ReadEnd, rmp_read};

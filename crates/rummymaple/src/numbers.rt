@@ -68,12 +68,12 @@ pub enum Code {
     OutsideWrite,
     /// No item asks for a logical bit that is mapped.
     NotAsked,
-    /// The number of a seal is none.
-    BadSeal,
-    /// A packet is a frame, but not of the sealed one.
+    /// A frame has no place for a number.
+    Full,
+    /// A packet bears the number, but is no copy of the frame that went out under it.
     OtherFrame,
-    /// A packet is of such a frame, but went out under a seal with another counter.
-    OtherCounter,
+    /// A packet is a frame, and bears another number, or none.
+    OtherNumber,
     /// The frame that is said to be sent does not begin with a broadcast read.
     NotBroadcast,
     /// The code of a command is none.

@@ -1,6 +1,7 @@
 //! What the calls in their order come to, each promise the contract of a function that does nothing.
 
-ghost use Rattle.std.specs.Prelude.{◌≡◌, ◌↔◌, ◌≤◌, ◌<◌, ℕ, List, [], ◌∷◌, map, length, Ok, Some, None};
+ghost use Rattle.std.specs.Prelude.{◌≡◌, ◌↔◌, ◌≤◌, ◌<◌, ◌^◌, ℕ, Bool, List, [], ◌∷◌, map, length};
+ghost use Rattle.std.specs.Prelude.{Ok, Some, None};
 ghost use Rattle.std.specs.List.{AllByRecursion};
 ghost use Rattle.ec_wire.specs.Datagram.{DatagramRecord};
 ghost use Rattle.ec_wire.specs.Fault.{IsSpelt};
@@ -32,14 +33,12 @@ ghost use Rattle.ec_master.specs.Moments.{SaysOfEachMoving};
 ghost use Rattle.ec_master.specs.Suffice.{SaysOfEach};
 ghost use Rattle.ec_master.specs.Work.{with_answers};
 ghost use Rattle.ec_master.specs.declared.verdict.Verdict.TheVariants.{Good};
-ghost use Rattle.ec_seal.specs.Came.{CameOf};
-ghost use Rattle.ec_seal.specs.Network.{Sent, IsSent, HasOwnSeal, IsOfSome, ArrivesAs};
-ghost use Rattle.ec_seal.specs.Seal.{sealed_by};
-ghost use Rattle.ec_seal.specs.declared.seal.TheConstants.{SEALS};
+ghost use Rattle.ec_merge.specs.Frames.{IsOwn};
+ghost use Rattle.ec_number.specs.Number.{CameUnder, opened, with_number};
 ghost use Rattle.rummymaple.specs.Cable.{AreHeard, IsArrival};
 ghost use Rattle.rummymaple.specs.Calls.{AreGoodCalls, AreJoinedBytes, AreStoredBytes};
 ghost use Rattle.rummymaple.specs.Join.{IsPut};
-ghost use Rattle.rummymaple.specs.Seals.{IsOpened};
+ghost use Rattle.rummymaple.specs.Numbered.{IsOpened};
 ghost use Rattle.rummymaple.specs.Turn.{Held};
 ghost use Rattle.rummymaple.specs.Numbers.{form_of};
 ghost use Rattle.rummymaple.specs.Copies.{AreGiven, Packets};
@@ -58,7 +57,7 @@ ghost use Rattle.ec_check.specs.declared.records.Records.{Records};
 use ec_diag::promises::trips_are_heard;
 use ec_master::certificate::frames_suffice;
 use ec_master::moments::good_at_one_moment;
-use ec_seal::{copies_are_told, frames_can_be_sealed, seals_are_apart};
+use ec_number::numbers_are_apart;
 use ec_wire::one_spelling;
 
 /// Calls in their order are a cycle over ports that give what came: where each frame is made behind the one
@@ -209,27 +208,27 @@ pub fn records_are_the_line()
         ↔ IsNotShown line (map (asked image) items) found }
 {}
 
-/// A packet opens under one seal alone, and as what arrives of the frame without it. What [`rmp_open`] opens
-/// under a seal came of no frame under another (`one`): so no late copy is opened whose seal is not that of
-/// this one. And where it came of this copy, or of others that are out and have other seals, what is put into
-/// the room is what arrives of the frame, unsealed, on the way of this copy (`told`).
+/// A packet opens under one number alone, and as what a join takes. What [`rmp_open`] opens under a number
+/// came of no frame under another (`one`): so no copy of another trip is opened, however late and however
+/// often it comes, as long as no number is used twice. What is put into the room spells a frame that is no
+/// stranger to the sent one (`own`); of a packet in which the number stands behind what came of the frame,
+/// turned round or not, it is what came (`told`).
 ///
 /// [`rmp_open`]: crate::rmp_open
-pub fn packets_open_under_one_seal()
+pub fn packets_open_under_one_number()
     ensures one { (form : Form) (m n : ℕ) (sent packet before later : List ℕ) (count : ℕ)
-        (other copy : List DatagramRecord)
+        (other copy : List DatagramRecord) → m < 2 ^ 64 → n < 2 ^ 64
         → IsOpened (Some form) m sent packet before (Opened count) later
-        → n < SEALS → 0 < length other → IsSpelt form packet copy → CameOf (sealed_by n other) copy
-        → m ≡ n }
-    ensures told { (form : Form) (c : Sent) (others : List Sent) (sent packet before later : List ℕ)
-        (count : ℕ) (copy : List DatagramRecord) → IsSent c → AllByRecursion IsSent others
-        → HasOwnSeal c others → IsSpelt form sent c.frame → IsSpelt form packet copy
-        → IsOfSome (c ∷ others) copy
-        → IsOpened (Some form) c.seal sent packet before (Opened count) later
-        → (came : List DatagramRecord) × ArrivesAs c came × IsPut (spelling came) before count later }
+        → IsSpelt form packet copy → CameUnder n other copy → m ≡ n }
+    ensures own { (form : Form) (n : ℕ) (sent packet before later : List ℕ) (count : ℕ)
+        (frame copy : List DatagramRecord) → IsSpelt form sent frame → IsSpelt form packet copy
+        → IsOpened (Some form) n sent packet before (Opened count) later
+        → IsOwn frame (opened copy) × IsPut (spelling (opened copy)) before count later }
+    ensures told { (form : Form) (n : ℕ) (sent packet before later : List ℕ) (count : ℕ) (turned : Bool)
+        (came : List DatagramRecord) → IsSpelt form packet (with_number turned n came)
+        → IsOpened (Some form) n sent packet before (Opened count) later
+        → IsPut (spelling came) before count later }
 {
     one_spelling();
-    frames_can_be_sealed();
-    seals_are_apart();
-    copies_are_told();
+    numbers_are_apart();
 }

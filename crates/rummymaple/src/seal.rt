@@ -1,27 +1,25 @@
-//! A frame that goes out under a seal, by which its copy is known when it comes back.
+//! A frame that goes out with a number behind it, by which its copy is known when it comes back.
 
-ghost use Rattle.std.specs.Prelude.{◌≡◌, ◌≤◌, ◌<◌, ℕ, MatchOption};
-ghost use Rattle.ec_seal.specs.declared.seal.TheConstants.{SEALS};
-ghost use Rattle.rummymaple.specs.Seals.{IsPutSealed, IsSealedFrame, IsUnsealed, IsSealed, seal_answer};
-ghost use Rattle.std.specs.Prelude.{◌⊎◌};
+ghost use Rattle.std.specs.Prelude.{◌≡◌};
+ghost use Rattle.rummymaple.specs.Numbered.{IsPutSealed, IsSealed, seal_answer};
 ghost use Rattle.rummymaple.specs.declared.seal.SealEnd.{SealEnd};
 
 use crate::numbers::Code;
 use crate::packet::{WrittenAnswer, blank, put_frame};
-use ec_seal::{SEALS, Seal, seal_frame};
+use ec_number::number_frame;
 use ec_wire::{Form, FrameBuf, WireFault};
 
-/// How the sealing of a frame ended.
+/// How the numbering of a frame ended.
 #[derive(Clone, Copy)]
 pub enum SealEnd {
-    /// The sealed frame has so many bytes.
+    /// The frame with its number has so many bytes.
     Sealed(usize),
     /// It does not fit the room for it.
     NoRoom,
     /// What is said to be sent is no frame.
     NotSent(WireFault),
-    /// There is no such seal.
-    BadSeal,
+    /// The frame has no place for a number.
+    Full,
 }
 
 impl SealEnd {
@@ -33,7 +31,7 @@ impl SealEnd {
             SealEnd::Sealed(count) => (count, 0, Code::Good),
             SealEnd::NoRoom => (0, 0, Code::NoRoom),
             SealEnd::NotSent(fault) => (0, fault.at, Code::NotSent),
-            SealEnd::BadSeal => (0, 0, Code::BadSeal),
+            SealEnd::Full => (0, 0, Code::Full),
         };
         WrittenAnswer {
             bytes,
@@ -43,50 +41,39 @@ impl SealEnd {
     }
 }
 
-/// The seal of a number, if it is one.
-pub(crate) fn seal_of(number: u32) -> Option<Seal>
-    ensures { MatchOption result (SEALS ≤ number) (λ seal. (seal.number ≡ number) × (number < SEALS)) }
+/// Puts a frame with a number behind it at the front of the room.
+fn put_sealed(frame: &mut FrameBuf, number: u64, room: &mut [u8]) -> SealEnd
+    ensures { IsPutSealed number frame.old room.old result room.new }
 {
-    if number >= u32::from(SEALS) {
-        return None;
+    match number_frame(frame, number) {
+        Ok(()) => {}
+        Err(_) => return SealEnd::Full,
     }
-    Seal::of(number as u16)
-}
-
-/// Puts a frame under a seal at the front of the room.
-fn put_sealed(frame: &mut FrameBuf, seal: Seal, room: &mut [u8]) -> SealEnd
-    ensures { IsPutSealed seal.number frame.old room.old result room.new }
-{
-    seal_frame(frame, seal);
     match put_frame(frame, room) {
         Some(count) => SealEnd::Sealed(count),
         None => SealEnd::NoRoom,
     }
 }
 
-/// Puts the frame that these bytes spell under a seal at the front of the room.
-fn seal_bytes(seal: Seal, sent: &[u8], room: &mut [u8]) -> SealEnd
-    ensures { IsSealedFrame seal.number sent.now room.old result room.new
-        ⊎ IsUnsealed sent.now room.old result room.new }
+/// Puts the frame that these bytes spell with a number behind it at the front of the room.
+fn seal_bytes(number: u64, sent: &[u8], room: &mut [u8]) -> SealEnd
+    ensures { IsSealed number sent.now room.old result room.new }
 {
     let mut frame = blank();
     match frame.refill(sent, Form::Udp) {
-        Ok(()) => put_sealed(&mut frame, seal, room),
+        Ok(()) => put_sealed(&mut frame, number, room),
         Err(fault) => SealEnd::NotSent(fault),
     }
 }
 
-/// Puts the frame whose bytes are `sent` under the seal of this number at the front of `room`: each datagram
-/// with the seal's index, and with its working counter set to that of the seal; all else is as in `sent`. Any
-/// other end leaves `room` as it is.
+/// Puts the frame whose bytes are `sent` with this number behind it at the front of `room`: 20 bytes more, a
+/// NOP whose data are the number with its low byte first. All else is as in `sent`, but for the header's
+/// length and the bit of the datagram before it that says that another follows. Any other end leaves `room`
+/// as it is.
 #[unsafe(no_mangle)]
-pub extern "C" fn rmp_seal(seal: u32, sent: &[u8], room: &mut [u8]) -> WrittenAnswer
+pub extern "C" fn rmp_seal(number: u64, sent: &[u8], room: &mut [u8]) -> WrittenAnswer
     ensures { (end : SealEnd) × (result ≡ seal_answer end)
-        × IsSealed seal sent.now room.old end room.new }
+        × IsSealed number sent.now room.old end room.new }
 {
-    let end = match seal_of(seal) {
-        Some(seal) => seal_bytes(seal, sent, room),
-        None => SealEnd::BadSeal,
-    };
-    end.answer()
+    seal_bytes(number, sent, room).answer()
 }

@@ -1,13 +1,10 @@
-//! Seals, by what the copies of one trip are told from all others, late ones among them; and frames of one
+//! Numbers, by what the copies of one trip are told from all others, late ones among them; and frames of one
 //! datagram.
 
 use crate::{fault, Fault, Form};
 
-/// How many seals there are.
-pub const SEALS: u16 = 16384;
-
-/// How many trips have two seals of their own: trip n those of 2 * n, and 2 * n + 1.
-pub const TRIPS: u16 = 8192;
+/// How many bytes of a frame its number takes.
+pub const NUMBER_LENGTH: usize = 20;
 
 #[repr(C)]
 struct Written {
@@ -18,7 +15,7 @@ struct Written {
 
 extern "C" {
     fn rmp_seal(
-        seal: u32,
+        number: u64,
         sent: *const u8,
         sent_size: usize,
         room: *mut u8,
@@ -34,7 +31,7 @@ extern "C" {
     ) -> Written;
     fn rmp_open(
         form: u32,
-        seal: u32,
+        number: u64,
         sent: *const u8,
         sent_size: usize,
         packet: *const u8,
@@ -44,48 +41,48 @@ extern "C" {
     ) -> Written;
 }
 
-/// Puts the frame `sent` under a seal at the front of `room`, which is what goes out in its place, and
-/// answers how many bytes it has. Each copy that goes out gets a seal of its own, and no seal is given again
-/// before a packet under it can come no more (docs/LIBRARY.md).
+/// Puts the frame `sent` with a number behind it at the front of `room`, which is what goes out in its place,
+/// and answers how many bytes it has: [`NUMBER_LENGTH`] more. Each copy that goes out gets a number of its
+/// own, and none is used twice: trip t has 2 * t and 2 * t + 1 (docs/LIBRARY.md). A frame that has fewer free
+/// bytes is `Full`.
 ///
 /// ```
 /// use rummymaple::{frame, open, seal, Fault, Form, Item, Kind};
 ///
 /// let states = [Item::new(Kind::Brd, 0x0130, 0, 2, 3)];
-/// let (mut sent, mut sealed, mut opened) = ([0; 1500], [0; 1500], [0; 1500]);
+/// let (mut sent, mut numbered, mut opened) = ([0; 1500], [0; 1500], [0; 1500]);
 /// let made = frame(&states, &[0; 2], 0, &mut sent)?;
 /// let sent = &sent[..made.bytes];
-/// let size = seal(0x0123, sent, &mut sealed)?;
-/// assert_eq!((sealed[3], sealed[14], sealed[15]), (0x23, 0x00, 0x04));
+/// let size = seal(0x0123_4567_89AB_CDEE, sent, &mut numbered)?;
+/// assert_eq!((size, numbered[0], numbered[9], numbered[16]), (36, 34, 0x80, 0)); // a NOP follows
+/// assert_eq!(numbered[26..34], 0x0123_4567_89AB_CDEE_u64.to_le_bytes());
 ///
 /// // Three slaves count, and what came is opened as what came of the frame.
-/// (sealed[4], sealed[14]) = (3, 3);
-/// let size = open(Form::Udp, 0x0123, sent, &sealed[..size], &mut opened)?;
-/// assert_eq!((size, opened[3], opened[4], opened[14], opened[15]), (16, 0, 3, 3, 0));
+/// (numbered[4], numbered[14]) = (3, 3);
+/// let packet = &numbered[..size];
+/// let size = open(Form::Udp, 0x0123_4567_89AB_CDEE, sent, packet, &mut opened)?;
+/// assert_eq!((size, opened[0], opened[4], opened[9], opened[14]), (16, 14, 3, 0, 3));
 ///
-/// // It is no copy that went out under another seal.
-/// assert_eq!(open(Form::Udp, 0x0122, sent, &sealed[..size], &mut opened), Err(Fault::OtherFrame(0)));
-/// assert_eq!(open(Form::Udp, 0x0223, sent, &sealed[..size], &mut opened), Err(Fault::OtherCounter(0)));
+/// // It is no copy that went out with another number.
+/// assert_eq!(open(Form::Udp, 0x0123_4567_89AB_CDEF, sent, packet, &mut opened), Err(Fault::OtherNumber));
 /// # Ok::<(), Fault>(())
 /// ```
-pub fn seal(seal: u16, sent: &[u8], room: &mut [u8]) -> Result<usize, Fault> {
+pub fn seal(number: u64, sent: &[u8], room: &mut [u8]) -> Result<usize, Fault> {
     // SAFETY: each pointer is that of a slice of that length, and the one that is written is borrowed alone.
-    let told = unsafe {
-        rmp_seal(seal.into(), sent.as_ptr(), sent.len(), room.as_mut_ptr(), room.len())
-    };
+    let told = unsafe { rmp_seal(number, sent.as_ptr(), sent.len(), room.as_mut_ptr(), room.len()) };
     answer(told)
 }
 
-/// Opens a packet that came back: where it is a copy of the frame `sent` that went out under this seal, puts
+/// Opens a packet that came back: where it is a copy of the frame `sent` that went out with this number, puts
 /// what it is without it at the front of `room`, and answers how many bytes that has. Any other packet is a
-/// fault and leaves `room` as it is: `OtherFrame` and `OtherCounter` of a frame that is late or not of this
-/// master, `NoFrame` of bytes that are none.
-pub fn open(form: Form, seal: u16, sent: &[u8], packet: &[u8], room: &mut [u8]) -> Result<usize, Fault> {
+/// fault and leaves `room` as it is: `OtherNumber` of a frame that is late or not of this master,
+/// `OtherFrame` of one that has the number and is no copy, `NoFrame` of bytes that are none.
+pub fn open(form: Form, number: u64, sent: &[u8], packet: &[u8], room: &mut [u8]) -> Result<usize, Fault> {
     // SAFETY: each pointer is that of a slice of that length, and the one that is written is borrowed alone.
     let told = unsafe {
         rmp_open(
             form as u32,
-            seal.into(),
+            number,
             sent.as_ptr(),
             sent.len(),
             packet.as_ptr(),
