@@ -780,7 +780,7 @@ def a_scan_writes_the_line_that_it_finds(stage):
         records = [row for row in found.read().splitlines() if row.split()[0] in ("slave", "sm", "fmmu", "state")]
     yield "records", FOUND, "\n".join([*records, ""])
     yield "check", "accepted\n0\n", stage.ends("check", "found")
-    nobody = ("scan", "--at", "127.0.0.1:9", "--limit", "1000", "--late", "1", "--scene", "none")
+    nobody = ("scan", "--at", "127.0.0.1:9", "--limit", "1000", "--scene", "none")
     yield "nobody", "nobody answers at A\n1\n", last_lines(stage.ends(*nobody), 2)
 
 
@@ -844,6 +844,124 @@ def a_master_with_one_port_cycles(stage):
         words = ("master", "m", "--at", f"127.0.0.1:{stage.port}", "--cycles", "5", *PATIENCE)
         wanted = LEFT + sums(5) + ITEMS + "0\n"
         yield "master", wanted, timed(last_lines(stage.ends(*words), 6))
+
+
+# Items whose first frame has no room for a number, and what is said of it. An item is twelve bytes longer
+# than its data, and the last one is too long to go out with those before it.
+NO_ROOM = (
+    ((1467, 100), "item 0, 1466 bytes of data at the most"),
+    ((1486,), "item 0, 1466 bytes of data at the most"),
+    ((700, 755, 100), "item 1, its frame has 1479 bytes of datagrams, 1478 at the most"),
+    ((1, 700, 761, 100), "item 2, its frame has 1498 bytes of datagrams, 1478 at the most"),
+)
+
+# Items whose first frame has just room for a number.
+JUST_ROOM = ((1466, 100), (700, 754, 100), (1, 700, 741, 100))
+
+
+def reads(lengths):
+    """A slave, and items of so many bytes that it does not serve."""
+    slave = "slave 0x1001\nsimple\nareas 1 0\nsm 2 0x1000 1 write\nfmmu 0 0x10000 1 0 7 0x1000 0 write\n"
+    return slave + "".join(f"lrd 0x20000 {'00' * length}\n" for length in lengths)
+
+
+@case
+def a_master_without_room_for_numbers_sends_nothing(stage):
+    with stage.master() as silent:
+        at = f"127.0.0.1:{silent.getsockname()[1]}"
+        for lengths, why in NO_ROOM:
+            stage.file("m", reads(lengths))
+            wanted = f"refused: NoRoom {why}\n1\n"
+            yield str(lengths), wanted, stage.ends("master", "m", "--at", at, "--cycles", "1")
+        yield "nothing sent", "[]", str(select.select([silent], [], [], 0)[0])
+
+
+@case
+def a_frame_with_just_room_goes_out_with_its_number(stage):
+    """The first frame of a cycle is as long as a frame may be."""
+    for lengths in JUST_ROOM:
+        with stage.serve(reads(lengths), "--forever") as _line:
+            stage.file("m", reads(lengths))
+            words = ("master", "m", "--at", both_ends(stage), "--cycles", "2", "--pcap", "c", "--force")
+            told = stage.ends(*words, *PATIENCE)
+            yield "sums", sums(2), timed("".join(re.findall("cycles? .*\n", told)))
+            yield "status", "0", told.splitlines()[-1]
+        longest = max(len(frame) for _leaves, _end, frame in kept_frames(stage, "c"))
+        yield "bytes of the longest frame", "1500", str(longest)
+
+
+def kept_frames(stage, name):
+    """The frames of a capture that a master kept: of each whether it leaves the master, at which port, and
+    its bytes."""
+    for _time, packet in packets_of(stage, name):
+        length = 2 + struct.unpack_from("<H", packet, 14)[0] % 2048
+        yield packet[6] == 0x10, "ab"[packet[11] - 10], packet[14:14 + length]
+
+
+def datagrams_of(frame):
+    """Each datagram of a frame: its command, index, data and counter."""
+    at, more = 2, True
+    while more:
+        length = struct.unpack_from("<H", frame, at + 6)[0]
+        size, more = length % 2048, length >> 15
+        counter = struct.unpack_from("<H", frame, at + 10 + size)[0]
+        yield frame[at], frame[at + 1], frame[at + 10:at + 10 + size], counter
+        at += 12 + size
+
+
+@case
+def a_master_puts_a_number_behind_each_frame(stage):
+    """In a NOP of eight bytes, which no slave counts: an even one at port A and the next one at port B, and
+    two more on each trip. Indexes are the places of the items, and a cycle sends its round for each counter:
+    2,048 more than the cycle before. The first frame at each port asks nothing, and has no number."""
+    with stage.serve(MACHINE, "--forever") as _line:
+        stage.file("m", MACHINE)
+        words = ("master", "m", "--at", both_ends(stage), "--cycles", "5", "--pcap", "c", *PATIENCE)
+        yield "master", "0", stage.ends(*words).splitlines()[-1]
+    numbers, came, cycles, counts = {"a": [], "b": []}, [], [], []
+    for leaves, end, frame in kept_frames(stage, "c"):
+        *asked_for, (command, index, data, counter) = datagrams_of(frame)
+        if not asked_for:
+            yield "a first frame", "0 0 0000 0", f"{command} {index} {data.hex()} {counter}"
+            continue
+        yield "its number", "0 0 8 0", f"{command} {index} {len(data)} {counter}"
+        (numbers[end] if leaves else came).append(int.from_bytes(data, "little"))
+        yield "indexes", str([*range(len(asked_for))]), str([one[1] for one in asked_for])
+        if leaves:
+            yield "counters", "[0]", str(sorted({one[3] % 2048 for one in asked_for}))
+        if asked_for[0][0] == LRW:
+            (cycles if leaves else counts).append([one[3] for one in asked_for])
+    first = numbers["a"][0]
+    for end, number in (("a", first), ("b", first + 1)):
+        wanted = [(number + 2 * k) % 2**64 for k in range(len(numbers[end]))]
+        yield f"numbers at port {end}", str(wanted), str(numbers[end])
+    yield "an even one", "0", str(first % 2)
+    yield "came back", str(sorted(numbers["a"] + numbers["b"])), str(sorted(came))
+    yield "cycles", "10", str(len(cycles))
+    counted = [[2048 * k + count for count in gained] for k in range(5) for gained in ([0, 0, 0], [9, 3, 3])]
+    yield "counted", str(counted), str(sorted(counts))
+    rows = [row.split() for row in stage.ends("list", "c").splitlines()[:-1]]
+    listed = [row for row in rows if row[4] == "NOP" and row[6] == "8"]
+    yield "listed", str(len(came) + 2 * len(numbers["a"])), str(len(listed))
+    yield "as a NOP", "NOP 0x0000:0x0000 8 wkc 0", " ".join(sorted({" ".join(row[4:9]) for row in listed}))
+
+
+@case
+def numbers_are_in_nobodys_way_who_reads_a_capture(stage):
+    """What a master kept is learned and judged as if there were none."""
+    with stage.serve(MACHINE, "--forever") as _line:
+        stage.file("m", MACHINE)
+        words = ("master", "m", "--at", both_ends(stage), "--cycles", "20", "--pcap", "c", *PATIENCE)
+        yield "master", "0", stage.ends(*words).splitlines()[-1]
+    rows = stage.ends("learn", "c").splitlines()
+    yield "learn", "0", rows.pop()
+    records = [row for row in rows if row.split()[:1] in (["slave"], ["sm"], ["fmmu"], ["state"])]
+    yield "records", FOUND, "\n".join([*records, ""])
+    rows = stage.ends("judge", "c", "m").splitlines()
+    yield "judge", "0", rows.pop()
+    for text in ("item 0 LRW 0x00010000 3 bytes: ", "item 1 BRD 0x0130 2 bytes: "):
+        told = "".join(row for row in rows if row.startswith(text))
+        yield text, "True", "True" if re.search(r"sent (\d+) good \1 short 0 over 0 lost 0$", told) else told
 
 
 @contextlib.contextmanager
@@ -1449,7 +1567,7 @@ def a_limit_below_a_millisecond_is_waited_for(stage):
     apart = ["unshare", "-rn", sys.executable, "-c", AT_LOOPBACK]
     if not shutil.which("unshare") or subprocess.run([*apart, "true"], capture_output=True).returncode:
         return
-    words = [stage.ecat, "scan", "--raw", "{}", "--limit", "900", "--late", "1"]
+    words = [stage.ecat, "scan", "--raw", "{}", "--limit", "900"]
     told = subprocess.run([*apart, *words], stdout=subprocess.PIPE, text=True, timeout=stage.limit).stdout
     *rows, trips = told.splitlines()
     yield "scan", "nobody answers at A\n1", "\n".join(rows)
@@ -1730,16 +1848,15 @@ def as_it_came(_place, _sent, leaves, packet):
 
 @case
 def a_port_is_told_at_which_nothing_came_for_100_cycles(stage):
-    """In the cycle 2, and from the cycle 5 on, what is given at port B is no copy, and more of it than a port
-    passes over, so that the master does not wait; from the cycle 110 on copies come there again. In the cycle
-    50 none comes at either port, which tells nothing of one of them."""
+    """In the cycle 2, and from the cycle 5 on, what is given at port B is no copy; from the cycle 110 on copies
+    come there again. In the cycle 50 none comes at either port, which tells nothing of one of them."""
     def gives(place, _sent, leaves, packet):
         is_silent = place[0] == 2 or 5 <= place[0] < 110
         if place[1] == 0 and (leaves == B and is_silent or place[0] == 50):
-            return 65 * [(leaves, b"late")]
+            return [(leaves, b"late")]
         return [(leaves, packet)]
 
-    with master_behind(stage, 112, *PATIENCE, gives=gives) as (_line, between, master):
+    with master_behind(stage, 112, "--limit", "50000", gives=gives) as (_line, between, master):
         told_of = "cycle 105: nothing came at port B for 100 cycles\ncycle 110: copies come at port B again\n"
         end = between.until_the_end_of(master)
         yield "ports", told_of, "".join(row for row in end.splitlines(True) if "port" in row)
