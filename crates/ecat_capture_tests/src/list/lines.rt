@@ -6,9 +6,9 @@ use ecat_list::{Form, Listed};
 use std::alloc::{AllocError, Global};
 use std::process::Abort;
 
-/// The three forms of one capture; nanoseconds, where the file has them; damage, which is told behind what
-/// came before; and the numbers of frames, which are datagrams as others are.
-const ROWS: [Row; 6] = [
+/// The three forms of one capture; nanoseconds, where the file has them; and damage, which is told behind
+/// what came before.
+const ROWS: [Row; 5] = [
     Row {
         sample: Sample::Mixed,
         form: Form::Lines,
@@ -54,27 +54,6 @@ const ROWS: [Row; 6] = [
             kind: CaptureFaultKind::Short,
             at: 68,
         }),
-    },
-    Row {
-        sample: Sample::Numbered,
-        form: Form::Lines,
-        text: "1 0.000000 10:52:4d:50:00:0a 0 LRW 0x00010000 1 wkc 0 00\n\
-            1 0.000000 10:52:4d:50:00:0a 1 NOP 0x0000:0x0000 8 wkc 0 0600000000000000\n\
-            2 0.000000 10:52:4d:50:00:0b 0 LRW 0x00010000 1 wkc 0 00\n\
-            2 0.000000 10:52:4d:50:00:0b 1 NOP 0x0000:0x0000 8 wkc 0 0700000000000000\n\
-            3 0.000000 12:52:4d:50:00:0a 0 LRW 0x00010000 1 wkc 3 12\n\
-            3 0.000000 12:52:4d:50:00:0a 1 NOP 0x0000:0x0000 8 wkc 0 0600000000000000\n\
-            4 0.000000 10:52:4d:50:00:0b 0 LRW 0x00010000 1 wkc 0 00\n\
-            4 0.000000 10:52:4d:50:00:0b 1 NOP 0x0000:0x0000 8 wkc 0 0700000000000000\n\
-            5 0.001000 10:52:4d:50:00:0a 0 LRW 0x00010000 1 wkc 0 00\n\
-            5 0.001000 10:52:4d:50:00:0a 1 NOP 0x0000:0x0000 8 wkc 0 0800000000000000\n\
-            6 0.001000 10:52:4d:50:00:0b 0 LRW 0x00010000 1 wkc 0 00\n\
-            6 0.001000 10:52:4d:50:00:0b 1 NOP 0x0000:0x0000 8 wkc 0 0900000000000000\n\
-            7 0.001000 12:52:4d:50:00:0a 0 LRW 0x00010000 1 wkc 3 12\n\
-            7 0.001000 12:52:4d:50:00:0a 1 NOP 0x0000:0x0000 8 wkc 0 0800000000000000\n\
-            8 0.001000 10:52:4d:50:00:0b 0 LRW 0x00010000 1 wkc 0 00\n\
-            8 0.001000 10:52:4d:50:00:0b 1 NOP 0x0000:0x0000 8 wkc 0 0900000000000000\n",
-        listed: Listed::Whole,
     },
 ];
 

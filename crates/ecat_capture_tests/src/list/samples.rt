@@ -19,13 +19,6 @@ static APRD: [u8; 28] = [
     1, 9, 0xfe, 0xff, 0x30, 1, 0, 0, 0, 0, 0, 0,
 ];
 
-/// A frame of an LRW of a byte at 0x00010000, and behind it of the number 6 of its copy, as port A sends it.
-static NUMBERED: [u8; 49] = [
-    1, 1, 5, 4, 0, 0, 0x10, 0x52, 0x4d, 0x50, 0, 0x0a, 0x88, 0xa4, 0x21, 0x10, //
-    12, 0, 0, 0, 1, 0, 1, 0x80, 0, 0, 0, 0, 0, //
-    0, 0, 0, 0, 0, 0, 8, 0, 0, 0, 6, 0, 0, 0, 0, 0, 0, 0, 0, 0,
-];
-
 /// A capture.
 #[derive(Clone, Copy, Debug)]
 pub(super) enum Sample {
@@ -43,8 +36,6 @@ pub(super) enum Sample {
     TenCounters,
     /// Packets of 4200 groups, and one group more that they share.
     ManyGroups,
-    /// Two cycles over a closed ring, with numbers behind the frames.
-    Numbered,
 }
 
 /// The file of a capture.
@@ -57,7 +48,6 @@ pub(super) fn file_of(alloc: Global, sample: Sample) -> Result<Vec<u8>, AllocErr
         Sample::WrongCounter => wrong_counter(alloc),
         Sample::TenCounters => ten_counters(alloc),
         Sample::ManyGroups => many_groups(alloc),
-        Sample::Numbered => numbered(alloc),
     }
 }
 
@@ -151,37 +141,6 @@ fn many_groups(alloc: Global) -> Result<Vec<u8>, AllocError> {
         let mut packet = Vec::from_slice(alloc, &LRW_FPRD)?;
         put(&mut packet, 18, &k.to_le_bytes());
         record(&mut file, [0, 0], &packet)?;
-    }
-    Ok(file)
-}
-
-/// A packet of the frame with a number: by which address it goes, the byte and the counter of its exchange, and
-/// its number.
-fn put_numbered(
-    file: &mut Vec<u8>,
-    alloc: Global,
-    time: u32,
-    from: [u8; 2],
-    exchanged: [u8; 2],
-    number: u8,
-) -> Result<(), AllocError> {
-    let mut packet = Vec::from_slice(alloc, &NUMBERED)?;
-    put(&mut packet, 6, &from[..1]);
-    put(&mut packet, 11, &from[1..]);
-    put(&mut packet, 26, &exchanged);
-    put(&mut packet, 39, &[number]);
-    record(file, [0, time], &packet)
-}
-
-/// Two cycles, in each of which both ports send a copy: that of port A comes back from all slaves at port B,
-/// and that of port B as it was at port A.
-fn numbered(alloc: Global) -> Result<Vec<u8>, AllocError> {
-    let mut file = Vec::from_slice(alloc, &HEADER)?;
-    for (time, a, b) in [(0, 6, 7), (1000, 8, 9)] {
-        put_numbered(&mut file, alloc, time, [0x10, 0x0a], [0, 0], a)?;
-        put_numbered(&mut file, alloc, time, [0x10, 0x0b], [0, 0], b)?;
-        put_numbered(&mut file, alloc, time, [0x12, 0x0a], [0x12, 3], a)?;
-        put_numbered(&mut file, alloc, time, [0x10, 0x0b], [0, 0], b)?;
     }
     Ok(file)
 }

@@ -166,17 +166,6 @@ fn eight_counters_are_told_apart_in_the_order_in_which_they_came(rt: HostRuntime
 }
 
 #[test]
-fn numbers_of_frames_are_one_group(rt: HostRuntime) {
-    if let Ok(file) = file_of(rt.alloc(), Sample::Numbered) {
-        let text = "packets 8, first at 1970-01-01T00:00:00.000000Z\n\
-            sent 4, returned 4; told by place 2, mark 6\n\
-            LRW 0x00010000 1 bytes: 2 sent, 2 back of wkc 3\n\
-            NOP 0x0000:0x0000 8 bytes: 2 sent, 2 back of wkc 0\n";
-        tallies(&rt, rt.alloc(), false, &file, text);
-    }
-}
-
-#[test]
 fn a_capture_of_no_frame_has_its_packets_told(rt: HostRuntime) {
     if let Ok(file) = capture(rt.alloc(), &[]) {
         let text = "packets 0\nsent 0, returned 0\n";
