@@ -6,3 +6,4 @@ pub mod Travel
 pub mod Lending
 pub mod Weather
 pub mod Arrivals
+pub mod Late

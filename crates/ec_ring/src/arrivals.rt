@@ -12,6 +12,7 @@ ghost use Rattle.ec_ring.specs.declared.arrivals.Arrival.{Arrival};
 ghost use Rattle.ec_ring.specs.declared.arrivals.Arrivals.{Arrivals};
 ghost use Rattle.ec_ring.specs.declared.port.PortFault.{PortFault};
 
+use crate::late::LateCopies;
 use crate::links::Links;
 use crate::port::{Port, PortFault};
 use crate::ring::Ring;
@@ -91,6 +92,31 @@ pub trait HeardPorts {
     /// How many trips have failed.
     fn failures(&self) -> u64
         ensures { result ≡ failed self.now };
+
+    /// A cycle begins. Up to [`HeardPorts::end_cycle`] each trip is of the cycle's next frame, and ports that
+    /// wait for copies need not wait for longer than so many microseconds from now on, where there are any.
+    fn begin_cycle(&mut self, _left: Option<u64>)
+        ensures { self.new ≡ self.old }
+    {}
+
+    /// The cycle is over: what goes out now is none of its frames.
+    fn end_cycle(&mut self)
+        ensures { self.new ≡ self.old }
+    {}
+
+    /// How many trips these ports have made, as far as they tell copies of earlier trips from those of
+    /// others; else 0.
+    fn trips_made(&self) -> u64 {
+        0
+    }
+
+    /// Which copies of earlier trips came since it was last asked, later than their trips; none where the
+    /// ports can't tell.
+    fn take_late(&mut self) -> LateCopies
+        ensures { self.new ≡ self.old }
+    {
+        LateCopies::none()
+    }
 }
 
 /// A ring of simulated slaves as ports that say where copies arrived: each frame travels over it under the

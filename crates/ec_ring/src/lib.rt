@@ -41,6 +41,7 @@
 //! copy's way), `Travel` (both copies), `Ring`.
 
 pub mod arrivals;
+pub mod late;
 pub mod links;
 pub mod port;
 pub mod promises;
@@ -49,6 +50,7 @@ pub mod travel;
 pub mod weather;
 
 pub use arrivals::{Arrival, Arrivals, HeardPorts};
+pub use late::LateCopies;
 pub use links::{Links, MAX_LINKS, MAX_SLAVES};
 pub use port::{Port, PortFault, count_failure};
 pub use ring::{Ring, RingFault};
