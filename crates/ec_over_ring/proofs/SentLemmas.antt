@@ -1,5 +1,5 @@
--- What a running master sends in each cycle asks what its items ask: outputs and the start of a round leave
--- the kind, the address and the size of an item.
+-- What a running master sends in each cycle asks what its items ask: outputs and counters of 0 leave the kind,
+-- the address and the size of an item.
 use Rattle.std.proofs.Common.{◌≡◌, ℕ, Bool, true, false, cond, List, [], ◌∷◌, length, map}
 use Rattle.std.proofs.Common.{length-append, length-drop, refl, ap, ◌∙◌, arith}
 use Rattle.std.proofs.lemmas.List.{length-take}
@@ -9,7 +9,7 @@ use Rattle.ec_wire.specs.Command.{writes}
 use Rattle.ec_wire.specs.Kind.{command_of}
 use Rattle.ec_map.specs.Item.{ItemRecord, IsItem, AsksTheSame, is_broadcast, item_fault}
 use Rattle.ec_master.specs.Again.{AskTheSame}
-use Rattle.ec_master.specs.Rounds.{begun, round_counter}
+use Rattle.ec_master.specs.Work.{rewound}
 use Rattle.ec_run.specs.Cycles.{items_sent}
 use Rattle.ec_run.specs.Outputs.{filled, image_of, in_front, left_by, numbered, outputs_at}
 use Rattle.ec_run.specs.declared.cycles.Cycles.{Cycles}
@@ -23,21 +23,21 @@ asks_itself : (items : List ItemRecord) → AskTheSame items items
 asks_itself [] = tt
 asks_itself (r ∷ rs) = (record { kind = refl; address = refl; size = refl }, asks_itself rs)
 
--- so does an item at the start of a round
-asks_begun : (k : ℕ) (r s : ItemRecord) → AsksTheSame r s → AsksTheSame r (begun k s)
-asks_begun k r s asks =
+-- so does one that is rewound
+asks_rewound : (r s : ItemRecord) → AsksTheSame r s → AsksTheSame r (rewound s)
+asks_rewound r s asks =
     let P : Bool → Type 0 = λ b. AsksTheSame r
-    (cond b (record s { counter = round_counter k; adp = 0 }) (record s { counter = round_counter k })) in
+    (cond b (record s { counter = 0; adp = 0 }) (record s { counter = 0 })) in
     elim (is_broadcast s.kind) as P [
       | true ↦ record { kind = asks.kind; address = asks.address; size = asks.size }
       | false ↦ record { kind = asks.kind; address = asks.address; size = asks.size }
     ]
 
-ask_begun : (k : ℕ) (rs ss : List ItemRecord) → AskTheSame rs ss → AskTheSame rs (map (begun k) ss)
-ask_begun k [] [] asks = tt
-ask_begun k [] (s ∷ ss) asks = absurd asks
-ask_begun k (r ∷ rs) [] asks = absurd asks
-ask_begun k (r ∷ rs) (s ∷ ss) asks = (asks_begun k r s asks.0, ask_begun k rs ss asks.1)
+ask_rewound : (rs ss : List ItemRecord) → AskTheSame rs ss → AskTheSame rs (map rewound ss)
+ask_rewound [] [] asks = tt
+ask_rewound [] (s ∷ ss) asks = absurd asks
+ask_rewound (r ∷ rs) [] asks = absurd asks
+ask_rewound (r ∷ rs) (s ∷ ss) asks = (asks_rewound r s asks.0, ask_rewound rs ss asks.1)
 
 -- bytes in front of data leave their number
 length-in_front : (bytes payload : List ℕ) → length (in_front bytes payload) ≡ length payload
@@ -73,24 +73,23 @@ ask_outputs (Images images) cycle rs = ask_filled (image_of images.now cycle) rs
 pub sent_asks : (outputs : Outputs) (s : Cycles) → AskTheSame s.asked (items_sent outputs s)
 sent_asks outputs s =
     let k : ℕ = s.counts.cycles in
-    ask_begun k s.asked (outputs_at outputs k s.asked) (ask_outputs outputs k s.asked)
+    ask_rewound s.asked (outputs_at outputs k s.asked) (ask_outputs outputs k s.asked)
 
 -- ---- they are items
 
--- an item at the start of a round is an item
-item_begun : (k : ℕ) (r : ItemRecord) → IsItem r → IsItem (begun k r)
-item_begun k r item =
+-- an item that is rewound is an item
+item_rewound : (r : ItemRecord) → IsItem r → IsItem (rewound r)
+item_rewound r item =
     let P : Bool → Type 0 = λ b. IsItem
-    (cond b (record r { counter = round_counter k; adp = 0 }) (record r { counter = round_counter k })) in
+    (cond b (record r { counter = 0; adp = 0 }) (record r { counter = 0 })) in
     elim (is_broadcast r.kind) as P [
       | true ↦ record { good = item.good; address = item.address; counter = omega arith; adp = omega arith }
       | false ↦ record { good = item.good; address = item.address; counter = omega arith; adp = item.adp }
     ]
 
-items_begun : (k : ℕ) (rs : List ItemRecord) → AllByRecursion IsItem rs
-    → AllByRecursion IsItem (map (begun k) rs)
-items_begun k [] each = tt
-items_begun k (r ∷ rs) each = (item_begun k r each.0, items_begun k rs each.1)
+items_rewound : (rs : List ItemRecord) → AllByRecursion IsItem rs → AllByRecursion IsItem (map rewound rs)
+items_rewound [] each = tt
+items_rewound (r ∷ rs) each = (item_rewound r each.0, items_rewound rs each.1)
 
 -- and so is one with other outputs
 item_filled : (r : ItemRecord) (bytes : List ℕ) → IsItem r
@@ -129,4 +128,4 @@ pub sent_items : (outputs : Outputs) (s : Cycles) → AllByRecursion IsItem s.as
     → AllByRecursion IsItem (items_sent outputs s)
 sent_items outputs s each =
     let k : ℕ = s.counts.cycles in
-    items_begun k (outputs_at outputs k s.asked) (items_outputs outputs k s.asked each)
+    items_rewound (outputs_at outputs k s.asked) (items_outputs outputs k s.asked each)

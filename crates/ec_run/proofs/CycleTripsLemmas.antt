@@ -8,7 +8,7 @@ use Rattle.ec_line.specs.Answered.{sent_of}
 use Rattle.ec_map.specs.Item.{ItemRecord}
 use Rattle.ec_master.specs.Cut.{cut, cut_onto, entries_from, fits_frame, frames_of}
 use Rattle.ec_master.specs.Ports.{Outcome, Sends, Trips}
-use Rattle.ec_master.specs.Rounds.{begun}
+use Rattle.ec_master.specs.Work.{rewound}
 use Rattle.ec_run.specs.Cycles.{End, IsCycle, items_sent}
 use Rattle.ec_run.specs.Outputs.{outputs_at}
 use Rattle.ec_run.specs.Travels.{IsWithin}
@@ -72,7 +72,7 @@ pub cycle_within : {P : Type 0} (trips : Trips P) (before later : P) (outputs : 
 cycle_within trips before later outputs expected s after end cycle =
     let items : List ItemRecord = items_sent outputs s in
     let size : length items ≡ length s.asked =
-    length-map (outputs_at outputs s.counts.cycles s.asked) (begun s.counts.cycles)
+    length-map (outputs_at outputs s.counts.cycles s.asked) rewound
     ∙ length_of_outputs outputs s.counts.cycles s.asked in
     let few : length (map sent_of (frames_of items)) ≤ length items = frames_few items in
     within_less trips _ (length s.asked) before later (omega (arith, size, few))

@@ -3,8 +3,8 @@
 use Rattle.std.specs.Prelude.{◌≡◌, ℕ, zero, suc, ◌+◌, Option, None, Some, List, map, Result, Ok, Err}
 use Rattle.ec_map.specs.Item.{ItemRecord}
 use Rattle.ec_master.specs.Ports.{Trips, IsPortCycle}
-use Rattle.ec_master.specs.Rounds.{begun}
 use Rattle.ec_master.specs.Suffice.{FramesSuffice}
+use Rattle.ec_master.specs.Work.{rewound}
 use Rattle.ec_master.specs.declared.cycle.CycleFault.{CycleFault}
 use Rattle.ec_master.specs.declared.verdict.Verdict.{Verdict}
 use Rattle.ec_master.specs.declared.verdict.Verdict.TheVariants.{Good, Short, Over}
@@ -48,9 +48,9 @@ image_after (Ok verdict) image brought = elim verdict [
   | _ ↦ image
 ]
 
--- the items that the next cycle sends: with its outputs, and at the start of the round of its number
+-- the items that the next cycle sends: with its outputs, and rewound
 abbrev pub items_sent : Outputs → Cycles → List ItemRecord
-items_sent outputs s = map (begun s.counts.cycles) (outputs_at outputs s.counts.cycles s.asked)
+items_sent outputs s = map rewound (outputs_at outputs s.counts.cycles s.asked)
 
 -- one cycle over ports, of which all is said that a cycle over ports says; its end is counted, and it gives
 -- the image on a good verdict alone

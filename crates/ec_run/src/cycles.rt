@@ -58,8 +58,8 @@ impl Cycles {
         }
     }
 
-    /// Makes one cycle: its outputs are put into the items, which begin the round of its number, and go out
-    /// over the ports (`run_cycle`). On a good verdict, and only then, the image is what they bring back.
+    /// Makes one cycle: its outputs are put into the items, which go out over the ports with counters of 0
+    /// (`run_cycle`). On a good verdict, and only then, the image is what they bring back.
     pub fn cycle<P: Ports>(
         &mut self,
         ports: &mut P,
@@ -96,7 +96,7 @@ impl Cycles {
         ensures never_lower { P.failed ports.old ≤ P.failed ports.new }
     {
         outputs.put(self.counts.cycles, &self.asked, &mut rooms.work);
-        rooms.work.begin_round(self.counts.cycles);
+        rooms.work.rewind();
         let ended = run_cycle_in(ports, &mut rooms.work, expected, &mut rooms.sent);
         self.counts = self.counts.with(ended);
         self.take(ended, &rooms.work);

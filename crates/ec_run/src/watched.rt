@@ -8,7 +8,7 @@ ghost use Rattle.ec_run.specs.Watched.{WatchedTrips, untold};
 use crate::tally::{Signs, Tally};
 use ec_diag::{Located, locate};
 use ec_master::{PortFault, Ports};
-use ec_ring::{Came, HeardPorts, Port};
+use ec_ring::{Came, HeardPorts, LateCopies, Port};
 use ec_wire::FrameBuf;
 use std::marker::Model;
 
@@ -51,6 +51,33 @@ impl<P: HeardPorts> Watched<P> {
         ensures { self.new ≡ untold self.old.ports }
     {
         self.tally = Tally::new();
+    }
+
+    /// Tells the ports that a cycle begins, as [`HeardPorts::begin_cycle`], and forgets what was told.
+    pub fn begin_cycle(&mut self, left: Option<u64>)
+        ensures { self.new ≡ untold self.old.ports }
+    {
+        self.clear();
+        self.ports.begin_cycle(left);
+    }
+
+    /// Tells the ports that the cycle is over, as [`HeardPorts::end_cycle`].
+    pub fn end_cycle(&mut self)
+        ensures { self.new ≡ self.old }
+    {
+        self.ports.end_cycle();
+    }
+
+    /// How many trips the ports have made, as [`HeardPorts::trips_made`] says it.
+    pub fn trips_made(&self) -> u64 {
+        self.ports.trips_made()
+    }
+
+    /// Which copies of earlier trips came late since it was last asked, as [`HeardPorts::take_late`] says it.
+    pub fn take_late(&mut self) -> LateCopies
+        ensures { self.new ≡ self.old }
+    {
+        self.ports.take_late()
     }
 
     /// Did any copy come?
