@@ -11,7 +11,7 @@ use crate::ethernet::{ADDRESS_A, ADDRESS_B, answer_in, packet_of};
 use crate::sockets::{Descriptors, PACKET, PacketSocket, RawFault, open_both};
 use ec_ring::{Port, PortFault, count_failure};
 use ec_wire::{MAX_FRAME, PACKET_ROOM};
-use ecat_remote::{Carrier, copy_front};
+use ecat_remote::{Carrier, Ready, copy_front, wait_at};
 use std::io::{self, ErrorKind};
 
 /// A packet socket at each port of the master; with one alone port B sends and receives nothing.
@@ -19,9 +19,9 @@ use std::io::{self, ErrorKind};
 /// A frame goes out to every station from `ADDRESS_A` or `ADDRESS_B`. What comes in is taken for an answer
 /// where its type is 0x88A4, with at most two tags before it, and its source address says that it has passed
 /// a controller: so a port takes neither its own frame for an answer nor another master's. Any other packet
-/// is received as one of no bytes. A receive waits in whole milliseconds, as many as there are begun ones;
-/// that no packet came by then is no failure. Each other error of the system counts as a failure, as of an
-/// interface that is down.
+/// is received as one of no bytes. A receive that waits by itself does so in whole milliseconds, as many as
+/// there are begun ones; that no packet came by then is no failure. Each other error of the system counts as
+/// a failure, as of an interface that is down.
 #[derive(Drop)]
 pub struct RawCarrier {
     a: PacketSocket,
@@ -83,6 +83,10 @@ impl Carrier for RawCarrier {
             Err(fault) if is_silence(&fault) => Ok(()),
             Err(_) => count_failure(&mut self.failures),
         }
+    }
+
+    fn wait(&self, within: u64) -> Ready {
+        wait_at(&self.a.socket, self.b.as_ref().map(|b| &b.socket), within)
     }
 
     fn receive(

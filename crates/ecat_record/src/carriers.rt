@@ -5,7 +5,7 @@ use crate::copies::{Recorder, Way};
 use crate::moments::Moments;
 use ec_ring::{Port, PortFault};
 use ec_wire::PACKET_ROOM;
-use ecat_remote::Carrier;
+use ecat_remote::{Carrier, Ready};
 use std::io::Write;
 
 /// A carrier of which each packet is recorded as it is on the wire, with its number: as it leaves a port of
@@ -41,6 +41,10 @@ impl<C: Carrier, W: Write, M: Moments> Carrier for TapedCarrier<'_, C, W, M> {
             self.recorder.copy(from, Way::Leaves, bytes);
         }
         self.carrier.send(from, bytes)
+    }
+
+    fn wait(&self, within: u64) -> Ready {
+        self.carrier.wait(within)
     }
 
     fn receive(

@@ -19,7 +19,7 @@ use Rattle.ecat_remote.specs.Network.{frame_from, frame_if, first_of, by_number,
 use Rattle.ecat_remote.specs.Taken.{Gives, Heard, AreBoth, IsCopyOfTrip, number_from, sent_from}
 use Rattle.ecat_remote.specs.Trips.{RemoteState, RemoteTrips, IsTurn}
 use Rattle.ecat_remote.specs.declared.copies.NumberedCopy.{NumberedCopy}
-use Rattle.ecat_remote.specs.declared.ports.Both.{Both}
+use Rattle.ecat_remote.specs.declared.enough.Both.{Both}
 
 -- ---- trips of the past
 
@@ -106,7 +106,7 @@ pub came_by_number : {C : Type 0} (gives : Gives C) (heard : Heard C) (since n :
     (CameUnder (number_from n from) sent)
 came_by_number gives heard since n sent both later from are =
     came_first (CameUnder (number_from n from) sent) (frame_if from both.a) (frame_if from both.b)
-    (came_if n sent None are.a.packet from both.a are.a.is)
+    (came_if n sent (sent_from both.b) are.a.packet from both.a are.a.is)
     (came_if n sent (sent_from both.a) are.b.packet from both.b are.b.is)
 
 pub with_both : (P Q : List DatagramRecord → Type 0) (taken : Option (List DatagramRecord)) → IfSome taken P

@@ -37,7 +37,7 @@ use Rattle.ecat_remote.specs.Moving.{GaveMoving, NetworkGaveMoving, losing_each}
 use Rattle.ecat_remote.specs.Network.{by_number, Takes, TakesAll}
 use Rattle.ecat_remote.specs.Taken.{Gives, Heard, AreBoth}
 use Rattle.ecat_remote.specs.Trips.{RemoteState, IsTurn}
-use Rattle.ecat_remote.specs.declared.ports.Both.{Both}
+use Rattle.ecat_remote.specs.declared.enough.Both.{Both}
 use Rattle.ec_ring.specs.declared.port.Port.TheVariants.{A, B}
 use Rattle.ecat_remote.proofs.HistoryLemmas.{with_both, came_by_number}
 use Rattle.ecat_remote.proofs.NetworkLemmas.{both_in_either}

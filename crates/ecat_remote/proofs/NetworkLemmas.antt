@@ -1,5 +1,5 @@
 -- Over a network that gives whatever it will, what a cycle brings is what the ring's own trips give.
-use Rattle.std.specs.Prelude.{◌≡◌, ◌≢◌, ◌⊎◌, ◌+◌, ◌≤◌, ◌<◌, ℕ, Bool, true, false}
+use Rattle.std.specs.Prelude.{◌≡◌, ◌≢◌, ◌⊎◌, ◌≤◌, ◌<◌, ℕ, Bool, true, false}
 use Rattle.std.specs.Prelude.{List, [], ◌∷◌, ◌++◌, length, map, Option, None, Some, Ok, Err, Result, refl}
 use Rattle.std.specs.List.{AllByRecursion}
 use Rattle.std.proofs.Common.{arith, ap, sym, subst, ◌∙◌, inl, inr, cond, suc}
@@ -43,16 +43,11 @@ use Rattle.ecat_remote.specs.Taken.{Gives, Heard, AreBoth, IsCopyOfTrip, sent_fr
 use Rattle.ecat_remote.specs.Trips.{RemoteState, RemoteTrip, RemoteTrips, HeardCopies, HeardTrips, IsTurn}
 use Rattle.ecat_remote.specs.Trips.{HasRoom, arrivals_of, came_of}
 use Rattle.ecat_remote.specs.declared.copies.NumberedCopy.{NumberedCopy}
-use Rattle.ecat_remote.specs.declared.ports.Both.{Both}
+use Rattle.ecat_remote.specs.declared.enough.Both.{Both}
 use Rattle.ecat_remote.proofs.HistoryLemmas.{meets, made_now}
+use Rattle.ecat_remote.proofs.TakenLemmas.{another}
 
 -- ---- two copies of one trip
-
--- a copy that is taken is not the one that was taken already
-another : (trip : ℕ) (sent : List DatagramRecord) (already : Option Port) (packet : Option (List ℕ))
-    (copy : NumberedCopy) → IsCopyOfTrip trip sent already packet (Some copy) → already ≢ Some copy.from
-another trip sent already None copy is = absurd (let no : Some copy ≡ None = is in cc)
-another trip sent already (Some packet) copy is = is.another
 
 -- copies as they were received are those by their numbers, or exchanged
 abbrev InEither : Option NumberedCopy → Option NumberedCopy → Type 0
@@ -97,7 +92,8 @@ both_in_either gives heard since trip sent both later are =
     in_either both.a both.b
     (λ copy is.
     another trip sent (sent_from both.a) are.b.packet copy
-    (subst (λ (b : Option NumberedCopy). IsCopyOfTrip trip sent (sent_from both.a) are.b.packet b) is are.b.is))
+    (subst (λ (b : Option NumberedCopy). IsCopyOfTrip trip sent (sent_from both.a) are.b.packet b)
+    is are.b.is))
 
 -- ---- one trip
 

@@ -1,4 +1,6 @@
 pub mod Taken
+pub mod Enough
+pub mod Waiting
 pub mod Trips
 pub mod Late
 pub mod History

@@ -1,5 +1,5 @@
--- A network that gives packets whenever and as often as it will, of these trips, of others, of earlier runs and of
--- other masters, seen from the ports: which copies were taken on each trip, and what is asked of them.
+-- A network that gives packets whenever and as often as it will, of these trips, of others, of earlier runs
+-- and of other masters, seen from the ports: which copies were taken on each trip, and what is asked of them.
 use Rattle.std.specs.Prelude.{◌≡◌, ℕ, ◌+◌, ◌%◌, ◌^◌, List, [], ◌∷◌, length, Option, None, Some}
 use Rattle.std.specs.Prelude.{IfSome, Result, Ok, Err}
 use Rattle.ec_wire.specs.Datagram.{DatagramRecord}
@@ -22,7 +22,7 @@ use Rattle.ecat_remote.specs.Taken.{Gives, Heard, AreBoth, opened_came}
 use Rattle.ecat_remote.specs.History.{PastTrip}
 use Rattle.ecat_remote.specs.Trips.{RemoteState, IsTurn}
 use Rattle.ecat_remote.specs.declared.copies.NumberedCopy.{NumberedCopy}
-use Rattle.ecat_remote.specs.declared.ports.Both.{Both}
+use Rattle.ecat_remote.specs.declared.enough.Both.{Both}
 
 -- ---- what was taken
 
@@ -81,8 +81,9 @@ pasts_of number _ _ = []
 
 -- ---- what the network gave
 
--- what was taken on a trip: what bears a number of this trip is one of its two copies. Nobody else makes packets
--- with its numbers, and each copy walked once over the line; what bears other numbers, or none, may be anything
+-- what was taken on a trip: what bears a number of this trip is one of its two copies. Nobody else makes
+-- packets with its numbers, and each copy walked once over the line; what bears other numbers, or none, may
+-- be anything
 pub record Gave (m : Made) (taken : Came) : Type 0 where
   pub a : IfSome taken.a (λ (copy : List DatagramRecord). BearsOneOf m.number copy → GoesBack m copy)
   pub b : IfSome taken.b (λ (copy : List DatagramRecord). BearsOneOf m.number copy → GoesBack m copy)

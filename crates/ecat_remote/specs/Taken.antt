@@ -1,7 +1,7 @@
 -- What a master takes of the packets that its ports give (IEC 61158-4-12, the datagram structure): each copy
 -- of a frame goes out under a number of its own, and a packet is taken for a copy exactly where it spells a
 -- frame that came of that numbered copy.
-use Rattle.std.specs.Prelude.{◌≡◌, ◌≢◌, ◌≤◌, ℕ, List, Option, None, Some}
+use Rattle.std.specs.Prelude.{◌≡◌, ◌≢◌, ◌≤◌, ℕ, List, Option, None, Some, IfSome}
 use Rattle.std.specs.Option.{option_map}
 use Rattle.ec_wire.specs.Datagram.{DatagramRecord}
 use Rattle.ec_ring.specs.declared.port.Port.{Port}
@@ -10,7 +10,7 @@ use Rattle.ec_ring.specs.declared.weather.Came.{Came}
 use Rattle.ec_number.specs.Number.{IsCopy, numbered, opened, number_a, number_b}
 use Rattle.ecat_remote.specs.declared.copies.Outgoing.{Outgoing}
 use Rattle.ecat_remote.specs.declared.copies.NumberedCopy.{NumberedCopy}
-use Rattle.ecat_remote.specs.declared.ports.Both.{Both}
+use Rattle.ecat_remote.specs.declared.enough.Both.{Both}
 
 -- what receives give: the carrier before, the port, a packet or none, and the carrier after
 abbrev pub Gives : Type 0 → Type 1
@@ -49,29 +49,40 @@ pub record IsCopyFrom (trip : ℕ) (sent : List DatagramRecord) (already : Optio
   pub is : IsCopy (numbered (number_from trip from) sent) packet copy
 
 -- the copy that a packet is, if it is one
-abbrev pub IsCopyOfTrip : ℕ → List DatagramRecord → Option Port → Option (List ℕ) → Option NumberedCopy → Type 0
+abbrev pub IsCopyOfTrip : ℕ → List DatagramRecord → Option Port → Option (List ℕ) → Option NumberedCopy
+    → Type 0
 IsCopyOfTrip trip sent already None copy = copy ≡ None
 IsCopyOfTrip trip sent already (Some packet) (Some copy) =
     IsCopyFrom trip sent already packet copy.from copy.frame
 IsCopyOfTrip trip sent already (Some packet) None =
     (from : Port) (copy : List DatagramRecord) → IsCopyFrom trip sent already packet from copy → ⊥
 
--- the last receive at a port gave a packet or none, no sooner than behind so many receives, and this is the
--- copy
+-- a receive at a port gave a packet or none, no sooner than behind so many receives and no later than the
+-- last one, and this is the copy
 pub record IsTaken {C : Type 0} (gives : Gives C) (heard : Heard C) (since : ℕ) (at : Port) (trip : ℕ)
-    (sent : List DatagramRecord) (already : Option Port) (copy : Option NumberedCopy) (later : C) : Type 0 where
+    (sent : List DatagramRecord) (already : Option Port) (copy : Option NumberedCopy) (later : C)
+    : Type 0 where
   pub before : C
+  pub behind : C
   pub packet : Option (List ℕ)
-  pub gave : gives before at packet later
+  pub gave : gives before at packet behind
   pub in_time : since ≤ heard before
+  pub by_then : heard behind ≤ heard later
   pub is : IsCopyOfTrip trip sent already packet copy
 
--- what was taken at port A, and then at port B, each of another copy
+-- what was taken at port A and at port B, in either order, each of another copy than at the other port
 pub record AreBoth {C : Type 0} (gives : Gives C) (heard : Heard C) (since : ℕ) (trip : ℕ)
     (sent : List DatagramRecord) (both : Both) (later : C) : Type 0 where
-  pub between : C
-  pub a : IsTaken gives heard since A trip sent None both.a between
+  pub a : IsTaken gives heard since A trip sent (sent_from both.b) both.a later
   pub b : IsTaken gives heard since B trip sent (sent_from both.a) both.b later
+
+-- the copies that were taken so far: nothing is said of one that has not come yet
+pub record AreSoFar {C : Type 0} (gives : Gives C) (heard : Heard C) (since : ℕ) (trip : ℕ)
+    (sent : List DatagramRecord) (both : Both) (later : C) : Type 0 where
+  pub a : IfSome both.a
+      (λ (copy : NumberedCopy). IsTaken gives heard since A trip sent (sent_from both.b) (Some copy) later)
+  pub b : IfSome both.b
+      (λ (copy : NumberedCopy). IsTaken gives heard since B trip sent (sent_from both.a) (Some copy) later)
 
 -- the copies of a trip, with their numbers taken off
 abbrev pub opened_copy : NumberedCopy → List DatagramRecord

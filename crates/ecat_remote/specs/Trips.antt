@@ -1,5 +1,5 @@
--- What is stated of a trip to a line that lies somewhere else: its number was the next; what came was taken of
--- what the ports gave in this trip, under this number. A frame with no room for a number is not sent.
+-- What is stated of a trip to a line that lies somewhere else: its number was the next; what came was taken
+-- of what the ports gave in this trip, under this number. A frame with no room for a number is not sent.
 use Rattle.std.specs.Prelude.{◌≡◌, ◌⊎◌, ◌≤◌, ◌<◌, ℕ, ◌+◌, ◌%◌, ◌^◌, Bool, true, List, None, Result, Ok, Err}
 use Rattle.std.specs.Option.{option_map}
 use Rattle.ec_wire.specs.Datagram.{DatagramRecord}

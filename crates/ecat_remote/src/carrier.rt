@@ -6,6 +6,7 @@ ghost use Rattle.ec_wire.specs.declared.frame.TheConstants.{PACKET_ROOM};
 ghost use Rattle.ecat_remote.specs.Taken.{Gives, Heard};
 ghost use Rattle.ecat_remote.specs.Trips.{Speaks};
 
+use crate::ready::Ready;
 use ec_ring::{Port, PortFault};
 use ec_wire::PACKET_ROOM;
 
@@ -35,6 +36,10 @@ pub trait Carrier {
         ensures counted { IsErr result → failed self.old < failed self.new }
         ensures never_lower { failed self.old ≤ failed self.new }
         ensures heard_on { heard self.old ≤ heard self.new };
+
+    /// Waits until a packet may be at one of the ports, so many microseconds at the most, and says at which.
+    /// It may end sooner, and it may say that there is one where there is none.
+    fn wait(&self, within: u64) -> Ready;
 
     /// Receives a packet at a port into the front of the room, and answers how many bytes of it there are;
     /// `None` where none came within so many microseconds. A packet that is longer than the room fills it. At

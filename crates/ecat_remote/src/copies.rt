@@ -71,8 +71,8 @@ fn numbered(sent: &FrameBuf, number: u64) -> Option<FrameBuf>
     }
 }
 
-/// What a packet tells: whether it is a copy of what went out, but for the one that was taken already, and which
-/// number it bears.
+/// What a packet tells: whether it is a copy of what went out, but for the one that was taken already, and
+/// which number it bears.
 pub(crate) fn told_by(sent: &Outgoing, already: Option<Port>, packet: &[u8]) -> Told
     ensures { (trip : ℕ) (frame : List DatagramRecord) → AreNumbered trip frame sent.now
         → IsCopyOfTrip trip frame already (Some packet.now) result.copy }

@@ -1,27 +1,45 @@
 //! A master's two ports whose line lies somewhere else.
 
-ghost use Rattle.std.specs.Prelude.{◌≡◌, ◌+◌, ◌%◌, ◌^◌, ◌≤◌, ◌<◌, ℕ, IsErr, IfOk, IfSome, List, length, Some, None};
-ghost use Rattle.std.specs.Option.{option_map};
+ghost use Rattle.std.specs.Prelude.{◌≡◌, ◌+◌, ◌%◌, ◌^◌, ◌≤◌, ◌<◌, ℕ, IsErr, IfOk, IfSome, List, length, Some};
+ghost use Rattle.std.specs.Prelude.{◌⊎◌, None, true, false};
+ghost use Rattle.std.specs.Option.{is_some, option_map};
 ghost use Rattle.ec_wire.specs.Datagram.{DatagramRecord};
 ghost use Rattle.ec_ring.specs.declared.port.Port.TheVariants.{A, B};
 ghost use Rattle.ec_wire.specs.Spelling.{IsFrameValue};
-ghost use Rattle.ecat_remote.specs.Taken.{AreBoth, AreNumbered, IsTaken, opened_came, opened_copy};
+ghost use Rattle.ecat_remote.specs.Enough.{IsEnough, Keeps, have_come, next_counters};
+ghost use Rattle.ecat_remote.specs.Taken.{AreBoth, AreNumbered, AreSoFar, IsTaken, opened_came, opened_copy};
 ghost use Rattle.ecat_remote.specs.Taken.{sent_from};
 ghost use Rattle.ecat_remote.specs.Trips.{RemoteState, RemoteTrips, HeardTrips, arrivals_of};
 
 use crate::carrier::Carrier;
 use crate::copies::{NumberedCopy, Outgoing, number_both, opened, told_by};
-use crate::late::{LateCopies, late_by};
-use crate::timer::Timer;
+use crate::cycle::{Cycle, again};
+use crate::enough::{Both, have_come, is_enough};
+use crate::late::late_trip;
+use crate::ready::Ready;
+use crate::silence::Silence;
+use crate::timer::{Timer, pass_until};
 use ec_master::{PortFault, Ports};
 use ec_number::Trip;
-use ec_ring::{Arrival, Arrivals, Came, HeardPorts, Port};
+use ec_ring::{Arrival, Arrivals, Came, HeardPorts, LateCopies, Port};
 use ec_wire::{FrameBuf, PACKET_ROOM};
 use std::marker::Model;
 
-/// How many packets that wait at a port are read for one copy, at the most, once the time of its trip is over: more
-/// than a socket keeps.
+/// How many packets that wait at a port are read for one copy, at the most, once the time of its trip is
+/// over: more than a socket keeps.
 const MOST_WAITING: u64 = 4096;
+
+/// How many turns more than there are microseconds the waiting of a trip takes at the most: a turn that looks
+/// at both ports takes hardly less than one.
+const MORE_TURNS: u64 = 4096;
+
+/// For how many microseconds at least the other copy is waited for behind one that came with each counter
+/// that is expected, unless nothing comes at its port any more: as long as a process on a busy machine may be
+/// kept from a processor between the two.
+const FLOOR: u64 = 5_000;
+
+/// So many microseconds apart the copies of a whole ring come: a look that soon finds the other one.
+const CLOSE: u64 = 20;
 
 /// What a receive at a port gave.
 #[derive(Drop)]
@@ -32,15 +50,52 @@ struct Given {
     came: bool,
 }
 
-/// What came at both ports.
-#[derive(Drop)]
-struct Both {
-    a: Option<NumberedCopy>,
-    b: Option<NumberedCopy>,
+/// For how long the copies of a trip are waited for.
+#[derive(Clone, Copy)]
+struct Span {
+    /// When they were sent.
+    sent_at: u64,
+    /// Up to when they are waited for.
+    until: u64,
+    /// Whether that is sooner than it was, since what came is enough.
+    enough: bool,
 }
 
-/// A master's two ports over what carries packets to a line and back. Contracts see what carries them, and the
-/// number of the next trip.
+/// What came while a trip's copies were waited for.
+#[derive(Drop)]
+struct Waited {
+    both: Both,
+    /// Whether they were waited for less long, since what came is enough.
+    enough: bool,
+}
+
+/// How the waiting for the copies of a trip has ended.
+#[derive(Clone, Copy, PartialEq, Eq, Debug)]
+pub(crate) enum End {
+    /// Each copy has come.
+    All,
+    /// The only copy has come: one port alone speaks with an end of the line.
+    Alone,
+    /// One copy has come with each counter that is expected, and the other one has had its time.
+    Enough,
+    /// The time is over.
+    Time,
+}
+
+/// What came of a trip.
+#[derive(Drop)]
+struct Received {
+    both: Both,
+    end: End,
+}
+
+/// A master's two ports over what carries packets to a line and back. Contracts see what carries them, and
+/// the number of the next trip.
+///
+/// A trip ends as soon as nothing is gained by waiting: when both copies have come; when one has come with
+/// each counter that is expected, and the other one has had as long again, and 5 milliseconds at least; or
+/// when its time is over. At a port at which nothing came for 100 cycles those 5 milliseconds are not waited
+/// for.
 #[derive(Drop)]
 pub struct RemotePorts<C: Carrier, T: Timer> {
     carrier: C,
@@ -52,6 +107,12 @@ pub struct RemotePorts<C: Carrier, T: Timer> {
     made: u64,
     /// Which copies of earlier trips came since it was last asked.
     late: LateCopies,
+    /// The counters that are expected of a cycle's datagrams, in the order of its frames, if any are.
+    expected: Option<Vec<u16>>,
+    cycle: Cycle,
+    silence: Silence,
+    /// Whether a copy of the last trip has not come yet.
+    misses: bool,
 }
 
 impl<C: Carrier, T: Timer> Model for RemotePorts<C, T> {
@@ -74,7 +135,22 @@ impl<C: Carrier, T: Timer> RemotePorts<C, T> {
             next,
             made: 0,
             late: LateCopies::none(),
+            expected: None,
+            cycle: Cycle::none(),
+            silence: Silence::none(),
+            misses: false,
         }
+    }
+
+    /// With the counters that are expected of all datagrams of a cycle, in the order of its frames. In a
+    /// cycle a frame takes as many of them as it has datagrams; where fewer are left, nothing is expected of
+    /// it.
+    pub fn expecting(self, counters: Vec<u16>) -> RemotePorts<C, T>
+        ensures { result ≡ self }
+    {
+        let mut ports = self;
+        ports.expected = Some(counters);
+        ports
     }
 
     /// What carries the packets.
@@ -89,22 +165,13 @@ impl<C: Carrier, T: Timer> RemotePorts<C, T> {
         &self.timer
     }
 
-    /// Which copies of earlier trips of these ports came since it was last asked.
-    pub fn take_late(&mut self) -> LateCopies
-        ensures { self.new ≡ self.old }
-    {
-        let late = self.late;
-        self.late = LateCopies::none();
-        late
-    }
-
     /// Notes the number of a packet that was passed over: it may be a copy of an earlier trip.
     fn pass_over(&mut self, number: Option<u64>)
         ensures { self.new ≡ self.old }
     {
         if let Some(number) = number {
-            if let Some(trips) = late_by(self.next, self.made, number) {
-                self.late = self.late.with(trips);
+            if let Some(trip) = late_trip(self.next, self.made, number) {
+                self.late = self.late.with(trip);
             }
         }
     }
@@ -120,8 +187,46 @@ impl<C: Carrier, T: Timer> RemotePorts<C, T> {
         self.carrier.send(Port::B, out.b.bytes())
     }
 
-    /// Receives at both ports, at port A first, each of another copy, up to a time.
-    fn receive_copies(&mut self, out: &Outgoing, until: u64) -> Result<Both, PortFault>
+    /// Passes over what waits at both ports where a copy of the last trip has not come yet: one that came
+    /// before the next frame goes out has passed no slave behind that.
+    fn pass_over_waiting(&mut self, out: &Outgoing) -> Result<(), PortFault>
+        ensures counted { IsErr result → C.failed self.old.carrier < C.failed self.new.carrier }
+        ensures never_lower { C.failed self.old.carrier ≤ C.failed self.new.carrier }
+        ensures heard_on { C.heard self.old.carrier ≤ C.heard self.new.carrier }
+        ensures rest { self.new ≡ record self.old { carrier = self.new.carrier } }
+    {
+        if !self.misses {
+            return Ok(());
+        }
+        self.misses = false;
+        self.pass_over_at(Port::A, out)?;
+        self.pass_over_at(Port::B, out)
+    }
+
+    /// Passes over what waits at a port, before copies go out.
+    fn pass_over_at(&mut self, at: Port, out: &Outgoing) -> Result<(), PortFault>
+        ensures counted { IsErr result → C.failed self.old.carrier < C.failed self.new.carrier }
+        ensures never_lower { C.failed self.old.carrier ≤ C.failed self.new.carrier }
+        ensures heard_on { C.heard self.old.carrier ≤ C.heard self.new.carrier }
+        ensures rest { self.new ≡ record self.old { carrier = self.new.carrier } }
+    {
+        for _passed in 0..MOST_WAITING {
+            let given = self.receive_packet(at, out, None)?;
+            if !given.came {
+                break;
+            }
+        }
+        Ok(())
+    }
+
+    /// Receives the copies of a frame that were just sent, of which these counters are expected, or none.
+    /// What is expected is given back.
+    fn receive_expected(
+        &mut self,
+        out: &Outgoing,
+        cycle: Cycle,
+        count: usize,
+    ) -> Result<Both, PortFault>
         ensures taken { IfOk result (λ both. (trip : ℕ) (sent : List DatagramRecord)
             → AreNumbered trip sent out.now
             → AreBoth C.gives C.heard (C.heard self.old.carrier) trip sent both self.new.carrier) }
@@ -129,20 +234,219 @@ impl<C: Carrier, T: Timer> RemotePorts<C, T> {
         ensures never_lower { C.failed self.old.carrier ≤ C.failed self.new.carrier }
         ensures rest { self.new ≡ record self.old { carrier = self.new.carrier } }
     {
-        let a = self.receive_copy(Port::A, out, None, until)?;
-        let already = sent_from(&a);
-        let b = self.receive_copy(Port::B, out, already, until)?;
+        let sent_at = self.timer.now();
+        let until = cycle.until(self.limit, sent_at);
+        let counters = self.expected.take();
+        let expected = counters_in(&counters, cycle, count);
+        let received = self.receive_copies(out, expected, sent_at, until);
+        self.expected = counters;
+        let Received { both, end } = received?;
+        self.misses = end == End::Enough || end == End::Time;
+        Ok(both)
+    }
+
+    /// Receives at both ports, each of another copy, until nothing is gained by waiting, and says how that
+    /// ended. What waits at a port still when the time is over is taken.
+    fn receive_copies(
+        &mut self,
+        out: &Outgoing,
+        expected: &[u16],
+        sent_at: u64,
+        until: u64,
+    ) -> Result<Received, PortFault>
+        ensures taken { IfOk result (λ received. (trip : ℕ) (sent : List DatagramRecord)
+            → AreNumbered trip sent out.now
+            → AreBoth C.gives C.heard (C.heard self.old.carrier) trip sent received.both self.new.carrier) }
+        ensures all { IfOk result (λ received. received.end ≡ End.All → have_come received.both ≡ true) }
+        ensures alone { IfOk result (λ received. received.end ≡ End.Alone
+            → (C.speaks self.old.carrier B ≡ false) × (is_some received.both.a ≡ true)) }
+        ensures enough { IfOk result (λ received. received.end ≡ End.Enough
+            → IsEnough expected.now received.both) }
+        ensures counted { IsErr result → C.failed self.old.carrier < C.failed self.new.carrier }
+        ensures never_lower { C.failed self.old.carrier ≤ C.failed self.new.carrier }
+        ensures heard_on { C.heard self.old.carrier ≤ C.heard self.new.carrier }
+        ensures rest { self.new ≡ record self.old { carrier = self.new.carrier } }
+    {
+        let alone = !self.carrier.speaks(Port::B);
+        let waited = self.wait_for_copies(out, expected, alone, sent_at, until)?;
+        let both = self.look_again(out, waited.both)?;
+        let end = end_of(&both, alone, waited.enough);
+        Ok(Received { both, end })
+    }
+
+    /// Receives at both ports until each copy has come (that of port A, where it alone speaks), or one of
+    /// them alone with each counter that is expected and the other one has had its time, or the time is over.
+    fn wait_for_copies(
+        &mut self,
+        out: &Outgoing,
+        expected: &[u16],
+        alone: bool,
+        sent_at: u64,
+        until: u64,
+    ) -> Result<Waited, PortFault>
+        ensures taken { IfOk result (λ waited. (trip : ℕ) (sent : List DatagramRecord)
+            → AreNumbered trip sent out.now
+            → AreSoFar C.gives C.heard (C.heard self.old.carrier) trip sent waited.both self.new.carrier) }
+        ensures enough { IfOk result (λ waited. waited.enough ≡ true
+            → (have_come waited.both ≡ true) ⊎ IsEnough expected.now waited.both) }
+        ensures counted { IsErr result → C.failed self.old.carrier < C.failed self.new.carrier }
+        ensures never_lower { C.failed self.old.carrier ≤ C.failed self.new.carrier }
+        ensures heard_on { C.heard self.old.carrier ≤ C.heard self.new.carrier }
+        ensures rest { self.new ≡ record self.old { carrier = self.new.carrier } }
+    {
+        let mut both = Both { a: None, b: None };
+        let mut span = Span {
+            sent_at,
+            until,
+            enough: false,
+        };
+        for _turn in 0..until.saturating_sub(sent_at).saturating_add(MORE_TURNS) {
+            if have_come(&both) || (alone && both.a.is_some()) {
+                break;
+            }
+            let left = span.until.saturating_sub(self.timer.now());
+            if left == 0 {
+                break;
+            }
+            let ready = self.carrier.wait(left);
+            both = self.receive_ready(ready, out, both)?;
+            span = self.shortened(span, &both, expected);
+        }
+        Ok(Waited {
+            both,
+            enough: span.enough,
+        })
+    }
+
+    /// The time for which it is waited on: less, where what came is enough.
+    fn shortened(&mut self, span: Span, both: &Both, expected: &[u16]) -> Span
+        ensures enough { result.enough ≡ true → (span.enough ≡ true) ⊎ IsEnough expected.now both.now }
+        ensures whole { result.enough ≡ false → result ≡ span }
+        ensures same { self.new ≡ self.old }
+    {
+        if span.enough || !is_enough(both, expected) {
+            return span;
+        }
+        let missing = if both.a.is_none() { Port::A } else { Port::B };
+        let now = self.timer.now();
+        let until = again(self.least(missing), span.sent_at, now).min(span.until);
+        if !self.silence.is_long(missing) {
+            pass_until(&mut self.timer, until.min(now.saturating_add(CLOSE)));
+        }
+        Span {
+            sent_at: span.sent_at,
+            until,
+            enough: true,
+        }
+    }
+
+    /// For how many microseconds at least the copy at a port is waited for behind the other one.
+    fn least(&self, missing: Port) -> u64 {
+        if self.silence.is_long(missing) {
+            0
+        } else {
+            FLOOR
+        }
+    }
+
+    /// Receives a packet at each port that may have one. A copy that came stays.
+    fn receive_ready(&mut self, ready: Ready, out: &Outgoing, both: Both) -> Result<Both, PortFault>
+        ensures taken { IfOk result (λ later. (since trip : ℕ) (sent : List DatagramRecord)
+            → AreNumbered trip sent out.now → since ≤ C.heard self.old.carrier
+            → AreSoFar C.gives C.heard since trip sent both self.old.carrier
+            → AreSoFar C.gives C.heard since trip sent later self.new.carrier) }
+        ensures kept { IfOk result (λ later. Keeps both later) }
+        ensures counted { IsErr result → C.failed self.old.carrier < C.failed self.new.carrier }
+        ensures never_lower { C.failed self.old.carrier ≤ C.failed self.new.carrier }
+        ensures heard_on { C.heard self.old.carrier ≤ C.heard self.new.carrier }
+        ensures rest { self.new ≡ record self.old { carrier = self.new.carrier } }
+    {
+        let from_b = sent_from(&both.b);
+        let a = self.receive_at(Port::A, ready.a, out, both.a, from_b)?;
+        let from_a = sent_from(&a);
+        let b = self.receive_at(Port::B, ready.b, out, both.b, from_a)?;
         Ok(Both { a, b })
     }
 
-    /// Receives at a port until a copy comes that was not taken already, or the time is over. Whatever else comes
-    /// is passed over, and so is what waits there still when the time is over.
+    /// The copy that came at a port; where none did, what a packet is that may wait there, if it is another
+    /// copy than the one at the other port.
+    fn receive_at(
+        &mut self,
+        at: Port,
+        ready: bool,
+        out: &Outgoing,
+        copy: Option<NumberedCopy>,
+        other: Option<Port>,
+    ) -> Result<Option<NumberedCopy>, PortFault>
+        ensures taken { copy ≡ None → IfOk result (λ later. (trip : ℕ) (sent : List DatagramRecord)
+            → AreNumbered trip sent out.now → IfSome later (λ found.
+            IsTaken C.gives C.heard (C.heard self.old.carrier) at trip sent other (Some found)
+            self.new.carrier)) }
+        ensures kept { IfSome copy (λ came. IfOk result (λ later. later ≡ Some came)) }
+        ensures counted { IsErr result → C.failed self.old.carrier < C.failed self.new.carrier }
+        ensures never_lower { C.failed self.old.carrier ≤ C.failed self.new.carrier }
+        ensures heard_on { C.heard self.old.carrier ≤ C.heard self.new.carrier }
+        ensures rest { self.new ≡ record self.old { carrier = self.new.carrier } }
+    {
+        if !ready {
+            return Ok(copy);
+        }
+        let given = self.receive_packet(at, out, other)?;
+        match copy {
+            Some(copy) => Ok(Some(copy)),
+            None => Ok(given.copy),
+        }
+    }
+
+    /// Looks at each port at which no copy came whether one waits there.
+    fn look_again(&mut self, out: &Outgoing, both: Both) -> Result<Both, PortFault>
+        ensures taken { IfOk result (λ later. (since trip : ℕ) (sent : List DatagramRecord)
+            → AreNumbered trip sent out.now → since ≤ C.heard self.old.carrier
+            → AreSoFar C.gives C.heard since trip sent both self.old.carrier
+            → AreBoth C.gives C.heard since trip sent later self.new.carrier) }
+        ensures kept { IfOk result (λ later. Keeps both later) }
+        ensures counted { IsErr result → C.failed self.old.carrier < C.failed self.new.carrier }
+        ensures never_lower { C.failed self.old.carrier ≤ C.failed self.new.carrier }
+        ensures heard_on { C.heard self.old.carrier ≤ C.heard self.new.carrier }
+        ensures rest { self.new ≡ record self.old { carrier = self.new.carrier } }
+    {
+        let from_b = sent_from(&both.b);
+        let a = self.look_at(Port::A, out, both.a, from_b)?;
+        let from_a = sent_from(&a);
+        let b = self.look_at(Port::B, out, both.b, from_a)?;
+        Ok(Both { a, b })
+    }
+
+    /// The copy that came at a port; where none did, the one that waits there, if one does.
+    fn look_at(
+        &mut self,
+        at: Port,
+        out: &Outgoing,
+        copy: Option<NumberedCopy>,
+        other: Option<Port>,
+    ) -> Result<Option<NumberedCopy>, PortFault>
+        ensures taken { copy ≡ None → IfOk result (λ later. (trip : ℕ) (sent : List DatagramRecord)
+            → AreNumbered trip sent out.now
+            → IsTaken C.gives C.heard (C.heard self.old.carrier) at trip sent other later self.new.carrier) }
+        ensures kept { IfSome copy (λ came. IfOk result (λ later. later ≡ Some came)) }
+        ensures counted { IsErr result → C.failed self.old.carrier < C.failed self.new.carrier }
+        ensures never_lower { C.failed self.old.carrier ≤ C.failed self.new.carrier }
+        ensures heard_on { C.heard self.old.carrier ≤ C.heard self.new.carrier }
+        ensures rest { self.new ≡ record self.old { carrier = self.new.carrier } }
+    {
+        match copy {
+            Some(copy) => Ok(Some(copy)),
+            None => self.receive_copy(at, out, other),
+        }
+    }
+
+    /// Receives what waits at a port until it is a copy that was not taken already. Whatever else waits there
+    /// is passed over.
     fn receive_copy(
         &mut self,
         at: Port,
         out: &Outgoing,
         already: Option<Port>,
-        until: u64,
     ) -> Result<Option<NumberedCopy>, PortFault>
         ensures taken { IfOk result (λ copy. (trip : ℕ) (sent : List DatagramRecord)
             → AreNumbered trip sent out.now
@@ -153,28 +457,22 @@ impl<C: Carrier, T: Timer> RemotePorts<C, T> {
         ensures heard_on { C.heard self.old.carrier ≤ C.heard self.new.carrier }
         ensures rest { self.new ≡ record self.old { carrier = self.new.carrier } }
     {
-        let mut waiting = MOST_WAITING;
-        for _passed in 0..u64::MAX {
-            let within = until.saturating_sub(self.timer.now());
-            let given = self.receive_packet(at, out, already, within)?;
-            if within == 0 {
-                waiting = waiting.saturating_sub(1);
-            }
-            if given.copy.is_some() || !given.came || waiting == 0 {
+        for _passed in 1..MOST_WAITING {
+            let given = self.receive_packet(at, out, already)?;
+            if given.copy.is_some() || !given.came {
                 return Ok(given.copy);
             }
         }
-        let given = self.receive_packet(at, out, already, 0)?;
+        let given = self.receive_packet(at, out, already)?;
         Ok(given.copy)
     }
 
-    /// Receives a packet at a port, if one comes within so many microseconds.
+    /// Receives a packet at a port, if one waits there.
     fn receive_packet(
         &mut self,
         at: Port,
         out: &Outgoing,
         already: Option<Port>,
-        within: u64,
     ) -> Result<Given, PortFault>
         ensures taken { IfOk result (λ given. (trip : ℕ) (sent : List DatagramRecord)
             → AreNumbered trip sent out.now
@@ -186,12 +484,13 @@ impl<C: Carrier, T: Timer> RemotePorts<C, T> {
         ensures rest { self.new ≡ record self.old { carrier = self.new.carrier } }
     {
         let mut packet = [0; PACKET_ROOM];
-        match self.carrier.receive(at, &mut packet, within)? {
+        match self.carrier.receive(at, &mut packet, 0)? {
             Some(count) => {
                 let told = told_by(out, already, &packet[..count]);
                 if told.copy.is_none() {
                     self.pass_over(told.number);
                 }
+                self.silence = self.silence.ended(at);
                 Ok(Given {
                     copy: told.copy,
                     came: true,
@@ -202,6 +501,35 @@ impl<C: Carrier, T: Timer> RemotePorts<C, T> {
                 came: false,
             }),
         }
+    }
+}
+
+/// How the waiting has ended, in which this came at last.
+fn end_of(both: &Both, alone: bool, enough: bool) -> End
+    ensures all { result ≡ End.All → have_come both.now ≡ true }
+    ensures alone { result ≡ End.Alone → (alone ≡ true) × (is_some both.now.a ≡ true) }
+    ensures enough { result ≡ End.Enough → (enough ≡ true) × (have_come both.now ≡ false) }
+{
+    if have_come(both) {
+        return End::All;
+    }
+    if alone && both.a.is_some() {
+        return End::Alone;
+    }
+    if enough { End::Enough } else { End::Time }
+}
+
+/// The counters that are expected of the next frame of a cycle, which has so many datagrams; none where fewer
+/// are left, or none are expected.
+fn counters_in(expected: &Option<Vec<u16>>, cycle: Cycle, count: usize) -> &[u16]
+    ensures { result.now ≡ next_counters (option_map (λ v. v.items) expected.now) cycle.gone count }
+{
+    let (Some(counters), Some(gone)) = (expected, cycle.gone) else {
+        return &[];
+    };
+    match counters.get(gone..) {
+        Some(left) if count <= left.len() => &left[..count],
+        _ => &[],
     }
 }
 
@@ -247,14 +575,19 @@ impl<C: Carrier, T: Timer> Ports for RemotePorts<C, T> {
     /// time: a packet is a copy exactly where it spells a frame that came of one of them, and each is taken
     /// once. The first call of the carrier that fails is the last.
     fn trip(&mut self, sent: &FrameBuf) -> Result<Came, PortFault> {
+        let count = sent.count();
+        let cycle = self.cycle;
+        self.cycle = cycle.behind(count);
         let Some(out) = number_both(sent, self.next) else {
             return Ok(Came { a: None, b: None });
         };
+        let waiting = self.pass_over_waiting(&out);
         self.next = self.next.next();
         self.made = self.made.saturating_add(1);
+        self.misses = true;
+        waiting?;
         self.send_copies(&out)?;
-        let until = self.timer.now().saturating_add(self.limit);
-        let both = self.receive_copies(&out, until)?;
+        let both = self.receive_expected(&out, cycle, count)?;
         Ok(opened_came(both))
     }
 
@@ -276,6 +609,29 @@ impl<C: Carrier, T: Timer> HeardPorts for RemotePorts<C, T> {
 
     fn failures(&self) -> u64 {
         self.carrier.failures()
+    }
+
+    fn begin_cycle(&mut self, left: Option<u64>) {
+        let deadline = match left {
+            Some(left) => Some(self.timer.now().saturating_add(left)),
+            None => None,
+        };
+        self.cycle = Cycle::begun(deadline);
+        self.silence = self.silence.in_next();
+    }
+
+    fn end_cycle(&mut self) {
+        self.cycle = Cycle::none();
+    }
+
+    fn trips_made(&self) -> u64 {
+        self.made
+    }
+
+    fn take_late(&mut self) -> LateCopies {
+        let late = self.late;
+        self.late = LateCopies::none();
+        late
     }
 }
 

@@ -1,7 +1,7 @@
 //! That a good cycle is of its own copies, each law the contract of a function that does nothing.
 
-ghost use Rattle.std.specs.Prelude.{◌≡◌, ◌≢◌, ◌≤◌, ◌<◌, ◌+◌, ◌^◌, ◌⊎◌, ℕ, false, List, [], ◌∷◌, ◌++◌, length, map};
-ghost use Rattle.std.specs.Prelude.{Result, Ok};
+ghost use Rattle.std.specs.Prelude.{◌≡◌, ◌≢◌, ◌≤◌, ◌<◌, ◌+◌, ◌^◌, ◌⊎◌, ℕ, false, List, [], ◌∷◌};
+ghost use Rattle.std.specs.Prelude.{◌++◌, length, map, Result, Ok};
 ghost use Rattle.std.specs.List.{AllByRecursion};
 ghost use Rattle.ec_wire.specs.Datagram.{DatagramRecord};
 ghost use Rattle.ec_esc.specs.State.{ControllerState, IsController};
@@ -29,16 +29,17 @@ ghost use Rattle.ec_master.specs.declared.cycle.CycleFault.{CycleFault};
 ghost use Rattle.ec_master.specs.declared.verdict.Verdict.{Verdict};
 ghost use Rattle.ecat_remote.specs.History.{PastTrip, IsPast, Went};
 ghost use Rattle.ecat_remote.specs.Moving.{NetworkGaveMoving, losing_each};
-ghost use Rattle.ecat_remote.specs.Network.{AreAllTaken, Gave, IsGivenBy, IsOfCycle, NetworkGaveAll, NoneFailed};
-ghost use Rattle.ecat_remote.specs.Network.{Takes, TakesAll, by_number, pasts_of};
+ghost use Rattle.ecat_remote.specs.Network.{AreAllTaken, Gave, IsGivenBy, IsOfCycle, NetworkGaveAll};
+ghost use Rattle.ecat_remote.specs.Network.{NoneFailed, Takes, TakesAll, by_number, pasts_of};
 ghost use Rattle.ecat_remote.specs.Trips.{RemoteState, RemoteTrips, HeardCopies, IsTurn, HasRoom};
-ghost use Rattle.ecat_remote.specs.declared.ports.Both.{Both};
+ghost use Rattle.ecat_remote.specs.declared.enough.Both.{Both};
 
 use crate::carrier::Carrier;
 
-/// No number is given twice: over any history of fewer than 2^63 trips (`Went`: cycles, probes, looks, trips that
-/// failed) no trip has the number of an earlier one (`fresh`). Each trip of ports is one of such a history, or
-/// its frame had no room for a number and nothing has changed (`is`). Histories can be joined (`more`).
+/// No number is given twice: over any history of fewer than 2^63 trips (`Went`: cycles, probes, looks, trips
+/// that failed) no trip has the number of an earlier one (`fresh`). Each trip of ports is one of such a
+/// history, or its frame had no room for a number and nothing has changed (`is`). Histories can be joined
+/// (`more`).
 pub fn no_number_is_given_twice<C: Carrier>()
     ensures is { (before later : RemoteState C) (sent : List DatagramRecord) (came : Result Came PortFault)
         → RemoteTrips C.gives C.heard before sent came later
@@ -49,9 +50,9 @@ pub fn no_number_is_given_twice<C: Carrier>()
         → Went first past before → AllByRecursion (λ p. p.number ≢ before.next) past }
 {}
 
-/// What came of a trip over a network that gives whatever it will, where what bears a number of this trip is one
-/// of its two copies, is what a trip of the frame itself gives that loses what was not taken (`given`), and the
-/// line behind both is the same (`line`).
+/// What came of a trip over a network that gives whatever it will, where what bears a number of this trip is
+/// one of its two copies, is what a trip of the frame itself gives that loses what was not taken (`given`),
+/// and the line behind both is the same (`line`).
 pub fn a_trip_is_its_own<C: Carrier>()
     ensures given { (before later : RemoteState C) (es : List Entry) (both : Both) (came : Came) (w : Weather)
         (line : List ControllerState) → AllByRecursion IsController line
@@ -68,13 +69,13 @@ pub fn a_trip_is_its_own<C: Carrier>()
 {}
 
 /// A good cycle is of its own copies. On the trips of a cycle of which none failed copies were taken
-/// (`taken`; `watched`: so it is where it is known of each where it arrived, as of a running master). Over the
-/// line of a ring, and whatever the network gave, late, doubled, mixed up, of earlier trips, of earlier runs or
-/// of other masters: where what bears a number of a trip is one of the trip's two copies, the ring's own trips in
-/// some weathers give what came (`given`), so the end of the cycle says of the ring all that a cycle over it says
-/// in these weathers (`says`; `says_moving`: of one that moves while the frames travel). A good verdict is of
-/// this cycle. Where all frames went out, the ring behind that cycle is the one that is left (`left`). The
-/// cycle's trips are a history, so no earlier trip has their numbers (`past`).
+/// (`taken`; `watched`: so it is where it is known of each where it arrived, as of a running master). Over
+/// the line of a ring, and whatever the network gave, late, doubled, mixed up, of earlier trips, of earlier
+/// runs or of other masters: where what bears a number of a trip is one of the trip's two copies, the ring's
+/// own trips in some weathers give what came (`given`), so the end of the cycle says of the ring all that a
+/// cycle over it says in these weathers (`says`; `says_moving`: of one that moves while the frames travel). A
+/// good verdict is of this cycle. Where all frames went out, the ring behind that cycle is the one that is
+/// left (`left`). The cycle's trips are a history, so no earlier trip has their numbers (`past`).
 pub fn a_good_is_of_its_cycle<C: Carrier>()
     ensures taken { (before later : RemoteState C) (frames : List (List DatagramRecord)) (came : AllThatCame)
         → NoneFailed came → AllByRecursion HasRoom frames

@@ -8,11 +8,12 @@ ghost use Rattle.ecat_remote.specs.Trips.{speaks_at};
 
 use crate::address::RemoteEnds;
 use crate::carrier::Carrier;
+use crate::ready::Ready;
+use crate::waiting::{receive_within, wait_at};
 use ec_ring::{Port, PortFault, count_failure};
 use ec_wire::PACKET_ROOM;
 use std::io::{self, ErrorKind};
 use std::net::{Ipv4Addr, Ipv6Addr, Net, UdpSocket};
-use std::time::Duration;
 
 /// Which socket could not be opened: its end's name does not resolve, or the system refuses.
 #[derive(Debug, Drop)]
@@ -30,44 +31,9 @@ pub struct OpenFault {
 /// more than 1,501 bytes the first 1,501 are received. Each other error of the system counts as a failure.
 #[derive(Drop)]
 pub struct UdpCarrier {
-    a: TimedSocket,
-    b: Option<TimedSocket>,
+    a: UdpSocket,
+    b: Option<UdpSocket>,
     failures: u64,
-}
-
-/// A socket with the time for which a receive at it waits, in microseconds: 0 where it was never told.
-#[derive(Drop)]
-struct TimedSocket {
-    socket: UdpSocket,
-    wait: u64,
-}
-
-impl TimedSocket {
-    /// Receives a packet within so many microseconds, by a 64th more or less: the system is told of a time
-    /// only where it is another one.
-    fn receive(&mut self, into: &mut [u8], within: u64) -> io::Result<usize>
-        ensures room { IfOk result (λ count. count ≤ length into.old) }
-    {
-        if within == 0 {
-            return self.look(into);
-        }
-        if self.wait.abs_diff(within) > within / 64 {
-            self.socket
-                .set_read_timeout(Some(Duration::from_micros(within)))?;
-            self.wait = within;
-        }
-        self.socket.recv(into)
-    }
-
-    /// Receives a packet that waits there, if one does.
-    fn look(&mut self, into: &mut [u8]) -> io::Result<usize>
-        ensures room { IfOk result (λ count. count ≤ length into.old) }
-    {
-        self.socket.set_nonblocking(true)?;
-        let count = self.socket.recv(into);
-        self.socket.set_nonblocking(false)?;
-        count
-    }
 }
 
 impl UdpCarrier {
@@ -88,21 +54,19 @@ impl UdpCarrier {
         ensures { is_some result ≡ speaks_at (is_some self.now.b) at }
     {
         match (at, &self.b) {
-            (Port::A, _) => Some(&self.a.socket),
-            (Port::B, Some(b)) => Some(&b.socket),
+            (Port::A, _) => Some(&self.a),
+            (Port::B, Some(b)) => Some(b),
             (Port::B, None) => None,
         }
     }
 
     /// Receives at a port; nothing comes at one without a socket.
-    fn receive_at(&mut self, at: Port, into: &mut [u8], within: u64) -> io::Result<usize>
-        ensures room { IfOk result (λ count. count ≤ length into.old) }
-        ensures failures { self.new.failures ≡ self.old.failures }
+    fn receive_at(&self, at: Port, into: &mut [u8], within: u64) -> io::Result<usize>
+        ensures { IfOk result (λ count. count ≤ length into.old) }
     {
-        match (at, &mut self.b) {
-            (Port::A, _) => self.a.receive(into, within),
-            (Port::B, Some(b)) => b.receive(into, within),
-            (Port::B, None) => Err(io::Error::from(ErrorKind::WouldBlock)),
+        match self.socket(at) {
+            Some(socket) => receive_within(socket, into, within),
+            None => Err(io::Error::from(ErrorKind::WouldBlock)),
         }
     }
 }
@@ -133,6 +97,10 @@ impl Carrier for UdpCarrier {
         }
     }
 
+    fn wait(&self, within: u64) -> Ready {
+        wait_at(&self.a, self.b.as_ref(), within)
+    }
+
     fn receive(
         &mut self,
         at: Port,
@@ -155,11 +123,18 @@ impl Carrier for UdpCarrier {
 }
 
 /// Opens the socket of a port, to speak with the line's end there.
-fn socket_at(net: &impl Net, end: Port, name: &str) -> Result<TimedSocket, OpenFault> {
-    match connected(net, name) {
-        Ok(socket) => Ok(TimedSocket { socket, wait: 0 }),
+fn socket_at(net: &impl Net, end: Port, name: &str) -> Result<UdpSocket, OpenFault> {
+    match unblocked(net, name) {
+        Ok(socket) => Ok(socket),
         Err(error) => Err(OpenFault { end, error }),
     }
+}
+
+/// A socket that speaks with what a name resolves to, at which no receive waits by itself.
+fn unblocked(net: &impl Net, name: &str) -> io::Result<UdpSocket> {
+    let socket = connected(net, name)?;
+    socket.set_nonblocking(true)?;
+    Ok(socket)
 }
 
 /// A socket that speaks with what a name resolves to, by IPv4 or else by IPv6.

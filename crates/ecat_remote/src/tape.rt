@@ -4,6 +4,7 @@ ghost use Rattle.std.specs.Prelude.{◌≡◌, ◌-◌, ◌≤◌, ◌<◌, leng
 ghost use Rattle.ecat_remote.specs.Tape.{first_in, behind_first};
 
 use crate::carrier::{Carrier, copy_front};
+use crate::ready::Ready;
 use ec_ring::{Port, PortFault};
 use ec_wire::PACKET_ROOM;
 
@@ -50,6 +51,10 @@ impl<'a> Carrier for Tape<'a> {
 
     fn send(&mut self, _from: Port, _bytes: &[u8]) -> Result<(), PortFault> {
         Ok(())
+    }
+
+    fn wait(&self, _within: u64) -> Ready {
+        Ready::both()
     }
 
     fn receive(

@@ -17,6 +17,19 @@ pub trait Timer {
         ensures on { told self.old ≤ told self.new };
 }
 
+/// How often a timer is looked at while a short time passes, at the most.
+const MOST_LOOKS: u64 = 2000;
+
+/// Lets a short time pass, up to this one, as far as the timer goes on: to ask the system for it would take
+/// longer.
+pub(crate) fn pass_until<T: Timer>(timer: &mut T, time: u64) {
+    for _look in 0..MOST_LOOKS {
+        if time <= timer.now() {
+            break;
+        }
+    }
+}
+
 /// The system's clock, from when it is made on. One that fails stands still.
 #[derive(Drop)]
 pub struct ClockTimer<'a, R: Clock> {

@@ -2,6 +2,7 @@
 
 ghost use Rattle.std.specs.Prelude.{◌<◌};
 
+mod ending;
 mod passing;
 mod script;
 mod sockets;

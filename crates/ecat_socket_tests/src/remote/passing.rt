@@ -4,12 +4,12 @@ use super::script::{Script, Wound};
 use super::{NUMBERED, SENT, ports_over, trip, under, with};
 use crate::asserts::assert_same;
 use ec_master::{PortFault, Ports};
-use ec_ring::{HeardPorts, Port};
+use ec_ring::{HeardPorts, LateCopies, Port};
 use ec_wire::{Form, FrameBuf};
-use ecat_remote::{LateCopies, greet};
+use ecat_remote::greet;
 
 /// What came late.
-fn late(count: u64, oldest: u64) -> LateCopies {
+fn late(count: u64, oldest: Option<u64>) -> LateCopies {
     LateCopies { count, oldest }
 }
 
@@ -70,17 +70,17 @@ fn copies_of_another_trip_are_passed_over_and_told(rt: HostRuntime) {
         trip(&rt, &mut ports),
         [Some((0x55, 1)), Some((0x55, 2))],
     );
-    assert_same(&rt, ports.take_late(), late(0, 0));
+    assert_same(&rt, ports.take_late(), late(0, None));
     assert_same(
         &rt,
         trip(&rt, &mut ports),
         [Some((0x55, 4)), Some((0x55, 5))],
     );
-    // one of the trip before at each port
-    assert_same(&rt, ports.take_late(), late(2, 1));
-    assert_same(&rt, ports.take_late(), late(0, 0));
+    // one of the first trip at each port
+    assert_same(&rt, ports.take_late(), late(2, Some(0)));
+    assert_same(&rt, ports.take_late(), late(0, None));
     assert_same(&rt, trip(&rt, &mut ports), [None, None]);
-    assert_same(&rt, ports.take_late(), late(2, 2));
+    assert_same(&rt, ports.take_late(), late(2, Some(0)));
 }
 
 #[test]
@@ -90,7 +90,7 @@ fn packets_of_other_runs_are_not_told_as_late(rt: HostRuntime) {
     let script = Script::new(a, 4, [NUMBERED; 4], 0);
     let mut ports = ports_over(script, Wound::still());
     assert_same(&rt, trip(&rt, &mut ports), [Some((0x55, 2)), None]);
-    assert_same(&rt, ports.take_late(), late(0, 0));
+    assert_same(&rt, ports.take_late(), late(0, None));
 }
 
 #[test]

@@ -1,11 +1,12 @@
 //! Packets that come as they are written down, and calls that fail in turn.
 
-ghost use Rattle.std.specs.Prelude.{⊤, ◌≡◌, ◌≤◌, ◌<◌, IsErr, true};
+ghost use Rattle.std.specs.Prelude.{⊤, ◌≡◌, ◌≤◌, ◌<◌, IsErr};
+ghost use Rattle.ecat_remote.specs.Trips.{speaks_at};
 
 use super::Packet;
 use ec_ring::{Port, PortFault};
 use ec_wire::PACKET_ROOM;
-use ecat_remote::{Carrier, Timer};
+use ecat_remote::{Carrier, Ready, Timer};
 
 /// How many packets are written down for a port.
 pub const ROOM: usize = 4;
@@ -33,6 +34,12 @@ pub struct Script {
     pub failed: u64,
     /// For how long the last receive was to wait.
     pub within: u64,
+    /// How many receives at port A and at port B give nothing before the first packet comes there.
+    pub held: [usize; 2],
+    /// How many receives there were at port A and at port B.
+    pub looks: [usize; 2],
+    /// Whether port B speaks with an end of the line.
+    pub speaks_b: bool,
 }
 
 impl Script {
@@ -49,6 +56,9 @@ impl Script {
             made: 0,
             failed: 0,
             within: 0,
+            held: [0; 2],
+            looks: [0; 2],
+            speaks_b: true,
         }
     }
 
@@ -73,6 +83,11 @@ impl Script {
             Port::A => (self.a, self.most_a, 0),
             Port::B => (self.b, self.most_b, 1),
         };
+        let looks = self.looks[place];
+        self.looks[place] = looks.saturating_add(1);
+        if looks < self.held[place] {
+            return None;
+        }
         let k = self.taken[place];
         let written = k.saturating_sub(self.repeated);
         if k >= most || written >= ROOM {
@@ -90,14 +105,21 @@ impl Carrier for Script {
 
     ghost heard = { λ script. 0 };
 
-    ghost speaks = { λ script at. true };
+    ghost speaks = { λ script at. speaks_at script.speaks_b at };
 
-    fn speaks(&self, _at: Port) -> bool {
-        true
+    fn speaks(&self, at: Port) -> bool {
+        match at {
+            Port::A => true,
+            Port::B => self.speaks_b,
+        }
     }
 
     fn send(&mut self, _from: Port, _bytes: &[u8]) -> Result<(), PortFault> {
         self.call()
+    }
+
+    fn wait(&self, _within: u64) -> Ready {
+        Ready::both()
     }
 
     fn receive(

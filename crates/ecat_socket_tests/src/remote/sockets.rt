@@ -2,7 +2,7 @@
 
 use crate::asserts::assert_same;
 use ec_ring::Port;
-use ecat_remote::{Carrier, RemoteEnds, UdpCarrier};
+use ecat_remote::{Carrier, Ready, RemoteEnds, UdpCarrier};
 use std::net::UdpSocket;
 
 /// For how long a receive waits, in microseconds.
@@ -23,7 +23,11 @@ fn packets_go_to_the_end_that_is_named_and_back(rt: HostRuntime) {
     assert_same(&rt, carrier.send(Port::A, b"out"), Ok(()));
     let (count, from) = line.recv_from(&mut into).expect(&rt, "a packet");
     assert_same(&rt, count, 3);
+    assert_same(&rt, carrier.wait(100), Ready::none());
+    assert_same(&rt, carrier.wait(LIMIT), Ready::none());
     assert_same(&rt, line.send_to(b"back", from).is_ok(), true);
+    assert_same(&rt, carrier.wait(LIMIT), Ready { a: true, b: false });
+    assert_same(&rt, carrier.wait(0), Ready { a: true, b: false });
     assert_same(&rt, carrier.receive(Port::A, &mut into, LIMIT), Ok(Some(4)));
     assert_same(&rt, &into[..4], b"back".as_slice());
     assert_same(&rt, carrier.send(Port::B, b"out"), Ok(()));

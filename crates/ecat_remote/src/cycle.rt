@@ -1,0 +1,64 @@
+//! The cycle whose frames go out, and up to when its trips wait.
+
+ghost use Rattle.std.specs.Prelude.{◌≡◌, ◌+◌, ◌≤◌, ◌^◌, length, min, IfSome, None, Some};
+ghost use Rattle.ecat_remote.specs.Waiting.{again_of, until_of};
+
+/// What is known of the cycle whose next frame goes out.
+#[derive(Clone, Copy)]
+pub(crate) struct Cycle {
+    /// How many of a cycle's datagrams have gone out; `None` between cycles.
+    pub(crate) gone: Option<usize>,
+    /// The time up to which its trips wait at the latest, if there is one.
+    pub(crate) deadline: Option<u64>,
+}
+
+impl Cycle {
+    /// None: what goes out is no cycle's frame.
+    pub(crate) fn none() -> Cycle
+        ensures { result ≡ record { gone = None; deadline = None } }
+    {
+        Cycle {
+            gone: None,
+            deadline: None,
+        }
+    }
+
+    /// One that begins, with a deadline or without.
+    pub(crate) fn begun(deadline: Option<u64>) -> Cycle
+        ensures { result ≡ record { gone = Some 0; deadline = deadline } }
+    {
+        Cycle {
+            gone: Some(0),
+            deadline,
+        }
+    }
+
+    /// Behind a frame of so many datagrams.
+    pub(crate) fn behind(self, count: usize) -> Cycle
+        ensures deadline { result.deadline ≡ self.deadline }
+    {
+        Cycle {
+            gone: self.gone.map(|gone| gone.saturating_add(count)),
+            deadline: self.deadline,
+        }
+    }
+
+    /// Up to when a trip waits whose copies were sent at this time.
+    pub(crate) fn until(self, limit: u64, sent_at: u64) -> u64
+        ensures { result ≡ until_of self.deadline limit sent_at }
+    {
+        let until = sent_at.saturating_add(limit);
+        match self.deadline {
+            Some(deadline) => until.min(deadline),
+            None => until,
+        }
+    }
+}
+
+/// Up to when the other copy is waited for behind one that came now: as long again as this one took since it
+/// was sent, and at least for so long.
+pub(crate) fn again(least: u64, sent_at: u64, now: u64) -> u64
+    ensures { result ≡ again_of least sent_at now }
+{
+    now.saturating_add(now.saturating_sub(sent_at).max(least))
+}
