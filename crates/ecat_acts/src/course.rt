@@ -11,7 +11,7 @@ use ecat_master::{ENTRIES, IDENTITY, Identity, Pace, Plan, master};
 use ecat_scene::{Scene, SceneFault, SceneSlave};
 use ecat_setup::{Expected, LineFailure, for_packets, ring_of, work_of};
 use ecat_text::{Lines, REFUSED, refuse};
-use std::alloc::Global;
+use std::alloc::{AllocError, Global};
 use std::io::Write;
 
 /// What is written to a slave in Pre-Op.
@@ -33,6 +33,15 @@ impl Course {
     /// How many bytes of outputs a cycle has.
     pub fn image_length(&self) -> usize {
         image_length(&self.work)
+    }
+
+    /// How far the counters of a cycle's items are to move, in their order.
+    pub fn counters(&self, alloc: Global) -> Result<Vec<u16>, AllocError> {
+        let mut counters = Vec::new(alloc);
+        for counter in self.expected.counters() {
+            counters.push(*counter)?;
+        }
+        Ok(counters)
     }
 }
 
@@ -81,7 +90,7 @@ fn checked_course<W: Write>(
     let Ok(mut line) = wanted_of(alloc, ring.slaves()) else {
         return Err(LineFailure::NoMemory);
     };
-    if refuse_full(line.as_slice(), &work, &mut lines)? {
+    if refuse_full(&work, states, &mut lines)? {
         return Ok(None);
     }
     for (wanted, startup) in line.iter_mut().zip(startups.iter()) {

@@ -16,6 +16,7 @@ use ecat_master::Plan;
 use ecat_pace::{Beat, Ending};
 use ecat_record::{Moments, Recorder, WallClock, unrecorded};
 use ecat_scene::{Scene, SceneFault};
+use ecat_setup::LineFailure;
 use std::net::Net;
 use std::random::RandomSource;
 use std::rt::{Clock, Files, Stdin};
@@ -262,13 +263,22 @@ where
     let Ok(mut beat) = beat_of(rt, running, console.input) else {
         return report(&Failure::Clock, out, err);
     };
+    let Ok(counters) = course.counters(rt.alloc()) else {
+        return report(&Failure::Line(LineFailure::NoMemory), out, err);
+    };
     match running.reach {
         Reach::At(at) => match remote_ports(rt, at, running.limit, recorder) {
-            Ok(ports) => act_master(course, ports, plan, &mut beat, out, err, log),
+            Ok(ports) => {
+                let ports = ports.expecting(counters);
+                act_master(course, ports, plan, &mut beat, out, err, log)
+            }
             Err(failure) => report(&failure, out, err),
         },
         Reach::Raw(descriptors) => match raw_ports(rt, descriptors, running.limit, recorder) {
-            Ok(ports) => act_master(course, ports, plan, &mut beat, out, err, log),
+            Ok(ports) => {
+                let ports = ports.expecting(counters);
+                act_master(course, ports, plan, &mut beat, out, err, log)
+            }
             Err(failure) => report(&failure, out, err),
         },
     }

@@ -134,8 +134,8 @@ where
     ports_over(rt, carrier, limit)
 }
 
-/// The two ports of a master at packet sockets. What an earlier master sent over the same interfaces bears other
-/// numbers, so nothing is waited for.
+/// The two ports of a master at packet sockets. What an earlier master sent over the same interfaces bears
+/// other numbers, so nothing is waited for.
 pub fn raw_ports<'a, 't, R, W, M>(
     rt: &'a R,
     descriptors: Descriptors,
@@ -169,8 +169,8 @@ where
     }
 }
 
-/// The first trip of a run: 63 bits that the system draws, or the nanoseconds since 1970 where it draws none. No
-/// other run has its numbers, unless by a chance of one in some thousand million for as many trips.
+/// The first trip of a run: 63 bits that the system draws, or the nanoseconds since 1970 where it draws none.
+/// No other run has its numbers, unless by a chance of one in some thousand million for as many trips.
 fn first_trip<R: Clock + RandomSource>(rt: &R) -> Trip {
     let mut drawn = [0; 8];
     match rt.fill_bytes(&mut drawn) {

@@ -2,69 +2,78 @@
 
 use ec_master::{Work, frame_from};
 use ec_number::NUMBER_LENGTH;
-use ec_run::Wanted;
-use ec_wire::MAX_FRAME;
-use ecat_text::{End, Lines};
+use ec_wire::{MAX_DATA, MAX_FRAME};
+use ecat_text::Lines;
 use std::io::{self, Write};
 
+/// How many bytes of a frame stand in front of its datagrams (IEC 61158-4-12, the frame's header).
+const HEADER: usize = 2;
+
 /// How many bytes of data a datagram has that goes out alone with a number behind it, at the most.
-const MOST_DATA: u16 = 1466;
+const MOST_DATA: usize = MAX_DATA - NUMBER_LENGTH;
 
 /// How many bytes of datagrams a frame has beside its number, at the most.
-const MOST_DATAGRAMS: usize = 1478;
+const MOST_DATAGRAMS: usize = MAX_FRAME - HEADER - NUMBER_LENGTH;
 
-/// Is there something without room for a number? If so, prints the first mailbox, or the first item, of which
-/// that is so.
-pub(crate) fn refuse_full<W: Write>(
-    line: &[Wanted],
-    work: &Work,
-    lines: &mut Lines<'_, W>,
-) -> io::Result<bool> {
-    Ok(refuse_mailbox(line, lines)? || refuse_frame(work, lines)?)
+/// A frame of a work that has no room for a number.
+#[derive(Clone, Copy)]
+struct FullFrame {
+    /// How many items are in it.
+    count: usize,
+    /// The last of them.
+    last: usize,
+    /// How many bytes of datagrams it has.
+    datagrams: usize,
 }
 
-/// Is a mailbox of a slave longer than what goes out with a number? If so, prints which slave's.
-fn refuse_mailbox<W: Write>(line: &[Wanted], lines: &mut Lines<'_, W>) -> io::Result<bool> {
-    for (place, slave) in line.iter().enumerate() {
-        let is_long = slave.managers.iter().any(|manager| manager.is_active()
-            && manager.is_mailbox()
-            && MOST_DATA < manager.length);
-        if is_long {
-            lines.text("refused: NoRoom ")?;
-            lines.text(End::AtSlave(place, slave.station))?;
-            lines.text(format_args!(", {MOST_DATA} bytes of a mailbox at the most"))?;
-            lines.end()?;
-            return Ok(true);
-        }
-    }
-    Ok(false)
-}
-
-/// Has a frame of a work no room for a number? If so, prints which item is the last in it.
-fn refuse_frame<W: Write>(work: &Work, lines: &mut Lines<'_, W>) -> io::Result<bool> {
+/// The first frame of a work that has no room for a number, if there is one.
+fn full_frame(work: &Work) -> Option<FullFrame> {
     let mut first = 0;
     for _frame in 0..work.len() {
         if first >= work.len() {
-            return Ok(false);
+            return None;
         }
         let frame = frame_from(work, first);
         let count = frame.count();
-        let last = first.saturating_add(count.saturating_sub(1));
-        let length = frame.bytes().len();
-        if MAX_FRAME < length.saturating_add(NUMBER_LENGTH) {
-            lines.text(format_args!("refused: NoRoom item {last}, "))?;
-            if count == 1 {
-                lines.text(format_args!("{MOST_DATA} bytes of data at the most"))?;
-            } else {
-                let datagrams = length.saturating_sub(2);
-                lines.text(format_args!(
-                    "its frame has {datagrams} bytes of datagrams, {MOST_DATAGRAMS} at the most"
-                ))?;
-            }
-            lines.end()?;
-            return Ok(true);
-        }
+        let datagrams = frame.bytes().len().saturating_sub(HEADER);
         first = first.saturating_add(count);
+        if datagrams > MOST_DATAGRAMS {
+            return Some(FullFrame {
+                count,
+                last: first.saturating_sub(1),
+                datagrams,
+            });
+        }
     }
-    Ok(false)
+    None
+}
+
+/// Has a frame of a work no room for a number? If so, prints the last item in it that is the scene's: where
+/// the states of all slaves are read, the work's last item is that.
+pub(crate) fn refuse_full<W: Write>(
+    work: &Work,
+    states: bool,
+    lines: &mut Lines<'_, W>,
+) -> io::Result<bool> {
+    let Some(full) = full_frame(work) else {
+        return Ok(false);
+    };
+    let has_states = states && full.last.saturating_add(1) == work.len();
+    let item = full.last.saturating_sub(usize::from(has_states));
+    lines.text(format_args!("refused: NoRoom item {item}, "))?;
+    if full.count == 1 {
+        lines.text(format_args!("{MOST_DATA} bytes of data at the most"))?;
+    } else {
+        let datagrams = full.datagrams;
+        let states = if has_states {
+            " with the read of states"
+        } else {
+            ""
+        };
+        lines.text(format_args!(
+            "its frame has {datagrams} bytes of datagrams{states}, {MOST_DATAGRAMS} at the most"
+        ))?;
+    }
+    lines.end()?;
+    Ok(true)
 }

@@ -82,6 +82,8 @@
 //! What is printed and when is tried by tests.
 
 mod identity;
+mod late;
+mod lateness;
 mod leaving;
 mod over_ring;
 mod pace;

@@ -10,6 +10,16 @@ pub trait Pace {
     /// begin back to back.
     fn late(&mut self) -> Option<u64>;
 
+    /// How many cycles were left out before the last one that it let begin, since their time had passed.
+    fn missed(&mut self) -> u64 {
+        0
+    }
+
+    /// In how many microseconds from now the next cycle is due; `None` where cycles begin back to back.
+    fn left(&mut self) -> Option<u64> {
+        None
+    }
+
     /// Microseconds since the pace began, never falling.
     fn now(&mut self) -> u64;
 }

@@ -15,6 +15,7 @@ ghost use Rattle.ecat_master.specs.declared.startup.StartFault.{StartFault};
 ghost use Rattle.ecat_master.specs.declared.run.TheConstants.{FAILED, GOOD};
 
 use crate::identity::Identity;
+use crate::late::CycleTrips;
 use crate::leaving::{Left, leave_line, put_left};
 use crate::pace::Pace;
 use crate::startup::{StartEnd, StartFault, put_start_fault, start};
@@ -23,7 +24,7 @@ use crate::telling::{CycleEnd, Images, put_counts, tell_image};
 use ec_diag::Located;
 use ec_master::{CycleFault, Verdict, Work};
 use ec_regs::AlState;
-use ec_ring::{HeardPorts, MAX_SLAVES};
+use ec_ring::{HeardPorts, LateCopies, MAX_SLAVES};
 use ec_run::{Cycles, MOST_CYCLES, Outputs, Rooms, Wanted, Watched, tells_all_in_op};
 use ec_services::MasterFault;
 use ecat_text::Lines;
@@ -107,14 +108,24 @@ where
     let mut rooms = Rooms::new();
     while cycles.counts.cycles < MOST_CYCLES && pace.next() {
         let began = pace.now();
-        teller.take_lateness(pace.late());
-        ports.clear();
+        teller.lateness.take(pace.late(), pace.missed());
+        let first = ports.trips_made();
+        ports.begin_cycle(teller.time_left(pace.left()));
         let ended = cycles.cycle_in(ports, plan.outputs, expected, &mut rooms);
+        let late = end_cycle(ports);
+        let is_good = ended == Ok(Verdict::Good);
         last = Some(ended);
-        teller.take_time(cycles.counts, began, pace.now(), plan);
+        let at = pace.now();
+        let trips = CycleTrips {
+            first,
+            behind: ports.trips_made(),
+            began,
+        };
         let end = CycleEnd {
             ended,
             in_op: in_op(plan.states, &cycles.image),
+            at,
+            unsure: teller.take_cycle(cycles.counts, trips, late, at, is_good, plan),
         };
         let images = Images {
             sent: rooms.sent(),
@@ -126,6 +137,14 @@ where
         }
     }
     Ok(last)
+}
+
+/// Tells the ports that a cycle is over, and answers which copies came late.
+fn end_cycle<P: HeardPorts>(ports: &mut Watched<P>) -> LateCopies
+    ensures { ports.new ≡ ports.old }
+{
+    ports.end_cycle();
+    ports.take_late()
 }
 
 /// The exit status of cycles of which the last one ended so, where its answers tell that all slaves are in Op
@@ -319,8 +338,11 @@ fn put_end<W: Write, V: Write, L: Write>(
     let lines = &mut teller.out;
     put_left(left, lines)?;
     put_sum(cycles, not_in_op, lines)?;
-    teller.took.put("cycle time", lines)?;
-    teller.late.put("lateness", lines)?;
+    if teller.took.put("cycle time", lines)? {
+        lines.end()?;
+    }
+    teller.lateness.put(lines)?;
+    teller.late_copies.put(lines)?;
     match &cycles.image {
         Some(image) => tell_image(image, expected, plan.states, lines),
         None => Ok(()),

@@ -64,10 +64,10 @@ impl Spread {
         self.greatest
     }
 
-    /// Writes a line of these times, if there are any.
-    pub(crate) fn put<W: Write>(&self, name: &str, lines: &mut Lines<'_, W>) -> io::Result<()> {
+    /// Puts these times, if there are any, and answers whether there are.
+    pub(crate) fn put<W: Write>(&self, name: &str, lines: &mut Lines<'_, W>) -> io::Result<bool> {
         if self.count == 0 {
-            return Ok(());
+            return Ok(false);
         }
         let mean = self.sum / self.count;
         let within = self.within();
@@ -77,7 +77,7 @@ impl Spread {
         lines.text(format_args!(
             " least {least} mean {mean} greatest {greatest} microseconds, 99 of 100 within {within}"
         ))?;
-        lines.end()
+        Ok(true)
     }
 }
 

@@ -3,6 +3,8 @@
 ghost use Rattle.std.specs.Prelude.{◌≡◌, IfSome, Some, length, slice_get};
 ghost use Rattle.ecat_master.specs.Course.{IsFollowed, IsSeenTo};
 
+use crate::late::{CycleTrips, LateCycles, Unsure};
+use crate::lateness::Lateness;
 use crate::ports::SilentPorts;
 use crate::run::Plan;
 use crate::slaves::SlaveStates;
@@ -11,7 +13,7 @@ use crate::telling::{CycleEnd, Images, Told, log_cycle, put_counts, put_cycle};
 use crate::words::{put_code, put_step_fault, state_name};
 use ec_diag::Located;
 use ec_master::{CycleFault, Verdict};
-use ec_ring::HeardPorts;
+use ec_ring::{HeardPorts, LateCopies};
 use ec_run::{Counts, Outcome, Seen, StepFault, Wanted, Watched, look_for, recover, tells_places};
 use ecat_text::{End, Lines};
 use std::io::{self, Write};
@@ -81,8 +83,12 @@ pub struct Teller<'a, W, V, L> {
     pub(crate) states: SlaveStates,
     /// How long cycles took, all of them.
     pub(crate) took: Spread,
+    /// How long a good one took at the least, if there was one.
+    least_good: Option<u64>,
     /// By how much they began late, where they are to begin at a time.
-    pub(crate) late: Spread,
+    pub(crate) lateness: Lateness,
+    /// Which copies of earlier cycles came late.
+    pub(crate) late_copies: LateCycles,
     silent: SilentPorts,
     times: Times,
     due: u64,
@@ -105,7 +111,9 @@ impl<'a, W: Write, V: Write, L: Write> Teller<'a, W, V, L> {
             told: Told::new(cable),
             states: SlaveStates::new(),
             took: Spread::none(),
-            late: Spread::none(),
+            least_good: None,
+            lateness: Lateness::none(),
+            late_copies: LateCycles::none(),
             silent: SilentPorts::new(),
             times: Times::none(),
             due: SECOND,
@@ -113,17 +121,37 @@ impl<'a, W: Write, V: Write, L: Write> Teller<'a, W, V, L> {
         }
     }
 
-    /// Takes by how much a cycle began late, where it was to begin at a time.
-    pub(crate) fn take_lateness(&mut self, late: Option<u64>) {
-        if let Some(late) = late {
-            self.late.take(late);
+    /// For how many microseconds a cycle may wait for copies that begins so long before the next one is due:
+    /// what a good cycle took at the least is left for that. It is no less than twice as long, so that cycles
+    /// that take longer than lies between them are late and not cut off; nor is one before the first good
+    /// one.
+    pub(crate) fn time_left(&self, left: Option<u64>) -> Option<u64> {
+        let (left, least) = (left?, self.least_good?);
+        Some(left.saturating_sub(least).max(least.saturating_mul(2)))
+    }
+
+    /// Takes the trips of a cycle that was made, which copies came late up to its end, and how long it took;
+    /// and says for which cycles outputs are unsure, if they are for any.
+    pub(crate) fn take_cycle(
+        &mut self,
+        counts: Counts,
+        trips: CycleTrips,
+        late: LateCopies,
+        now: u64,
+        is_good: bool,
+        plan: &Plan<'_>,
+    ) -> Option<Unsure> {
+        let took = now.saturating_sub(trips.began);
+        if is_good {
+            self.least_good = Some(self.least_good.map_or(took, |least| least.min(took)));
         }
+        self.take_time(counts, took, now, plan);
+        self.late_copies.take(trips, late, now)
     }
 
     /// Takes how long a cycle took, and writes a line of progress where a second has passed. A fault of that
     /// line is passed over.
-    pub(crate) fn take_time(&mut self, counts: Counts, began: u64, now: u64, plan: &Plan<'_>) {
-        let took = now.saturating_sub(began);
+    fn take_time(&mut self, counts: Counts, took: u64, now: u64, plan: &Plan<'_>) {
         self.took.take(took);
         self.times = self.times.with(took);
         if plan.progress && now >= self.due {
@@ -173,7 +201,7 @@ impl<'a, W: Write, V: Write, L: Write> Teller<'a, W, V, L> {
     ) -> io::Result<()>
         ensures followed { IsFollowed P.trips line.now ports.old ports.new }
     {
-        self.silent.tell(cycle, ports, &mut self.out)?;
+        self.tell_times(cycle, end, ports)?;
         self.told.tell(
             cycle,
             end.ended,
@@ -193,6 +221,18 @@ impl<'a, W: Write, V: Write, L: Write> Teller<'a, W, V, L> {
             return self.look_at_next(cycle, ports, line);
         }
         Ok(())
+    }
+
+    /// Tells which cycles were left out, which copies came late, and at which port none come.
+    fn tell_times<P: HeardPorts>(
+        &mut self,
+        cycle: u64,
+        end: CycleEnd,
+        ports: &Watched<P>,
+    ) -> io::Result<()> {
+        self.lateness.tell(cycle, end.at, &mut self.out)?;
+        self.late_copies.tell(cycle, end.unsure, &mut self.out)?;
+        self.silent.tell(cycle, ports, &mut self.out)
     }
 
     /// The place of the next slave in turn, if the line has any.

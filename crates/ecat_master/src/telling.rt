@@ -3,6 +3,7 @@
 ghost use Rattle.std.specs.Prelude.{◌≡◌, ◌≤◌, length};
 ghost use Rattle.ecat_master.specs.Course.{MayBeLookedOver};
 
+use crate::late::Unsure;
 use crate::startup::look_surely;
 use crate::words::put_cable;
 use ec_diag::Located;
@@ -12,13 +13,17 @@ use ec_run::{Counts, Signs, Wanted, Watched, Ways};
 use ecat_text::{CountText, Lines, VerdictText, print_item};
 use std::io::{self, Write};
 
-/// How a cycle ended, and whether it told that all slaves are in Op.
+/// How a cycle ended, what it told of the slaves' states, and whether a copy of an earlier one came in it.
 #[derive(Clone, Copy, PartialEq, Eq, Debug)]
 pub(crate) struct CycleEnd {
     /// Its verdict, or why it has none.
     pub(crate) ended: Result<Verdict, CycleFault>,
     /// Whether a good cycle told that all slaves are in Op; true of one that tells no states.
     pub(crate) in_op: bool,
+    /// When it was over, in microseconds of the pace.
+    pub(crate) at: u64,
+    /// Since when outputs are unsure by a copy of an earlier cycle that came late in this one.
+    pub(crate) unsure: Option<Unsure>,
 }
 
 impl CycleEnd {
@@ -288,8 +293,8 @@ pub(crate) struct Images<'a> {
 }
 
 /// Writes a line for a cycle that was made: its number, its end, and how far the counter of each of so many
-/// items moved; behind a good one where not all slaves were in Op; and what went out and what the items hold
-/// behind it, where that is asked for.
+/// items moved; behind a good one where not all slaves were in Op; since when outputs are unsure, where they
+/// are; and what went out and what the items hold behind it, where that is asked for.
 pub(crate) fn log_cycle<W: Write>(
     cycle: u64,
     end: CycleEnd,
@@ -306,6 +311,9 @@ pub(crate) fn log_cycle<W: Write>(
     }
     if end.ended == Ok(Verdict::Good) && !end.in_op {
         lines.text(" not-in-op")?;
+    }
+    if let Some(unsure) = end.unsure {
+        unsure.put(cycle, lines)?;
     }
     if let Some(images) = images {
         put_images(images, items, lines)?;
@@ -351,9 +359,6 @@ fn put_end<W: Write>(
     }
 }
 
-/// The counters of a round go out as a multiple of this.
-const ROUND: u16 = 2048;
-
 /// Writes a line for each item of an image that is the scene's: its data, and how often it was counted.
 pub fn tell_image<W: Write>(
     image: &Work,
@@ -364,8 +369,7 @@ pub fn tell_image<W: Write>(
     let count = image.len().saturating_sub(usize::from(states));
     for k in 0..count {
         let item = image.item(k);
-        let counter = item.counter() % ROUND;
-        print_item(k, item, counter, wanted_of(expected, k), lines)?;
+        print_item(k, item, item.counter(), wanted_of(expected, k), lines)?;
     }
     Ok(())
 }

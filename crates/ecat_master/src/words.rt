@@ -8,6 +8,18 @@ use ec_services::MasterFault;
 use ecat_text::{End, Lines, put_break};
 use std::io::{self, Write};
 
+/// How many microseconds a second has, and a millisecond.
+const SECOND: u64 = 1_000_000;
+
+const MILLISECOND: u64 = 1_000;
+
+/// Puts microseconds in seconds, to the millisecond.
+pub(crate) fn put_seconds<W: Write>(micros: u64, lines: &mut Lines<'_, W>) -> io::Result<()> {
+    let seconds = micros / SECOND;
+    let milliseconds = micros % SECOND / MILLISECOND;
+    lines.text(format_args!("{seconds}.{milliseconds:03} s"))
+}
+
 /// The name of a state (IEC 61158-6-12, AL state machine).
 pub fn state_name(state: AlState) -> &'static str {
     match state {

@@ -15,6 +15,7 @@ mod brought;
 mod cabled;
 mod door;
 mod failing;
+mod late;
 pub(crate) mod line;
 mod logged;
 mod missing;

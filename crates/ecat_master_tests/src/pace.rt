@@ -7,6 +7,7 @@ use std::io::Write;
 use std::os::unix::net::UnixStream;
 use std::process::Abort;
 use std::rt::Stdin;
+use std::thread;
 use std::time::Duration;
 
 /// Asserts that there is to be another cycle, or none.
@@ -33,6 +34,21 @@ fn cycles_are_as_far_apart_as_they_are_to_be(rt: HostRuntime) {
     goes_on(&rt, &mut beat, true);
     goes_on(&rt, &mut beat, true);
     assert_same(&rt, beat.now() >= 40_000, true);
+}
+
+#[test]
+fn cycles_whose_time_has_passed_are_left_out(rt: HostRuntime) {
+    let every = Some(Duration::from_millis(2));
+    let beat = Beat::<_, Stdin>::new(&rt, every, Some(2), None);
+    let mut beat = beat.ok().expect(&rt, "a clock");
+    goes_on(&rt, &mut beat, true);
+    // the first one is at once, and the second one two milliseconds later
+    assert_same(&rt, (beat.late(), beat.missed()), (None, 0));
+    thread::sleep(&rt, Duration::from_millis(50));
+    goes_on(&rt, &mut beat, true);
+    assert_same(&rt, beat.late().unwrap_or(0) >= 48_000, true);
+    assert_same(&rt, beat.missed() >= 24, true);
+    assert_same(&rt, beat.left().unwrap_or(u64::MAX) <= 2_000, true);
 }
 
 #[test]

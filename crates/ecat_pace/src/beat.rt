@@ -1,6 +1,7 @@
 //! When the next cycle of a master is due.
 
 ghost use Rattle.std.specs.Prelude.{◌≡◌, ◌-◌, Some, true, false};
+ghost use Rattle.ecat_pace.specs.Beat.{due_behind, missed_by};
 
 use crate::input::Ending;
 use ecat_master::Pace;
@@ -10,15 +11,19 @@ use std::rt::Clock;
 use std::thread;
 use std::time::{Duration, Instant};
 
-/// The beat of a master's cycles, over a clock: the next one is due so long after the one before was, or at
-/// once; one that comes late does not hurry those behind it. A clock that fails stands still.
+/// The beat of a master's cycles, over a clock: the first one begins at once, and each other one is due so
+/// long after the one before was, or at once. A cycle whose time has passed when the next one is due is left
+/// out and never made up for. A clock that fails stands still.
 #[derive(Drop)]
 pub struct Beat<'a, R: Clock, I: Read + AsRawFd + Drop> {
     clock: &'a R,
     began: Instant,
-    every: Option<Duration>,
-    due: Duration,
+    /// How many microseconds lie between two cycles; none where they go back to back.
+    every: Option<u64>,
+    /// When the next cycle is due, in microseconds; none before the first one.
+    due: Option<u64>,
     late: Option<u64>,
+    missed: u64,
     left: Option<u32>,
     input: Option<Ending<I>>,
 }
@@ -35,19 +40,23 @@ impl<'a, R: Clock, I: Read + AsRawFd + Drop> Beat<'a, R, I> {
         Ok(Beat {
             clock,
             began: Instant::now(clock)?,
-            every,
-            due: Duration::from_secs(0),
+            every: match every {
+                Some(every) => Some(micros_of(every)),
+                None => None,
+            },
+            due: None,
             late: None,
+            missed: 0,
             left: cycles,
             input,
         })
     }
 
-    /// How long it has gone on.
-    fn passed(&self) -> Duration {
+    /// How long it has gone on, in microseconds.
+    fn passed(&self) -> u64 {
         match self.began.elapsed(self.clock) {
-            Ok(passed) => passed,
-            Err(_) => self.due,
+            Ok(passed) => micros_of(passed),
+            Err(_) => self.due.unwrap_or(0),
         }
     }
 
@@ -65,22 +74,37 @@ impl<'a, R: Clock, I: Read + AsRawFd + Drop> Beat<'a, R, I> {
         }
     }
 
-    /// Waits until the next cycle is due.
+    /// Waits until the next cycle is due; the first one is at once.
     fn wait(&mut self) {
         let Some(every) = self.every else {
             return;
         };
-        let due = self.due;
-        let passed = self.passed();
-        if let Some(rest) = due.checked_sub(passed) {
-            thread::sleep(self.clock, rest);
-        }
-        self.late = Some(micros_between(due, self.passed()));
-        self.due = match self.due.max(passed).checked_add(every) {
-            Some(due) => due,
-            None => self.due,
+        let Some(due) = self.due else {
+            self.due = Some(self.passed().saturating_add(every));
+            return;
         };
+        if let Some(rest) = due.checked_sub(self.passed()) {
+            thread::sleep(self.clock, Duration::from_micros(rest));
+        }
+        let late = self.passed().saturating_sub(due);
+        self.late = Some(late);
+        self.missed = missed_by(late, every);
+        self.due = Some(due_behind(due, every, self.missed));
     }
+}
+
+/// How many cycles are left out where one begins so late that are so far apart.
+fn missed_by(late: u64, every: u64) -> u64
+    ensures { result ≡ missed_by late every }
+{
+    if every == 0 { 0 } else { late / every }
+}
+
+/// When the next cycle is due behind one that was due there, where so many were left out before it.
+fn due_behind(due: u64, every: u64, missed: u64) -> u64
+    ensures { result ≡ due_behind due every missed }
+{
+    due.saturating_add(every.saturating_mul(missed.saturating_add(1)))
 }
 
 impl<'a, R: Clock, I: Read + AsRawFd + Drop> Pace for Beat<'a, R, I> {
@@ -99,20 +123,23 @@ impl<'a, R: Clock, I: Read + AsRawFd + Drop> Pace for Beat<'a, R, I> {
         self.late
     }
 
+    fn missed(&mut self) -> u64 {
+        self.missed
+    }
+
+    fn left(&mut self) -> Option<u64> {
+        match (self.every, self.due) {
+            (Some(_), Some(due)) => Some(due.saturating_sub(self.passed())),
+            _ => None,
+        }
+    }
+
     fn now(&mut self) -> u64 {
-        micros_of(self.passed())
+        self.passed()
     }
 }
 
 /// A time in whole microseconds.
 fn micros_of(time: Duration) -> u64 {
     u64::try_from(time.as_micros()).unwrap_or(u64::MAX)
-}
-
-/// How many microseconds lie between two times; none where the later one comes first.
-fn micros_between(from: Duration, to: Duration) -> u64 {
-    match to.checked_sub(from) {
-        Some(between) => micros_of(between),
-        None => 0,
-    }
 }

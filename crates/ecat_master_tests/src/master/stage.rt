@@ -7,7 +7,7 @@ use crate::asserts::assert_found;
 use arrayvec::ArrayVec;
 use ec_master::PortFault;
 use ec_regs::{AlState, AlStatus};
-use ec_ring::{Arrival, Arrivals, HeardPorts, Port, Ring, Travel, Weather};
+use ec_ring::{Arrival, Arrivals, HeardPorts, LateCopies, Port, Ring, Travel, Weather};
 use ec_run::{Outputs, StartupObject, Wanted};
 use ec_wire::{Command, Datagram, FrameBuf, address_of};
 use ecat_master::{Pace, Plan, master};
@@ -31,6 +31,8 @@ pub enum Event {
     Fault,
     /// A copy comes at port B that is none of the frame, in the place of both.
     Stranger,
+    /// A copy comes late, of the trip so many before this one.
+    Late(u64),
 }
 
 /// What befalls a frame.
@@ -55,6 +57,7 @@ pub struct Stage<'a> {
     events: &'a [(u64, Event)],
     cycles: u64,
     failed: u64,
+    trips: u64,
 }
 
 impl<'a> Stage<'a> {
@@ -65,6 +68,7 @@ impl<'a> Stage<'a> {
             events,
             cycles: 0,
             failed: 0,
+            trips: 0,
         }
     }
 
@@ -83,6 +87,7 @@ impl<'a> Stage<'a> {
             Event::Forgets(place) => self.forgets(place),
             Event::Fault => fate.fails = true,
             Event::Stranger => fate.is_strange = true,
+            Event::Late(_) => {}
         }
     }
 
@@ -126,7 +131,7 @@ impl<'a> Stage<'a> {
     }
 
     /// Lets happen what happens before the frame of the next cycle.
-    fn begin_cycle(&mut self) -> Fate {
+    fn befalls(&mut self) -> Fate {
         let mut fate = CALM;
         let events = self.events;
         for k in 0..events.len() {
@@ -139,10 +144,24 @@ impl<'a> Stage<'a> {
         fate
     }
 
+    /// Which copies came late in the last cycle, whose frame was the last one.
+    fn late_in_last_cycle(&self) -> LateCopies {
+        let last_trip = self.trips.saturating_sub(1);
+        let mut late = LateCopies::none();
+        for (cycle, event) in self.events {
+            if let Event::Late(ago) = event {
+                if cycle.saturating_add(1) == self.cycles {
+                    late = late.with(last_trip.saturating_sub(*ago));
+                }
+            }
+        }
+        late
+    }
+
     /// Does the next frame belong to a cycle, and what happens before it?
     fn before(&mut self, sent: &FrameBuf) -> Fate {
         if sent.count() > 0 && sent.command(0) == Command::Lrw {
-            self.begin_cycle()
+            self.befalls()
         } else {
             CALM
         }
@@ -178,6 +197,7 @@ impl<'a> HeardPorts for Stage<'a> {
         let before = self.failed;
         let fate = self.before(sent);
         self.failed = before;
+        self.trips = self.trips.saturating_add(1);
         if fate.fails && before < u64::MAX {
             self.failed = before + 1;
             return Err(PortFault);
@@ -194,6 +214,14 @@ impl<'a> HeardPorts for Stage<'a> {
 
     fn failures(&self) -> u64 {
         self.failed
+    }
+
+    fn trips_made(&self) -> u64 {
+        self.trips
+    }
+
+    fn take_late(&mut self) -> LateCopies {
+        self.late_in_last_cycle()
     }
 }
 

@@ -71,14 +71,16 @@ fn assert_image(rt: &impl Abort, cycles: &Cycles, wanted: &[u8]) {
     assert_found(rt, "the image", image, wanted);
 }
 
-/// The number 2 in three bytes, and the counter 2 * 2048.
+/// The number 2 in three bytes, and the counter 0.
 static SENT: [u8; 17] = [
     0x0F, 0x10, 0x0C, 0x00, 0x00, 0x00, 0x01, 0x00, 0x03, 0x00, 0x00, 0x00, 0x02, 0x00, 0x00, 0x00,
-    0x10,
+    0x00,
 ];
 
 #[test]
-fn a_cycle_sends_its_number_in_its_round_and_the_image_is_that_of_a_good_one(rt: HostRuntime) {
+fn a_cycle_sends_its_number_and_a_counter_of_0_and_the_image_is_that_of_a_good_one(
+    rt: HostRuntime,
+) {
     let mut cycles = Cycles::new(exchange(&rt));
     let mut ports = Counting {
         gains: 0,

@@ -2,6 +2,7 @@ use Rattle.std.proofs.Common.{refl, subst}
 use Rattle.ec_run.specs.Cycles.{IsCycle}
 use Rattle.ec_run.specs.Watched.{WatchedTrips}
 use Rattle.ec_run.proofs.Laws.{run_starts, run_goes_on, is_run}
+use Rattle.ecat_master.specs.Course.{IsFollowed}
 use Rattle.ecat_master.proofs.CourseLemmas.{course_within, no_rounds, one_round}
 use Rattle.ecat_master.proofs.LastLemmas.{cycle_is_last}
 use Rattle.ecat_master.proofs.run.run_cycles.Goals as goal
@@ -31,8 +32,9 @@ loop-cycles-preserved g c = (
         between = c.cycle_in-ended.new.ports;
         cycle = subst (λ p. IsCycle (WatchedTrips g.P.HeardPorts.trips) p c.args.plan.now.outputs
             c.args.expected.now c.loop-cycles.cycles c.cycle_in-ended.result c.cycle_in-ended.new.self
-            c.cycle_in-ended.new.ports) c.clear.ensures c.cycle_in-ended.ensures.cycle;
-        followed = c.follow.ensures.followed;
+            c.cycle_in-ended.new.ports) c.begin_cycle.ensures c.cycle_in-ended.ensures.cycle;
+        followed = subst (λ p. IsFollowed g.P.HeardPorts.trips c.args.line.now p c.follow.new.ports)
+            c.end_cycle-late.ensures c.follow.ensures.followed;
       }),
 )
 
@@ -54,8 +56,9 @@ returns-in_err-is_last-clause-course g c =
       between = c.cycle_in-ended.new.ports;
       cycle = subst (λ p. IsCycle (WatchedTrips g.P.HeardPorts.trips) p c.args.plan.now.outputs
           c.args.expected.now c.loop-cycles.cycles c.cycle_in-ended.result c.cycle_in-ended.new.self
-          c.cycle_in-ended.new.ports) c.clear.ensures c.cycle_in-ended.ensures.cycle;
-      followed = c.follow.ensures.followed;
+          c.cycle_in-ended.new.ports) c.begin_cycle.ensures c.cycle_in-ended.ensures.cycle;
+      followed = subst (λ p. IsFollowed g.P.HeardPorts.trips c.args.line.now p c.follow.new.ports)
+          c.end_cycle-late.ensures c.follow.ensures.followed;
     })
 
 pub returns-in_err-is_last-clause-trips : goal.returns-in_err-is_last-clause-trips
@@ -70,8 +73,9 @@ returns-in_err-is_last-clause-trips g c =
       between = c.cycle_in-ended.new.ports;
       cycle = subst (λ p. IsCycle (WatchedTrips g.P.HeardPorts.trips) p c.args.plan.now.outputs
           c.args.expected.now c.loop-cycles.cycles c.cycle_in-ended.result c.cycle_in-ended.new.self
-          c.cycle_in-ended.new.ports) c.clear.ensures c.cycle_in-ended.ensures.cycle;
-      followed = c.follow.ensures.followed;
+          c.cycle_in-ended.new.ports) c.begin_cycle.ensures c.cycle_in-ended.ensures.cycle;
+      followed = subst (λ p. IsFollowed g.P.HeardPorts.trips c.args.line.now p c.follow.new.ports)
+          c.end_cycle-late.ensures c.follow.ensures.followed;
     }))
 
 pub returns-then-is_last-clause-cycles : goal.returns-then-is_last-clause-cycles
@@ -92,8 +96,9 @@ returns-then-is_last-clause-course g c =
       between = c.cycle_in-ended.new.ports;
       cycle = subst (λ p. IsCycle (WatchedTrips g.P.HeardPorts.trips) p c.args.plan.now.outputs
           c.args.expected.now c.loop-cycles.cycles c.cycle_in-ended.result c.cycle_in-ended.new.self
-          c.cycle_in-ended.new.ports) c.clear.ensures c.cycle_in-ended.ensures.cycle;
-      followed = c.follow.ensures.followed;
+          c.cycle_in-ended.new.ports) c.begin_cycle.ensures c.cycle_in-ended.ensures.cycle;
+      followed = subst (λ p. IsFollowed g.P.HeardPorts.trips c.args.line.now p c.follow.new.ports)
+          c.end_cycle-late.ensures c.follow.ensures.followed;
     })
 
 pub returns-then-is_last-clause-trips : goal.returns-then-is_last-clause-trips
@@ -108,8 +113,9 @@ returns-then-is_last-clause-trips g c =
       between = c.cycle_in-ended.new.ports;
       cycle = subst (λ p. IsCycle (WatchedTrips g.P.HeardPorts.trips) p c.args.plan.now.outputs
           c.args.expected.now c.loop-cycles.cycles c.cycle_in-ended.result c.cycle_in-ended.new.self
-          c.cycle_in-ended.new.ports) c.clear.ensures c.cycle_in-ended.ensures.cycle;
-      followed = c.follow.ensures.followed;
+          c.cycle_in-ended.new.ports) c.begin_cycle.ensures c.cycle_in-ended.ensures.cycle;
+      followed = subst (λ p. IsFollowed g.P.HeardPorts.trips c.args.line.now p c.follow.new.ports)
+          c.end_cycle-late.ensures c.follow.ensures.followed;
     }))
 
 pub returns-then-is_last-clause-last : goal.returns-then-is_last-clause-last
