@@ -1,8 +1,10 @@
 -- An item that no slave of the line serves moves nothing and counts nothing (IEC 61158-4-12, working counter
 -- and FMMU).
-use Rattle.std.specs.Prelude.{ℕ, ◌+◌, ◌*◌, ◌==◌, ◌&&◌, Bool, not, nat_lt, if◌then◌else◌}
+use Rattle.std.specs.Prelude.{ℕ, ◌+◌, ◌-◌, ◌*◌, ◌==◌, ◌&&◌, Bool, not, nat_lt, if◌then◌else◌}
 use Rattle.std.specs.Prelude.{Option, None, Some, List, length}
 use Rattle.std.specs.List.{list_any}
+use Rattle.ec_wire.specs.declared.datagram.TheConstants.{MAX_DATA}
+use Rattle.ec_number.specs.declared.number.TheConstants.{NUMBER_LENGTH}
 use Rattle.ec_regs.specs.Pairs.{pair_count, first_logical}
 use Rattle.ec_regs.specs.declared.fmmu.Fmmu.{Fmmu}
 use Rattle.ec_areas.specs.Records.{fmmus_of}
@@ -12,7 +14,7 @@ use Rattle.ec_check.specs.declared.records.Records.{Records}
 use Rattle.ec_map.specs.Item.{ItemRecord, is_logical}
 use Rattle.ec_map.specs.Share.{expected_of}
 use Rattle.ecat_lint.specs.declared.oddity.Oddity.{Oddity}
-use Rattle.ecat_lint.specs.declared.oddity.Oddity.TheVariants.{OutsideMappings, NotServed}
+use Rattle.ecat_lint.specs.declared.oddity.Oddity.TheVariants.{OutsideMappings, NotServed, NoRoom}
 
 -- does the FMMU map one of the n logical bytes from an address on, for reading or for writing
 abbrev pub maps_logical : ℕ → ℕ → Fmmu → Bool
@@ -43,3 +45,12 @@ unserved line r =
     if expected line r == 0 then
     (if is_outside line r then Some (OutsideMappings r.address (length r.payload)) else Some NotServed)
     else None
+
+-- the most bytes of data of a datagram that goes out alone with a number behind it
+abbrev pub most_data : ℕ
+most_data = MAX_DATA - NUMBER_LENGTH
+
+-- an item has no room in a frame beside its number
+abbrev pub without_room : ItemRecord → Option Oddity
+without_room r =
+    if nat_lt most_data (length r.payload) then Some (NoRoom (length r.payload) most_data) else None

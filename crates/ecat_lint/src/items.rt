@@ -6,15 +6,21 @@ ghost use Rattle.ec_areas.specs.Records.{fmmus_of};
 ghost use Rattle.ec_check.specs.Records.{controller_with};
 ghost use Rattle.ec_map.specs.Item.{is_logical};
 ghost use Rattle.ecat_lint.specs.Items.{maps_logical, maps_some, is_mapped, is_outside, unserved};
+ghost use Rattle.ecat_lint.specs.Items.{without_room};
 
 use crate::oddity::Oddity;
 use ec_check::{Mapped, Records};
 use ec_map::{Item, Kind, expected};
+use ec_number::NUMBER_LENGTH;
 use ec_regs::Fmmu;
 use ec_regs::registers::FMMU_COUNT;
+use ec_wire::MAX_DATA;
 
 /// How many bits a byte has.
 const BYTE: u64 = 8;
+
+/// How many bytes of data a datagram has that goes out alone with a number behind it, at the most.
+const MOST_DATA: usize = MAX_DATA - NUMBER_LENGTH;
 
 /// The FMMUs of a slave, by number.
 #[tactic(auto, unfolding(ec_areas::specs::Records::fmmus_of))]
@@ -91,5 +97,20 @@ pub(crate) fn unserved(line: &[Records], item: &Item) -> Option<Oddity>
         })
     } else {
         Some(Oddity::NotServed)
+    }
+}
+
+/// What is odd about an item that has no room in a frame beside its number.
+pub(crate) fn without_room(item: &Item) -> Option<Oddity>
+    ensures { result ≡ without_room item.now }
+{
+    let length = item.len();
+    if length > MOST_DATA {
+        Some(Oddity::NoRoom {
+            length,
+            room: MOST_DATA,
+        })
+    } else {
+        None
     }
 }

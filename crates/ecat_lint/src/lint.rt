@@ -1,7 +1,7 @@
 //! What a scene says that is accepted and yet seldom meant.
 
 use crate::buffers::buffers_meet;
-use crate::items::{fmmus_of, unserved};
+use crate::items::{fmmus_of, unserved, without_room};
 use crate::mapping::{area_differs, fewer_mapped, unmapped};
 use crate::oddity::{Oddity, ProcessData};
 use crate::records::records_of;
@@ -306,14 +306,23 @@ impl Linter {
     fn end_items(&mut self, items: &[Item]) -> Result<(), AllocError> {
         for (k, item) in items.iter().enumerate() {
             if let Some(oddity) = unserved(self.records.as_slice(), item) {
-                let line = self.items.as_slice().get(k).copied().unwrap_or(0);
-                self.found.push(OddLine {
-                    line,
-                    subject: Subject::Item(k),
-                    oddity,
-                })?;
+                self.keep_item(k, oddity)?;
+            }
+            if let Some(oddity) = without_room(item) {
+                self.keep_item(k, oddity)?;
             }
         }
+        Ok(())
+    }
+
+    /// Keeps what is odd about an item.
+    fn keep_item(&mut self, item: usize, oddity: Oddity) -> Result<(), AllocError> {
+        let line = self.items.as_slice().get(item).copied().unwrap_or(0);
+        self.found.push(OddLine {
+            line,
+            subject: Subject::Item(item),
+            oddity,
+        })?;
         Ok(())
     }
 

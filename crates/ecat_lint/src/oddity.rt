@@ -122,4 +122,12 @@ pub(crate) enum Oddity {
     /// An item that no slave serves, though it is not outside of all mappings.
     #[error("no slave serves the item: its expected working counter is 0")]
     NotServed,
+    /// An item that has no room in a frame beside the number with which a running master sends it.
+    #[error("`master` has no room for the item: {length} bytes of data, {room} at the most")]
+    NoRoom {
+        /// How many bytes of data the item has.
+        length: usize,
+        /// How many a datagram has that goes out alone with a number behind it, at the most.
+        room: usize,
+    },
 }
