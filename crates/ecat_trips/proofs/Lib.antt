@@ -1,6 +1,7 @@
 pub mod Pairs
 pub mod FastLemmas
 pub mod LostLemmas
+pub mod QueueLemmas
 pub mod BasesLemmas
 pub mod ZippedLemmas
 pub mod SetLemmas

@@ -1,6 +1,6 @@
 -- Which frames are copies of one that was sent (IEC 61158-4-12, the datagram structure): slaves change data,
--- working counters, event requests, and the ADP of commands that address by place or all slaves. The copies of
--- a trip may bear numbers behind their datagrams, which no slave changes.
+-- working counters, event requests, and the ADP of commands that address by place or all slaves. The copies
+-- of a trip may bear numbers behind their datagrams, which no slave changes.
 use Rattle.std.specs.Prelude.{ℕ, ◌+◌, ◌-◌, ◌*◌, ◌/◌, Bool, true, false, ◌==◌, ◌&&◌, not, if◌then◌else◌}
 use Rattle.std.specs.Prelude.{List, [], ◌∷◌, length, nat_eq, nat_lt, take, Option, None, Some, is_some}
 use Rattle.std.specs.Cmp.Lexicographic.{pointwise}

@@ -5,7 +5,9 @@ pub mod Zipped
 pub mod Copies
 pub mod Trip
 pub mod Ways
+pub mod Seen
 pub mod Lost
+pub mod Queue
 pub mod Steps
 pub mod Runs
 pub mod Sums

@@ -30,10 +30,10 @@
 //! A [`Trip`] has one or two sent copies, and at most as many that came back. Its datagrams have [`moved`]
 //! counters, [`grown`] ADPs and joined data, by the frame that was sent and the one that came.
 //!
-//! A master may put a number behind the datagrams of each copy (`ec_number`). Then the two sent copies bear the
-//! two numbers of one trip, what comes back is of the trip whose number it bears, and a frame that asks again
-//! under another number ends the trip that asked before. [`own_count`] datagrams of a frame are its own: the
-//! one that carries the number asks nothing.
+//! A master may put a number behind the datagrams of each copy (`ec_number`). Then the two sent copies bear
+//! the two numbers of one trip, what comes back is of the trip whose number it bears, and a frame that asks
+//! again under another number ends the trip that asked before. [`own_count`] datagrams of a frame are its
+//! own: the one that carries the number asks nothing.
 //!
 //! What is promised:
 //!
@@ -50,7 +50,7 @@
 //! It cannot tell: of frames without marks one that came back unserved from one that is sent again; and a
 //! frame that the capture dropped from one that the line lost.
 //!
-//! It takes 180 KB of memory at first, and 4 KB for each trip that is on the way, of which there are 4,096 at
+//! It takes 200 KB of memory at first, and 4 KB for each trip that is on the way, of which there are 4,096 at
 //! most, and for the one that ended last.
 
 mod alike;
@@ -60,6 +60,8 @@ mod lost;
 mod marks;
 mod packet;
 mod promises;
+mod queue;
+mod seen;
 mod sums;
 mod trip;
 mod trips;

@@ -3,7 +3,7 @@
 ghost use Rattle.std.specs.Prelude.{◌≡◌, IfOk, None, Some, is_some, true};
 ghost use Rattle.ecat_trips.specs.Copies.{both_moved, joined_with, with_number};
 
-use crate::alike::{is_still, same_frame, same_key, same_question, told_fast};
+use crate::alike::{is_still, same_frame, same_key, same_question};
 use crate::copies::{join_in, take_number, with_number};
 use crate::packet::Outline;
 use ec_wire::FrameBuf;
@@ -27,13 +27,11 @@ impl SentFrame {
         same_key(&self.frame, frame)
     }
 
-    /// The same once more.
-    pub(crate) fn copy(&self) -> SentFrame
-        ensures { result ≡ self.now }
+    /// Another frame takes the place of this one.
+    pub(crate) fn copy_from(&mut self, sent: &SentFrame)
+        ensures { self.new ≡ sent.now }
     {
-        SentFrame {
-            frame: self.frame.copy(),
-        }
+        self.frame.copy_from(&sent.frame);
     }
 }
 
@@ -277,14 +275,18 @@ fn joined_with(
     }
 }
 
-/// A trip that is kept in a place of its own.
+/// A trip, and where what comes back of it is put.
 #[derive(Drop)]
-pub struct Kept {
-    /// What is told fast of its key.
-    fast: u64,
-    trip: Box<Trip>,
+struct Held {
+    trip: Trip,
     /// Where what comes back is put, until the trip has it.
     place: Option<CameFrame>,
+}
+
+/// A trip that is kept in a place of its own: so it is moved by eight bytes.
+#[derive(Drop)]
+pub struct Kept {
+    held: Box<Held>,
 }
 
 impl Model for Kept {
@@ -292,67 +294,62 @@ impl Model for Kept {
 
     ghost Value = { Trip };
 
-    ghost view = { λ k. k.trip.value };
+    ghost view = { λ k. k.held.value.trip };
 
     ghost use Rattle.std.specs.Prelude.{◌≡◌, None, is_some, true};
-    ghost use Rattle.ecat_trips.specs.Alike.{told_fast};
 
-    ghost invariant = { λ k. (k.fast ≡ told_fast k.trip.value.sent.frame)
-        × (k.trip.value.came ≡ None → is_some k.place ≡ true) };
+    ghost invariant = { λ k. k.held.value.trip.came ≡ None → is_some k.held.value.place ≡ true };
 }
 
 impl Kept {
-    ghost use Rattle.ecat_trips.specs.Alike.{told_fast};
     ghost use Rattle.ecat_trips.specs.Trip.{bears, begun, with_return, with_second};
 
-    /// Keeps a trip: 4 KB of memory.
-    pub(crate) fn new(alloc: Global, trip: Trip) -> Result<Kept, AllocError>
-        ensures { IfOk result (λ kept. kept ≡ trip) }
+    /// Keeps a trip that begins with a packet: 4 KB of memory.
+    pub(crate) fn begun(alloc: Global, first: Outline, frame: &FrameBuf) -> Result<Kept, AllocError>
+        ensures { IfOk result (λ kept. kept ≡ begun first frame.now) }
     {
-        let fast = told_fast(&trip.sent.frame);
-        let place = Some(CameFrame::new(alloc, &trip.sent.frame)?);
-        let trip = Box::new(alloc, trip)?;
-        Ok(Kept { fast, trip, place })
+        let place = Some(CameFrame::new(alloc, frame)?);
+        let trip = Trip::begun(first, frame);
+        let held = Box::new(alloc, Held { trip, place })?;
+        Ok(Kept { held })
     }
 
     /// A trip that begins with a packet takes the place of this one.
     pub(crate) fn begin(&mut self, first: Outline, frame: &FrameBuf)
         ensures { self.new ≡ begun first frame.now }
     {
-        self.fast = told_fast(frame);
-        match self.trip.begin(first, frame) {
-            Some(place) => self.place = Some(place),
+        match self.held.trip.begin(first, frame) {
+            Some(place) => self.held.place = Some(place),
             None => {}
         }
     }
 
-    /// Does a frame, of which this is told fast, bear the key of the trip?
-    pub(crate) fn bears(&self, fast: u64, frame: &FrameBuf) -> bool
-        requires { fast ≡ told_fast frame.now }
+    /// Does a frame bear the key of the trip?
+    pub(crate) fn bears(&self, frame: &FrameBuf) -> bool
         ensures { result ≡ bears frame.now self.now.sent }
     {
-        self.fast == fast && self.trip.sent.bears(frame)
+        self.held.trip.sent.bears(frame)
     }
 
     /// The trip.
     pub fn trip(&self) -> &Trip
         ensures { result.now ≡ self.now }
     {
-        &self.trip
+        &self.held.trip
     }
 
     /// Takes the second sent copy.
     pub(crate) fn take_second(&mut self, packet: Outline)
         ensures { self.new ≡ with_second packet self.old }
     {
-        self.trip.take_second(packet);
+        self.held.trip.take_second(packet);
     }
 
     /// Takes one more copy that came back.
     pub(crate) fn take_return(&mut self, packet: Outline, frame: &FrameBuf)
         ensures { self.new ≡ with_return packet frame.now self.old }
     {
-        let place = self.place.take();
-        self.trip.take_return(packet, frame, place);
+        let place = self.held.place.take();
+        self.held.trip.take_return(packet, frame, place);
     }
 }

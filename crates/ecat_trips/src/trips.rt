@@ -1,12 +1,13 @@
 //! The trips of a capture, one packet after the other.
 
-ghost use Rattle.std.specs.Prelude.{◌≡◌, ◌<◌, length, position, IfOk, OnErr, IfSome};
+ghost use Rattle.std.specs.Prelude.{◌≡◌, ◌<◌, length, position, slice_index_or, IfOk, OnErr, IfSome};
 ghost use Rattle.std.specs.Option.{ForSome};
 
 use crate::alike::{is_numbered, told_fast};
 use crate::lost::Lost;
 use crate::marks::Marks;
 use crate::packet::Outline;
+use crate::queue::Queue;
 use crate::trip::{Kept, Trip};
 use crate::way::{Told, Way};
 use ec_wire::FrameBuf;
@@ -49,7 +50,7 @@ pub enum Step {
 #[derive(Drop)]
 pub struct Trips {
     alloc: Global,
-    on_the_way: Vec<Kept>,
+    on_the_way: Queue,
     lost: Lost,
     /// The place of a trip that ended, for the next one that begins.
     spare: Option<Kept>,
@@ -60,15 +61,15 @@ impl Model for Trips {
 
     ghost Value = { TripsState };
 
-    ghost view = { λ t. record { on_the_way = t.on_the_way.items; lost = t.lost } };
+    ghost view = { λ t. record { on_the_way = t.on_the_way; lost = t.lost } };
 }
 
 impl Trips {
     ghost use Rattle.std.specs.Prelude.{[], ◌∷◌, OnOk};
     ghost use Rattle.ecat_trips.specs.Trip.{asks_again, begun};
     ghost use Rattle.ecat_trips.specs.Ways.{told};
-    ghost use Rattle.ecat_trips.specs.Steps.{asked_before, bears_trip, begins, closes, comes_back, ends};
-    ghost use Rattle.ecat_trips.specs.Steps.{is_late};
+    ghost use Rattle.ecat_trips.specs.Steps.{asked_before, begins, closes, comes_back, ends, is_late};
+    ghost use Rattle.ecat_trips.specs.Steps.{lost_with};
     ghost use Rattle.ecat_trips.specs.Steps.{oldest_ends, replaces, returned, seconds, sent, sent_new, step};
     ghost use Rattle.ecat_trips.specs.Steps.{trip_of};
 
@@ -76,7 +77,7 @@ impl Trips {
     pub fn new(alloc: Global) -> Result<Trips, AllocError>
         ensures { IfOk result (λ trips. trips ≡ record { on_the_way = []; lost = [] }) }
     {
-        let on_the_way = Vec::with_capacity(alloc, MAX_ON_THE_WAY)?;
+        let on_the_way = Queue::new(alloc, MAX_ON_THE_WAY)?;
         let lost = Lost::new(alloc)?;
         Ok(Trips {
             alloc,
@@ -86,26 +87,23 @@ impl Trips {
         })
     }
 
-    /// The place of the newest trip on the way whose key a frame bears.
-    fn place_of(&self, frame: &FrameBuf) -> Option<usize>
-        ensures value { result ≡ position (bears_trip frame.now) self.now.on_the_way }
-        ensures within { IfSome result (λ i. i < length self.now.on_the_way) }
-    {
-        let fast = told_fast(frame);
-        self.on_the_way
-            .iter()
-            .position(|kept| kept.bears(fast, frame))
-    }
-
     /// The way of a packet whose trip on the way, by its key, stands at this place.
     fn told(&self, marks: &Marks, packet: &Outline, frame: &FrameBuf, at: Option<usize>) -> Told
         requires { ForSome at (λ i. i < length self.now.on_the_way) }
         ensures { result ≡ told marks.now packet.now frame.now (trip_of packet.now frame.now self.now at) }
     {
         match at {
-            Some(i) => marks.told(packet, frame, Some(self.on_the_way[i].trip())),
+            Some(i) => marks.told(packet, frame, Some(self.trip(i))),
             None => marks.told(packet, frame, None),
         }
+    }
+
+    /// The trip at a place.
+    fn trip(&self, i: usize) -> &Trip
+        requires { i < length self.now.on_the_way }
+        ensures { result.now ≡ slice_index_or self.now.on_the_way i result.now }
+    {
+        self.on_the_way.trips()[i].trip()
     }
 
     /// The place of a trip, whose question the packet asks again, goes to the one that the packet begins.
@@ -122,12 +120,19 @@ impl Trips {
         ensures after { OnOk result (self.new ≡ (replaces packet.now frame.now self.old told i).after) }
         ensures kept { OnErr result (self.new ≡ self.old) }
     {
-        self.add(packet, frame)?;
-        let kept = self.on_the_way.remove(i + 1);
-        if kept.trip().back.is_none() {
-            self.lost.take(kept.trip().sent.copy());
-        }
+        let kept = self.make(packet, frame)?;
+        let kept = self.on_the_way.begin_for(kept, told_fast(frame), i);
+        self.note_loss(kept.trip());
         Ok(Step::Taken(told, Fate::Replaces(kept)))
+    }
+
+    /// Of a trip that ended with no copy back the sent frame is known for a while.
+    fn note_loss(&mut self, trip: &Trip)
+        ensures { self.new ≡ record self.old { lost = lost_with trip.now self.old.lost } }
+    {
+        if trip.back.is_none() {
+            self.lost.take(&trip.sent, told_fast(&trip.sent.frame));
+        }
     }
 
     /// The trip at a place ends in front of the packet.
@@ -136,10 +141,8 @@ impl Trips {
         ensures step { result ≡ (ends packet.now frame.now self.old i).step }
         ensures after { self.new ≡ (ends packet.now frame.now self.old i).after }
     {
-        let kept = self.on_the_way.remove(i);
-        if kept.trip().back.is_none() {
-            self.lost.take(kept.trip().sent.copy());
-        }
+        let kept = self.on_the_way.end(i);
+        self.note_loss(kept.trip());
         Step::Ended(kept)
     }
 
@@ -163,7 +166,7 @@ impl Trips {
                 kept.begin(*packet, frame);
                 Ok(kept)
             }
-            None => Kept::new(self.alloc, Trip::begun(*packet, frame)),
+            None => Kept::begun(self.alloc, *packet, frame),
         }
     }
 
@@ -176,8 +179,7 @@ impl Trips {
         ensures kept { OnErr result (self.new ≡ self.old) }
     {
         let kept = self.make(packet, frame)?;
-        self.on_the_way.insert(0, kept)?;
-        Ok(())
+        self.on_the_way.begin(kept, told_fast(frame))
     }
 
     /// The packet begins a trip; where as many are on the way as may be, the oldest ends first.
@@ -200,8 +202,8 @@ impl Trips {
         ensures step { result ≡ (seconds packet.now frame.now self.old told i).step }
         ensures after { self.new ≡ (seconds packet.now frame.now self.old told i).after }
     {
-        self.on_the_way[i].take_second(*packet);
-        Step::Taken(told, Fate::Second(self.on_the_way[i].trip().first.number))
+        self.on_the_way.take_second(i, *packet);
+        Step::Taken(told, Fate::Second(self.trip(i).first.number))
     }
 
     /// The packet is a copy that came back, and one more is to come back.
@@ -210,8 +212,8 @@ impl Trips {
         ensures step { result ≡ (comes_back packet.now frame.now self.old told i).step }
         ensures after { self.new ≡ (comes_back packet.now frame.now self.old told i).after }
     {
-        self.on_the_way[i].take_return(*packet, frame);
-        Step::Taken(told, Fate::Back(self.on_the_way[i].trip().first.number))
+        self.on_the_way.take_return(i, *packet, frame);
+        Step::Taken(told, Fate::Back(self.trip(i).first.number))
     }
 
     /// The packet is the last copy that comes back; older trips end first.
@@ -221,7 +223,7 @@ impl Trips {
         ensures after { self.new ≡ (closes packet.now frame.now self.old told i).after }
     {
         if self.on_the_way.len() == i + 1 {
-            let mut kept = self.on_the_way.remove(i);
+            let mut kept = self.on_the_way.end(i);
             kept.take_return(*packet, frame);
             Step::Taken(told, Fate::Closes(kept))
         } else {
@@ -234,7 +236,7 @@ impl Trips {
         ensures step { result ≡ (is_late packet.now frame.now self.old told).step }
         ensures after { self.new ≡ (is_late packet.now frame.now self.old told).after }
     {
-        match self.lost.place_of(frame) {
+        match self.lost.place_of(told_fast(frame), frame) {
             Some(j) => {
                 self.lost.forget(j);
                 Step::Taken(told, Fate::Late)
@@ -262,6 +264,7 @@ impl Trips {
         ensures within { IfSome result (λ i. i < length self.now.on_the_way) }
     {
         self.on_the_way
+            .trips()
             .iter()
             .position(|kept| kept.trip().asks_again(frame))
     }
@@ -301,7 +304,7 @@ impl Trips {
             (self.new ≡ (sent marks.now packet.now frame.now self.old told (Some i)).after) }
         ensures kept { OnErr result (self.new ≡ self.old) }
     {
-        if marks.two && self.on_the_way[i].trip().is_second(packet, frame) {
+        if marks.two && self.trip(i).is_second(packet, frame) {
             Ok(self.second(packet, frame, told, i))
         } else {
             self.replace(packet, frame, told, i)
@@ -321,7 +324,7 @@ impl Trips {
         ensures step { result ≡ (returned marks.now packet.now frame.now self.old told (Some i)).step }
         ensures after { self.new ≡ (returned marks.now packet.now frame.now self.old told (Some i)).after }
     {
-        let trip = self.on_the_way[i].trip();
+        let trip = self.trip(i);
         if !trip.has_room() {
             self.stray(packet, frame, told)
         } else if marks.two && trip.back.is_none() {
@@ -345,7 +348,7 @@ impl Trips {
         ensures after { OnOk result (self.new ≡ (step marks.now packet.now frame.now self.old).after) }
         ensures kept { OnErr result (self.new ≡ self.old) }
     {
-        let at = self.place_of(frame);
+        let at = self.on_the_way.place_of(told_fast(frame), frame);
         let told = self.told(marks, packet, frame, at);
         match told.way {
             Way::Sent => match at {
@@ -382,6 +385,6 @@ impl Trips {
     pub fn trips(&self) -> &[Kept]
         ensures { result.now ≡ self.now.on_the_way }
     {
-        &self.on_the_way
+        self.on_the_way.trips()
     }
 }

@@ -1,16 +1,19 @@
-use Rattle.std.proofs.Common.{◌≡◌, eqb, map, sym, ap, ◌∙◌}
-use Rattle.std.specs.List.{list_any}
+use Rattle.std.proofs.Common.{◌≡◌, ℕ, true, false, List, All, map, sym, ap, subst, ◌∙◌}
+use Rattle.ecat_trips.specs.Alike.{told_fast}
 use Rattle.ecat_trips.specs.Lost.{number_of}
-use Rattle.ecat_trips.proofs.LostLemmas.{none_bears}
+use Rattle.ecat_trips.specs.Seen.{is_seen}
+use Rattle.ecat_trips.specs.Trip.{bears}
+use Rattle.ecat_trips.proofs.FastLemmas.{other_fast}
+use Rattle.ecat_trips.proofs.QueueLemmas.{unseen}
 use Rattle.ecat_trips.proofs.lost.Lost.place_of.Goals as goal
 
-pub returns-else-contains-clause-value : goal.returns-else-contains-clause-value
-returns-else-contains-clause-value c =
-    let now = c.args.self.now in
-    let number = c.told_fast.result in
-    let numbers : c.self.inside.numbers.items ≡ map number_of now =
-    c.self.invariant.3 ∙ ap (map number_of) c.self.view_is in
-    sym (none_bears c.args.frame.now now
-    (ap (λ n. list_any (λ y. eqb y n) (map number_of now)) (sym c.told_fast.ensures)
-    ∙ ap (list_any (λ y. eqb y number)) (sym numbers) ∙ sym c.contains.ensures.value
-    ∙ c.if-contains.false))
+pub returns-else-has-clause-value : goal.returns-else-has-clause-value
+returns-else-has-clause-value c =
+    let seen = c.self.inside.seen in
+    let number = told_fast c.args.frame.now in
+    let none : is_seen seen number ≡ false =
+    ap (is_seen seen) (sym c.requires) ∙ sym c.has.ensures ∙ c.if-has.false in
+    sym (unseen (bears c.args.frame.now) number_of seen number c.args.self.now
+    (other_fast c.args.frame.now)
+    (subst (λ (ns : List ℕ). All (λ (n : ℕ). is_seen seen n ≡ true) ns)
+    (c.self.invariant.3 ∙ ap (map number_of) c.self.view_is) c.self.invariant.6) none)
