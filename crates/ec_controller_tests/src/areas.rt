@@ -1,5 +1,5 @@
-//! What the master reads and writes through FMMUs: worked examples, and each small FMMU against a walk over
-//! its bits.
+//! What the master reads and writes through FMMUs: each small one against a walk over its bits. The worked
+//! examples are rows of `data/areas.rows`.
 
 mod by_pairs;
 mod examples;

@@ -1,12 +1,5 @@
-//! Records, states and memories, with the bytes written out by hand.
+//! Records and memories: what no row of `data/regs.rows` is.
 
-mod address_range;
-mod al;
-mod al_status_code;
-mod bits;
 mod door;
 mod fmmu;
-mod guard;
 mod memory;
-mod plan;
-mod sync_man;

@@ -1,6 +1,5 @@
-//! Copies joined, with the bytes written out by hand.
+//! Copies joined: what no row of `data/merge.rows` is.
 
 mod bytes;
 mod door;
-mod frames;
 mod merge;

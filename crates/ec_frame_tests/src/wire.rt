@@ -1,8 +1,4 @@
-//! The worked rows of the frame format, with the bytes written out by hand.
+//! Frames: what no row of `data/wire.rows` is.
 
-mod address;
 mod door;
-mod editing;
-mod grammar;
 mod largest;
-mod refilling;

@@ -1,12 +1,3 @@
-//! The worked rows of objects' mails and of states, with the bytes written out by hand.
+//! A slave: what no row of `data/app.rows` is.
 
-mod abort_codes;
-mod al_requests;
 mod door;
-mod mail_answers;
-mod mail_layout;
-mod mailboxes;
-mod master;
-mod objects;
-mod sdo_layout;
-mod value;

@@ -1,9 +1,6 @@
-//! Frames over lines of slaves with broken links, with the bytes written out by hand.
+//! Frames over lines of slaves: what no row of `data/ring.rows` is.
 
-mod arrivals;
-mod breaks;
 mod by_hand;
-mod circulating;
 mod door;
 mod limit;
 mod line;

@@ -1,9 +1,9 @@
-//! Worked examples, with the bits counted by hand.
+//! The use on the page of `ec_areas`, and the areas of the tests.
 
 ghost use Rattle.ec_regs.specs.Bits.{AreBytes};
 
 use crate::asserts::assert_same;
-use ec_areas::{read_mapped, reads_some, write_mapped, writes_outputs, writes_some};
+use ec_areas::{read_mapped, write_mapped};
 use ec_regs::{Fmmu, Memory, PlannedFmmu, PlannedSyncMan, SyncMan, SyncManagers};
 
 /// A sync manager that guards nothing.
@@ -62,16 +62,6 @@ const READ: Fmmu = Fmmu {
     reserved: [0; 3],
 };
 
-/// From bit 6 of logical byte 0x00010000 to bit 1 of the next, onto the outputs from bit 3 on; write, active.
-const WRITE: Fmmu = Fmmu {
-    start: 6,
-    stop: 1,
-    physical: 0x1000,
-    bit: 3,
-    kind: 2,
-    ..READ
-};
-
 /// Writes through FMMUs, as a controller does.
 pub(crate) fn write(
     managers: &SyncManagers,
@@ -103,110 +93,4 @@ fn a_read_moves_ten_bits_up_by_three(rt: HostRuntime) {
     let mut data = [0xFF, 0xFF];
     assert!(rt; read_mapped(&areas(), &fmmus, memory.bytes(), 0x0001_0000, &mut data));
     assert_same(&rt, data, [0x5F, 0xEB]);
-}
-
-#[test]
-fn data_may_begin_inside_a_run(rt: HostRuntime) {
-    let mut memory = Memory::new(rt.alloc()).expect(&rt, "memory");
-    memory.load(0x1100, &[0xC0, 0x5A]);
-    let fmmus = [PlannedFmmu::new(READ)];
-    let mut data = [0x00];
-    assert!(rt; read_mapped(&areas(), &fmmus, memory.bytes(), 0x0001_0001, &mut data));
-    assert_same(&rt, data, [0x0B]);
-    assert!(rt; !read_mapped(&areas(), &fmmus, memory.bytes(), 0x0001_0002, &mut data));
-}
-
-#[test]
-fn a_write_changes_four_bits_and_shows_their_area(rt: HostRuntime) {
-    let mut memory = Memory::new(rt.alloc()).expect(&rt, "memory");
-    memory.load(0x1000, &[0xFF]);
-    let fmmus = [PlannedFmmu::new(WRITE)];
-    assert!(rt; write(&areas(), &fmmus, &mut memory, 0x0001_0000, &[0x40, 0x02]));
-    assert_same(&rt, memory.byte(0x1000), 0xCF);
-    for (number, area) in areas().iter().enumerate() {
-        let shown = writes_outputs(&areas(), &fmmus, 0x0001_0000, 2, area);
-        assert_same(&rt, shown, number == 2);
-    }
-}
-
-#[test]
-fn a_range_has_a_pair_where_one_of_its_bits_is_mapped(rt: HostRuntime) {
-    let fmmus = [PlannedFmmu::new(READ), PlannedFmmu::new(WRITE)];
-    // The bytes before, both bytes of the runs, and the byte behind.
-    assert!(rt; !reads_some(&areas(), &fmmus, 0x0000_FFFF, 1));
-    assert!(rt; reads_some(&areas(), &fmmus, 0x0000_FFFF, 2));
-    assert!(rt; reads_some(&areas(), &fmmus, 0x0001_0001, 1));
-    assert!(rt; !reads_some(&areas(), &fmmus, 0x0001_0002, 1));
-    assert!(rt; writes_some(&areas(), &fmmus, 0x0001_0000, 1));
-    assert!(rt; writes_some(&areas(), &fmmus, 0x0001_0001, 1));
-    assert!(rt; !writes_some(&areas(), &fmmus, 0x0001_0002, 1));
-    // No bytes, and none of the FMMUs.
-    assert!(rt; !reads_some(&areas(), &fmmus, 0x0001_0000, 0));
-    let writing = [PlannedFmmu::new(WRITE)];
-    assert!(rt; !reads_some(&areas(), &writing, 0x0001_0000, 2));
-    let reading = [PlannedFmmu::new(READ)];
-    assert!(rt; !writes_some(&areas(), &reading, 0x0001_0000, 2));
-}
-
-#[test]
-fn bits_that_areas_keep_are_no_pairs(rt: HostRuntime) {
-    // The first byte is the last register, which may be read and not written; the second is the byte of
-    // outputs, which may be written and not read.
-    let onto_both = Fmmu {
-        physical: 0x0FFF,
-        start: 0,
-        stop: 7,
-        bit: 0,
-        ..READ
-    };
-    let reading = [PlannedFmmu::new(onto_both)];
-    assert!(rt; reads_some(&areas(), &reading, 0x0001_0000, 1));
-    assert!(rt; !reads_some(&areas(), &reading, 0x0001_0001, 1));
-    let writing = [PlannedFmmu::new(Fmmu {
-        kind: 2,
-        ..onto_both
-    })];
-    assert!(rt; !writes_some(&areas(), &writing, 0x0001_0000, 1));
-    assert!(rt; writes_some(&areas(), &writing, 0x0001_0001, 1));
-    assert!(rt; writes_some(&areas(), &writing, 0x0001_0000, 2));
-}
-
-#[test]
-fn a_later_fmmu_prevails(rt: HostRuntime) {
-    let mut memory = Memory::new(rt.alloc()).expect(&rt, "memory");
-    memory.load(0x1100, &[0x00, 0x0F]);
-    let low = Fmmu {
-        start: 0,
-        stop: 7,
-        length: 1,
-        bit: 0,
-        ..READ
-    };
-    let high = Fmmu {
-        physical: 0x1101,
-        stop: 3,
-        ..low
-    };
-    let mut data = [0xFF];
-    let fmmus = [PlannedFmmu::new(low), PlannedFmmu::new(high)];
-    assert!(rt; read_mapped(&areas(), &fmmus, memory.bytes(), 0x0001_0000, &mut data));
-    assert_same(&rt, data, [0x0F]);
-}
-
-#[test]
-fn the_logical_range_does_not_wrap(rt: HostRuntime) {
-    let mut memory = Memory::new(rt.alloc()).expect(&rt, "memory");
-    memory.load(0x1100, &[0xAA, 0x55]);
-    let last = Fmmu {
-        logical: 0xFFFF_FFFF,
-        start: 0,
-        stop: 7,
-        bit: 0,
-        ..READ
-    };
-    let fmmus = [PlannedFmmu::new(last)];
-    let mut data = [0x00, 0x00];
-    assert!(rt; read_mapped(&areas(), &fmmus, memory.bytes(), 0xFFFF_FFFF, &mut data));
-    assert_same(&rt, data, [0xAA, 0x00]);
-    assert!(rt; !read_mapped(&areas(), &fmmus, memory.bytes(), 0x0000_0000, &mut data));
 }

@@ -1,8 +1,7 @@
-//! Runs of data, joined in place.
+//! Runs of data, joined in place by lanes and byte by byte.
 
 ghost use Rattle.std.specs.Prelude.{◌≡◌, ◌≤◌, length};
 
-use crate::asserts::assert_same;
 use ec_merge::join_bytes;
 
 /// The most data of a datagram.
@@ -48,28 +47,4 @@ fn lanes_and_single_bytes_agree(rt: HostRuntime) {
         assert!(rt; agrees(length));
     }
     assert!(rt; agrees(MOST));
-}
-
-#[test]
-fn thirty_five_bytes_take_what_each_copy_changed(rt: HostRuntime) {
-    let mut into = [0xF1; 35];
-    join_bytes(&[0xF0; 35], &mut into, &[0x70; 35]);
-    assert_same(&rt, into, [0x71; 35]);
-}
-
-#[test]
-fn each_place_keeps_its_own_change(rt: HostRuntime) {
-    let mut sent = [0u8; 97];
-    let mut a = [0u8; 97];
-    let mut b = [0u8; 97];
-    let mut expected = [0u8; 97];
-    for k in 0..97usize {
-        let byte = k as u8;
-        sent[k] = byte;
-        a[k] = if k % 2 == 0 { byte ^ 0x80 } else { byte };
-        b[k] = if k % 2 == 0 { byte } else { byte ^ 0x01 };
-        expected[k] = if k % 2 == 0 { byte + 128 } else { byte - 1 };
-    }
-    join_bytes(&sent, &mut a, &b);
-    assert!(rt; a.as_slice() == expected.as_slice());
 }

@@ -1,4 +1,4 @@
-//! The join of one value.
+//! The laws of the join of one value, of any type that has them.
 
 ghost use Rattle.std.specs.Prelude.{◌≡◌};
 
@@ -28,55 +28,6 @@ fn beside_the_sent<M: Merge + Copy>(sent: M, a: M) -> M
     sent.known();
     a.known();
     M::join(sent, a, sent)
-}
-
-#[test]
-fn counters_add_their_distances_modulo_65536(rt: HostRuntime) {
-    let joined = Counter::join(Counter(65535), Counter(1), Counter(0));
-    assert_same(&rt, joined, Counter(2));
-    assert_same(
-        &rt,
-        Counter::join(Counter(0), Counter(3), Counter(0)),
-        Counter(3),
-    );
-    assert_same(
-        &rt,
-        Counter::join(Counter(5), Counter(5), Counter(5)),
-        Counter(5),
-    );
-}
-
-#[test]
-fn a_bit_changes_where_it_does_in_some_copy(rt: HostRuntime) {
-    assert_same(
-        &rt,
-        Byte::join(Byte(0xF0), Byte(0xF1), Byte(0x70)),
-        Byte(0x71),
-    );
-    assert_same(
-        &rt,
-        Irq::join(Irq(0x00F0), Irq(0x80F0), Irq(0x0070)),
-        Irq(0x8070),
-    );
-}
-
-#[test]
-fn a_flag_changes_where_it_does_in_some_copy(rt: HostRuntime) {
-    assert_same(
-        &rt,
-        Flag::join(Flag(false), Flag(false), Flag(true)),
-        Flag(true),
-    );
-    assert_same(
-        &rt,
-        Flag::join(Flag(true), Flag(false), Flag(true)),
-        Flag(false),
-    );
-    assert_same(
-        &rt,
-        Flag::join(Flag(true), Flag(true), Flag(true)),
-        Flag(true),
-    );
 }
 
 #[test]

@@ -2,7 +2,7 @@
 
 use ec_app::{Objects, Slave};
 use ec_regs::AlState;
-use ec_ring::{Links, MAX_LINKS, Port, Ring, Weather};
+use ec_ring::{Links, MAX_LINKS, Ring, Weather};
 use ec_wire::{Form, FrameBuf};
 use std::alloc::Global;
 use std::process::Abort;
@@ -68,18 +68,6 @@ pub fn status(adp: u8, flags: u8, read: u8, counter: u8) -> [u8; 16] {
         0x0E, 0x10, 0x07, 0x01, adp, 0x00, 0x30, 0x01, 0x02, flags, 0x00, 0x00, read, 0x00,
         counter, 0x00,
     ]
-}
-
-/// A copy arrived with these bytes at a port.
-pub fn arrived(rt: &impl Abort, copy: Option<(FrameBuf, Port)>, bytes: &[u8], port: Port) {
-    let (frame, at) = copy.expect(rt, "the copy is lost");
-    assert_eq!(rt; frame.bytes(), bytes);
-    assert_eq!(rt; at, port);
-}
-
-/// A copy arrived nowhere.
-pub fn lost(rt: &impl Abort, copy: &Option<(FrameBuf, Port)>) {
-    assert!(rt; copy.is_none());
 }
 
 /// A copy came back with these bytes, or none did.
