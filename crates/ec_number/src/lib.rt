@@ -3,8 +3,8 @@
 //! (IEC 61158-4-12, the datagram structure and NOP).
 //!
 //! A copy may come late, twice, or at the other port. So each copy goes out with a number of its own, of 64
-//! bits, which is not used twice, in a NOP of eight bytes behind the frame's datagrams. No slave serves a NOP,
-//! so it comes back as it went; what comes with another number, or with none, is not taken. Indexes and
+//! bits, which is not used twice, in a NOP of eight bytes behind the frame's datagrams. No slave serves a
+//! NOP, so it comes back as it went; what comes with another number, or with none, is not taken. Indexes and
 //! counters on the wire stay those of the frame. One use:
 //!
 //! ```text

@@ -37,8 +37,8 @@ fn carrying(number: u64) -> Datagram
     }
 }
 
-/// Puts a number behind the datagrams of a frame that is to go out, unless fewer than [`NUMBER_LENGTH`] of its
-/// bytes are free.
+/// Puts a number behind the datagrams of a frame that is to go out, unless fewer than [`NUMBER_LENGTH`] of
+/// its bytes are free.
 pub fn number_frame(frame: &mut FrameBuf, number: u64) -> Result<(), Full>
     ensures ok { OnOk result (frame.new ≡ numbered number frame.old) }
     ensures err { OnErr result (frame.new ≡ frame.old) }

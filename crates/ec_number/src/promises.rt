@@ -11,8 +11,8 @@ pub fn numbers_come_off()
     ensures bears { (n : ℕ) (ds : List DatagramRecord) → n < 2 ^ 64 → Bears n (numbered n ds) }
 {}
 
-/// A copy came of a frame under one number alone, whatever frames went out, and bears it. Without its number it
-/// is no stranger to the frame.
+/// A copy came of a frame under one number alone, whatever frames went out, and bears it. Without its number
+/// it is no stranger to the frame.
 pub fn numbers_are_apart()
     ensures apart { (m n : ℕ) (f g copy : List DatagramRecord) → m < 2 ^ 64 → n < 2 ^ 64 → CameUnder m f copy
         → CameUnder n g copy → m ≡ n }

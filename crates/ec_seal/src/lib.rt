@@ -1,6 +1,6 @@
 #![tactic(auto)]
-//! A number of its own seals each copy of a trip: over any line and any network, what is taken on a trip is its
-//! own (IEC 61158-4-12, the datagram structure and NOP).
+//! A number of its own seals each copy of a trip: over any line and any network, what is taken on a trip is
+//! its own (IEC 61158-4-12, the datagram structure and NOP).
 //!
 //! Laws alone; the number and how it is put on and taken off is `ec_number`'s. Each is the contract of a
 //! function that does nothing:

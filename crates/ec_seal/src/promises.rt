@@ -17,8 +17,8 @@ ghost use Rattle.ec_seal.specs.Moving.{numbered_copy_a, numbered_copy_b, MeetsMo
 ghost use Rattle.ec_seal.specs.Taken.{Made, IsMade, Meets, going_back, losing};
 ghost use Rattle.ec_seal.specs.Trips.{CountersFit, numbered_trip, both_opened, opened_walk, opened_trip};
 
-/// A walk of a numbered frame, or a trip of numbered copies, opened, is that of the frame, and leaves the same
-/// controllers.
+/// A walk of a numbered frame, or a trip of numbered copies, opened, is that of the frame, and leaves the
+/// same controllers.
 pub fn numbers_go_through()
     ensures walk { (n : ℕ) (ds : List DatagramRecord) (from : Port) (links : Links)
         (line : List ControllerState) → AllByRecursion IsController line
@@ -28,8 +28,8 @@ pub fn numbers_go_through()
         → opened_trip (numbered_trip n w ds line) ≡ travelled w ds line }
 {}
 
-/// Over a line that moves each copy of a trip comes back with its number behind it, and leaves the line as the
-/// copy of the frame does.
+/// Over a line that moves each copy of a trip comes back with its number behind it, and leaves the line as
+/// the copy of the frame does.
 pub fn numbers_go_through_moving()
     ensures a { (n : ℕ) (t : Trip) (vs : List Visit) → AllByRecursion IsController (when_a vs)
         → numbered_copy_a n t vs
@@ -60,9 +60,10 @@ pub fn true_copies_are_taken()
         → IfSome (numbered_trip n w ds line).came.b (CameUnder (number_b n) ds) }
 {}
 
-/// Of other trips' copies none is taken: where what bears a number of a trip is one of its two copies, what is
-/// taken on the trip is its own. Opened, it is what a trip of the frame brings on which those copies are lost
-/// that were not taken (`brings`), and that trip leaves the line as the numbered one has left it (`line`).
+/// Of other trips' copies none is taken: where what bears a number of a trip is one of its two copies, what
+/// is taken on the trip is its own. Opened, it is what a trip of the frame brings on which those copies are
+/// lost that were not taken (`brings`), and that trip leaves the line as the numbered one has left it
+/// (`line`).
 pub fn only_its_own()
     ensures a { (m : Made) (taken : Came) → Meets m taken
         → IfSome taken.a (λ copy. (going_back m).a ≡ Some copy) }
