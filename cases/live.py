@@ -627,7 +627,7 @@ def largest_item_is_told_whole(stage):
     digits = "5a" * 1486
     stage.file("s", f"slave 1\nlrd 0 {digits}\n")
     told = f"item 0 LRD data {digits} wkc 0 of 0\n"
-    odd = "odd lines: 1; ecat lint s names them\n"
+    odd = "odd lines: 2; ecat lint s names them\n"
     yield "run", told + odd + "0\n", stage.ends("run", "s")
     yield "udp", "good\n" + told + "0\n", stage.ends("udp", "s", "--port", str(stage.port))
 
@@ -697,7 +697,7 @@ def sums(cycles):
 
 def timed(text):
     """What a master prints, with N for the times of its cycles and for by how much they began late."""
-    times = r"least \d+ mean \d+ greatest \d+ microseconds, 99 of 100 within \d+\n"
+    times = r"least \d+ mean \d+ greatest \d+ microseconds, 99 of 100 within \d+(, missed \d+)?\n"
     return re.sub(f"^(cycle time|lateness) {times}", r"\1 N\n", text, flags=re.M)
 
 
@@ -820,6 +820,65 @@ COUNTING = "".join(
 
 
 @case
+def a_copy_of_an_earlier_cycle_is_told(stage):
+    """The copy from port B of cycle 3 is handed on in cycle 6, in front of that one's."""
+    held = []
+
+    def gives(place, sent, leaves, packet):
+        if sent == B and place == (3, 0):
+            held.append((leaves, packet))
+            return []
+        if sent == B and place == (6, 0):
+            return [*held, (leaves, packet)]
+        return [(leaves, packet)]
+
+    with master_behind(stage, 9, "--log", "log", *PATIENCE, gives=gives) as (_line, between, master):
+        rows = [re.sub(r" 0\.\d{3} s", " T s", row) for row in between.until_the_end_of(master).splitlines()]
+        late = "cycle 6: a copy of cycle 3 came T s late: slaves may have had its outputs until cycle 6"
+        yield "told", late, "\n".join(row for row in rows if row.startswith("cycle 6: a copy"))
+        yield "sums", "late copies 1, unsure cycles 3", "\n".join(row for row in rows if "unsure" in row)
+        yield "status", "0", rows[-1]
+        with open(os.path.join(stage.folder, "log"), encoding="latin-1") as log:
+            yield "log", "cycle 6 good counts 9 3 unsure 4..6\n", "".join(row for row in log if "unsure" in row)
+
+
+@case
+def a_cable_at_an_end_costs_no_cycle_its_time(stage):
+    """Of 300 cycles each would wait for a fifth of a second for a copy that cannot come."""
+    for link, where in (("link 0", "port A"), ("link 3", "port B")):
+        with controlled(stage, MACHINE) as line:
+            stage.file("m", MACHINE)
+            words = ("--cycles", "300", "--every", "10000", "--limit", "200000")
+            with stage.start("master", "m", "--at", both_ends(stage), *words) as master:
+                for wanted in STARTED.splitlines(True):
+                    yield "start", wanted, master.line()
+                yield link, "ok\n", command(line, f"{link} down")
+                end = master.end()
+        lost = re.search(rf"redundancy lost: {link} down: .*{where}", end)
+        yield "lost", "True", "True" if lost else end
+        good = re.search(r"cycles 300 good (\d+)", end)
+        yield "good", "True", "True" if good and int(good[1]) >= 290 else end
+
+
+@case
+def a_master_that_stood_still_tells_what_it_left_out(stage):
+    with stage.serve(MACHINE, "--forever"):
+        stage.file("m", MACHINE)
+        words = ("master", "m", "--at", both_ends(stage), "--cycles", "40", "--every", "10000", *PATIENCE)
+        with stage.start(*words) as master:
+            for wanted in STARTED.splitlines(True):
+                yield "start", wanted, master.line()
+            master.process.send_signal(signal.SIGSTOP)
+            time.sleep(0.5)
+            master.process.send_signal(signal.SIGCONT)
+            end = master.end()
+        told_row = re.search(r"^cycle \d+: began \d+\.\d{3} s late, \d+ cycles? left out$", end, re.M)
+        yield "told", "True", "True" if told_row else end
+        missed = re.search(r"^lateness .*, missed (\d+)$", end, re.M)
+        yield "missed", "True", "True" if missed and int(missed[1]) >= 48 else end
+
+
+@case
 def a_word_that_counts_is_never_torn(stage):
     """Slaves step behind every packet, and each is passed by one copy: its word is of that moment."""
     with stage.serve(COUNTING, "--forever") as _line:
@@ -851,6 +910,7 @@ def a_master_with_one_port_cycles(stage):
 NO_ROOM = (
     ((1467, 100), "item 0, 1466 bytes of data at the most"),
     ((1486,), "item 0, 1466 bytes of data at the most"),
+    ((1454,), "item 0, its frame has 1479 bytes of datagrams with the read of states, 1478 at the most"),
     ((700, 755, 100), "item 1, its frame has 1479 bytes of datagrams, 1478 at the most"),
     ((1, 700, 761, 100), "item 2, its frame has 1498 bytes of datagrams, 1478 at the most"),
 )
@@ -874,6 +934,15 @@ def a_master_without_room_for_numbers_sends_nothing(stage):
             wanted = f"refused: NoRoom {why}\n1\n"
             yield str(lengths), wanted, stage.ends("master", "m", "--at", at, "--cycles", "1")
         yield "nothing sent", "[]", str(select.select([silent], [], [], 0)[0])
+
+
+@case
+def lint_names_items_without_room_for_a_number(stage):
+    stage.file("m", reads((1466, 1467)))
+    rows = stage.ends("lint", "m").splitlines()
+    wanted = "line 7: item 1: `master` has no room for the item: 1467 bytes of data, 1466 at the most"
+    yield "rooms", wanted, "\n".join(row for row in rows if "room" in row)
+    yield "status", "1", rows[-1]
 
 
 @case
@@ -912,8 +981,8 @@ def datagrams_of(frame):
 @case
 def a_master_puts_a_number_behind_each_frame(stage):
     """In a NOP of eight bytes, which no slave counts: an even one at port A and the next one at port B, and
-    two more on each trip. Indexes are the places of the items, and a cycle sends its round for each counter:
-    2,048 more than the cycle before. The first frame at each port asks nothing, and has no number."""
+    two more on each trip. Indexes are the places of the items, and each counter is 0. The first frame at each
+    port asks nothing, and has no number."""
     with stage.serve(MACHINE, "--forever") as _line:
         stage.file("m", MACHINE)
         words = ("master", "m", "--at", both_ends(stage), "--cycles", "5", "--pcap", "c", *PATIENCE)
@@ -928,7 +997,7 @@ def a_master_puts_a_number_behind_each_frame(stage):
         (numbers[end] if leaves else came).append(int.from_bytes(data, "little"))
         yield "indexes", str([*range(len(asked_for))]), str([one[1] for one in asked_for])
         if leaves:
-            yield "counters", "[0]", str(sorted({one[3] % 2048 for one in asked_for}))
+            yield "counters", "[0]", str(sorted({one[3] for one in asked_for}))
         if asked_for[0][0] == LRW:
             (cycles if leaves else counts).append([one[3] for one in asked_for])
     first = numbers["a"][0]
@@ -938,7 +1007,7 @@ def a_master_puts_a_number_behind_each_frame(stage):
     yield "an even one", "0", str(first % 2)
     yield "came back", str(sorted(numbers["a"] + numbers["b"])), str(sorted(came))
     yield "cycles", "10", str(len(cycles))
-    counted = [[2048 * k + count for count in gained] for k in range(5) for gained in ([0, 0, 0], [9, 3, 3])]
+    counted = 5 * [[0, 0, 0]] + 5 * [[9, 3, 3]]
     yield "counted", str(counted), str(sorted(counts))
     rows = [row.split() for row in stage.ends("list", "c").splitlines()[:-1]]
     listed = [row for row in rows if row[4] == "NOP" and row[6] == "8"]
@@ -970,7 +1039,7 @@ def machine_and_master(stage):
     control = {"stdin": subprocess.PIPE}
     with stage.serve(MACHINE, "--control", **control) as line:
         stage.file("m", MACHINE)
-        words = ("master", "m", "--at", both_ends(stage), "--every", "2000", *PATIENCE)
+        words = ("master", "m", "--at", both_ends(stage), "--every", "50000", *PATIENCE)
         with stage.start(*words, **control) as master:
             yield line, master
 
@@ -986,7 +1055,7 @@ def a_master_sees_cables_break_and_heal(stage):
             """Reads on to a line with these words. A cycle that met a change between its two copies may have
             another counter: its line tells of the cable too, and the next one that it is good again."""
             seen, until = told(master.line()), time.monotonic() + stage.limit
-            others = "came|good again|other than before|lost: links"
+            others = "came|good again|other than before|lost: links|left out"
             while words not in seen and re.search(others, seen) and time.monotonic() < until:
                 seen = told(master.line())
             if "came" in seen and "came" not in words:
@@ -1102,7 +1171,7 @@ def startup_objects_are_written_to_a_slave_that_came_back(stage):
     """The service is started anew under a master: its slaves know nothing."""
     stage.file("m", STARTING)
     line = stage.serve(WRITABLE, "--forever")
-    words = ("master", "m", "--at", both_ends(stage), "--every", "2000", "--recover", "--leave", "op")
+    words = ("master", "m", "--at", both_ends(stage), "--every", "50000", "--recover", "--leave", "op")
     with stage.start(*words, stdin=subprocess.PIPE) as master:
         for wanted in OBJECTS_STARTED.splitlines(True):
             yield "start", wanted, master.line()
@@ -1284,7 +1353,7 @@ def a_master_gets_by_with_little_stack(stage):
     at = ("--at", both_ends(stage))
     with stage.serve(MACHINE, "--forever"):
         for words, stack in [
-            (("master", scene, *at, "--cycles", "3", "--every", "1000"), 728),
+            (("master", scene, *at, "--cycles", "3", "--every", "50000"), 728),
             (("scan", *at), 208),
             (("where", scene, *at), 196),
         ]:
@@ -1374,7 +1443,7 @@ def a_master_tells_a_terminal_of_each_second_anew(stage):
 
     with controlled(stage, MACHINE) as line:
         stage.file("m", MACHINE)
-        words = ("master", "m", "--at", both_ends(stage), "--every", "2000")
+        words = ("master", "m", "--at", both_ends(stage))
         with terminal() as (written, screen):
             more = {"stdin": subprocess.PIPE, "stderr": screen}
             with stage.start(*words, "--limit", "10000000", **more) as master:
@@ -1388,7 +1457,7 @@ def a_master_tells_a_terminal_of_each_second_anew(stage):
                 seen = seen_on(written, stage.limit, has_none)
                 yield "none", "", "" if has_none(seen) else seen
         with terminal() as (_written, screen):
-            words = (*words, "--cycles", "600", "--leave", "op", *PATIENCE)
+            words = (*words, "--every", "2000", "--cycles", "600", "--leave", "op", *PATIENCE)
             yield "no terminal", "0\n", stage.ends(*words, stdout=screen)
 
 
@@ -1424,7 +1493,7 @@ def a_master_stops_though_it_recovers(stage):
     """Of `--stop` and `--recover` neither takes the other away."""
     with controlled(stage, MACHINE) as line:
         stage.file("m", MACHINE)
-        words = ("master", "m", "--at", both_ends(stage), "--stop", "--recover", "--every", "2000", *PATIENCE)
+        words = ("master", "m", "--at", both_ends(stage), "--stop", "--recover", "--every", "50000", *PATIENCE)
         with stage.start(*words, stdin=subprocess.PIPE) as master:
             for wanted in STARTED.splitlines(True):
                 yield "start", wanted, master.line()
@@ -1631,7 +1700,7 @@ def a_log_has_the_port_that_failed(stage):
 def a_service_that_is_gone_is_no_failure_of_a_port(stage):
     """What was sent to nobody is a lost copy, and the cycles are good again once somebody serves the line."""
     stage.file("m", TERMINALS)
-    words = ("master", "m", "--at", both_ends(stage), "--every", "2000", "--recover", "--limit", "20000")
+    words = ("master", "m", "--at", both_ends(stage), "--every", "20000", "--recover", "--limit", "20000")
     line = stage.serve(TERMINALS, "--forever")
     with stage.start(*words, stdin=subprocess.PIPE) as master:
         for wanted in STARTED.splitlines(True):
@@ -1661,7 +1730,7 @@ def each_slave_that_cannot_be_brought_up_again_is_told_once(stage):
     stage.file("m", MACHINE)
     one, *others = re.split("(?=slave)", MACHINE)[1:]
     anew = one + "".join(others).replace("areas 1 1\n", "")
-    words = ("master", "m", "--at", both_ends(stage), "--every", "2000", "--recover", *PATIENCE)
+    words = ("master", "m", "--at", both_ends(stage), "--every", "10000", "--recover", *PATIENCE)
     line = stage.serve(MACHINE, "--forever")
     with stage.start(*words, stdin=subprocess.PIPE) as master:
         for wanted in STARTED.splitlines(True):
