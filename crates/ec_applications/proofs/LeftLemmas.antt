@@ -157,13 +157,13 @@ keeps-both s t u memory first second = record {
 
 -- ---- a line
 
-get-same : (xs : List SlaveState) (k : ℕ) (x : SlaveState) → k < length xs
+pub get-same : (xs : List SlaveState) (k : ℕ) (x : SlaveState) → k < length xs
     → slice_get (slice_set xs k x) k ≡ Some x
 get-same xs k x inside =
     let within : k < length (slice_set xs k x) = rw (length-set xs k x) inside in
     slice_get-get_or (slice_set xs k x) k x within ∙ ap Some (get_or-set_same xs k x x inside)
 
-get-other : (xs : List SlaveState) (i k : ℕ) (x : SlaveState) → k ≢ i
+pub get-other : (xs : List SlaveState) (i k : ℕ) (x : SlaveState) → k ≢ i
     → slice_get (slice_set xs i x) k ≡ slice_get xs k
 get-other [] i k x apart = refl
 get-other (y ∷ ys) zero zero x apart = absurd (apart refl)

@@ -2,3 +2,5 @@ pub mod ShownLemmas
 pub mod AreaLemmas
 pub mod LeftLemmas
 pub mod StepLemmas
+pub mod EepromLemmas
+pub mod BehindLemmas

@@ -1,6 +1,8 @@
--- What applications leave as it was of a slave: all but the areas of process memory that the master reads.
+-- What applications leave as it was of a slave: all but the areas of process memory that the master reads;
+-- and its EEPROM, all but the registers by which it answers.
 use Rattle.std.specs.Prelude.{◌≡◌, ℕ, ◌<◌, ◌≤◌, false, length, slice_index}
 use Rattle.ec_areas.specs.Areas.{is_locked}
+use Rattle.ec_areas.specs.Ranges.{is_in_sii}
 use Rattle.ec_areas.specs.Records.{sync_managers_of}
 use Rattle.ec_app.specs.State.{SlaveState}
 use Rattle.ec_regs.specs.declared.registers.TheConstants.{MEMORY_SIZE, PROCESS_MEMORY}
@@ -14,6 +16,18 @@ pub record KeepsAllElse (before after : SlaveState) : Type 0 where
   pub written : after.controller.written ≡ before.controller.written
   pub size : length after.controller.memory ≡ length before.controller.memory
   pub registers : (address : ℕ) → address < PROCESS_MEMORY
+      → slice_index after.controller.memory address ≡ slice_index before.controller.memory address
+  pub outputs : (address : ℕ) → PROCESS_MEMORY ≤ address
+      → is_locked (sync_managers_of before.controller.memory) address ≡ false
+      → slice_index after.controller.memory address ≡ slice_index before.controller.memory address
+
+-- where its EEPROM has answered too, the registers of the slave information interface are excepted
+pub record KeepsAllButSii (before after : SlaveState) : Type 0 where
+  pub application : after.application ≡ before.application
+  pub shown : after.controller.shown ≡ before.controller.shown
+  pub written : after.controller.written ≡ before.controller.written
+  pub size : length after.controller.memory ≡ length before.controller.memory
+  pub registers : (address : ℕ) → address < PROCESS_MEMORY → is_in_sii address ≡ false
       → slice_index after.controller.memory address ≡ slice_index before.controller.memory address
   pub outputs : (address : ℕ) → PROCESS_MEMORY ≤ address
       → is_locked (sync_managers_of before.controller.memory) address ≡ false

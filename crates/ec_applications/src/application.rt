@@ -1,10 +1,13 @@
 //! The applications of a line.
 
 ghost use Rattle.std.specs.Prelude.{◌≡◌, []};
-ghost use Rattle.ec_applications.specs.Acting.{acted, inputs_of};
+ghost use Rattle.ec_applications.specs.Acting.{inputs_of};
+ghost use Rattle.ec_applications.specs.Behind.{applications_behind, line_acted, line_behind};
+ghost use Rattle.ec_applications.specs.Eeproms.{all_served, all_kept};
 ghost use Rattle.ec_applications.specs.State.{once_more};
 
 use crate::act::act_each;
+use crate::eeproms::{PlacedEeprom, serve_each};
 use ec_ring::Ring;
 use std::marker::Model;
 
@@ -53,6 +56,7 @@ pub struct Application {
 pub struct Applications {
     all: Option<Vec<Application>>,
     acted: u64,
+    eeproms: Option<Vec<PlacedEeprom>>,
 }
 
 impl Model for Applications {
@@ -61,7 +65,11 @@ impl Model for Applications {
 
     ghost Value = { ApplicationsState };
 
-    ghost view = { λ a. record { all = listed (option_map (λ v. v.items) a.all); acted = a.acted } };
+    ghost view = { λ a. record {
+      all = listed (option_map (λ v. v.items) a.all);
+      acted = a.acted;
+      eeproms = listed (option_map (λ v. v.items) a.eeproms);
+    } };
 }
 
 impl Applications {
@@ -69,10 +77,12 @@ impl Applications {
     pub fn none() -> Applications
         ensures all { result.all ≡ [] }
         ensures acted { result.acted ≡ 0 }
+        ensures eeproms { result.eeproms ≡ [] }
     {
         Applications {
             all: None,
             acted: 0,
+            eeproms: None,
         }
     }
 
@@ -80,23 +90,52 @@ impl Applications {
     pub fn new(all: Vec<Application>) -> Applications
         ensures all { result.all ≡ all.items }
         ensures acted { result.acted ≡ 0 }
+        ensures eeproms { result.eeproms ≡ [] }
     {
         Applications {
             all: Some(all),
             acted: 0,
+            eeproms: None,
         }
     }
 
-    /// Lets each application act once on the slaves of a line, as it does behind each step of theirs
-    /// (`Ring::step_all`); all else of the line stays. What is refused, as inputs of another length than
-    /// their area, changes nothing. It takes no memory.
+    /// The EEPROMs of the line's slaves are these.
+    pub fn set_eeproms(&mut self, eeproms: Vec<PlacedEeprom>)
+        ensures { self.new ≡ record self.old { eeproms = eeproms.items } }
+    {
+        self.eeproms = Some(eeproms);
+    }
+
+    /// Lets each application act once on the slaves of a line, and then each EEPROM answer, as they do behind
+    /// each step of the slaves (`Ring::step_all`); all else of the line stays. What is refused, as inputs of
+    /// another length than their area, changes nothing. It takes no memory.
     pub fn act(&mut self, ring: &mut Ring)
+        ensures own { self.new ≡ applications_behind self.old ring.old }
+        ensures ring { ring.new ≡ line_behind self.old ring.old }
+    {
+        self.behave(ring);
+        self.serve(ring);
+    }
+
+    /// Lets each application act once.
+    fn behave(&mut self, ring: &mut Ring)
         ensures own { self.new ≡ once_more self.old }
-        ensures ring { ring.new ≡ acted (once_more self.old).acted self.old.all ring.old }
+        ensures ring { ring.new ≡ line_acted self.old ring.old }
     {
         self.acted = self.acted.wrapping_add(1);
         if let Some(all) = &self.all {
             act_each(all.as_slice(), self.acted, ring);
+        }
+    }
+
+    /// Lets each EEPROM answer.
+    fn serve(&mut self, ring: &mut Ring)
+        ensures own { self.new ≡ record self.old { eeproms = all_kept self.old.eeproms ring.old } }
+        ensures ring { ring.new ≡ all_served self.old.eeproms ring.old }
+    {
+        match &mut self.eeproms {
+            Some(eeproms) => serve_each(eeproms.as_mut_slice(), ring),
+            None => {}
         }
     }
 }

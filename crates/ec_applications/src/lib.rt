@@ -21,14 +21,21 @@
 //!
 //! What is promised:
 //!
-//! - `Applications::act` leaves of a ring what `specs/Acting` says (`ring`), and has acted once more (`own`).
+//! - `Applications::act` leaves of a ring what `specs/Behind` says (`ring`), and has acted once more (`own`).
 //!   Inputs that are refused, since an area is not active, is of the other kind or has another length, change
-//!   nothing. It takes no memory.
+//!   nothing. Behind the applications the EEPROMs that were given to slaves (`set_eeproms`) answer what
+//!   masters asked of them. It takes no memory.
+//! - `tell_links` tells a slave, in DL status, at which of its two ports there is a link.
 //! - [`promises`] says what stays: links, stations, states and mappings, what applications are shown, and
-//!   slaves without an application (`acting_leaves`); and that nobody changes nothing (`idle_acts`).
+//!   slaves without an application (`acting_leaves`, `behind_leaves`); that all of it moves as an application
+//!   may (`moves_between_passages`, `serving_moves_slaves`); and that nobody changes nothing (`idle_acts`).
 
 pub mod act;
 pub mod application;
+pub mod eeproms;
+pub mod links;
 pub mod promises;
 
 pub use application::{Application, Applications, Behaviour};
+pub use eeproms::PlacedEeprom;
+pub use links::{dl_status, tell_links};

@@ -6,10 +6,15 @@ ghost use Rattle.ec_app.specs.Slave.{step};
 ghost use Rattle.ec_app.specs.State.{SlaveState};
 ghost use Rattle.ec_esc.specs.State.{ControllerState, IsController};
 ghost use Rattle.ec_line.specs.Moving.{HasMoved};
+ghost use Rattle.ec_regs.specs.Bits.{AreBytes};
 ghost use Rattle.ec_ring.specs.Ring.{RingState};
 ghost use Rattle.ec_applications.specs.Acting.{acted};
-ghost use Rattle.ec_applications.specs.Left.{HasMemory, KeepsAllElse};
+ghost use Rattle.ec_applications.specs.Behind.{line_behind};
+ghost use Rattle.ec_applications.specs.Eeproms.{all_served};
+ghost use Rattle.ec_applications.specs.Left.{HasMemory, KeepsAllElse, KeepsAllButSii};
+ghost use Rattle.ec_applications.specs.State.{ApplicationsState};
 ghost use Rattle.ec_applications.specs.declared.application.Application.{Application};
+ghost use Rattle.ec_applications.specs.declared.eeproms.PlacedEeprom.{PlacedEeprom};
 
 /// Applications change no link and add no slave. A slave that has none stays as it is; of any other one all
 /// stays but the areas that the master reads: its registers (so its station, its AL status and its mapping),
@@ -45,4 +50,29 @@ pub fn moves_between_passages()
 /// A line whose slaves have no applications is as it was.
 pub fn idle_acts()
     ensures { (times : ℕ) (r : RingState) → acted times [] r ≡ r }
+{}
+
+/// Behind a step, once applications have acted and EEPROMs have answered (`Applications::act`), no link has
+/// changed and no slave has come. A slave that has neither stays as it is; of any other one all stays but the
+/// areas that the master reads and registers 0x0500 to 0x050F, the slave information interface.
+pub fn behind_leaves()
+    ensures links { (s : ApplicationsState) (r : RingState) → (line_behind s r).links ≡ r.links }
+    ensures size { (s : ApplicationsState) (r : RingState)
+        → length (line_behind s r).slaves ≡ length r.slaves }
+    ensures beside { (s : ApplicationsState) (r : RingState) (k : ℕ)
+        → All (λ (one : Application). one.place ≢ k) s.all
+        → All (λ (one : PlacedEeprom). one.place ≢ k) s.eeproms
+        → slice_get (line_behind s r).slaves k ≡ slice_get r.slaves k }
+    ensures slave { (s : ApplicationsState) (r : RingState) (k : ℕ) (before after : SlaveState)
+        → slice_get r.slaves k ≡ Some before → slice_get (line_behind s r).slaves k ≡ Some after
+        → HasMemory before → KeepsAllButSii before after }
+{}
+
+/// What EEPROMs answer is a move too: each slave is as before, or has moved as an application may between two
+/// passages of a cycle's copies.
+pub fn serving_moves_slaves()
+    ensures { (all : List PlacedEeprom) (r : RingState) (k : ℕ) (before after : SlaveState)
+        → slice_get r.slaves k ≡ Some before → slice_get (all_served all r).slaves k ≡ Some after
+        → IsController before.controller → All (λ (one : PlacedEeprom). AreBytes one.eeprom) all
+        → HasMoved before.controller after.controller }
 {}

@@ -3,7 +3,8 @@ use Rattle.std.proofs.Common.{◌≡◌, ◌≢◌, ℕ, ◌+◌, ◌-◌, ◌/�
 use Rattle.std.proofs.Common.{leb, ltb, List, [], ◌∷◌}
 use Rattle.std.proofs.Common.{length, get_or, Option, None, Some, sym, ◌∙◌, ap, refl, arith, ⊎_elim}
 use Rattle.std.specs.Prelude.{not}
-use Rattle.std.specs.List.{Any, filter}
+use Rattle.std.specs.List.{Any, filter, list_any}
+use Rattle.std.proofs.Math.Bool.{or-false}
 use Rattle.std.proofs.Math.Path.{fun_ext}
 use Rattle.std.proofs.lemmas.Bool.{and_parts, cases_Bool, cases_lt, cases_eq}
 use Rattle.std.proofs.lemmas.Bool.Decides.{nat_tests}
@@ -17,7 +18,11 @@ use Rattle.ec_areas.specs.Areas.{holds, guards, locks, is_locked}
 use Rattle.ec_areas.specs.Ranges.{meets, meets_hidden, meets_locked, emptied_by, filled_by}
 use Rattle.ec_areas.specs.Ranges.{serves_physical_read, LiesBuffered}
 use Rattle.ec_areas.specs.Records.{SameRegisters}
-use Rattle.ec_areas.specs.Ranges.{is_in_sync_manager, is_writable_field, takes_writes}
+use Rattle.ec_areas.specs.Ranges.{is_in_sync_manager, is_writable_field, takes_writes, has_sii, is_in_sii}
+use Rattle.ec_areas.specs.Ranges.{some_address, writable_ranges}
+use Rattle.ec_regs.specs.AddressRange.{within}
+use Rattle.ec_regs.specs.declared.address_range.AddressRange.{AddressRange}
+use Rattle.ec_areas.proofs.RangeLemmas.{some_address_at}
 use Rattle.ec_areas.proofs.MailboxLemmas.{no_manager, HasMailbox, emptied_facts, filled_facts, two_kept}
 use Rattle.ec_areas.proofs.MailboxLemmas.{area_meets}
 use Rattle.ec_areas.proofs.RecordLemmas.{sync_manager_same}
@@ -238,4 +243,73 @@ pub takes_writes_same : (before after : List ℕ) → SameRegisters before after
     ≡ takes_writes before
 unfolding takes_writes
 takes_writes_same before after same =
-    fun_ext (λ a. rw (field_same before after a same) refl)
+    let kind : has_sii after ≡ has_sii before = ap (λ (b : ℕ). not (eqb b 0)) (same.bytes 0 (omega arith)) in
+    fun_ext (λ a. rw (field_same before after a same, kind) refl)
+
+-- ---- process memory, and the slave information interface
+
+-- a byte of a range that is always written takes writes
+takes_always : (memory : List ℕ) (a : ℕ)
+    → list_any (λ (r : AddressRange). within r.first r.count a) writable_ranges ≡ true
+    → takes_writes memory a ≡ true
+unfolding takes_writes
+takes_always memory a always =
+    let sii : Bool = is_in_sii a && has_sii memory in
+    let field : Bool = is_in_sync_manager a && is_writable_field memory a in
+    ap (λ (b : Bool). b || sii || field) always
+
+pub takes_process : (memory : List ℕ) (a : ℕ) → PROCESS_MEMORY ≤ a → a < MEMORY_SIZE
+    → takes_writes memory a ≡ true
+takes_process memory a low high =
+    let first : leb 4096 a ≡ true = grind (arith, nat_tests) in
+    let last : ltb a 12288 ≡ true = grind (arith, nat_tests) in
+    let inside : within 4096 8192 a ≡ true = rw (first, last) refl in
+    takes_always memory a
+    (list_any_at (λ (r : AddressRange). within r.first r.count a) writable_ranges 3
+    (record { first = 0; count = 0 }) (omega arith) inside)
+
+pub some_process : (memory : List ℕ) (from n : ℕ) → 1 ≤ n → PROCESS_MEMORY ≤ from → from + n ≤ MEMORY_SIZE
+    → some_address (takes_writes memory) from n ≡ true
+some_process memory from n some low high =
+    some_address_at (takes_writes memory) from n 0 (omega arith)
+    (takes_process memory (from + 0) (omega arith) (omega arith))
+
+-- a register of the interface takes writes exactly where there is one
+takes_sii : (memory : List ℕ) (a : ℕ) → is_in_sii a ≡ true → takes_writes memory a ≡ has_sii memory
+unfolding takes_writes
+takes_sii memory a inside =
+    let ends = and_parts (leb 1280 a) (ltb a 1296) inside in
+    let low : leb 1280 a ≡ true = ends.0 in
+    let high : ltb a 1296 ≡ true = ends.1 in
+    let station : ltb a 18 ≡ false = grind (arith, nat_tests) in
+    let control : ltb a 290 ≡ false = grind (arith, nat_tests) in
+    let past_station : leb 16 a ≡ true = grind (arith, nat_tests) in
+    let past_control : leb 288 a ≡ true = grind (arith, nat_tests) in
+    let fmmus : leb 1536 a ≡ false = grind (arith, nat_tests) in
+    let process : leb 4096 a ≡ false = grind (arith, nat_tests) in
+    let managers : leb 2048 a ≡ false = grind (arith, nat_tests) in
+    rw (low, high, station, control, past_station, past_control, fmmus, process, managers)
+    (or-false (has_sii memory))
+
+pub takes_without_sii : (memory : List ℕ) (a : ℕ) → has_sii memory ≡ false → is_in_sii a ≡ true
+    → takes_writes memory a ≡ false
+takes_without_sii memory a none inside = takes_sii memory a inside ∙ none
+
+pub takes_with_sii : (memory : List ℕ) (a : ℕ) → has_sii memory ≡ true → is_in_sii a ≡ true
+    → takes_writes memory a ≡ true
+takes_with_sii memory a one inside = takes_sii memory a inside ∙ one
+
+and-none : (b : Bool) → (b && false) ≡ false
+and-none true = refl
+and-none false = refl
+
+pub takes_as_before : (memory : List ℕ) (a : ℕ) → has_sii memory ≡ false → takes_writes memory a
+    ≡ (list_any (λ (r : AddressRange). within r.first r.count a) writable_ranges
+    || (is_in_sync_manager a && is_writable_field memory a))
+unfolding takes_writes
+takes_as_before memory a none =
+    let always : Bool = list_any (λ (r : AddressRange). within r.first r.count a) writable_ranges in
+    let field : Bool = is_in_sync_manager a && is_writable_field memory a in
+    ap (λ (b : Bool). always || (is_in_sii a && b) || field) none
+    ∙ ap (λ (b : Bool). always || b || field) (and-none (is_in_sii a))
+    ∙ ap (λ (b : Bool). b || field) (or-false always)

@@ -2,7 +2,11 @@
 -- mailboxes, and where logical reads and writes go.
 use Rattle.std.proofs.Common.{◌≡◌, ◌↔◌, ℕ, ◌+◌, ◌*◌, ◌/◌, ◌<◌, true, false, List, length, take, get_or, refl, arith, ◌≤◌}
 use Rattle.std.proofs.Common.{Option, None, Some}
-use Rattle.std.specs.List.{Any}
+use Rattle.std.proofs.Common.{◌&&◌, ◌||◌}
+use Rattle.std.specs.List.{Any, list_any}
+use Rattle.ec_regs.specs.AddressRange.{within}
+use Rattle.ec_regs.specs.declared.address_range.AddressRange.{AddressRange}
+use Rattle.ec_areas.specs.Ranges.{writable_ranges, is_in_sync_manager, is_writable_field}
 use Rattle.std.specs.Option.{IsSome}
 use Rattle.ec_regs.specs.declared.registers.TheConstants.{FMMU_COUNT, SYNC_MANAGER_COUNT}
 use Rattle.ec_regs.specs.declared.fmmu.Fmmu.{Fmmu}
@@ -12,7 +16,7 @@ use Rattle.ec_regs.specs.declared.registers.TheConstants.{PROCESS_MEMORY, MEMORY
 use Rattle.ec_areas.specs.Records.{sync_manager_at, sync_managers_of, fmmu_at, fmmus_of, SameRegisters}
 use Rattle.ec_areas.specs.Areas.{guards, is_locked, is_writable}
 use Rattle.ec_areas.specs.Ranges.{meets_locked, emptied_by, filled_by, serves_physical_read, LiesBuffered}
-use Rattle.ec_areas.specs.Ranges.{takes_writes, serves_physical_write}
+use Rattle.ec_areas.specs.Ranges.{takes_writes, serves_physical_write, some_address, has_sii, is_in_sii}
 use Rattle.ec_areas.specs.Logical.{names, IsReadable, read_map, NamesPairs, IsWritable, write_map, target_map}
 use Rattle.ec_areas.specs.Logical.{reads_some, writes_some, IsPairWithin}
 use Rattle.ec_areas.specs.Apart.{are_apart}
@@ -70,6 +74,33 @@ fmmus_same = records.fmmus_same
 pub takes_writes_same : (before after : List ℕ) → SameRegisters before after → takes_writes after
     ≡ takes_writes before
 takes_writes_same = met.takes_writes_same
+
+-- process memory takes physical writes, whatever the registers are
+pub takes_process : (memory : List ℕ) (a : ℕ) → PROCESS_MEMORY ≤ a → a < MEMORY_SIZE
+    → takes_writes memory a ≡ true
+takes_process = met.takes_process
+
+-- so does a range of it
+pub some_process : (memory : List ℕ) (from n : ℕ) → 1 ≤ n → PROCESS_MEMORY ≤ from → from + n ≤ MEMORY_SIZE
+    → some_address (takes_writes memory) from n ≡ true
+some_process = met.some_process
+
+-- without a slave information interface a byte takes writes where it stands in a range that always takes
+-- them, or in a field of a sync manager that may be written
+pub takes_as_before : (memory : List ℕ) (a : ℕ) → has_sii memory ≡ false → takes_writes memory a
+    ≡ (list_any (λ (r : AddressRange). within r.first r.count a) writable_ranges
+    || (is_in_sync_manager a && is_writable_field memory a))
+takes_as_before = met.takes_as_before
+
+-- without a slave information interface its registers take none
+pub takes_without_sii : (memory : List ℕ) (a : ℕ) → has_sii memory ≡ false → is_in_sii a ≡ true
+    → takes_writes memory a ≡ false
+takes_without_sii = met.takes_without_sii
+
+-- with one they take them
+pub takes_with_sii : (memory : List ℕ) (a : ℕ) → has_sii memory ≡ true → is_in_sii a ≡ true
+    → takes_writes memory a ≡ true
+takes_with_sii = met.takes_with_sii
 
 -- ---- areas
 

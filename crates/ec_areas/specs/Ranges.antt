@@ -2,6 +2,7 @@
 -- (IEC 61158-4-12, physical memory access, sync manager and mailbox).
 use Rattle.std.specs.Prelude.{ℕ, ◌+◌, ◌-◌, ◌*◌, ◌/◌, ◌%◌, Bool, ◌==◌, ◌&&◌, ◌||◌, not, nat_le, nat_lt}
 use Rattle.std.specs.Prelude.{if◌then◌else◌, Option, None, List, [], ◌∷◌, length, ◌≡◌, ◌≤◌, true}
+use Rattle.std.specs.Prelude.{slice_index}
 use Rattle.std.specs.List.{list_any, position, filter, range_with_len}
 use Rattle.std.specs.Option.{is_some}
 use Rattle.ec_regs.specs.AddressRange.{within, share_a_byte}
@@ -12,8 +13,9 @@ use Rattle.ec_regs.specs.declared.registers.TheConstants.{FMMU_COUNT, SYNC_MANAG
 use Rattle.ec_regs.specs.declared.registers.TheConstants.{SYNC_MANAGER_COUNT, SYNC_MANAGER_STATUS}
 use Rattle.ec_regs.specs.declared.registers.TheConstants.{SYNC_MANAGER_ACTIVATE, PROCESS_MEMORY}
 use Rattle.ec_regs.specs.declared.registers.TheConstants.{PROCESS_MEMORY_SIZE, MEMORY_SIZE}
+use Rattle.ec_regs.specs.declared.registers.TheConstants.{CONTROLLER_TYPE, SII_BASE, SII_SIZE}
 use Rattle.ec_regs.specs.SyncMan.{is_active, is_mailbox, is_full, master_reads, master_writes, is_buffered}
-use Rattle.ec_areas.specs.Records.{sync_manager_at}
+use Rattle.ec_areas.specs.Records.{sync_manager_at, sync_managers_of}
 
 -- are there bytes in the range, and do all of them lie in the memory
 abbrev pub is_range : ℕ → ℕ → Bool
@@ -99,12 +101,28 @@ writable_ranges =
     ∷ record { first = PROCESS_MEMORY; count = PROCESS_MEMORY_SIZE }
     ∷ []
 
--- does a byte of the memory take what a physical command writes: it stands in one of these ranges, or in a
--- field of a sync manager that may be written
+-- has the controller a slave information interface: it tells which kind of chip it is, in a register that
+-- the master does not write
+abbrev pub has_sii : List ℕ → Bool
+has_sii memory = not (slice_index memory CONTROLLER_TYPE == 0)
+
+-- is an address one of the registers of that interface
+abbrev pub is_in_sii : ℕ → Bool
+is_in_sii address = within SII_BASE SII_SIZE address
+
+-- does a byte of the memory take what a physical command writes: it stands in one of these ranges, in the
+-- slave information interface of a controller that has one, or in a field of a sync manager that may be
+-- written
 unfoldable pub takes_writes : List ℕ → ℕ → Bool
 takes_writes memory address =
     list_any (λ (r : AddressRange). within r.first r.count address) writable_ranges
+    || (is_in_sii address && has_sii memory)
     || (is_in_sync_manager address && is_writable_field memory address)
+
+-- these sync managers are those of a memory, and so is whether there is a slave information interface
+pub record IsOnArrival (memory : List ℕ) (managers : List SyncMan) (sii : Bool) : Type 0 where
+  pub managers_are : managers ≡ sync_managers_of memory
+  pub sii_is : sii ≡ has_sii memory
 
 -- is a test true of one of the n addresses from one on
 unfoldable pub some_address : (ℕ → Bool) → ℕ → ℕ → Bool

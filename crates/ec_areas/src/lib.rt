@@ -59,7 +59,7 @@ pub use logical::read_mapped;
 pub use logical_write::write_mapped;
 pub use named::{reads_some, writes_some};
 pub use ranges::{
-    emptied_by, filled_by, serves_physical_read, serves_physical_write, takes_writes,
+    emptied_by, filled_by, has_sii, serves_physical_read, serves_physical_write, takes_writes,
 };
 pub use records::{fmmu_at, fmmus_of, sync_manager_at, sync_managers_of};
 pub use runs::{copy_run, merge_run};

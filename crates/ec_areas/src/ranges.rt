@@ -2,7 +2,7 @@
 //! write (IEC 61158-4-12, physical memory access, sync manager and mailbox).
 
 ghost use Rattle.std.specs.Prelude.{◌≡◌, ◌+◌, ◌≤◌, ◌<◌, ◌&&◌, ◌||◌, not, ℕ, List, IsTrue, count_by, position};
-ghost use Rattle.std.specs.Prelude.{if◌then◌else◌};
+ghost use Rattle.std.specs.Prelude.{if◌then◌else◌, length};
 ghost use Rattle.std.specs.Option.{IfSome};
 ghost use Rattle.ec_regs.specs.declared.registers.TheConstants.{MEMORY_SIZE, PROCESS_MEMORY};
 ghost use Rattle.ec_areas.specs.Records.{sync_managers_of};
@@ -15,11 +15,12 @@ ghost use Rattle.ec_areas.specs.Ranges.{meets_one};
 ghost use Rattle.ec_areas.specs.Ranges.{is_area, gives_mail, takes_mail, emptied_by, filled_by};
 ghost use Rattle.ec_areas.specs.Ranges.{serves_physical_read, serves_physical_write, is_in_sync_manager};
 ghost use Rattle.ec_areas.specs.Ranges.{is_writable_field, takes_writes, some_address, writable_ranges};
+ghost use Rattle.ec_areas.specs.Ranges.{has_sii, is_in_sii, IsOnArrival};
 
 use ec_regs::registers::{
-    AL_CONTROL, FMMU_BASE, FMMU_COUNT, FMMU_SIZE, MEMORY_SIZE, PROCESS_MEMORY, PROCESS_MEMORY_SIZE,
-    STATION_ADDRESS, SYNC_MANAGER_ACTIVATE, SYNC_MANAGER_BASE, SYNC_MANAGER_COUNT,
-    SYNC_MANAGER_SIZE, SYNC_MANAGER_STATUS,
+    AL_CONTROL, CONTROLLER_TYPE, FMMU_BASE, FMMU_COUNT, FMMU_SIZE, MEMORY_SIZE, PROCESS_MEMORY,
+    PROCESS_MEMORY_SIZE, SII_BASE, SII_SIZE, STATION_ADDRESS, SYNC_MANAGER_ACTIVATE,
+    SYNC_MANAGER_BASE, SYNC_MANAGER_COUNT, SYNC_MANAGER_SIZE, SYNC_MANAGER_STATUS,
 };
 use ec_regs::{AddressRange, PlannedSyncMan, SyncManagers};
 
@@ -51,6 +52,12 @@ const WRITABLE: [AddressRange; 4] = [
         count: PROCESS_MEMORY_SIZE,
     },
 ];
+
+/// The registers of the slave information interface.
+const SII: AddressRange = AddressRange {
+    first: SII_BASE,
+    count: SII_SIZE,
+};
 
 /// The records of the sync managers.
 const SYNC_MANAGERS: AddressRange = AddressRange {
@@ -261,22 +268,39 @@ fn is_always_writable(address: u32) -> bool
     WRITABLE.iter().any(|range| range.contains(address))
 }
 
-/// Does the byte at an address take what a physical command writes? The records are those on arrival.
+/// Has the controller with this memory a slave information interface?
+pub fn has_sii(memory: &[u8]) -> bool
+    requires { length memory.now ≡ MEMORY_SIZE }
+    ensures { result ≡ has_sii memory.now }
+{
+    memory[CONTROLLER_TYPE as usize] != 0
+}
+
+/// May the master write the byte at an address as a register of the slave information interface, if there is
+/// one?
+fn sii_takes(sii: bool, address: u32) -> bool
+    ensures { result ≡ (is_in_sii address && sii) }
+{
+    SII.contains(address) && sii
+}
+
+/// Does the byte at an address take what a physical command writes? The records are those on arrival, and so
+/// is whether there is a slave information interface.
 #[tactic(auto, unfolding(crate::specs::Ranges::takes_writes))]
-pub fn takes_writes(managers: &SyncManagers, address: u32) -> bool
-    ensures { (memory : List ℕ) → managers.now ≡ sync_managers_of memory → result
+pub fn takes_writes(managers: &SyncManagers, sii: bool, address: u32) -> bool
+    ensures { (memory : List ℕ) → IsOnArrival memory managers.now sii → result
         ≡ takes_writes memory address }
 {
-    is_always_writable(address) || sync_manager_takes(managers, address)
+    is_always_writable(address) || sii_takes(sii, address) || sync_manager_takes(managers, address)
 }
 
 /// Does one byte of the range take what a physical command writes? The records are those on arrival.
-fn some_byte_takes_writes(managers: &SyncManagers, range: AddressRange) -> bool
-    ensures { (memory : List ℕ) → managers.now ≡ sync_managers_of memory → result
+fn some_byte_takes_writes(managers: &SyncManagers, sii: bool, range: AddressRange) -> bool
+    ensures { (memory : List ℕ) → IsOnArrival memory managers.now sii → result
         ≡ some_address (takes_writes memory) range.first range.count }
 {
     for place in 0..range.count {
-        if takes_writes(managers, u32::from(range.first) + u32::from(place)) {
+        if takes_writes(managers, sii, u32::from(range.first) + u32::from(place)) {
             return true;
         }
     }
@@ -285,20 +309,21 @@ fn some_byte_takes_writes(managers: &SyncManagers, range: AddressRange) -> bool
 
 /// Has the range bytes that take a write, and no area that is kept from writes? The records are those on
 /// arrival.
-fn is_open_to_writes(managers: &SyncManagers, range: AddressRange) -> bool
-    ensures { (memory : List ℕ) → managers.now ≡ sync_managers_of memory → result
+fn is_open_to_writes(managers: &SyncManagers, sii: bool, range: AddressRange) -> bool
+    ensures { (memory : List ℕ) → IsOnArrival memory managers.now sii → result
         ≡ (not (meets_locked managers.now range.first range.count)
         && some_address (takes_writes memory) range.first range.count) }
 {
-    !meets_locked(managers, range) && some_byte_takes_writes(managers, range)
+    !meets_locked(managers, range) && some_byte_takes_writes(managers, sii, range)
 }
 
 /// Is a write of the range served: of bytes that no area keeps from writes and of which one takes it, or of a
 /// whole mailbox? The records are those on arrival.
-pub fn serves_physical_write(managers: &SyncManagers, range: AddressRange) -> bool
-    ensures value { (memory : List ℕ) → managers.now ≡ sync_managers_of memory → result
+pub fn serves_physical_write(managers: &SyncManagers, sii: bool, range: AddressRange) -> bool
+    ensures value { (memory : List ℕ) → IsOnArrival memory managers.now sii → result
         ≡ serves_physical_write memory managers.now range.first range.count }
     ensures inside { IsTrue result → range.first + range.count ≤ MEMORY_SIZE }
 {
-    is_range(range) && (is_open_to_writes(managers, range) || filled_by(managers, range).is_some())
+    is_range(range)
+        && (is_open_to_writes(managers, sii, range) || filled_by(managers, range).is_some())
 }

@@ -1,6 +1,7 @@
 -- The mapping of a controller hangs on few registers, and none of them is one that its application writes.
-use Rattle.std.proofs.Common.{◌≡◌, ◌≢◌, inl, inr, ℕ, ◌+◌, ◌*◌, ◌<◌, ◌≤◌, List, [], ◌∷◌, length, get_or, take, drop}
-use Rattle.std.proofs.Common.{sym, ◌∙◌, ap, arith, None}
+use Rattle.std.proofs.Common.{◌≡◌, ◌≢◌, ◌⊎◌, ⊎_elim, true, inl, inr, ℕ, ◌+◌, ◌*◌, ◌<◌, ◌≤◌, List, [], ◌∷◌}
+use Rattle.std.proofs.Common.{length, get_or, take, drop}
+use Rattle.std.proofs.Common.{sym, ◌∙◌, ap, arith, None, refl}
 use Rattle.std.specs.Int.{w16, from_le_bytes}
 use Rattle.std.proofs.lemmas.List.{ext_get_or, length-take-le, length-drop}
 use Rattle.ec_regs.specs.Fmmu.{fmmu_of}
@@ -8,7 +9,11 @@ use Rattle.ec_regs.specs.declared.al.AlStatus.{AlStatus}
 use Rattle.ec_regs.specs.declared.registers.TheConstants.{MEMORY_SIZE, PROCESS_MEMORY}
 use Rattle.ec_regs.proofs.Laws.{get_or-run}
 use Rattle.ec_areas.specs.Records.{fmmu_at, fmmus_of, sync_manager_at, sync_managers_of}
-use Rattle.ec_esc.specs.Application.{put_inputs_fault, with_al, with_inputs}
+use Rattle.ec_esc.specs.Application.{put_inputs_fault, with_al, with_inputs, are_told, with_registers}
+use Rattle.ec_esc.proofs.Laws.{told_place, registers_controller}
+use Rattle.ec_line.specs.Moving.{HasMoved}
+use Rattle.ec_line.proofs.Laws.{moved_by_mapping}
+use Rattle.ec_regs.specs.Bits.{AreBytes}
 use Rattle.ec_esc.specs.State.{ControllerState, IsController}
 use Rattle.ec_esc.proofs.Laws.{get_or-with_run_beside, length-with_run, inputs_place}
 use Rattle.ec_line.specs.Mapping.{without_status, mapping_of}
@@ -193,3 +198,71 @@ mapping_inputs c i bytes is none =
       fmmus = λ a from to. same a (omega arith);
       managers = λ j k number within beside. same (2048 + 8 * j + k) (omega arith);
     })
+
+-- ---- registers that are told
+
+-- they lie beside all that a mapping hangs on, and before process memory
+beside_told : (from n a : ℕ) → are_told from n ≡ true → ((10 ≤ a) × (a < 272)) ⊎ (1296 ≤ a)
+    → (a < from) ⊎ (from + n ≤ a)
+beside_told from n a told place =
+    ⊎_elim
+    (λ (first : from + n ≤ 10).
+    ⊎_elim
+    (λ (low : (10 ≤ a) × (a < 272)). inr (omega (arith, low.0)))
+    (λ (high : 1296 ≤ a). inr (omega arith))
+    place)
+    (λ (rest : ((272 ≤ from) × (from + n ≤ 274)) ⊎ ((1280 ≤ from) × (from + n ≤ 1296))).
+    ⊎_elim
+    (λ (status : (272 ≤ from) × (from + n ≤ 274)).
+    ⊎_elim
+    (λ (low : (10 ≤ a) × (a < 272)). inl (omega (arith, low.1, status.0)))
+    (λ (high : 1296 ≤ a). inr (omega (arith, status.1)))
+    place)
+    (λ (sii : (1280 ≤ from) × (from + n ≤ 1296)).
+    ⊎_elim
+    (λ (low : (10 ≤ a) × (a < 272)). inl (omega (arith, low.1, sii.0)))
+    (λ (high : 1296 ≤ a). inr (omega (arith, sii.1)))
+    place)
+    rest)
+    (told_place from n told)
+
+told_same : (c : ControllerState) (from : ℕ) (bytes : List ℕ) → IsController c
+    → are_told from (length bytes) ≡ true → (a : ℕ) → ((10 ≤ a) × (a < 272)) ⊎ (1296 ≤ a)
+    → Same c.memory (with_registers c from bytes).memory a
+told_same c from bytes is told a place =
+    let inside : from + length bytes ≤ length c.memory =
+    ⊎_elim
+    (λ (past : 1296 < from). absurd
+    (⊎_elim
+    (λ (first : from + length bytes ≤ 10). omega arith)
+    (λ (rest : ((272 ≤ from) × (from + length bytes ≤ 274)) ⊎ ((1280 ≤ from) × (from + length bytes ≤ 1296))).
+    ⊎_elim
+    (λ (status : (272 ≤ from) × (from + length bytes ≤ 274)). omega (arith, status.1))
+    (λ (sii : (1280 ≤ from) × (from + length bytes ≤ 1296)). omega (arith, sii.1))
+    rest)
+    (told_place from (length bytes) told)))
+    (λ (reaches : from + length bytes ≤ 1296). omega (arith, is.memory_size))
+    (beside_told from (length bytes) 1296 told (inr (omega arith))) in
+    get_or-with_run_beside c.memory bytes from a inside (beside_told from (length bytes) a told place)
+
+pub mapping_told : (c : ControllerState) (from : ℕ) (bytes : List ℕ) → IsController c
+    → are_told from (length bytes) ≡ true → AreBytes bytes
+    → mapping_of (with_registers c from bytes) ≡ mapping_of c
+mapping_told c from bytes is told are =
+    let same = told_same c from bytes is told in
+    let size = (registers_controller c from bytes is are told).memory_size in
+    mapping_same c (with_registers c from bytes)
+    (record {
+      size = size ∙ sym is.memory_size;
+      room = omega (arith, is.memory_size);
+      station = λ k below. same (16 + k) (inl (omega arith, omega arith));
+      fmmus = λ a low high. same a (inr (omega arith));
+      managers = λ j k number within beside. same (2048 + 8 * j + k) (inr (omega arith));
+    })
+
+pub moved_told : (c : ControllerState) (from : ℕ) (bytes : List ℕ) → IsController c → AreBytes bytes
+    → are_told from (length bytes) ≡ true → HasMoved c (with_registers c from bytes)
+moved_told c from bytes is are told =
+    moved_by_mapping c (with_registers c from bytes) (mapping_told c from bytes is told are)
+    (registers_controller c from bytes is are told) refl
+    (λ a low free. told_same c from bytes is told a (inr (omega arith)))

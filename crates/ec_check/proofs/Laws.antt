@@ -1,6 +1,6 @@
 -- The laws that crates above cite: on the controllers of slaves, what a fit line gives a cycle, and what is
 -- the same of lines with one mapping.
-use Rattle.std.proofs.Common.{◌≡◌, ℕ, ◌<◌, ◌≤◌, ◌+◌, ◌*◌, ◌++◌, None, List, length, get_or, take, drop}
+use Rattle.std.proofs.Common.{◌≡◌, true, ℕ, ◌<◌, ◌≤◌, ◌+◌, ◌*◌, ◌++◌, None, List, length, get_or, take, drop}
 use Rattle.std.specs.List.{AllByRecursion}
 use Rattle.std.specs.List.Sorted.{IsPermutation}
 use Rattle.ec_regs.specs.Bits.{AreBytes}
@@ -10,7 +10,8 @@ use Rattle.ec_regs.specs.declared.registers.TheConstants.{MEMORY_SIZE, STATION_A
 use Rattle.ec_regs.specs.declared.registers.TheConstants.{FMMU_COUNT, FMMU_SIZE}
 use Rattle.ec_regs.specs.declared.registers.TheConstants.{SYNC_MANAGER_COUNT, SYNC_MANAGER_SIZE}
 use Rattle.ec_areas.specs.Records.{fmmu_at, sync_manager_at}
-use Rattle.ec_esc.specs.Application.{put_inputs_fault, with_inputs}
+use Rattle.ec_esc.specs.Application.{put_inputs_fault, with_inputs, are_told, with_registers}
+use Rattle.ec_line.specs.Moving.{HasMoved}
 use Rattle.ec_esc.specs.State.{ControllerState, IsController, word_at}
 use Rattle.ec_line.specs.Fit.{IsFitLine}
 use Rattle.ec_line.specs.Mapping.{mapping_of, mapping}
@@ -93,6 +94,16 @@ pub mapping_inputs : (c : ControllerState) (i : ℕ) (bytes : List ℕ) → IsCo
     → put_inputs_fault (sync_manager_at c.memory i) bytes ≡ None
     → mapping_of (with_inputs c i bytes) ≡ mapping_of c
 mapping_inputs = lasts.mapping_inputs
+
+-- and so do registers that are told, which is a move
+pub mapping_told : (c : ControllerState) (from : ℕ) (bytes : List ℕ) → IsController c
+    → are_told from (length bytes) ≡ true → AreBytes bytes
+    → mapping_of (with_registers c from bytes) ≡ mapping_of c
+mapping_told = lasts.mapping_told
+
+pub moved_told : (c : ControllerState) (from : ℕ) (bytes : List ℕ) → IsController c → AreBytes bytes
+    → are_told from (length bytes) ≡ true → HasMoved c (with_registers c from bytes)
+moved_told = lasts.moved_told
 
 -- a fit line is fit in any order of its slaves
 pub fit_in_any_order : (line later : List ControllerState) → IsPermutation line later → IsFit line → IsFit later

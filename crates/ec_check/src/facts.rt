@@ -1,12 +1,14 @@
 //! What a fit line gives a cycle, and what fitness hangs on, as laws.
 
-ghost use Rattle.std.specs.Prelude.{◌≡◌, ℕ, true, None, List};
+ghost use Rattle.std.specs.Prelude.{◌≡◌, ℕ, true, None, List, length};
 ghost use Rattle.std.specs.List.{AllByRecursion};
 ghost use Rattle.std.specs.List.Sorted.{IsPermutation};
 ghost use Rattle.ec_regs.specs.Pairs.{is_switched_on};
 ghost use Rattle.ec_regs.specs.declared.al.AlStatus.{AlStatus};
 ghost use Rattle.ec_areas.specs.Records.{sync_manager_at};
-ghost use Rattle.ec_esc.specs.Application.{put_inputs_fault, with_al, with_inputs};
+ghost use Rattle.ec_regs.specs.Bits.{AreBytes};
+ghost use Rattle.ec_esc.specs.Application.{put_inputs_fault, with_al, with_inputs, are_told, with_registers};
+ghost use Rattle.ec_line.specs.Moving.{HasMoved};
 ghost use Rattle.ec_esc.specs.State.{ControllerState, IsController};
 ghost use Rattle.ec_app.specs.Slave.{step};
 ghost use Rattle.ec_app.specs.State.{SlaveState};
@@ -38,8 +40,11 @@ pub fn fit_in_any_order()
 {}
 
 /// What an application does leaves the mapping of its controller: a step of its slave (`Slave::step`), AL
-/// status and AL status code that it sets (`Controller::set_al`), and inputs that it puts
-/// (`Controller::put_inputs`; IEC 61158-4-12, sync manager, and IEC 61158-6-12, AL management and CoE).
+/// status and AL status code that it sets (`Controller::set_al`), inputs that it puts
+/// (`Controller::put_inputs`), and registers that it tells: DL information, DL status, and the slave
+/// information interface (`Controller::set_information`, `set_dl_status`, `set_sii`; IEC 61158-4-12, sync
+/// manager, and IEC 61158-6-12, AL management and CoE). The last are a move, which leaves all that is shown
+/// and written, too.
 pub fn mapping_lasts()
     ensures step { (s : SlaveState) → IsController s.controller
         → mapping_of (step s).controller ≡ mapping_of s.controller }
@@ -48,4 +53,9 @@ pub fn mapping_lasts()
     ensures inputs { (c : ControllerState) (sm : ℕ) (bytes : List ℕ) → IsController c
         → put_inputs_fault (sync_manager_at c.memory sm) bytes ≡ None
         → mapping_of (with_inputs c sm bytes) ≡ mapping_of c }
+    ensures told { (c : ControllerState) (from : ℕ) (bytes : List ℕ) → IsController c
+        → are_told from (length bytes) ≡ true → AreBytes bytes
+        → mapping_of (with_registers c from bytes) ≡ mapping_of c }
+    ensures moved { (c : ControllerState) (from : ℕ) (bytes : List ℕ) → IsController c → AreBytes bytes
+        → are_told from (length bytes) ≡ true → HasMoved c (with_registers c from bytes) }
 {}

@@ -1,5 +1,6 @@
 //! A slave by its station address and its records alone.
 
+ghost use Rattle.ec_areas.specs.Ranges.{has_sii};
 ghost use Rattle.std.specs.Prelude.{◌≡◌, ◌==◌, ◌<◌, ◌≤◌, ◌+◌, ◌*◌, ◌&&◌, length, take, drop};
 ghost use Rattle.ec_regs.specs.Bits.{AreBytes};
 ghost use Rattle.ec_regs.specs.Fmmu.{fmmu_bytes, fmmu_of};
@@ -222,6 +223,14 @@ impl Records {
         serves_physical_read(&self.sync_managers(), range)
     }
 
+    /// Has the controller a slave information interface? One of which the records alone are known has none.
+    #[tactic(auto, unfolding(crate::specs::Records::memory_of))]
+    fn has_sii(&self) -> bool
+        ensures { result ≡ has_sii (memory_of self.now) }
+    {
+        false
+    }
+
     /// Is a write of so many bytes served?
     fn serves_write(&self, address: u32, count: u16) -> bool
         ensures { result ≡ serves_range_write (controller_with self.now) (ado_of address) count }
@@ -230,7 +239,7 @@ impl Records {
             first: ado_of(address),
             count,
         };
-        serves_physical_write(&self.sync_managers(), range)
+        serves_physical_write(&self.sync_managers(), self.has_sii(), range)
     }
 
     /// Does the address of a datagram name the slave's station?

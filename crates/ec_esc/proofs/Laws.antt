@@ -1,11 +1,12 @@
 -- The laws that crates above cite: on what a working counter gains, on what the application is shown, on the
 -- half of a pass that writes, on a controller behind a pass, and on what stays where the application writes.
-use Rattle.std.proofs.Common.{◌≡◌, ◌⊎◌, ◌+◌, ◌&&◌, cond, ℕ, ◌<◌, ◌≤◌, Bool, false, List, length, get_or, ◌/◌, None}
+use Rattle.std.proofs.Common.{◌≡◌, ◌⊎◌, ◌+◌, ◌&&◌, cond, ℕ, ◌<◌, ◌≤◌, Bool, true, false, List, length}
+use Rattle.std.proofs.Common.{get_or, ◌/◌, None}
 use Rattle.ec_regs.specs.declared.sync_man.SyncMan.{SyncMan}
 use Rattle.ec_regs.specs.declared.registers.TheConstants.{PROCESS_MEMORY, MEMORY_SIZE}
 use Rattle.ec_regs.specs.Bits.{AreBytes, with_bits}
 use Rattle.ec_areas.specs.Records.{sync_manager_at, sync_managers_of}
-use Rattle.ec_esc.specs.Application.{put_inputs_fault, with_inputs}
+use Rattle.ec_esc.specs.Application.{put_inputs_fault, with_inputs, are_told, with_registers}
 use Rattle.ec_esc.specs.Writing.{shown_byte, shown_after}
 use Rattle.ec_esc.specs.State.{ControllerState, IsController, with_run}
 use Rattle.ec_esc.specs.Pass.{Half, pass, frame_pass, nothing, touches, written_by, effect, gain_of}
@@ -104,3 +105,15 @@ inputs_place = left.inputs_place
 pub inputs_controller : (c : ControllerState) (i : ℕ) (bytes : List ℕ) → IsController c → AreBytes bytes
     → put_inputs_fault (sync_manager_at c.memory i) bytes ≡ None → IsController (with_inputs c i bytes)
 inputs_controller = left.inputs_controller
+
+-- registers that are told lie in one of three places: DL information, DL status, and the slave information
+-- interface
+pub told_place : (from n : ℕ) → are_told from n ≡ true
+    → (from + n ≤ 10)
+    ⊎ (((272 ≤ from) × (from + n ≤ 274)) ⊎ ((1280 ≤ from) × (from + n ≤ 1296)))
+told_place = left.told_place
+
+-- a controller that tells them stays one
+pub registers_controller : (c : ControllerState) (from : ℕ) (bytes : List ℕ) → IsController c → AreBytes bytes
+    → are_told from (length bytes) ≡ true → IsController (with_registers c from bytes)
+registers_controller = left.registers_controller

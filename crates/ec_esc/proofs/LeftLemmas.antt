@@ -1,15 +1,18 @@
 -- What stays of a memory in which a run of bytes is replaced, and a controller that puts inputs stays one.
-use Rattle.std.proofs.Common.{◌≡◌, ◌⊎◌, ⊎_elim, inl, inr, refl, ℕ, ◌+◌, ◌-◌, ◌<◌, ◌≤◌, Bool, true, false, ◌&&◌, eqb, cond, List}
+use Rattle.std.proofs.Common.{◌≡◌, ◌⊎◌, ⊎_elim, inl, inr, refl, ℕ, ◌+◌, ◌-◌, ◌<◌, ◌≤◌, Bool, true, false}
+use Rattle.std.proofs.Common.{◌&&◌, ◌||◌, eqb, leb, cond, List}
 use Rattle.std.proofs.Common.{length, get_or, None, Some, ◌∙◌, ap, subst, sym, arith}
 use Rattle.std.specs.Prelude.{not}
-use Rattle.std.proofs.lemmas.Bool.{cases_lt, eqb-true}
+use Rattle.std.proofs.lemmas.Bool.{cases_lt, eqb-true, and_parts, cases_Bool}
+use Rattle.std.proofs.lemmas.Bool.Decides.{nat_tests}
+use Rattle.ec_regs.specs.AddressRange.{lies_within}
 use Rattle.ec_regs.specs.Bits.{AreBytes}
 use Rattle.ec_regs.specs.SyncMan.{is_active, is_buffered, master_reads}
 use Rattle.ec_regs.specs.declared.registers.TheConstants.{PROCESS_MEMORY, MEMORY_SIZE}
 use Rattle.ec_regs.specs.declared.sync_man.SyncMan.{SyncMan}
 use Rattle.ec_areas.specs.Records.{sync_manager_at}
 use Rattle.ec_areas.proofs.Laws.{active_place}
-use Rattle.ec_esc.specs.Application.{put_inputs_fault, with_inputs}
+use Rattle.ec_esc.specs.Application.{put_inputs_fault, with_inputs, are_told, with_registers}
 use Rattle.ec_esc.specs.State.{ControllerState, IsController, with_run}
 use Rattle.ec_esc.specs.declared.application.AreaFault.{AreaFault}
 use Rattle.ec_esc.proofs.ApplicationLemmas.{length-with_run, get_or-with_run_before, get_or-with_run_inside}
@@ -78,6 +81,57 @@ inputs_controller c i bytes is are none =
     record {
       memory_size = length-with_run c.memory bytes at inside ∙ is.memory_size;
       memory = AreBytes-with_run c.memory bytes at inside is.memory are;
+      shown_size = is.shown_size;
+      shown = is.shown;
+    }
+
+-- ---- registers that are told
+
+-- a range that lies within another one has its ends
+lies_ends : (first count from n : ℕ) → lies_within first count from n ≡ true
+    → (first ≤ from) × (from + n ≤ first + count)
+lies_ends first count from n lies =
+    let ends = and_parts (leb first from) (leb (from + n) (first + count)) lies in
+    let low : leb first from ≡ true = ends.0 in
+    let high : leb (from + n) (first + count) ≡ true = ends.1 in
+    (grind (arith, nat_tests), grind (arith, nat_tests))
+
+one_of_three : (a b c : Bool) → (a || (b || (c || false))) ≡ true → (a ≡ true) ⊎ ((b ≡ true) ⊎ (c ≡ true))
+one_of_three true b c one = inl refl
+one_of_three false true c one = inr (inl refl)
+one_of_three false false true one = inr (inr refl)
+one_of_three false false false one = absurd (cc)
+
+-- they lie in one of three places
+pub told_place : (from n : ℕ) → are_told from n ≡ true
+    → (from + n ≤ 10)
+    ⊎ (((272 ≤ from) × (from + n ≤ 274)) ⊎ ((1280 ≤ from) × (from + n ≤ 1296)))
+told_place from n told =
+    ⊎_elim
+    (λ (a : lies_within 0 10 from n ≡ true). inl (lies_ends 0 10 from n a).1)
+    (λ (rest : (lies_within 272 2 from n ≡ true) ⊎ (lies_within 1280 16 from n ≡ true)).
+    ⊎_elim
+    (λ (b : lies_within 272 2 from n ≡ true). inr (inl (lies_ends 272 2 from n b)))
+    (λ (d : lies_within 1280 16 from n ≡ true). inr (inr (lies_ends 1280 16 from n d)))
+    rest)
+    (one_of_three (lies_within 0 10 from n) (lies_within 272 2 from n) (lies_within 1280 16 from n) told)
+
+-- a controller that tells them stays one
+pub registers_controller : (c : ControllerState) (from : ℕ) (bytes : List ℕ) → IsController c → AreBytes bytes
+    → are_told from (length bytes) ≡ true → IsController (with_registers c from bytes)
+registers_controller c from bytes is are told =
+    let inside : from + length bytes ≤ length c.memory =
+    ⊎_elim
+    (λ (a : from + length bytes ≤ 10). omega (arith, is.memory_size))
+    (λ (rest : ((272 ≤ from) × (from + length bytes ≤ 274)) ⊎ ((1280 ≤ from) × (from + length bytes ≤ 1296))).
+    ⊎_elim
+    (λ (b : (272 ≤ from) × (from + length bytes ≤ 274)). omega (arith, is.memory_size, b.1))
+    (λ (d : (1280 ≤ from) × (from + length bytes ≤ 1296)). omega (arith, is.memory_size, d.1))
+    rest)
+    (told_place from (length bytes) told) in
+    record {
+      memory_size = length-with_run c.memory bytes from inside ∙ is.memory_size;
+      memory = AreBytes-with_run c.memory bytes from inside is.memory are;
       shown_size = is.shown_size;
       shown = is.shown;
     }

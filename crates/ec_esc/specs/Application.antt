@@ -1,7 +1,12 @@
 -- The application's side of a controller: AL control and AL status, outputs and inputs, and mail (IEC
 -- 61158-4-12, sync manager, and IEC 61158-6-12, AL management). What it writes stands in the memory alone,
 -- where the wire reads it; what it is shown stays.
-use Rattle.std.specs.Prelude.{ℕ, ◌+◌, ◌-◌, false, ◌==◌, ◌&&◌, not, nat_le, if◌then◌else◌, Option}
+use Rattle.std.specs.Prelude.{ℕ, ◌+◌, ◌-◌, false, ◌==◌, ◌&&◌, not, nat_le, if◌then◌else◌, Option, Bool}
+use Rattle.std.specs.List.{list_any}
+use Rattle.ec_regs.specs.AddressRange.{lies_within}
+use Rattle.ec_regs.specs.declared.address_range.AddressRange.{AddressRange}
+use Rattle.ec_regs.specs.declared.registers.TheConstants.{CONTROLLER_TYPE, INFORMATION_SIZE, DL_STATUS}
+use Rattle.ec_regs.specs.declared.registers.TheConstants.{SII_BASE, SII_SIZE}
 use Rattle.std.specs.Prelude.{None, Some, List, [], ◌∷◌, ◌++◌, length, take, drop, slice_index, slice_range}
 use Rattle.std.specs.Prelude.{replicate}
 use Rattle.std.specs.Int.{w16, to_le_bytes}
@@ -41,6 +46,29 @@ al_status c = status_of (slice_index c.memory AL_STATUS)
 
 abbrev pub al_status_code : ControllerState → ℕ
 al_status_code c = word_at c.memory AL_STATUS_CODE
+
+-- ---- registers that the master reads, and that no rule of this crate interprets but by whether there is a
+-- slave information interface
+
+-- what the controller tells of itself, DL status, and the slave information interface
+abbrev pub told_ranges : List AddressRange
+told_ranges =
+    record { first = CONTROLLER_TYPE; count = INFORMATION_SIZE }
+    ∷ record { first = DL_STATUS; count = 2 }
+    ∷ record { first = SII_BASE; count = SII_SIZE }
+    ∷ []
+
+-- do n bytes from an address on lie in one of them
+abbrev pub are_told : ℕ → ℕ → Bool
+are_told from n = list_any (λ (r : AddressRange). lies_within r.first r.count from n) told_ranges
+
+-- the controller with these bytes from an address on; what it shows stays
+abbrev pub with_registers : ControllerState → ℕ → List ℕ → ControllerState
+with_registers c address bytes = record c { memory = with_run c.memory address bytes }
+
+-- the registers of its slave information interface
+abbrev pub sii_registers : ControllerState → List ℕ
+sii_registers c = slice_range c.memory SII_BASE (SII_BASE + SII_SIZE)
 
 -- ---- process data
 

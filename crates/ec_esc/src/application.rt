@@ -11,6 +11,11 @@ ghost use Rattle.ec_regs.specs.Al.{state_of};
 ghost use Rattle.ec_regs.specs.SyncMan.{is_full};
 ghost use Rattle.ec_areas.specs.Records.{sync_manager_at};
 ghost use Rattle.ec_esc.specs.State.{word_at};
+ghost use Rattle.std.specs.Int.{w16, to_le_bytes};
+ghost use Rattle.ec_regs.specs.declared.registers.TheConstants.{CONTROLLER_TYPE, DL_STATUS, SII_BASE};
+ghost use Rattle.ec_regs.specs.Information.{information_bytes};
+ghost use Rattle.ec_areas.specs.Ranges.{has_sii};
+ghost use Rattle.ec_esc.specs.Application.{with_registers, sii_registers};
 ghost use Rattle.ec_esc.specs.Application.{new_control, with_control_taken, with_al, al_status};
 ghost use Rattle.ec_esc.specs.Application.{al_status_code, outputs_of};
 ghost use Rattle.ec_esc.specs.Application.{put_inputs_fault, with_inputs, take_mail_fault, mail_of};
@@ -18,11 +23,16 @@ ghost use Rattle.ec_esc.specs.Application.{with_mail_taken, put_mail_fault, with
 
 use crate::controller::Controller;
 use arrayvec::ArrayVec;
-use ec_regs::registers::{AL_CONTROL, AL_STATUS_CODE};
-use ec_regs::{AlStatus, LONGEST_MAILBOX, SyncMan};
+use ec_regs::registers::{
+    AL_CONTROL, AL_STATUS_CODE, CONTROLLER_TYPE, DL_STATUS, SII_BASE, SII_SIZE,
+};
+use ec_regs::{AlStatus, Information, LONGEST_MAILBOX, SyncMan};
 
 /// The longest mail, in bytes: the whole of the longest mailbox.
 pub const LONGEST_MAIL: usize = LONGEST_MAILBOX as usize;
+
+/// How many bytes the registers of the slave information interface are.
+pub const SII: usize = SII_SIZE as usize;
 
 /// Why the application may not use an area as it asked to (IEC 61158-4-12, sync manager, buffered mode and
 /// mailbox mode). Where several hold, the first of them in this order is told.
@@ -143,6 +153,48 @@ impl Controller {
         ensures code { result.1 ≡ al_status_code self.now }
     {
         (self.memory.al_status(), self.word(AL_STATUS_CODE))
+    }
+
+    /// Sets what the controller tells of itself, registers 0x0000 to 0x0009 (IEC 61158-4-12, DL information);
+    /// all else stays. Where its kind is not 0, the controller has a slave information interface from then
+    /// on, whose registers the master may write.
+    pub fn set_information(&mut self, information: &Information)
+        ensures { self.new ≡ with_registers self.old CONTROLLER_TYPE (information_bytes information.now) }
+    {
+        self.memory
+            .load_before(CONTROLLER_TYPE, &information.bytes());
+    }
+
+    /// Sets DL status, register 0x0110: at which ports there is a link, and which are closed (IEC 61158-4-12,
+    /// DL status); all else stays.
+    pub fn set_dl_status(&mut self, status: u16)
+        ensures { self.new ≡ with_registers self.old DL_STATUS (to_le_bytes w16 status) }
+    {
+        self.memory.load_before(DL_STATUS, &status.to_le_bytes());
+    }
+
+    /// Has the controller a slave information interface: may the master write registers 0x0500 to 0x050F? It
+    /// has where it tells of itself which kind of chip it is (IEC 61158-4-12, DL information, type).
+    pub fn has_sii(&self) -> bool
+        ensures { result ≡ has_sii self.now.memory }
+    {
+        self.memory.has_sii()
+    }
+
+    /// Registers 0x0500 to 0x050F (IEC 61158-4-12, slave information interface).
+    pub fn sii(&self) -> [u8; SII]
+        ensures { result ≡ sii_registers self.now }
+    {
+        let mut registers = [0; SII];
+        registers.copy_from_slice(self.bytes(SII_BASE, SII_SIZE));
+        registers
+    }
+
+    /// Sets registers 0x0500 to 0x050F (IEC 61158-4-12, slave information interface); all else stays.
+    pub fn set_sii(&mut self, registers: &[u8; SII])
+        ensures { self.new ≡ with_registers self.old SII_BASE registers.now }
+    {
+        self.memory.load(SII_BASE, registers);
     }
 
     /// The outputs in the area of a sync manager, 0 to 7, as the application is shown them, or `None` where

@@ -133,7 +133,11 @@ impl Controller {
             | Addressing::ConfiguredStation
             | Addressing::All => {
                 self.is_named(addressing, address)
-                    && serves_physical_write(managers, range_at(address, count))
+                    && serves_physical_write(
+                        managers,
+                        self.memory.has_sii(),
+                        range_at(address, count),
+                    )
             }
         }
     }

@@ -31,6 +31,9 @@
 //!   bytes and the records.
 //! - `take_control`, `set_al` and `al` are the application's AL control and AL status; `outputs`,
 //!   `put_inputs`, `take_mail` and `put_mail` are its process data and its mail.
+//! - `set_information` says what the controller tells of itself; where that is a kind of chip, it has a slave
+//!   information interface (`has_sii`), whose registers the master writes and the application reads and
+//!   answers (`sii`, `set_sii`). `set_dl_status` tells of links. A master writes none of the others.
 //!
 //! What the contracts speak of stands in specs/: what a controller holds (`State`), the pass of a datagram
 //! and of a frame (`Pass`), what a write leaves beside the bytes that it wrote (`Writing`), and the
@@ -51,7 +54,7 @@ mod renewal;
 mod showing;
 mod writing;
 
-pub use application::{AreaFault, LONGEST_MAIL};
+pub use application::{AreaFault, LONGEST_MAIL, SII};
 pub use controller::Controller;
 pub use counting::{MOST_CONTROLLERS, gained};
 pub use ec_regs::NoMemory;

@@ -123,7 +123,11 @@ impl Controller {
         ensures inside { IsTrue result
             → IsInMemory frame.now k }
     {
-        serves_physical_write(self.memory.managers(), range(frame, k))
+        serves_physical_write(
+            self.memory.managers(),
+            self.memory.has_sii(),
+            range(frame, k),
+        )
     }
 
     /// Writes the data of the datagram at `k` to its range.

@@ -8,13 +8,14 @@ ghost use Rattle.std.specs.Prelude.{slice_index, slice_set};
 ghost use Rattle.ec_regs.specs.Al.{state_of, status_byte, status_of};
 ghost use Rattle.ec_regs.specs.Bits.{AreBytes, with_bits};
 ghost use Rattle.ec_regs.specs.declared.registers.TheConstants.{AL_STATUS, MEMORY_SIZE};
+ghost use Rattle.ec_areas.specs.Ranges.{has_sii, IsOnArrival};
 ghost use Rattle.ec_areas.specs.Records.{fmmus_of, sync_managers_of};
 ghost use Rattle.ec_esc.specs.Pass.{range_sources, written_places};
 ghost use Rattle.ec_esc.specs.State.{with_run};
 
 use crate::renewal::{renew_fmmus, renew_managers};
 use crate::writing::{swap_run, write_run};
-use ec_areas::{Extent, extent_of, fmmus_of, sync_managers_of};
+use ec_areas::{Extent, extent_of, fmmus_of, has_sii, sync_managers_of};
 use ec_regs::registers::AL_STATUS;
 use ec_regs::{AddressRange, AlState, AlStatus, Fmmus, Memory, NoMemory, SyncManagers};
 use std::alloc::Global;
@@ -95,6 +96,13 @@ impl PlannedMemory {
         &self.managers
     }
 
+    /// Has the controller a slave information interface?
+    pub(crate) fn has_sii(&self) -> bool
+        ensures { result ≡ has_sii self.now }
+    {
+        has_sii(self.memory.bytes())
+    }
+
     /// AL status, which names a state.
     pub(crate) fn al_status(&self) -> AlStatus
         ensures value { result ≡ status_of (slice_index self.now AL_STATUS) }
@@ -145,18 +153,40 @@ impl PlannedMemory {
         renew_managers(&mut self.managers, bytes, written);
     }
 
+    /// Writes a run of bytes from an address on that ends before AL status; all others stay.
+    pub(crate) fn load_before(&mut self, address: u16, bytes: &[u8])
+        requires { address + length bytes.now ≤ AL_STATUS }
+        ensures value { self.new ≡ with_run self.old address bytes.now }
+        ensures size { length self.new ≡ MEMORY_SIZE }
+    {
+        self.memory.load(address, bytes);
+        let written = AddressRange {
+            first: address,
+            count: bytes.len() as u16,
+        };
+        let bytes = self.memory.bytes();
+        renew_fmmus(&mut self.fmmus, &mut self.is_surveyed, bytes, written);
+        renew_managers(&mut self.managers, bytes, written);
+    }
+
     /// Writes the data from an address on, as far as the bytes there take writes by the records on arrival.
     /// Records of which a byte was written are decoded once, behind the last byte.
-    pub(crate) fn write_run(&mut self, managers: &SyncManagers, from: u16, payload: &[u8])
+    pub(crate) fn write_run(
+        &mut self,
+        managers: &SyncManagers,
+        sii: bool,
+        from: u16,
+        payload: &[u8],
+    )
         requires size { length self.old ≡ MEMORY_SIZE }
         requires bytes { AreBytes self.old }
-        requires records { managers.now ≡ sync_managers_of self.old }
+        requires records { IsOnArrival self.old managers.now sii }
         requires inside { from + length payload.now ≤ MEMORY_SIZE }
         ensures size { length self.new ≡ MEMORY_SIZE }
         ensures written { self.new
             ≡ with_bits self.old payload.now (written_places self.old from (length payload.now)) }
     {
-        write_run(&mut self.memory, managers, from, payload);
+        write_run(&mut self.memory, managers, sii, from, payload);
         let written = AddressRange {
             first: from,
             count: payload.len() as u16,
@@ -167,10 +197,16 @@ impl PlannedMemory {
     }
 
     /// Writes the data from an address on as `write_run` does, and fills it with the bytes that stood there.
-    pub(crate) fn swap_run(&mut self, managers: &SyncManagers, from: u16, payload: &mut [u8])
+    pub(crate) fn swap_run(
+        &mut self,
+        managers: &SyncManagers,
+        sii: bool,
+        from: u16,
+        payload: &mut [u8],
+    )
         requires size { length self.old ≡ MEMORY_SIZE }
         requires bytes { AreBytes self.old }
-        requires records { managers.now ≡ sync_managers_of self.old }
+        requires records { IsOnArrival self.old managers.now sii }
         requires inside { from + length payload.old ≤ MEMORY_SIZE }
         ensures size { length self.new ≡ MEMORY_SIZE }
         ensures written { self.new
@@ -181,7 +217,7 @@ impl PlannedMemory {
             first: from,
             count: payload.len() as u16,
         };
-        swap_run(&mut self.memory, managers, from, payload);
+        swap_run(&mut self.memory, managers, sii, from, payload);
         let bytes = self.memory.bytes();
         renew_fmmus(&mut self.fmmus, &mut self.is_surveyed, bytes, written);
         renew_managers(&mut self.managers, bytes, written);

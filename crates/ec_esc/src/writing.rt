@@ -9,7 +9,7 @@ ghost use Rattle.ec_regs.specs.declared.registers.TheConstants.{MEMORY_SIZE, AL_
 ghost use Rattle.ec_regs.specs.SyncMan.{is_active};
 ghost use Rattle.ec_areas.specs.Records.{sync_managers_of};
 ghost use Rattle.ec_regs.specs.AddressRange.{within};
-ghost use Rattle.ec_areas.specs.Ranges.{takes_writes, filled_by};
+ghost use Rattle.ec_areas.specs.Ranges.{takes_writes, filled_by, has_sii, IsOnArrival};
 ghost use Rattle.ec_areas.specs.Showing.{last_byte};
 ghost use Rattle.ec_esc.specs.Writing.{settled, shown_after, with_filled};
 ghost use Rattle.ec_esc.specs.Pass.{is_written, range_sources, written_places, range_taken, written_by};
@@ -36,37 +36,49 @@ fn arrived_records(memory: &PlannedMemory) -> SyncManagers
 }
 
 /// Writes the byte at an address where it takes writes by the records on arrival; all else stays.
-fn write_byte(memory: &mut Memory, managers: &SyncManagers, address: u16, byte: u8)
+fn write_byte(memory: &mut Memory, managers: &SyncManagers, sii: bool, address: u16, byte: u8)
     requires inside { address < MEMORY_SIZE }
-    requires records { (arrived : List ℕ) × (managers.now ≡ sync_managers_of arrived) }
-    ensures { (arrived : List ℕ) → managers.now ≡ sync_managers_of arrived → memory.new
+    requires records { (arrived : List ℕ) × IsOnArrival arrived managers.now sii }
+    ensures { (arrived : List ℕ) → IsOnArrival arrived managers.now sii → memory.new
         ≡ (if takes_writes arrived address then slice_set memory.old address byte else memory.old) }
 {
-    if takes_writes(managers, u32::from(address)) {
+    if takes_writes(managers, sii, u32::from(address)) {
         memory.set_byte(address, byte);
     }
 }
 
 /// Writes the data from an address on, as far as the bytes there take writes by the records on arrival.
-pub(crate) fn write_run(memory: &mut Memory, managers: &SyncManagers, from: u16, payload: &[u8])
+pub(crate) fn write_run(
+    memory: &mut Memory,
+    managers: &SyncManagers,
+    sii: bool,
+    from: u16,
+    payload: &[u8],
+)
     requires size { length memory.old ≡ MEMORY_SIZE }
     requires bytes { AreBytes memory.old }
-    requires records { managers.now ≡ sync_managers_of memory.old }
+    requires records { IsOnArrival memory.old managers.now sii }
     requires inside { from + length payload.now ≤ MEMORY_SIZE }
     ensures size { length memory.new ≡ MEMORY_SIZE }
     ensures written { memory.new
         ≡ with_bits memory.old payload.now (written_places memory.old from (length payload.now)) }
 {
     for (place, byte) in payload.iter().enumerate() {
-        write_byte(memory, managers, from + place as u16, *byte);
+        write_byte(memory, managers, sii, from + place as u16, *byte);
     }
 }
 
 /// Writes the data from an address on as `write_run` does, and fills it with the bytes that stood there.
-pub(crate) fn swap_run(memory: &mut Memory, managers: &SyncManagers, from: u16, payload: &mut [u8])
+pub(crate) fn swap_run(
+    memory: &mut Memory,
+    managers: &SyncManagers,
+    sii: bool,
+    from: u16,
+    payload: &mut [u8],
+)
     requires size { length memory.old ≡ MEMORY_SIZE }
     requires bytes { AreBytes memory.old }
-    requires records { managers.now ≡ sync_managers_of memory.old }
+    requires records { IsOnArrival memory.old managers.now sii }
     requires inside { from + length payload.old ≤ MEMORY_SIZE }
     ensures size { length memory.new ≡ MEMORY_SIZE }
     ensures written { memory.new
@@ -76,7 +88,7 @@ pub(crate) fn swap_run(memory: &mut Memory, managers: &SyncManagers, from: u16, 
     for place in 0..payload.len() {
         let address = from + place as u16;
         let found = memory.byte(address);
-        write_byte(memory, managers, address, payload[place]);
+        write_byte(memory, managers, sii, address, payload[place]);
         payload[place] = found;
     }
 }
@@ -116,25 +128,30 @@ fn range_of(from: u16, payload: &[u8]) -> AddressRange
 }
 
 /// Is the last byte of an area among the written ones of the range? The records are those on arrival.
-fn last_byte_written(before: &SyncManagers, area: &PlannedSyncMan, range: AddressRange) -> bool
-    ensures { (arrived : List ℕ) → before.now ≡ sync_managers_of arrived → result
+fn last_byte_written(
+    before: &SyncManagers,
+    sii: bool,
+    area: &PlannedSyncMan,
+    range: AddressRange,
+) -> bool
+    ensures { (arrived : List ℕ) → IsOnArrival arrived before.now sii → result
         ≡ is_written arrived range.first range.count (last_byte area.now) }
 {
     let last = last_byte(area);
-    range.contains(last) && takes_writes(before, last)
+    range.contains(last) && takes_writes(before, sii, last)
 }
 
 impl Controller {
     /// Shows the areas that a write of the range hands over. The records are those on arrival.
-    fn show_range(&mut self, before: &SyncManagers, range: AddressRange)
-        ensures { (arrived : List ℕ) → before.now ≡ sync_managers_of arrived → self.new
+    fn show_range(&mut self, before: &SyncManagers, sii: bool, range: AddressRange)
+        ensures { (arrived : List ℕ) → IsOnArrival arrived before.now sii → self.new
             ≡ record self.old {
               shown = shown_after (is_written arrived range.first range.count) before.now
                   (sync_managers_of self.old.memory) self.old.memory self.old.shown;
             } }
     {
         let after = *self.memory.managers();
-        let reached = told_of_each(&after, |area| last_byte_written(before, area, range));
+        let reached = told_of_each(&after, |area| last_byte_written(before, sii, area, range));
         self.show_written(before, &after, &reached);
     }
 
@@ -162,8 +179,8 @@ impl Controller {
 
     /// What is left to do once the bytes of the range were written: statuses, shown bytes, mail and mark.
     /// The records are those on arrival.
-    fn finish_write(&mut self, before: &SyncManagers, range: AddressRange)
-        ensures { (arrived : List ℕ) → before.now ≡ sync_managers_of arrived
+    fn finish_write(&mut self, before: &SyncManagers, sii: bool, range: AddressRange)
+        ensures { (arrived : List ℕ) → IsOnArrival arrived before.now sii
             → self.new ≡ record {
               memory = with_filled (filled_by before.now range.first range.count)
                   (settled arrived self.old.memory);
@@ -174,7 +191,7 @@ impl Controller {
             } }
     {
         settle(&mut self.memory, before);
-        self.show_range(before, range);
+        self.show_range(before, sii, range);
         self.fill_range(before, range);
         self.mark_range(range);
     }
@@ -186,8 +203,9 @@ impl Controller {
             ≡ written_by (range_taken n self.old from (length payload.now)) payload.now self.old }
     {
         let before = arrived_records(&self.memory);
-        self.memory.write_run(&before, from, payload);
-        self.finish_write(&before, range_of(from, payload));
+        let sii = self.memory.has_sii();
+        self.memory.write_run(&before, sii, from, payload);
+        self.finish_write(&before, sii, range_of(from, payload));
     }
 
     /// A write of the data from an address on that is served, with all that it leaves; the data are filled
@@ -199,7 +217,8 @@ impl Controller {
         ensures read { payload.new ≡ with_bits payload.old self.old.memory (range_sources from) }
     {
         let before = arrived_records(&self.memory);
-        self.memory.swap_run(&before, from, payload);
-        self.finish_write(&before, range_of(from, payload));
+        let sii = self.memory.has_sii();
+        self.memory.swap_run(&before, sii, from, payload);
+        self.finish_write(&before, sii, range_of(from, payload));
     }
 }

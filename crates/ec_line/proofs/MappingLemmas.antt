@@ -3,7 +3,7 @@
 -- reach.
 use Rattle.std.proofs.Common.{◌≡◌, ◌⊎◌, ⊎_elim, inl, inr, ℕ, ◌+◌, ◌-◌, ◌*◌, ◌/◌, ◌%◌, ◌<◌, ◌≤◌, Bool, true}
 use Rattle.std.proofs.Common.{false, cond, ◌&&◌, ◌||◌, eqb, leb, ltb, List, get_or}
-use Rattle.std.proofs.Common.{None, Some, sym, subst, ◌∙◌, ap, refl, arith}
+use Rattle.std.proofs.Common.{Option, None, Some, sym, subst, ◌∙◌, ap, refl, arith}
 use Rattle.std.specs.Prelude.{not, slice_index}
 use Rattle.std.specs.Int.{bit_at}
 use Rattle.std.specs.Option.{is_some}
@@ -13,7 +13,7 @@ use Rattle.std.proofs.lemmas.Bool.Decides.{nat_tests}
 use Rattle.ec_regs.specs.AddressRange.{within}
 use Rattle.ec_regs.specs.SyncMan.{is_active, is_buffered, master_reads, master_writes}
 use Rattle.ec_regs.specs.declared.fmmu.Fmmu.{Fmmu}
-use Rattle.ec_regs.specs.declared.registers.TheConstants.{PROCESS_MEMORY}
+use Rattle.ec_regs.specs.declared.registers.TheConstants.{PROCESS_MEMORY, MEMORY_SIZE}
 use Rattle.ec_regs.specs.declared.registers.TheConstants.{STATION_ADDRESS}
 use Rattle.ec_regs.specs.declared.sync_man.SyncMan.{SyncMan}
 use Rattle.ec_wire.specs.Command.{addressing, reads as gives, writes as takes_data}
@@ -26,10 +26,11 @@ use Rattle.ec_areas.specs.Logical.{read_place, read_map, write_target}
 use Rattle.ec_areas.specs.Logical.{target_map, write_place, write_map, reads_some, writes_some}
 use Rattle.ec_areas.specs.Logical.{IsReadable, IsReadablePair, IsWritable, IsWritablePair}
 use Rattle.ec_areas.specs.Ranges.{is_range, meets, meets_hidden, meets_locked, emptied_by, filled_by}
-use Rattle.ec_areas.specs.Ranges.{is_in_sync_manager, takes_writes, some_address}
+use Rattle.ec_areas.specs.Ranges.{takes_writes, some_address}
 use Rattle.ec_areas.specs.Records.{fmmus_of, sync_manager_at, sync_managers_of}
 use Rattle.ec_areas.proofs.Laws.{get_or-sync_managers_of, length-sync_managers_of, reads_registers}
-use Rattle.ec_areas.proofs.Laws.{emptied_buffered, filled_buffered}
+use Rattle.ec_areas.proofs.Laws.{emptied_buffered, filled_buffered, buffered_place, takes_process}
+use Rattle.ec_areas.proofs.Laws.{some_process}
 use Rattle.ec_esc.specs.Pass.{Half, where_served, serves_reading, serves_writing}
 use Rattle.ec_esc.specs.Pass.{serves_read, serves_write, write_sources, serves_range_read, serves_range_write}
 use Rattle.ec_esc.specs.Pass.{range_targets, written_mailbox}
@@ -260,28 +261,23 @@ range_read_same c d from n some same place =
     (λ i. is_range from n && (not (hidden i) || is_some (emptied i))))
     place
 
--- the same bytes take writes
-field_same : (c d : ControllerState) (a : ℕ) → mapping_of d ≡ mapping_of c
-    → takes_writes d.memory a ≡ takes_writes c.memory a
-unfolding takes_writes
-field_same c d a same =
-    let number : ℕ = (a - 2048) / 8 in
-    let field : Bool → Bool = λ (active : Bool).
-    eqb ((a - 2048) % 8) 6 || (ltb ((a - 2048) % 8) 5 && not active) in
-    let writable : (is_in_sync_manager a && field (is_active (sync_manager_at d.memory number)))
-    ≡ (is_in_sync_manager a && field (is_active (sync_manager_at c.memory number))) =
+-- in process memory the same bytes take writes
+taken_within : (m k : List ℕ) (from n a : ℕ) → PROCESS_MEMORY ≤ from → from + n ≤ MEMORY_SIZE
+    → (within from n a && takes_writes k a) ≡ (within from n a && takes_writes m a)
+taken_within m k from n a low high =
     ⊎_elim
-    (λ (register : is_in_sync_manager a ≡ true).
-    let high : ltb a 2112 ≡ true = (and_parts (leb 2048 a) (ltb a 2112) register).1 in
-    let below : number < 8 = grind (arith, nat_tests) in
-    ap (λ (active : Bool). is_in_sync_manager a && field active) (active_same c d number same below))
-    (λ (elsewhere : is_in_sync_manager a ≡ false). rw elsewhere refl)
-    (cases_Bool (is_in_sync_manager a)) in
-    rw writable refl
-
-takes_same : (c d : ControllerState) → mapping_of d ≡ mapping_of c
-    → takes_writes d.memory ≡ takes_writes c.memory
-takes_same c d same = (λ i a. field_same c d a same i)
+    (λ (inside : within from n a ≡ true).
+    let ends = and_parts (leb from a) (ltb a (from + n)) inside in
+    let first : leb from a ≡ true = ends.0 in
+    let last : ltb a (from + n) ≡ true = ends.1 in
+    let starts : from ≤ a = grind (arith, nat_tests) in
+    let stops : a < from + n = grind (arith, nat_tests) in
+    let reaches : PROCESS_MEMORY ≤ a = omega arith in
+    let room : a < MEMORY_SIZE = omega arith in
+    ap (λ (b : Bool). within from n a && b)
+    (takes_process k a reaches room ∙ sym (takes_process m a reaches room)))
+    (λ (outside : within from n a ≡ false). rw outside refl)
+    (cases_Bool (within from n a))
 
 -- a write of outputs fills no mailbox
 range_write_same : (c d : ControllerState) (from n : ℕ) → 1 ≤ n → mapping_of d ≡ mapping_of c
@@ -294,8 +290,12 @@ range_write_same c d from n some same area =
     filled_buffered ns from n (lies_buffered master_writes d from n some later)
     ∙ sym (filled_buffered ms from n (lies_buffered master_writes c from n some area)) in
     let locked : meets_locked ns from n ≡ meets_locked ms from n = locked_same c d from n same in
-    let takes : takes_writes d.memory ≡ takes_writes c.memory = takes_same c d same in
-    (λ i. is_range from n && ((not (locked i) && some_address (takes i) from n) || is_some (filled i)))
+    let lies = lies_buffered master_writes c from n some area in
+    let place = buffered_place lies.1 from n lies.4 in
+    let takes : some_address (takes_writes d.memory) from n ≡ some_address (takes_writes c.memory) from n =
+    some_process d.memory from n some place.0 place.1
+    ∙ sym (some_process c.memory from n some place.0 place.1) in
+    (λ i. is_range from n && ((not (locked i) && takes i) || is_some (filled i)))
 
 -- at the station that is named a test is what it is there, and elsewhere nothing is served
 at_station : (a b : ℕ) (p q : Bool) (station : ℕ) → b ≡ a → (station ≡ a → q ≡ p)
@@ -378,11 +378,24 @@ taken_kind Fpwr a n c d same accepts =
       mail = written_mailbox x from n;
     } in
     let served = fills_same Fpwr a n c d same accepts in
-    let takes = takes_same c d same in
-    where_placed (serves_writing (addressing (command_of Fpwr)) d a n) (half d)
-    ∙ (λ i p. cond (served i)
-    (cond (within from n (p / 8) && takes i (p / 8)) (Some (p - 8 * from)) None) None)
-    ∙ sym (where_placed (serves_writing (addressing (command_of Fpwr)) c a n) (half c))
+    let serves : ControllerState → Bool = λ x. serves_writing (addressing (command_of Fpwr)) x a n in
+    let place : Bool → ControllerState → ℕ → Option ℕ = λ b x p.
+    cond b (cond (within from n (p / 8) && takes_writes x.memory (p / 8)) (Some (p - 8 * from)) None) None in
+    where_placed (serves d) (half d)
+    ∙ (λ i p. place (served i) d p)
+    ∙ ⊎_elim
+    (λ (named : eqb (adp_of a) (word_at c.memory STATION_ADDRESS) ≡ true).
+    let lies = lies_buffered master_writes c from n accepts.some
+    (accepts.place (eqb-true (adp_of a) (word_at c.memory STATION_ADDRESS) named)) in
+    let within_process = buffered_place lies.1 from n lies.4 in
+    (λ i p. cond (serves c) (cond
+    (taken_within c.memory d.memory from n (p / 8) within_process.0 within_process.1 i)
+    (Some (p - 8 * from)) None) None))
+    (λ (other : eqb (adp_of a) (word_at c.memory STATION_ADDRESS) ≡ false).
+    let none : serves c ≡ false = ap (λ (b : Bool). b && serves_range_write c from n) other in
+    (λ i p. place (none i) d p) ∙ sym (λ i p. place (none i) c p))
+    (cases_Bool (eqb (adp_of a) (word_at c.memory STATION_ADDRESS)))
+    ∙ sym (where_placed (serves c) (half c))
 
 taken_by_mapping : (r : Request) (c d : ControllerState) → mapping_of d ≡ mapping_of c → Accepts r c
     → taken r d ≡ taken r c

@@ -22,6 +22,7 @@ use Rattle.ec_regs.specs.declared.registers.TheConstants.{STATION_ADDRESS, MEMOR
 use Rattle.ec_regs.specs.declared.sync_man.SyncMan.{SyncMan}
 use Rattle.ec_regs.proofs.Laws.{AreBytes-with_bits, length-with_bits, bit_of_byte, bit-with_bits_taken}
 use Rattle.ec_regs.proofs.Laws.{get_or-with_bits_kept, get_or-run, copied_run, AreBytes-run}
+use Rattle.ec_areas.proofs.Laws.{takes_process}
 use Rattle.ec_areas.specs.Ranges.{is_range, is_area, takes_mail, gives_mail, filled_by, emptied_by, meets_one}
 use Rattle.ec_areas.specs.Ranges.{takes_writes, serves_physical_read, serves_physical_write, meets_locked}
 use Rattle.ec_areas.specs.Ranges.{meets_hidden, some_address}
@@ -163,28 +164,13 @@ write_effect c address from n meant place served filled =
 
 -- ---- the bytes that it writes
 
--- a byte of process memory takes writes
-fourth_holds : (a b c d e : Bool) → d ≡ true → ((a || (b || (c || (d || false)))) || e) ≡ true
-fourth_holds true b c d e holds = refl
-fourth_holds false true c d e holds = refl
-fourth_holds false false true d e holds = refl
-fourth_holds false false false d e holds = ap (λ (x : Bool). (x || false) || e) holds
-
-process_taken : (m : List ℕ) (a : ℕ) → 4096 ≤ a → a < 12288 → takes_writes m a ≡ true
-unfolding takes_writes
-process_taken m a low high =
-    let first : leb 4096 a ≡ true = grind (arith, nat_tests) in
-    let last : ltb a 12288 ≡ true = grind (arith, nat_tests) in
-    fourth_holds (within 16 2 a) (within 288 2 a) (within 1536 128 a) (within 4096 8192 a) _
-    (and_from _ _ first last)
-
 byte_written : (m : List ℕ) (from n k : ℕ) → 4096 ≤ from → from + n ≤ 12288 → k < n
     → is_written m from n (from + k) ≡ true
 byte_written m from n k low high below =
     let first : leb from (from + k) ≡ true = grind (arith, nat_tests) in
     let last : ltb (from + k) (from + n) ≡ true = grind (arith, nat_tests) in
     and_from _ _ (and_from _ _ first last)
-    (process_taken m (from + k) (omega (arith, low)) (omega (arith, high, below)))
+    (takes_process m (from + k) (omega (arith, low)) (omega (arith, high, below)))
 
 -- the data bit that a bit of a byte takes
 target_of : (m : List ℕ) (from n k b : ℕ) → is_written m from n (from + k) ≡ true → b < 8

@@ -7,3 +7,4 @@ pub mod Al
 pub mod AlStatusCode
 pub mod AddressRange
 pub mod Guard
+pub mod Information

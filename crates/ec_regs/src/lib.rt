@@ -30,6 +30,7 @@
 //! - `fmmu`: the FMMU record, its bytes both ways, and the pairs of logical and physical bits that it maps.
 //! - `sync_man`: the sync manager record and its bytes both ways.
 //! - `guard`: what a sync manager keeps off its area, worked out once for a record.
+//! - `information`: what a controller tells of itself, and its bytes.
 //! - `al`: the states of the application layer and the byte of AL status; `al_status_code`: why a slave
 //!   refuses a state.
 //! - `address_range`: neighbouring bytes of the memory.
@@ -38,8 +39,8 @@
 //! - `memory`: the bytes of one controller.
 //!
 //! What its contracts speak of stands in specs/: bits of byte lists and lists with some bits replaced
-//! (`Bits`), the two layouts (`Fmmu`, `SyncMan`), mapped pairs (`Pairs`, `Plan`), guarded areas (`Guard`),
-//! and AL status (`Al`). The laws that crates above cite stand in proofs/Laws.
+//! (`Bits`), the layouts (`Fmmu`, `SyncMan`, `Information`), mapped pairs (`Pairs`, `Plan`), guarded areas
+//! (`Guard`), and AL status (`Al`). The laws that crates above cite stand in proofs/Laws.
 
 pub mod address_range;
 pub mod al;
@@ -47,6 +48,7 @@ pub mod al_status_code;
 pub mod bits;
 pub mod fmmu;
 pub mod guard;
+pub mod information;
 pub mod memory;
 pub mod plan;
 pub mod registers;
@@ -57,6 +59,7 @@ pub use al::{AlBits, AlState, AlStatus, acknowledges};
 pub use al_status_code::AlStatusCode;
 pub use fmmu::{Fmmu, FmmuType};
 pub use guard::{Guard, PlannedSyncMan, SyncManagers};
+pub use information::{INFORMATION, Information};
 pub use memory::{Memory, NoMemory};
 pub use plan::{Fmmus, Plan, PlannedFmmu};
 pub use sync_man::{

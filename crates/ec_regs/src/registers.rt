@@ -1,8 +1,18 @@
 //! The addresses and sizes of the registers that this project uses (IEC 61158-4-12, registers of the
 //! data link layer; AL control and AL status are used as in IEC 61158-6-12).
 
+/// The type of the controller, 1 byte: which kind of chip it is, or 0 where it tells nothing of itself. The
+/// master does not write it.
+pub const CONTROLLER_TYPE: u16 = 0x0000;
+
+/// How many bytes a controller tells of itself, from its type on: an `Information`.
+pub const INFORMATION_SIZE: u16 = 10;
+
 /// Station address, 2 bytes: the address by which FP commands name the slave.
 pub const STATION_ADDRESS: u16 = 0x0010;
+
+/// DL status, 2 bytes: at which ports there is a link, and which are closed. The master does not write it.
+pub const DL_STATUS: u16 = 0x0110;
 
 /// AL control, 2 bytes: bits 0 to 3 are the state asked for, bit 4 acknowledges an error.
 pub const AL_CONTROL: u16 = 0x0120;
@@ -12,6 +22,13 @@ pub const AL_STATUS: u16 = 0x0130;
 
 /// AL status code, 2 bytes: why the last request was refused.
 pub const AL_STATUS_CODE: u16 = 0x0134;
+
+/// The first register of the slave information interface, by which the master reads the EEPROM of the slave:
+/// access, control and status, the address of a word, and eight bytes of data.
+pub const SII_BASE: u16 = 0x0500;
+
+/// How many bytes the registers of the slave information interface are.
+pub const SII_SIZE: u16 = 16;
 
 /// The first FMMU record.
 pub const FMMU_BASE: u16 = 0x0600;

@@ -60,6 +60,7 @@ takes_status m a low high =
     rw (
       behind_range 16 18 a (omega arith) (omega arith),
       behind_range 288 290 a (omega arith) (omega arith),
+      below_range 1280 1296 a (omega arith),
       below_range 1536 1664 a (omega arith),
       below_range 4096 12288 a (omega arith),
       below_range 2048 2112 a (omega arith),
@@ -72,6 +73,7 @@ takes_manager m a low high =
     rw (
       behind_range 16 18 a (omega arith) (omega arith),
       behind_range 288 290 a (omega arith) (omega arith),
+      behind_range 1280 1296 a (omega arith) (omega arith),
       behind_range 1536 1664 a (omega arith) (omega arith),
       below_range 4096 12288 a (omega arith),
       in_range 2048 2112 a low high,

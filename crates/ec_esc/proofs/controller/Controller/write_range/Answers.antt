@@ -1,4 +1,5 @@
 use Rattle.std.proofs.Common.{ℕ, List, length, ◌∙◌, ap}
+use Rattle.ec_areas.specs.Ranges.{IsOnArrival}
 use Rattle.ec_areas.specs.Records.{sync_managers_of}
 use Rattle.ec_regs.specs.declared.sync_man.SyncMan.{SyncMan}
 use Rattle.ec_esc.specs.Pass.{range_taken, written_by}
@@ -16,7 +17,9 @@ returns c n =
     let from = c.args.from in
     let payload : List ℕ = c.args.payload.now in
     let before_is = c.arrived_records-before.ensures.value in
-    rw c.range_of.ensures at (c.finish_write.ensures came.memory before_is)
+    let arrived : IsOnArrival came.memory c.arrived_records-before.result c.has_sii-sii.result =
+    record { managers_are = before_is; sii_is = c.has_sii-sii.ensures } in
+    rw c.range_of.ensures at (c.finish_write.ensures came.memory arrived)
     ∙ ap (λ (ms : List SyncMan). range_state came ms from (length payload) c.write_run.new.self) before_is
     ∙ ap (range_state came (sync_managers_of came.memory) from (length payload)) c.write_run.ensures.written
     ∙ written_range came from payload n

@@ -1,0 +1,4 @@
+mod CrcLemmas
+pub mod AnswerLemmas
+pub mod ServedLemmas
+pub mod Laws

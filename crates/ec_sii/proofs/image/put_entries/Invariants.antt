@@ -1,0 +1,8 @@
+use Rattle.std.proofs.Common.{◌≡◌, ◌++◌, take}
+use Rattle.std.specs.List.{flat_map}
+use Rattle.ec_sii.specs.Image.{entry_bytes}
+use Rattle.ec_sii.proofs.image.put_entries.Given as goal
+
+abbrev pub invariant-loop-entry : goal.invariant-loop-entry
+invariant-loop-entry l =
+    l.out.items ≡ l.initial.out.items ++ flat_map entry_bytes (take l.entry-index l.entries)

@@ -1,0 +1,5 @@
+pub mod Registers
+pub mod Eeprom
+pub mod Served
+pub mod Crc
+pub mod Image
