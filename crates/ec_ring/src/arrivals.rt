@@ -12,6 +12,7 @@ ghost use Rattle.ec_ring.specs.declared.arrivals.Arrival.{Arrival};
 ghost use Rattle.ec_ring.specs.declared.arrivals.Arrivals.{Arrivals};
 ghost use Rattle.ec_ring.specs.declared.port.PortFault.{PortFault};
 
+use crate::health::PortHealth;
 use crate::late::LateCopies;
 use crate::links::Links;
 use crate::port::{Port, PortFault};
@@ -116,6 +117,12 @@ pub trait HeardPorts {
         ensures { self.new ≡ self.old }
     {
         LateCopies::none()
+    }
+
+    /// How the sends and receives of a port go, as far as the ports go on where one fails; else nothing is
+    /// known of a port, and a trip fails.
+    fn health(&self, _at: Port) -> PortHealth {
+        PortHealth::sound()
     }
 }
 

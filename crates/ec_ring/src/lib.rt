@@ -41,6 +41,7 @@
 //! copy's way), `Travel` (both copies), `Ring`.
 
 pub mod arrivals;
+pub mod health;
 pub mod late;
 pub mod links;
 pub mod port;
@@ -50,6 +51,7 @@ pub mod travel;
 pub mod weather;
 
 pub use arrivals::{Arrival, Arrivals, HeardPorts};
+pub use health::PortHealth;
 pub use late::LateCopies;
 pub use links::{Links, MAX_LINKS, MAX_SLAVES};
 pub use port::{Port, PortFault, count_failure};

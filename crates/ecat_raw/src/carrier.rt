@@ -9,9 +9,9 @@ ghost use Rattle.ecat_raw.specs.Taken.{IsGiven, taken};
 
 use crate::ethernet::{ADDRESS_A, ADDRESS_B, answer_in, packet_of};
 use crate::sockets::{Descriptors, PACKET, PacketSocket, RawFault, open_both};
-use ec_ring::{Port, PortFault, count_failure};
+use ec_ring::{Port, PortFault, PortHealth, count_failure};
 use ec_wire::{MAX_FRAME, PACKET_ROOM};
-use ecat_remote::{Carrier, Ready, copy_front, wait_at};
+use ecat_remote::{Carrier, PortsHealth, Ready, copy_front, wait_at};
 use std::io::{self, ErrorKind};
 
 /// A packet socket at each port of the master; with one alone port B sends and receives nothing.
@@ -27,6 +27,7 @@ pub struct RawCarrier {
     a: PacketSocket,
     b: Option<PacketSocket>,
     failures: u64,
+    health: PortsHealth,
 }
 
 impl RawCarrier {
@@ -42,7 +43,12 @@ impl RawCarrier {
     pub(crate) fn over(a: PacketSocket, b: Option<PacketSocket>) -> RawCarrier
         ensures { result.failures ≡ 0 }
     {
-        RawCarrier { a, b, failures: 0 }
+        RawCarrier {
+            a,
+            b,
+            failures: 0,
+            health: PortsHealth::sound(),
+        }
     }
 
     /// The socket of a port, if it has one.
@@ -79,9 +85,14 @@ impl Carrier for RawCarrier {
             return count_failure(&mut self.failures);
         }
         match socket.send(packet_of(address_of(from), bytes).as_slice()) {
-            Ok(_) => Ok(()),
-            Err(fault) if is_silence(&fault) => Ok(()),
-            Err(_) => count_failure(&mut self.failures),
+            Err(fault) if !is_silence(&fault) => {
+                self.health.fails(from, &fault);
+                count_failure(&mut self.failures)
+            }
+            _ => {
+                self.health.works(from);
+                Ok(())
+            }
         }
     }
 
@@ -102,7 +113,8 @@ impl Carrier for RawCarrier {
         match socket.receive_within(&mut packet, milliseconds(within)) {
             Ok(count) => Ok(Some(take_answer(&packet[..count], into))),
             Err(fault) if is_silence(&fault) => Ok(None),
-            Err(_) => {
+            Err(fault) => {
+                self.health.fails(at, &fault);
                 count_failure(&mut self.failures)?;
                 Ok(None)
             }
@@ -111,6 +123,10 @@ impl Carrier for RawCarrier {
 
     fn failures(&self) -> u64 {
         self.failures
+    }
+
+    fn health(&self, at: Port) -> PortHealth {
+        self.health.at(at)
     }
 }
 

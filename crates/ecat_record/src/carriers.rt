@@ -3,7 +3,7 @@ ghost use Rattle.std.specs.Prelude.{◌≡◌};
 
 use crate::copies::{Recorder, Way};
 use crate::moments::Moments;
-use ec_ring::{Port, PortFault};
+use ec_ring::{Port, PortFault, PortHealth};
 use ec_wire::PACKET_ROOM;
 use ecat_remote::{Carrier, Ready};
 use std::io::Write;
@@ -62,5 +62,9 @@ impl<C: Carrier, W: Write, M: Moments> Carrier for TapedCarrier<'_, C, W, M> {
 
     fn failures(&self) -> u64 {
         self.carrier.failures()
+    }
+
+    fn health(&self, at: Port) -> PortHealth {
+        self.carrier.health(at)
     }
 }

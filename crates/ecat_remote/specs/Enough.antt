@@ -1,12 +1,15 @@
 -- When nothing is gained by waiting on for a copy: the other one alone came, with each counter that is
 -- expected.
-use Rattle.std.specs.Prelude.{◌≡◌, ℕ, ◌+◌, Bool, ◌&&◌, if◌then◌else◌, nat_le, List, [], length, map, take}
-use Rattle.std.specs.Prelude.{drop, Option, None, Some}
+use Rattle.std.specs.Prelude.{◌≡◌, ℕ, ◌+◌, Bool, ◌&&◌, ◌||◌, not, if◌then◌else◌, nat_le, List, [], length}
+use Rattle.std.specs.Prelude.{map, take, drop, Option, None, Some}
 use Rattle.std.specs.Option.{option_map, is_some}
 use Rattle.ec_wire.specs.Datagram.{DatagramRecord}
 use Rattle.ecat_remote.specs.Taken.{opened_copy}
 use Rattle.ecat_remote.specs.declared.copies.NumberedCopy.{NumberedCopy}
+use Rattle.ec_ring.specs.declared.port.Port.{Port}
+use Rattle.ec_ring.specs.declared.port.Port.TheVariants.{A, B}
 use Rattle.ecat_remote.specs.declared.enough.Both.{Both}
+use Rattle.ecat_remote.specs.declared.enough.Awaited.{Awaited}
 
 -- the counters of a copy's datagrams in their order, that of the number's NOP not among them
 abbrev pub counters_of : NumberedCopy → List ℕ
@@ -34,6 +37,15 @@ next_counters None _ count = []
 -- both copies came
 abbrev pub have_come : Both → Bool
 have_come both = is_some both.a && is_some both.b
+
+-- is a copy awaited at a port?
+abbrev pub awaits : Awaited → Port → Bool
+awaits awaited A = awaited.a
+awaits awaited B = awaited.b
+
+-- each copy came that is awaited
+abbrev pub have_come_at : (Port → Bool) → Both → Bool
+have_come_at at both = (not (at A) || is_some both.a) && (not (at B) || is_some both.b)
 
 -- a copy that came stays
 pub record Keeps (both later : Both) : Type 0 where

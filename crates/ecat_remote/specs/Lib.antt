@@ -7,3 +7,4 @@ pub mod History
 pub mod Network
 pub mod Moving
 pub mod Tape
+pub mod Steady

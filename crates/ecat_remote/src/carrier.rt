@@ -7,7 +7,7 @@ ghost use Rattle.ecat_remote.specs.Taken.{Gives, Heard};
 ghost use Rattle.ecat_remote.specs.Trips.{Speaks};
 
 use crate::ready::Ready;
-use ec_ring::{Port, PortFault};
+use ec_ring::{Port, PortFault, PortHealth};
 use ec_wire::PACKET_ROOM;
 
 /// What carries packets between a master's two ports and the ends of a line. A packet may be lost, and what
@@ -60,6 +60,11 @@ pub trait Carrier {
     /// How many sends and receives have failed.
     fn failures(&self) -> u64
         ensures { result ≡ failed self.now };
+
+    /// How the sends and receives of a port go, as far as the carrier knows the system's errors.
+    fn health(&self, _at: Port) -> PortHealth {
+        PortHealth::sound()
+    }
 }
 
 /// Copies the bytes of a packet into the front of the room, as far as that goes, and says how many there are.

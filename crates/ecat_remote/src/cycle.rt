@@ -3,10 +3,10 @@
 ghost use Rattle.std.specs.Prelude.{◌≡◌, ◌+◌, ◌≤◌, ◌^◌, length, min, IfSome, None, Some};
 ghost use Rattle.ecat_remote.specs.Waiting.{again_of, until_of};
 
-/// What is known of the cycle whose next frame goes out.
+/// What is known of the cycle whose next frame goes out, or behind which others do.
 #[derive(Clone, Copy)]
 pub(crate) struct Cycle {
-    /// How many of a cycle's datagrams have gone out; `None` between cycles.
+    /// How many of its datagrams have gone out; `None` between cycles.
     pub(crate) gone: Option<usize>,
     /// The time up to which its trips wait at the latest, if there is one.
     pub(crate) deadline: Option<u64>,
@@ -43,14 +43,25 @@ impl Cycle {
         }
     }
 
-    /// Up to when a trip waits whose copies were sent at this time.
+    /// Over: what goes out now is none of its frames.
+    pub(crate) fn over(self) -> Cycle
+        ensures { result ≡ record self { gone = None } }
+    {
+        Cycle {
+            gone: None,
+            deadline: self.deadline,
+        }
+    }
+
+    /// Up to when a trip waits whose copies were sent at this time. One behind a cycle waits no longer than
+    /// the cycle could, as long as that lies ahead.
     pub(crate) fn until(self, limit: u64, sent_at: u64) -> u64
-        ensures { result ≡ until_of self.deadline limit sent_at }
+        ensures { result ≡ until_of self limit sent_at }
     {
         let until = sent_at.saturating_add(limit);
         match self.deadline {
-            Some(deadline) => until.min(deadline),
-            None => until,
+            Some(deadline) if self.gone.is_some() || sent_at < deadline => until.min(deadline),
+            _ => until,
         }
     }
 }

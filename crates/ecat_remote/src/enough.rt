@@ -4,7 +4,7 @@ ghost use Rattle.std.specs.Prelude.{◌≡◌, ◌↔◌, ◌&&◌, ◌+◌, ℕ
 ghost use Rattle.std.specs.Option.{is_some};
 ghost use Rattle.ec_wire.specs.Datagram.{DatagramRecord};
 ghost use Rattle.ec_number.specs.Number.{opened};
-ghost use Rattle.ecat_remote.specs.Enough.{IsEnough, have_come};
+ghost use Rattle.ecat_remote.specs.Enough.{IsEnough, have_come, have_come_at, awaits};
 
 use crate::copies::NumberedCopy;
 use ec_wire::FrameBuf;
@@ -23,6 +23,20 @@ pub(crate) fn have_come(both: &Both) -> bool
     ensures { result ≡ have_come both.now }
 {
     both.a.is_some() && both.b.is_some()
+}
+
+/// At which ports a copy is awaited.
+#[derive(Clone, Copy)]
+pub(crate) struct Awaited {
+    pub(crate) a: bool,
+    pub(crate) b: bool,
+}
+
+/// Whether each copy came that is awaited.
+pub(crate) fn have_come_at(both: &Both, awaited: Awaited) -> bool
+    ensures { result ≡ have_come_at (awaits awaited) both.now }
+{
+    (!awaited.a || both.a.is_some()) && (!awaited.b || both.b.is_some())
 }
 
 /// Whether one copy came alone, and each of its counters is the one that is expected. No counters are

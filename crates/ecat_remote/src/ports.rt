@@ -4,9 +4,11 @@ ghost use Rattle.std.specs.Prelude.{◌≡◌, ◌+◌, ◌%◌, ◌^◌, ◌≤
 ghost use Rattle.std.specs.Prelude.{◌⊎◌, None, true, false};
 ghost use Rattle.std.specs.Option.{is_some, option_map};
 ghost use Rattle.ec_wire.specs.Datagram.{DatagramRecord};
+ghost use Rattle.ec_ring.specs.declared.port.Port.{Port};
 ghost use Rattle.ec_ring.specs.declared.port.Port.TheVariants.{A, B};
 ghost use Rattle.ec_wire.specs.Spelling.{IsFrameValue};
-ghost use Rattle.ecat_remote.specs.Enough.{IsEnough, Keeps, have_come, next_counters};
+ghost use Rattle.ecat_remote.specs.Enough.{IsEnough, Keeps, have_come, have_come_at, next_counters};
+ghost use Rattle.ecat_remote.specs.Enough.{awaits};
 ghost use Rattle.ecat_remote.specs.Taken.{AreBoth, AreNumbered, AreSoFar, IsTaken, opened_came, opened_copy};
 ghost use Rattle.ecat_remote.specs.Taken.{sent_from};
 ghost use Rattle.ecat_remote.specs.Trips.{RemoteState, RemoteTrips, HeardTrips, arrivals_of};
@@ -14,14 +16,14 @@ ghost use Rattle.ecat_remote.specs.Trips.{RemoteState, RemoteTrips, HeardTrips, 
 use crate::carrier::Carrier;
 use crate::copies::{NumberedCopy, Outgoing, number_both, opened, told_by};
 use crate::cycle::{Cycle, again};
-use crate::enough::{Both, have_come, is_enough};
+use crate::enough::{Awaited, Both, have_come, have_come_at, is_enough};
 use crate::late::late_trip;
 use crate::ready::Ready;
 use crate::silence::Silence;
 use crate::timer::{Timer, pass_until};
 use ec_master::{PortFault, Ports};
 use ec_number::Trip;
-use ec_ring::{Arrival, Arrivals, Came, HeardPorts, LateCopies, Port};
+use ec_ring::{Arrival, Arrivals, Came, HeardPorts, LateCopies, Port, PortHealth};
 use ec_wire::{FrameBuf, PACKET_ROOM};
 use std::marker::Model;
 
@@ -29,14 +31,22 @@ use std::marker::Model;
 /// over: more than a socket keeps.
 const MOST_WAITING: u64 = 4096;
 
-/// How many turns more than there are microseconds the waiting of a trip takes at the most: a turn that looks
-/// at both ports takes hardly less than one.
+/// How many turns the waiting of a trip takes at the most for each of its microseconds, and how many more: a
+/// turn that looks at both ports takes hardly less than a quarter of one.
+const TURNS: u64 = 4;
+
 const MORE_TURNS: u64 = 4096;
 
 /// For how many microseconds at least the other copy is waited for behind one that came with each counter
 /// that is expected, unless nothing comes at its port any more: as long as a process on a busy machine may be
-/// kept from a processor between the two.
+/// kept from a processor between the two, but no longer than this part of the time that the trip has.
 const FLOOR: u64 = 5_000;
+
+const FLOOR_PART: u64 = 4;
+
+/// For how many microseconds every port may fail before a trip of a cycle does: until then its copies are
+/// missing.
+const PATIENCE: u64 = 1_000_000;
 
 /// So many microseconds apart the copies of a whole ring come: a look that soon finds the other one.
 const CLOSE: u64 = 20;
@@ -74,7 +84,7 @@ struct Waited {
 pub(crate) enum End {
     /// Each copy has come.
     All,
-    /// The only copy has come: one port alone speaks with an end of the line.
+    /// Each copy has come that is awaited, and not both are.
     Alone,
     /// One copy has come with each counter that is expected, and the other one has had its time.
     Enough,
@@ -92,10 +102,9 @@ struct Received {
 /// A master's two ports over what carries packets to a line and back. Contracts see what carries them, and
 /// the number of the next trip.
 ///
-/// A trip ends as soon as nothing is gained by waiting: when both copies have come; when one has come with
-/// each counter that is expected, and the other one has had as long again, and 5 milliseconds at least; or
-/// when its time is over. At a port at which nothing came for 100 cycles those 5 milliseconds are not waited
-/// for.
+/// A trip ends as soon as nothing is gained by waiting: when each copy has come that is awaited; when one has come with each counter that is expected, and the other one has had as long
+/// again, and at least 5 milliseconds or a quarter of the trip's time, whichever is less; or when its time is
+/// over. At a port at which nothing came for 100 cycles nothing is waited for at least.
 #[derive(Drop)]
 pub struct RemotePorts<C: Carrier, T: Timer> {
     carrier: C,
@@ -113,6 +122,10 @@ pub struct RemotePorts<C: Carrier, T: Timer> {
     silence: Silence,
     /// Whether a copy of the last trip has not come yet.
     misses: bool,
+    /// Whether it looks at its ports without sleeping.
+    busy: bool,
+    /// Since when each trip failed to send, if the last one did.
+    failing: Option<u64>,
 }
 
 impl<C: Carrier, T: Timer> Model for RemotePorts<C, T> {
@@ -139,7 +152,18 @@ impl<C: Carrier, T: Timer> RemotePorts<C, T> {
             cycle: Cycle::none(),
             silence: Silence::none(),
             misses: false,
+            busy: false,
+            failing: None,
         }
+    }
+
+    /// Ports that are looked at without sleeping between two looks: a processor does nothing else then.
+    pub fn busily(self) -> RemotePorts<C, T>
+        ensures { result ≡ self }
+    {
+        let mut ports = self;
+        ports.busy = true;
+        ports
     }
 
     /// With the counters that are expected of all datagrams of a cycle, in the order of its frames. In a
@@ -185,6 +209,34 @@ impl<C: Carrier, T: Timer> RemotePorts<C, T> {
     {
         self.carrier.send(Port::A, out.a.bytes())?;
         self.carrier.send(Port::B, out.b.bytes())
+    }
+
+    /// Sends both copies. In a cycle a trip goes on that failed to send, with its copies missing, unless all
+    /// did for a second.
+    fn send_or_miss(&mut self, out: &Outgoing, cycle: Cycle) -> Result<(), PortFault>
+        ensures counted { IsErr result → C.failed self.old.carrier < C.failed self.new.carrier }
+        ensures never_lower { C.failed self.old.carrier ≤ C.failed self.new.carrier }
+        ensures heard_on { C.heard self.old.carrier ≤ C.heard self.new.carrier }
+        ensures rest { self.new ≡ record self.old { carrier = self.new.carrier } }
+    {
+        let sent = self.send_copies(out);
+        if sent.is_err() && self.is_patient(cycle) {
+            return Ok(());
+        }
+        if sent.is_ok() {
+            self.failing = None;
+        }
+        sent
+    }
+
+    /// Is a trip to go on that failed to send?
+    fn is_patient(&mut self, cycle: Cycle) -> bool
+        ensures { self.new ≡ self.old }
+    {
+        let now = self.timer.now();
+        let since = self.failing.unwrap_or(now);
+        self.failing = Some(since);
+        cycle.gone.is_some() && now.saturating_sub(since) < PATIENCE
     }
 
     /// Passes over what waits at both ports where a copy of the last trip has not come yet: one that came
@@ -238,11 +290,26 @@ impl<C: Carrier, T: Timer> RemotePorts<C, T> {
         let until = cycle.until(self.limit, sent_at);
         let counters = self.expected.take();
         let expected = counters_in(&counters, cycle, count);
-        let received = self.receive_copies(out, expected, sent_at, until);
+        let awaited = self.awaited(cycle);
+        let received = self.receive_copies(out, expected, awaited, sent_at, until);
         self.expected = counters;
         let Received { both, end } = received?;
         self.misses = end == End::Enough || end == End::Time;
         Ok(both)
+    }
+
+    /// At which ports a copy is awaited: at those that speak with an end of the line, and of what is no frame
+    /// of a cycle not at one at which nothing comes any more while something comes at the other one.
+    fn awaited(&self, cycle: Cycle) -> Awaited
+        ensures in_cycle { is_some cycle.gone ≡ true
+            → (at : Port) → awaits result at ≡ C.speaks self.now.carrier at }
+    {
+        let (is_long_a, is_long_b) = (self.silence.is_long(Port::A), self.silence.is_long(Port::B));
+        let between = cycle.gone.is_none() && is_long_a != is_long_b;
+        Awaited {
+            a: self.carrier.speaks(Port::A) && !(between && is_long_a),
+            b: self.carrier.speaks(Port::B) && !(between && is_long_b),
+        }
     }
 
     /// Receives at both ports, each of another copy, until nothing is gained by waiting, and says how that
@@ -251,6 +318,7 @@ impl<C: Carrier, T: Timer> RemotePorts<C, T> {
         &mut self,
         out: &Outgoing,
         expected: &[u16],
+        awaited: Awaited,
         sent_at: u64,
         until: u64,
     ) -> Result<Received, PortFault>
@@ -259,7 +327,7 @@ impl<C: Carrier, T: Timer> RemotePorts<C, T> {
             → AreBoth C.gives C.heard (C.heard self.old.carrier) trip sent received.both self.new.carrier) }
         ensures all { IfOk result (λ received. received.end ≡ End.All → have_come received.both ≡ true) }
         ensures alone { IfOk result (λ received. received.end ≡ End.Alone
-            → (C.speaks self.old.carrier B ≡ false) × (is_some received.both.a ≡ true)) }
+            → have_come_at (awaits awaited) received.both ≡ true) }
         ensures enough { IfOk result (λ received. received.end ≡ End.Enough
             → IsEnough expected.now received.both) }
         ensures counted { IsErr result → C.failed self.old.carrier < C.failed self.new.carrier }
@@ -267,20 +335,19 @@ impl<C: Carrier, T: Timer> RemotePorts<C, T> {
         ensures heard_on { C.heard self.old.carrier ≤ C.heard self.new.carrier }
         ensures rest { self.new ≡ record self.old { carrier = self.new.carrier } }
     {
-        let alone = !self.carrier.speaks(Port::B);
-        let waited = self.wait_for_copies(out, expected, alone, sent_at, until)?;
+        let waited = self.wait_for_copies(out, expected, awaited, sent_at, until)?;
         let both = self.look_again(out, waited.both)?;
-        let end = end_of(&both, alone, waited.enough);
+        let end = end_of(&both, awaited, waited.enough);
         Ok(Received { both, end })
     }
 
-    /// Receives at both ports until each copy has come (that of port A, where it alone speaks), or one of
-    /// them alone with each counter that is expected and the other one has had its time, or the time is over.
+    /// Receives at both ports until each copy has come that is awaited, or one of both alone with each counter
+    /// that is expected and the other one has had its time, or the time is over.
     fn wait_for_copies(
         &mut self,
         out: &Outgoing,
         expected: &[u16],
-        alone: bool,
+        awaited: Awaited,
         sent_at: u64,
         until: u64,
     ) -> Result<Waited, PortFault>
@@ -300,15 +367,15 @@ impl<C: Carrier, T: Timer> RemotePorts<C, T> {
             until,
             enough: false,
         };
-        for _turn in 0..until.saturating_sub(sent_at).saturating_add(MORE_TURNS) {
-            if have_come(&both) || (alone && both.a.is_some()) {
+        for _turn in 0..most_turns(until.saturating_sub(sent_at)) {
+            if have_come_at(&both, awaited) {
                 break;
             }
             let left = span.until.saturating_sub(self.timer.now());
             if left == 0 {
                 break;
             }
-            let ready = self.carrier.wait(left);
+            let ready = self.wait(left);
             both = self.receive_ready(ready, out, both)?;
             span = self.shortened(span, &both, expected);
         }
@@ -316,6 +383,15 @@ impl<C: Carrier, T: Timer> RemotePorts<C, T> {
             both,
             enough: span.enough,
         })
+    }
+
+    /// Waits until a packet may be at a port, so many microseconds at the most.
+    fn wait(&self, left: u64) -> Ready {
+        if self.busy {
+            Ready::both()
+        } else {
+            self.carrier.wait(left)
+        }
     }
 
     /// The time for which it is waited on: less, where what came is enough.
@@ -329,7 +405,7 @@ impl<C: Carrier, T: Timer> RemotePorts<C, T> {
         }
         let missing = if both.a.is_none() { Port::A } else { Port::B };
         let now = self.timer.now();
-        let until = again(self.least(missing), span.sent_at, now).min(span.until);
+        let until = again(self.least(missing, span), span.sent_at, now).min(span.until);
         if !self.silence.is_long(missing) {
             pass_until(&mut self.timer, until.min(now.saturating_add(CLOSE)));
         }
@@ -340,12 +416,13 @@ impl<C: Carrier, T: Timer> RemotePorts<C, T> {
         }
     }
 
-    /// For how many microseconds at least the copy at a port is waited for behind the other one.
-    fn least(&self, missing: Port) -> u64 {
+    /// For how many microseconds at least the copy at a port is waited for behind the other one, in a trip
+    /// that waits for so long.
+    fn least(&self, missing: Port, span: Span) -> u64 {
         if self.silence.is_long(missing) {
             0
         } else {
-            FLOOR
+            FLOOR.min(span.until.saturating_sub(span.sent_at) / FLOOR_PART)
         }
     }
 
@@ -504,16 +581,21 @@ impl<C: Carrier, T: Timer> RemotePorts<C, T> {
     }
 }
 
+/// How many turns the waiting of a trip takes at the most that has so many microseconds.
+fn most_turns(micros: u64) -> u64 {
+    micros.saturating_mul(TURNS).saturating_add(MORE_TURNS)
+}
+
 /// How the waiting has ended, in which this came at last.
-fn end_of(both: &Both, alone: bool, enough: bool) -> End
+fn end_of(both: &Both, awaited: Awaited, enough: bool) -> End
     ensures all { result ≡ End.All → have_come both.now ≡ true }
-    ensures alone { result ≡ End.Alone → (alone ≡ true) × (is_some both.now.a ≡ true) }
+    ensures alone { result ≡ End.Alone → have_come_at (awaits awaited) both.now ≡ true }
     ensures enough { result ≡ End.Enough → (enough ≡ true) × (have_come both.now ≡ false) }
 {
     if have_come(both) {
         return End::All;
     }
-    if alone && both.a.is_some() {
+    if have_come_at(both, awaited) {
         return End::Alone;
     }
     if enough { End::Enough } else { End::Time }
@@ -586,7 +668,7 @@ impl<C: Carrier, T: Timer> Ports for RemotePorts<C, T> {
         self.made = self.made.saturating_add(1);
         self.misses = true;
         waiting?;
-        self.send_copies(&out)?;
+        self.send_or_miss(&out, cycle)?;
         let both = self.receive_expected(&out, cycle, count)?;
         Ok(opened_came(both))
     }
@@ -621,7 +703,7 @@ impl<C: Carrier, T: Timer> HeardPorts for RemotePorts<C, T> {
     }
 
     fn end_cycle(&mut self) {
-        self.cycle = Cycle::none();
+        self.cycle = self.cycle.over();
     }
 
     fn trips_made(&self) -> u64 {
@@ -632,6 +714,10 @@ impl<C: Carrier, T: Timer> HeardPorts for RemotePorts<C, T> {
         let late = self.late;
         self.late = LateCopies::none();
         late
+    }
+
+    fn health(&self, at: Port) -> PortHealth {
+        self.carrier.health(at)
     }
 }
 

@@ -8,9 +8,10 @@ ghost use Rattle.ecat_remote.specs.Trips.{speaks_at};
 
 use crate::address::RemoteEnds;
 use crate::carrier::Carrier;
+use crate::health::PortsHealth;
 use crate::ready::Ready;
 use crate::waiting::{receive_within, wait_at};
-use ec_ring::{Port, PortFault, count_failure};
+use ec_ring::{Port, PortFault, PortHealth, count_failure};
 use ec_wire::PACKET_ROOM;
 use std::io::{self, ErrorKind};
 use std::net::{Ipv4Addr, Ipv6Addr, Net, UdpSocket};
@@ -34,6 +35,7 @@ pub struct UdpCarrier {
     a: UdpSocket,
     b: Option<UdpSocket>,
     failures: u64,
+    health: PortsHealth,
 }
 
 impl UdpCarrier {
@@ -46,7 +48,12 @@ impl UdpCarrier {
             Some(end) => Some(socket_at(net, Port::B, end)?),
             None => None,
         };
-        Ok(UdpCarrier { a, b, failures: 0 })
+        Ok(UdpCarrier {
+            a,
+            b,
+            failures: 0,
+            health: PortsHealth::sound(),
+        })
     }
 
     /// The socket of a port, if it has one.
@@ -91,9 +98,14 @@ impl Carrier for UdpCarrier {
             return Ok(());
         };
         match socket.send(bytes) {
-            Ok(_) => Ok(()),
-            Err(fault) if is_silence(&fault) => Ok(()),
-            Err(_) => count_failure(&mut self.failures),
+            Err(fault) if !is_silence(&fault) => {
+                self.health.fails(from, &fault);
+                count_failure(&mut self.failures)
+            }
+            _ => {
+                self.health.works(from);
+                Ok(())
+            }
         }
     }
 
@@ -110,7 +122,8 @@ impl Carrier for UdpCarrier {
         match self.receive_at(at, into, within) {
             Ok(count) => Ok(Some(count)),
             Err(fault) if is_silence(&fault) => Ok(None),
-            Err(_) => {
+            Err(fault) => {
+                self.health.fails(at, &fault);
                 count_failure(&mut self.failures)?;
                 Ok(None)
             }
@@ -119,6 +132,10 @@ impl Carrier for UdpCarrier {
 
     fn failures(&self) -> u64 {
         self.failures
+    }
+
+    fn health(&self, at: Port) -> PortHealth {
+        self.health.at(at)
     }
 }
 

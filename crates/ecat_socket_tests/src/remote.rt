@@ -6,6 +6,7 @@ mod ending;
 mod passing;
 mod script;
 mod sockets;
+mod steady;
 mod tape;
 
 use crate::asserts::assert_same;
