@@ -48,7 +48,7 @@ asks_of f S T are before later sent answer asks = record {
   brings = asks.brings;
 }
 
-asked_of : {P Q A : Type 0} (f : P → Q) (S : Trips P) (T : Trips Q) → AreTripsOf f S T → (before later : P)
+pub asked_of : {P Q A : Type 0} (f : P → Q) (S : Trips P) (T : Trips Q) → AreTripsOf f S T → (before later : P)
     (q : Question A) (decided : Result (Option A) MasterFault) → IsAsked S before q decided later
     → IsAsked T (f before) q decided (f later)
 asked_of f S T are before later q decided asked = record {

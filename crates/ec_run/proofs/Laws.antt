@@ -7,7 +7,8 @@ use Rattle.ec_run.specs.Cycles.{AddUp, End, counted, IsCycle, Run, OneMore, IsRu
 use Rattle.ec_run.specs.declared.counts.Counts.{Counts}
 use Rattle.ec_run.specs.declared.cycles.Cycles.{Cycles}
 use Rattle.ec_run.specs.declared.outputs.Outputs.{Outputs}
-pub use Rattle.ec_run.proofs.TravelsLemmas.{are_done_within, brings_within, done_within, looked_up_within}
+pub use Rattle.ec_run.proofs.TravelsLemmas.{along_within, are_done_within, brings_within, done_within}
+pub use Rattle.ec_run.proofs.TravelsLemmas.{looked_at_within, looked_up_within, turn_within}
 pub use Rattle.ec_run.proofs.TravelsLemmas.{recovered_within, tried_within, within_less, within_none}
 pub use Rattle.ec_run.proofs.TravelsLemmas.{within_one, within_then}
 pub use Rattle.ec_run.proofs.AlikeLemmas.{are_done_of, asks_of, brings_of, counted_of, done_of, leaves_of}

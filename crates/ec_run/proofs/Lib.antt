@@ -1,4 +1,5 @@
 mod AskLemmas
+mod AlongLemmas
 mod StepLemmas
 mod RecoveryLemmas
 mod StatesLemmas
@@ -9,5 +10,6 @@ mod EndLemmas
 mod CycleTripsLemmas
 mod TallyLemmas
 mod AlikeLemmas
+mod AlikeTurnLemmas
 mod AlikeCycleLemmas
 pub mod Laws

@@ -11,20 +11,25 @@ use Rattle.ec_wire.specs.Datagram.{DatagramRecord}
 use Rattle.ec_ring.specs.declared.port.PortFault.{PortFault}
 use Rattle.ec_ring.specs.declared.weather.Came.{Came}
 use Rattle.ec_master.specs.Ports.{Trips}
-use Rattle.ec_services.specs.Ask.{Asks, Question, Talks, write}
+use Rattle.ec_services.specs.Ask.{Asks, IsAsked, Question, Talks, write}
 use Rattle.ec_services.specs.Course.{Course, Runs}
 use Rattle.ec_services.specs.States.{IsRequested, control_write, status_question}
 use Rattle.ec_services.specs.declared.fault.MasterFault.{MasterFault}
 use Rattle.ec_services.specs.declared.fault.MasterFault.TheVariants.{NoAnswer}
 use Rattle.ec_services.specs.declared.mailbox.Peer.{Peer}
 use Rattle.ec_run.specs.Phase.{AreDone, Brings, steps_from}
+use Rattle.ec_run.specs.Recovering.{RecoveryState}
 use Rattle.ec_run.specs.Recovery.{IsDealtWith, IsLookedAt, IsLookedFor, IsLookedUp, IsRecovered, IsSeenTo}
 use Rattle.ec_run.specs.Recovery.{is_nobody}
 use Rattle.ec_run.specs.Recovery.{remedy_of, steps_for}
 use Rattle.ec_run.specs.StartupObjects.{WritesObject, WritesStartup, startup_peer}
 use Rattle.ec_run.specs.Step.{IsDone, IsTried, SetsFmmu, SetsManager, fmmu_number, is_answered}
 use Rattle.ec_run.specs.Step.{manager_number, startup_number}
+use Rattle.ec_run.specs.Along.{IsAlong}
 use Rattle.ec_run.specs.Travels.{IsWithin, Travels, look_trips, recovery_trips, trips_of, trips_of_all}
+use Rattle.ec_run.specs.Travels.{turn_trips}
+use Rattle.ec_run.specs.Turns.{IsDoneAtOnce, IsTaken, IsTurn, IsTurnWith, Told, due}
+use Rattle.ec_run.specs.declared.along.Along.{Along}
 use Rattle.ec_run.specs.declared.phase.Phase.{Phase}
 use Rattle.ec_run.specs.declared.phase.Phase.TheVariants as phase
 use Rattle.ec_run.specs.declared.phase.StepFault.{StepFault}
@@ -38,6 +43,7 @@ use Rattle.ec_run.specs.declared.step.Step.{Step}
 use Rattle.ec_run.specs.declared.step.Step.TheVariants.{Station, StationBehind, StationBefore}
 use Rattle.ec_run.specs.declared.step.Step.TheVariants.{SyncManager, Fmmu as FmmuRecord, Startup, State}
 use Rattle.ec_run.specs.declared.step.TheConstants.{MORE_TRIES, MOST_READS}
+use Rattle.ec_run.specs.declared.turns.Turn.{Turn}
 use Rattle.ec_run.specs.declared.wanted.StartupObject.{StartupObject}
 use Rattle.ec_run.specs.declared.wanted.Wanted.{Wanted}
 
@@ -296,7 +302,7 @@ brings_within trips before later place (wanted ∷ rest) steps result (Ok done, 
 
 -- ---- a recovery
 
-looked_at_within : {P : Type 0} (trips : Trips P) (before later : P) (station : ℕ)
+pub looked_at_within : {P : Type 0} (trips : Trips P) (before later : P) (station : ℕ)
     (seen : Result Seen MasterFault)
     → IsLookedAt trips before station seen later → IsWithin trips 1 before later
 looked_at_within trips before later station seen looked =
@@ -378,3 +384,59 @@ recovered_within trips before later place wanted tells outcome recovered =
     (looked_for_within trips MORE_LOOKS before recovered.between wanted.station recovered.seen
     recovered.looked)
     (dealt_within trips recovered.between later place wanted tells recovered.seen outcome recovered.dealt)
+
+-- ---- a turn of one, and a look along a line
+
+done_at_once_within : {P : Type 0} (trips : Trips P) (before later : P) (place : ℕ) (wanted : Wanted)
+    (step : Step) (told : Told) → trips_of step ≤ turn_trips
+    → IsDoneAtOnce trips before place wanted step told later → IsWithin trips turn_trips before later
+done_at_once_within trips before later place wanted step told less (did, done, is) =
+    within_less trips (trips_of step) turn_trips before later less
+    (done_within trips before later place wanted step did done)
+
+asked_within : {P A : Type 0} (trips : Trips P) (before later : P) (q : Question A)
+    (decided : Result (Option A) MasterFault) → IsAsked trips before q decided later
+    → IsWithin trips turn_trips before later
+asked_within trips before later q decided asked =
+    let less : 1 ≤ turn_trips = omega arith in
+    within_less trips 1 turn_trips before later less
+    (asks_within trips before later q.sent asked.answer asked.asks)
+
+taken_within : {P : Type 0} (trips : Trips P) (before later : P) (place : ℕ) (wanted : Wanted) (step : Step)
+    (asked : ℕ) (told : Told) → IsTaken trips before place wanted step asked told later
+    → IsWithin trips turn_trips before later
+taken_within trips before later place wanted Station asked told taken =
+    done_at_once_within trips before later place wanted Station told (omega arith) taken
+taken_within trips before later place wanted (StationBehind first) asked told taken =
+    done_at_once_within trips before later place wanted (StationBehind first) told (omega arith) taken
+taken_within trips before later place wanted StationBefore asked told taken =
+    done_at_once_within trips before later place wanted StationBefore told (omega arith) taken
+taken_within trips before later place wanted (SyncManager n) asked told taken =
+    done_at_once_within trips before later place wanted (SyncManager n) told (omega arith) taken
+taken_within trips before later place wanted (FmmuRecord n) asked told taken =
+    done_at_once_within trips before later place wanted (FmmuRecord n) told (omega arith) taken
+taken_within trips before later place wanted (Startup n) asked told taken =
+    done_at_once_within trips before later place wanted (Startup n) told (omega arith) taken
+taken_within trips before later place wanted (State state) zero told taken =
+    asked_within trips before later (write (control_write wanted.station state)) told taken
+taken_within trips before later place wanted (State state) (suc asked) told taken =
+    asked_within trips before later (status_question wanted.station state) told taken
+
+turn_with_within : {P : Type 0} (trips : Trips P) (before later : P) (wanted : Wanted) (r : RecoveryState)
+    (steps : List Step) (turn : Turn) → IsTurnWith trips before wanted r steps turn later
+    → IsWithin trips turn_trips before later
+turn_with_within trips before later wanted r [] turn (is, same) =
+    within_none trips turn_trips before later same
+turn_with_within trips before later wanted r (step ∷ rest) turn (told, taken, is) =
+    taken_within trips before later r.place wanted step r.asked told taken
+
+pub turn_within : {P : Type 0} (trips : Trips P) (before later : P) (wanted : Wanted) (r : RecoveryState)
+    (turn : Turn) → IsTurn trips before wanted r turn later → IsWithin trips turn_trips before later
+turn_within trips before later wanted r turn taken =
+    turn_with_within trips before later wanted r (due wanted r.steps) turn taken
+
+pub along_within : {P : Type 0} (trips : Trips P) (before later : P) (line : List Wanted) (first : ℕ)
+    (result : Result Along MasterFault) → IsAlong trips before line first result later
+    → IsWithin trips 1 before later
+along_within trips before later line first result along =
+    within_one trips before later along.sent along.is_sent.came along.is_sent.made

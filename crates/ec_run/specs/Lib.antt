@@ -9,6 +9,9 @@ pub mod Step
 pub mod Phase
 pub mod Recovery
 pub mod Travels
+pub mod Recovering
+pub mod Turns
+pub mod Along
 pub mod Outputs
 pub mod Images
 pub mod Cycles

@@ -157,7 +157,7 @@ pub fn tells_places(cable: Located, slaves: usize) -> bool
 }
 
 /// The steps of a remedy; none where nothing is done.
-fn steps_for(remedy: Remedy, tells_places: bool) -> &'static [Step]
+pub(crate) fn steps_for(remedy: Remedy, tells_places: bool) -> &'static [Step]
     ensures { result.now ≡ steps_for tells_places remedy }
 {
     match remedy {

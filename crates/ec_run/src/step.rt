@@ -32,7 +32,7 @@ const MOST_BYTES: usize = 16;
 pub(crate) const MOST_READS: u32 = 1000;
 
 /// How often a step is tried again that no slave answered: a frame may have been lost.
-const MORE_TRIES: u32 = 19;
+pub(crate) const MORE_TRIES: u32 = 19;
 
 /// A step by which a slave is brought up. Numbers of sync managers and FMMUs are those of a slave, and begin
 /// anew at `SYNC_MANAGER_COUNT` and `FMMU_COUNT`.
@@ -191,7 +191,12 @@ fn give_station_behind<P: Ports>(
 }
 
 /// Does a step with the slave at a place, once.
-fn take<P: Ports>(ports: &mut P, place: u16, wanted: &Wanted, step: Step) -> Result<(), MasterFault>
+pub(crate) fn take<P: Ports>(
+    ports: &mut P,
+    place: u16,
+    wanted: &Wanted,
+    step: Step,
+) -> Result<(), MasterFault>
     ensures done { IsDone P.trips ports.old place wanted.now step result ports.new }
     ensures counted { result ≡ Err Port → P.failed ports.old < P.failed ports.new }
     ensures never_lower { P.failed ports.old ≤ P.failed ports.new }

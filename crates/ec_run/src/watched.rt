@@ -8,7 +8,7 @@ ghost use Rattle.ec_run.specs.Watched.{WatchedTrips, untold};
 use crate::tally::{Signs, Tally};
 use ec_diag::{Located, locate};
 use ec_master::{PortFault, Ports};
-use ec_ring::{Came, HeardPorts, LateCopies, Port};
+use ec_ring::{Came, HeardPorts, LateCopies, Port, PortHealth};
 use ec_wire::FrameBuf;
 use std::marker::Model;
 
@@ -78,6 +78,11 @@ impl<P: HeardPorts> Watched<P> {
         ensures { self.new ≡ self.old }
     {
         self.ports.take_late()
+    }
+
+    /// How the sends and receives of a port go, as [`HeardPorts::health`] says it.
+    pub fn health(&self, at: Port) -> PortHealth {
+        self.ports.health(at)
     }
 
     /// Did any copy come?

@@ -56,7 +56,7 @@ pub use ec_diag::{CutOff, Located, locate};
 pub use fault::MasterFault;
 pub use mailbox::{Area, Peer};
 pub use settling::settle;
-pub use states::request_state;
+pub use states::{read_status, request_state, write_control};
 pub use stations::assign_stations;
 pub use surely::{download_surely, upload_surely};
 pub use transfer::{sdo_download, sdo_upload};

@@ -20,8 +20,12 @@ pub(crate) const STATUS_BYTES: usize = 6;
 /// Where the AL status code stands in them.
 const CODE_AT: usize = 4;
 
-/// Writes the state and the acknowledgement into AL control.
-pub(crate) fn write_control<P: Ports>(
+/// Asks a slave for a state of its application layer, and acknowledges an error that stands: writes both into
+/// AL control (IEC 61158-6-12, AL management). Whether the slave comes to it says [`read_status`].
+///
+/// A trip that fails is `Port`, and a copy of another frame `Stranger`. `NoSlave`: the write came back with
+/// the working counter 0; `BadAnswer`: with more than 1.
+pub fn write_control<P: Ports>(
     ports: &mut P,
     station: u16,
     state: AlState,
@@ -58,8 +62,11 @@ fn status_decides(back: &Back, state: AlState) -> Result<Option<()>, MasterFault
     }
 }
 
-/// Reads the AL status of a slave that was asked for a state.
-fn read_status<P: Ports>(
+/// Reads the AL status of a slave that was asked for a state, once: `None` where it is in another one yet.
+///
+/// A trip that fails is `Port`, and a copy of another frame `Stranger`. `NoSlave`: the read came back with the
+/// working counter 0; `BadAnswer`: with more than 1; `Refused`: the slave's error bit is set.
+pub fn read_status<P: Ports>(
     ports: &mut P,
     station: u16,
     state: AlState,

@@ -1,4 +1,5 @@
 use Rattle.ec_run.proofs.AlikeLemmas as like
+use Rattle.ec_run.proofs.AlikeTurnLemmas as like_turns
 use Rattle.ec_run.proofs.AlikeCycleLemmas as like_cycles
 use Rattle.ec_run.proofs.alike.over_like_ports.Goals as goal
 
@@ -17,6 +18,14 @@ returns-clause-looked_up g c f are before later station seen looked =
 pub returns-clause-recovered : goal.returns-clause-recovered
 returns-clause-recovered g c f are before later place wanted tells outcome recovered =
     like.recovered_of f g.P.Ports.trips g.Q.Ports.trips are before later place wanted tells outcome recovered
+
+pub returns-clause-looked_along : goal.returns-clause-looked_along
+returns-clause-looked_along g c f are before later line first result along =
+    like_turns.along_of_like f g.P.Ports.trips g.Q.Ports.trips are before later line first result along
+
+pub returns-clause-turned : goal.returns-clause-turned
+returns-clause-turned g c f are before later wanted r turn taken =
+    like_turns.turn_of_like f g.P.Ports.trips g.Q.Ports.trips are before later wanted r turn taken
 
 pub returns-clause-cycle : goal.returns-clause-cycle
 returns-clause-cycle g c f are before later outputs expected s after end cycle =

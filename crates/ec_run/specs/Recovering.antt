@@ -1,0 +1,13 @@
+-- How far a slave is that is being brought to Op again (IEC 61158-6-12, AL management).
+use Rattle.std.specs.Prelude.{ℕ, List}
+use Rattle.ec_run.specs.declared.recovery.Seen.{Seen}
+use Rattle.ec_run.specs.declared.step.Step.{Step}
+
+-- a slave at a place, of which this was seen first; the steps that are left; how often it was asked in the
+-- first of them for what it has not come to yet, and how often no slave answered
+pub record RecoveryState : Type 0 where
+  pub place : ℕ
+  pub seen : Seen
+  pub steps : List Step
+  pub asked : ℕ
+  pub unanswered : ℕ

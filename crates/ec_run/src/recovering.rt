@@ -1,0 +1,46 @@
+//! A slave that is being brought to Op again.
+
+ghost use Rattle.std.specs.Prelude.{◌≡◌};
+
+use crate::recovery::Seen;
+use crate::step::Step;
+use std::marker::Model;
+
+/// A slave that is being brought to Op again, turn by turn. In a turn one step is done; a state is asked for
+/// in one turn, and in each one behind it AL status is read once, until the slave is there.
+#[derive(Drop)]
+pub struct Recovery {
+    /// Its place on the line, the first one's being 0.
+    pub(crate) place: u16,
+    /// What was seen of it before.
+    pub(crate) seen: Seen,
+    /// The steps that are left.
+    pub(crate) steps: &'static [Step],
+    /// How often the slave was asked in the first of them for what it has not come to yet.
+    pub(crate) asked: u32,
+    /// How often no slave answered in that one.
+    pub(crate) unanswered: u32,
+}
+
+impl Model for Recovery {
+    ghost use Rattle.ec_run.specs.Recovering.{RecoveryState};
+
+    ghost Value = { RecoveryState };
+
+    ghost view = { λ r. record {
+      place = r.place;
+      seen = r.seen;
+      steps = r.steps.now;
+      asked = r.asked;
+      unanswered = r.unanswered;
+    } };
+}
+
+impl Recovery {
+    /// The place of the slave.
+    pub fn place(&self) -> u16
+        ensures { result ≡ self.now.place }
+    {
+        self.place
+    }
+}
