@@ -6,15 +6,16 @@ use Rattle.ec_diag.specs.declared.located.Located.{Located}
 use Rattle.ec_master.specs.declared.verdict.Verdict.TheVariants.{Good, Short, Over}
 use Rattle.ec_run.specs.Cycles.{End, counted}
 use Rattle.ec_run.specs.declared.counts.Counts.{Counts}
-use Rattle.ec_run.specs.Travels.{IsWithin, Travels, look_trips, recovery_trips}
+use Rattle.ec_run.specs.Travels.{IsWithin, Travels, turn_trips}
 use Rattle.ec_run.specs.Watched.{PortsTrip, WatchedState, WatchedTrips, came_of, untold}
 use Rattle.ec_run.specs.declared.cycles.Cycles.{Cycles}
 use Rattle.ec_run.specs.declared.outputs.Outputs.{Outputs}
 use Rattle.ec_run.specs.declared.wanted.Wanted.{Wanted}
-use Rattle.ec_run.proofs.Laws.{cycle_within, looked_up_within, recovered_within, within_less, within_none}
-use Rattle.ec_run.proofs.Laws.{within_one, within_then}
+use Rattle.ec_run.proofs.Laws.{along_within, cycle_within, looked_at_within, turn_within, within_less}
+use Rattle.ec_run.proofs.Laws.{within_none, within_one, within_then}
 use Rattle.ecat_master.specs.Course.{AreLooks, HeardTrips, IsCourse, IsFollowed, IsLook, IsRound}
-use Rattle.ecat_master.specs.Course.{IsSeenTo, MayBeLookedOver, Rounds, is_last_look, round_trips}
+use Rattle.ecat_master.specs.Course.{IsSeenTo, MayBeLookedAt, MayBeLookedOver, Rounds, is_last_look}
+use Rattle.ecat_master.specs.Course.{round_trips}
 use Rattle.ecat_master.specs.declared.startup.TheConstants.{MORE_CABLE_LOOKS}
 
 -- ---- looks at the cable
@@ -85,12 +86,12 @@ looks_end heard start now later slaves all left found so_far is look =
 pub not_followed : {P : Type 0} (heard : HeardTrips P) (line : List Wanted) (before : WatchedState P)
     → IsFollowed heard line before before
 not_followed heard line before =
-    record { between = before; looks = inl refl; seen_to = IsSeenTo.nobody refl }
+    record { between = before; looks = inl refl; seen_to = IsSeenTo.looked_at (MayBeLookedAt.none refl) }
 
 pub only_looks : {P : Type 0} (heard : HeardTrips P) (line : List Wanted) (before later : WatchedState P)
     → MayBeLookedOver heard before (length line) later → IsFollowed heard line before later
 only_looks heard line before later looks =
-    record { between = later; looks = looks; seen_to = IsSeenTo.nobody refl }
+    record { between = later; looks = looks; seen_to = IsSeenTo.looked_at (MayBeLookedAt.none refl) }
 
 -- ---- rounds
 
@@ -188,16 +189,27 @@ looked_over_within heard slaves before later (inl same) =
 looked_over_within heard slaves before later (inr (found, over)) =
     looks_within heard MORE_CABLE_LOOKS slaves before.ports later.ports found over.looks
 
+looked_at_once : {P : Type 0} (heard : HeardTrips P) (line : List Wanted) (before later : WatchedState P)
+    → MayBeLookedAt heard line before later → IsWithin (WatchedTrips heard) 1 before later
+looked_at_once heard line before later (MayBeLookedAt.none same) =
+    within_none (WatchedTrips heard) 1 before later same
+looked_at_once heard line before later (MayBeLookedAt.looked_at place wanted seen there looked) =
+    looked_at_within (WatchedTrips heard) before later wanted.station seen looked
+
 seen_to_within : {P : Type 0} (heard : HeardTrips P) (line : List Wanted) (before later : WatchedState P)
-    → IsSeenTo heard line before later → IsWithin (WatchedTrips heard) recovery_trips before later
-seen_to_within heard line before later (IsSeenTo.nobody same) =
-    within_none (WatchedTrips heard) recovery_trips before later same
-seen_to_within heard line before later (IsSeenTo.looked_at place wanted seen there looked) =
-    let less : look_trips ≤ recovery_trips = omega arith in
-    within_less (WatchedTrips heard) look_trips recovery_trips before later less
-    (looked_up_within (WatchedTrips heard) before later wanted.station seen looked)
-seen_to_within heard line before later (IsSeenTo.recovered place wanted tells outcome there recovers) =
-    recovered_within (WatchedTrips heard) before later place wanted tells outcome recovers
+    → IsSeenTo heard line before later → IsWithin (WatchedTrips heard) turn_trips before later
+seen_to_within heard line before later (IsSeenTo.looked_at looked) =
+    let less : 1 ≤ turn_trips = omega arith in
+    within_less (WatchedTrips heard) 1 turn_trips before later less
+    (looked_at_once heard line before later looked)
+seen_to_within heard line before later (IsSeenTo.looked_along first result between along looked) =
+    let less : 1 + 1 ≤ turn_trips = omega arith in
+    within_less (WatchedTrips heard) (1 + 1) turn_trips before later less
+    (within_then (WatchedTrips heard) 1 1 before between later
+    (along_within (WatchedTrips heard) before between line first result along)
+    (looked_at_once heard line between later looked))
+seen_to_within heard line before later (IsSeenTo.turned wanted recovery turn there taken) =
+    turn_within (WatchedTrips heard) before later wanted recovery turn taken
 
 round_within : {P : Type 0} (heard : HeardTrips P) (outputs : Outputs) (expected : List ℕ)
     (line : List Wanted) (s after : Cycles) (before later : WatchedState P)
@@ -206,14 +218,14 @@ round_within : {P : Type 0} (heard : HeardTrips P) (outputs : Outputs) (expected
 round_within heard outputs expected line s after before later round =
     let trips = PortsTrip heard in
     let looked = round.followed.between in
-    within_then trips (length s.asked + (MORE_CABLE_LOOKS + 1)) recovery_trips before.ports looked.ports
+    within_then trips (length s.asked + (MORE_CABLE_LOOKS + 1)) turn_trips before.ports looked.ports
     later.ports
     (within_then trips (length s.asked) (MORE_CABLE_LOOKS + 1) before.ports round.between.ports looked.ports
     (within_aside heard (length s.asked) (untold before.ports) round.between
     (cycle_within (WatchedTrips heard) (untold before.ports) round.between outputs expected s after round.end
     round.cycle))
     (looked_over_within heard (length line) round.between looked round.followed.looks))
-    (within_aside heard recovery_trips looked later
+    (within_aside heard turn_trips looked later
     (seen_to_within heard line looked later round.followed.seen_to))
 
 -- each asks what the first one asked

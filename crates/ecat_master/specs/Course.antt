@@ -1,5 +1,5 @@
 -- The course of a running master over its ports, end to end: cycle after cycle, and behind each one the looks
--- at the cable and at a slave that it makes before the next one begins.
+-- at the cable, and what is done with a slave before the next one begins.
 use Rattle.std.specs.Prelude.{◌≡◌, ◌⊎◌, ℕ, zero, suc, ◌+◌, Bool, true, false, List, length, Option, None}
 use Rattle.std.specs.Prelude.{Some, Result, slice_get}
 use Rattle.std.specs.Result.{result_ok}
@@ -11,13 +11,17 @@ use Rattle.ec_ring.specs.declared.arrivals.Arrivals.{Arrivals}
 use Rattle.ec_ring.specs.declared.port.PortFault.{PortFault}
 use Rattle.ec_services.specs.declared.fault.MasterFault.{MasterFault}
 use Rattle.ec_run.specs.Cycles.{End, IsCycle}
-use Rattle.ec_run.specs.Recovery.{IsLookedUp, IsRecovered}
-use Rattle.ec_run.specs.Travels.{recovery_trips}
+use Rattle.ec_run.specs.Along.{IsAlong}
+use Rattle.ec_run.specs.Recovering.{RecoveryState}
+use Rattle.ec_run.specs.Recovery.{IsLookedAt}
+use Rattle.ec_run.specs.Travels.{turn_trips}
+use Rattle.ec_run.specs.Turns.{IsTurn}
 use Rattle.ec_run.specs.Watched.{WatchedState, WatchedTrips, untold}
 use Rattle.ec_run.specs.declared.cycles.Cycles.{Cycles}
 use Rattle.ec_run.specs.declared.outputs.Outputs.{Outputs}
-use Rattle.ec_run.specs.declared.recovery.Outcome.{Outcome}
+use Rattle.ec_run.specs.declared.along.Along.{Along}
 use Rattle.ec_run.specs.declared.recovery.Seen.{Seen}
+use Rattle.ec_run.specs.declared.turns.Turn.{Turn}
 use Rattle.ec_run.specs.declared.wanted.Wanted.{Wanted}
 use Rattle.ecat_master.specs.declared.startup.TheConstants.{MORE_CABLE_LOOKS}
 
@@ -70,20 +74,29 @@ MayBeLookedOver heard before slaves later =
 
 -- ---- between two cycles
 
--- no slave is looked at; or one of the line is, by its station address; or it is, and brought up again
-pub data IsSeenTo {P : Type 0} (heard : HeardTrips P) (line : List Wanted) (before later : WatchedState P)
-    : Type 0 where
-  nobody : later ≡ before → IsSeenTo heard line before later
+-- a slave of the line is looked at, by its station address, or none is
+pub data MayBeLookedAt {P : Type 0} (heard : HeardTrips P) (line : List Wanted)
+    (before later : WatchedState P) : Type 0 where
+  none : later ≡ before → MayBeLookedAt heard line before later
   looked_at : (place : ℕ) (wanted : Wanted) (seen : Result Seen MasterFault)
       → slice_get line place ≡ Some wanted
-      → IsLookedUp (WatchedTrips heard) before wanted.station seen later
-      → IsSeenTo heard line before later
-  recovered : (place : ℕ) (wanted : Wanted) (tells_places : Bool) (outcome : Outcome)
-      → slice_get line place ≡ Some wanted
-      → IsRecovered (WatchedTrips heard) before place wanted tells_places outcome later
+      → IsLookedAt (WatchedTrips heard) before wanted.station seen later
+      → MayBeLookedAt heard line before later
+
+-- a slave is looked at, or none is; or slaves of the line are asked by one frame, and then one may be looked
+-- at; or a turn is taken with one that is being brought to Op again
+pub data IsSeenTo {P : Type 0} (heard : HeardTrips P) (line : List Wanted) (before later : WatchedState P)
+    : Type 0 where
+  looked_at : MayBeLookedAt heard line before later → IsSeenTo heard line before later
+  looked_along : (first : ℕ) (result : Result Along MasterFault) (between : WatchedState P)
+      → IsAlong (WatchedTrips heard) before line first result between
+      → MayBeLookedAt heard line between later → IsSeenTo heard line before later
+  turned : (wanted : Wanted) (recovery : RecoveryState) (turn : Turn)
+      → slice_get line recovery.place ≡ Some wanted
+      → IsTurn (WatchedTrips heard) before wanted recovery turn later
       → IsSeenTo heard line before later
 
--- behind a cycle: looks at the cable, and then at a slave
+-- behind a cycle: looks at the cable, and then a slave is seen to
 pub record IsFollowed {P : Type 0} (heard : HeardTrips P) (line : List Wanted) (before later : WatchedState P)
     : Type 0 where
   pub between : WatchedState P
@@ -117,6 +130,6 @@ pub record IsCourse {P : Type 0} (heard : HeardTrips P) (outputs : Outputs) (exp
   pub rounds : Rounds heard outputs expected line number s before after later
   pub counts : after.counts.cycles ≡ s.counts.cycles + number
 
--- the most trips of a round: a frame for each item, the looks at the cable, and a recovery
+-- the most trips of a round: a frame for each item, the looks at the cable, and a turn with a slave
 abbrev pub round_trips : ℕ → ℕ
-round_trips items = items + (MORE_CABLE_LOOKS + 1) + recovery_trips
+round_trips items = items + (MORE_CABLE_LOOKS + 1) + turn_trips

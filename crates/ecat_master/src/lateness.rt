@@ -9,17 +9,68 @@ use std::io::{self, Write};
 /// How many microseconds lie at least between two lines on cycles that were left out.
 const SECOND: u64 = 1_000_000;
 
+/// The cycles that were left out and are not told yet.
+#[derive(Clone, Copy)]
+struct Untold {
+    /// How many there are.
+    missed: u64,
+    /// Before how many of the cycles that were made.
+    times: u64,
+    /// The first of these.
+    first: u64,
+    /// By how many microseconds one of these began late at the most.
+    greatest: u64,
+}
+
+impl Untold {
+    /// None.
+    fn none() -> Untold {
+        Untold {
+            missed: 0,
+            times: 0,
+            first: 0,
+            greatest: 0,
+        }
+    }
+
+    /// With so many left out before a cycle that began so late.
+    fn with(self, cycle: u64, late: u64, missed: u64) -> Untold {
+        if missed == 0 {
+            return self;
+        }
+        Untold {
+            missed: self.missed.saturating_add(missed),
+            times: self.times.saturating_add(1),
+            first: if self.times == 0 { cycle } else { self.first },
+            greatest: self.greatest.max(late),
+        }
+    }
+
+    /// Puts how many there are, behind the number of the cycle before which the last ones were left out or
+    /// that is told of them later.
+    fn put<W: Write>(self, cycle: u64, lines: &mut Lines<'_, W>) -> io::Result<()> {
+        let missed = self.missed;
+        let is_one = self.times == 1 && self.first == cycle;
+        lines.text(if is_one { "began " } else { "began up to " })?;
+        put_seconds(self.greatest, lines)?;
+        lines.text(" late")?;
+        if !is_one {
+            let first = self.first;
+            lines.text(format_args!(" since cycle {first}"))?;
+        }
+        let cycles = if missed == 1 { "cycle" } else { "cycles" };
+        lines.text(format_args!(", {missed} {cycles} left out"))
+    }
+}
+
 /// By how much cycles began late that are to begin at a time, and how many were left out since their time had
 /// passed.
 #[derive(Drop)]
 pub(crate) struct Lateness {
     spread: Spread,
-    /// By how much the last one began late.
-    last: u64,
     /// How many were left out.
     missed: u64,
-    /// How many of these are not told yet.
-    untold: u64,
+    untold: Untold,
     /// When that was last told, if it was.
     told: Option<u64>,
 }
@@ -29,21 +80,28 @@ impl Lateness {
     pub(crate) fn none() -> Lateness {
         Lateness {
             spread: Spread::none(),
-            last: 0,
             missed: 0,
-            untold: 0,
+            untold: Untold::none(),
             told: None,
         }
     }
 
     /// Takes by how many microseconds a cycle began late, where it was to begin at a time, and how many were
     /// left out before it.
-    pub(crate) fn take(&mut self, late: Option<u64>, missed: u64) {
+    pub(crate) fn take(&mut self, cycle: u64, late: Option<u64>, missed: u64) {
         if let Some(late) = late {
             self.spread.take(late);
-            self.last = late;
             self.missed = self.missed.saturating_add(missed);
-            self.untold = self.untold.saturating_add(missed);
+            self.untold = self.untold.with(cycle, late, missed);
+        }
+    }
+
+    /// How many were left out, where cycles are to begin at a time.
+    pub(crate) fn missed(&self) -> Option<u64> {
+        if self.spread.is_empty() {
+            None
+        } else {
+            Some(self.missed)
         }
     }
 
@@ -58,17 +116,14 @@ impl Lateness {
             Some(told) => now.saturating_sub(told) >= SECOND,
             None => true,
         };
-        if self.untold == 0 || !is_due {
+        if self.untold.times == 0 || !is_due {
             return Ok(());
         }
-        let missed = self.untold;
-        self.untold = 0;
+        let untold = self.untold;
+        self.untold = Untold::none();
         self.told = Some(now);
         put_cycle(cycle, lines)?;
-        lines.text("began ")?;
-        put_seconds(self.last, lines)?;
-        let cycles = if missed == 1 { "cycle" } else { "cycles" };
-        lines.text(format_args!(" late, {missed} {cycles} left out"))?;
+        untold.put(cycle, lines)?;
         lines.end()
     }
 

@@ -21,6 +21,7 @@
 //!     progress: false,
 //!     log: false,
 //!     log_images: false,
+//!     log_or_stop: false,
 //!     states: true,
 //!     identities: &[],
 //!     leave: Some(AlState::Init),
@@ -44,7 +45,7 @@
 //! cycle 3: redundancy lost: link 2 down: between slave 1 (0x1002) and slave 2 (0x1003)
 //! left in Init
 //! cycles 5 good 5 short 0 over 0 fault 0 not-in-op 0
-//! cycle time least 0 mean 0 greatest 0 microseconds, 99 of 100 within 0
+//! cycle time least 0 mean 0 greatest 0 microseconds, 50% within 0, 90% 0, 99% 0, 99.9% 0
 //! item 0 LRW data a0a1a2 wkc 9 of 9
 //! ```
 //!
@@ -66,7 +67,7 @@
 //!   told. (`trips`): so many trips are the most of a start that answers Ok, whatever a clock says.
 //! - [`run_cycles`] (`cycles`): the cycles of a run are `Cycles::cycle`, one after the other, and their ends
 //!   add up; (`last`): it answers how the last one ended. (`course`): cycles, looks at the cable, looks at
-//!   slaves and recoveries follow each other end to end, from the ports before to the ports behind; what
+//!   slaves and turns of recoveries follow each other end to end, from the ports before to those behind; what
 //!   copies told is forgotten before each cycle, kept of its trips, and left as it is by looks at the cable.
 //!   (`trips`): so many trips are the most for each cycle, whatever a clock says.
 //! - [`master`] (`good`): an exit status of 0 says that the line was started so, and that the last cycle on
@@ -81,6 +82,7 @@
 //!
 //! What is printed and when is tried by tests.
 
+mod care;
 mod identity;
 mod late;
 mod lateness;

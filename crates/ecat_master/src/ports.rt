@@ -1,9 +1,9 @@
-//! Ports at which nothing comes any more.
+//! Ports that fail, and ports at which nothing comes any more.
 
 use crate::telling::put_cycle;
-use ec_ring::{HeardPorts, Port};
+use ec_ring::{HeardPorts, Port, PortHealth};
 use ec_run::Watched;
-use ecat_text::Lines;
+use ecat_text::{Lines, PortText, SystemError};
 use std::io::{self, Write};
 
 /// After how many cycles a port is told at which nothing comes.
@@ -50,59 +50,166 @@ impl Silence {
     }
 }
 
-/// What came at both ports, cycle after cycle.
+/// What is told of one port.
 #[derive(Clone, Copy)]
-pub(crate) struct SilentPorts {
-    a: Silence,
-    b: Silence,
+struct PortNews {
+    silence: Silence,
+    /// Whether it is told that it fails.
+    fails: bool,
 }
 
-impl SilentPorts {
-    /// Of no cycle.
-    pub(crate) fn new() -> SilentPorts {
-        let unheard = Silence {
-            was_heard: false,
-            cycles: 0,
-        };
-        SilentPorts {
-            a: unheard,
-            b: unheard,
+impl PortNews {
+    /// Of a port of which nothing is told.
+    fn none() -> PortNews {
+        PortNews {
+            silence: Silence {
+                was_heard: false,
+                cycles: 0,
+            },
+            fails: false,
         }
     }
 
-    /// Takes at which ports copies of a cycle came, and tells of a port at which none come any more or again.
+    /// Tells that its sends and receives fail, by the system's words, or that they work again.
+    fn tell_health<W: Write>(
+        &mut self,
+        cycle: u64,
+        port: Port,
+        health: PortHealth,
+        is_good: bool,
+        lines: &mut Lines<'_, W>,
+    ) -> io::Result<()> {
+        if health.error.is_some() == self.fails {
+            return Ok(());
+        }
+        self.fails = health.error.is_some();
+        put_cycle(cycle, lines)?;
+        match health.error {
+            Some(error) => {
+                if is_good {
+                    lines.text("redundancy lost: ")?;
+                }
+                put_failing(port, error, lines)?;
+            }
+            None => lines.text(format_args!("port {} works again", PortText(port)))?,
+        }
+        lines.end()
+    }
+
+    /// Tells that nothing comes there any more while copies come at the other one, or that they come again.
+    /// Of one that fails nothing is told.
+    fn tell_silence<W: Write>(
+        &mut self,
+        cycle: u64,
+        port: Port,
+        came: bool,
+        came_there: bool,
+        lines: &mut Lines<'_, W>,
+    ) -> io::Result<()> {
+        match self.silence.take(came, came_there) {
+            News::None => Ok(()),
+            News::Silent if self.fails => Ok(()),
+            News::Silent => put_news(cycle, "nothing came at", port, " for 100 cycles", lines),
+            News::Heard => put_news(cycle, "copies come at", port, " again", lines),
+        }
+    }
+}
+
+/// What is told of both ports, cycle after cycle.
+#[derive(Clone, Copy)]
+pub(crate) struct PortsNews {
+    a: PortNews,
+    b: PortNews,
+}
+
+impl PortsNews {
+    /// Of no cycle.
+    pub(crate) fn new() -> PortsNews {
+        PortsNews {
+            a: PortNews::none(),
+            b: PortNews::none(),
+        }
+    }
+
+    /// Takes what a cycle that was good or not showed of both ports, and tells of one that fails, at which
+    /// nothing comes any more, or that is as it was before.
     pub(crate) fn tell<P: HeardPorts, W: Write>(
         &mut self,
         cycle: u64,
+        is_good: bool,
         ports: &Watched<P>,
         lines: &mut Lines<'_, W>,
     ) -> io::Result<()> {
         let at_a = ports.has_heard_at(Port::A);
         let at_b = ports.has_heard_at(Port::B);
-        put_news(cycle, "A", self.a.take(at_a, at_b), lines)?;
-        put_news(cycle, "B", self.b.take(at_b, at_a), lines)
+        self.a
+            .tell_health(cycle, Port::A, ports.health(Port::A), is_good, lines)?;
+        self.b
+            .tell_health(cycle, Port::B, ports.health(Port::B), is_good, lines)?;
+        self.a.tell_silence(cycle, Port::A, at_a, at_b, lines)?;
+        self.b.tell_silence(cycle, Port::B, at_b, at_a, lines)
+    }
+
+    /// Is it told of a port that it fails?
+    pub(crate) fn some_fails(&self) -> bool {
+        self.a.fails || self.b.fails
+    }
+
+    /// Puts which ports are dead, if one is, behind a line of progress.
+    pub(crate) fn put_dead<W: Write>(&self, lines: &mut Lines<'_, W>) -> io::Result<()> {
+        if self.a.is_dead() {
+            lines.text(", port A dead")?;
+        }
+        if self.b.is_dead() {
+            lines.text(", port B dead")?;
+        }
+        Ok(())
     }
 }
 
-/// Writes what is to be told of a port.
-fn put_news<W: Write>(
-    cycle: u64,
-    port: &str,
-    news: News,
+impl PortNews {
+    /// Does the port fail, or does nothing come there any more?
+    fn is_dead(self) -> bool {
+        self.fails || self.silence.cycles >= PATIENCE
+    }
+}
+
+/// Puts that a port fails, and with which error.
+pub(crate) fn put_failing<W: Write>(
+    port: Port,
+    error: i32,
     lines: &mut Lines<'_, W>,
 ) -> io::Result<()> {
-    let text = match news {
-        News::None => return Ok(()),
-        News::Silent => " for 100 cycles",
-        News::Heard => " again",
-    };
+    let port = PortText(port);
+    let error = SystemError(error);
+    lines.text(format_args!("port {port} failed ({error})"))
+}
+
+/// Writes how many sends and receives failed at each port, where one did.
+pub(crate) fn put_failures<P: HeardPorts, W: Write>(
+    ports: &Watched<P>,
+    lines: &mut Lines<'_, W>,
+) -> io::Result<()> {
+    let a = ports.health(Port::A).failures;
+    let b = ports.health(Port::B).failures;
+    if a == 0 && b == 0 {
+        return Ok(());
+    }
+    lines.text(format_args!("port A failed {a} times, port B {b}"))?;
+    lines.end()
+}
+
+/// Writes what is new of what comes at a port.
+fn put_news<W: Write>(
+    cycle: u64,
+    what: &str,
+    port: Port,
+    since: &str,
+    lines: &mut Lines<'_, W>,
+) -> io::Result<()> {
     put_cycle(cycle, lines)?;
-    lines.text(if news == News::Silent {
-        "nothing came at port "
-    } else {
-        "copies come at port "
-    })?;
-    lines.text(port)?;
-    lines.text(text)?;
+    lines.text(what)?;
+    lines.text(format_args!(" port {}", PortText(port)))?;
+    lines.text(since)?;
     lines.end()
 }

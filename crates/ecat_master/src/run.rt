@@ -18,13 +18,14 @@ use crate::identity::Identity;
 use crate::late::CycleTrips;
 use crate::leaving::{Left, leave_line, put_left};
 use crate::pace::Pace;
+use crate::ports::{put_failing, put_failures};
 use crate::startup::{StartEnd, StartFault, put_start_fault, start};
 use crate::teller::{Teller, Unwritten};
 use crate::telling::{CycleEnd, Images, put_counts, tell_image};
 use ec_diag::Located;
 use ec_master::{CycleFault, Verdict, Work};
 use ec_regs::AlState;
-use ec_ring::{HeardPorts, LateCopies, MAX_SLAVES};
+use ec_ring::{HeardPorts, LateCopies, MAX_SLAVES, Port};
 use ec_run::{Cycles, MOST_CYCLES, Outputs, Rooms, Wanted, Watched, tells_all_in_op};
 use ec_services::MasterFault;
 use ecat_text::Lines;
@@ -54,6 +55,9 @@ pub struct Plan<'a> {
     pub log: bool,
     /// Whether that line has what the items sent, and what they hold behind the cycle.
     pub log_images: bool,
+    /// Whether the first line of the log that cannot be written ends the run; else that is told, once, and
+    /// the cycles go on without a log.
+    pub log_or_stop: bool,
     /// Whether the last item of the work reads the states of all slaves (`ec_run::states_item`).
     pub states: bool,
     /// Who the slaves are to be, by their places; nobody in particular where it is shorter than the line.
@@ -108,7 +112,9 @@ where
     let mut rooms = Rooms::new();
     while cycles.counts.cycles < MOST_CYCLES && pace.next() {
         let began = pace.now();
-        teller.lateness.take(pace.late(), pace.missed());
+        teller
+            .lateness
+            .take(cycles.counts.cycles, pace.late(), pace.missed());
         let first = ports.trips_made();
         ports.begin_cycle(teller.time_left(pace.left()));
         let ended = cycles.cycle_in(ports, plan.outputs, expected, &mut rooms);
@@ -247,7 +253,7 @@ where
         &mut teller,
     );
     let left = leave_line(&mut ports, plan.leave, line.len());
-    conclude(ran, left, &cycles, expected, plan, &mut teller)
+    conclude(ran, left, &cycles, expected, plan, &ports, &mut teller)
 }
 
 /// Why a master ends before its first cycle.
@@ -275,11 +281,27 @@ fn begin<P: HeardPorts, W: Write>(
     match start(ports, line, identities, lines) {
         Ok(cable) => Ok(cable),
         Err(StartEnd::Output) => Err(StartFailure::Output),
-        Err(StartEnd::Fault(fault)) => match put_start_fault(&fault, line, lines) {
+        Err(StartEnd::Fault(fault)) => match put_failed_start(ports, &fault, line, lines) {
             Ok(()) => Err(StartFailure::Told(status_of_start(&fault))),
             Err(_) => Err(StartFailure::Output),
         },
     }
+}
+
+/// Tells of each port that fails, and then the fault of a start.
+fn put_failed_start<P: HeardPorts, W: Write>(
+    ports: &Watched<P>,
+    fault: &StartFault,
+    line: &[Wanted],
+    lines: &mut Lines<'_, W>,
+) -> io::Result<()> {
+    for port in [Port::A, Port::B] {
+        if let Some(error) = ports.health(port).error {
+            put_failing(port, error, lines)?;
+            lines.end()?;
+        }
+    }
+    put_start_fault(fault, line, lines)
 }
 
 /// Tells that the output cannot be written, and answers the exit status.
@@ -292,20 +314,24 @@ fn output_failed<V: Write>(err: &mut V) -> u8
 
 /// Tells how a run ended: whether the slaves were left as they were to be, how many cycles there were and how
 /// long they took, and the last image. What could not be written is named on what is left, with the sums.
-fn conclude<W: Write, V: Write, L: Write>(
+fn conclude<P: HeardPorts, W: Write, V: Write, L: Write>(
     ran: Result<Option<Result<Verdict, CycleFault>>, Unwritten>,
     left: Left,
     cycles: &Cycles,
     expected: &[u16],
     plan: &Plan<'_>,
+    ports: &Watched<P>,
     teller: &mut Teller<'_, W, V, L>,
 ) -> u8
     ensures good { result ≡ GOOD → IfOk ran (λ last. EndsGood last plan.now cycles.now) }
     ensures ran { result ≡ GOOD → IsOk ran }
     ensures told { IsTold ran (is_well left && in_op plan.now.states cycles.now.image) result }
 {
-    if ran != Err(Unwritten::Output) && put_end(left, cycles, expected, plan, teller).is_ok() {
+    if ran != Err(Unwritten::Output)
+        && put_end(left, cycles, expected, plan, ports, teller).is_ok()
+    {
         return match ran {
+            Ok(_) if !teller.is_logged() => FAILED,
             Ok(last) => status_where(last, left, in_op(plan.states, &cycles.image)),
             Err(_) => {
                 let _ = put_unwritten("log: Write", &mut teller.err);
@@ -327,11 +353,12 @@ fn put_unwritten<W: Write>(what: &str, lines: &mut Lines<'_, W>) -> io::Result<(
 
 /// Writes in which state the slaves were left, how many cycles there were, how long they took, and the last
 /// image.
-fn put_end<W: Write, V: Write, L: Write>(
+fn put_end<P: HeardPorts, W: Write, V: Write, L: Write>(
     left: Left,
     cycles: &Cycles,
     expected: &[u16],
     plan: &Plan<'_>,
+    ports: &Watched<P>,
     teller: &mut Teller<'_, W, V, L>,
 ) -> io::Result<()> {
     let not_in_op = teller.states.cycles_if(plan.states);
@@ -343,6 +370,7 @@ fn put_end<W: Write, V: Write, L: Write>(
     }
     teller.lateness.put(lines)?;
     teller.late_copies.put(lines)?;
+    put_failures(ports, lines)?;
     match &cycles.image {
         Some(image) => tell_image(image, expected, plan.states, lines),
         None => Ok(()),

@@ -14,10 +14,8 @@ const EXACT: u64 = 16;
 /// How many places a doubling has.
 const EACH: usize = 8;
 
-/// Of so many hundredths of all times the greatest is told.
-const HUNDREDTHS: u64 = 99;
-
-/// Times in microseconds: the least, the mean and the greatest, and within which 99 of 100 lie, to an eighth.
+/// Times in microseconds: the least, the mean and the greatest, and within which 50, 90, 99 and 99.9 of
+/// 100 lie, to an eighth.
 #[derive(Drop)]
 pub(crate) struct Spread {
     least: u64,
@@ -39,6 +37,11 @@ impl Spread {
         }
     }
 
+    /// Is it of no time?
+    pub(crate) fn is_empty(&self) -> bool {
+        self.count == 0
+    }
+
     /// Takes one time more.
     pub(crate) fn take(&mut self, took: u64) {
         self.least = self.least.min(took);
@@ -49,11 +52,11 @@ impl Spread {
         self.places[place] = self.places[place].saturating_add(1);
     }
 
-    /// Within what 99 of 100 times lie.
-    fn within(&self) -> u64 {
-        let wanted = self
-            .count
-            .saturating_sub(self.count / 100 * (100 - HUNDREDTHS));
+    /// Within what so many of a thousand times lie.
+    fn within(&self, thousandths: u64) -> u64 {
+        let whole = (self.count / 1000).saturating_mul(thousandths);
+        let rest = (self.count % 1000).saturating_mul(thousandths);
+        let wanted = whole.saturating_add(rest.div_ceil(1000));
         let mut seen = 0u64;
         for (place, count) in self.places.iter().enumerate() {
             seen = seen.saturating_add(*count);
@@ -70,13 +73,14 @@ impl Spread {
             return Ok(false);
         }
         let mean = self.sum / self.count;
-        let within = self.within();
         let least = self.least;
         let greatest = self.greatest;
         lines.text(name)?;
-        lines.text(format_args!(
-            " least {least} mean {mean} greatest {greatest} microseconds, 99 of 100 within {within}"
-        ))?;
+        lines.text(format_args!(" least {least} mean {mean} greatest {greatest} microseconds"))?;
+        lines.text(format_args!(", 50% within {}", self.within(500)))?;
+        lines.text(format_args!(", 90% {}", self.within(900)))?;
+        lines.text(format_args!(", 99% {}", self.within(990)))?;
+        lines.text(format_args!(", 99.9% {}", self.within(999)))?;
         Ok(true)
     }
 }

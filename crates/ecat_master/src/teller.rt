@@ -1,11 +1,12 @@
 //! Who is told of the cycles of a master while they run, and when slaves are looked at.
 
-ghost use Rattle.std.specs.Prelude.{◌≡◌, IfSome, Some, length, slice_get};
-ghost use Rattle.ecat_master.specs.Course.{IsFollowed, IsSeenTo};
+ghost use Rattle.std.specs.Prelude.{◌≡◌};
+ghost use Rattle.ecat_master.specs.Course.{IsFollowed, IsSeenTo, MayBeLookedAt};
 
+use crate::care::{Care, Next, most_asked, wanted_at};
 use crate::late::{CycleTrips, LateCycles, Unsure};
 use crate::lateness::Lateness;
-use crate::ports::SilentPorts;
+use crate::ports::PortsNews;
 use crate::run::Plan;
 use crate::slaves::SlaveStates;
 use crate::spread::Spread;
@@ -14,12 +15,20 @@ use crate::words::{put_code, put_step_fault, state_name};
 use ec_diag::Located;
 use ec_master::{CycleFault, Verdict};
 use ec_ring::{HeardPorts, LateCopies};
-use ec_run::{Counts, Outcome, Seen, StepFault, Wanted, Watched, look_for, recover, tells_places};
-use ecat_text::{End, Lines};
+use ec_run::{
+    Counts, Outcome, Recovery, Seen, StepFault, Turn, Wanted, Watched, look_along, look_at,
+    tells_places,
+};
+use ec_services::MasterFault;
+use ecat_text::{End, Lines, SystemError};
 use std::io::{self, Write};
+use std::mem;
 
 /// Every so many cycles a slave is looked at though all is well.
 const LOOK_EVERY: u64 = 16;
+
+/// How often a slave is looked at again that did not answer: a copy may have been lost that passed it.
+const MORE_LOOKS: u32 = 9;
 
 /// How many microseconds lie between two lines of progress.
 const SECOND: u64 = 1_000_000;
@@ -62,6 +71,17 @@ impl Times {
             self.sum / self.count
         }
     }
+
+    /// Puts how long these cycles took, and how many of them there were a second in so many microseconds.
+    fn put<W: Write>(self, passed: u64, lines: &mut Lines<'_, W>) -> io::Result<()> {
+        let least = self.least.min(self.greatest);
+        let mean = self.mean();
+        let greatest = self.greatest;
+        let rate = self.count.saturating_mul(SECOND) / passed.max(1);
+        lines.text(format_args!(
+            ", cycle time least {least} mean {mean} greatest {greatest} microseconds, {rate} a second"
+        ))
+    }
 }
 
 /// Where a line could not be written.
@@ -89,10 +109,15 @@ pub struct Teller<'a, W, V, L> {
     pub(crate) lateness: Lateness,
     /// Which copies of earlier cycles came late.
     pub(crate) late_copies: LateCycles,
-    silent: SilentPorts,
+    /// What is told of the ports.
+    ports: PortsNews,
+    /// Whether the log could not be written: nothing more goes there then.
+    log_has_failed: bool,
     times: Times,
     due: u64,
-    next: u16,
+    /// Who is seen to behind the next cycle.
+    care: Care,
+    next: Next,
 }
 
 impl<'a, W: Write, V: Write, L: Write> Teller<'a, W, V, L> {
@@ -114,10 +139,12 @@ impl<'a, W: Write, V: Write, L: Write> Teller<'a, W, V, L> {
             least_good: None,
             lateness: Lateness::none(),
             late_copies: LateCycles::none(),
-            silent: SilentPorts::new(),
+            ports: PortsNews::new(),
+            log_has_failed: false,
             times: Times::none(),
             due: SECOND,
-            next: 0,
+            care: Care::Nobody,
+            next: Next::first(),
         }
     }
 
@@ -156,14 +183,26 @@ impl<'a, W: Write, V: Write, L: Write> Teller<'a, W, V, L> {
         self.times = self.times.with(took);
         if plan.progress && now >= self.due {
             let not_in_op = self.states.cycles_if(plan.states);
-            let _ = put_progress(counts, not_in_op, self.times, &mut self.err);
+            let _ = self.put_progress(counts, now, not_in_op);
             self.times = Times::none();
             self.due = now.saturating_add(SECOND);
         }
     }
 
-    /// Tells of a cycle that was made, looks at a slave where one is out of Op, and answers whether it is to
-    /// be the last cycle.
+    /// Writes a line of progress.
+    fn put_progress(&mut self, counts: Counts, now: u64, not_in_op: Option<u64>) -> io::Result<()> {
+        let lines = &mut self.err;
+        put_counts(counts, not_in_op, lines)?;
+        self.times
+            .put(now.saturating_sub(self.due.saturating_sub(SECOND)), lines)?;
+        if let Some(missed) = self.lateness.missed() {
+            lines.text(format_args!(", missed {missed}"))?;
+        }
+        self.ports.put_dead(lines)?;
+        lines.end()
+    }
+
+    /// Tells of a cycle that was made, sees to a slave, and answers whether it is to be the last cycle.
     pub(crate) fn follow<P: HeardPorts>(
         &mut self,
         counts: Counts,
@@ -179,8 +218,10 @@ impl<'a, W: Write, V: Write, L: Write> Teller<'a, W, V, L> {
         let cycle = counts.cycles.saturating_sub(1);
         let items = expected.len().saturating_sub(usize::from(plan.states));
         let images = if plan.log_images { Some(images) } else { None };
-        let log = &mut self.log;
-        if plan.log && log_cycle(cycle, end, ports.counts(), items, images, log).is_err() {
+        if self
+            .log_one(cycle, end, ports.counts(), items, images, plan)
+            .is_err()
+        {
             return Err(Unwritten::Log);
         }
         match self.tell(cycle, end, ports, expected, line, plan) {
@@ -189,7 +230,41 @@ impl<'a, W: Write, V: Write, L: Write> Teller<'a, W, V, L> {
         }
     }
 
-    /// Tells the output of a cycle that was made, and looks at a slave where one is out of Op.
+    /// Writes the line of a cycle into the log, where there is one. An error is one that ends the run.
+    fn log_one(
+        &mut self,
+        cycle: u64,
+        end: CycleEnd,
+        counts: &[u16],
+        items: usize,
+        images: Option<Images<'_>>,
+        plan: &Plan<'_>,
+    ) -> io::Result<()> {
+        if !plan.log || self.log_has_failed {
+            return Ok(());
+        }
+        match log_cycle(cycle, end, counts, items, images, &mut self.log) {
+            Err(error) if !plan.log_or_stop => {
+                self.log_fails(cycle, &error);
+                Ok(())
+            }
+            logged => logged,
+        }
+    }
+
+    /// Tells, once, that the log cannot be written, and writes nothing more there. A fault of that line is
+    /// passed over.
+    fn log_fails(&mut self, cycle: u64, error: &io::Error) {
+        self.log_has_failed = true;
+        let _ = put_log_fault(cycle, error, &mut self.err);
+    }
+
+    /// Could the log be written as far as it was to be?
+    pub(crate) fn is_logged(&self) -> bool {
+        !self.log_has_failed
+    }
+
+    /// Tells the output of a cycle that was made, and sees to a slave.
     fn tell<P: HeardPorts>(
         &mut self,
         cycle: u64,
@@ -209,18 +284,13 @@ impl<'a, W: Write, V: Write, L: Write> Teller<'a, W, V, L> {
             expected,
             line,
             plan.states,
+            self.ports.some_fails(),
             &mut self.out,
         )?;
         if end.ended == Ok(Verdict::Good) {
             self.states.take(cycle, end.in_op, &mut self.out)?;
         }
-        if plan.recover && is_look_due(cycle, end) {
-            return self.recover_next(cycle, ports, line);
-        }
-        if !plan.recover && !self.states.are_in_op() {
-            return self.look_at_next(cycle, ports, line);
-        }
-        Ok(())
+        self.see_to(cycle, end, ports, line, plan)
     }
 
     /// Tells which cycles were left out, which copies came late, and at which port none come.
@@ -232,56 +302,152 @@ impl<'a, W: Write, V: Write, L: Write> Teller<'a, W, V, L> {
     ) -> io::Result<()> {
         self.lateness.tell(cycle, end.at, &mut self.out)?;
         self.late_copies.tell(cycle, end.unsure, &mut self.out)?;
-        self.silent.tell(cycle, ports, &mut self.out)
+        let is_good = end.ended == Ok(Verdict::Good);
+        self.ports.tell(cycle, is_good, ports, &mut self.out)
     }
 
-    /// The place of the next slave in turn, if the line has any.
-    fn next_place(&mut self, slaves: usize) -> u16 {
-        if usize::from(self.next) >= slaves {
-            self.next = 0;
-        }
-        let place = self.next;
-        self.next = place.wrapping_add(1);
-        place
-    }
-
-    /// Looks at the next slave in turn, and tells what is seen of it that was not told before.
-    fn look_at_next<P: HeardPorts>(
+    /// Sees to a slave behind a cycle, by a frame or two, or one step: one that is being brought to Op goes on, one
+    /// that may have left it is looked at, and else, where that is due, the line is looked along.
+    fn see_to<P: HeardPorts>(
         &mut self,
         cycle: u64,
+        end: CycleEnd,
+        ports: &mut Watched<P>,
+        line: &[Wanted],
+        plan: &Plan<'_>,
+    ) -> io::Result<()>
+        ensures seen_to { IsSeenTo P.trips line.now ports.old ports.new }
+    {
+        match mem::replace(&mut self.care, Care::Nobody) {
+            Care::Brings(recovery) => self.go_on(cycle, recovery, ports, line),
+            Care::LooksAt(place, nobody) => {
+                self.look_at_one(cycle, place, nobody, ports, line, plan)
+            }
+            Care::Nobody if self.is_look_due(cycle, end, plan) => {
+                self.look_along(cycle, end, ports, line, plan)
+            }
+            Care::Nobody => Ok(()),
+        }
+    }
+
+    /// Is the line to be looked along behind a cycle that ended so? Where slaves are brought up again also
+    /// behind some of those with which all is well: a slave that has lost its station may still say that it
+    /// is in Op.
+    fn is_look_due(&self, cycle: u64, end: CycleEnd, plan: &Plan<'_>) -> bool {
+        if plan.recover {
+            !end.is_well() || cycle % LOOK_EVERY == LOOK_EVERY - 1
+        } else {
+            !self.states.are_in_op()
+        }
+    }
+
+    /// Looks along the line for a slave that may have left Op, and at that one.
+    fn look_along<P: HeardPorts>(
+        &mut self,
+        cycle: u64,
+        end: CycleEnd,
+        ports: &mut Watched<P>,
+        line: &[Wanted],
+        plan: &Plan<'_>,
+    ) -> io::Result<()>
+        ensures seen_to { IsSeenTo P.trips line.now ports.old ports.new }
+    {
+        let Some(first) = self.next.on(line.len()) else {
+            return Ok(());
+        };
+        let Ok(along) = look_along(ports, line, first, most_asked(end.is_well())) else {
+            return Ok(());
+        };
+        let Some(out) = along.out else {
+            self.next = Next::behind(first, along.asked);
+            return Ok(());
+        };
+        let place = first.saturating_add(out);
+        self.next = Next::behind(place, 1);
+        let place = u16::try_from(place).unwrap_or(u16::MAX);
+        self.look_at_one(cycle, place, 0, ports, line, plan)
+    }
+
+    /// Looks at a slave that may have left Op, once; what is done with it begins behind the next cycle.
+    fn look_at_one<P: HeardPorts>(
+        &mut self,
+        cycle: u64,
+        place: u16,
+        nobody: u32,
+        ports: &mut Watched<P>,
+        line: &[Wanted],
+        plan: &Plan<'_>,
+    ) -> io::Result<()>
+        ensures looked_at { MayBeLookedAt P.trips line.now ports.old ports.new }
+    {
+        let Some(wanted) = wanted_at(line, place) else {
+            return Ok(());
+        };
+        let seen = look_at(ports, wanted.station);
+        match seen {
+            Ok(Seen::Nobody) if nobody < MORE_LOOKS => {
+                self.care = Care::LooksAt(place, nobody + 1);
+            }
+            Ok(seen) if plan.recover => self.care_for(place, seen, line.len()),
+            _ => {}
+        }
+        self.tell_seen(cycle, place, wanted.station, seen, plan)
+    }
+
+    /// Tells what was seen of a slave, where nobody is brought up again.
+    fn tell_seen(
+        &mut self,
+        cycle: u64,
+        place: u16,
+        station: u16,
+        seen: Result<Seen, MasterFault>,
+        plan: &Plan<'_>,
+    ) -> io::Result<()> {
+        let is_asked_again = matches!(self.care, Care::LooksAt(_, _));
+        match seen {
+            Ok(seen) if !plan.recover && !is_asked_again => {
+                self.states.tell(cycle, place, station, seen, &mut self.out)
+            }
+            _ => Ok(()),
+        }
+    }
+
+    /// Begins to bring a slave to Op again of which this was seen, where something is to be done.
+    fn care_for(&mut self, place: u16, seen: Seen, slaves: usize) {
+        let tells_places = tells_places(self.told.cable(), slaves);
+        match Recovery::of(place, seen, tells_places) {
+            Some(recovery) => self.care = Care::Brings(recovery),
+            None => self.states.is_well(place),
+        }
+    }
+
+    /// Takes the next turn with a slave that is being brought to Op, and tells it where it was the last one.
+    fn go_on<P: HeardPorts>(
+        &mut self,
+        cycle: u64,
+        recovery: Recovery,
         ports: &mut Watched<P>,
         line: &[Wanted],
     ) -> io::Result<()>
         ensures seen_to { IsSeenTo P.trips line.now ports.old ports.new }
     {
-        let place = self.next_place(line.len());
+        let place = recovery.place();
         let Some(wanted) = wanted_at(line, place) else {
             return Ok(());
         };
-        match look_for(ports, wanted.station) {
-            Ok(seen) => self
-                .states
-                .tell(cycle, place, wanted.station, seen, &mut self.out),
-            Err(_) => Ok(()),
-        }
+        let turn = recovery.turn(ports, wanted);
+        self.take_turn(cycle, place, wanted, turn)
     }
 
-    /// Looks at the next slave in turn, brings it up again where it has left Op, and tells it.
-    fn recover_next<P: HeardPorts>(
-        &mut self,
-        cycle: u64,
-        ports: &mut Watched<P>,
-        line: &[Wanted],
-    ) -> io::Result<()>
-        ensures seen_to { IsSeenTo P.trips line.now ports.old ports.new }
-    {
-        let place = self.next_place(line.len());
-        let Some(wanted) = wanted_at(line, place) else {
-            return Ok(());
-        };
-        let tells_places = tells_places(self.told.cable(), line.len());
-        let outcome = recover(ports, place, wanted, tells_places);
-        self.tell_recovery(cycle, place, wanted, outcome)
+    /// Takes how far a turn has come with the slave at a place, and tells it where it was the last one.
+    fn take_turn(&mut self, cycle: u64, place: u16, wanted: &Wanted, turn: Turn) -> io::Result<()> {
+        match turn {
+            Turn::Goes(recovery) => {
+                self.care = Care::Brings(recovery);
+                Ok(())
+            }
+            Turn::Ended(outcome) => self.tell_recovery(cycle, place, wanted, outcome),
+        }
     }
 
     /// Tells what became of a slave that was looked at; of each slave a failure is told once.
@@ -312,38 +478,19 @@ impl<'a, W: Write, V: Write, L: Write> Teller<'a, W, V, L> {
     }
 }
 
-/// What the slave of a line at a place is to be told, if it has one there.
-fn wanted_at(line: &[Wanted], place: u16) -> Option<&Wanted>
-    ensures { IfSome result (λ wanted. slice_get line.now place ≡ Some wanted.now) }
-{
-    let at = usize::from(place);
-    if at < line.len() {
-        Some(&line[at])
-    } else {
-        None
-    }
-}
-
-/// Is a slave to be looked at behind a cycle that ended so? Also behind some of those with which all is well:
-/// a slave that has lost its station may still say that it is in Op.
-fn is_look_due(cycle: u64, end: CycleEnd) -> bool {
-    !end.is_well() || cycle % LOOK_EVERY == LOOK_EVERY - 1
-}
-
-/// Writes a line of progress.
-fn put_progress<W: Write>(
-    counts: Counts,
-    not_in_op: Option<u64>,
-    times: Times,
+/// Writes why the log cannot be written.
+fn put_log_fault<W: Write>(
+    cycle: u64,
+    error: &io::Error,
     lines: &mut Lines<'_, W>,
 ) -> io::Result<()> {
-    let least = times.least.min(times.greatest);
-    let mean = times.mean();
-    let greatest = times.greatest;
-    put_counts(counts, not_in_op, lines)?;
-    lines.text(format_args!(
-        ", cycle time least {least} mean {mean} greatest {greatest} microseconds"
-    ))?;
+    put_cycle(cycle, lines)?;
+    lines.text("log: Write (")?;
+    match error.raw_os_error() {
+        Some(error) => lines.text(SystemError(error))?,
+        None => lines.text(error)?,
+    }
+    lines.text("), no more of it is written")?;
     lines.end()
 }
 

@@ -84,6 +84,7 @@ impl Told {
     /// Tells what a cycle showed that the last one did not: that it was not good, that it is good again, that
     /// a link is down though it was good, or that none is any more. Only then another frame goes out, which
     /// looks where the cable is broken; and one more behind the next cycle, where that found something new.
+    /// Of a port that fails it is told already that redundancy is lost by it.
     pub fn tell<P: HeardPorts, W: Write>(
         &mut self,
         cycle: u64,
@@ -92,6 +93,7 @@ impl Told {
         expected: &[u16],
         line: &[Wanted],
         states: bool,
+        port_fails: bool,
         lines: &mut Lines<'_, W>,
     ) -> io::Result<()>
         ensures looks { MayBeLookedOver P.trips ports.old (length line.now) ports.new }
@@ -116,6 +118,9 @@ impl Told {
             tell_end(cycle, cycle.saturating_sub(before.since), ended, lines)?;
         }
         self.since = cycle;
+        if port_fails && ended == Ok(Verdict::Good) && cable != Located::Whole {
+            return Ok(());
+        }
         tell_showing(
             cycle,
             &now,

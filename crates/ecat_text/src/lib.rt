@@ -20,6 +20,7 @@ mod lines;
 mod object;
 mod refusal;
 mod status;
+mod system;
 
 pub use areas::print_areas;
 pub use cable::{
@@ -32,3 +33,4 @@ pub use lines::Lines;
 pub use object::{FaultText, TripsText, print_line, print_read, print_written};
 pub use refusal::{refuse, refuse_mapped};
 pub use status::{BAD_ARGUMENTS, FAILED, GOOD, REFUSED};
+pub use system::SystemError;

@@ -148,6 +148,7 @@ fn run(ports: Machine, course: Course, cycles: u32) -> Option<u64> {
         progress: false,
         log: true,
         log_images: false,
+        log_or_stop: false,
         states: false,
         identities: &[],
         leave: None,

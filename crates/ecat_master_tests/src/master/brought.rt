@@ -22,7 +22,7 @@ static ROWS: [Row; 1] = [Row {
     status: 0,
     text: brought!(
         "left in Init\ncycles 2 good 2 short 0 over 0 fault 0 not-in-op 0\n\
-        cycle time least 0 mean 0 greatest 0 microseconds, 99 of 100 within 0\n\
+        cycle time least 0 mean 0 greatest 0 microseconds, 50% within 0, 90% 0, 99% 0, 99.9% 0\n\
         item 0 LRW data a0a1a2 wkc 9 of 9\n"
     ),
 }];

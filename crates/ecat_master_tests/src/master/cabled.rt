@@ -1,6 +1,10 @@
 //! Cables that break and heal while a master runs.
 
 use super::stage::{Event, Row, Told, assert_rows};
+use ec_ring::Port;
+
+/// The system's number of "Network is down" (Linux, `ENETDOWN`).
+const NETWORK_IS_DOWN: i32 = 100;
 
 /// What is told of cables that break, heal or lose a copy.
 static ROWS: [Row; 3] = [
@@ -17,7 +21,7 @@ static ROWS: [Row; 3] = [
             "cycle 3: redundancy lost: link 2 down: between slave 1 (0x1002) and slave 2 (0x1003)\n\
             cycle 7: ring whole again\nleft in Init\n\
             cycles 10 good 10 short 0 over 0 fault 0 not-in-op 0\n\
-            cycle time least 0 mean 0 greatest 0 microseconds, 99 of 100 within 0\n\
+            cycle time least 0 mean 0 greatest 0 microseconds, 50% within 0, 90% 0, 99% 0, 99.9% 0\n\
             item 0 LRW data a0a1a2 wkc 9 of 9\n"
         ),
     },
@@ -40,7 +44,7 @@ static ROWS: [Row; 3] = [
             cycle 9: good again after 5 cycles\n\
             cycle 9: redundancy lost: link 2 down: between slave 1 (0x1002) and slave 2 (0x1003)\n\
             left in Init\ncycles 10 good 5 short 5 over 0 fault 0 not-in-op 0\n\
-            cycle time least 0 mean 0 greatest 0 microseconds, 99 of 100 within 0\n\
+            cycle time least 0 mean 0 greatest 0 microseconds, 50% within 0, 90% 0, 99% 0, 99.9% 0\n\
             item 0 LRW data a0a1a2 wkc 9 of 9\n"
         ),
     },
@@ -56,7 +60,7 @@ static ROWS: [Row; 3] = [
         text: brought!(
             "cycle 3: item 0: came 0 of 9; ring whole\ncycle 4: good again after 1 cycles\n\
             left in Init\ncycles 5 good 4 short 1 over 0 fault 0 not-in-op 0\n\
-            cycle time least 0 mean 0 greatest 0 microseconds, 99 of 100 within 0\n\
+            cycle time least 0 mean 0 greatest 0 microseconds, 50% within 0, 90% 0, 99% 0, 99.9% 0\n\
             item 0 LRW data a0a1a2 wkc 9 of 9\n"
         ),
     },
@@ -65,4 +69,74 @@ static ROWS: [Row; 3] = [
 #[test]
 fn cables_break_and_heal(rt: HostRuntime) {
     assert_rows(&rt, &ROWS);
+}
+
+/// What is told of ports that fail and work again.
+static FAILING: [Row; 3] = [
+    Row {
+        name: "a port fails, and works again",
+        slaves: 3,
+        down: &[],
+        told: Told::Same,
+        events: &[
+            (3, Event::Fails(Port::B, Some(NETWORK_IS_DOWN))),
+            (7, Event::Fails(Port::B, None)),
+        ],
+        stop: false,
+        cycles: 10,
+        status: 0,
+        text: brought!(
+            "cycle 3: redundancy lost: port B failed (Network is down)\n\
+            cycle 7: port B works again\ncycle 7: ring whole again\nleft in Init\n\
+            cycles 10 good 10 short 0 over 0 fault 0 not-in-op 0\n\
+            cycle time least 0 mean 0 greatest 0 microseconds, 50% within 0, 90% 0, 99% 0, 99.9% 0\n\
+            port A failed 0 times, port B 1\n\
+            item 0 LRW data a0a1a2 wkc 9 of 9\n"
+        ),
+    },
+    Row {
+        name: "port A fails and stays so",
+        slaves: 3,
+        down: &[],
+        told: Told::Same,
+        events: &[(3, Event::Fails(Port::A, Some(NETWORK_IS_DOWN)))],
+        stop: false,
+        cycles: 10,
+        status: 0,
+        text: brought!(
+            "cycle 3: redundancy lost: port A failed (Network is down)\nleft in Init\n\
+            cycles 10 good 10 short 0 over 0 fault 0 not-in-op 0\n\
+            cycle time least 0 mean 0 greatest 0 microseconds, 50% within 0, 90% 0, 99% 0, 99.9% 0\n\
+            port A failed 1 times, port B 0\n\
+            item 0 LRW data a0a1a2 wkc 9 of 9\n"
+        ),
+    },
+    Row {
+        name: "a port fails where a link is down already: slaves are cut off",
+        slaves: 3,
+        down: &[],
+        told: Told::Same,
+        events: &[
+            (2, Event::Link(1, false)),
+            (3, Event::Fails(Port::B, Some(NETWORK_IS_DOWN))),
+        ],
+        stop: true,
+        cycles: 10,
+        status: 1,
+        text: brought!(
+            "cycle 2: redundancy lost: link 1 down: between slave 0 (0x1001) and slave 1 (0x1002)\n\
+            cycle 3: port B failed (Network is down)\n\
+            cycle 3: item 0: came 3 of 9; link 1 is the first down, behind it unknown\n\
+            not all left in Init\n\
+            cycles 4 good 3 short 1 over 0 fault 0 not-in-op 0\n\
+            cycle time least 0 mean 0 greatest 0 microseconds, 50% within 0, 90% 0, 99% 0, 99.9% 0\n\
+            port A failed 0 times, port B 1\n\
+            item 0 LRW data a0a1a2 wkc 9 of 9\n"
+        ),
+    },
+];
+
+#[test]
+fn ports_fail_and_work_again(rt: HostRuntime) {
+    assert_rows(&rt, &FAILING);
 }

@@ -14,7 +14,7 @@ const TOLD: &str =
     all in Op\n\
     cycle 3: redundancy lost: link 2 down: between slave 1 (0x1002) and slave 2 (0x1003)\n\
     left in Init\ncycles 5 good 5 short 0 over 0 fault 0 not-in-op 0\n\
-    cycle time least 0 mean 0 greatest 0 microseconds, 99 of 100 within 0\n\
+    cycle time least 0 mean 0 greatest 0 microseconds, 50% within 0, 90% 0, 99% 0, 99.9% 0\n\
     item 0 LRW data a0a1a2 wkc 9 of 9\n";
 
 #[test]
@@ -29,6 +29,7 @@ fn a_line_is_brought_up_and_a_link_breaks_while_it_cycles(rt: HostRuntime) {
         progress: true,
         log: true,
         log_images: true,
+        log_or_stop: false,
         states: true,
         identities: &[],
         leave: Some(AlState::Init),

@@ -22,7 +22,7 @@ static ROWS: [Row; 4] = [
         text: brought!(
             "cycle 5: a copy of cycle 3 came 0.000 s late: slaves may have had its outputs until cycle 5\n\
             left in Init\ncycles 10 good 10 short 0 over 0 fault 0 not-in-op 0\n\
-            cycle time least 0 mean 0 greatest 0 microseconds, 99 of 100 within 0\n\
+            cycle time least 0 mean 0 greatest 0 microseconds, 50% within 0, 90% 0, 99% 0, 99.9% 0\n\
             late copies 2, unsure cycles 3\nitem 0 LRW data a0a1a2 wkc 9 of 9\n"
         ),
     },
@@ -42,7 +42,7 @@ static ROWS: [Row; 4] = [
         text: brought!(
             "cycle 4: a copy of cycle 3 came 0.000 s late: slaves may have had its outputs until cycle 4\n\
             left in Init\ncycles 7 good 7 short 0 over 0 fault 0 not-in-op 0\n\
-            cycle time least 0 mean 0 greatest 0 microseconds, 99 of 100 within 0\n\
+            cycle time least 0 mean 0 greatest 0 microseconds, 50% within 0, 90% 0, 99% 0, 99.9% 0\n\
             late copies 3, unsure cycles 4\nitem 0 LRW data a0a1a2 wkc 9 of 9\n"
         ),
     },
@@ -57,7 +57,7 @@ static ROWS: [Row; 4] = [
         status: 0,
         text: brought!(
             "left in Init\ncycles 3 good 3 short 0 over 0 fault 0 not-in-op 0\n\
-            cycle time least 0 mean 0 greatest 0 microseconds, 99 of 100 within 0\n\
+            cycle time least 0 mean 0 greatest 0 microseconds, 50% within 0, 90% 0, 99% 0, 99.9% 0\n\
             late copies 1, unsure cycles 0\nitem 0 LRW data a0a1a2 wkc 9 of 9\n"
         ),
     },
@@ -72,7 +72,7 @@ static ROWS: [Row; 4] = [
         status: 0,
         text: brought!(
             "left in Init\ncycles 17 good 17 short 0 over 0 fault 0 not-in-op 0\n\
-            cycle time least 0 mean 0 greatest 0 microseconds, 99 of 100 within 0\n\
+            cycle time least 0 mean 0 greatest 0 microseconds, 50% within 0, 90% 0, 99% 0, 99.9% 0\n\
             late copies 1, unsure cycles 0\nitem 0 LRW data a0a1a2 wkc 9 of 9\n"
         ),
     },
@@ -138,8 +138,9 @@ const BEATS: [(Option<u64>, u64); 4] = [
 const LATENESS: &str = brought!(
     "cycle 2: began 3.000 s late, 3000 cycles left out\nleft in Init\n\
     cycles 4 good 4 short 0 over 0 fault 0 not-in-op 0\n\
-    cycle time least 0 mean 0 greatest 0 microseconds, 99 of 100 within 0\n\
-    lateness least 40 mean 1000819 greatest 3000417 microseconds, 99 of 100 within 3000417, missed 3002\n\
+    cycle time least 0 mean 0 greatest 0 microseconds, 50% within 0, 90% 0, 99% 0, 99.9% 0\n\
+    lateness least 40 mean 1000819 greatest 3000417 microseconds, 50% within 2047, 90% 3000417, \
+    99% 3000417, 99.9% 3000417, missed 3002\n\
     item 0 LRW data a0a1a2 wkc 9 of 9\n"
 );
 

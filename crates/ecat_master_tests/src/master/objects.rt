@@ -84,19 +84,19 @@ static ROWS: [Row; 2] = [
         told: Told::Startup(0, &[SEVEN]),
         events: &[
             (3, Event::Falls(0, AlState::Init)),
-            (17, Event::Falls(1, AlState::PreOp)),
+            (80, Event::Falls(1, AlState::PreOp)),
         ],
         stop: false,
-        cycles: 40,
+        cycles: 160,
         status: 0,
         text: "slaves 3\nring whole\nstations given\nall in Init\nall in Pre-Op\n\
             startup objects written\nall in Safe-Op\nall in Op\n\
-            cycle 3: not all in Op\ncycle 3: slave 0 (0x1001) was in Init, brought to Op\n\
-            cycle 4: all in Op again after 1 cycles\ncycle 17: not all in Op\n\
-            cycle 19: slave 1 (0x1002) was in Pre-Op, brought to Op\n\
-            cycle 20: all in Op again after 3 cycles\nleft in Init\n\
-            cycles 40 good 40 short 0 over 0 fault 0 not-in-op 4\n\
-            cycle time least 0 mean 0 greatest 0 microseconds, 99 of 100 within 0\n\
+            cycle 3: not all in Op\ncycle 26: all in Op again after 23 cycles\n\
+            cycle 26: slave 0 (0x1001) was in Init, brought to Op\ncycle 80: not all in Op\n\
+            cycle 99: all in Op again after 19 cycles\n\
+            cycle 99: slave 1 (0x1002) was in Pre-Op, brought to Op\nleft in Init\n\
+            cycles 160 good 160 short 0 over 0 fault 0 not-in-op 42\n\
+            cycle time least 0 mean 0 greatest 0 microseconds, 50% within 0, 90% 0, 99% 0, 99.9% 0\n\
             item 0 LRW data a0a1a2 wkc 9 of 9\n",
     },
 ];

@@ -16,15 +16,15 @@ static ROWS: [Row; 5] = [
             (3, Event::Falls(2, AlState::Init)),
         ],
         stop: false,
-        cycles: 80,
+        cycles: 160,
         status: 0,
         text: brought!(
-            "cycle 3: not all in Op\ncycle 3: slave 0 (0x1001) was in Pre-Op, brought to Op\n\
-            cycle 4: slave 1 (0x1002) had an error in Safe-Op: 0x001b sync manager watchdog, brought to Op\n\
-            cycle 5: slave 2 (0x1003) was in Init, brought to Op\n\
-            cycle 6: all in Op again after 3 cycles\nleft in Init\n\
-            cycles 80 good 80 short 0 over 0 fault 0 not-in-op 3\n\
-            cycle time least 0 mean 0 greatest 0 microseconds, 99 of 100 within 0\n\
+            "cycle 3: not all in Op\ncycle 21: slave 0 (0x1001) was in Pre-Op, brought to Op\n\
+            cycle 46: slave 1 (0x1002) had an error in Safe-Op: 0x001b sync manager watchdog, brought to Op\n\
+            cycle 69: all in Op again after 66 cycles\n\
+            cycle 69: slave 2 (0x1003) was in Init, brought to Op\nleft in Init\n\
+            cycles 160 good 160 short 0 over 0 fault 0 not-in-op 66\n\
+            cycle time least 0 mean 0 greatest 0 microseconds, 50% within 0, 90% 0, 99% 0, 99.9% 0\n\
             item 0 LRW data a0a1a2 wkc 9 of 9\n"
         ),
     },
@@ -35,12 +35,13 @@ static ROWS: [Row; 5] = [
         told: Told::Same,
         events: &[(3, Event::Forgets(0))],
         stop: false,
-        cycles: 20,
+        cycles: 80,
         status: 0,
         text: brought!(
-            "cycle 15: slave 0 (0x1001) had lost its station, brought to Op\n\
-            left in Init\ncycles 20 good 20 short 0 over 0 fault 0 not-in-op 0\n\
-            cycle time least 0 mean 0 greatest 0 microseconds, 99 of 100 within 0\n\
+            "cycle 27: not all in Op\ncycle 49: all in Op again after 22 cycles\n\
+            cycle 49: slave 0 (0x1001) had lost its station, brought to Op\n\
+            left in Init\ncycles 80 good 80 short 0 over 0 fault 0 not-in-op 22\n\
+            cycle time least 0 mean 0 greatest 0 microseconds, 50% within 0, 90% 0, 99% 0, 99.9% 0\n\
             item 0 LRW data a0a1a2 wkc 9 of 9\n"
         ),
     },
@@ -51,12 +52,13 @@ static ROWS: [Row; 5] = [
         told: Told::Same,
         events: &[(3, Event::Forgets(1))],
         stop: false,
-        cycles: 36,
+        cycles: 80,
         status: 0,
         text: brought!(
-            "cycle 31: slave 1 (0x1002) had lost its station, brought to Op\n\
-            left in Init\ncycles 36 good 36 short 0 over 0 fault 0 not-in-op 0\n\
-            cycle time least 0 mean 0 greatest 0 microseconds, 99 of 100 within 0\n\
+            "cycle 43: not all in Op\ncycle 65: all in Op again after 22 cycles\n\
+            cycle 65: slave 1 (0x1002) had lost its station, brought to Op\n\
+            left in Init\ncycles 80 good 80 short 0 over 0 fault 0 not-in-op 22\n\
+            cycle time least 0 mean 0 greatest 0 microseconds, 50% within 0, 90% 0, 99% 0, 99.9% 0\n\
             item 0 LRW data a0a1a2 wkc 9 of 9\n"
         ),
     },
@@ -72,7 +74,7 @@ static ROWS: [Row; 5] = [
         text: brought!(
             "cycle 2: a port failed\ncycle 4: good again after 2 cycles\n\
             left in Init\ncycles 6 good 4 short 0 over 0 fault 2 not-in-op 0\n\
-            cycle time least 0 mean 0 greatest 0 microseconds, 99 of 100 within 0\n\
+            cycle time least 0 mean 0 greatest 0 microseconds, 50% within 0, 90% 0, 99% 0, 99.9% 0\n\
             item 0 LRW data a0a1a2 wkc 9 of 9\n"
         ),
     },
@@ -88,7 +90,7 @@ static ROWS: [Row; 5] = [
         text: brought!(
             "cycle 2: item 0: came 0 of 9; ring whole\nleft in Init\n\
             cycles 3 good 2 short 1 over 0 fault 0 not-in-op 0\n\
-            cycle time least 0 mean 0 greatest 0 microseconds, 99 of 100 within 0\n\
+            cycle time least 0 mean 0 greatest 0 microseconds, 50% within 0, 90% 0, 99% 0, 99.9% 0\n\
             item 0 LRW data a0a1a2 wkc 9 of 9\n"
         ),
     },

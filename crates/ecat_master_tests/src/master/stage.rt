@@ -7,7 +7,7 @@ use crate::asserts::assert_found;
 use arrayvec::ArrayVec;
 use ec_master::PortFault;
 use ec_regs::{AlState, AlStatus};
-use ec_ring::{Arrival, Arrivals, HeardPorts, LateCopies, Port, Ring, Travel, Weather};
+use ec_ring::{Arrival, Arrivals, HeardPorts, LateCopies, Port, PortHealth, Ring, Travel, Weather};
 use ec_run::{Outputs, StartupObject, Wanted};
 use ec_wire::{Command, Datagram, FrameBuf, address_of};
 use ecat_master::{Pace, Plan, master};
@@ -15,7 +15,7 @@ use std::io::{Cursor, Write};
 use std::process::Abort;
 
 /// What happens before the frame of a cycle.
-#[derive(Clone, Copy, PartialEq, Eq, Debug)]
+#[derive(Clone, Copy)]
 pub enum Event {
     /// The link with this number is mended, or breaks.
     Link(usize, bool),
@@ -33,6 +33,8 @@ pub enum Event {
     Stranger,
     /// A copy comes late, of the trip so many before this one.
     Late(u64),
+    /// Sends and receives at a port begin to fail with this error of the system, or they work again.
+    Fails(Port, Option<i32>),
 }
 
 /// What befalls a frame.
@@ -58,6 +60,8 @@ pub struct Stage<'a> {
     cycles: u64,
     failed: u64,
     trips: u64,
+    health_a: PortHealth,
+    health_b: PortHealth,
 }
 
 impl<'a> Stage<'a> {
@@ -69,6 +73,8 @@ impl<'a> Stage<'a> {
             cycles: 0,
             failed: 0,
             trips: 0,
+            health_a: PortHealth::sound(),
+            health_b: PortHealth::sound(),
         }
     }
 
@@ -88,6 +94,7 @@ impl<'a> Stage<'a> {
             Event::Fault => fate.fails = true,
             Event::Stranger => fate.is_strange = true,
             Event::Late(_) => {}
+            Event::Fails(port, error) => self.sets_health(port, error),
         }
     }
 
@@ -96,6 +103,20 @@ impl<'a> Stage<'a> {
         if number <= self.ring.slaves().len() {
             self.ring.set_link(number, up);
         }
+    }
+
+    /// Lets a port fail with an error, or work again: the link there is down or up with it.
+    fn sets_health(&mut self, port: Port, error: Option<i32>) {
+        let last = self.ring.slaves().len();
+        let health = match port {
+            Port::A => &mut self.health_a,
+            Port::B => &mut self.health_b,
+        };
+        *health = match error {
+            Some(error) => health.failing(error),
+            None => health.working(),
+        };
+        self.sets_link(if port == Port::A { 0 } else { last }, error.is_none());
     }
 
     /// Lets a slave fall into a state.
@@ -223,6 +244,13 @@ impl<'a> HeardPorts for Stage<'a> {
     fn take_late(&mut self) -> LateCopies {
         self.late_in_last_cycle()
     }
+
+    fn health(&self, at: Port) -> PortHealth {
+        match at {
+            Port::A => self.health_a,
+            Port::B => self.health_b,
+        }
+    }
 }
 
 /// So many cycles, back to back.
@@ -267,6 +295,7 @@ pub const PLAN: Plan<'static> = Plan {
     progress: false,
     log: false,
     log_images: false,
+    log_or_stop: false,
     states: true,
     identities: &[],
     leave: Some(AlState::Init),

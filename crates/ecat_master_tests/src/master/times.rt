@@ -12,9 +12,9 @@ const TOOK: [u64; 4] = [900_000, 400_000, 100, 1_000_000];
 /// What is told behind the second of them, and behind the last.
 const PROGRESS: &str = "\
 cycles 2 good 2 short 0 over 0 fault 0 not-in-op 0, cycle time least 400000 mean 650000 greatest \
-    900000 microseconds
+    900000 microseconds, 1 a second
 cycles 4 good 4 short 0 over 0 fault 0 not-in-op 0, cycle time least 100 mean 500050 greatest \
-    1000000 microseconds
+    1000000 microseconds, 1 a second
 ";
 
 /// So many cycles, each of which asks for the time at its beginning and at its end.

@@ -19,6 +19,9 @@ returns-in_err-take g c = record {
 
 pub returns : goal.returns
 returns g c = record {
-  followed = only_looks g.P.HeardPorts.trips c.args.line.now c.args.ports.now c.tell.new.ports
-      c.tell.ensures.looks;
+  followed = record {
+    between = c.tell.new.ports;
+    looks = c.tell.ensures.looks;
+    seen_to = c.see_to.ensures.seen_to;
+  };
 }
