@@ -1,5 +1,5 @@
 -- The words of a log: who speaks, a packet, its datagrams, what became of it.
-use Rattle.std.specs.Prelude.{ℕ, ◌++◌, ◌-◌, ◌^◌, List, [], Option, None, Some, false, codes}
+use Rattle.std.specs.Prelude.{ℕ, ◌++◌, ◌-◌, ◌^◌, Bool, true, false, List, [], Option, None, Some, codes}
 use Rattle.std.specs.Fmt.{decimal, digits, format_spec, padded_integral}
 use Rattle.std.specs.Net.Text.{socket_text}
 use Rattle.std.specs.declared.net.socket_addr.SocketAddr.{SocketAddr}
@@ -34,6 +34,14 @@ end_words B = codes "B"
 -- somebody who speaks at an end
 unfoldable pub speaker_words : Port → SocketAddr → List ℕ
 speaker_words at who = codes "speaker " ++ end_words at ++ codes " " ++ socket_text who
+
+-- the cable at an end, and which link of the line is as it is now
+abbrev pub plug_words : Bool → ℕ → List ℕ
+plug_words true link = codes "carrier again: link " ++ decimal link ++ codes " up"
+plug_words false link = codes "no carrier: link " ++ decimal link ++ codes " down"
+
+unfoldable pub cable_words : Port → Bool → ℕ → List ℕ
+cable_words at plugged link = codes "end " ++ end_words at ++ codes ": " ++ plug_words plugged link
 
 -- a packet's number, its end and its size
 unfoldable pub packet_words : ℕ → Port → ℕ → List ℕ

@@ -12,7 +12,8 @@
 //! arrived nowhere; and then `left A`, `lost at A` where a copy was to be lost, `nobody at A` where nobody
 //! has spoken, or `left nowhere`. A packet that was dropped has the first fault and its place, and `padded`
 //! where a frame stands in front of more bytes, or `ethernet` where it is a whole Ethernet frame. Before the
-//! frame of somebody who was not the last to speak at its end, a line tells who he is.
+//! frame of somebody who was not the last to speak at its end, a line tells who he is. A cable that is really
+//! pulled has a line too (`end B: no carrier: link 5 down`), which `Cables` writes alone.
 //!
 //! One use, which the test `a_line_for_each_packet` tries:
 //!
@@ -29,4 +30,4 @@ pub mod log;
 pub mod texts;
 
 pub use hint::Hint;
-pub use log::Log;
+pub use log::{Cables, Log};

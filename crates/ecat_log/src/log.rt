@@ -3,10 +3,10 @@
 ghost use Rattle.std.specs.Prelude.{◌<◌, length};
 
 use crate::hint::hint_of;
-use crate::texts::{DatagramText, DroppedText, LeavingText, PacketText, SpeakerText};
+use crate::texts::{CableText, DatagramText, DroppedText, LeavingText, PacketText, SpeakerText};
 use arrayvec::{ArrayString, ArrayVec};
 use ec_wire::{Form, FrameBuf, WireFault};
-use ecat_serve::{Arrived, Leaving, Watch};
+use ecat_serve::{Arrived, Cable, Leaving, Watch};
 use std::fmt::{Display, Write as _};
 use std::io::Write;
 
@@ -83,6 +83,38 @@ impl<'a, W: Write> Log<'a, W> {
     }
 }
 
+/// Somebody who writes a line for each cable that is pulled or plugged in, and none for packets. A fault of
+/// the writer is passed over.
+#[derive(Drop)]
+pub struct Cables<'a, W> {
+    out: &'a mut W,
+}
+
+impl<'a, W: Write> Cables<'a, W> {
+    /// One who writes there.
+    pub fn new(out: &'a mut W) -> Cables<'a, W> {
+        Cables { out }
+    }
+}
+
+impl<W: Write> Watch for Cables<'_, W> {
+    fn speaker(&mut self, _arrived: &Arrived) {}
+
+    fn frame(
+        &mut self,
+        _arrived: &Arrived,
+        _packet: &[u8],
+        _back: Option<&FrameBuf>,
+        _leaving: Leaving,
+    ) {}
+
+    fn cable(&mut self, cable: Cable, link: usize) {
+        Log::new(self.out).cable(cable, link);
+    }
+
+    fn dropped(&mut self, _arrived: &Arrived, _packet: &[u8], _fault: WireFault) {}
+}
+
 impl<W: Write> Watch for Log<'_, W> {
     fn speaker(&mut self, arrived: &Arrived) {
         self.text(SpeakerText {
@@ -106,6 +138,15 @@ impl<W: Write> Watch for Log<'_, W> {
         }
         self.bytes(b" ");
         self.text(LeavingText(leaving));
+        self.end();
+    }
+
+    fn cable(&mut self, cable: Cable, link: usize) {
+        self.text(CableText {
+            at: cable.at,
+            is_plugged: cable.is_plugged,
+            link,
+        });
         self.end();
     }
 

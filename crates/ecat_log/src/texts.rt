@@ -4,7 +4,8 @@ ghost use Rattle.std.specs.Prelude.{Some};
 ghost use Rattle.ecat_log.specs.Texts.{addressed_words, command_words, counter_words, datagram_words};
 ghost use Rattle.ec_wire.specs.Command.{addressing};
 ghost use Rattle.ecat_log.specs.Texts.{dropped_words, end_words, fault_words, hint_words, kind_words};
-ghost use Rattle.ecat_log.specs.Texts.{leaving_words, packet_words, served_words, speaker_words};
+ghost use Rattle.ecat_log.specs.Texts.{cable_words, leaving_words, packet_words, plug_words, served_words};
+ghost use Rattle.ecat_log.specs.Texts.{speaker_words};
 
 use crate::hint::Hint;
 use ec_ring::Port;
@@ -45,6 +46,51 @@ impl fmt::Display for SpeakerText {
         let at = EndText(self.at);
         let who = self.who;
         write!(f, "speaker {at} {who}")
+    }
+}
+
+/// Whether a cable is plugged in, and which link of the line is as it is.
+#[derive(Drop)]
+struct PlugText {
+    is_plugged: bool,
+    link: usize,
+}
+
+impl fmt::Display for PlugText {
+    ghost output = { λ text. Some (plug_words text.is_plugged text.link) };
+
+    fn fmt<W: fmt::Write>(&self, f: &mut fmt::Formatter<W>) -> fmt::Result {
+        let link = self.link;
+        if self.is_plugged {
+            write!(f, "carrier again: link {link} up")
+        } else {
+            write!(f, "no carrier: link {link} down")
+        }
+    }
+}
+
+/// The cable at an end that was pulled or plugged in.
+#[derive(Drop)]
+pub struct CableText {
+    /// The end.
+    pub at: Port,
+    /// Whether it is plugged in now.
+    pub is_plugged: bool,
+    /// Which link of the line is up or down with it.
+    pub link: usize,
+}
+
+impl fmt::Display for CableText {
+    ghost output = { λ cable. Some (cable_words cable.at cable.is_plugged cable.link) };
+
+    #[tactic(auto, unfolding(crate::specs::Texts::cable_words))]
+    fn fmt<W: fmt::Write>(&self, f: &mut fmt::Formatter<W>) -> fmt::Result {
+        let at = EndText(self.at);
+        let plug = PlugText {
+            is_plugged: self.is_plugged,
+            link: self.link,
+        };
+        write!(f, "end {at}: {plug}")
     }
 }
 

@@ -14,8 +14,7 @@ use ec_ring::{Port, PortFault};
 use ec_wire::{MAX_FRAME, PACKET_ROOM};
 use ecat_remote::copy_front;
 use ecat_serve::{
-    Arrived, Console, EndSockets, Ends, InputLine, LINE_ROOM, TimedEnds, WaitFault, Waited,
-    Waiting, may_try_again,
+    Arrived, Console, EndSockets, Ends, InputLine, LINE_ROOM, TimedEnds, WaitFault, Waited, Waiting,
 };
 use std::alloc::Global;
 use std::io::Read;
@@ -40,17 +39,15 @@ impl RawSockets {
         }
     }
 
-    /// Receives a packet that waits at an end, if one does, and says how many bytes it has.
-    fn packet_at(&self, at: Port, into: &mut [u8; PACKET]) -> Result<Option<usize>, PortFault>
-        ensures { IfOk result (λ found. IfSome found (λ count. count ≤ PACKET)) }
+    /// Receives a packet that waits at an end, if one does, and says how many bytes it has. From an interface
+    /// that fails none comes.
+    fn packet_at(&self, at: Port, into: &mut [u8; PACKET]) -> Option<usize>
+        ensures { IfSome result (λ count. count ≤ PACKET) }
     {
-        let Some(socket) = self.socket(at) else {
-            return Ok(None);
-        };
+        let socket = self.socket(at)?;
         match socket.receive(into) {
-            Ok(count) => Ok(Some(count)),
-            Err(fault) if may_try_again(&fault) => Ok(None),
-            Err(_) => Err(PortFault),
+            Ok(count) => Some(count),
+            Err(_) => None,
         }
     }
 
@@ -77,7 +74,8 @@ impl RawSockets {
         under(&self.answers_under, frame)
     }
 
-    /// Sends a frame from an end, as the answer to what came last; from an end with no socket nothing.
+    /// Sends a frame from an end, as the answer to what came last; from an end with no socket nothing. At an
+    /// interface that fails it is lost.
     fn send(&self, from: Port, frame: &[u8]) -> Result<(), PortFault> {
         let Some(socket) = self.socket(from) else {
             return Ok(());
@@ -85,11 +83,8 @@ impl RawSockets {
         if MAX_FRAME < frame.len() {
             return Err(PortFault);
         }
-        match socket.send(self.answer_with(frame).as_slice()) {
-            Ok(_) => Ok(()),
-            Err(fault) if may_try_again(&fault) => Ok(()),
-            Err(_) => Err(PortFault),
-        }
+        let _ = socket.send(self.answer_with(frame).as_slice());
+        Ok(())
     }
 }
 
@@ -101,7 +96,7 @@ impl EndSockets for RawSockets {
     ) -> Result<Option<Arrived>, PortFault> {
         let mut packet = [0; PACKET];
         for _passed in 0..u64::MAX {
-            let Some(count) = self.packet_at(at, &mut packet)? else {
+            let Some(count) = self.packet_at(at, &mut packet) else {
                 return Ok(None);
             };
             if let Some(arrived) = self.take(at, &packet[..count], into) {
@@ -119,7 +114,8 @@ impl EndSockets for RawSockets {
 /// frame is received without padding, of more than 1,501 bytes the first 1,501, and as if it came from the
 /// link-local IPv6 address that its source address makes, at port 34980. An answer leaves under the header of
 /// what came last, to everybody, with bit 1 of the first byte of its source address set; one that the system
-/// can't take just now is lost. How it waits for packets and for an input is told at `ecat_serve::Waiting`.
+/// does not take is lost, and from an interface that fails nothing comes until it works again. How it waits
+/// for packets and for an input is told at `ecat_serve::Waiting`.
 #[derive(Drop)]
 pub struct RawEnds<I: Read + AsRawFd + Drop> {
     waiting: Waiting<I>,

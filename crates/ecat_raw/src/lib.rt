@@ -3,6 +3,7 @@
 //!
 //! - `RawEnds`: one packet socket or two, at the ends of a line that is served. It is an `ecat_serve::Ends`
 //!   and an `ecat_serve::Console`.
+//! - `Carriers`: whether the interfaces at both ends have a carrier. It is an `ecat_serve::Plugs`.
 //! - `RawCarrier`: one packet socket or two, at the ports of a master. It is an `ecat_remote::Carrier`.
 //! - `Descriptors`: under which numbers they were inherited, as a text names them (`descriptors_of`), and
 //!   `RawFault`: why they are of no use.
@@ -25,11 +26,13 @@
 //! both are up to the system.
 
 mod carrier;
+mod carriers;
 mod ends;
 mod ethernet;
 mod sockets;
 
 pub use carrier::RawCarrier;
+pub use carriers::Carriers;
 pub use ends::RawEnds;
 pub use ethernet::{
     ADDRESS_A, ADDRESS_B, ETHERCAT, MOST_PACKET, Packet, answer_in, frame_in, packet_of,

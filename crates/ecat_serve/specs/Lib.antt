@@ -7,3 +7,4 @@ pub mod Lines
 pub mod Rounds
 pub mod Commands
 pub mod Watching
+pub mod Cables

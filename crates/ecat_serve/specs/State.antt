@@ -2,8 +2,8 @@
 -- anybody did, and how many of the copies that arrive at each end are still to be lost.
 use Rattle.std.specs.Prelude.{ℕ, Option, None, Some}
 use Rattle.std.specs.declared.net.socket_addr.SocketAddr.{SocketAddr}
-use Rattle.ec_applications.specs.Acting.{acted}
-use Rattle.ec_applications.specs.State.{ApplicationsState, once_more}
+use Rattle.ec_applications.specs.Behind.{applications_behind, line_behind}
+use Rattle.ec_applications.specs.State.{ApplicationsState}
 use Rattle.ec_ring.specs.Ring.{RingState, stepped}
 use Rattle.ec_ring.specs.declared.port.Port.{Port}
 use Rattle.ec_ring.specs.declared.port.Port.TheVariants.{A, B}
@@ -41,10 +41,10 @@ abbrev pub losing : ServedState → Port → ℕ → ServedState
 losing s A count = record s { to_lose_a = count }
 losing s B count = record s { to_lose_b = count }
 
--- the same line, of whose ring, which by then is this one, each slave has taken its step, and then each
--- application has acted
+-- the same line, of whose ring, which by then is this one, each slave has taken its step, then each
+-- application has acted, and then each EEPROM has answered
 abbrev pub moved_on : ServedState → RingState → ServedState
-moved_on s ring = let now = once_more s.applications in record s {
-  ring = acted now.acted now.all (stepped ring);
-  applications = now;
+moved_on s ring = record s {
+  ring = line_behind s.applications (stepped ring);
+  applications = applications_behind s.applications (stepped ring);
 }

@@ -30,10 +30,10 @@ pub enum Onward {
 }
 
 impl Served {
-    /// Serves packets as `serve_watched` does, and between two of them takes the lines that come: where the
-    /// ends say that something else is to be looked at first. It ends behind a line that ends it, or where
-    /// there is none, since no more is to come; once so many packets have come; and at the first call of the
-    /// ends that fails. The answer is how many packets have come in.
+    /// Serves packets as `serve_watched` does, and between two of them takes the cables that are pulled and
+    /// the lines that come: where the ends say that something else is to be looked at first. It ends behind a
+    /// line that ends it, or where there is none, since no more is to come; once so many packets have come;
+    /// and at the first call of the ends that fails. The answer is how many packets have come in.
     pub fn serve_commanded<E: Ends + Console + Disturb, V: Watch, D: Desk>(
         &mut self,
         ends: &mut E,
@@ -52,11 +52,32 @@ impl Served {
             if most <= counts.packets() {
                 return Ok(counts);
             }
-            if !take_line(self, ends, desk, counts) {
+            if !see_to(self, ends, watch, desk, counts) {
                 return Ok(counts);
             }
         }
         Ok(counts)
+    }
+}
+
+/// Sees to what is to be looked at between two packets: a cable that was pulled or plugged in, or else a line
+/// that came. Does the service go on? Not where none came.
+fn see_to<E: Console + Disturb, V: Watch, D: Desk>(
+    served: &mut Served,
+    ends: &mut E,
+    watch: &mut V,
+    desk: &mut D,
+    came: Counts,
+) -> bool
+    ensures { IsCommanded served.old served.new }
+{
+    match ends.take_cable() {
+        Some(cable) => {
+            let link = served.put_cable(cable);
+            watch.cable(cable, link);
+            true
+        }
+        None => take_line(served, ends, desk, came),
     }
 }
 

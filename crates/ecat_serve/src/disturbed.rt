@@ -5,6 +5,7 @@ ghost use Rattle.ecat_serve.specs.Disturbing.{damaged, disturbed_by, disturbing,
 ghost use Rattle.ecat_serve.specs.Ends.{any_receive, any_send};
 ghost use Rattle.ec_wire.specs.declared.frame.TheConstants.{MAX_FRAME};
 
+use crate::cables::Cable;
 use crate::ends::{Arrived, Console, Ends, TimedEnds, Waited};
 use crate::lines::{InputLine, LINE_ROOM};
 use arrayvec::ArrayVec;
@@ -293,6 +294,10 @@ impl<E: TimedEnds, T: Times + Drop> Disturbed<'_, E, T> {
 impl<E: Console, T> Console for Disturbed<'_, E, T> {
     fn take_line(&mut self, into: &mut [u8; LINE_ROOM]) -> Option<InputLine> {
         self.ends.take_line(into)
+    }
+
+    fn take_cable(&mut self) -> Option<Cable> {
+        self.ends.take_cable()
     }
 }
 

@@ -5,6 +5,7 @@ ghost use Rattle.ecat_serve.specs.Ends.{Receives, Sends, has_room};
 ghost use Rattle.ecat_serve.specs.Lines.{IsInRoom};
 ghost use Rattle.ec_wire.specs.declared.frame.TheConstants.{PACKET_ROOM};
 
+use crate::cables::Cable;
 use crate::lines::{InputLine, LINE_ROOM};
 use ec_ring::{Port, PortFault};
 use ec_wire::PACKET_ROOM;
@@ -22,11 +23,17 @@ pub struct Arrived {
     pub count: usize,
 }
 
-/// The lines of somebody who works on a line while it is served. Which come is up to him.
+/// What somebody does who works on a line while it is served: the lines that he writes, and the cables that
+/// he pulls. Which come is up to him.
 pub trait Console {
     /// Takes the next line that came, into the front of the room; `None` where none has come.
     fn take_line(&mut self, into: &mut [u8; LINE_ROOM]) -> Option<InputLine>
         ensures room { IfSome result (λ line. IsInRoom line) };
+
+    /// Takes the next cable that was pulled or plugged in; `None` where none was, or nobody looks at them.
+    fn take_cable(&mut self) -> Option<Cable> {
+        None
+    }
 }
 
 /// The two ends of a line: end A before its first slave, end B behind its last. An implementation says which

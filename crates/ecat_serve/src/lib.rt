@@ -10,6 +10,8 @@
 //! - `Waiting`: what waits at two ends and at an input at once, for sockets of any kind (`EndSockets`).
 //! - `Served::set_link`, `lose`, `unplug`, `load` and `set_state` (`bench`): what somebody does to the line
 //!   between its packets, and `Console`: the lines by which he says so, which `UdpEnds` takes of its input.
+//! - `Cabled`: ends at whose cables somebody looks (`Plugs`): one that is pulled is a link of the line that
+//!   is down (`Served::put_cable`).
 //! - `Disturbed`: ends whose copies leave late, twice or damaged where a command asks for it (`Disturb`).
 //! - `Watch`: who is told of each packet by `Served::serve_watched`; what he is told is required to be so.
 //!
@@ -35,6 +37,7 @@
 //!   packet is counted once (`Served::serve`, `Serves`);
 //! - a link, a slave's inputs and its state change as they are asked to, or nothing does (`BenchFault`); so
 //!   many copies are lost at an end as were to be, and no more (`spared`, `once_lost`);
+//! - a cable that is pulled at end A is link 0 down, and at end B the last link (`put_cable`);
 //! - the lines of an input are what LF separates, in whatever pieces it comes (`InputLines::take`, `taken` in
 //!   `specs/Lines.antt`);
 //! - a service is handed no allocator, and takes no memory where its ends take none.
@@ -45,6 +48,7 @@
 //! Of the packets that come to a socket nothing is stated: they are up to the system.
 
 pub mod bench;
+pub mod cables;
 pub mod commands;
 pub mod disturbed;
 pub mod ends;
@@ -55,6 +59,7 @@ pub mod waiting;
 pub mod watch;
 
 pub use bench::BenchFault;
+pub use cables::{Cable, Cabled, Plugs};
 pub use commands::{Desk, Onward};
 pub use disturbed::{Disturb, Disturbance, Disturbed, Times};
 pub use ends::{Arrived, Console, Ends, TimedEnds, Waited};

@@ -4,6 +4,7 @@ ghost use Rattle.ec_wire.specs.Fault.{IsFirstFault};
 ghost use Rattle.ec_wire.specs.declared.fault.Form.TheVariants.{Udp};
 ghost use Rattle.ecat_serve.specs.Watching.{IsFrame};
 
+use crate::cables::Cable;
 use crate::ends::Arrived;
 use ec_ring::Port;
 use ec_wire::{FrameBuf, WireFault};
@@ -31,6 +32,9 @@ pub trait Watch {
     /// becomes of it now.
     fn frame(&mut self, arrived: &Arrived, packet: &[u8], back: Option<&FrameBuf>, leaving: Leaving)
         requires { IsFrame packet.now };
+
+    /// The cable at an end was pulled, or plugged in: so is that link of the line now.
+    fn cable(&mut self, _cable: Cable, _link: usize) {}
 
     /// A packet came that is no frame in the UDP form, with its first fault.
     fn dropped(&mut self, arrived: &Arrived, packet: &[u8], fault: WireFault)

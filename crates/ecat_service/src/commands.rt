@@ -7,10 +7,10 @@ ghost use Rattle.ecat_service.specs.Onward.{onward_of};
 use crate::service::Service;
 use crate::serving::{most_packets, print_counts, print_end, print_where};
 use crate::slave_lines::print_line;
-use ecat_log::Log;
+use ecat_log::{Cables, Log};
 use ecat_scene::{BenchCommand, CommandFault, LineFault, SlaveName};
 use ecat_serve::{
-    BenchFault, Console, Counts, Desk, Disturb, Disturbance, Ends, Onward, Served, Unwatched, Watch,
+    BenchFault, Console, Counts, Desk, Disturb, Disturbance, Ends, Onward, Served, Watch,
 };
 use ecat_setup::LineFailure;
 use ecat_text::{GOOD, Lines, print_areas};
@@ -219,7 +219,8 @@ fn print_refusal<W: Write>(
 
 /// Serves a line that has these ends under the commands that they bring, and answers the exit status. It
 /// prints where the line is served, what each command is answered by, and at the end what `serve` prints;
-/// `err` is told of each packet where the service logs. It takes memory for the words of a command alone.
+/// `err` is told of each packet where the service logs, and of each cable that is pulled. It takes memory for
+/// the words of a command alone.
 pub fn control<E, W, V>(
     alloc: Global,
     served: Served,
@@ -236,7 +237,7 @@ where
     if service.log {
         control_watched(alloc, served, service, ends, &mut Log::new(err), out)
     } else {
-        control_watched(alloc, served, service, ends, &mut Unwatched, out)
+        control_watched(alloc, served, service, ends, &mut Cables::new(err), out)
     }
 }
 

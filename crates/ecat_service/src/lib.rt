@@ -20,4 +20,4 @@ mod slave_lines;
 
 pub use commands::control;
 pub use service::Service;
-pub use serving::{line_to_serve, serve};
+pub use serving::{line_to_serve, serve, serve_cabled};

@@ -7,9 +7,9 @@ ghost use Rattle.ecat_service.specs.Services.{where_words};
 use crate::raw::RawWhereText;
 use crate::service::Service;
 use ec_ring::Ring;
-use ecat_log::Log;
+use ecat_log::{Cables, Log};
 use ecat_scene::Scene;
-use ecat_serve::{Counts, Ends, Served, Unwatched, Watch};
+use ecat_serve::{Console, Counts, Desk, Disturb, Ends, Onward, Served, Unwatched, Watch};
 use ecat_setup::{LineFailure, applications_of, for_packets, ring_of};
 use ecat_text::{GOOD, Lines, print_areas};
 use std::alloc::Global;
@@ -121,6 +121,60 @@ where
     };
     tell_end(service, &done, err);
     done
+}
+
+/// Serves a line as `serve` does, at ends whose cables are looked at: one that is pulled is the link at that
+/// end, and is told there.
+pub fn serve_cabled<E, W, V>(
+    served: Served,
+    service: Service,
+    ends: &mut E,
+    out: &mut W,
+    err: &mut V,
+) -> Result<u8, LineFailure>
+where
+    E: Ends + Console + Disturb,
+    W: Write,
+    V: Write,
+{
+    let done = if service.log {
+        serve_unattended(served, service, ends, &mut Log::new(err), out)
+    } else {
+        serve_unattended(served, service, ends, &mut Cables::new(err), out)
+    };
+    tell_end(service, &done, err);
+    done
+}
+
+/// Nobody, who passes over each line that comes.
+#[derive(Drop)]
+struct Nobody;
+
+impl Desk for Nobody {
+    fn take(&mut self, _served: &mut Served, _came: Counts, _line: Option<&[u8]>) -> Onward {
+        Onward::Goes
+    }
+}
+
+/// Serves a line with no commands, whose cables are looked at; somebody is told of each packet.
+fn serve_unattended<E, V, W>(
+    mut served: Served,
+    service: Service,
+    ends: &mut E,
+    watch: &mut V,
+    out: &mut W,
+) -> Result<u8, LineFailure>
+where
+    E: Ends + Console + Disturb,
+    V: Watch,
+    W: Write,
+{
+    let mut lines = Lines::new(out);
+    print_where(service, &mut lines)?;
+    let most = most_packets(service.packets);
+    let counts = served.serve_commanded(ends, most, watch, &mut Nobody)?;
+    print_end(counts, served.ring(), &mut lines)?;
+    Ok(GOOD)
 }
 
 /// Serves a line; somebody is told of each packet.

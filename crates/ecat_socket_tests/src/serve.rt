@@ -13,6 +13,7 @@ macro_rules! packet {
 
 mod applications;
 mod bench;
+mod cables;
 mod commands;
 mod console;
 mod disturbed;

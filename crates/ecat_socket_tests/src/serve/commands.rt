@@ -15,7 +15,7 @@ use std::net::SocketAddr;
 use std::process::Abort;
 
 /// What comes to ends: a packet, or a line of one byte.
-#[derive(Clone, Copy, PartialEq, Eq, Debug)]
+#[derive(Clone, Copy, PartialEq)]
 enum Next {
     Packet,
     Line(u8),

@@ -32,7 +32,7 @@ pub const BY_SECOND: [u8; 16] = [
 pub const RUBBISH: [u8; 16] = [0xFF; 16];
 
 /// A packet, by the name of its bytes.
-#[derive(Clone, Copy, PartialEq, Eq, Debug)]
+#[derive(Clone, Copy)]
 pub enum Spelling {
     /// The frame as a master sends it.
     Asked,

@@ -33,8 +33,8 @@ returns-then-most-packets-clause-serves g c =
     (rw left at c.in_ok-counts.ensures.serves) (rw as_told at c.if-most-packets.true)
     c.loop-command.invariant.leads
 
-pub returns-then-not-take_line-clause-serves : goal.returns-then-not-take_line-clause-serves
-returns-then-not-take_line-clause-serves g c =
+pub returns-then-not-see_to-clause-serves : goal.returns-then-not-see_to-clause-serves
+returns-then-not-see_to-clause-serves g c =
     let counts = c.loop-command.counts in
     let told = c.in_ok-counts.counts in
     let left = left_is c.args.most (packets counts) c.packets.result c.saturating_sub-left.result
@@ -43,10 +43,10 @@ returns-then-not-take_line-clause-serves g c =
     c.packets-in-loop-command.result c.loop-command.invariant.counted c.ranges.most.fits left
     c.in_ok-counts.ensures.counted c.packets-in-loop-command.ensures in
     leads_end g.E.Ends.receives g.E.Ends.sends c.args.most (2 ^ 64 - 1) c.args.self.now c.args.ends.now
-    c.loop-command._command counts told c.loop-command.self c.serve_on.new.self c.take_line.new.served
-    c.loop-command.ends c.serve_on.new.ends c.take_line.new.ends c.loop-command-test.true
+    c.loop-command._command counts told c.loop-command.self c.serve_on.new.self c.see_to.new.served
+    c.loop-command.ends c.serve_on.new.ends c.see_to.new.ends c.loop-command-test.true
     (rw left at c.in_ok-counts.ensures.serves) (rw as_told at c.if-most-packets.false)
-    c.take_line.ensures c.loop-command.invariant.leads
+    c.see_to.ensures c.loop-command.invariant.leads
 
 pub loop-command-preserved : goal.loop-command-preserved
 loop-command-preserved g c =
@@ -62,8 +62,8 @@ loop-command-preserved g c =
       counted = omega (arith, few);
       leads = leads_on g.E.Ends.receives g.E.Ends.sends c.args.most (2 ^ 64 - 1) c.args.self.now
           c.args.ends.now c.loop-command._command counts told c.loop-command.self c.serve_on.new.self
-          c.take_line.new.served c.loop-command.ends c.serve_on.new.ends c.take_line.new.ends
-          c.loop-command-test.true (rw left at c.in_ok-counts.ensures.serves) few c.take_line.ensures
+          c.see_to.new.served c.loop-command.ends c.serve_on.new.ends c.see_to.new.ends
+          c.loop-command-test.true (rw left at c.in_ok-counts.ensures.serves) few c.see_to.ensures
           c.loop-command.invariant.leads;
     }
 
