@@ -3,6 +3,7 @@
 Each is a function of a `Stage`. It gives what `cases/try` compares: a name, what is wanted, what is seen.
 """
 import contextlib
+import fcntl
 import os
 import pty
 import re
@@ -13,6 +14,7 @@ import socket
 import struct
 import subprocess
 import sys
+import termios
 import time
 
 CASES = []
@@ -697,7 +699,7 @@ def sums(cycles):
 
 def timed(text):
     """What a master prints, with N for the times of its cycles and for by how much they began late."""
-    times = r"least \d+ mean \d+ greatest \d+ microseconds, 99 of 100 within \d+(, missed \d+)?\n"
+    times = r"least \d+ mean \d+ greatest \d+ microseconds, 50% within \d+, 90% \d+, 99% \d+, 99.9% \d+(, missed \d+)?\n"
     return re.sub(f"^(cycle time|lateness) {times}", r"\1 N\n", text, flags=re.M)
 
 
@@ -1278,9 +1280,194 @@ def a_master_names_an_output_or_a_log_that_fails(stage):
         stage.file("m", MACHINE)
         words = ("master", "m", "--at", both_ends(stage), "--cycles", "5", *PATIENCE)
         wanted = STARTED + LEFT + sums(1) + ITEMS + "log: Write\n3\n"
-        yield "log", wanted, timed(stage.ends(*words, "--log", "/dev/full"))
+        yield "log", wanted, timed(stage.ends(*words, "--log", "/dev/full", "--log-or-stop"))
         with open("/dev/full", "wb") as full:
             yield "output", "output: Write\n3\n", stage.ends(*words, stdout=full)
+
+
+@case
+def a_full_log_is_told_and_the_cycles_go_on(stage):
+    with stage.serve(MACHINE, "--forever") as _line:
+        stage.file("m", MACHINE)
+        words = ("master", "m", "--at", both_ends(stage), "--cycles", "50", "--log", "/dev/full", *PATIENCE)
+        with stage.start(*words) as master:
+            out, err = (text.decode("latin-1") for text in master.process.communicate(timeout=stage.limit))
+            yield "output", STARTED + LEFT + sums(50) + ITEMS, timed(out)
+            yield "told once", "1", str(err.count("No space left on device"))
+            yield "status", "3", str(master.process.returncode)
+
+
+def without_late(text):
+    """What a master prints, without what it says of copies that came late: a loaded machine has some."""
+    return re.sub(r"(?m)^(cycle \d+: a copy of|late copies) .*\n", "", timed(text))
+
+
+def left_out(what, text):
+    """How many lines were left out there, as a master tells it."""
+    found = re.search(f"^{what}: nobody read it, so lines were left out: (\\d+)$", text, flags=re.M)
+    return int(found[1]) if found else 0
+
+
+@contextlib.contextmanager
+def small_pipe(stage):
+    """A pipe of this name that holds some 4,000 bytes, and is not read yet."""
+    path = os.path.join(stage.folder, "pipe")
+    os.mkfifo(path)
+    with os.fdopen(os.open(path, os.O_RDONLY | os.O_NONBLOCK), "rb", buffering=0) as pipe:
+        fcntl.fcntl(pipe, fcntl.F_SETPIPE_SZ, 8192)
+        yield pipe
+
+
+def held_by(pipe):
+    """How many bytes a pipe holds."""
+    return struct.unpack("i", fcntl.ioctl(pipe, termios.FIONREAD, bytes(4)))[0]
+
+
+def taken_of(pipe):
+    """What a pipe holds."""
+    return (pipe.read() or b"").decode("latin-1")
+
+
+@case
+def a_log_that_nobody_reads_keeps_no_cycle_waiting(stage):
+    """The log is a pipe that is read behind the last cycle: it has whole lines, and the others are counted."""
+    cycles = 1000
+    with stage.serve(MACHINE, "--forever"), small_pipe(stage) as pipe:
+        stage.file("m", MACHINE)
+        words = ("master", "m", "--at", both_ends(stage), "--cycles", str(cycles), "--log", "pipe", *PATIENCE)
+        end = without_late(stage.ends(*words))
+        count = left_out("log", end)
+        told = f"log: nobody read it, so lines were left out: {count}\n0\n"
+        yield "master", STARTED + LEFT + sums(cycles) + ITEMS + told, end
+        rows = re.sub(" unsure .*", "", taken_of(pipe))
+        yield "log", "".join(f"cycle {k} good counts 9 3\n" for k in range(cycles - count)), rows
+        yield "left out", "True", str(0 < count < cycles)
+
+
+@case
+def a_log_goes_on_where_it_is_read_again(stage):
+    """Its reader stops, and takes what there is once lines have been left out, three times over."""
+
+    def packets():
+        told = command(line, "counts")
+        line.line()
+        return int(told.split()[1])
+
+    def waits_for(enough):
+        until = time.monotonic() + stage.limit
+        while not enough() and time.monotonic() < until:
+            time.sleep(0.01)
+
+    with controlled(stage, MACHINE) as line, small_pipe(stage) as pipe:
+        stage.file("m", MACHINE)
+        words = ("master", "m", "--at", both_ends(stage), "--every", "1000", "--log", "pipe", *PATIENCE)
+        with stage.start(*words, stdin=subprocess.PIPE) as master:
+            rows = ""
+            for _ in range(3):
+                waits_for(lambda: held_by(pipe) > 4000)
+                before = packets()
+                waits_for(lambda: packets() > before + 200)
+                rows += taken_of(pipe)
+            master.process.stdin.close()
+            master.process.stdin = None
+            end = master.end()
+            rows = (rows + taken_of(pipe)).splitlines(True)
+        whole = [row for row in rows if re.fullmatch(r"cycle \d+ (\w+ )+counts \d+ \d+.*\n", row)]
+        yield "whole lines", str(len(rows)), str(len(whole))
+        numbers = [int(row.split()[1]) for row in rows]
+        yield "in order", str(sorted(set(numbers))), str(numbers)
+        made = re.search(r"^cycles (\d+) ", end, flags=re.M)[1]
+        yield "each cycle", made, str(len(rows) + left_out("log", end))
+        yield "left out", "True", str(left_out("log", end) > 0)
+
+
+@case
+def a_terminal_that_is_full_keeps_no_cycle_waiting(stage):
+    """It takes less at a time than a line has."""
+    with stage.serve(MACHINE, "--forever"), terminal() as (_written, screen):
+        stage.file("m", MACHINE)
+        log = os.ttyname(screen.fileno())
+        words = ("master", "m", "--at", both_ends(stage), "--cycles", "3000", "--log", log, *PATIENCE)
+        end = stage.ends(*words)
+        yield "left out", "True", str(left_out("log", end) > 0)
+        yield "status", "0\n", last_lines(end, 1)
+
+
+@case
+def a_terminal_that_is_held_keeps_no_cycle_waiting(stage):
+    """Control-S holds it and Control-Q lets it go on. Each cable that breaks or is mended is a line."""
+
+    def goes_on(log):
+        log.seek(0, os.SEEK_END)
+        at, until = log.tell(), time.monotonic() + stage.limit
+        while log.tell() < at + 1000 and time.monotonic() < until:
+            time.sleep(0.01)
+            log.seek(0, os.SEEK_END)
+        return log.tell() >= at + 1000
+
+    with controlled(stage, MACHINE) as line, terminal() as (written, screen):
+        stage.file("m", MACHINE)
+        words = ("master", "m", "--at", both_ends(stage), "--every", "1000", "--log", "log", *PATIENCE)
+        with stage.start(*words, stdin=subprocess.PIPE, stdout=screen) as master:
+            seen = seen_on(written, stage.limit, lambda text: "all in Op\n" in text.replace("\r", ""))
+            yield "start", STARTED, "".join(seen.replace("\r", "").splitlines(True)[:7])
+            os.write(written.fileno(), b"\x13")
+            with open(os.path.join(stage.folder, "log"), "rb") as log:
+                for way in ("down", "up") * 3:
+                    yield way, "ok\n", command(line, f"link 1 {way}")
+                    yield f"{way}: cycles", "True", str(goes_on(log))
+            os.write(written.fileno(), b"\x11")
+            master.process.stdin.close()
+            master.process.stdin = None
+            end = master.end()
+            seen = seen_on(written, stage.limit, lambda text: "item 1 " in text).replace("\r", "")
+            yield "sums", "item 1 BRD data 0800 wkc 3 of 3 adp 3\n", last_lines(seen, 1)
+            yield "left out", "True", str(left_out("output", end) >= 6)
+            yield "status", "0\n", last_lines(end, 1)
+
+
+@case
+def a_master_of_so_many_cycles_leaves_its_input_alone(stage):
+    """Unless it is told to end with it: it ends with whichever comes first."""
+    with stage.serve(MACHINE, "--forever"):
+        stage.file("m", MACHINE)
+        words = ("master", "m", "--at", both_ends(stage), *PATIENCE, "--cycles")
+        five = STARTED + LEFT + sums(5) + ITEMS + "0\n"
+        yield "at its end", five, timed(stage.ends(*words, "5"))
+        with stage.start(*words, "5", "--until-end", stdin=subprocess.PIPE) as master:
+            yield "open", five, timed(stage_end(master))
+        log = os.path.join(stage.folder, "log")
+        words = (*words, "4294967295", "--until-end", "--log", "log")
+        with stage.start(*words, stdin=subprocess.PIPE) as master:
+            for wanted in STARTED.splitlines(True):
+                yield "start", wanted, master.line()
+            until = time.monotonic() + stage.limit
+            while os.path.getsize(log) == 0 and time.monotonic() < until:
+                time.sleep(0.01)
+            master.process.stdin.close()
+            master.process.stdin = None
+            yield "ended", LEFT + ITEMS + "0\n", re.sub(r"(?m)^cycle.*\n", "", without_late(master.end()))
+
+
+def stage_end(running):
+    """What is left of a program whose input stays open."""
+    kept, running.process.stdin = running.process.stdin, None
+    try:
+        return running.end()
+    finally:
+        running.process.stdin = kept
+
+
+@case
+def a_busy_master_cycles_as_another_one(stage):
+    with stage.serve(MACHINE, "--forever"):
+        stage.file("m", MACHINE)
+        words = ("master", "m", "--at", both_ends(stage), "--cycles", "20", "--busy", *PATIENCE)
+        for more in ((), ("--every", "50000")):
+            end = without_late(stage.ends(*words, *more))
+            yield "start", STARTED, "".join(end.splitlines(True)[:7])
+            yield "cycles", "cycles 20 good 20", " ".join(re.search(r"(?m)^cycles .*$", end)[0].split()[:4])
+            yield "end", ITEMS + "0\n", last_lines(end, 3)
 
 
 @case
@@ -1311,19 +1498,19 @@ SCENES = os.path.join(os.path.dirname(os.path.abspath(__file__)), "..", "scenes"
 # Commands, and the KB of stack and of address space that each has to get by with: hardly more than it took
 # before its works were lent from cycle to cycle.
 ROOMS = [
-    ("check check/accepted.scene", 104, 4736),
-    ("cover cover/left_out.scene", 104, 4736),
-    ("lint check/accepted.scene", 104, 4736),
-    ("where where/one_link_down.scene", 104, 4736),
-    ("run first.scene", 184, 4736),
-    ("run first.scene --judge", 184, 4736),
-    ("sweep sweep/two_slaves.scene", 320, 4736),
-    ("sdo sdo/lost_answer.scene 0x1001 0x1018 1 --surely", 104, 4736),
-    ("show startup.pcap", 104, 4736),
-    ("list startup.pcap --stats", 104, 4736),
-    ("learn startup.pcap", 104, 4736),
-    ("judge startup.pcap", 104, 4736),
-    ("vectors", 512, 4736),
+    ("check check/accepted.scene", 104, 4880),
+    ("cover cover/left_out.scene", 104, 4880),
+    ("lint check/accepted.scene", 104, 4880),
+    ("where where/one_link_down.scene", 104, 4880),
+    ("run first.scene", 184, 4880),
+    ("run first.scene --judge", 184, 4880),
+    ("sweep sweep/two_slaves.scene", 320, 4880),
+    ("sdo sdo/lost_answer.scene 0x1001 0x1018 1 --surely", 104, 4880),
+    ("show startup.pcap", 104, 4880),
+    ("list startup.pcap --stats", 104, 4880),
+    ("learn startup.pcap", 104, 4880),
+    ("judge startup.pcap", 104, 4880),
+    ("vectors", 512, 4880),
 ]
 
 
@@ -1424,7 +1611,7 @@ def list_tells_a_terminal_how_far_it_is(stage):
 # A line of progress of a master, and the greatest time of a cycle that it tells.
 PROGRESS = (
     r"cycles \d+ good \d+ short \d+ over 0 fault 0 not-in-op 0, "
-    r"cycle time least \d+ mean \d+ greatest (\d+) microseconds\r\n"
+    r"cycle time least \d+ mean \d+ greatest (\d+) microseconds, \d+ a second(?:, missed \d+)?\r\n"
 )
 
 
@@ -1669,15 +1856,16 @@ def a_port_that_fails_has_the_status_of_a_failure(stage):
     stage.file("m", MACHINE)
     words = ("master", "m", "--at", both_ends(stage), "--cycles", "5", *PATIENCE)
     with stage.serve(MACHINE, "--forever"):
-        yield "slaves are counted", "fault: Port\n3\n", unsent(stage, "3+", words)
-        yield "the cable is looked at", "slaves 3\nfault: Port\n3\n", unsent(stage, "5+", words)
-        station = "slaves 3\nring whole\nfault: slave 0 (0x1001): station: Port\n3\n"
+        down = "port A failed (Network is down)\nport B failed (Network is down)\n"
+        yield "slaves are counted", f"{down}fault: Port\n3\n", unsent(stage, "3+", words)
+        yield "the cable is looked at", f"slaves 3\n{down}fault: Port\n3\n", unsent(stage, "5+", words)
+        station = f"slaves 3\nring whole\n{down}fault: slave 0 (0x1001): station: Port\n3\n"
         yield "a station is given", station, unsent(stage, "7+", words)
-        yield "scan", "cycle: Port\n3\n", unsent(stage, "3+", ("scan", "--at", both_ends(stage)))
+        yield "scan", f"{down}cycle: Port\n3\n", unsent(stage, "3+", ("scan", "--at", both_ends(stage)))
 
 
 @case
-def a_log_has_the_port_that_failed(stage):
+def a_packet_that_cannot_be_sent_is_a_missing_copy(stage):
     """One packet of all cannot be sent, of a cycle: the start takes fewer. Where strace is not to be had there
     is nothing to see."""
     if not has_faults():
@@ -1686,14 +1874,15 @@ def a_log_has_the_port_that_failed(stage):
     words = ("master", "m", "--at", both_ends(stage), "--cycles", "600", "--log", "log", *PATIENCE)
     with stage.serve(MACHINE, "--forever"):
         seen = unsent(stage, "1000", words).removeprefix(STARTED).splitlines(True)
-    failed = "cycle N: a port failed\ncycle N: good again after 1 cycles\n"
-    yield "told", failed, "".join(re.sub(r"^cycle \d+", "cycle N", row) for row in seen[:2])
-    end = LEFT + "cycles 600 good 599 short 0 over 0 fault 1 not-in-op 0\ncycle time N\n" + ITEMS + "0\n"
-    yield "end", end, timed("".join(seen[2:]))
+    told = "cycle N: redundancy lost: port P failed (Network is down)\ncycle N: port P works again\n"
+    rows = [re.sub("port [AB]", "port P", re.sub(r"^cycle \d+", "cycle N", row)) for row in seen[:2]]
+    yield "told", told, "".join(rows)
+    failed = [row for row in seen if re.fullmatch(r"port A failed [01] times, port B [01]\n", row)]
+    yield "counted", "1", str(len(failed))
+    end = LEFT + sums(600) + ITEMS + "0\n"
+    yield "end", end, timed("".join(row for row in seen[2:] if row not in failed))
     with open(os.path.join(stage.folder, "log"), encoding="latin-1") as log:
-        rows = [re.sub(r"^cycle \d+ ", "", row) for row in log]
-    yield "log", "fault Port counts\n", "".join(row for row in rows if row != "good counts 9 3\n")
-    yield "rows", "600", str(len(rows))
+        yield "log", "good counts 9 3\n" * 600, "".join(re.sub(r"^cycle \d+ ", "", row) for row in log)
 
 
 @case
@@ -1944,7 +2133,7 @@ def times_that_are_seldom_are_among_99_of_100(stage):
     while len(ends) < 3 and not is_one:
         with master_behind(stage, 100, *PATIENCE, **acts) as (_line, between, master):
             ends.append(between.until_the_end_of(master))
-        times = re.search(r"^cycle time .* greatest (\d+) .* within (\d+)$", ends[-1], re.M)
+        times = re.search(r"^cycle time .* greatest (\d+) .* 99% (\d+), 99.9% \d+$", ends[-1], re.M)
         is_one = times is not None and 200000 <= int(times[2]) < int(times[1])
     yield "within", "True", "True" if is_one else "".join(ends)
 

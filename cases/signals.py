@@ -13,7 +13,8 @@ import time
 
 from install import install
 from launcher import Clone, copy
-from live import ITEMS, LEFT, MACHINE, PATIENCE, STARTED, Running, Stage, asked, both_ends, timed
+from live import ITEMS, LEFT, MACHINE, PATIENCE, STARTED, Running, Stage
+from live import asked, both_ends, timed, without_late
 
 CASES = []
 
@@ -195,6 +196,26 @@ def a_master_ends_by_a_signal_as_by_its_end_of_input(stage):
                 yield f"{number.name}: left", "[]", master.left()
 
 
+@case
+def a_master_of_so_many_cycles_ends_by_a_signal_too(stage):
+    """It leaves its own input alone, whatever becomes of that."""
+    words = (*stage.master, "--cycles")
+    with stage.direct.serve(MACHINE, "--forever"):
+        for number in (INT, TERM, HUP):
+            with stage.start(*words, "4294967295", stdin=subprocess.DEVNULL) as master:
+                yield "start", STARTED, stage.brought_to_op(master)
+                master.process.send_signal(number)
+                yield number.name, sums(ITEMS + "0\n"), without_counts(without_late(master.end()))
+                yield f"{number.name}: left", "[]", master.left()
+        script = ("-c", '"$@"; cat', "sh", stage.clone.at("ecat"), *words, "5")
+        with stage.session("/bin/sh", script, stdin=subprocess.PIPE) as master:
+            master.process.stdin.write(b"not read\n")
+            master.process.stdin.close()
+            master.process.stdin = None
+            wanted = STARTED + sums(ITEMS + "not read\n0\n")
+            yield "five", wanted, without_counts(without_late(master.end()))
+
+
 def sums(rest):
     """The end of a master whose cycles were all good."""
     return LEFT + "cycles N good N short 0 over 0 fault 0 not-in-op 0\ncycle time N\n" + rest
@@ -320,8 +341,11 @@ def what_no_end_of_input_ends_is_the_process_itself(stage):
         "scan --at x",
         "help serve",
         "serve --help",
-        "master s --at x --cycles 5",
-        "master s --at x --cycles=5",
+        "master /dev/stdin --at x --cycles 5",
+        "master s --at x --cycles",
+        "master s --at x --cycles 5 --unknown",
+        "master s t --at x --cycles 5",
+        "serve s --cycles 5",
         "serve /dev/stdin --forever",
         "serve --forever",
         "serve s t --packets 3",
@@ -333,6 +357,14 @@ def what_no_end_of_input_ends_is_the_process_itself(stage):
             yield line, f"{running.process.pid} {line}\n0\n", running.end()
     for line, given in [
         ("master s --at x", "master s --at x"),
+        ("master s --at x --cycles 5", "master --until-end s --at x --cycles 5"),
+        ("master s --at x --cycles=5", "master --until-end s --at x --cycles=5"),
+        ("master s --cycles 5 --until-end", "master s --cycles 5 --until-end"),
+        (
+            "master --raw 10,11 s --cycles 5 --every=9 --busy --log l --log-images --log-or-stop --stop",
+            "master --until-end --raw 10,11 s --cycles 5 --every=9 --busy --log l --log-images --log-or-stop"
+            " --stop",
+        ),
         ("serve s", "serve s"),
         ("serve s --control --packets 5", "serve s --control --packets 5"),
         ("serve s --forever", "serve --control s --forever"),
@@ -391,6 +423,9 @@ def refused_words_are_told_as_the_program_tells_them(stage):
         "serve s --forever --forever",
         "master s",
         "master s --at 127.0.0.1:9,no end",
+        "master s --at 127.0.0.1:9 --cycles 5 --bogus",
+        "master s --at 127.0.0.1:9 --cycles 0",
+        "master s --cycles 5",
     ):
         with stage.direct.start(*line.split()) as program, stage.start(*line.split()) as launcher:
             yield line, program.end(), launcher.end()

@@ -26,6 +26,7 @@ use std::fmt::Display;
 use std::fs::OpenFile;
 use std::io::IsTerminal;
 use std::net::Net;
+use std::os::fd::AsRawFd;
 use std::process::ExitCode;
 use std::random::RandomSource;
 use std::rt::{Clock, Env, Files, Stdin};
@@ -37,6 +38,8 @@ const VERSION: &str = "ecat 2.0";
 fn main(rt: HostRuntime) -> ExitCode {
     let console = Console {
         input: rt.stdin(),
+        output: rt.stdout().as_raw_fd(),
+        errors: rt.stderr().as_raw_fd(),
         is_watched: rt.stderr().is_terminal(),
         is_read: rt.stdout().is_terminal(),
     };
@@ -47,6 +50,7 @@ fn main(rt: HostRuntime) -> ExitCode {
 fn start<R, W, V>(rt: &R, console: Console, out: &mut W, err: &mut V) -> u8
 where
     R: Clock + Env + Files + Net + RandomSource + AllocGlobal,
+    R::File: AsRawFd,
     W: io::Write,
     V: io::Write,
 {
@@ -139,6 +143,7 @@ fn tell_refusal<V: io::Write>(fault: ArgsFault, err: &mut V) -> u8
 fn open<R, W, V>(rt: &R, args: &Args<'_>, console: Console, out: &mut W, err: &mut V) -> u8
 where
     R: Clock + Files + Net + RandomSource + AllocGlobal,
+    R::File: AsRawFd,
     W: io::Write,
     V: io::Write,
 {
@@ -218,6 +223,7 @@ fn over_scene<R, S, W, V>(
 ) -> u8
 where
     R: Clock + Files + Net + RandomSource + AllocGlobal,
+    R::File: AsRawFd,
     S: Source,
     W: io::Write,
     V: io::Write,

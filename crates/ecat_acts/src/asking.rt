@@ -5,10 +5,10 @@ ghost use Rattle.std.specs.Prelude.{◌≡◌, IfOk, is_some};
 use crate::failure::{Failure, report, report_file, status_of};
 use crate::finding::Finding;
 use crate::piped::Piped;
-use crate::remote::{Reach, raw_ports, remote_ports, tell_late};
+use crate::remote::{Reach, raw_ports, remote_ports, tell_failing, tell_late};
 use crate::tape::{ToScene, make_scene};
 use ec_master::Ports;
-use ec_ring::HeardPorts;
+use ec_ring::{HeardPorts, Port};
 use ec_run::Watched;
 use ecat_args::ScanWords;
 use ecat_master::{Finder, Unfound, scan};
@@ -141,15 +141,28 @@ where
 {
     let told = match reach {
         Reach::At(at) => match remote_ports(rt, at, None, &mut unrecorded()) {
-            Ok(mut ports) => located(rt.alloc(), &mut ports, scene, out),
+            Ok(mut ports) => {
+                let told = located(rt.alloc(), &mut ports, scene, out);
+                tell_failing_of(&ports, err);
+                told
+            }
             Err(failure) => return report(&failure, out, err),
         },
         Reach::Raw(descriptors) => match raw_ports(rt, descriptors, None, &mut unrecorded()) {
-            Ok(mut ports) => located(rt.alloc(), &mut ports, scene, out),
+            Ok(mut ports) => {
+                let told = located(rt.alloc(), &mut ports, scene, out);
+                tell_failing_of(&ports, err);
+                told
+            }
             Err(failure) => return report(&failure, out, err),
         },
     };
     status_of(told, out, err)
+}
+
+/// Tells which of these ports fail.
+fn tell_failing_of<P: HeardPorts, V: Write>(ports: &P, err: &mut V) {
+    tell_failing(ports.health(Port::A), ports.health(Port::B), err);
 }
 
 /// Says where the cable of the line at ports is broken, unless its scene is none.
@@ -179,11 +192,19 @@ where
 {
     let told = match reach {
         Reach::At(at) => match remote_ports(rt, at, None, &mut unrecorded()) {
-            Ok(mut ports) => transferred(rt.alloc(), asked, &mut ports, scene, out, err),
+            Ok(mut ports) => {
+                let told = transferred(rt.alloc(), asked, &mut ports, scene, out, err);
+                tell_failing_of(&ports, err);
+                told
+            }
             Err(failure) => return report(&failure, out, err),
         },
         Reach::Raw(descriptors) => match raw_ports(rt, descriptors, None, &mut unrecorded()) {
-            Ok(mut ports) => transferred(rt.alloc(), asked, &mut ports, scene, out, err),
+            Ok(mut ports) => {
+                let told = transferred(rt.alloc(), asked, &mut ports, scene, out, err);
+                tell_failing_of(&ports, err);
+                told
+            }
             Err(failure) => return report(&failure, out, err),
         },
     };
@@ -212,7 +233,9 @@ where
     V: Write,
 {
     let mut piped = Piped::new(out);
-    let done = scanned(ports, finder, &mut piped);
+    let mut ports = Watched::new(ports);
+    let done = scanned(&mut ports, finder, &mut piped);
+    tell_failing(ports.health(Port::A), ports.health(Port::B), err);
     if piped.is_closed() {
         return GOOD;
     }
@@ -221,12 +244,12 @@ where
 
 /// Prints what slaves stand on a line; the status says whether all could be read.
 fn scanned<P: HeardPorts + Drop, F: Finder, W: Write>(
-    ports: P,
+    ports: &mut Watched<P>,
     finder: &mut F,
     out: &mut W,
 ) -> Result<u8, Failure> {
     let mut lines = Lines::new(out);
-    if scan(&mut Watched::new(ports), &mut lines, finder)? {
+    if scan(ports, &mut lines, finder)? {
         Ok(GOOD)
     } else {
         Ok(REFUSED)

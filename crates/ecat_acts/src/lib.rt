@@ -8,7 +8,8 @@
 //!   what is written by `tape`;
 //! - [`act_list`](listing::act_list) and [`act_show`](show::act_show) go through a capture, `learning` tells
 //!   how `learn` ended, and `judging` judges a capture by a scene or by the line that it shows;
-//! - `piped` is an output that its reader may close;
+//! - `piped` is an output that its reader may close, and `patience` says when a master waits for who reads
+//!   what it writes: not while its cycles run;
 //! - [`report`](failure::report) tells a [`Failure`](failure::Failure) by its fixed line, and `hints` what
 //!   helps a person behind it.
 //!
@@ -30,6 +31,7 @@ pub mod learning;
 pub mod listing;
 mod mastering;
 pub mod on_scene;
+mod patience;
 mod piped;
 mod raw;
 mod remote;

@@ -1,12 +1,13 @@
 //! `ecat master`: what its words say, and what it opens.
 
-ghost use Rattle.std.specs.Prelude.{◌≡◌, IfOk, None, Some, is_some};
+ghost use Rattle.std.specs.Prelude.{◌≡◌, ◌||◌, IfOk, None, Some, is_none, is_some};
 ghost use Rattle.ec_regs.specs.declared.al.AlState.TheVariants.{Init};
 
 use crate::console::Console;
 use crate::course::{Course, act_master, course_of};
 use crate::failure::{Failure, report, report_file};
 use crate::images::images_at;
+use crate::patience::{Impatient, tell_left_out};
 use crate::remote::{Reach, left_in, raw_ports, remote_ports, tell_late};
 use crate::tape::{Pcap, end, make};
 use ec_regs::AlState;
@@ -15,9 +16,13 @@ use ecat_args::MasterWords;
 use ecat_master::Plan;
 use ecat_pace::{Beat, Ending};
 use ecat_record::{Moments, Recorder, WallClock, unrecorded};
+use ecat_remote::{Carrier, RemotePorts, Timer};
 use ecat_scene::{Scene, SceneFault};
 use ecat_setup::LineFailure;
+use ecat_unblocking::{AT_ONCE, Behind, Screen, Unblocking, never_waits};
+use std::cell::Cell;
 use std::net::Net;
+use std::os::fd::AsRawFd;
 use std::random::RandomSource;
 use std::rt::{Clock, Files, Stdin};
 use std::time::Duration;
@@ -30,8 +35,12 @@ struct Running<'a> {
     reach: Reach<'a>,
     /// After how many cycles it ends; with the input where there is none.
     cycles: Option<u32>,
+    /// Whether it ends with the input too where it ends after so many cycles.
+    until_end: bool,
     /// How many microseconds lie between the beginnings of cycles.
     every: Option<u32>,
+    /// Whether it never sleeps while it waits.
+    busy: bool,
     /// For how many microseconds copies are waited for, where the words say so.
     limit: Option<u32>,
     /// What the outputs are: `count`, or the path of a file.
@@ -40,6 +49,8 @@ struct Running<'a> {
     log: Option<&'a str>,
     /// Whether that line has what the cycle sent and took.
     log_images: bool,
+    /// Whether it ends where the log cannot be written.
+    log_or_stop: bool,
     /// Whether it ends at the first cycle that is not good.
     stop: bool,
     /// Whether slaves are brought up again.
@@ -56,11 +67,14 @@ impl<'w> Running<'w> {
     /// What the words say at this console, unless they do not say how the line is reached, or name no state.
     fn of(words: &MasterWords<'w>, console: &Console) -> Result<Running<'w>, Failure>
         ensures cycles { IfOk result (λ running. running.cycles ≡ words.now.cycles) }
+        ensures until_end { IfOk result (λ running. running.until_end ≡ words.now.until_end) }
         ensures every { IfOk result (λ running. running.every ≡ words.now.every) }
+        ensures busy { IfOk result (λ running. running.busy ≡ words.now.busy) }
         ensures limit { IfOk result (λ running. running.limit ≡ words.now.limit) }
         ensures outputs { IfOk result (λ running. running.outputs ≡ words.now.outputs) }
         ensures log { IfOk result (λ running. running.log ≡ words.now.log) }
         ensures log_images { IfOk result (λ running. running.log_images ≡ words.now.log_images) }
+        ensures log_or_stop { IfOk result (λ running. running.log_or_stop ≡ words.now.log_or_stop) }
         ensures stop { IfOk result (λ running. running.stop ≡ words.now.stop) }
         ensures recover { IfOk result (λ running. running.recover ≡ words.now.recover) }
         ensures progress { IfOk result (λ running. running.progress ≡ console.now.is_watched) }
@@ -72,17 +86,28 @@ impl<'w> Running<'w> {
         Ok(Running {
             reach,
             cycles: words.cycles,
+            until_end: words.until_end,
             every: words.every,
+            busy: words.busy,
             limit: words.limit,
             outputs: words.outputs,
             log: words.log,
             log_images: words.log_images,
+            log_or_stop: words.log_or_stop,
             stop: words.stop,
             recover: words.recover,
             progress: console.is_watched,
             leave,
             pcap: Pcap::of(words.pcap, words.force),
         })
+    }
+
+    /// Does it end with the input? It does where it is not to end after so many cycles, or where it is to end
+    /// with both.
+    fn ends_with_input(&self) -> bool
+        ensures { result ≡ (is_none self.now.cycles || self.now.until_end) }
+    {
+        self.cycles.is_none() || self.until_end
     }
 
     /// How a master runs that has these outputs. Whether cycles tell the states, and who the slaves are to
@@ -94,6 +119,7 @@ impl<'w> Running<'w> {
         ensures progress { result.progress ≡ self.now.progress }
         ensures log { result.log ≡ is_some self.now.log }
         ensures log_images { result.log_images ≡ self.now.log_images }
+        ensures log_or_stop { result.log_or_stop ≡ self.now.log_or_stop }
         ensures leave { result.leave ≡ self.now.leave }
     {
         Plan {
@@ -103,6 +129,7 @@ impl<'w> Running<'w> {
             progress: self.progress,
             log: self.log.is_some(),
             log_images: self.log_images,
+            log_or_stop: self.log_or_stop,
             states: false,
             identities: &[],
             leave: self.leave,
@@ -139,7 +166,15 @@ where
     }
 }
 
-/// Brings the line of a scene to Op, as the words of `master` say, and answers the exit status.
+/// What a master has of its console while it runs: the input, and how patient its writers are.
+#[derive(Drop)]
+struct Attended<'a> {
+    input: Stdin,
+    is_patient: &'a Cell<bool>,
+}
+
+/// Brings the line of a scene to Op, as the words of `master` say, and answers the exit status. No cycle
+/// waits for who reads the output or standard error.
 #[inline(never)]
 pub fn master_by<R, W, V>(
     rt: &R,
@@ -151,21 +186,23 @@ pub fn master_by<R, W, V>(
 ) -> u8
 where
     R: Clock + Files + Net + RandomSource + AllocGlobal,
+    R::File: AsRawFd,
     W: io::Write,
     V: io::Write,
 {
-    match Running::of(words, &console) {
-        Ok(running) => {
-            tell_late(words.late, err);
-            master_at(rt, running, console, scene, out, err)
-        }
-        Err(failure) => report(&failure, out, err),
-    }
+    let running = match Running::of(words, &console) {
+        Ok(running) => running,
+        Err(failure) => return report(&failure, out, err),
+    };
+    tell_late(words.late, err);
+    let mut out = Screen::of(rt, out, console.output_terminal());
+    let mut err = Screen::of(rt, err, console.errors_terminal());
+    master_read(rt, running, console, scene, &mut out, &mut err)
 }
 
-/// Brings the line of a scene to Op, where it lies, and cycles on it. The sockets and the log are opened once
-/// it is known that there is something to cycle on, and what the outputs are.
-fn master_at<R, W, V>(
+/// Has a master run whose output and standard error may be read at this console, or not, and tells how many
+/// lines of them were left out.
+fn master_read<R, W, V>(
     rt: &R,
     running: Running<'_>,
     console: Console,
@@ -175,6 +212,37 @@ fn master_at<R, W, V>(
 ) -> u8
 where
     R: Clock + Files + Net + RandomSource + AllocGlobal,
+    R::File: AsRawFd,
+    W: io::Write,
+    V: io::Write,
+{
+    let is_patient = Cell::new(true);
+    let (output, errors) = (Behind(console.output), Behind(console.errors));
+    let mut out = Unblocking::new(out, output, AT_ONCE, &is_patient);
+    let mut err = Unblocking::new(err, errors, AT_ONCE, &is_patient);
+    let attended = Attended {
+        input: console.input,
+        is_patient: &is_patient,
+    };
+    let status = master_at(rt, running, attended, scene, &mut out, &mut err);
+    tell_left_out("output", out.left_out(), &mut err);
+    tell_left_out("standard error", err.left_out(), &mut err);
+    status
+}
+
+/// Brings the line of a scene to Op, where it lies, and cycles on it. The sockets and the log are opened once
+/// it is known that there is something to cycle on, and what the outputs are.
+fn master_at<R, W, V>(
+    rt: &R,
+    running: Running<'_>,
+    attended: Attended<'_>,
+    scene: Result<Scene, SceneFault>,
+    out: &mut W,
+    err: &mut V,
+) -> u8
+where
+    R: Clock + Files + Net + RandomSource + AllocGlobal,
+    R::File: AsRawFd,
     W: io::Write,
     V: io::Write,
 {
@@ -189,7 +257,7 @@ where
     let plan = running.plan(outputs_of(running.outputs, images.as_slice()));
     let Some(pcap) = running.pcap else {
         let recorder = &mut unrecorded();
-        return master_logged(rt, course, running, &plan, console, recorder, out, err);
+        return master_logged(rt, course, running, &plan, attended, recorder, out, err);
     };
     match make(rt, pcap, out, err) {
         Ok(file) => {
@@ -199,7 +267,7 @@ where
                 course,
                 running,
                 &plan,
-                console,
+                attended,
                 &mut recorder,
                 out,
                 err,
@@ -210,19 +278,21 @@ where
     }
 }
 
-/// Opens the log of a master, if it has one, and has it run.
+/// Opens the log of a master, if it has one, has it run, and tells how many lines of the log were left out,
+/// since no cycle waits for who reads it.
 fn master_logged<R, T, M, W, V>(
     rt: &R,
     course: Course,
     running: Running<'_>,
     plan: &Plan<'_>,
-    console: Console,
+    attended: Attended<'_>,
     recorder: &mut Recorder<T, M>,
     out: &mut W,
     err: &mut V,
 ) -> u8
 where
     R: Clock + Files + Net + RandomSource + AllocGlobal,
+    R::File: AsRawFd,
     T: io::Write,
     M: Moments,
     W: io::Write,
@@ -230,14 +300,18 @@ where
 {
     let Some(path) = running.log else {
         let log = &mut io::sink();
-        return run_master(rt, course, running, plan, console, recorder, out, err, log);
+        return run_master(rt, course, running, plan, attended, recorder, out, err, log);
     };
-    match fs::create(rt, path) {
-        Ok(mut log) => run_master(
-            rt, course, running, plan, console, recorder, out, err, &mut log,
-        ),
-        Err(error) => report_file(&Failure::Log, path, &error, out, err),
-    }
+    let mut file = match fs::create(rt, path) {
+        Ok(file) => file,
+        Err(error) => return report_file(&Failure::Log, path, &error, out, err),
+    };
+    never_waits(&file);
+    let reader = Behind(file.as_raw_fd());
+    let log = &mut Unblocking::new(&mut file, reader, AT_ONCE, attended.is_patient);
+    let status = run_master(rt, course, running, plan, attended, recorder, out, err, log);
+    tell_left_out("log", log.left_out(), err);
+    status
 }
 
 /// Opens the sockets and the clock of a master, and has it run.
@@ -246,7 +320,7 @@ fn run_master<R, T, M, W, V, L>(
     course: Course,
     running: Running<'_>,
     plan: &Plan<'_>,
-    console: Console,
+    attended: Attended<'_>,
     recorder: &mut Recorder<T, M>,
     out: &mut W,
     err: &mut V,
@@ -260,28 +334,39 @@ where
     V: io::Write,
     L: io::Write,
 {
-    let Ok(mut beat) = beat_of(rt, running, console.input) else {
+    let Ok(beat) = beat_of(rt, running, attended.input) else {
         return report(&Failure::Clock, out, err);
     };
+    let mut pace = Impatient::new(beat, attended.is_patient);
     let Ok(counters) = course.counters(rt.alloc()) else {
         return report(&Failure::Line(LineFailure::NoMemory), out, err);
     };
     match running.reach {
         Reach::At(at) => match remote_ports(rt, at, running.limit, recorder) {
             Ok(ports) => {
-                let ports = ports.expecting(counters);
-                act_master(course, ports, plan, &mut beat, out, err, log)
+                let ports = ready(ports, counters, running.busy);
+                act_master(course, ports, plan, &mut pace, out, err, log)
             }
             Err(failure) => report(&failure, out, err),
         },
         Reach::Raw(descriptors) => match raw_ports(rt, descriptors, running.limit, recorder) {
             Ok(ports) => {
-                let ports = ports.expecting(counters);
-                act_master(course, ports, plan, &mut beat, out, err, log)
+                let ports = ready(ports, counters, running.busy);
+                act_master(course, ports, plan, &mut pace, out, err, log)
             }
             Err(failure) => report(&failure, out, err),
         },
     }
+}
+
+/// Ports that expect these counters of a cycle, and never sleep where they are to be busy.
+fn ready<C: Carrier, T: Timer>(
+    ports: RemotePorts<C, T>,
+    counters: Vec<u16>,
+    busy: bool,
+) -> RemotePorts<C, T> {
+    let ports = ports.expecting(counters);
+    if busy { ports.busily() } else { ports }
 }
 
 /// The beat of a master's cycles, which end after as many as the words say, or with the input.
@@ -289,13 +374,15 @@ fn beat_of<'a, R>(rt: &'a R, running: Running<'_>, input: Stdin) -> io::Result<B
 where
     R: Clock + Net + AllocGlobal,
 {
-    let ending = match running.cycles {
-        Some(_) => None,
-        None => Some(Ending::of(rt, rt.alloc(), input)?),
+    let ending = if running.ends_with_input() {
+        Some(Ending::of(rt, rt.alloc(), input)?)
+    } else {
+        None
     };
     let every = match running.every {
         Some(micros) => Some(Duration::from_micros(u64::from(micros))),
         None => None,
     };
-    Beat::new(rt, every, running.cycles, ending)
+    let beat = Beat::new(rt, every, running.cycles, ending)?;
+    Ok(if running.busy { beat.busily() } else { beat })
 }

@@ -21,6 +21,7 @@ use ecat_simulation::run;
 use ecat_udp::UdpLine;
 use std::io;
 use std::net::{Ipv4Addr, Net};
+use std::os::fd::AsRawFd;
 use std::random::RandomSource;
 use std::rt::{Clock, Files};
 
@@ -38,6 +39,7 @@ pub fn on_scene<R, W, V>(
 ) -> u8
 where
     R: Clock + Files + Net + RandomSource + AllocGlobal,
+    R::File: AsRawFd,
     W: io::Write,
     V: io::Write,
 {

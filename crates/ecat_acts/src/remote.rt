@@ -10,12 +10,16 @@ use crate::failure::Failure;
 use arrayvec::ArrayVec;
 use ec_number::Trip;
 use ec_regs::AlState;
+use ec_ring::{Port, PortHealth};
 use ec_wire::{Command, Datagram, FrameBuf};
 use ecat_master::ScanEnd;
 use ecat_raw::{Descriptors, RawCarrier, descriptors_of};
 use ecat_record::{Moments, Recorder, TapedCarrier};
-use ecat_remote::{Carrier, ClockTimer, OpenFault, RemotePorts, UdpCarrier, ends_of, greet};
+use ecat_remote::{
+    Carrier, ClockTimer, OpenFault, RemotePorts, SteadyCarrier, UdpCarrier, ends_of, greet,
+};
 use ecat_setup::LineFailure;
+use ecat_text::{PortText, SystemError};
 use std::io::Write;
 use std::net::Net;
 use std::random::RandomSource;
@@ -112,8 +116,11 @@ impl From<ScanEnd> for Failure {
     }
 }
 
-/// A master's two ports, of which each packet is recorded if anybody wants it.
-pub type TapedPorts<'a, 't, R, C, W, M> = RemotePorts<TapedCarrier<'t, C, W, M>, ClockTimer<'a, R>>;
+/// A master's two ports over what carries the packets, one of which may fail.
+type SteadyPorts<'a, R, C> = RemotePorts<SteadyCarrier<C>, ClockTimer<'a, R>>;
+
+/// A master's two ports, of which each packet is recorded if anybody wants it, and one may fail.
+pub type TapedPorts<'a, 't, R, C, W, M> = SteadyPorts<'a, R, TapedCarrier<'t, C, W, M>>;
 
 /// The two ports of a master whose line lies there, `HOST:PORT` or two of them with a comma between. A first
 /// frame that asks nothing has gone out from each, so that whoever serves the line knows where both are: that
@@ -158,14 +165,25 @@ fn ports_over<'a, R, C>(
     rt: &'a R,
     carrier: C,
     limit: Option<u32>,
-) -> Result<RemotePorts<C, ClockTimer<'a, R>>, Failure>
+) -> Result<SteadyPorts<'a, R, C>, Failure>
 where
     R: Clock + RandomSource + AllocGlobal,
     C: Carrier + Drop,
 {
+    let steady = SteadyCarrier::new(carrier);
     match ClockTimer::new(rt) {
-        Ok(timer) => Ok(RemotePorts::new(carrier, timer, patience(limit), first_trip(rt))),
+        Ok(timer) => Ok(RemotePorts::new(steady, timer, patience(limit), first_trip(rt))),
         Err(_) => Err(Failure::Clock),
+    }
+}
+
+/// Tells which ports fail, by the system's words. A fault of such a line is passed over.
+pub fn tell_failing<V: Write>(a: PortHealth, b: PortHealth, err: &mut V) {
+    for (port, health) in [(Port::A, a), (Port::B, b)] {
+        if let Some(error) = health.error {
+            let (port, error) = (PortText(port), SystemError(error));
+            let _ = writeln!(err, "port {port} failed ({error})");
+        }
     }
 }
 

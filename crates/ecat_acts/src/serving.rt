@@ -3,12 +3,12 @@
 use crate::failure::{Failure, report, status_of, unbound};
 use crate::on_scene::report_unbound;
 use crate::tape::{Pcap, end, make};
-use ecat_raw::{Descriptors, RawEnds};
+use ecat_raw::{Carriers, Descriptors, RawEnds};
 use ecat_record::{Moments, Recorder, TapedEnds, WallClock, unrecorded};
 use ecat_remote::{ClockTimer, Timer};
 use ecat_scene::{Scene, SceneFault};
-use ecat_serve::{Console as LineConsole, Disturbed, Served, TimedEnds, Times, UdpEnds};
-use ecat_service::{Service, control, line_to_serve, serve};
+use ecat_serve::{Cabled, Console as LineConsole, Disturbed, Served, TimedEnds, Times, UdpEnds};
+use ecat_service::{Service, control, line_to_serve, serve, serve_cabled};
 use ecat_setup::LineFailure;
 use std::alloc::Global;
 use std::io;
@@ -65,7 +65,7 @@ fn serve_taped<R, T, M, W, V>(
     err: &mut V,
 ) -> u8
 where
-    R: Clock + Net + AllocGlobal,
+    R: Clock + Files + Net + AllocGlobal,
     T: io::Write,
     M: Moments,
     W: io::Write,
@@ -100,7 +100,8 @@ where
     serve_ends(rt, service, &mut ends, served, recorder, out, err)
 }
 
-/// Serves a line at packet sockets.
+/// Serves a line at packet sockets, under commands where the service takes them, and records each copy at its
+/// ends, if anybody wants it. A cable that is pulled there is the link of the line at that end.
 fn serve_raw<R, T, M, W, V>(
     rt: &R,
     service: Service,
@@ -112,7 +113,7 @@ fn serve_raw<R, T, M, W, V>(
     err: &mut V,
 ) -> u8
 where
-    R: Clock + Net + AllocGlobal,
+    R: Clock + Files + Net + AllocGlobal,
     T: io::Write,
     M: Moments,
     W: io::Write,
@@ -125,7 +126,13 @@ where
     if service.control {
         ends.keep_lines();
     }
-    serve_ends(rt, service, &mut ends, served, recorder, out, err)
+    let mut ends = TapedEnds::new(&mut ends, recorder);
+    let Ok(timer) = ClockTimer::new(rt) else {
+        return report(&Failure::Clock, out, err);
+    };
+    let times = ServedTimes { timer };
+    let mut ends = Cabled::new(&mut ends, Carriers::of(rt, descriptors), times);
+    serve_disturbed(rt, served, service, &mut ends, out, err)
 }
 
 /// Serves a line that has these ends, under commands where the service takes them, and records each copy at
@@ -149,7 +156,7 @@ where
 {
     let mut ends = TapedEnds::new(ends, recorder);
     if service.control {
-        control_disturbed(rt, served, service, &mut ends, out, err)
+        serve_disturbed(rt, served, service, &mut ends, out, err)
     } else {
         status_of(serve(served, service, &mut ends, out, err), out, err)
     }
@@ -167,8 +174,9 @@ impl<R: Clock> Times for ServedTimes<'_, R> {
     }
 }
 
-/// Serves a line under commands, which may have copies leave its ends late, twice or damaged.
-fn control_disturbed<R, E, W, V>(
+/// Serves a line whose copies may leave its ends late, twice or damaged, as commands have them, where the
+/// service takes commands.
+fn serve_disturbed<R, E, W, V>(
     rt: &R,
     served: Served,
     service: Service,
@@ -188,6 +196,10 @@ where
     let Ok(mut ends) = Disturbed::new(rt.alloc(), ends, ServedTimes { timer }) else {
         return report(&Failure::NoMemoryForSockets, out, err);
     };
-    let done = control(rt.alloc(), served, service, &mut ends, out, err);
+    let done = if service.control {
+        control(rt.alloc(), served, service, &mut ends, out, err)
+    } else {
+        serve_cabled(served, service, &mut ends, out, err)
+    };
     status_of(done, out, err)
 }

@@ -8,7 +8,7 @@ use Rattle.ecat_args.specs.Given.{by_index_in, index_in, lines_in}
 use Rattle.ecat_args.specs.Given.{judge_in, log_in, many_in, port_in, station_in, sub_in, surely_in}
 use Rattle.ecat_args.specs.Given.{csv_in, every_in, faults_in, images_in, late_in, limit_in, once_in}
 use Rattle.ecat_args.specs.Given.{asked_in, data_in, packet_in, recover_in, stats_in, stop_in, value_in}
-use Rattle.ecat_args.specs.Given.{by_index_in, word_in}
+use Rattle.ecat_args.specs.Given.{busy_in, or_stop_in, until_end_in, word_in}
 use Rattle.ecat_commands.specs.Commands.{line}
 use Rattle.ecat_args.specs.declared.args.Args.{Args}
 use Rattle.ecat_args.specs.declared.args.Args.TheVariants.{Capture, Scene, Scan, Vectors}
@@ -71,11 +71,13 @@ SaysOfScene (Master words) given =
     (given.0 ≡ codes "master")
     × (word_in given (codes "AT") ≡ option_map (λ w. w.now) words.at)
     × (word_in given (codes "RAW") ≡ option_map (λ w. w.now) words.raw) × (many_in given ≡ Some words.cycles)
-    × (every_in given ≡ Some words.every) × (limit_in given ≡ Some words.limit)
+    × (until_end_in given ≡ words.until_end)
+    × (every_in given ≡ Some words.every) × (busy_in given ≡ words.busy) × (limit_in given ≡ Some words.limit)
     × (late_in given ≡ Some words.late)
     × (word_in given (codes "OUTPUTS") ≡ option_map (λ w. w.now) words.outputs)
     × (word_in given (codes "LOG") ≡ option_map (λ w. w.now) words.log) × (images_in given ≡ words.log_images)
-    × (stop_in given ≡ words.stop) × (recover_in given ≡ words.recover)
+    × (or_stop_in given ≡ words.log_or_stop) × (stop_in given ≡ words.stop)
+    × (recover_in given ≡ words.recover)
     × (word_in given (codes "STATE") ≡ option_map (λ w. w.now) words.leave)
     × (word_in given (codes "PCAP") ≡ option_map (λ w. w.now) words.pcap) × (force_in given ≡ words.force)
 

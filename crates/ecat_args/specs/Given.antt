@@ -109,6 +109,15 @@ log_in given = flag_by (word_in given (codes "log"))
 abbrev pub images_in : Given → Bool
 images_in given = flag_by (word_in given (codes "log-images"))
 
+abbrev pub or_stop_in : Given → Bool
+or_stop_in given = flag_by (word_in given (codes "log-or-stop"))
+
+abbrev pub until_end_in : Given → Bool
+until_end_in given = flag_by (word_in given (codes "until-end"))
+
+abbrev pub busy_in : Given → Bool
+busy_in given = flag_by (word_in given (codes "busy"))
+
 abbrev pub asked_in : Given → Bool
 asked_in given = flag_by (word_in given (codes "asked"))
 

@@ -128,9 +128,10 @@ pub enum SceneCommand<'a> {
         /// Whether a capture that is there is overwritten.
         force: bool,
     },
-    /// `master SCENE [--at AT] [--raw RAW] [--cycles N] [--every MICROSECONDS] [--limit LIMIT] [--late LATE]
-    /// [--outputs OUTPUTS] [--log LOG] [--log-images] [--stop] [--recover] [--leave STATE] [--pcap PCAP]
-    /// [--force]`: brings a line somewhere else to Op, cycles on it, and leaves it in a state.
+    /// `master SCENE [--at AT] [--raw RAW] [--cycles N] [--until-end] [--every MICROSECONDS] [--busy]
+    /// [--limit LIMIT] [--late LATE] [--outputs OUTPUTS] [--log LOG] [--log-images] [--log-or-stop] [--stop]
+    /// [--recover] [--leave STATE] [--pcap PCAP] [--force]`: brings a line somewhere else to Op, cycles on
+    /// it, and leaves it in a state.
     Master(MasterWords<'a>),
 }
 
@@ -143,8 +144,12 @@ pub struct MasterWords<'a> {
     pub raw: Option<&'a str>,
     /// After how many cycles it ends, one at least; without it at the end of the input.
     pub cycles: Option<u32>,
+    /// Whether it ends with the input too where it ends after so many cycles.
+    pub until_end: bool,
     /// How many microseconds lie between the beginnings of cycles; without it they are back to back.
     pub every: Option<u32>,
+    /// Whether it never sleeps while it waits.
+    pub busy: bool,
     /// How many microseconds a copy is waited for.
     pub limit: Option<u32>,
     /// For how many milliseconds a missing copy may still come.
@@ -155,6 +160,8 @@ pub struct MasterWords<'a> {
     pub log: Option<&'a str>,
     /// Whether that line has what the cycle sent and took.
     pub log_images: bool,
+    /// Whether it ends where the log cannot be written.
+    pub log_or_stop: bool,
     /// Whether it ends at the first cycle that is not good.
     pub stop: bool,
     /// Whether slaves are brought up again.

@@ -15,9 +15,9 @@
 //! ecat udp SCENE [--port P] [--judge] [--pcap PCAP] [--force]
 //! ecat serve SCENE [--port P] [--packets N] [--bind ADDRESS] [--forever] [--control] [--log] [--raw RAW]
 //!     [--pcap PCAP] [--force]
-//! ecat master SCENE [--at AT] [--raw RAW] [--cycles N] [--every MICROSECONDS] [--limit LIMIT] [--late LATE]
-//!     [--outputs OUTPUTS] [--log LOG] [--log-images] [--stop] [--recover] [--leave STATE] [--pcap PCAP]
-//!     [--force]
+//! ecat master SCENE [--at AT] [--raw RAW] [--cycles N] [--until-end] [--every MICROSECONDS] [--busy]
+//!     [--limit LIMIT] [--late LATE] [--outputs OUTPUTS] [--log LOG] [--log-images] [--log-or-stop] [--stop]
+//!     [--recover] [--leave STATE] [--pcap PCAP] [--force]
 //! ecat scan [--at AT] [--raw RAW] [--limit LIMIT] [--late LATE] [--scene SCENE] [--force]
 //! ecat vectors
 //! ```

@@ -168,23 +168,33 @@ serve_words = scene_rule ∷ port_rule
 abbrev pub serve_line : App
 serve_line = with_rules (new_app (codes "serve")) serve_words
 
--- `master SCENE [--at AT] [--raw RAW] [--cycles N] [--every MICROSECONDS] [--limit LIMIT] [--late LATE]
--- [--outputs OUTPUTS] [--log LOG] [--log-images] [--stop] [--recover] [--leave STATE] [--pcap PCAP]
--- [--force]`
+-- `master SCENE [--at AT] [--raw RAW] [--cycles N] [--until-end] [--every MICROSECONDS] [--busy]
+-- [--limit LIMIT] [--late LATE] [--outputs OUTPUTS] [--log LOG] [--log-images] [--log-or-stop] [--stop]
+-- [--recover] [--leave STATE] [--pcap PCAP] [--force]`
 abbrev pub master_words : List Rule
 master_words = scene_rule ∷ at_rule ∷ raw_rule
-    ∷ option_rule (codes "N") (codes "cycles") ∷ option_rule (codes "MICROSECONDS") (codes "every")
+    ∷ option_rule (codes "N") (codes "cycles") ∷ flag_rule (codes "until-end") ∷ []
+
+-- when its cycles begin, and how long they wait
+abbrev pub pace_words : List Rule
+pace_words = option_rule (codes "MICROSECONDS") (codes "every") ∷ flag_rule (codes "busy")
     ∷ limit_rule ∷ late_rule ∷ []
 
--- its other words
+-- what they send, and what is written of them
 abbrev pub course_words : List Rule
 course_words = option_rule (codes "OUTPUTS") (codes "outputs")
     ∷ option_rule (codes "LOG") (codes "log") ∷ flag_rule (codes "log-images")
-    ∷ flag_rule (codes "stop") ∷ flag_rule (codes "recover") ∷ option_rule (codes "STATE") (codes "leave")
-    ∷ pcap_rule ∷ force_rule ∷ []
+    ∷ flag_rule (codes "log-or-stop") ∷ []
+
+-- how it ends, and its other words
+abbrev pub end_words : List Rule
+end_words = flag_rule (codes "stop") ∷ flag_rule (codes "recover")
+    ∷ option_rule (codes "STATE") (codes "leave") ∷ pcap_rule ∷ force_rule ∷ []
 
 abbrev pub master_line : App
-master_line = with_rules (with_rules (new_app (codes "master")) master_words) course_words
+master_line =
+    with_rules (with_rules (with_rules (with_rules (new_app (codes "master")) master_words) pace_words)
+    course_words) end_words
 
 -- `scan [--at AT] [--raw RAW] [--limit LIMIT] [--late LATE] [--scene SCENE] [--force]`
 abbrev pub scan_words : List Rule

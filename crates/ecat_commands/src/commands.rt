@@ -2,8 +2,9 @@
 ghost use Rattle.std.specs.Prelude.{◌≡◌, List, IfOk, codes};
 ghost use Rattle.clap.specs.Words.{App, Rule, new_app, new_rule, with_subcommand};
 ghost use Rattle.ecat_commands.specs.Commands.{AreWords, Builds, IsWord, flag_rule, line};
-ghost use Rattle.ecat_commands.specs.Commands.{capture_lines, course_words, scene_lines, socket_lines};
-ghost use Rattle.ecat_commands.specs.Commands.{judge_line, with_commands};
+ghost use Rattle.ecat_commands.specs.Commands.{capture_lines, course_words, end_words, master_words};
+ghost use Rattle.ecat_commands.specs.Commands.{judge_line, pace_words, scene_lines, socket_lines};
+ghost use Rattle.ecat_commands.specs.Commands.{with_commands};
 ghost use Rattle.ecat_commands.specs.Commands.{needed_rule, option_rule, at_rule, force_rule};
 ghost use Rattle.ecat_commands.specs.Commands.{judge_rule, late_rule, limit_rule, pcap_rule, port_rule};
 ghost use Rattle.ecat_commands.specs.Commands.{raw_rule, check_line, cover_line, learn_line, lint_line};
@@ -345,31 +346,56 @@ fn serve<'a>(alloc: Global) -> Result<Command<'a>, AllocError>
     command(alloc, "serve", about, help::SERVE, words)
 }
 
-// `master SCENE [--at AT] [--raw RAW] [--cycles N] [--every MICROSECONDS] [--limit LIMIT] [--late LATE]
-// [--outputs OUTPUTS] [--log LOG] [--log-images] [--stop] [--recover] [--leave STATE] [--pcap PCAP]
-// [--force]`
+// `master SCENE [--at AT] [--raw RAW] [--cycles N] [--until-end] [--every MICROSECONDS] [--busy]
+// [--limit LIMIT] [--late LATE] [--outputs OUTPUTS] [--log LOG] [--log-images] [--log-or-stop] [--stop]
+// [--recover] [--leave STATE] [--pcap PCAP] [--force]`
 fn master<'a>(alloc: Global) -> Result<Command<'a>, AllocError>
     ensures { IfOk result (Builds master_line) }
 {
     let about = "Brings the line of a scene to Op, somewhere else, and cycles on it";
+    let words = line_of_master(alloc)?;
+    let master = command(alloc, "master", about, help::MASTER, words)?;
+    let pace = pace_of_master(alloc)?;
+    let paced = more(master, pace)?;
+    let course = course_of_master(alloc)?;
+    let on_course = more(paced, course)?;
+    let end = end_of_master(alloc)?;
+    more(on_course, end)
+}
+
+// The words of `master` are made by some at a time, so that not all of them stand on the stack at once: here
+// `SCENE [--at AT] [--raw RAW] [--cycles N] [--until-end]`.
+#[inline(never)]
+fn line_of_master<'a>(alloc: Global) -> Result<Vec<Arg<'a>>, AllocError>
+    ensures { IfOk result (λ words. AreWords master_words words.items) }
+{
     let cycles = "After how many cycles it ends, 1 to 4294967295; at the input's end if not given";
-    let every = "How far apart the cycles begin; back to back if not given";
-    let words = vec![in alloc;
+    let until_end = "With --cycles, ends at the end of standard input too";
+    Ok(vec![in alloc;
         scene(alloc),
         at(alloc),
         raw(alloc),
         option(alloc, "N", "cycles", cycles),
-        option(alloc, "MICROSECONDS", "every", every),
-        limit(alloc),
-        late(alloc),
-    ]?;
-    let master = command(alloc, "master", about, help::MASTER, words)?;
-    let course = course_of_master(alloc)?;
-    more(master, course)
+        flag(alloc, "until-end", until_end),
+    ]?)
 }
 
-// `[--outputs OUTPUTS] [--log LOG] [--log-images] [--stop] [--recover] [--leave STATE] [--pcap PCAP]
-// [--force]`, apart so that not all words of `master` stand on the stack at once
+// `[--every MICROSECONDS] [--busy] [--limit LIMIT] [--late LATE]`
+#[inline(never)]
+fn pace_of_master<'a>(alloc: Global) -> Result<Vec<Arg<'a>>, AllocError>
+    ensures { IfOk result (λ words. AreWords pace_words words.items) }
+{
+    let every = "How far apart the cycles begin; back to back if not given";
+    let busy = "Never sleeps while it waits, which takes a processor of its own";
+    Ok(vec![in alloc;
+        option(alloc, "MICROSECONDS", "every", every),
+        flag(alloc, "busy", busy),
+        limit(alloc),
+        late(alloc),
+    ]?)
+}
+
+// `[--outputs OUTPUTS] [--log LOG] [--log-images] [--log-or-stop]`
 #[inline(never)]
 fn course_of_master<'a>(alloc: Global) -> Result<Vec<Arg<'a>>, AllocError>
     ensures { IfOk result (λ words. AreWords course_words words.items) }
@@ -378,12 +404,23 @@ fn course_of_master<'a>(alloc: Global) -> Result<Vec<Arg<'a>>, AllocError>
         "The outputs: count, or a file with a line for each cycle; the scene's if not given";
     let log = "A file that gets a line for each cycle: its number, its verdict and its counters";
     let images = "Writes to the log what each cycle sent and took, as hexadecimal digits";
-    let recover = "Brings slaves up again that show an error or came back in Init";
-    let leave = "Where slaves are left at the end: init, pre-op, safe-op, op; init if not given";
+    let or_stop = "Ends where the log cannot be written; else the cycles go on without it";
     Ok(vec![in alloc;
         option(alloc, "OUTPUTS", "outputs", outputs),
         option(alloc, "LOG", "log", log),
         flag(alloc, "log-images", images),
+        flag(alloc, "log-or-stop", or_stop),
+    ]?)
+}
+
+// `[--stop] [--recover] [--leave STATE] [--pcap PCAP] [--force]`
+#[inline(never)]
+fn end_of_master<'a>(alloc: Global) -> Result<Vec<Arg<'a>>, AllocError>
+    ensures { IfOk result (λ words. AreWords end_words words.items) }
+{
+    let recover = "Brings slaves up again that show an error or came back in Init";
+    let leave = "Where slaves are left at the end: init, pre-op, safe-op, op; init if not given";
+    Ok(vec![in alloc;
         flag(alloc, "stop", "Ends at the first cycle that is not good"),
         flag(alloc, "recover", recover),
         option(alloc, "STATE", "leave", leave),

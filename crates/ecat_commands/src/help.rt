@@ -207,7 +207,8 @@ With --log standard error has a line for each packet: its number, end and size,
 and of a frame each datagram, with the counter as it came and as it left, and
 where it left; or why it was dropped, and ethernet or padded where it looks so.
 With --raw the ends lie at network interfaces, through packet sockets that
-tools/raw opens: end A has the first and end B the second one.
+tools/raw opens: end A has the first and end B the second one. A cable that is
+pulled there is the link at that end, and is told on standard error.
 With --pcap each copy is kept in a capture, as it comes in at an end and as it
 leaves from one, at the time of the clock.
 With --control each line of standard input is a command, which is done between
@@ -252,6 +253,13 @@ With --stop it ends at the first cycle that is not good. With --recover slaves
 that show an error, or came back in Init, are brought up again.
 With --log FILE each cycle has a line there; with --log-images beside it that
 line has what the cycle sent in its items, and what the items hold behind it.
+No cycle waits for a reader: lines that nobody takes, of the log as of all that
+is printed, are left out, counted and told at the end. A log that cannot be
+written is told once, the cycles go on, and the status is 3; with --log-or-stop
+it ends there.
+With --until-end and --cycles it ends at the end of standard input too. With
+--busy it never sleeps while it waits for a cycle's time or for copies: it
+begins sooner, and takes a processor of its own.
 With --pcap each copy of a frame is kept in a capture, as it leaves a port and
 as it arrives at one, at the time of the clock.
 With --raw the line is reached by network interfaces, through packet sockets

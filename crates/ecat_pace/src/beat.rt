@@ -11,6 +11,9 @@ use std::rt::Clock;
 use std::thread;
 use std::time::{Duration, Instant};
 
+/// How often a clock is looked at in a microsecond, at the most: a look takes some 25 nanoseconds.
+const LOOKS: u64 = 100;
+
 /// The beat of a master's cycles, over a clock: the first one begins at once, and each other one is due so
 /// long after the one before was, or at once. A cycle whose time has passed when the next one is due is left
 /// out and never made up for. A clock that fails stands still.
@@ -26,6 +29,8 @@ pub struct Beat<'a, R: Clock, I: Read + AsRawFd + Drop> {
     missed: u64,
     left: Option<u32>,
     input: Option<Ending<I>>,
+    /// Whether it never sleeps.
+    busy: bool,
 }
 
 impl<'a, R: Clock, I: Read + AsRawFd + Drop> Beat<'a, R, I> {
@@ -49,7 +54,33 @@ impl<'a, R: Clock, I: Read + AsRawFd + Drop> Beat<'a, R, I> {
             missed: 0,
             left: cycles,
             input,
+            busy: false,
         })
+    }
+
+    /// A beat that looks at the clock without sleeping until a cycle is due: a processor does nothing else.
+    pub fn busily(self) -> Beat<'a, R, I>
+        ensures left { result.left ≡ self.entry.left }
+    {
+        let mut beat = self;
+        beat.busy = true;
+        beat
+    }
+
+    /// Lets the time pass until a cycle is due.
+    fn rest_until(&mut self, due: u64) {
+        let Some(rest) = due.checked_sub(self.passed()) else {
+            return;
+        };
+        if !self.busy {
+            thread::sleep(self.clock, Duration::from_micros(rest));
+            return;
+        }
+        for _look in 0..rest.saturating_mul(LOOKS) {
+            if self.passed() >= due {
+                break;
+            }
+        }
     }
 
     /// How long it has gone on, in microseconds.
@@ -83,9 +114,7 @@ impl<'a, R: Clock, I: Read + AsRawFd + Drop> Beat<'a, R, I> {
             self.due = Some(self.passed().saturating_add(every));
             return;
         };
-        if let Some(rest) = due.checked_sub(self.passed()) {
-            thread::sleep(self.clock, Duration::from_micros(rest));
-        }
+        self.rest_until(due);
         let late = self.passed().saturating_sub(due);
         self.late = Some(late);
         self.missed = missed_by(late, every);

@@ -39,23 +39,27 @@ scan --late 0x10 --at a:1 | Ok(Scan(ScanWords { at: Some(\"a:1\"), raw: None, li
     scene: None, force: false }))
 master a.scene --at a:1 | \
     Ok(Scene { path: \"a.scene\", command: Master(MasterWords { at: Some(\"a:1\"), raw: None, \
-    cycles: None, every: None, limit: None, \
-    late: None, outputs: None, log: None, log_images: false, stop: false, recover: false, leave: None, \
-    pcap: None, force: false }) })
+    cycles: None, until_end: false, every: None, busy: false, limit: None, \
+    late: None, outputs: None, log: None, log_images: false, log_or_stop: false, stop: false, \
+    recover: false, leave: None, pcap: None, force: false }) })
 master a.scene --late 250 --leave safe-op | \
     Ok(Scene { path: \"a.scene\", command: Master(MasterWords { at: None, raw: None, cycles: None, \
-    every: None, limit: None, \
-    late: Some(250), outputs: None, log: None, log_images: false, stop: false, recover: false, \
+    until_end: false, every: None, busy: false, limit: None, \
+    late: Some(250), outputs: None, log: None, log_images: false, log_or_stop: false, stop: false, \
+    recover: false, \
     leave: Some(\"safe-op\"), pcap: None, force: false }) })
-master a.scene --raw 10 --cycles 7 --every 1000 --limit 2000 --outputs count --log f --stop --recover | \
+master a.scene --raw 10 --cycles 7 --every 1000 --limit 2000 --outputs count --log f --stop --recover \
+    --busy | \
     Ok(Scene { path: \"a.scene\", command: Master(MasterWords { at: None, raw: Some(\"10\"), \
-    cycles: Some(7), every: Some(1000), \
+    cycles: Some(7), until_end: false, every: Some(1000), busy: true, \
     limit: Some(2000), late: None, outputs: Some(\"count\"), log: Some(\"f\"), log_images: false, \
+    log_or_stop: false, \
     stop: true, recover: true, leave: None, pcap: None, force: false }) })
-master a.scene --at a:1 --log f --log-images --pcap a.pcap --force | \
+master a.scene --at a:1 --log f --log-images --log-or-stop --until-end --pcap a.pcap --force | \
     Ok(Scene { path: \"a.scene\", command: Master(MasterWords { at: Some(\"a:1\"), raw: None, \
-    cycles: None, every: None, limit: None, \
-    late: None, outputs: None, log: Some(\"f\"), log_images: true, stop: false, recover: false, leave: None, \
+    cycles: None, until_end: true, every: None, busy: false, limit: None, \
+    late: None, outputs: None, log: Some(\"f\"), log_images: true, log_or_stop: true, stop: false, \
+    recover: false, leave: None, \
     pcap: Some(\"a.pcap\"), force: true }) })
 sdo a.scene 0x1001 0x1018 1 | \
     Ok(Scene { path: \"a.scene\", command: Sdo { station: 4097, index: 4120, sub: 1, value: None, \

@@ -1,8 +1,9 @@
-use Rattle.ecat_commands.specs.Commands.{course_words, master_words}
-use Rattle.ecat_commands.proofs.CommandLemmas.{AreWords-items}
+use Rattle.ecat_commands.specs.Commands.{course_words, end_words, master_words, pace_words}
 use Rattle.ecat_commands.proofs.commands.master.Goals as goal
 
 pub returns : goal.returns
 returns c =
-    let words = AreWords-items master_words c.in_ok-words.ensures.items (c.scene.ensures, (c.at.ensures, (c.raw.ensures, (c.option.ensures, (c.option-2.ensures, (c.limit.ensures, (c.late.ensures, tt))))))) in
-    c.more.ensures _ course_words (c.in_ok-master.ensures master_words words) c.in_ok-course.ensures
+    let on_line = c.in_ok-master.ensures master_words c.in_ok-words.ensures in
+    let paced = c.in_ok-paced.ensures _ pace_words on_line c.in_ok-pace.ensures in
+    let on_course = c.in_ok-on_course.ensures _ course_words paced c.in_ok-course.ensures in
+    c.more-3.ensures _ end_words on_course c.in_ok-end.ensures
