@@ -4,11 +4,6 @@
 use std::fmt::Debug;
 use std::process::Abort;
 
-/// Asserts that what a row of a table finds is what it wants.
-pub fn assert_found<T: PartialEq + Debug + Drop>(rt: &impl Abort, row: &str, found: T, wanted: T) {
-    assert_eq!(rt; found, wanted, "{row}");
-}
-
 /// Asserts that what was found is what was wanted.
 pub fn assert_same<T: PartialEq + Debug + Drop>(rt: &impl Abort, found: T, wanted: T) {
     assert_eq!(rt; found, wanted);

@@ -1,8 +1,5 @@
-//! Lines that are mapped as a cycle needs it, and lines that break a rule.
+//! Lines that are mapped as a cycle needs it, and lines that break a rule: rows of `data/check.rows`, but for
+//! the use on the crate's page.
 
 mod door;
-mod fit;
 mod line;
-mod order;
-mod refused;
-mod size;

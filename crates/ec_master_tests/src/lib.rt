@@ -1,7 +1,7 @@
 #![tactic(auto)]
-//! Tests of mappings, cycles and services, over simulated rings and over ports in memory, by public calls
-//! alone: `check` of `ec_check`, `map` of `ec_map`, `master` of `ec_master`, `services` of `ec_services`,
-//! `over_ring` of `ec_over_ring`.
+//! Tests of mappings, cycles and services that are no rows of `data/`: the uses on the pages of `ec_check`,
+//! `ec_map`, `ec_master` and `ec_services`, transfers that are sure whatever is lost (`services`), and rings to
+//! which the laws of `ec_over_ring` apply (`over_ring`).
 
 #[cfg(test)]
 mod asserts;

@@ -1,9 +1,5 @@
-//! Items, where they may go, and what a line adds to their counters.
+//! Items, where they may go, and what a line adds to their counters: rows of `data/map.rows`, but for the use
+//! on the crate's page.
 
-mod covered;
 mod door;
-mod expected;
-mod items;
 mod line;
-mod not_shown;
-mod places;

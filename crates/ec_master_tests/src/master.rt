@@ -1,8 +1,5 @@
-//! Cycles with their answers written out by hand, and frames by their sizes.
+//! Works, the frames that they are cut into, and their cycles: rows of `data/master.rows`, but for the use on
+//! the crate's page.
 
-mod checked;
-mod cut;
-mod cycle;
 mod door;
 mod many;
-mod reported;

@@ -1,7 +1,6 @@
-//! Services and their questions over rings of simulated slaves, with the bytes written out by hand.
+//! Station addresses and transfers over rings of simulated slaves, by the laws of them. What else is asked of
+//! such rings is rows of `data/over_ring.rows`.
 
 mod line;
-mod question;
-mod states;
 mod stations;
 mod transfers;

@@ -1,18 +1,8 @@
-//! The services over rings of simulated slaves and over ports in memory, with the bytes written out by hand.
+//! Transfers over ports at which copies are lost at trips of one's choice, and the use on the crate's page.
+//! What services send, and what answers come to, are rows of `data/services.rows`.
 
-mod acknowledged;
-mod answers;
-mod asked;
-mod counted;
 mod door;
-mod fates;
 mod line;
-mod objects;
 mod peer;
-mod sent;
-mod settling;
-mod states;
-mod stations;
-mod status;
 mod storm;
 mod surely;

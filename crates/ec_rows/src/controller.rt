@@ -1,11 +1,11 @@
 //! Verbs on a controller: its memory and records, its application's side, and passes of frames.
 
 use crate::answer::Answer;
-use crate::records::{put_fmmu, put_status, u16_of, u32_of};
+use crate::records::{put_fmmu, put_status, u8_of, u16_of, u32_of};
 use crate::words::{Fault, Words};
 use ec_esc::Controller;
-use ec_regs::AlStatus;
 use ec_regs::registers::{MEMORY_SIZE, PROCESS_MEMORY};
+use ec_regs::{AlStatus, Information};
 use ec_wire::address_of;
 
 /// Verbs that read a controller.
@@ -22,6 +22,7 @@ pub fn tell_of_controller(
         "shown_byte" => tell_shown_byte(controller, words, answer),
         "shown" => tell_shown(controller, words, answer),
         "fmmu_at" => put_fmmu(answer, &controller.fmmu(words.number(7) as usize)),
+        "has_sii" => answer.put(controller.has_sii()),
         "sm_is_active" => answer.put(controller.syncman(words.number(7) as usize).is_active()),
         "al" => {
             let (status, code) = controller.al();
@@ -89,6 +90,9 @@ pub fn act_on_controller(
 ) -> bool {
     match verb {
         "load" => load(controller, words),
+        "ip_core" => controller.set_information(&Information::ip_core()),
+        "information" => controller.set_information(&information_of(words)),
+        "set_dl_status" => controller.set_dl_status(u16_of(words)),
         "set_al" => {
             let state = words.state();
             let error = words.yes();
@@ -119,6 +123,20 @@ pub fn act_on_controller(
         _ => return false,
     }
     true
+}
+
+/// KIND REVISION BUILD FMMUS MANAGERS MEMORY PORTS FEATURES.
+fn information_of(words: &mut Words<'_>) -> Information {
+    Information {
+        kind: u8_of(words),
+        revision: u8_of(words),
+        build: u16_of(words),
+        fmmus: u8_of(words),
+        sync_managers: u8_of(words),
+        memory: u8_of(words),
+        ports: u8_of(words),
+        features: u16_of(words),
+    }
 }
 
 /// `load ADDRESS BYTES`: bytes into the process memory, and shown.

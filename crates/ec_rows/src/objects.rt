@@ -7,7 +7,7 @@ use ec_app::mail::{REQUEST, RESPONSE};
 use ec_app::{AbortCode, Mail, Objects, Rights, Sdo, Value};
 
 /// `One`, `Two` or `Four`, and a number of so many bytes.
-fn value_of(words: &mut Words<'_>) -> Value {
+pub fn value_of(words: &mut Words<'_>) -> Value {
     match words.word() {
         "One" => Value::One(u8_of(words)),
         "Two" => Value::Two(u16_of(words)),
@@ -65,7 +65,7 @@ fn sdo_of(words: &mut Words<'_>) -> Sdo {
 }
 
 /// Answers a value: `One`, `Two` or `Four`, and the number.
-fn put_value(answer: &mut Answer, value: Value) {
+pub fn put_value(answer: &mut Answer, value: Value) {
     match value {
         Value::One(number) => {
             answer.put("One");
@@ -83,7 +83,7 @@ fn put_value(answer: &mut Answer, value: Value) {
 }
 
 /// Answers what an object holds, `none` where there is none.
-fn put_held(answer: &mut Answer, held: Option<(Rights, Value)>) {
+pub fn put_held(answer: &mut Answer, held: Option<(Rights, Value)>) {
     match held {
         Some((rights, value)) => {
             answer.name(rights);

@@ -4,11 +4,13 @@ use crate::answer::Answer;
 use crate::bench::frame_of;
 use crate::words::{Fault, Words};
 use ec_app::{Objects, Slave};
+use ec_applications::tell_links;
 use ec_merge::join_frames;
 use ec_regs::AlState;
 use ec_ring::{Arrival, Came, HeardPorts, Links, MAX_LINKS, Port, Ring, Travel, Weather};
 use ec_wire::{Form, FrameBuf};
 use std::alloc::Global;
+use std::mem::replace;
 
 /// A copy as it came back, and where.
 #[derive(Drop)]
@@ -107,6 +109,24 @@ impl Line {
         })
     }
 
+    /// Takes the ring; there is one without slaves then.
+    pub fn take_ring(&mut self, alloc: Global) -> Option<Ring> {
+        let empty = Ring::new(Vec::new(alloc)).ok()?;
+        Some(replace(&mut self.ring, empty))
+    }
+
+    /// Puts a ring in the place of the one that was taken, where there is one.
+    pub fn put_ring(&mut self, ring: Option<Ring>) {
+        if let Some(ring) = ring {
+            self.ring = ring;
+        }
+    }
+
+    /// The weather.
+    pub fn weather(&self) -> Weather {
+        self.weather
+    }
+
     /// Verbs that change nothing.
     pub fn tell(&self, verb: &str, words: &mut Words<'_>, answer: &mut Answer) -> bool {
         match verb {
@@ -171,6 +191,11 @@ impl Line {
             "lost_b" => self.weather.lost_b = words.yes(),
             "b_first" => self.weather.b_first = words.yes(),
             "set_link" => self.set_link(words),
+            "tell_links" => {
+                let k = words.number(255) as usize;
+                let before = words.yes();
+                tell_links(&mut self.ring, k, before, words.yes());
+            }
             "step_all" => self.ring.step_all(),
             "copy_a" => self.a = Copy::came(frame_of(Form::Udp, words)),
             "copy_b" => self.b = Copy::came(frame_of(Form::Udp, words)),
@@ -181,7 +206,7 @@ impl Line {
 
     /// `set_link K UP`: a link of the ring itself.
     fn set_link(&mut self, words: &mut Words<'_>) {
-        let k = words.number(255) as usize;
+        let k = words.number(256) as usize;
         let up = words.yes();
         if k <= self.ring.slaves().len() {
             self.ring.set_link(k, up);

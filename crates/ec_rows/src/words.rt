@@ -93,7 +93,7 @@ impl<'a> Words<'a> {
     }
 
     /// The value of a word that is a number up to the greatest.
-    fn within(&mut self, word: &str, most: u64) -> u64
+    pub fn within(&mut self, word: &str, most: u64) -> u64
         ensures { result ≤ most }
     {
         match value(word) {

@@ -7,8 +7,7 @@ ghost use Rattle.ec_over_ring.specs.Stations.{HasSlaves, station_of};
 ghost use Rattle.ec_over_ring.specs.Transfers.{IsSlave};
 
 use crate::asserts::assert_same;
-use crate::over_ring::line::{three, value_at};
-use ec_app::{Objects, Slave, Value};
+use ec_app::{Objects, Slave};
 use ec_master::RingPorts;
 use ec_over_ring::stations::stations_over_ring;
 use ec_ring::Ring;
@@ -76,30 +75,4 @@ fn each_slave_has_the_address_of_its_place(rt: HostRuntime) {
     assert_same(&rt, result, Ok(3));
     let wanted = [Some(0x1001), Some(0x1002), Some(0x1003)];
     assert_same(&rt, stations(&ports), wanted);
-}
-
-#[test]
-fn slaves_that_answer_mails_get_their_addresses(rt: HostRuntime) {
-    let mut ports = three(&rt, rt.alloc(), 3, &[]);
-    assert_same(&rt, assign_stations(&mut ports, 0), Ok(3));
-    assert_same(&rt, stations(&ports), [Some(0), Some(1), Some(2)]);
-    for place in 0..3 {
-        assert_same(&rt, value_at(&ports, place), Some(Value::Two(0x7777)));
-    }
-}
-
-#[test]
-fn broken_ring_keeps_its_addresses_and_takes_its_step(rt: HostRuntime) {
-    for link in 0..=3 {
-        for other in 0..=3 {
-            let mut ports = three(&rt, rt.alloc(), 3, &[link, other]);
-            let answer = assign_stations(&mut ports, 0x1001);
-            assert_same(&rt, answer, Err(MasterFault::Broken));
-            let wanted = [Some(0x3000), Some(0x3001), Some(0x3002)];
-            assert_same(&rt, stations(&ports), wanted);
-            for place in 0..3 {
-                assert_same(&rt, value_at(&ports, place), Some(Value::Two(0x7777)));
-            }
-        }
-    }
 }

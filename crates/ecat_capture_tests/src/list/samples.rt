@@ -20,7 +20,7 @@ static APRD: [u8; 28] = [
 ];
 
 /// A capture.
-#[derive(Clone, Copy, Debug)]
+#[derive(Clone, Copy)]
 pub(super) enum Sample {
     /// One packet.
     One,

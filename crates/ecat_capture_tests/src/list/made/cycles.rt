@@ -16,7 +16,7 @@ const MANY: u32 = 4160;
 const IN_A_FRAME: u32 = 104;
 
 /// In which order the datagrams of a cycle come.
-#[derive(Clone, Copy, PartialEq, Eq)]
+#[derive(Clone, Copy)]
 enum Order {
     /// In one order.
     One,
