@@ -6,8 +6,10 @@
  *     7000000       from now on none is; this one is itself refused where another was since the last word
  *
  * The first two kinds are granted, as far as the system has memory. A request is a call of malloc, calloc,
- * realloc, aligned_alloc or posix_memalign. When the program ends, the file that REFUSED names gets how many
- * requests were refused in all. It is for programs of one thread over the GNU C library.
+ * realloc, aligned_alloc or posix_memalign. A program that tells it nothing is told of by its environment:
+ * REFUSE_ONE and REFUSE_FROM have a number k, and mean the first two from the beginning on. When the program
+ * ends, the file that REFUSED names gets how many requests were refused in all. It is for programs of one
+ * thread over the GNU C library.
  */
 #include <errno.h>
 #include <stddef.h>
@@ -97,12 +99,24 @@ int posix_memalign(void **block, size_t alignment, size_t size)
     return 0;
 }
 
+__attribute__((constructor)) static void begin(void)
+{
+    const char *one = getenv("REFUSE_ONE");
+    const char *from = getenv("REFUSE_FROM");
+    if (one != NULL)
+        refuse(strtoul(one, NULL, 10), strtoul(one, NULL, 10));
+    else if (from != NULL)
+        refuse(strtoul(from, NULL, 10), SIZE_MAX);
+}
+
 __attribute__((destructor)) static void tell_count(void)
 {
+    size_t count = in_all;
+    refuse(SIZE_MAX, 0);
     const char *name = getenv("REFUSED");
     FILE *file = name ? fopen(name, "w") : NULL;
     if (file == NULL)
         return;
-    fprintf(file, "%zu\n", in_all);
+    fprintf(file, "%zu\n", count);
     fclose(file);
 }
