@@ -4,3 +4,5 @@ pub mod LeftLemmas
 pub mod StepLemmas
 pub mod EepromLemmas
 pub mod BehindLemmas
+pub mod LinkLemmas
+pub mod Laws

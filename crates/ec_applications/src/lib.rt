@@ -38,4 +38,4 @@ pub mod promises;
 
 pub use application::{Application, Applications, Behaviour};
 pub use eeproms::PlacedEeprom;
-pub use links::{dl_status, tell_links};
+pub use links::{dl_status, tell_each, tell_links};

@@ -3,11 +3,12 @@
 ghost use Rattle.std.specs.Prelude.{◌≡◌, slice_get};
 ghost use Rattle.std.specs.Int.{w16, to_le_bytes};
 ghost use Rattle.ec_regs.specs.declared.registers.TheConstants.{DL_STATUS};
-ghost use Rattle.ec_esc.specs.Application.{with_registers};
-ghost use Rattle.ec_applications.specs.Links.{dl_status, slave_told, one_told};
+ghost use Rattle.ec_ring.specs.Links.{is_up};
+ghost use Rattle.ec_applications.specs.Links.{all_told, controller_told, dl_status, one_told, slave_told};
 
 use ec_app::Slave;
-use ec_ring::Ring;
+use ec_esc::Controller;
+use ec_ring::{Links, Ring};
 
 /// The application can be reached, and ports 2 and 3, which no slave here has, are closed.
 const ALWAYS: u16 = 0x5001;
@@ -31,7 +32,8 @@ pub fn dl_status(before: bool, behind: bool) -> u16
     ALWAYS + port_0 + port_1
 }
 
-/// Tells the slave at a place of its links, if the line has it; all else of the line stays.
+/// Tells the slave at a place of its links, if the line has it and its controller tells of itself; all else
+/// of the line stays.
 pub fn tell_links(ring: &mut Ring, place: usize, before: bool, behind: bool)
     ensures { ring.new ≡ one_told place (dl_status before behind) ring.old }
 {
@@ -40,9 +42,29 @@ pub fn tell_links(ring: &mut Ring, place: usize, before: bool, behind: bool)
     }
 }
 
-/// Sets DL status of a slave.
+/// Tells each slave whose controller tells of itself which of the links beside it are up; all else of the
+/// line stays.
+pub fn tell_each(ring: &mut Ring, links: &Links)
+    ensures { ring.new ≡ all_told (is_up links.now) ring.old }
+{
+    let count = ring.slaves().len();
+    for k in 0..count {
+        tell_links(ring, k, links.is_up(k), links.is_up(k + 1));
+    }
+}
+
+/// Sets DL status of a slave whose controller tells of itself.
 fn tell_slave(slave: &mut Slave, status: u16)
     ensures { slave.new ≡ slave_told status slave.old }
 {
-    slave.controller_mut().set_dl_status(status);
+    tell_controller(slave.controller_mut(), status);
+}
+
+/// Sets DL status of a controller that tells of itself.
+fn tell_controller(controller: &mut Controller, status: u16)
+    ensures { controller.new ≡ controller_told status controller.old }
+{
+    if controller.has_sii() {
+        controller.set_dl_status(status);
+    }
 }

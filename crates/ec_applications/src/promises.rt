@@ -1,6 +1,6 @@
 //! What applications leave of a line, as laws.
 
-ghost use Rattle.std.specs.Prelude.{◌≡◌, ◌≢◌, ℕ, List, [], Some, length, slice_get};
+ghost use Rattle.std.specs.Prelude.{◌≡◌, ◌≢◌, ℕ, suc, Bool, List, [], Some, length, slice_get};
 ghost use Rattle.std.specs.List.{All};
 ghost use Rattle.ec_app.specs.Slave.{step};
 ghost use Rattle.ec_app.specs.State.{SlaveState};
@@ -12,6 +12,7 @@ ghost use Rattle.ec_applications.specs.Acting.{acted};
 ghost use Rattle.ec_applications.specs.Behind.{line_behind};
 ghost use Rattle.ec_applications.specs.Eeproms.{all_served};
 ghost use Rattle.ec_applications.specs.Left.{HasMemory, KeepsAllElse, KeepsAllButSii};
+ghost use Rattle.ec_applications.specs.Links.{all_told, dl_status, slave_told};
 ghost use Rattle.ec_applications.specs.State.{ApplicationsState};
 ghost use Rattle.ec_applications.specs.declared.application.Application.{Application};
 ghost use Rattle.ec_applications.specs.declared.eeproms.PlacedEeprom.{PlacedEeprom};
@@ -75,4 +76,18 @@ pub fn serving_moves_slaves()
         → slice_get r.slaves k ≡ Some before → slice_get (all_served all r).slaves k ≡ Some after
         → IsController before.controller → All (λ (one : PlacedEeprom). AreBytes one.eeprom) all
         → HasMoved before.controller after.controller }
+{}
+
+/// A line that is told of its links (`tell_each`) keeps them. A slave whose controller tells of itself has DL
+/// status of the links before and behind it, and all else of it as before; any other one is as before. That
+/// is a move too, as what EEPROMs answer is.
+pub fn telling_moves_slaves()
+    ensures links { (is_up : ℕ → Bool) (r : RingState) → (all_told is_up r).links ≡ r.links }
+    ensures told { (is_up : ℕ → Bool) (r : RingState) (k : ℕ) (before : SlaveState)
+        → slice_get r.slaves k ≡ Some before
+        → slice_get (all_told is_up r).slaves k
+        ≡ Some (slave_told (dl_status (is_up k) (is_up (suc k))) before) }
+    ensures moved { (is_up : ℕ → Bool) (r : RingState) (k : ℕ) (before after : SlaveState)
+        → slice_get r.slaves k ≡ Some before → slice_get (all_told is_up r).slaves k ≡ Some after
+        → IsController before.controller → HasMoved before.controller after.controller }
 {}

@@ -1,5 +1,5 @@
--- A frame bears a number in a datagram behind its own (IEC 61158-4-12, the datagram structure and NOP): a NOP of
--- eight bytes, which no slave serves, so that it comes back with the data with which it went out.
+-- A frame bears a number in a datagram behind its own (IEC 61158-4-12, the datagram structure and NOP): a NOP
+-- of eight bytes, which no slave serves, so that it comes back with the data with which it went out.
 use Rattle.std.specs.Prelude.{◌≡◌, ◌==◌, ℕ, ◌+◌, ◌-◌, ◌*◌, Bool, false, ◌&&◌, if◌then◌else◌}
 use Rattle.std.specs.Prelude.{List, [], ◌∷◌, ◌++◌, length, take, Option, None, Some, IfSome}
 use Rattle.std.specs.Int.{w64, to_le_bytes, from_le_bytes}
@@ -65,7 +65,8 @@ Bears n ds = number_of ds ≡ Some n
 
 -- ---- what came
 
--- a frame came of the one that went out: it is no stranger, and the data of its last datagram are the sent ones
+-- a frame came of the one that went out: it is no stranger, and the data of its last datagram is what was
+-- sent
 pub record CameBack (sent copy : List DatagramRecord) : Type 0 where
   pub own : IsOwn sent copy
   pub number : (last_of copy).payload ≡ (last_of sent).payload

@@ -1,5 +1,5 @@
--- What a running master sends in each cycle asks what its items ask: outputs and counters of 0 leave the kind,
--- the address and the size of an item.
+-- What a running master sends in each cycle asks what its items ask: outputs and counters of 0 leave the
+-- kind, the address and the size of an item.
 use Rattle.std.proofs.Common.{◌≡◌, ℕ, Bool, true, false, cond, List, [], ◌∷◌, length, map}
 use Rattle.std.proofs.Common.{length-append, length-drop, refl, ap, ◌∙◌, arith}
 use Rattle.std.proofs.lemmas.List.{length-take}

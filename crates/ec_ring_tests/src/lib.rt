@@ -1,7 +1,8 @@
 #![tactic(auto)]
 //! Tests of slaves, of the way of frames over a line of them and of what tells where it is broken, by public
-//! calls alone: `app` of `ec_app`, `ring` of `ec_ring`, `process` of `ec_applications`, `diag` of `ec_diag`. What
-//! is records, bytes in and bytes out is rows of `data/app.rows` and `data/ring.rows`, which `ec_rows` runs.
+//! calls alone: `app` of `ec_app`, `ring` of `ec_ring`, `process` of `ec_applications`, `diag` of `ec_diag`.
+//! What is records, bytes in and bytes out is rows of `data/app.rows` and `data/ring.rows`, which `ec_rows`
+//! runs.
 
 #[cfg(test)]
 mod app;

@@ -90,9 +90,9 @@ impl Bench {
     }
 
     /// `controller STATION`, and `fmmu N RECORD` and `sm N RECORD` of it; `slave STATE OUTPUTS INPUTS`, of
-    /// station 0x1001 with the objects, and `simple OUTPUTS INPUTS`, a simple one in Init; `simple_at STATION`,
-    /// one without objects; and a sync manager of one of the four kinds, `outputs_at START LENGTH` and its
-    /// like.
+    /// station 0x1001 with the objects, and `simple OUTPUTS INPUTS`, a simple one in Init; `simple_at
+    /// STATION`, one without objects; and a sync manager of one of the four kinds, `outputs_at START LENGTH`
+    /// and its like.
     fn set(&mut self, verb: &str, words: &mut Words<'_>) -> bool {
         match verb {
             "controller" => {
@@ -182,8 +182,8 @@ impl Bench {
     }
 
     /// Verbs that give the master what the others have: `on_ring`, the slaves that stand make the ring, over
-    /// which its frames travel; `work`, the items make its work; `weather`, the next frame of a cycle goes out
-    /// in that which is set; and `under`, the next trip of its ports does.
+    /// which its frames travel; `work`, the items make its work; `weather`, the next frame of a cycle goes
+    /// out in that which is set; and `under`, the next trip of its ports does.
     fn set_master(&mut self, verb: &str, words: &mut Words<'_>, answer: &mut Answer) -> bool {
         match verb {
             "on_ring" => {

@@ -160,8 +160,8 @@ impl Cycles {
     }
 
     /// Verbs that read the work: `work_length`; `work_counters`; `work_data K`, and `work_ends K`, the first
-    /// and the last byte of it; `cut FIRST`, how many items travel in the frame that begins with that one; and
-    /// `report`, what was told of the last cycle.
+    /// and the last byte of it; `cut FIRST`, how many items travel in the frame that begins with that one;
+    /// and `report`, what was told of the last cycle.
     pub fn tell(&self, verb: &str, words: &mut Words<'_>, answer: &mut Answer) -> bool {
         match verb {
             "work_length" => answer.put(self.work.len()),
@@ -204,8 +204,8 @@ impl Cycles {
         true
     }
 
-    /// Verbs on the ring that change nothing: `accept`, and `all_expected COUNT`, the first of the counts that
-    /// are expected.
+    /// Verbs on the ring that change nothing: `accept`, and `all_expected COUNT`, the first of the counts
+    /// that are expected.
     pub fn tell_of_ring(
         &self,
         verb: &str,

@@ -20,8 +20,9 @@
 //! `anew` begins so once more. Each answer that is another than wanted is printed with both, and each line
 //! that is refused with its fault; the status is 1 then, and 3 where a file can't be read. The verbs stand in
 //! `bench`, `frames` (`ec_wire`, `ec_merge`), `records` (`ec_regs`), `areas` (`ec_areas`), `controller`
-//! (`ec_esc`), `eeprom` (`ec_sii`), `objects` and `slave` (`ec_app`), `ring` (`ec_ring`), `stands` and `items`
-//! (`ec_check`, `ec_map`), `cycles` (`ec_master`), `services` (`ec_services`), and `ways`, the ports of both.
+//! (`ec_esc`), `eeprom` (`ec_sii`), `objects` and `slave` (`ec_app`), `ring` (`ec_ring`), `stands` and
+//! `items` (`ec_check`, `ec_map`), `cycles` (`ec_master`), `services` (`ec_services`), and `ways`, the ports
+//! of both.
 
 mod answer;
 mod areas;

@@ -153,8 +153,8 @@ impl Stands {
         self.items.as_slice()
     }
 
-    /// Verbs that change nothing: `check`, `uncovered` and `not_shown` of the line and all items; `place ITEM`
-    /// and `counts ITEM` of the line and an item of zeros; and those of the last item.
+    /// Verbs that change nothing: `check`, `uncovered` and `not_shown` of the line and all items; `place
+    /// ITEM` and `counts ITEM` of the line and an item of zeros; and those of the last item.
     pub fn tell(&self, verb: &str, words: &mut Words<'_>, answer: &mut Answer) -> bool {
         match verb {
             "check" => match check(self.slaves.as_slice()) {

@@ -54,8 +54,8 @@ pub record IsSent {P : Type 0} (trips : Trips P) (before : P) (sent : List Datag
 
 -- ---- the look
 
--- how many slaves an answer is of, and which of these is the first of which it does not tell it; none where no
--- copy came
+-- how many slaves an answer is of, and which of these is the first of which it does not tell it; none where
+-- no copy came
 abbrev pub along_in : Back → Along
 along_in back =
     if is_some back.came.a || is_some back.came.b

@@ -1,7 +1,7 @@
--- A slave is brought to Op again in turns, one behind each cycle (IEC 61158-6-12, AL management): in a turn one
--- step is done; a state is asked for in one turn, and AL status is read once in each turn behind it.
-use Rattle.std.specs.Prelude.{◌≡◌, ℕ, zero, suc, ◌+◌, nat_le, nat_lt, Bool, true, false, if◌then◌else◌, List, []}
-use Rattle.std.specs.Prelude.{◌∷◌, Option}
+-- A slave is brought to Op again in turns, one behind each cycle (IEC 61158-6-12, AL management): in a turn
+-- one step is done; a state is asked for in one turn, and AL status is read once in each turn behind it.
+use Rattle.std.specs.Prelude.{◌≡◌, ℕ, zero, suc, ◌+◌, nat_le, nat_lt, Bool, true, false, if◌then◌else◌, List}
+use Rattle.std.specs.Prelude.{[], ◌∷◌, Option}
 use Rattle.std.specs.Prelude.{None, Some, Result, Ok, Err, slice_get}
 use Rattle.ec_master.specs.Ports.{Trips}
 use Rattle.ec_services.specs.Ask.{IsAsked, write}

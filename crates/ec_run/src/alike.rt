@@ -30,9 +30,9 @@ use ec_master::Ports;
 /// steps with the slaves of a line ([`crate::bring`]; `brings`), of a count of slaves
 /// ([`crate::count_slaves`]; `counted`), of looks ([`crate::look_for`]; `looked_up`, and along a line,
 /// [`crate::look_along`]; `looked_along`), of recoveries ([`crate::recover`]; `recovered`) and turns of one
-/// ([`crate::Recovery::turn`]; `turned`), of a cycle ([`crate::Cycles::cycle`]; `cycle`) and a course of cycles
-/// (`run`), of a line that is left in a state ([`crate::leave`]; `left`), and of so many trips at the most
-/// (`within`). So a law over a ring is one over any ports that are that ring, seen so.
+/// ([`crate::Recovery::turn`]; `turned`), of a cycle ([`crate::Cycles::cycle`]; `cycle`) and a course of
+/// cycles (`run`), of a line that is left in a state ([`crate::leave`]; `left`), and of so many trips at the
+/// most (`within`). So a law over a ring is one over any ports that are that ring, seen so.
 pub fn over_like_ports<P: Ports, Q: Ports>()
     ensures brings { (f : P → Q) → AreTripsOf f P.trips Q.trips → (before later : P) (place : ℕ)
         (line : List Wanted) (steps : List Step) (result : Result (Unit {0}) StepFault)

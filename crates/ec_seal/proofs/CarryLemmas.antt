@@ -1,4 +1,4 @@
--- The datagram that carries a number goes through a controller, and leaves it; a line of controllers stays one.
+-- The datagram that bears a number goes through a controller, and leaves it; a line of controllers stays one.
 use Rattle.std.specs.Prelude.{◌≡◌, ◌<◌, ℕ, zero, suc, ◌/◌, ◌%◌, Bool}
 use Rattle.std.specs.Prelude.{List, [], ◌∷◌, take, drop, None, refl}
 use Rattle.std.specs.List.{AllByRecursion}

@@ -1,4 +1,4 @@
--- What arrives of a numbered frame bears its number, and came of the frame under it: every true copy is taken.
+-- What arrives of a numbered frame bears its number and came of the frame under it: every true copy is taken.
 use Rattle.std.specs.Prelude.{◌≡◌, ◌<◌, ℕ, ◌*◌, ◌^◌, Bool, true, false, if◌then◌else◌}
 use Rattle.std.specs.Prelude.{List, length, Option, None, Some, IfSome}
 use Rattle.std.specs.Option.{option_map}

@@ -39,8 +39,8 @@ GoesBack m copy = ((going_back m).a ≡ Some copy) ⊎ ((going_back m).b ≡ Som
 abbrev pub BearsOneOf : ℕ → List DatagramRecord → Type 0
 BearsOneOf trip copy = Bears (number_a trip) copy ⊎ Bears (number_b trip) copy
 
--- what was taken on a trip: each came of what was sent, and if it bears a number of this trip it is one of its
--- two copies
+-- what was taken on a trip: each came of what was sent, and if it bears a number of this trip it is one of
+-- its two copies
 pub record Meets (m : Made) (taken : Came) : Type 0 where
   pub made : IsMade m
   pub a : IfSome taken.a (λ (copy : List DatagramRecord).

@@ -40,7 +40,8 @@ two_travelled w sent_a sent_b line =
 
 -- the trip with a number of a frame, whose copies go out under its two numbers
 abbrev pub numbered_trip : ℕ → Weather → List DatagramRecord → List ControllerState → Travelled
-numbered_trip trip w sent line = two_travelled w (numbered (number_a trip) sent) (numbered (number_b trip) sent) line
+numbered_trip trip w sent line =
+    two_travelled w (numbered (number_a trip) sent) (numbered (number_b trip) sent) line
 
 -- ---- with the numbers taken off
 

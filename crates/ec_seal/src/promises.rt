@@ -36,7 +36,8 @@ pub fn numbers_go_through_moving()
         ≡ record { frame = with_number false (number_a n) (copy_a t vs).frame; line = (copy_a t vs).line } }
     ensures b { (n : ℕ) (t : Trip) (vs : List Visit) → AllByRecursion IsController (when_b vs)
         → numbered_copy_b n t vs
-        ≡ record { frame = with_number t.turned (number_b n) (copy_b t vs).frame; line = (copy_b t vs).line } }
+        ≡ record
+        { frame = with_number t.turned (number_b n) (copy_b t vs).frame; line = (copy_b t vs).line } }
 {}
 
 /// What arrives of a numbered frame bears its number and came of the frame under it, whatever lines and

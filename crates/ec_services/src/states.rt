@@ -64,8 +64,8 @@ fn status_decides(back: &Back, state: AlState) -> Result<Option<()>, MasterFault
 
 /// Reads the AL status of a slave that was asked for a state, once: `None` where it is in another one yet.
 ///
-/// A trip that fails is `Port`, and a copy of another frame `Stranger`. `NoSlave`: the read came back with the
-/// working counter 0; `BadAnswer`: with more than 1; `Refused`: the slave's error bit is set.
+/// A trip that fails is `Port`, and a copy of another frame `Stranger`. `NoSlave`: the read came back with
+/// the working counter 0; `BadAnswer`: with more than 1; `Refused`: the slave's error bit is set.
 pub fn read_status<P: Ports>(
     ports: &mut P,
     station: u16,

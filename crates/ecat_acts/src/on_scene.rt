@@ -121,6 +121,7 @@ where
             forever,
             control,
             log,
+            plain,
             raw,
             pcap,
             force,
@@ -135,6 +136,7 @@ where
                 forever: *forever,
                 control: *control,
                 log: *log,
+                plain: *plain,
                 raw,
             };
             let pcap = Pcap::of(*pcap, *force);

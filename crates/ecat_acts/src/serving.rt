@@ -32,7 +32,7 @@ where
     W: io::Write,
     V: io::Write,
 {
-    let served = match served_of(rt.alloc(), scene) {
+    let served = match served_of(rt.alloc(), service, scene) {
         Ok(served) => served,
         Err(failure) => return report(&Failure::Line(failure), out, err),
     };
@@ -50,8 +50,12 @@ where
 }
 
 /// The line of a scene, as it is served.
-fn served_of(alloc: Global, scene: Result<Scene, SceneFault>) -> Result<Served, LineFailure> {
-    line_to_serve(alloc, scene?)
+fn served_of(
+    alloc: Global,
+    service: Service,
+    scene: Result<Scene, SceneFault>,
+) -> Result<Served, LineFailure> {
+    line_to_serve(alloc, service, scene?)
 }
 
 /// Serves a line, and records each copy at its ends, if anybody wants it.

@@ -103,6 +103,9 @@ forever_in given = flag_by (word_in given (codes "forever"))
 abbrev pub force_in : Given → Bool
 force_in given = flag_by (word_in given (codes "force"))
 
+abbrev pub plain_in : Given → Bool
+plain_in given = flag_by (word_in given (codes "plain"))
+
 abbrev pub log_in : Given → Bool
 log_in given = flag_by (word_in given (codes "log"))
 

@@ -326,6 +326,7 @@ fn serve<'a>(given: &ArgMatches<'a>) -> Option<Args<'a>>
             forever: flag(given, "forever"),
             control: flag(given, "control"),
             log: flag(given, "log"),
+            plain: flag(given, "plain"),
             raw: word(given, "RAW"),
             pcap: word(given, "PCAP"),
             force: flag(given, "force"),

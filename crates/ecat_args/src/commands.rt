@@ -106,8 +106,8 @@ pub enum SceneCommand<'a> {
         /// Whether a capture that is there is overwritten.
         force: bool,
     },
-    /// `serve SCENE [--port P] [--packets N] [--bind ADDRESS] [--forever] [--control] [--log] [--raw RAW]
-    /// [--pcap PCAP] [--force]`: puts the line of a scene on the network.
+    /// `serve SCENE [--port P] [--packets N] [--bind ADDRESS] [--forever] [--control] [--log] [--plain]
+    /// [--raw RAW] [--pcap PCAP] [--force]`: puts the line of a scene on the network.
     Serve {
         /// The port of the line's end A, 1024 to 65534. The end B has the next one.
         port: u16,
@@ -121,6 +121,8 @@ pub enum SceneCommand<'a> {
         control: bool,
         /// Whether each packet is told of.
         log: bool,
+        /// Whether slaves of which the scene does not say it are no devices.
+        plain: bool,
         /// The descriptors of packet sockets, if its ends lie at network interfaces.
         raw: Option<&'a str>,
         /// The path of a capture that gets each copy, as it comes and as it leaves.

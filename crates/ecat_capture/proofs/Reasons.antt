@@ -49,7 +49,7 @@ Explains-refused cut refused old new fault.Read front is refusal begins = absurd
 Explains-refused cut refused old new fault.NoMemory front is refusal begins = absurd is
 Explains-refused cut refused old new fault.Failed front is refusal begins = absurd is
 
--- An explanation from a later input is one from an earlier one that has the same bytes ahead, by weaker words.
+-- An explanation from a later input is one from an earlier one with the same bytes ahead, by weaker words.
 module _ (cut cut' : List ℕ → Type 0) (refused refused' : CaptureFaultKind → List ℕ → Type 0)
     (old mid new : Input) (same : Keeps (ahead old) (ahead mid)) (fewer : old.count ≤ mid.count)
     (weaker : (bytes : List ℕ) → cut bytes → cut' bytes)

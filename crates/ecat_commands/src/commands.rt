@@ -316,8 +316,8 @@ fn udp<'a>(alloc: Global) -> Result<Command<'a>, AllocError>
     command(alloc, "udp", about, help::UDP, words)
 }
 
-// `serve SCENE [--port P] [--packets N] [--bind ADDRESS] [--forever] [--control] [--log] [--raw RAW]
-// [--pcap PCAP] [--force]`
+// `serve SCENE [--port P] [--packets N] [--bind ADDRESS] [--forever] [--control] [--log] [--plain]
+// [--raw RAW] [--pcap PCAP] [--force]`
 fn serve<'a>(alloc: Global) -> Result<Command<'a>, AllocError>
     ensures { IfOk result (Builds serve_line) }
 {
@@ -327,6 +327,7 @@ fn serve<'a>(alloc: Global) -> Result<Command<'a>, AllocError>
     let address = "The IPv4 address of both ends; 127.0.0.1 if not given, for this machine alone";
     let forever = "Leaves standard input alone, so that it serves on where that has ended";
     let control = "Reads commands to the line from standard input, while it serves";
+    let plain = "Leaves slaves that the scene does not call device without what devices tell";
     let words = vec![in alloc;
         scene(alloc),
         port(alloc),
@@ -339,6 +340,7 @@ fn serve<'a>(alloc: Global) -> Result<Command<'a>, AllocError>
             "log",
             "Tells of each packet on standard error, a line each",
         ),
+        flag(alloc, "plain", plain),
         raw(alloc),
         pcap(alloc),
         force(alloc),

@@ -203,6 +203,10 @@ which --forever leaves alone, as --packets does: so it stays in the background.
 A scene with actions or weathers is refused; its items are passed over.
 With --bind both ends lie at ADDRESS, 0.0.0.0 for each address of this machine:
 whoever reaches the ports may write outputs then.
+Its slaves are devices, which a master of somebody else can identify: they have
+an EEPROM, and tell what they are and which of their links are up. Slaves that
+the scene calls plain have none of it, and with --plain all are that the scene
+does not call device.
 With --log standard error has a line for each packet: its number, end and size,
 and of a frame each datagram, with the counter as it came and as it left, and
 where it left; or why it was dropped, and ethernet or padded where it looks so.

@@ -232,6 +232,7 @@ fn outside_of(first: &[u8]) -> &'static str {
         "mem" => "the bytes go past the process memory, which ends at 0x2FFF",
         "object" => "the value does not fit its size in bytes",
         "startup" => "an object is written with 1, 2 or 4 bytes",
+        "name" => "a name has 64 characters at most, spaces included",
         "link" | "weather" => {
             "the line has no such link; link 0 is before the first slave, and one is behind each"
         }

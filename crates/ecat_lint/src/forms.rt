@@ -88,6 +88,19 @@ pub(crate) fn forms_of(first: &[u8]) -> Option<(&'static str, &'static [Form])> 
             "startup INDEX SUB BYTES",
             &[Form::Number(WORD), Form::Number(BYTE), Form::Bytes],
         )),
+        "plain" => Some(("plain", &[])),
+        "device" => Some(("device", &[])),
+        "identity" => Some((
+            "identity VENDOR PRODUCT REVISION SERIAL",
+            &[
+                Form::Number(DOUBLE_WORD),
+                Form::Number(DOUBLE_WORD),
+                Form::Number(DOUBLE_WORD),
+                Form::Number(DOUBLE_WORD),
+            ],
+        )),
+        "alias" => Some(("alias NUMBER", &[Form::Number(WORD)])),
+        "name" => Some(("name TEXT", &[])),
         "mirror" => Some((
             "mirror IN OUT",
             &[Form::Number(LAST_RECORD), Form::Number(LAST_RECORD)],

@@ -306,8 +306,8 @@ impl<'a, W: Write, V: Write, L: Write> Teller<'a, W, V, L> {
         self.ports.tell(cycle, is_good, ports, &mut self.out)
     }
 
-    /// Sees to a slave behind a cycle, by a frame or two, or one step: one that is being brought to Op goes on, one
-    /// that may have left it is looked at, and else, where that is due, the line is looked along.
+    /// Sees to a slave behind a cycle, by a frame or two, or one step: one that is being brought to Op goes
+    /// on, one that may have left it is looked at, and else, where that is due, the line is looked along.
     fn see_to<P: HeardPorts>(
         &mut self,
         cycle: u64,

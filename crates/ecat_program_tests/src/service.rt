@@ -24,6 +24,7 @@ const SERVICE: Service = Service {
     forever: false,
     control: false,
     log: false,
+    plain: false,
     raw: None,
 };
 
@@ -35,7 +36,7 @@ fn written(cursor: &Cursor<[u8; ROOM]>) -> &[u8] {
 
 /// The line of a source, as it is served.
 fn line_of<S: Source>(alloc: Global, source: &mut S) -> Result<Served, LineFailure> {
-    line_to_serve(alloc, scene_of(alloc, source)?)
+    line_to_serve(alloc, SERVICE, scene_of(alloc, source)?)
 }
 
 /// Did memory run out?

@@ -102,9 +102,10 @@ struct Received {
 /// A master's two ports over what carries packets to a line and back. Contracts see what carries them, and
 /// the number of the next trip.
 ///
-/// A trip ends as soon as nothing is gained by waiting: when each copy has come that is awaited; when one has come with each counter that is expected, and the other one has had as long
-/// again, and at least 5 milliseconds or a quarter of the trip's time, whichever is less; or when its time is
-/// over. At a port at which nothing came for 100 cycles nothing is waited for at least.
+/// A trip ends as soon as nothing is gained by waiting: when each copy has come that is awaited; when one has
+/// come with each counter that is expected, and the other one has had as long again, and at least 5
+/// milliseconds or a quarter of the trip's time, whichever is less; or when its time is over. At a port at
+/// which nothing came for 100 cycles nothing is waited for at least.
 #[derive(Drop)]
 pub struct RemotePorts<C: Carrier, T: Timer> {
     carrier: C,
@@ -341,8 +342,8 @@ impl<C: Carrier, T: Timer> RemotePorts<C, T> {
         Ok(Received { both, end })
     }
 
-    /// Receives at both ports until each copy has come that is awaited, or one of both alone with each counter
-    /// that is expected and the other one has had its time, or the time is over.
+    /// Receives at both ports until each copy has come that is awaited, or one of both alone with each
+    /// counter that is expected and the other one has had its time, or the time is over.
     fn wait_for_copies(
         &mut self,
         out: &Outgoing,

@@ -13,12 +13,15 @@ use Rattle.ec_map.specs.Item.{ItemRecord}
 use Rattle.ec_regs.specs.declared.al.AlState.{AlState}
 use Rattle.ec_regs.specs.declared.fmmu.Fmmu.{Fmmu}
 use Rattle.ec_regs.specs.declared.sync_man.SyncMan.{SyncMan}
+use Rattle.ec_sii.specs.declared.image.Identity.{Identity}
 use Rattle.ec_wire.specs.declared.kind.Kind.{Kind}
 use Rattle.ec_wire.specs.declared.kind.Kind.TheVariants.{Lrd, Lwr, Lrw, Brd, Fprd, Fpwr}
 use Rattle.ecat_scene.specs.declared.fault.LineFault.{LineFault}
 use Rattle.ecat_scene.specs.declared.fault.LineFault.TheVariants.{NoSlave, NotText, TooMany, Twin}
 use Rattle.ecat_scene.specs.declared.fault.LineFault.TheVariants.{UnknownWord, WrongCount}
 use Rattle.ecat_scene.specs.declared.fault.Stop.{Stop}
+use Rattle.ecat_scene.specs.declared.scene.SlaveKind.{SlaveKind}
+use Rattle.ecat_scene.specs.declared.scene.SlaveKind.TheVariants.{Plain, Device}
 use Rattle.ecat_scene.specs.declared.scene.StartupObject.{StartupObject}
 use Rattle.ecat_scene.specs.declared.scene.TheConstants.{MAX_ITEMS, MAX_SLAVES, MAX_STARTUP}
 use Rattle.ecat_scene.specs.Fields.{fitting}
@@ -26,8 +29,8 @@ use Rattle.ecat_scene.specs.Numbers.{number_of}
 use Rattle.ecat_scene.specs.Scene.{SceneRecord, SettingRecord, SyncManAt, FmmuAt, LoadAt, SlaveRecord}
 use Rattle.ecat_scene.specs.Scene.{new_slave}
 use Rattle.ecat_scene.specs.Text.{is_text, words_in}
-use Rattle.ecat_scene.specs.Words.{addressed_item_of, fmmu_setting, item_of, load_of, object_of, startup_of}
-use Rattle.ecat_scene.specs.Words.{state_of, Stops, sync_man_setting, ◌>>=◌}
+use Rattle.ecat_scene.specs.Words.{addressed_item_of, alias_of, fmmu_setting, identity_of, item_of, load_of}
+use Rattle.ecat_scene.specs.Words.{name_of, object_of, startup_of, state_of, Stops, sync_man_setting, ◌>>=◌}
 
 -- what is read of a line makes this of a scene, or of its slaves, unless memory ran out
 abbrev pub Does : {A : Type 0} → Result (Unit {0}) Stop → A → Result A LineFault → Type 0
@@ -100,6 +103,19 @@ abbrev pub with_startup : StartupObject → SlaveRecord → Result SlaveRecord L
 with_startup o slave =
     with_room MAX_STARTUP slave.startup o >>= λ startup. Ok (record slave { startup = startup })
 
+-- what it tells of itself
+abbrev pub to_kind : SlaveKind → Unit {0} → SlaveRecord → Result SlaveRecord LineFault
+to_kind kind _ slave = Ok (record slave { kind = kind })
+
+abbrev pub to_identity : Identity → SlaveRecord → Result SlaveRecord LineFault
+to_identity identity slave = Ok (record slave { identity = Some identity })
+
+abbrev pub to_alias : ℕ → SlaveRecord → Result SlaveRecord LineFault
+to_alias alias slave = Ok (record slave { alias = alias })
+
+abbrev pub to_name : List ℕ → SlaveRecord → Result SlaveRecord LineFault
+to_name name slave = Ok (record slave { name = name })
+
 -- the lengths of the areas that a slave's application takes and gives
 unfoldable pub areas_of : List ℕ → List ℕ → Result (ℕ × ℕ) LineFault
 areas_of outputs inputs = do
@@ -161,6 +177,23 @@ startup_line (index ∷ sub ∷ row ∷ []) scene =
     in_scene scene (then_last (startup_of index sub row) with_startup scene.slaves)
 startup_line words scene = Err WrongCount
 
+unfoldable pub kind_line : SlaveKind → List (List ℕ) → SceneRecord → Result SceneRecord LineFault
+kind_line kind [] scene = in_scene scene (then_last (Ok tt) (to_kind kind) scene.slaves)
+kind_line kind words scene = Err WrongCount
+
+unfoldable pub identity_line : List (List ℕ) → SceneRecord → Result SceneRecord LineFault
+identity_line (vendor ∷ product ∷ revision ∷ serial ∷ []) scene =
+    in_scene scene (then_last (identity_of vendor product revision serial) to_identity scene.slaves)
+identity_line words scene = Err WrongCount
+
+unfoldable pub alias_line : List (List ℕ) → SceneRecord → Result SceneRecord LineFault
+alias_line (alias ∷ []) scene = in_scene scene (then_last (alias_of alias) to_alias scene.slaves)
+alias_line words scene = Err WrongCount
+
+unfoldable pub name_line : List (List ℕ) → SceneRecord → Result SceneRecord LineFault
+name_line (first ∷ more) scene = in_scene scene (then_last (name_of first more) to_name scene.slaves)
+name_line words scene = Err WrongCount
+
 abbrev pub with_item : ItemRecord → SceneRecord → Result SceneRecord LineFault
 with_item item scene = with_room MAX_ITEMS scene.items item >>= λ items. Ok (record scene { items = items })
 
@@ -186,6 +219,16 @@ other_does first =
     else if bytes_eq first (codes "weather") then None
     else Some (Err UnknownWord)
 
+-- the words that say what a slave tells of itself
+abbrev pub told_does : List ℕ → List (List ℕ) → SceneRecord → Option (Result SceneRecord LineFault)
+told_does first rest scene =
+    if bytes_eq first (codes "plain") then Some (kind_line Plain rest scene)
+    else if bytes_eq first (codes "device") then Some (kind_line Device rest scene)
+    else if bytes_eq first (codes "identity") then Some (identity_line rest scene)
+    else if bytes_eq first (codes "alias") then Some (alias_line rest scene)
+    else if bytes_eq first (codes "name") then Some (name_line rest scene)
+    else other_does first
+
 -- what a line of these words does to a scene, where it describes a slave or an item
 abbrev pub word_does : List ℕ → List (List ℕ) → SceneRecord → Option (Result SceneRecord LineFault)
 word_does first rest scene =
@@ -204,7 +247,7 @@ word_does first rest scene =
     else if bytes_eq first (codes "brd") then Some (item_line Brd rest scene)
     else if bytes_eq first (codes "fprd") then Some (addressed_item_line Fprd rest scene)
     else if bytes_eq first (codes "fpwr") then Some (addressed_item_line Fpwr rest scene)
-    else other_does first
+    else told_does first rest scene
 
 -- a line with no words does nothing
 abbrev pub words_do : List (List ℕ) → SceneRecord → Option (Result SceneRecord LineFault)

@@ -1,5 +1,5 @@
 -- A scene as what its lines say, whatever memory it lies in.
-use Rattle.std.specs.Prelude.{ℕ, Bool, false, List, [], map}
+use Rattle.std.specs.Prelude.{ℕ, Bool, false, List, [], map, Option, None}
 use Rattle.ec_app.specs.declared.objects.Entry.{Entry}
 use Rattle.ec_map.specs.Item.{ItemRecord}
 use Rattle.ec_applications.specs.declared.application.Behaviour.{Behaviour}
@@ -7,10 +7,13 @@ use Rattle.ec_regs.specs.declared.al.AlState.{AlState}
 use Rattle.ec_regs.specs.declared.al.AlState.TheVariants.{Init}
 use Rattle.ec_regs.specs.declared.fmmu.Fmmu.{Fmmu}
 use Rattle.ec_regs.specs.declared.sync_man.SyncMan.{SyncMan}
+use Rattle.ec_sii.specs.declared.image.Identity.{Identity}
 use Rattle.ecat_scene.specs.declared.scene.Action.{Action}
 use Rattle.ecat_scene.specs.declared.scene.Scene.{Scene}
 use Rattle.ecat_scene.specs.declared.scene.SceneSlave.{SceneSlave}
 use Rattle.ecat_scene.specs.declared.scene.SceneWeather.{SceneWeather}
+use Rattle.ecat_scene.specs.declared.scene.SlaveKind.{SlaveKind}
+use Rattle.ecat_scene.specs.declared.scene.SlaveKind.TheVariants.{Unsaid}
 use Rattle.ecat_scene.specs.declared.scene.Setting.{Setting}
 use Rattle.ecat_scene.specs.declared.scene.Setting.TheVariants.{SyncMan as OfSyncMan, Fmmu as OfFmmu}
 use Rattle.ecat_scene.specs.declared.scene.Setting.TheVariants.{Load as OfLoad}
@@ -38,6 +41,10 @@ pub record SlaveRecord : Type 0 where
   pub objects : List Entry
   pub behaviours : List Behaviour
   pub startup : List StartupObject
+  pub kind : SlaveKind
+  pub identity : Option Identity
+  pub alias : ℕ
+  pub name : List ℕ
 
 abbrev pub slave_record : SceneSlave → SlaveRecord
 slave_record s = record {
@@ -50,6 +57,10 @@ slave_record s = record {
   objects = s.objects;
   behaviours = s.behaviours.items;
   startup = s.startup.items;
+  kind = s.kind;
+  identity = s.identity;
+  alias = s.alias;
+  name = s.name.items;
 }
 
 -- one that was only begun
@@ -64,6 +75,10 @@ new_slave station = record {
   objects = [];
   behaviours = [];
   startup = [];
+  kind = Unsaid;
+  identity = None;
+  alias = 0;
+  name = [];
 }
 
 -- a line of slaves and what is done with it

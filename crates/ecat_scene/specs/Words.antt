@@ -1,7 +1,8 @@
 -- What the words of a line say: each kind, direction, right, state, value and row of bytes is read as one
 -- thing, or at fault. The tests of one line run in the order of its words, those of the ranges behind them.
-use Rattle.std.specs.Prelude.{ℕ, ◌+◌, ◌^◌, ◌≡◌, ◌==◌, ◌||◌, Bool, nat_lt, if◌then◌else◌, List, []}
+use Rattle.std.specs.Prelude.{ℕ, ◌+◌, ◌^◌, ◌≡◌, ◌==◌, ◌||◌, Bool, nat_lt, if◌then◌else◌, List, [], ◌∷◌, ◌++◌}
 use Rattle.std.specs.Prelude.{Option, None, Some, is_some, Result, Ok, Err, codes, length}
+use Rattle.std.specs.List.{flat_map}
 use Rattle.std.specs.Str.{bytes_eq, is_utf8}
 use Rattle.hex.specs.Hex.{decode_of}
 use Rattle.hex.specs.declared.error.FromHexError.{FromHexError}
@@ -17,6 +18,7 @@ use Rattle.ec_regs.specs.declared.registers.TheConstants.{SYNC_MANAGER_COUNT}
 use Rattle.ec_regs.specs.declared.fmmu.Fmmu.{Fmmu}
 use Rattle.ec_regs.specs.declared.sync_man.SyncMan.{SyncMan}
 use Rattle.ec_regs.specs.declared.al.AlState.{AlState}
+use Rattle.ec_sii.specs.declared.image.Identity.{Identity}
 use Rattle.ec_wire.specs.Datagram.{address_of}
 use Rattle.ec_wire.specs.declared.kind.Kind.{Kind}
 use Rattle.ecat_scene.specs.declared.fault.LineFault.{LineFault}
@@ -24,6 +26,7 @@ use Rattle.ecat_scene.specs.declared.fault.LineFault.TheVariants.{BadNumber, Out
 use Rattle.ecat_scene.specs.declared.fault.Stop.{Stop}
 use Rattle.ecat_scene.specs.declared.fault.Stop.TheVariants.{Fault, NoMemory}
 use Rattle.ecat_scene.specs.declared.scene.StartupObject.{StartupObject}
+use Rattle.ecat_scene.specs.declared.scene.TheConstants.{MAX_NAME}
 use Rattle.ecat_scene.specs.declared.written.AreaKind.{AreaKind}
 use Rattle.ecat_scene.specs.declared.written.AreaKind.TheVariants.{MailboxWrite, MailboxRead, Write, Read}
 use Rattle.ecat_scene.specs.declared.written.Through.{Through}
@@ -108,6 +111,33 @@ state_of word = do
   number ← number_of word
   code ← fitting (2 ^ 8) number
   or_out_of_range (state_of_code code)
+
+-- ---- what a slave tells of itself
+
+-- four numbers of 32 bits
+unfoldable pub identity_of : (vendor product revision serial : List ℕ) → Result Identity LineFault
+identity_of vendor product revision serial = do
+  v ← number_of vendor
+  p ← number_of product
+  r ← number_of revision
+  s ← number_of serial
+  v ← fitting (2 ^ 32) v
+  p ← fitting (2 ^ 32) p
+  r ← fitting (2 ^ 32) r
+  s ← fitting (2 ^ 32) s
+  Ok (record { vendor = v; product = p; revision = r; serial = s })
+
+unfoldable pub alias_of : List ℕ → Result ℕ LineFault
+alias_of word = number_of word >>= λ n. fitting (2 ^ 16) n
+
+-- words with a space between any two of them
+abbrev pub spaced : List ℕ → List (List ℕ) → List ℕ
+spaced first more = first ++ flat_map (λ (word : List ℕ). 32 ∷ word) more
+
+-- a name, which is not too long
+unfoldable pub name_of : List ℕ → List (List ℕ) → Result (List ℕ) LineFault
+name_of first more =
+    if nat_lt MAX_NAME (length (spaced first more)) then Err OutOfRange else Ok (spaced first more)
 
 -- ---- sync managers and FMMUs
 

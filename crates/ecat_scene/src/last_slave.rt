@@ -2,16 +2,19 @@
 
 ghost use Rattle.std.specs.Prelude.{◌≡◌, ◌+◌, length, vec_len, map, Ok, Err, IfOk};
 ghost use Rattle.ecat_scene.specs.Deeds.{areas_of, Does, set_up, then_last, to_areas, to_simple, to_state};
+ghost use Rattle.ecat_scene.specs.Deeds.{to_alias, to_identity, to_kind, to_name};
 ghost use Rattle.ecat_scene.specs.Deeds.{where_begun, with_fmmu, with_last, with_load, with_object};
 ghost use Rattle.ecat_scene.specs.Deeds.{with_startup, with_sync_man};
 ghost use Rattle.ecat_scene.specs.Scene.{setting_record, slave_record};
+ghost use Rattle.ecat_scene.specs.Words.{alias_of, identity_of, name_of};
 ghost use Rattle.ecat_scene.specs.Words.{fmmu_setting, load_of, object_of, seen, startup_of, state_of};
 ghost use Rattle.ecat_scene.specs.Words.{sync_man_setting};
 ghost use Rattle.ecat_scene.specs.declared.fault.LineFault.TheVariants.{NoSlave};
 ghost use Rattle.ecat_scene.specs.declared.fault.Stop.TheVariants.{Fault};
 
+use crate::device_lines::{alias_of, identity_of, name_of};
 use crate::fault::{LineFault, Stop};
-use crate::scene::{MAX_STARTUP, SceneSlave, Setting};
+use crate::scene::{MAX_STARTUP, SceneSlave, Setting, SlaveKind};
 use crate::slave_lines::{
     areas_of, fmmu_setting, load_of, object_of, startup_of, state_of, sync_man_setting,
 };
@@ -186,5 +189,69 @@ pub(crate) fn add_startup(
         return Err(Stop::Fault(LineFault::TooMany));
     }
     slaves[last].startup.push(object)?;
+    Ok(())
+}
+
+/// Has the last slave be of a kind.
+#[tactic(auto, using(crate::proofs::LastLemmas::lasts))]
+pub(crate) fn set_kind(slaves: &mut Vec<SceneSlave>, kind: SlaveKind) -> Result<(), Stop>
+    ensures misses { vec_len slaves.old ≡ 0 → result ≡ Err (Fault NoSlave) }
+    ensures done { Does result (map slave_record slaves.new.items)
+        (then_last (Ok tt) (to_kind kind) (map slave_record slaves.old.items)) }
+{
+    let last = last_of(slaves.as_slice())?;
+    slaves[last].kind = kind;
+    Ok(())
+}
+
+/// Gives the last slave an identity.
+#[tactic(auto, using(crate::proofs::LastLemmas::lasts))]
+pub(crate) fn set_identity(
+    slaves: &mut Vec<SceneSlave>,
+    vendor: &[u8],
+    product: &[u8],
+    revision: &[u8],
+    serial: &[u8],
+) -> Result<(), Stop>
+    ensures misses { vec_len slaves.old ≡ 0 → result ≡ Err (Fault NoSlave) }
+    ensures done { Does result (map slave_record slaves.new.items)
+        (then_last (identity_of vendor.now product.now revision.now serial.now) to_identity
+        (map slave_record slaves.old.items)) }
+{
+    let last = last_of(slaves.as_slice())?;
+    let identity = identity_of(vendor, product, revision, serial)?;
+    slaves[last].identity = Some(identity);
+    Ok(())
+}
+
+/// Gives the last slave an alias.
+#[tactic(auto, using(crate::proofs::LastLemmas::lasts))]
+pub(crate) fn set_alias(slaves: &mut Vec<SceneSlave>, alias: &[u8]) -> Result<(), Stop>
+    ensures misses { vec_len slaves.old ≡ 0 → result ≡ Err (Fault NoSlave) }
+    ensures done { Does result (map slave_record slaves.new.items)
+        (then_last (alias_of alias.now) to_alias (map slave_record slaves.old.items)) }
+{
+    let last = last_of(slaves.as_slice())?;
+    let alias = alias_of(alias)?;
+    slaves[last].alias = alias;
+    Ok(())
+}
+
+/// Gives the last slave a name.
+#[tactic(auto, using(crate::proofs::LastLemmas::lasts))]
+pub(crate) fn set_name(
+    alloc: Global,
+    slaves: &mut Vec<SceneSlave>,
+    first: &[u8],
+    more: &[&[u8]],
+) -> Result<(), Stop>
+    ensures misses { vec_len slaves.old ≡ 0 → result ≡ Err (Fault NoSlave) }
+    ensures done { Does result (map slave_record slaves.new.items)
+        (then_last (name_of first.now (map (λ word. word.now) more.now)) to_name
+        (map slave_record slaves.old.items)) }
+{
+    let last = last_of(slaves.as_slice())?;
+    let name = name_of(alloc, first, more)?;
+    slaves[last].name = name;
     Ok(())
 }

@@ -27,8 +27,8 @@
 //! [`lines_read_back`], [`scenes_read_back`]).
 //!
 //! - `scene`: what a scene is; `fault`: what can be wrong with its text.
-//! - `reader`: the lines in their order; `slave_lines`, `work_lines`: what each of them says; `last_slave`:
-//!   what the lines of a slave do to it.
+//! - `reader`: the lines in their order; `slave_lines`, `device_lines`, `work_lines`: what each of them says;
+//!   `last_slave`: what the lines of a slave do to it.
 //! - `bench`: the commands by which a line is worked on while it is served, a line of text each.
 //! - `words`, `numbers`: the words of a line, and the numbers and rows of bytes among them.
 //! - `written`: lines that are written. [`put_line`] and its like put exactly the words of a line behind a
@@ -37,6 +37,7 @@
 //! What helps a person with the text of a scene is `ecat_lint`, which reads lines by the same words.
 
 mod bench;
+mod device_lines;
 mod fault;
 mod last_slave;
 mod numbers;
@@ -51,8 +52,9 @@ pub use bench::{BenchCommand, CommandFault, SlaveName};
 pub use fault::{LineFault, SceneFault, Stop};
 pub use numbers::{number, numbers_read_back, test_bytes};
 pub use scene::{
-    Action, FmmuSetting, Load, MAX_ACTIONS, MAX_ITEMS, MAX_SLAVES, MAX_STARTUP, MAX_TEXT,
-    MAX_WEATHERS, Scene, SceneSlave, SceneWeather, Setting, StartupObject, SyncManSetting,
+    Action, FmmuSetting, Load, MAX_ACTIONS, MAX_ITEMS, MAX_NAME, MAX_SLAVES, MAX_STARTUP, MAX_TEXT,
+    MAX_WEATHERS, Scene, SceneSlave, SceneWeather, Setting, SlaveKind, StartupObject,
+    SyncManSetting,
 };
 pub use slave_lines::{control_of, object_of, startup_of, sync_man_of};
 pub use words::{is_text, put_words, text_of, words_of};

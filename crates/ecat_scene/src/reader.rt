@@ -7,7 +7,7 @@ ghost use Rattle.ecat_scene.specs.Order.{fault_of};
 ghost use Rattle.ecat_scene.specs.declared.fault.SceneFault.TheVariants.{TooLong};
 
 use crate::fault::{LineFault, SceneFault, Stop};
-use crate::scene::Scene;
+use crate::scene::{Scene, SlaveKind};
 use crate::words::{put_words, test_text, text_of};
 use ec_map::Kind;
 use std::alloc::Global;
@@ -136,6 +136,11 @@ impl Reader {
             "mem" => self.load(rest),
             "object" => self.object(rest),
             "startup" => self.startup(rest),
+            "plain" => self.kind(SlaveKind::Plain, rest),
+            "device" => self.kind(SlaveKind::Device, rest),
+            "identity" => self.identity(rest),
+            "alias" => self.alias(rest),
+            "name" => self.name(rest),
             "link" => self.link(rest),
             "frame" => self.frame(rest),
             "step" => self.step(rest),

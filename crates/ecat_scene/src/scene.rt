@@ -8,6 +8,7 @@ use ec_app::{Objects, Value};
 use ec_applications::Behaviour;
 use ec_map::Item;
 use ec_regs::{AlState, Fmmu, SyncMan};
+use ec_sii::Identity;
 use ec_wire::FrameBuf;
 use std::alloc::Global;
 
@@ -28,6 +29,9 @@ pub const MAX_WEATHERS: usize = 32;
 
 /// The most startup objects of a slave.
 pub const MAX_STARTUP: usize = 16;
+
+/// The most bytes of a slave's name.
+pub const MAX_NAME: usize = 64;
 
 /// The record of one sync manager.
 #[derive(Drop)]
@@ -83,6 +87,18 @@ pub struct StartupObject {
     pub value: Value,
 }
 
+/// What a slave tells of itself.
+#[derive(Clone, Copy, PartialEq, Eq, Debug)]
+pub enum SlaveKind {
+    /// No line says it: whoever sets the slave up decides.
+    Unsaid,
+    /// `plain`: nothing; its registers of DL information, DL status and the slave information interface are 0.
+    Plain,
+    /// `device`: it has DL information, DL status and an EEPROM, as controllers that are bought
+    /// (IEC 61158-4-12, DL information and slave information interface).
+    Device,
+}
+
 /// One slave of the line.
 #[derive(Drop)]
 pub struct SceneSlave {
@@ -107,6 +123,14 @@ pub struct SceneSlave {
     /// What a master writes when it starts the slave, in the order of the lines, at most `MAX_STARTUP`; the
     /// simulated slave knows nothing of it.
     pub startup: Vec<StartupObject>,
+    /// What it tells of itself.
+    pub kind: SlaveKind,
+    /// Who made it and what it is, as its EEPROM tells it, where a line says so.
+    pub identity: Option<Identity>,
+    /// The alias by which a master may name it (ETG.1000.6), 0 for none.
+    pub alias: u16,
+    /// Its name, at most `MAX_NAME` bytes of ASCII text; empty where no line says one.
+    pub name: Vec<u8>,
 }
 
 /// What is done with the line before its cycle.

@@ -16,7 +16,9 @@ use crate::last_slave::{
 };
 use crate::numbers::{byte, bytes, double_word, number, test_bytes, word};
 use crate::reader::Reader;
-use crate::scene::{FmmuSetting, Load, MAX_SLAVES, SceneSlave, StartupObject, SyncManSetting};
+use crate::scene::{
+    FmmuSetting, Load, MAX_SLAVES, SceneSlave, SlaveKind, StartupObject, SyncManSetting,
+};
 use crate::words::text_of;
 use bitflags::Flags;
 use ec_app::{Objects, Rights, Value};
@@ -55,6 +57,10 @@ impl Reader {
             objects: Objects::new(),
             behaviours: Vec::new(self.alloc),
             startup: Vec::new(self.alloc),
+            kind: SlaveKind::Unsaid,
+            identity: None,
+            alias: 0,
+            name: Vec::new(self.alloc),
         };
         self.scene.slaves.push(slave)?;
         Ok(())

@@ -1,2 +1,3 @@
 pub mod RoundLemmas
 mod CommandLemmas
+mod LinkLemmas

@@ -13,13 +13,11 @@ use Rattle.ec_ring.specs.Walk.{walked}
 use Rattle.ec_ring.specs.declared.links.Links.{Links}
 use Rattle.ec_ring.specs.declared.port.Port.{Port}
 use Rattle.ecat_serve.specs.Ends.{Sends}
-use Rattle.ecat_serve.specs.State.{ServedState, losing, moved_on, peer_at, to_lose_at}
+use Rattle.ecat_serve.specs.State.{ServedState, losing, moved_on, peer_at, serves_link, to_lose_at}
 
--- the links under which frames walk are the ring's, but the last one is down while nobody has ever spoken to
--- end B: it is the last port of a real line, and empty
+-- these are the links under which frames walk
 abbrev pub AreServed : ServedState → Links → Type 0
-AreServed s links = (k : ℕ) → is_up links k
-    ≡ (is_up s.ring.links k && not (is_none s.peer_b && (k == length s.ring.slaves)))
+AreServed s links = (k : ℕ) → is_up links k ≡ serves_link s k
 
 -- what arrives of a frame, and where
 abbrev pub Arrival : Type 0

@@ -11,7 +11,7 @@ use Rattle.ec_ring.specs.declared.port.PortFault.{PortFault}
 use Rattle.ecat_serve.specs.Bench.{Changes, loaded, put_in, with_links}
 use Rattle.ecat_serve.specs.Ends.{Receives, Sends}
 use Rattle.ecat_serve.specs.Rounds.{Serves}
-use Rattle.ecat_serve.specs.State.{ServedState, losing, to_lose_at, unplugged}
+use Rattle.ecat_serve.specs.State.{ServedState, linked, losing, to_lose_at, unplugged}
 use Rattle.ecat_serve.specs.declared.served.Counts.{Counts}
 
 -- ---- one command
@@ -27,15 +27,15 @@ pub data Command : Type 0 where
   State : (place : ℕ) (state : AlState) → Command
   -- so many more of the copies that arrive at an end are to be lost
   Lose : (at : Port) (count : ℕ) → Command
-  -- nobody has spoken at an end
+  -- nobody has spoken at an end, which at end B takes the last link away
   Unplug : (at : Port) → Command
 
--- one link of the line is put, and all else stays
+-- one link of the line is put, which the slaves beside it tell, and all else stays
 pub record IsPut (before : ServedState) (number : ℕ) (up : Bool) (later : ServedState) : Type 0 where
   pub on_line : number ≤ length before.ring.slaves
   pub at : is_up later.ring.links number ≡ up
   pub others : (k : ℕ) → k ≢ number → is_up later.ring.links k ≡ is_up before.ring.links k
-  pub stays : later ≡ with_links before later.ring.links
+  pub stays : later ≡ linked (with_links before later.ring.links)
 
 -- bytes of process memory are loaded
 pub record IsLoaded (before : ServedState) (place address : ℕ) (bytes : List ℕ) (later : ServedState) : Type 0

@@ -6,10 +6,11 @@ ghost use Rattle.std.specs.Result.{result_err};
 ghost use Rattle.ec_esc.specs.State.{word_at};
 ghost use Rattle.ec_regs.specs.declared.registers.TheConstants.{MEMORY_SIZE, PROCESS_MEMORY, STATION_ADDRESS};
 ghost use Rattle.ec_ring.specs.Links.{is_up};
+ghost use Rattle.ec_ring.specs.declared.port.Port.TheVariants.{B};
 ghost use Rattle.ecat_serve.specs.Bench.{Changes, bytes_fault, link_fault, load_fault, loaded};
 ghost use Rattle.ecat_serve.specs.Bench.{put_in, slave_fault, with_links};
 ghost use Rattle.ecat_serve.specs.Commands.{IsCommanded};
-ghost use Rattle.ecat_serve.specs.State.{losing, to_lose_at, unplugged};
+ghost use Rattle.ecat_serve.specs.State.{linked, losing, to_lose_at, unplugged};
 
 use crate::served::Served;
 use ec_app::Slave;
@@ -29,22 +30,33 @@ pub enum BenchFault {
 }
 
 impl Served {
-    /// Puts a link up or down, 0 before the first slave to n behind the last of n; all else stays. Without
-    /// such a link nothing changes.
+    /// Puts a link up or down, 0 before the first slave to n behind the last of n, which the slaves beside it
+    /// tell; all else stays. Without such a link nothing changes.
     pub fn set_link(&mut self, k: usize, up: bool) -> Result<(), BenchFault>
         ensures err { result_err result ≡ link_fault self.old k }
         ensures unchanged { OnErr result (self.new ≡ self.old) }
         ensures at { OnOk result (is_up self.new.ring.links k ≡ up) }
         ensures others { OnOk result ((j : ℕ) → j ≢ k
             → is_up self.new.ring.links j ≡ is_up self.old.ring.links j) }
-        ensures stays { OnOk result (self.new ≡ with_links self.old self.new.ring.links) }
+        ensures stays { OnOk result (self.new ≡ linked (with_links self.old self.new.ring.links)) }
         ensures commanded { IsCommanded self.old self.new }
     {
         if self.ring.slaves().len() < k {
             return Err(BenchFault::NoLink);
         }
-        self.ring.set_link(k, up);
+        self.put_link(k, up);
         Ok(())
+    }
+
+    /// Puts a link of the line up or down, and has the slaves beside it tell it.
+    fn put_link(&mut self, k: usize, up: bool)
+        requires { k ≤ length self.old.ring.slaves }
+        ensures at { is_up self.new.ring.links k ≡ up }
+        ensures others { (j : ℕ) → j ≢ k → is_up self.new.ring.links j ≡ is_up self.old.ring.links j }
+        ensures stays { self.new ≡ linked (with_links self.old self.new.ring.links) }
+    {
+        self.ring.set_link(k, up);
+        self.tell_links();
     }
 
     /// Has this many more of the copies that arrive at an end be lost there; all else stays. What would be
@@ -66,8 +78,16 @@ impl Served {
     {
         match at {
             Port::A => self.peer_a = None,
-            Port::B => self.peer_b = None,
+            Port::B => self.unplug_b(),
         }
+    }
+
+    /// Unplugs whoever spoke last at end B, which takes the last link away.
+    fn unplug_b(&mut self)
+        ensures { self.new ≡ unplugged self.old B }
+    {
+        self.peer_b = None;
+        self.tell_links();
     }
 
     /// The place of the first slave whose station address this is, the first slave's place being 0.

@@ -4,14 +4,15 @@ ghost use Rattle.std.specs.Prelude.{◌≡◌, ◌+◌, ◌-◌, ◌^◌, ◌<�
 ghost use Rattle.ec_wire.specs.Datagram.{DatagramRecord};
 ghost use Rattle.ec_wire.specs.Fault.{IsSpelt};
 ghost use Rattle.ec_wire.specs.declared.fault.Form.TheVariants.{Udp};
+ghost use Rattle.ec_ring.specs.declared.port.Port.TheVariants.{B};
 ghost use Rattle.ecat_serve.specs.Answering.{AreServed, Replies, Walks, once_lost, spared};
 ghost use Rattle.ecat_serve.specs.Rounds.{IsAnswered, IsDropped, IsRound, Serves, round_of};
-ghost use Rattle.ecat_serve.specs.State.{losing, moved_on, peer_at, spoken, to_lose_at};
+ghost use Rattle.ecat_serve.specs.State.{linked, losing, moved_on, peer_at, spoken, to_lose_at};
 ghost use Rattle.ecat_serve.specs.Watching.{IsFrame, leaving};
 
 use crate::ends::{Arrived, Ends};
 use crate::watch::{Leaving, Unwatched, Watch};
-use ec_applications::Applications;
+use ec_applications::{Applications, tell_each};
 use ec_ring::{Links, Port, PortFault, Ring, Travel};
 use ec_wire::{Form, FrameBuf, PACKET_ROOM};
 use std::marker::Model;
@@ -274,8 +275,28 @@ impl Served {
     {
         match arrived.at {
             Port::A => self.peer_a = Some(arrived.from),
-            Port::B => self.peer_b = Some(arrived.from),
+            Port::B => self.hear_b(arrived.from),
         }
+    }
+
+    /// Keeps who spoke at end B; the first one there is a link.
+    fn hear_b(&mut self, from: SocketAddr)
+        ensures { self.new ≡ spoken self.old B from }
+    {
+        let is_first = self.peer_b.is_none();
+        self.peer_b = Some(from);
+        if is_first {
+            self.tell_links();
+        }
+    }
+
+    /// Has each slave that tells of itself tell of the links beside it, as frames walk now. Whoever changes
+    /// the ring before it is served calls it once.
+    pub fn tell_links(&mut self)
+        ensures { self.new ≡ linked self.old }
+    {
+        let links = self.links();
+        tell_each(&mut self.ring, &links);
     }
 
     /// The links under which a frame walks now.

@@ -110,7 +110,8 @@ impl EndSockets for UdpSockets {
 /// end that was not the last one comes first. Of a packet of more than 1,501 bytes the first 1,501 are
 /// received. Where there is an input, no more packets are to come once it has ended and no packet waits.
 /// What it brings is passed over, or kept as lines: then a receive also ends where a line is there and no
-/// packet waits, and after 32 packets in a row. Each error of the system but "try again" is a fault.
+/// packet waits, and after 32 packets in a row. A packet that the system does not take to send is lost; each
+/// error of a receive but "try again" is a fault.
 #[derive(Drop)]
 pub struct UdpEnds<I: Read + AsRawFd + Drop> {
     /// What a receive waits with: the two sockets and the input.
@@ -160,10 +161,9 @@ impl<I: Read + AsRawFd + Drop> Ends for UdpEnds<I> {
     }
 
     fn send(&mut self, from: Port, to: SocketAddr, bytes: &[u8]) -> Result<(), PortFault> {
-        match self.sockets.end(from).socket.send_to(bytes, to) {
-            Ok(_) => Ok(()),
-            Err(_) => Err(PortFault),
-        }
+        // A copy that the system does not take, as where the network of its address is down, is lost.
+        let _ = self.sockets.end(from).socket.send_to(bytes, to);
+        Ok(())
     }
 }
 

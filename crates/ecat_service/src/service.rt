@@ -21,6 +21,8 @@ pub struct Service {
     pub control: bool,
     /// Whether each packet is told of.
     pub log: bool,
+    /// Whether slaves of which the scene does not say it are no devices.
+    pub plain: bool,
     /// The packet sockets at which the ends lie, if they do not lie at the address.
     pub raw: Option<Descriptors>,
 }

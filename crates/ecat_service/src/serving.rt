@@ -10,7 +10,7 @@ use ec_ring::Ring;
 use ecat_log::{Cables, Log};
 use ecat_scene::Scene;
 use ecat_serve::{Console, Counts, Desk, Disturb, Ends, Onward, Served, Unwatched, Watch};
-use ecat_setup::{LineFailure, applications_of, for_packets, ring_of};
+use ecat_setup::{LineFailure, applications_of, for_packets, make_devices, ring_of};
 use ecat_text::{GOOD, Lines, print_areas};
 use std::alloc::Global;
 use std::fmt;
@@ -90,12 +90,18 @@ impl fmt::Display for CountsText {
 }
 
 /// The line of the scene, which has no actions and no weathers, as it is served; its items are a master's,
-/// and are passed over.
-pub fn line_to_serve(alloc: Global, scene: Scene) -> Result<Served, LineFailure> {
-    let scene = for_packets(scene)?;
+/// and are passed over. Slaves of which the scene does not say what they tell of themselves are devices,
+/// unless the service leaves them plain: it is there for masters that somebody else wrote.
+pub fn line_to_serve(alloc: Global, service: Service, scene: Scene) -> Result<Served, LineFailure> {
+    let mut scene = for_packets(scene)?;
+    if !service.plain {
+        make_devices(scene.slaves.as_mut_slice());
+    }
     let applications = applications_of(alloc, scene.slaves.as_slice())?;
     let ring = ring_of(alloc, scene.slaves, scene.links_down.as_slice())?;
-    Ok(Served::acting(ring, applications))
+    let mut served = Served::acting(ring, applications);
+    served.tell_links();
+    Ok(served)
 }
 
 /// Serves a line that has these ends, and answers the exit status. It prints where the line is served, and at

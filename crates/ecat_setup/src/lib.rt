@@ -20,15 +20,18 @@
 //! cases of the program; so is that the records alone ([`records_of`]), by which a line is checked, are
 //! mapped as its slaves.
 
+mod devices;
 mod expected;
 mod failure;
 mod line;
+mod process_data;
 mod reading;
 mod records;
 mod stepping_ports;
 mod weathers;
 mod work;
 
+pub use devices::make_devices;
 pub use expected::Expected;
 pub use failure::LineFailure;
 pub use line::{applications_of, ring_of, set_link, slaves_of};

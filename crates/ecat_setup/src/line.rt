@@ -1,11 +1,13 @@
 //! The slaves of a scene, the ring of them and their applications.
 
+use crate::devices::{add_objects, eeprom_of};
 use crate::failure::LineFailure;
 use ec_app::Slave;
-use ec_applications::{Application, Applications};
+use ec_applications::{Application, Applications, PlacedEeprom, tell_each};
 use ec_esc::Controller;
-use ec_ring::Ring;
-use ecat_scene::{SceneSlave, Setting};
+use ec_regs::Information;
+use ec_ring::{Ring, Travel};
+use ecat_scene::{SceneSlave, Setting, SlaveKind};
 use std::alloc::Global;
 
 /// Sets up a controller, line by line.
@@ -19,8 +21,13 @@ fn set_up(controller: &mut Controller, settings: &[Setting]) {
     }
 }
 
-/// The slave that a scene describes.
-fn slave_of(alloc: Global, described: SceneSlave) -> Result<Slave, LineFailure> {
+/// The slave at a place that a scene describes. A device tells what it is, and has the objects that masters
+/// read of one.
+fn slave_of(alloc: Global, place: usize, mut described: SceneSlave) -> Result<Slave, LineFailure> {
+    let is_device = described.kind == SlaveKind::Device;
+    if is_device && add_objects(alloc, place, &mut described).is_err() {
+        return Err(LineFailure::NoMemory);
+    }
     let SceneSlave {
         station,
         state,
@@ -31,6 +38,10 @@ fn slave_of(alloc: Global, described: SceneSlave) -> Result<Slave, LineFailure> 
         objects,
         behaviours: _,
         startup: _,
+        kind: _,
+        identity: _,
+        alias: _,
+        name: _,
     } = described;
     let made = if simple {
         Slave::simple(alloc, station, objects, output_length, input_length)
@@ -41,11 +52,20 @@ fn slave_of(alloc: Global, described: SceneSlave) -> Result<Slave, LineFailure> 
         return Err(LineFailure::NoMemory);
     };
     set_up(slave.controller_mut(), settings.as_slice());
+    if is_device {
+        tell_what_it_is(slave.controller_mut());
+    }
     slave.set_state(state);
     Ok(slave)
 }
 
-/// The applications of the slaves that a scene describes, in the order in which they act: slave by slave.
+/// Has a controller tell what it is, and have the slave information interface.
+fn tell_what_it_is(controller: &mut Controller) {
+    controller.set_information(&Information::ip_core());
+}
+
+/// The applications of the slaves that a scene describes, in the order in which they act, slave by slave, and
+/// the EEPROMs of those that are devices.
 pub fn applications_of(
     alloc: Global,
     described: &[SceneSlave],
@@ -62,14 +82,30 @@ pub fn applications_of(
             }
         }
     }
-    Ok(Applications::new(all))
+    let mut applications = Applications::new(all);
+    applications.set_eeproms(eeproms_of(alloc, described)?);
+    Ok(applications)
+}
+
+/// The EEPROMs of the devices that a scene describes.
+fn eeproms_of(alloc: Global, described: &[SceneSlave]) -> Result<Vec<PlacedEeprom>, LineFailure> {
+    let mut all = Vec::new(alloc);
+    for (place, slave) in described.iter().enumerate() {
+        if slave.kind == SlaveKind::Device {
+            let eeprom = eeprom_of(alloc, place, slave)?;
+            if all.push(PlacedEeprom { place, eeprom }).is_err() {
+                return Err(LineFailure::NoMemory);
+            }
+        }
+    }
+    Ok(all)
 }
 
 /// The slaves that a scene describes, from master port A to port B.
 pub fn slaves_of(alloc: Global, described: Vec<SceneSlave>) -> Result<Vec<Slave>, LineFailure> {
     let mut slaves = Vec::new(alloc);
-    for one in described {
-        let slave = slave_of(alloc, one)?;
+    for (place, one) in described.into_iter().enumerate() {
+        let slave = slave_of(alloc, place, one)?;
         if slaves.push(slave).is_err() {
             return Err(LineFailure::NoMemory);
         }
@@ -77,7 +113,7 @@ pub fn slaves_of(alloc: Global, described: Vec<SceneSlave>) -> Result<Vec<Slave>
     Ok(slaves)
 }
 
-/// The ring of the slaves that a scene describes, with the links down that it names.
+/// The ring of the slaves that a scene describes, with the links down that it names; devices tell them.
 pub fn ring_of(
     alloc: Global,
     described: Vec<SceneSlave>,
@@ -90,6 +126,8 @@ pub fn ring_of(
     for link in links_down {
         set_link(&mut ring, *link as usize, false);
     }
+    let links = ring.links();
+    tell_each(&mut ring, &links);
     Ok(ring)
 }
 

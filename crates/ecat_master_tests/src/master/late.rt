@@ -83,8 +83,8 @@ fn late_copies_are_told_and_counted(rt: HostRuntime) {
     assert_rows(&rt, &ROWS);
 }
 
-/// The last two lines of the log of 302 cycles, in the last of which a copy comes that is older than those that
-/// are remembered, and in the one before it one of the cycle before.
+/// The last two lines of the log of 302 cycles, in the last of which a copy comes that is older than those
+/// that are remembered, and in the one before it one of the cycle before.
 const LOG: &str = "\
 cycle 300 good counts 9 unsure 300..300
 cycle 301 good counts 9 unsure ..301

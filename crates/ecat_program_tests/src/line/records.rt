@@ -12,7 +12,7 @@ use ec_app::{Objects, Slave};
 use ec_check::{Mapped, Records};
 use ec_regs::{AlState, Fmmu, SyncMan};
 use ec_wire::{Kind, address_of};
-use ecat_scene::{FmmuSetting, SceneSlave, Setting, SyncManSetting};
+use ecat_scene::{FmmuSetting, SceneSlave, Setting, SlaveKind, SyncManSetting};
 use ecat_setup::{LineFailure, records_of, slaves_of};
 use ecat_source::Bytes;
 use std::alloc::{AllocError, Global};
@@ -225,6 +225,10 @@ fn any_slave(alloc: Global, chance: &mut Chance) -> Result<SceneSlave, AllocErro
         objects: Objects::new(),
         behaviours: Vec::new(alloc),
         startup: Vec::new(alloc),
+        kind: SlaveKind::Unsaid,
+        identity: None,
+        alias: 0,
+        name: Vec::new(alloc),
     })
 }
 

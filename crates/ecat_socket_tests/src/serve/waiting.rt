@@ -63,7 +63,7 @@ static ROWS: [Row; 12] = [
         steps: &[Step::Leaves(Port::A), Step::Leaves(Port::B)],
     },
     Row {
-        name: "a send that fails is a fault",
+        name: "a copy that the system does not take is lost",
         feed: Feed::Missing,
         keeps_lines: false,
         steps: &[Step::LeavesToNobody(Port::A), Step::LeavesToNobody(Port::B)],

@@ -1,0 +1,321 @@
+//! What a device tells of itself, made of what a scene says of it: the contents of its EEPROM (ETG.1000.6 and
+//! ETG.2010, slave information interface), and objects that say the same (ETG.1000.6, CoE communication area).
+//! What no line and no object says is made up.
+
+use crate::failure::LineFailure;
+use crate::process_data::{INPUTS, OUTPUTS, list, number_at, objects_for, pdos_of};
+use ec_app::objects::MAX_OBJECTS;
+use ec_app::{ObjectFault, Objects, Rights, Value};
+use ec_regs::SyncMan;
+use ec_sii::{Eeprom, Identity, ImageFault, Mailboxes, Pdo, SiiContents, SiiSyncManager};
+use ecat_scene::{SceneSlave, Setting, SlaveKind};
+use std::alloc::{AllocError, Global};
+use std::io::Write;
+
+/// The object that says who made a slave and what it is.
+const IDENTITY: u16 = 0x1018;
+
+/// The object that says what a slave is for.
+const DEVICE_TYPE: u16 = 0x1000;
+
+/// The object that says what each sync manager is for.
+const COMMUNICATION: u16 = 0x1C00;
+
+/// The vendor that is made up.
+const VENDOR: u32 = 0xECA7;
+
+/// How long a mailbox is that is made up, and where those two begin.
+const MAILBOX: u16 = 128;
+
+const MAILBOX_OUT: u16 = 0x1800;
+
+const MAILBOX_IN: u16 = 0x1C00;
+
+/// CoE, of the protocols that a mailbox carries.
+const COE: u16 = 4;
+
+/// What of CoE a device has: objects can be asked for, and lists of PDOs be written.
+const SDOS: u8 = 0x01;
+
+const ASSIGNED: u8 = 0x04;
+
+/// Has all slaves of which no line says what they tell of themselves be devices.
+pub fn make_devices(slaves: &mut [SceneSlave]) {
+    for slave in slaves.iter_mut() {
+        if slave.kind == SlaveKind::Unsaid {
+            slave.kind = SlaveKind::Device;
+        }
+    }
+}
+
+/// The EEPROM of the device at a place.
+pub(crate) fn eeprom_of(
+    alloc: Global,
+    place: usize,
+    described: &SceneSlave,
+) -> Result<Eeprom, LineFailure> {
+    let Ok(contents) = contents_of(alloc, place, described) else {
+        return Err(LineFailure::NoMemory);
+    };
+    match contents.image(alloc) {
+        Ok(bytes) => Ok(Eeprom::new(bytes)),
+        Err(ImageFault::NoMemory) => Err(LineFailure::NoMemory),
+        Err(ImageFault::TooLong) => Err(LineFailure::TooMany),
+    }
+}
+
+/// What the EEPROM of the device at a place tells.
+fn contents_of(
+    alloc: Global,
+    place: usize,
+    described: &SceneSlave,
+) -> Result<SiiContents, AllocError> {
+    let objects = &described.objects;
+    let inputs = pdos_of(alloc, objects, INPUTS, described.input_length)?;
+    let outputs = pdos_of(alloc, objects, OUTPUTS, described.output_length)?;
+    Ok(SiiContents {
+        alias: described.alias,
+        identity: identity_of(place, described),
+        mailboxes: mailboxes_of(described),
+        name: name_of(alloc, place, described)?,
+        coe_details: details_of(described, outputs.as_slice(), inputs.as_slice()),
+        fmmus: fmmus_of(alloc, described)?,
+        sync_managers: sync_managers_of(alloc, described)?,
+        inputs,
+        outputs,
+    })
+}
+
+// ---- who it is
+
+/// Who made the device at a place and what it is: as a line says it, or its objects, or else made up.
+pub(crate) fn identity_of(place: usize, described: &SceneSlave) -> Identity {
+    if let Some(identity) = described.identity {
+        return identity;
+    }
+    let objects = &described.objects;
+    let product = if described.simple { 1 } else { 2 };
+    Identity {
+        vendor: number_at(objects, IDENTITY, 1).unwrap_or(VENDOR),
+        product: number_at(objects, IDENTITY, 2).unwrap_or(product),
+        revision: number_at(objects, IDENTITY, 3).unwrap_or(1),
+        serial: number_at(objects, IDENTITY, 4).unwrap_or((place % 0x1_0000) as u32 + 1),
+    }
+}
+
+/// The name of the device at a place.
+fn name_of(alloc: Global, place: usize, described: &SceneSlave) -> Result<Vec<u8>, AllocError> {
+    let mut name = Vec::new(alloc);
+    if !described.name.is_empty() {
+        name.extend_from_slice(described.name.as_slice())?;
+        return Ok(name);
+    }
+    match write!(name, "Slave {place}") {
+        Ok(()) => Ok(name),
+        Err(_) => Err(AllocError),
+    }
+}
+
+// ---- what it has
+
+/// The sync manager with a number as a line sets it, the last one that does.
+fn manager_of(described: &SceneSlave, number: usize) -> Option<SyncMan> {
+    let mut found = None;
+    for setting in described.settings.iter() {
+        if let Setting::SyncMan(manager) = setting
+            && manager.index == number
+        {
+            found = Some(manager.record);
+        }
+    }
+    found
+}
+
+/// The first byte and the length of a mailbox.
+fn mailbox_of(described: &SceneSlave, number: usize, start: u16) -> (u16, u16) {
+    match manager_of(described, number) {
+        Some(manager) => (manager.start, manager.length),
+        None => (start, MAILBOX),
+    }
+}
+
+/// Where the mailboxes lie, if there are any.
+fn mailboxes_of(described: &SceneSlave) -> Mailboxes {
+    if described.simple {
+        return Mailboxes {
+            out_start: 0,
+            out_length: 0,
+            in_start: 0,
+            in_length: 0,
+            protocols: 0,
+        };
+    }
+    let (out_start, out_length) = mailbox_of(described, 0, MAILBOX_OUT);
+    let (in_start, in_length) = mailbox_of(described, 1, MAILBOX_IN);
+    Mailboxes {
+        out_start,
+        out_length,
+        in_start,
+        in_length,
+        protocols: COE,
+    }
+}
+
+/// The details of CoE: objects can be asked for, and lists of PDOs that are made can be written; none without
+/// mailboxes.
+fn details_of(described: &SceneSlave, outputs: &[Pdo], inputs: &[Pdo]) -> u8 {
+    if described.simple {
+        0
+    } else if lists_fit(&described.objects, outputs, inputs) {
+        SDOS | ASSIGNED
+    } else {
+        SDOS
+    }
+}
+
+/// What each FMMU is for: 1 outputs, 2 inputs, 3 the state of a mailbox.
+fn fmmus_of(alloc: Global, described: &SceneSlave) -> Result<Vec<u8>, AllocError> {
+    let mut all = Vec::new(alloc);
+    if 0 < described.output_length {
+        all.push(1)?;
+    }
+    if 0 < described.input_length {
+        all.push(2)?;
+    }
+    if !described.simple {
+        all.push(3)?;
+    }
+    Ok(all)
+}
+
+/// Where the areas of process data begin that no line sets: outputs at 0x1000, and inputs at 0x1100 or behind
+/// longer outputs.
+fn start_of(described: &SceneSlave, number: usize) -> u16 {
+    match manager_of(described, number) {
+        Some(manager) => manager.start,
+        None if number == 2 => 0x1000,
+        None => 0x1000u16.saturating_add(described.output_length.max(0x100)),
+    }
+}
+
+/// What each of the first four sync managers is for.
+fn sync_managers_of(
+    alloc: Global,
+    described: &SceneSlave,
+) -> Result<Vec<SiiSyncManager>, AllocError> {
+    let mailboxes = mailboxes_of(described);
+    let is_used = u8::from(!described.simple);
+    let all = vec![in alloc;
+        SiiSyncManager {
+            start: mailboxes.out_start,
+            length: mailboxes.out_length,
+            control: 0x26 * is_used,
+            enable: is_used,
+            kind: is_used,
+        },
+        SiiSyncManager {
+            start: mailboxes.in_start,
+            length: mailboxes.in_length,
+            control: 0x22 * is_used,
+            enable: is_used,
+            kind: 2 * is_used,
+        },
+        SiiSyncManager {
+            start: start_of(described, 2),
+            length: described.output_length,
+            control: 0x64,
+            enable: u8::from(0 < described.output_length),
+            kind: 3,
+        },
+        SiiSyncManager {
+            start: start_of(described, 3),
+            length: described.input_length,
+            control: 0x20,
+            enable: u8::from(0 < described.input_length),
+            kind: 4,
+        },
+    ]?;
+    Ok(all)
+}
+
+// ---- its objects
+
+/// Adds the objects of the device at a place that its scene does not list: what masters read of one that has
+/// mailboxes. The lists of PDOs are added whole, or not at all where they have no room.
+pub(crate) fn add_objects(
+    alloc: Global,
+    place: usize,
+    described: &mut SceneSlave,
+) -> Result<(), AllocError> {
+    if described.simple {
+        return Ok(());
+    }
+    let objects = &described.objects;
+    let outputs = pdos_of(alloc, objects, OUTPUTS, described.output_length)?;
+    let inputs = pdos_of(alloc, objects, INPUTS, described.input_length)?;
+    let has_room = lists_fit(objects, outputs.as_slice(), inputs.as_slice());
+    let identity = identity_of(place, described);
+    let _ = add_facts(&mut described.objects, &identity);
+    if has_room {
+        let _ = add_lists(
+            &mut described.objects,
+            outputs.as_slice(),
+            inputs.as_slice(),
+        );
+    }
+    Ok(())
+}
+
+/// How many objects an index has that the device gets, where its scene lists none there.
+fn wanted_at(objects: &Objects, index: u16, count: usize) -> usize {
+    if objects.has_index(index) { 0 } else { count }
+}
+
+/// Is there room for all objects that a device has beside those that its scene lists?
+fn lists_fit(objects: &Objects, outputs: &[Pdo], inputs: &[Pdo]) -> bool {
+    let wanted = wanted_at(objects, DEVICE_TYPE, 1)
+        .saturating_add(wanted_at(objects, IDENTITY, 5))
+        .saturating_add(wanted_at(objects, COMMUNICATION, 5))
+        .saturating_add(objects_for(objects, OUTPUTS, outputs))
+        .saturating_add(objects_for(objects, INPUTS, inputs));
+    wanted.saturating_add(objects.count()) <= MAX_OBJECTS
+}
+
+/// Adds what says what a device is, as far as there is room.
+fn add_facts(objects: &mut Objects, identity: &Identity) -> Result<(), ObjectFault> {
+    if !objects.has_index(DEVICE_TYPE) {
+        objects.add(DEVICE_TYPE, 0, Rights::ReadOnly, Value::Four(0))?;
+    }
+    if !objects.has_index(IDENTITY) {
+        objects.add(IDENTITY, 0, Rights::ReadOnly, Value::One(4))?;
+        objects.add(IDENTITY, 1, Rights::ReadOnly, Value::Four(identity.vendor))?;
+        objects.add(IDENTITY, 2, Rights::ReadOnly, Value::Four(identity.product))?;
+        objects.add(
+            IDENTITY,
+            3,
+            Rights::ReadOnly,
+            Value::Four(identity.revision),
+        )?;
+        objects.add(IDENTITY, 4, Rights::ReadOnly, Value::Four(identity.serial))?;
+    }
+    Ok(())
+}
+
+/// Adds what each sync manager is for and which PDOs there are.
+fn add_lists(objects: &mut Objects, outputs: &[Pdo], inputs: &[Pdo]) -> Result<(), ObjectFault> {
+    if !objects.has_index(COMMUNICATION) {
+        add_kinds(objects)?;
+    }
+    list(objects, OUTPUTS, outputs)?;
+    list(objects, INPUTS, inputs)
+}
+
+/// Adds what each of four sync managers is for, by its number: 1 mailbox that the master writes, 2 mailbox
+/// that it reads, 3 outputs, 4 inputs.
+fn add_kinds(objects: &mut Objects) -> Result<(), ObjectFault> {
+    objects.add(COMMUNICATION, 0, Rights::ReadOnly, Value::One(4))?;
+    for kind in 1..5 {
+        objects.add(COMMUNICATION, kind, Rights::ReadOnly, Value::One(kind))?;
+    }
+    Ok(())
+}
