@@ -650,21 +650,25 @@ def wait_that_fails_ends_a_service(stage):
 
 
 @case
-def receive_and_send_that_fail_end_a_service(stage):
+def receive_that_fails_ends_a_service_and_a_send_loses_a_copy(stage):
     """Of the calls of a packet each fails in turn. Where strace is not to be had there is nothing to see."""
     quiet = {"stderr": subprocess.DEVNULL}
     if not shutil.which("strace") or subprocess.run([*NO_WAITS, "true"], **quiet).returncode:
         return
     stage.file("s", SLAVE)
-    for call in ("recvfrom,recvmsg", "sendto,sendmsg"):
-        fails = ["strace", "-qq", "-o", "/dev/null", "-e", f"inject={call}:error=EBADF:when=1"]
+    ended = {"recvfrom,recvmsg": ("cycle: Port\n", "3", ""), "sendto,sendmsg": ("", "0", "frames 2")}
+    for call, (error, status, told) in ended.items():
+        fails = ["strace", "-qq", "-o", "/dev/null", "-e", f"inject={call}:error=ENETDOWN:when=1"]
         words = [*fails, stage.ecat, "serve", "s", "--port", str(stage.port), "--packets", "2"]
         streams = {"stdin": subprocess.DEVNULL, "stdout": subprocess.PIPE, "stderr": subprocess.PIPE}
         with subprocess.Popen(words, cwd=stage.folder, **streams) as running, stage.master() as master:
             yield "where", "serving A", running.stdout.readline()[:9].decode()
             master.sendto(ASKED, ("127.0.0.1", stage.port))
-            yield "error", "cycle: Port\n", running.communicate(timeout=stage.limit)[1].decode()
-            yield "status", "3", str(running.returncode)
+            master.sendto(ASKED, ("127.0.0.1", stage.port))
+            out, err = running.communicate(timeout=stage.limit)
+            yield "error", error, err.decode()
+            yield "status", status, str(running.returncode)
+            yield "frames", told, "frames 2" if b"packets 2 frames 2 dropped 0" in out else ""
 
 
 # Three slaves with mailboxes, which take a byte of outputs and give a byte of inputs each, and what a master
@@ -866,7 +870,7 @@ def a_cable_at_an_end_costs_no_cycle_its_time(stage):
 def a_master_that_stood_still_tells_what_it_left_out(stage):
     with stage.serve(MACHINE, "--forever"):
         stage.file("m", MACHINE)
-        words = ("master", "m", "--at", both_ends(stage), "--cycles", "40", "--every", "10000", *PATIENCE)
+        words = ("master", "m", "--at", both_ends(stage), "--cycles", "200", "--every", "10000", *PATIENCE)
         with stage.start(*words) as master:
             for wanted in STARTED.splitlines(True):
                 yield "start", wanted, master.line()
