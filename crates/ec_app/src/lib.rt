@@ -3,7 +3,7 @@
 //! refuses, and answers the master's mails (IEC 61158-6-12).
 //!
 //! A controller alone only moves bytes; a master that brings up a line needs somebody behind it who answers.
-//! One use, which `app/door.rt` of `ec_ring_tests` tries: frames pass the controller, `step` does what they
+//! One use, which `app/door.rt` of `ec_tests` tries: frames pass the controller, `step` does what they
 //! asked for, and the next frames read the answers.
 //!
 //! ```text

@@ -6,7 +6,7 @@ use Rattle.std.proofs.lemmas.Bool.Decides.{eqb_tells}
 use Rattle.std.proofs.lemmas.List.{length-set}
 use Rattle.std.proofs.lemmas.Option.{slice_get_within}
 use Rattle.std.specs.Int.{w16, to_le_bytes}
-use Rattle.std.specs.Prelude.{slice_get, slice_set}
+use Rattle.std.specs.Prelude.{slice_get}
 use Rattle.ec_app.specs.State.{SlaveState}
 use Rattle.ec_areas.specs.Ranges.{has_sii}
 use Rattle.ec_check.proofs.Laws.{moved_told}
@@ -16,8 +16,7 @@ use Rattle.ec_line.specs.Moving.{HasMoved}
 use Rattle.ec_line.proofs.Laws.{moved-refl}
 use Rattle.ec_regs.specs.declared.registers.TheConstants.{DL_STATUS}
 use Rattle.ec_ring.specs.Ring.{RingState}
-use Rattle.ec_applications.specs.Links.{all_told, controller_told, dl_status, first_told, one_told, place_told}
-use Rattle.ec_applications.specs.Links.{slave_told}
+use Rattle.ec_applications.specs.Links.{all_told, controller_told, dl_status, first_told, place_told, slave_told}
 use Rattle.ec_applications.proofs.LeftLemmas.{get-same, get-other}
 
 -- what the slave at a place is told

@@ -5,7 +5,7 @@
 //! A simulated slave answers requests and mails, and its inputs lie still. Here an application puts the
 //! outputs that it is shown into its inputs (a mirror), or counts in them. It acts behind each step of the
 //! line's slaves (`ec_ring::Ring::step_all`), by the calls that an application has of its controller:
-//! `outputs` and `put_inputs` of `ec_esc`. One use, which `process/door.rt` of `ec_ring_tests` tries; `ring`
+//! `outputs` and `put_inputs` of `ec_esc`. One use, which `process/door.rt` of `ec_tests` tries; `ring`
 //! of `process/line.rt` is two slaves, the first of which was written outputs:
 //!
 //! ```text

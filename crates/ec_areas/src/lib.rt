@@ -4,7 +4,7 @@
 //! FMMUs lay logical bits on physical ones, and the areas of active sync managers keep bytes from reads and
 //! from writes; a mailbox is read and written whole. This crate decides that in one place, run of bits by run
 //! of bits, for the pass of a frame as for the checker. One use, which `areas/examples.rt` of
-//! `ec_controller_tests` tries in `a_read_moves_ten_bits_up_by_three`; `READ` lays ten bits from bit 6 of
+//! `ec_tests` tries in `a_read_moves_ten_bits_up_by_three`; `READ` lays ten bits from bit 6 of
 //! 0x1100 on at bit 3 of the logical byte 0x00010000, and `areas()` has two bytes of inputs at 0x1100:
 //!
 //! ```text

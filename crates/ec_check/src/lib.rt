@@ -3,7 +3,7 @@
 //! image from one place, and writes it without reading it elsewhere (IEC 61158-4-12, FMMU and sync manager)?
 //!
 //! The promises about cycles hold of such lines, and whether a line is one can be told before the first
-//! cycle. One use, which `check/door.rt` of `ec_master_tests` tries; `outputs` and `writer` of
+//! cycle. One use, which `check/door.rt` of `ec_tests` tries; `outputs` and `writer` of
 //! `check/line.rt` fill in the records of an area that the master writes, by start and length, and of an
 //! FMMU:
 //!

@@ -5,7 +5,7 @@
 //! breaks and slaves are cut off. But a copy that comes back says more than its data: the port where it
 //! arrived, how far its broadcast read was counted up, and whether its circulating bit came back set
 //! (IEC 61158-4-12, the ports of a slave and the circulating bit). One use, which `diag/door.rt` of
-//! `ec_ring_tests` tries, on a ring of three simulated slaves:
+//! `ec_tests` tries, on a ring of three simulated slaves:
 //!
 //! ```text
 //! ring.set_link(1, false);

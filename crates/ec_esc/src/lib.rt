@@ -6,7 +6,7 @@
 //! written. It keeps the FMMUs and sync managers of the memory decoded (`planned`), so that no datagram
 //! decodes them: a write decodes anew those of which it changes a byte (`renewal`). It keeps what the FMMUs
 //! reach all together, found when a frame comes, so that a datagram that reaches none of them costs little
-//! (`reached`); and its AL status always names a state. One use, which `esc/door.rt` of `ec_controller_tests`
+//! (`reached`); and its AL status always names a state. One use, which `esc/door.rt` of `ec_tests`
 //! tries; `INPUTS` and `READ` of `esc.rt` are the records of an area of one byte and of an FMMU that maps it,
 //! and `sent` is an LRD of that byte:
 //!

@@ -3,7 +3,7 @@
 //! 61158-4-12).
 //!
 //! A working counter tells something only to who knows what it should be: this crate says which requests may
-//! be made of a line and what each adds to its counter. One use, which `map/door.rt` of `ec_master_tests`
+//! be made of a line and what each adds to its counter. One use, which `map/door.rt` of `ec_tests`
 //! tries; `exchanging` of `map/line.rt` makes a slave that reads and writes one logical byte:
 //!
 //! ```text

@@ -2,7 +2,7 @@
 //! A master's cycles over a line of slaves, whole or broken, and what their working counters say.
 //!
 //! A machine reads its inputs and writes its outputs every cycle, and must know of each cycle whether it did.
-//! One use, which `master/door.rt` of `ec_master_tests` tries: a slave is mapped, the line is checked, a work
+//! One use, which `master/door.rt` of `ec_tests` tries: a slave is mapped, the line is checked, a work
 //! asks for an exchange, and the verdict says whether its bytes are to be trusted. `area` and `byte` of
 //! `master/many.rt` fill in the records of a sync manager and of an FMMU of one byte:
 //!

@@ -4,7 +4,7 @@
 //! The master sends each frame both ways round the ring. A copy that comes back has gained what the slaves on
 //! its way did: bits that they changed, counters that they raised. [`join_frames`] takes both gains, so that
 //! a master looks at one frame whether or not a cable is broken. A copy that cannot have come of the sent
-//! frame is a stranger, and is named. One use, which `merge/door.rt` of `ec_frame_tests` tries:
+//! frame is a stranger, and is named. One use, which `merge/door.rt` of `ec_tests` tries:
 //!
 //! ```text
 //! // An LRW of one byte at 0x00010000, and its copies: 12 read on the one way, counts of 3 and 2.

@@ -2,7 +2,7 @@
 //! The registers of an EtherCAT slave controller (IEC 61158-4-12).
 //!
 //! Master and slave speak of a slave's memory by these records and addresses, and nothing but this crate
-//! knows how they are spelt. One use, which `regs/door.rt` of `ec_controller_tests` tries:
+//! knows how they are spelt. One use, which `regs/door.rt` of `ec_tests` tries:
 //!
 //! ```text
 //! let fmmu = Fmmu {

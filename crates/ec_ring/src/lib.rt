@@ -3,7 +3,7 @@
 //! frame travel over it (IEC 61158-4-12, the ports of a slave and the circulating bit).
 //!
 //! It is the cable of this house: what a master sends over it comes back as it would over a real one, with
-//! any links down and any copy lost. One use, which `ring/door.rt` of `ec_ring_tests` tries; `slaves` and
+//! any links down and any copy lost. One use, which `ring/door.rt` of `ec_tests` tries; `slaves` and
 //! `calm` of `ring/line.rt` make slaves in these states, and a weather in which both copies travel under the
 //! same links:
 //!

@@ -3,7 +3,7 @@
 //! their objects, over any two ports (IEC 61158-6-12, AL management and SDO services).
 //!
 //! Before a line cycles, its slaves have no addresses and stand in Init; these calls do what is done once,
-//! with no memory taken. One use, which `services/door.rt` of `ec_master_tests` tries; `slave` and `alone` of
+//! with no memory taken. One use, which `services/door.rt` of `ec_tests` tries; `slave` and `alone` of
 //! `services/line.rt` make a slave with two mailboxes, and a ring of it as ports, and `peer` of
 //! `services/peer.rt` says where the mailboxes are:
 //!

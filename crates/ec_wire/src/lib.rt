@@ -4,7 +4,7 @@
 //! the same way, so nothing but this crate knows where a field lies.
 //!
 //! A [`FrameBuf`] is at most 1,500 bytes that are always the spelling of a frame; contracts see it as the
-//! list of its datagrams' records. One use, which `wire/door.rt` of `ec_frame_tests` tries:
+//! list of its datagrams' records. One use, which `wire/door.rt` of `ec_tests` tries:
 //!
 //! ```text
 //! let mut payload = ArrayVec::new();

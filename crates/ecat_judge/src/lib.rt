@@ -3,7 +3,7 @@
 //!
 //! A machine stopped, and somebody has a capture of its bus and a scene of its line. A working counter that
 //! is too small says that slaves were missing, not which; inputs that still moved and a count of the slaves
-//! say more. One use, which `ends.rt` of `ecat_judge_tests` tries:
+//! say more. One use, which `judge/ends.rt` of `ecat_capture_tests` tries:
 //!
 //! ```text
 //! let mut looked = Looked::new();

@@ -9,7 +9,7 @@
 //! - [`line_of`] is the line that says a slave, a record or an item, for a refusal that names them.
 //!
 //! What of a mapping is odd has exact contracts, by the words of specs/: `Mapping`, `Buffers` and `Items`.
-//! The texts, and that each slave and item is asked about, are tried by tests (`lint` of `ecat_scene_tests`)
+//! The texts, and that each slave and item is asked about, are tried by tests (`lint` of `ecat_master_tests`)
 //! and in `cases`.
 
 mod buffers;

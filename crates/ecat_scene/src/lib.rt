@@ -4,7 +4,7 @@
 //! A line of slaves takes dozens of register writes to set up; a scene says them in a dozen lines that a
 //! person reads. [`Scene::read`] takes the whole text and answers a [`Scene`], plain data from which the
 //! program builds its slaves, or the first faulty line with what is wrong in it. One use, which
-//! `scene/door.rt` of `ecat_scene_tests` tries:
+//! `scene/door.rt` of `ecat_master_tests` tries:
 //!
 //! ```text
 //! let text = b"slave 0x1001\nsm 3 0x1100 1 read\nlrd 0x10000 00\nlink 1 down";

@@ -92,7 +92,7 @@ pub struct StartupObject {
 pub enum SlaveKind {
     /// No line says it: whoever sets the slave up decides.
     Unsaid,
-    /// `plain`: nothing; its registers of DL information, DL status and the slave information interface are 0.
+    /// `plain`: nothing; its registers of DL information, DL status and slave information are 0.
     Plain,
     /// `device`: it has DL information, DL status and an EEPROM, as controllers that are bought
     /// (IEC 61158-4-12, DL information and slave information interface).

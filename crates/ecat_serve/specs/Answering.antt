@@ -1,6 +1,6 @@
 -- What a packet gets back: a frame walks over the line from the end where it came in (IEC 61158-4-12, a
 -- slave's ports), and what arrives and is not lost there goes to whoever spoke last at that end.
-use Rattle.std.specs.Prelude.{◌≡◌, ℕ, ◌-◌, ◌==◌, ◌&&◌, not, nat_lt, is_none, List, Option, None, Some, length}
+use Rattle.std.specs.Prelude.{◌≡◌, ℕ, ◌-◌, nat_lt, List, Option, None, Some}
 use Rattle.std.specs.Prelude.{if◌then◌else◌}
 use Rattle.std.specs.Prelude.{Result, Ok}
 use Rattle.std.specs.declared.net.socket_addr.SocketAddr.{SocketAddr}

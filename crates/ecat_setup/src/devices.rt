@@ -1,6 +1,6 @@
 //! What a device tells of itself, made of what a scene says of it: the contents of its EEPROM (ETG.1000.6 and
-//! ETG.2010, slave information interface), and objects that say the same (ETG.1000.6, CoE communication area).
-//! What no line and no object says is made up.
+//! ETG.2010, slave information interface), and objects that say the same (ETG.1000.6, CoE communication
+//! area). What no line and no object says is made up.
 
 use crate::failure::LineFailure;
 use crate::process_data::{INPUTS, OUTPUTS, list, number_at, objects_for, pdos_of};

@@ -2,8 +2,8 @@
 //! What a capture tells of a line of slaves, and the scene of it.
 //!
 //! A machine builder has a machine and a capture of its start, not a scene. The master wrote all that a scene
-//! says, and the counters tell what the slaves took of it. One use, which `door.rt` of `ecat_told_tests`
-//! tries:
+//! says, and the counters tell what the slaves took of it. One use, which `told/door.rt` of
+//! `ecat_capture_tests` tries:
 //!
 //! ```text
 //! let asked = Asked { at: None, asked: false, values: false };

@@ -3,7 +3,7 @@
 //!
 //! A capture of a machine's bus shows each frame twice, as it was sent and as it came back. Whoever asks what
 //! the slaves did with it needs the two side by side; nothing in all frames says which is which, and some are
-//! lost. One use, which `play.rt` of `ecat_trips_tests` tries:
+//! lost. One use, which `trips/play.rt` of `ecat_capture_tests` tries:
 //!
 //! ```text
 //! // The first reading: with which addresses the packets come.

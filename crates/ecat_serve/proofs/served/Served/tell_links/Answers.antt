@@ -2,7 +2,6 @@
 use Rattle.std.proofs.Common.{◌≡◌, ◌∙◌, ap, subst, sym, length}
 use Rattle.ec_applications.proofs.Laws.{told_same}
 use Rattle.ec_ring.specs.Links.{is_up}
-use Rattle.ec_ring.specs.Ring.{RingState}
 use Rattle.ecat_serve.specs.Answering.{AreServed}
 use Rattle.ecat_serve.specs.State.{ServedState, linked, serves_link}
 use Rattle.ecat_serve.proofs.LinkLemmas.{with_ring}
