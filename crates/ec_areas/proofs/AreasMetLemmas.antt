@@ -19,6 +19,7 @@ use Rattle.ec_areas.specs.Ranges.{meets, meets_hidden, meets_locked, emptied_by,
 use Rattle.ec_areas.specs.Ranges.{serves_physical_read, LiesBuffered}
 use Rattle.ec_areas.specs.Records.{SameRegisters}
 use Rattle.ec_areas.specs.Ranges.{is_in_sync_manager, is_writable_field, takes_writes, has_sii, is_in_sii}
+use Rattle.ec_areas.specs.Ranges.{device_ranges, is_of_device}
 use Rattle.ec_areas.specs.Ranges.{some_address, writable_ranges}
 use Rattle.ec_regs.specs.AddressRange.{within}
 use Rattle.ec_regs.specs.declared.address_range.AddressRange.{AddressRange}
@@ -254,7 +255,7 @@ takes_always : (memory : List ℕ) (a : ℕ)
     → takes_writes memory a ≡ true
 unfolding takes_writes
 takes_always memory a always =
-    let sii : Bool = is_in_sii a && has_sii memory in
+    let sii : Bool = is_of_device a && has_sii memory in
     let field : Bool = is_in_sync_manager a && is_writable_field memory a in
     ap (λ (b : Bool). b || sii || field) always
 
@@ -288,8 +289,17 @@ takes_sii memory a inside =
     let fmmus : leb 1536 a ≡ false = grind (arith, nat_tests) in
     let process : leb 4096 a ≡ false = grind (arith, nat_tests) in
     let managers : leb 2048 a ≡ false = grind (arith, nat_tests) in
-    rw (low, high, station, control, past_station, past_control, fmmus, process, managers)
-    (or-false (has_sii memory))
+    let always : list_any (λ (r : AddressRange). within r.first r.count a) writable_ranges ≡ false =
+    rw (station, control, past_station, past_control, fmmus, process) refl in
+    let field : is_in_sync_manager a ≡ false = rw managers refl in
+    let one : is_of_device a ≡ true =
+    list_any_at (λ (r : AddressRange). within r.first r.count a) device_ranges 5
+    (record { first = 0; count = 0 }) (omega arith) inside in
+    ap (λ (b : Bool). b || (is_of_device a && has_sii memory)
+    || (is_in_sync_manager a && is_writable_field memory a)) always
+    ∙ ap (λ (b : Bool). (b && has_sii memory) || (is_in_sync_manager a && is_writable_field memory a)) one
+    ∙ ap (λ (b : Bool). has_sii memory || (b && is_writable_field memory a)) field
+    ∙ or-false (has_sii memory)
 
 pub takes_without_sii : (memory : List ℕ) (a : ℕ) → has_sii memory ≡ false → is_in_sii a ≡ true
     → takes_writes memory a ≡ false
@@ -310,6 +320,6 @@ unfolding takes_writes
 takes_as_before memory a none =
     let always : Bool = list_any (λ (r : AddressRange). within r.first r.count a) writable_ranges in
     let field : Bool = is_in_sync_manager a && is_writable_field memory a in
-    ap (λ (b : Bool). always || (is_in_sii a && b) || field) none
-    ∙ ap (λ (b : Bool). always || b || field) (and-none (is_in_sii a))
+    ap (λ (b : Bool). always || (is_of_device a && b) || field) none
+    ∙ ap (λ (b : Bool). always || b || field) (and-none (is_of_device a))
     ∙ ap (λ (b : Bool). b || field) (or-false always)

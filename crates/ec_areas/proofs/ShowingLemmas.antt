@@ -180,7 +180,7 @@ area_some : (s : SyncMan) → has_area_length s ≡ true → 1 ≤ s.length
 area_some s has =
     ⊎_elim
     (λ (mailbox : is_mailbox s ≡ true).
-    let ends = and_parts (leb 16 s.length) (leb s.length 128) (rw mailbox at has) in
+    let ends = and_parts (leb 16 s.length) (leb s.length 1486) (rw mailbox at has) in
     let low : leb 16 s.length ≡ true = ends.0 in
     grind (arith, nat_tests))
     (λ (other : is_mailbox s ≡ false).

@@ -13,7 +13,9 @@ use Rattle.ec_regs.specs.declared.registers.TheConstants.{FMMU_COUNT, SYNC_MANAG
 use Rattle.ec_regs.specs.declared.registers.TheConstants.{SYNC_MANAGER_COUNT, SYNC_MANAGER_STATUS}
 use Rattle.ec_regs.specs.declared.registers.TheConstants.{SYNC_MANAGER_ACTIVATE, PROCESS_MEMORY}
 use Rattle.ec_regs.specs.declared.registers.TheConstants.{PROCESS_MEMORY_SIZE, MEMORY_SIZE}
-use Rattle.ec_regs.specs.declared.registers.TheConstants.{CONTROLLER_TYPE, SII_BASE, SII_SIZE}
+use Rattle.ec_regs.specs.declared.registers.TheConstants.{CONTROLLER_TYPE, DL_CONTROL, EVENT_MASK}
+use Rattle.ec_regs.specs.declared.registers.TheConstants.{WATCHDOG_DIVIDER, PDI_WATCHDOG}
+use Rattle.ec_regs.specs.declared.registers.TheConstants.{PROCESS_DATA_WATCHDOG, SII_BASE, SII_SIZE}
 use Rattle.ec_regs.specs.SyncMan.{is_active, is_mailbox, is_full, master_reads, master_writes, is_buffered}
 use Rattle.ec_areas.specs.Records.{sync_manager_at, sync_managers_of}
 
@@ -110,13 +112,28 @@ has_sii memory = not (slice_index memory CONTROLLER_TYPE == 0)
 abbrev pub is_in_sii : ℕ → Bool
 is_in_sii address = within SII_BASE SII_SIZE address
 
--- does a byte of the memory take what a physical command writes: it stands in one of these ranges, in the
--- slave information interface of a controller that has one, or in a field of a sync manager that may be
--- written
+-- what the master may write beside of a controller that has one: DL control, the mask of its events, the
+-- divider and both times of its watchdogs, and the registers of that interface
+abbrev pub device_ranges : List AddressRange
+device_ranges =
+    record { first = DL_CONTROL; count = 4 }
+    ∷ record { first = EVENT_MASK; count = 2 }
+    ∷ record { first = WATCHDOG_DIVIDER; count = 2 }
+    ∷ record { first = PDI_WATCHDOG; count = 2 }
+    ∷ record { first = PROCESS_DATA_WATCHDOG; count = 2 }
+    ∷ record { first = SII_BASE; count = SII_SIZE }
+    ∷ []
+
+abbrev pub is_of_device : ℕ → Bool
+is_of_device address = list_any (λ (r : AddressRange). within r.first r.count address) device_ranges
+
+-- does a byte of the memory take what a physical command writes: it stands in a range that is always
+-- written, in one of a controller that has a slave information interface, or in a field of a sync manager
+-- that may be written
 unfoldable pub takes_writes : List ℕ → ℕ → Bool
 takes_writes memory address =
     list_any (λ (r : AddressRange). within r.first r.count address) writable_ranges
-    || (is_in_sii address && has_sii memory)
+    || (is_of_device address && has_sii memory)
     || (is_in_sync_manager address && is_writable_field memory address)
 
 -- these sync managers are those of a memory, and so is whether there is a slave information interface

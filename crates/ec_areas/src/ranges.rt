@@ -15,12 +15,13 @@ ghost use Rattle.ec_areas.specs.Ranges.{meets_one};
 ghost use Rattle.ec_areas.specs.Ranges.{is_area, gives_mail, takes_mail, emptied_by, filled_by};
 ghost use Rattle.ec_areas.specs.Ranges.{serves_physical_read, serves_physical_write, is_in_sync_manager};
 ghost use Rattle.ec_areas.specs.Ranges.{is_writable_field, takes_writes, some_address, writable_ranges};
-ghost use Rattle.ec_areas.specs.Ranges.{has_sii, is_in_sii, IsOnArrival};
+ghost use Rattle.ec_areas.specs.Ranges.{has_sii, is_of_device, IsOnArrival};
 
 use ec_regs::registers::{
-    AL_CONTROL, CONTROLLER_TYPE, FMMU_BASE, FMMU_COUNT, FMMU_SIZE, MEMORY_SIZE, PROCESS_MEMORY,
-    PROCESS_MEMORY_SIZE, SII_BASE, SII_SIZE, STATION_ADDRESS, SYNC_MANAGER_ACTIVATE,
-    SYNC_MANAGER_BASE, SYNC_MANAGER_COUNT, SYNC_MANAGER_SIZE, SYNC_MANAGER_STATUS,
+    AL_CONTROL, CONTROLLER_TYPE, DL_CONTROL, EVENT_MASK, FMMU_BASE, FMMU_COUNT, FMMU_SIZE,
+    MEMORY_SIZE, PDI_WATCHDOG, PROCESS_DATA_WATCHDOG, PROCESS_MEMORY, PROCESS_MEMORY_SIZE,
+    SII_BASE, SII_SIZE, STATION_ADDRESS, SYNC_MANAGER_ACTIVATE, SYNC_MANAGER_BASE,
+    SYNC_MANAGER_COUNT, SYNC_MANAGER_SIZE, SYNC_MANAGER_STATUS, WATCHDOG_DIVIDER,
 };
 use ec_regs::{AddressRange, PlannedSyncMan, SyncManagers};
 
@@ -53,11 +54,34 @@ const WRITABLE: [AddressRange; 4] = [
     },
 ];
 
-/// The registers of the slave information interface.
-const SII: AddressRange = AddressRange {
-    first: SII_BASE,
-    count: SII_SIZE,
-};
+/// What the master may write beside of a controller that has a slave information interface: DL control, the
+/// mask of its events, the divider and both times of its watchdogs, and the registers of that interface.
+const OF_DEVICE: [AddressRange; 6] = [
+    AddressRange {
+        first: DL_CONTROL,
+        count: 2 * WORD,
+    },
+    AddressRange {
+        first: EVENT_MASK,
+        count: WORD,
+    },
+    AddressRange {
+        first: WATCHDOG_DIVIDER,
+        count: WORD,
+    },
+    AddressRange {
+        first: PDI_WATCHDOG,
+        count: WORD,
+    },
+    AddressRange {
+        first: PROCESS_DATA_WATCHDOG,
+        count: WORD,
+    },
+    AddressRange {
+        first: SII_BASE,
+        count: SII_SIZE,
+    },
+];
 
 /// The records of the sync managers.
 const SYNC_MANAGERS: AddressRange = AddressRange {
@@ -276,12 +300,19 @@ pub fn has_sii(memory: &[u8]) -> bool
     memory[CONTROLLER_TYPE as usize] != 0
 }
 
-/// May the master write the byte at an address as a register of the slave information interface, if there is
-/// one?
-fn sii_takes(sii: bool, address: u32) -> bool
-    ensures { result ≡ (is_in_sii address && sii) }
+/// Does a device take what is written to the byte at an address, beside what every controller takes?
+fn is_of_device(address: u32) -> bool
+    ensures { result ≡ is_of_device address }
 {
-    SII.contains(address) && sii
+    OF_DEVICE.iter().any(|range| range.contains(address))
+}
+
+/// May the master write the byte at an address beside those that it may always write, if the controller has
+/// a slave information interface?
+fn device_takes(sii: bool, address: u32) -> bool
+    ensures { result ≡ (is_of_device address && sii) }
+{
+    sii && is_of_device(address)
 }
 
 /// Does the byte at an address take what a physical command writes? The records are those on arrival, and so
@@ -291,7 +322,9 @@ pub fn takes_writes(managers: &SyncManagers, sii: bool, address: u32) -> bool
     ensures { (memory : List ℕ) → IsOnArrival memory managers.now sii → result
         ≡ takes_writes memory address }
 {
-    is_always_writable(address) || sii_takes(sii, address) || sync_manager_takes(managers, address)
+    is_always_writable(address)
+        || device_takes(sii, address)
+        || sync_manager_takes(managers, address)
 }
 
 /// Does one byte of the range take what a physical command writes? The records are those on arrival.

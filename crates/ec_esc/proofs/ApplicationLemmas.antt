@@ -103,17 +103,17 @@ al_status_code-with_al c status code size small =
 
 -- ---- mailboxes
 
--- an active mailbox has at most 128 bytes
-pub mailbox_length-le : (s : SyncMan) → is_active s ≡ true → is_mailbox s ≡ true → s.length ≤ 128
+-- an active mailbox has at most 1,486 bytes
+pub mailbox_length-le : (s : SyncMan) → is_active s ≡ true → is_mailbox s ≡ true → s.length ≤ 1486
 unfolding is_active
 mailbox_length-le s active mailbox = grind (arith, nat_tests)
 
 -- a mail and zeros up to the longest length begin with the mail as it fills its area
-pub take-padded : (s : SyncMan) (mail : List ℕ) → length mail ≤ s.length → s.length ≤ 128
-    → take s.length (mail ++ replicate (128 - length mail) 0) ≡ mail_area s mail
+pub take-padded : (s : SyncMan) (mail : List ℕ) → length mail ≤ s.length → s.length ≤ 1486
+    → take s.length (mail ++ replicate (1486 - length mail) 0) ≡ mail_area s mail
 take-padded s mail room bound =
     let rest : ℕ = s.length - length mail in
     let whole : s.length ≡ length mail + rest = omega arith in
-    ap (λ n. take n (mail ++ replicate (128 - length mail) 0)) whole
-    ∙ take-append-add mail (replicate (128 - length mail) 0) rest
-    ∙ ap (λ (zeros : List ℕ). mail ++ zeros) (take-replicate rest (128 - length mail) 0 (omega arith))
+    ap (λ n. take n (mail ++ replicate (1486 - length mail) 0)) whole
+    ∙ take-append-add mail (replicate (1486 - length mail) 0) rest
+    ∙ ap (λ (zeros : List ℕ). mail ++ zeros) (take-replicate rest (1486 - length mail) 0 (omega arith))

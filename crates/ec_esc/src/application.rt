@@ -227,7 +227,7 @@ impl Controller {
     }
 
     /// Takes the mail of the master from the mailbox of a sync manager, 0 to 7: gives its whole area, 16 to
-    /// 128 bytes, and marks it empty (IEC 61158-4-12, sync manager, mailbox mode); all else stays. On an
+    /// 1,486 bytes, and marks it empty (IEC 61158-4-12, sync manager, mailbox mode); all else stays. On an
     /// error nothing changes.
     pub fn take_mail(&mut self, sm: usize) -> Result<ArrayVec<u8, LONGEST_MAIL>, AreaFault>
         requires { sm < SYNC_MANAGER_COUNT }

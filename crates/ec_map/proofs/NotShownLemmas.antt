@@ -78,7 +78,7 @@ outputs_size s outputs =
     length_of (is_mailbox s) s size
   where
     length_of : (b : Bool) (t : SyncMan)
-        → cond b (leb 16 t.length && leb t.length 128) (leb 1 t.length) ≡ true → 1 ≤ t.length
+        → cond b (leb 16 t.length && leb t.length 1486) (leb 1 t.length) ≡ true → 1 ≤ t.length
     length_of true t e = grind (arith, nat_tests)
     length_of false t e = grind (arith, nat_tests)
 

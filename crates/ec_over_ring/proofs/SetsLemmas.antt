@@ -18,7 +18,7 @@ use Rattle.ec_regs.specs.SyncMan.{is_active, status_address, sync_man_bytes}
 use Rattle.ec_regs.specs.declared.address_range.AddressRange.{AddressRange}
 use Rattle.ec_regs.specs.declared.fmmu.Fmmu.{Fmmu}
 use Rattle.ec_regs.specs.declared.sync_man.SyncMan.{SyncMan}
-use Rattle.ec_areas.specs.Ranges.{has_sii, is_in_sii}
+use Rattle.ec_areas.specs.Ranges.{has_sii, is_of_device}
 use Rattle.ec_areas.specs.Ranges.{is_in_sync_manager, is_writable_field, some_address, sync_manager_number}
 use Rattle.ec_areas.specs.Ranges.{sync_manager_offset, takes_writes, writable_ranges}
 use Rattle.ec_areas.specs.Records.{sync_manager_at}
@@ -60,7 +60,7 @@ field_takes : (m : List ℕ) (a : ℕ) → is_in_sync_manager a ≡ true → is_
 unfolding takes_writes
 field_takes m a inside field =
     let always : Bool =
-    list_any (λ (r : AddressRange). within r.first r.count a) writable_ranges || (is_in_sii a && has_sii m) in
+    list_any (λ (r : AddressRange). within r.first r.count a) writable_ranges || (is_of_device a && has_sii m) in
     ap (λ (b : Bool). always || (b && is_writable_field m a)) inside
     ∙ ap (λ (b : Bool). always || b) field
     ∙ or-true always
@@ -106,7 +106,7 @@ fmmu_takes m n k few below =
     let one : list_any (λ (r : AddressRange). within r.first r.count a) writable_ranges ≡ true =
     list_any_at (λ (r : AddressRange). within r.first r.count a) writable_ranges 2
     (record { first = 0; count = 0 }) (omega arith) inside in
-    ap (λ (b : Bool). b || (is_in_sii a && has_sii m) || (is_in_sync_manager a && is_writable_field m a)) one
+    ap (λ (b : Bool). b || (is_of_device a && has_sii m) || (is_in_sync_manager a && is_writable_field m a)) one
 
 -- ---- a sync manager
 

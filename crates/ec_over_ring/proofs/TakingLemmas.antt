@@ -348,7 +348,7 @@ pub record AreWritten {E : Type 0} (station : ℕ) (done more : List (Option Sta
       → HasKept some other later
 
 -- a mailbox has room, and not too much
-most_room : (s : SyncMan) → is_active s ≡ true → is_mailbox s ≡ true → s.length ≤ 128
+most_room : (s : SyncMan) → is_active s ≡ true → is_mailbox s ≡ true → s.length ≤ 1486
 unfolding is_active
 most_room s active mailbox = grind (arith, nat_tests)
 
@@ -356,7 +356,7 @@ record IsBox (m : SyncMan) : Type 0 where
   active : is_active m ≡ true
   low : 4096 ≤ m.start
   least : 16 ≤ m.length
-  most : m.length ≤ 128
+  most : m.length ≤ 1486
 
 is_box : (m : SyncMan) → is_active m ≡ true → is_mailbox m ≡ true → IsBox m
 is_box m active mailbox = record {

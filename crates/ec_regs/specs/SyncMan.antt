@@ -54,10 +54,10 @@ is_full s = bit_at s.status 3 == 1
 
 -- ---- the area that it guards
 
--- a mailbox has 16 to 128 bytes, a buffered area at least one
+-- a mailbox has 16 to 1,486 bytes, as many as a datagram has at the most; a buffered area at least one
 abbrev pub has_area_length : SyncMan → Bool
 has_area_length s =
-    if is_mailbox s then nat_le 16 s.length && nat_le s.length 128 else nat_le 1 s.length
+    if is_mailbox s then nat_le 16 s.length && nat_le s.length 1486 else nat_le 1 s.length
 
 -- the area lies in process memory
 abbrev pub is_in_process_memory : SyncMan → Bool

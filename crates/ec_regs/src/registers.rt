@@ -11,6 +11,9 @@ pub const INFORMATION_SIZE: u16 = 10;
 /// Station address, 2 bytes: the address by which FP commands name the slave.
 pub const STATION_ADDRESS: u16 = 0x0010;
 
+/// DL control, 4 bytes: what becomes of frames at the ports. Nothing hangs on it here.
+pub const DL_CONTROL: u16 = 0x0100;
+
 /// DL status, 2 bytes: at which ports there is a link, and which are closed. The master does not write it.
 pub const DL_STATUS: u16 = 0x0110;
 
@@ -22,6 +25,18 @@ pub const AL_STATUS: u16 = 0x0130;
 
 /// AL status code, 2 bytes: why the last request was refused.
 pub const AL_STATUS_CODE: u16 = 0x0134;
+
+/// The mask of events of which a controller tells the master, 2 bytes. Nothing hangs on it here.
+pub const EVENT_MASK: u16 = 0x0200;
+
+/// The divider of both watchdogs, 2 bytes: how many 25ths of a microsecond, less 2, are one count of theirs.
+pub const WATCHDOG_DIVIDER: u16 = 0x0400;
+
+/// For how many counts the application may be silent, 2 bytes.
+pub const PDI_WATCHDOG: u16 = 0x0410;
+
+/// For how many counts no frame may write outputs, 2 bytes.
+pub const PROCESS_DATA_WATCHDOG: u16 = 0x0420;
 
 /// The first register of the slave information interface, by which the master reads the EEPROM of the slave:
 /// access, control and status, the address of a word, and eight bytes of data.

@@ -93,8 +93,8 @@ pub const MAILBOX_FULL: u8 = 0x08;
 /// The shortest mailbox, in bytes.
 pub const SHORTEST_MAILBOX: u16 = 16;
 
-/// The longest mailbox, in bytes.
-pub const LONGEST_MAILBOX: u16 = 128;
+/// The longest mailbox, in bytes: one datagram alone in a frame has no more.
+pub const LONGEST_MAILBOX: u16 = 1486;
 
 /// One sync manager record, field by field; every 8 bytes are exactly one record.
 #[derive(Clone, Copy, Debug, PartialEq, Eq)]

@@ -42,11 +42,11 @@ fn number_from(words: &mut Words<'_>, least: u64, most: u64) -> u64
     number
 }
 
-/// An area of 16 to 128 bytes: START LENGTH.
+/// An area of 16 to 1,486 bytes: START LENGTH.
 fn area_of(words: &mut Words<'_>) -> Area {
     Area {
         start: u16_of(words),
-        length: number_from(words, 16, 128) as u16,
+        length: number_from(words, 16, 1486) as u16,
     }
 }
 
@@ -180,10 +180,10 @@ pub fn serve_peer(
     if peer.counter < 1 || 7 < peer.counter {
         return false;
     }
-    if peer.to.length < 16 || 128 < peer.to.length {
+    if peer.to.length < 16 || 1486 < peer.to.length {
         return false;
     }
-    if peer.from.length < 16 || 128 < peer.from.length {
+    if peer.from.length < 16 || 1486 < peer.from.length {
         return false;
     }
     match verb {

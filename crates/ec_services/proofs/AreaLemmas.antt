@@ -8,15 +8,15 @@ use Rattle.ec_merge.specs.Frames.{IsOwn, joined_frame}
 use Rattle.ec_merge.proofs.Laws.{length-joined, same_size}
 
 -- a mail in an area of zeros, as much of it as the mailbox has
-pub mail_area : (n : ℕ) (mail : List ℕ) → length mail ≡ 16 → 16 ≤ n → n ≤ 128
-    → take n (mail ++ drop 16 (replicate 128 0)) ≡ mail ++ replicate (n - 16) 0
+pub mail_area : (n : ℕ) (mail : List ℕ) → length mail ≡ 16 → 16 ≤ n → n ≤ 1486
+    → take n (mail ++ drop 16 (replicate 1486 0)) ≡ mail ++ replicate (n - 16) 0
 mail_area n mail size least most =
     let room : n - 16 ≤ 112 = omega arith in
-    let zeros : take (n - 16) (drop 16 (replicate 128 0)) ≡ replicate (n - 16) 0 =
-    ap (take (n - 16)) (drop-replicate 16 128 0) ∙ take-replicate (n - 16) 112 0 room in
-    ap (λ (k : ℕ). take k (mail ++ drop 16 (replicate 128 0))) (let e : n ≡ length mail + (n - 16) =
+    let zeros : take (n - 16) (drop 16 (replicate 1486 0)) ≡ replicate (n - 16) 0 =
+    ap (take (n - 16)) (drop-replicate 16 1486 0) ∙ take-replicate (n - 16) 1470 0 room in
+    ap (λ (k : ℕ). take k (mail ++ drop 16 (replicate 1486 0))) (let e : n ≡ length mail + (n - 16) =
     omega arith in e)
-    ∙ take-append-add mail (drop 16 (replicate 128 0)) (n - 16)
+    ∙ take-append-add mail (drop 16 (replicate 1486 0)) (n - 16)
     ∙ ap (λ (xs : List ℕ). mail ++ xs) zeros
 
 -- ---- sizes

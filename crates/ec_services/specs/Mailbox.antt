@@ -19,7 +19,7 @@ use Rattle.ec_services.specs.declared.mailbox.Peer.{Peer}
 
 -- ---- a peer
 
--- a mailbox has 16 to 128 bytes
+-- a mailbox has 16 to 1,486 bytes
 abbrev pub IsMailbox : Area → Type 0
 IsMailbox area = (SHORTEST_MAILBOX ≤ area.length) × (area.length ≤ LONGEST_MAILBOX)
 

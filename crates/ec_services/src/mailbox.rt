@@ -25,7 +25,7 @@ const ROOM: usize = LONGEST_MAILBOX as usize;
 pub struct Area {
     /// The first address of the area.
     pub start: u16,
-    /// How many bytes it has, 16 to 128.
+    /// How many bytes it has, 16 to 1,486.
     pub length: u16,
 }
 

@@ -7,7 +7,7 @@ use crate::page::Page;
 use crate::registers::{FMMU_PLACE, STATUS_PLACE, SYNC_MANAGER_PLACE};
 use crate::slave::Slave;
 use ec_app::{Rights, Value};
-use ec_regs::AlState;
+use ec_regs::{AlState, LONGEST_MAILBOX};
 use ec_wire::Command;
 use ecat_scene::{AreaKind, MAX_STARTUP, SceneLine, Through, put_line, put_row, put_startup};
 use std::alloc::AllocError;
@@ -31,9 +31,6 @@ const AREAS: u16 = 0x1000;
 
 /// How much higher an area below them is put.
 const MOVED: u16 = 0x2000;
-
-/// The longest mailbox of a scene.
-const LONGEST_MAILBOX: u16 = 128;
 
 /// The most objects of a scene's slave.
 const MAX_OBJECTS: usize = 32;
@@ -315,7 +312,7 @@ fn put_manager(page: &mut Page, manager: &Manager) -> Result<(), AllocError> {
     };
     if is_mailbox && LONGEST_MAILBOX < length {
         page.comment(format_args!(
-            "changed: sm {number} has {length} bytes; a mailbox of a scene has 128 at most"
+            "changed: sm {number} has {length} bytes; a mailbox of a scene has {LONGEST_MAILBOX} at most"
         ))?;
         length = LONGEST_MAILBOX;
     }

@@ -17,7 +17,7 @@ active_mailbox m a d all same =
     let active : is_active m ≡ true = (and_parts (is_active m) (is_mailbox m) both).0 in
     let mailbox : is_mailbox m ≡ true = (and_parts (is_active m) (is_mailbox m) both).1 in (
       let least : 16 ≤ m.length = grind (arith, nat_tests) in omega (arith, least, same),
-      let most : m.length ≤ 128 = grind (arith, nat_tests) in omega (arith, most, same),
+      let most : m.length ≤ 1486 = grind (arith, nat_tests) in omega (arith, most, same),
     )
 
 pub returns-clause-peer : goal.returns-clause-peer

@@ -10,4 +10,4 @@ returns c =
     c.request.ensures
     ∙ rw (c.address_of-address.ensures, c.from.ensures)
     (ap (request Fprd (address_of c.args.peer.now.station c.args.peer.now.from.start))
-    (take-replicate c.args.peer.now.from.length 128 0 c.requires.from.1))
+    (take-replicate c.args.peer.now.from.length 1486 0 c.requires.from.1))
