@@ -1,5 +1,5 @@
 -- The laws that crates above cite: what a step of a slave leaves.
-use Rattle.std.proofs.Common.{◌≡◌, ◌≤◌, ℕ, true, false, ◌||◌, List, length, get_or}
+use Rattle.std.proofs.Common.{◌≡◌, ◌≤◌, ℕ, Bool, true, false, ◌||◌, List, length, get_or, None}
 use Rattle.ec_regs.specs.SyncMan.{is_active, is_mailbox, master_reads}
 use Rattle.ec_regs.specs.declared.al.AlStatus.{AlStatus}
 use Rattle.ec_regs.specs.declared.registers.TheConstants.{AL_STATUS, MEMORY_SIZE, PROCESS_MEMORY}
@@ -10,6 +10,7 @@ use Rattle.ec_areas.specs.Records.{sync_manager_at}
 use Rattle.ec_esc.specs.State.{ControllerState, with_run}
 use Rattle.ec_app.specs.AlStep.{al_step}
 use Rattle.ec_app.specs.Left.{SameLeft}
+use Rattle.ec_app.specs.Mail.{mail_fault, fault_for}
 use Rattle.ec_app.specs.MailStep.{can_answer, mail_step}
 use Rattle.ec_app.specs.Sdo.{sdo_bytes}
 use Rattle.ec_app.specs.Slave.{step}
@@ -19,6 +20,7 @@ use Rattle.ec_app.specs.declared.sdo.Sdo.TheVariants.{UploadAnswer}
 use Rattle.ec_app.specs.declared.value.Value.{Value}
 use Rattle.ec_app.proofs.LeftLemmas as left
 use Rattle.ec_app.proofs.AreaLemmas as areas
+use Rattle.ec_app.proofs.MailLemmas as mail
 use Rattle.ec_app.proofs.MailStepLemmas as mails
 
 -- a step leaves the registers that neither of its machines writes
@@ -82,3 +84,7 @@ pub area_free : (memory : List ℕ) (s : SyncMan) (a : ℕ) (bytes : List ℕ) �
     → is_active s ≡ true → (is_mailbox s || master_reads s) ≡ true → length bytes ≤ s.length
     → locks s a ≡ false → get_or (with_run memory s.start bytes) a 0 ≡ get_or memory a 0
 area_free = areas.area_free
+
+-- bytes without a fault have none for a device
+pub no_fault_for : (device : Bool) (bytes : List ℕ) → mail_fault bytes ≡ None → fault_for device bytes ≡ None
+no_fault_for = mail.no_fault_for

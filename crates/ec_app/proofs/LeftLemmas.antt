@@ -14,6 +14,7 @@ use Rattle.ec_regs.specs.declared.registers.TheConstants.{AL_STATUS, AL_STATUS_C
 use Rattle.ec_regs.specs.declared.registers.TheConstants.{MEMORY_SIZE, PROCESS_MEMORY}
 use Rattle.ec_regs.specs.declared.sync_man.SyncMan.{SyncMan}
 use Rattle.ec_areas.specs.Areas.{locks}
+use Rattle.ec_areas.specs.Ranges.{has_sii}
 use Rattle.ec_areas.specs.Records.{sync_manager_at}
 use Rattle.ec_areas.proofs.Laws.{active_place}
 use Rattle.ec_esc.specs.Application.{new_control, with_control_taken, with_al, al_status, mail_area}
@@ -230,7 +231,7 @@ bytes_beside : (bytes : List ℕ) (s : SlaveState) → length s.controller.memor
 bytes_beside bytes s size room =
     let m : Mail = mail_of bytes in
     either (λ (t : SlaveState). SameBeside s.controller.memory t.controller.memory)
-    (is_dropped s.application.kept bytes) s (after_mail m s) (λ dropped. beside_refl s.controller.memory)
+    (is_dropped (has_sii s.controller.memory) s.application.kept bytes) s (after_mail m s) (λ dropped. beside_refl s.controller.memory)
     (λ kept. reply_beside s.controller m (mail_answer m s.application.objects) size room)
 
 mail_step_beside : (s : SlaveState) → length s.controller.memory ≡ MEMORY_SIZE
@@ -329,7 +330,7 @@ bytes_outputs : (bytes : List ℕ) (s : SlaveState) → length s.controller.memo
 bytes_outputs bytes s size room =
     let m : Mail = mail_of bytes in
     either (λ (t : SlaveState). LeavesOutputs s.controller t.controller)
-    (is_dropped s.application.kept bytes) s (after_mail m s) (λ dropped. outputs_same s.controller)
+    (is_dropped (has_sii s.controller.memory) s.application.kept bytes) s (after_mail m s) (λ dropped. outputs_same s.controller)
     (λ kept. reply_outputs s.controller m (mail_answer m s.application.objects) size room)
 
 pub mail_step_outputs : (s : SlaveState) → length s.controller.memory ≡ MEMORY_SIZE

@@ -13,7 +13,8 @@ use Rattle.std.proofs.lemmas.List.FromFn.{fill_by_all}
 use Rattle.std.proofs.lemmas.Bool.{cases_lt}
 use Rattle.std.proofs.lemmas.Nat.{le_bytes_2, from_le_bytes-to_le_bytes_2}
 use Rattle.ec_app.specs.Sdo.{sdo_of, sdo_bytes, FitsSdo, IsProper}
-use Rattle.ec_app.specs.Mail.{mail_bytes, mail_of, mail_fault, type_byte, counter_of, stated_length, coe_word}
+use Rattle.ec_app.specs.Mail.{mail_bytes, mail_of, mail_fault, fault_for, type_byte, counter_of, stated_length}
+use Rattle.ec_app.specs.Mail.{coe_word}
 use Rattle.ec_app.specs.Mail.{service_of, sent, IsMail, BeginsWith}
 use Rattle.ec_app.specs.declared.mail.Mail.{Mail}
 use Rattle.ec_app.specs.declared.mail.MailFault.{MailFault}
@@ -84,6 +85,18 @@ IsFaultless-mail_fault bytes none =
       reserved = is_by_test (coe_word bytes / 512 % 8) 0 t7.0;
       service = one_of_two (service_of bytes) t8.0;
     }
+
+-- and they have none for a device
+pub no_fault_for : (device : Bool) (bytes : List ℕ) → mail_fault bytes ≡ None → fault_for device bytes ≡ None
+unfolding mail_fault fault_for
+no_fault_for false bytes none = none
+no_fault_for true bytes none =
+    let t1 = passed (ltb (length bytes) 6) _ _ none in
+    let t2 = passed (not (eqb (type_byte bytes / 16 / 8) 0)) _ _ t1.1 in
+    let t3 = passed (not (eqb (type_byte bytes % 16) 3)) _ _ t2.1 in
+    let t4 = passed (eqb (counter_of bytes) 0) _ _ t3.1 in
+    let t5 = passed (not (eqb (stated_length bytes) 10)) _ _ t4.1 in
+    passes _ _ _ t1.0 (passes _ _ _ t2.0 (passes _ _ _ t3.0 (passes _ _ _ t5.0 t5.1)))
 
 -- and faultless bytes are without a fault
 mail_fault-IsFaultless : (bytes : List ℕ) → IsFaultless bytes → mail_fault bytes ≡ None

@@ -10,26 +10,26 @@ use Rattle.std.specs.Result.{IsOk, result_err}
 use Rattle.ec_regs.specs.declared.sync_man.SyncMan.{SyncMan}
 use Rattle.ec_regs.specs.SyncMan.{is_active, is_mailbox, master_reads, master_writes}
 use Rattle.ec_regs.specs.SyncMan.{is_full}
+use Rattle.ec_areas.specs.Ranges.{has_sii}
 use Rattle.ec_areas.specs.Records.{sync_manager_at}
 use Rattle.ec_esc.specs.Application.{al_status, take_mail_fault, put_mail_fault, with_mail_taken}
 use Rattle.ec_esc.specs.State.{ControllerState}
 use Rattle.ec_esc.specs.declared.application.AreaFault.{AreaFault}
 use Rattle.ec_app.specs.declared.mail.Mail.{Mail}
-use Rattle.ec_app.specs.Mail.{mail_of, mail_fault, counter_of, BeginsWith}
+use Rattle.ec_app.specs.Mail.{mail_of, fault_for, counter_of}
 use Rattle.ec_app.specs.MailStep.{has_mail, can_answer, has_request, is_kept, after_mail, after_bytes}
 use Rattle.ec_app.specs.MailStep.{request_bytes, mail_step}
 use Rattle.ec_app.specs.Roles.{is_answer_mailbox}
 use Rattle.ec_app.specs.State.{SlaveState}
-use Rattle.ec_app.proofs.MailLemmas.{mail_of-BeginsWith}
 
 -- so bytes with a mail whose counter is not kept are answered as that mail
-pub after_bytes-BeginsWith : (bs : List ℕ) (m : Mail) (s : SlaveState) → mail_fault bs ≡ None
-    → BeginsWith bs m → is_kept s.application.kept m.counter ≡ false → after_mail m s ≡ after_bytes bs s
-after_bytes-BeginsWith bs m s good begins other =
-    let fields : mail_of bs ≡ m = mail_of-BeginsWith bs m begins in
+pub after_bytes-taken : (bs : List ℕ) (m : Mail) (s : SlaveState)
+    → fault_for (has_sii s.controller.memory) bs ≡ None → m ≡ mail_of bs
+    → is_kept s.application.kept m.counter ≡ false → after_mail m s ≡ after_bytes bs s
+after_bytes-taken bs m s good fields other =
     let unkept : is_kept s.application.kept (counter_of bs) ≡ false =
-    ap (λ (n : Mail). is_kept s.application.kept n.counter) fields ∙ other in
-    rw (good, unkept) (ap (λ (n : Mail). after_mail n s) (sym fields))
+    ap (λ (n : Mail). is_kept s.application.kept n.counter) (sym fields) ∙ other in
+    rw (good, unkept) (ap (λ (n : Mail). after_mail n s) fields)
 
 -- a result that is no fault is good
 pub IsOk-result_err : {T E : Type 0} (r : Result T E) → result_err r ≡ None → IsOk r

@@ -1,6 +1,7 @@
 -- A mail is sixteen bytes: the mailbox header of six, the CoE header of two and the SDO's eight; what follows
 -- is padding (IEC 61158-4-12, mailbox; IEC 61158-6-12, CoE header).
-use Rattle.std.specs.Prelude.{◌≡◌, ℕ, ◌+◌, ◌*◌, ◌/◌, ◌%◌, ◌^◌, ◌<◌, ◌≤◌, ◌⊎◌, Bool, not, ◌||◌, ◌==◌, nat_lt}
+use Rattle.std.specs.Prelude.{◌≡◌, ℕ, ◌+◌, ◌*◌, ◌/◌, ◌%◌, ◌^◌, ◌<◌, ◌≤◌, ◌⊎◌, Bool, false, not, ◌&&◌, ◌||◌}
+use Rattle.std.specs.Prelude.{◌==◌, nat_lt}
 use Rattle.std.specs.Prelude.{Option, Some, None, List, [], ◌∷◌, ◌++◌, length, take, drop, slice_index}
 use Rattle.std.specs.Int.{w16, to_le_bytes, from_le_bytes}
 use Rattle.ec_app.specs.Sdo.{sdo_bytes, sdo_of, FitsSdo, IsProper}
@@ -81,13 +82,14 @@ mail_of bytes = record {
 
 -- ---- the first fault
 
--- the tests of a mail, in their order, each with its fault
-abbrev pub mail_tests : List ℕ → List (Bool × Option MailFault)
-mail_tests bytes =
+-- the tests of a mail, in their order, each with its fault; a device takes the counter 0 as well, which is
+-- that of masters that do not count
+abbrev pub tests_for : Bool → List ℕ → List (Bool × Option MailFault)
+tests_for device bytes =
     (nat_lt (length bytes) HEADER_SIZE, Some Short)
     ∷ (not (type_byte bytes / TYPES / COUNTERS == 0), Some Reserved)
     ∷ (not (type_byte bytes % TYPES == COE), Some WrongType)
-    ∷ (counter_of bytes == 0, Some BadCounter)
+    ∷ (not device && counter_of bytes == 0, Some BadCounter)
     ∷ (not (stated_length bytes == LENGTH), Some WrongLength)
     ∷ (nat_lt (length bytes) MAIL_SIZE, Some Short)
     ∷ (not (coe_word bytes / NUMBERS % RESERVED == 0), Some Reserved)
@@ -96,4 +98,8 @@ mail_tests bytes =
 
 -- the first fault of a mail's bytes, if they have one
 unfoldable pub mail_fault : List ℕ → Option MailFault
-mail_fault bytes = first_fitting (mail_tests bytes) None
+mail_fault bytes = first_fitting (tests_for false bytes) None
+
+-- the first one for a slave, which may be a device
+unfoldable pub fault_for : Bool → List ℕ → Option MailFault
+fault_for device bytes = first_fitting (tests_for device bytes) None

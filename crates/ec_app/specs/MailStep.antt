@@ -7,6 +7,7 @@ use Rattle.std.specs.Option.{is_none, is_some, option_eq, unwrap_or}
 use Rattle.ec_regs.specs.declared.al.AlState.{AlState}
 use Rattle.ec_regs.specs.declared.al.AlState.TheVariants.{Init, PreOp, SafeOp, Op}
 use Rattle.ec_regs.specs.SyncMan.{is_full}
+use Rattle.ec_areas.specs.Ranges.{has_sii}
 use Rattle.ec_areas.specs.Records.{sync_manager_at}
 use Rattle.ec_esc.specs.Application.{al_status, mail_of as area_of, with_mail_taken, with_mail_put}
 use Rattle.ec_esc.specs.State.{ControllerState}
@@ -26,7 +27,7 @@ use Rattle.ec_app.specs.declared.value.Rights.{Rights}
 use Rattle.ec_app.specs.declared.value.Rights.TheVariants.{ReadOnly}
 use Rattle.ec_app.specs.declared.value.Value.{Value}
 use Rattle.ec_app.specs.declared.value.Value.TheVariants.{One}
-use Rattle.ec_app.specs.Mail.{mail_bytes, mail_fault, mail_of, counter_of, sent}
+use Rattle.ec_app.specs.Mail.{mail_bytes, fault_for, mail_of, counter_of, sent}
 use Rattle.ec_app.specs.Objects.{has_index, object_at, with_value}
 use Rattle.ec_app.specs.Roles.{is_request_mailbox, is_answer_mailbox}
 use Rattle.ec_app.specs.Sdo.{index, sub}
@@ -136,17 +137,20 @@ has_request c =
     let requests = sync_manager_at c.memory REQUEST_MAILBOX
     in is_request_mailbox requests && is_full requests
 
--- is the counter the one that is kept
+-- is the counter the one that is kept; a mail whose counter is 0 repeats none
 abbrev pub is_kept : Option ℕ → ℕ → Bool
-is_kept kept counter = option_eq (λ m n. m == n) kept (Some counter)
+is_kept kept counter = option_eq (λ m n. m == n) kept (Some counter) && not (counter == 0)
 
--- are the bytes no mail, or the last good mail once more
-abbrev pub is_dropped : Option ℕ → List ℕ → Bool
-is_dropped kept bytes = is_some (mail_fault bytes) || is_kept kept (counter_of bytes)
+-- are the bytes no mail for such a slave, a device or a plain one, or the last good mail once more
+abbrev pub is_dropped : Bool → Option ℕ → List ℕ → Bool
+is_dropped device kept bytes = is_some (fault_for device bytes) || is_kept kept (counter_of bytes)
 
 -- the slave after it took these bytes
 abbrev pub after_bytes : List ℕ → SlaveState → SlaveState
-after_bytes bytes s = if is_dropped s.application.kept bytes then s else after_mail (mail_of bytes) s
+after_bytes bytes s =
+    if is_dropped (has_sii s.controller.memory) s.application.kept bytes
+    then s
+    else after_mail (mail_of bytes) s
 
 -- the bytes in the mailbox of requests
 abbrev pub request_bytes : ControllerState → List ℕ

@@ -1,8 +1,11 @@
 //! Mails that carry an SDO: the mailbox header (IEC 61158-4-12), the CoE header and the SDO (IEC 61158-6-12).
 
 ghost use Rattle.std.specs.Prelude.{◌≡◌, ◌≤◌, ◌⊎◌, ◌++◌, ℕ, List, IfOk, IfErr, IfNone, OnOk, length};
+ghost use Rattle.std.specs.Prelude.{IfSome, IsNone, None, true};
+ghost use Rattle.std.specs.Option.{is_some};
 ghost use Rattle.ec_app.specs.declared.mail.Mail.{Mail};
 ghost use Rattle.ec_app.specs.Mail.{mail_bytes, mail_of, mail_fault, sent, IsMail, BeginsWith};
+ghost use Rattle.ec_app.specs.Mail.{fault_for, service_of};
 ghost use Rattle.ec_app.specs.Sdo.{IsProper};
 
 use crate::sdo::Sdo;
@@ -66,7 +69,8 @@ pub struct Mail {
     pub channel: u8,
     /// The priority, 0 (lowest) to 3.
     pub priority: u8,
-    /// The counter, 1 to 7, by which a repeated mail is known.
+    /// The counter, 1 to 7, by which a repeated mail is known; 0 is that of a mail that repeats none, which
+    /// devices take.
     pub counter: u8,
     /// The number field of the CoE header, 0 to 511.
     pub number: u16,
@@ -91,11 +95,13 @@ pub enum MailFault {
     WrongLength,
 }
 
-/// The first fault of a mail's bytes, if they have one.
-#[tactic(auto, unfolding(crate::specs::Mail::mail_fault))]
-fn first_fault(bytes: &[u8]) -> Option<MailFault>
-    ensures value { result ≡ mail_fault bytes.now }
+/// The first fault of a mail's bytes for a slave, if they have one: a device takes the counter 0 as well.
+#[tactic(auto, unfolding(crate::specs::Mail::fault_for))]
+fn fault_for(device: bool, bytes: &[u8]) -> Option<MailFault>
+    ensures value { result ≡ fault_for device bytes.now }
     ensures room { IfNone result (16 ≤ length bytes.now) }
+    ensures service { IfNone result
+        ((service_of bytes.now ≡ REQUEST) ⊎ (service_of bytes.now ≡ RESPONSE)) }
 {
     if bytes.len() < HEADER_SIZE {
         return Some(MailFault::Short);
@@ -107,7 +113,7 @@ fn first_fault(bytes: &[u8]) -> Option<MailFault>
     if type_byte % TYPES != COE {
         return Some(MailFault::WrongType);
     }
-    if type_byte / TYPES % COUNTERS == 0 {
+    if !device && type_byte / TYPES % COUNTERS == 0 {
         return Some(MailFault::BadCounter);
     }
     if LittleEndian::read_u16(bytes) != LENGTH {
@@ -125,6 +131,15 @@ fn first_fault(bytes: &[u8]) -> Option<MailFault>
         return Some(MailFault::WrongType);
     }
     None
+}
+
+/// The first fault of a mail's bytes, if they have one.
+#[tactic(auto, unfolding(crate::specs::Mail::mail_fault, crate::specs::Mail::fault_for))]
+fn first_fault(bytes: &[u8]) -> Option<MailFault>
+    ensures value { result ≡ mail_fault bytes.now }
+    ensures room { IfNone result (16 ≤ length bytes.now) }
+{
+    fault_for(false, bytes)
 }
 
 /// The fields of a mail's bytes.
@@ -172,13 +187,28 @@ impl Mail {
         decode(bytes)
     }
 
+    /// The mail that the bytes begin with, as a slave takes it, if they are one: a device takes the counter 0
+    /// as well.
+    pub(crate) fn taken(device: bool, bytes: &[u8]) -> Option<Mail>
+        ensures none { IsNone result → is_some (fault_for device bytes.now) ≡ true }
+        ensures fine { IfSome result (λ mail. fault_for device bytes.now ≡ None) }
+        ensures mail { IfSome result (λ mail. mail ≡ mail_of bytes.now) }
+        ensures counter { IfSome result (λ mail. mail.counter ≤ 7) }
+        ensures service { IfSome result (λ mail. (mail.service ≡ REQUEST) ⊎ (mail.service ≡ RESPONSE)) }
+    {
+        match fault_for(device, bytes) {
+            Some(_) => None,
+            None => Some(fields(bytes)),
+        }
+    }
+
     /// The bytes of this mail as it is sent: address, channel, priority and number are written as 0. They are
-    /// read again as that mail, whatever follows them.
+    /// read again as that mail, whatever follows them, where its counter is none of 0.
     pub fn write(&self) -> [u8; 16]
-        requires counter { (1 ≤ self.now.counter) × (self.now.counter ≤ 7) }
+        requires counter { self.now.counter ≤ 7 }
         requires service { (self.now.service ≡ REQUEST) ⊎ (self.now.service ≡ RESPONSE) }
         ensures value { result ≡ mail_bytes (sent self.now) }
-        ensures read_back { IsProper self.now.sdo
+        ensures read_back { 1 ≤ self.now.counter → IsProper self.now.sdo
             → (rest : List ℕ) → BeginsWith (result ++ rest) (sent self.now) }
     {
         let mut bytes = [0; MAIL_SIZE];

@@ -87,7 +87,7 @@ fn reply(mail: &Mail, answer: MailAnswer) -> Option<Mail>
 
 impl Slave {
     ghost use Rattle.ec_app.specs.MailStep.{can_answer, application_after, with_reply, after_mail};
-    ghost use Rattle.ec_app.specs.MailStep.{after_bytes, mail_step};
+    ghost use Rattle.ec_app.specs.MailStep.{after_bytes, is_kept, mail_step};
 
     /// May a mail be answered: has the slave's state mails, and is the mailbox of answers there and empty?
     fn can_answer(&self) -> bool
@@ -112,7 +112,7 @@ impl Slave {
 
     /// Puts a mail into the mailbox of answers.
     fn put(&mut self, mail: &Mail)
-        requires counter { (1 ≤ mail.now.counter) × (mail.now.counter ≤ 7) }
+        requires counter { mail.now.counter ≤ 7 }
         requires service { (mail.now.service ≡ REQUEST) ⊎ (mail.now.service ≡ RESPONSE) }
         requires room { can_answer self.old.controller ≡ true }
         ensures { self.new
@@ -125,7 +125,7 @@ impl Slave {
 
     /// Does what a good mail asks for, and answers it.
     fn answer(&mut self, mail: &Mail)
-        requires counter { (1 ≤ mail.now.counter) × (mail.now.counter ≤ 7) }
+        requires counter { mail.now.counter ≤ 7 }
         requires room { can_answer self.old.controller ≡ true }
         ensures { self.new ≡ after_mail mail.now self.old }
     {
@@ -136,13 +136,20 @@ impl Slave {
         }
     }
 
+    /// Is it the counter of the last good mail? A mail whose counter is 0 repeats none.
+    fn is_kept(&self, counter: u8) -> bool
+        ensures { result ≡ is_kept self.now.application.kept counter }
+    {
+        self.kept == Some(counter) && counter != 0
+    }
+
     /// Takes these bytes of a mailbox: drops them where they are no mail, or the last good mail once more.
     fn take(&mut self, bytes: &[u8])
         requires { can_answer self.old.controller ≡ true }
         ensures { self.new ≡ after_bytes bytes.now self.old }
     {
-        match Mail::read(bytes) {
-            Ok(mail) if self.kept != Some(mail.counter) => self.answer(&mail),
+        match Mail::taken(self.controller.has_sii(), bytes) {
+            Some(mail) if !self.is_kept(mail.counter) => self.answer(&mail),
             _ => {}
         }
     }

@@ -10,6 +10,7 @@ use Rattle.ec_regs.specs.declared.al.AlState.TheVariants.{Op}
 use Rattle.ec_regs.specs.declared.al.AlStatus.{AlStatus}
 use Rattle.ec_regs.specs.declared.registers.TheConstants.{AL_CONTROL, AL_STATUS, MEMORY_SIZE}
 use Rattle.ec_wire.specs.Datagram.{DatagramRecord, nth}
+use Rattle.ec_areas.specs.Ranges.{has_sii}
 use Rattle.ec_esc.specs.Application.{al_status, al_status_code, with_mail_taken}
 use Rattle.ec_esc.specs.State.{ControllerState, IsController, word_at}
 use Rattle.ec_app.specs.AlStep.{after_request, al_answer, al_rows, al_step, with_al_answer}
@@ -89,7 +90,7 @@ mail_taken s =
     let bytes : List ℕ = request_bytes c in
     let m : Mail = mail_of bytes in
     either_taken (can_answer c && has_request c) (after_bytes bytes taken) s c.written
-    (either_taken (is_dropped s.application.kept bytes) taken (after_mail m taken) c.written refl
+    (either_taken (is_dropped (has_sii taken.controller.memory) s.application.kept bytes) taken (after_mail m taken) c.written refl
     (reply_taken taken.controller (reply m (mail_answer m taken.application.objects))))
     refl
 

@@ -1,6 +1,7 @@
 -- What a slave's application needs stays: a step changes its objects and the counter of the last good mail.
 use Rattle.std.proofs.Common.{◌≡◌, ℕ, Bool, true, false, cond, ◌&&◌, List, None, Some, refl, ◌∙◌}
 use Rattle.ec_regs.specs.declared.registers.TheConstants.{AL_CONTROL}
+use Rattle.ec_areas.specs.Ranges.{has_sii}
 use Rattle.ec_esc.specs.Application.{with_mail_taken}
 use Rattle.ec_esc.specs.State.{word_at}
 use Rattle.ec_app.specs.AlStep.{after_request, al_answer, al_rows, al_step, with_al_answer}
@@ -46,7 +47,7 @@ mail_needs s =
     let taken : SlaveState = record s { controller = with_mail_taken s.controller 0 } in
     let bytes : List ℕ = request_bytes s.controller in
     either_needs (can_answer s.controller && has_request s.controller) (after_bytes bytes taken) s (needs s)
-    (either_needs (is_dropped s.application.kept bytes) taken (after_mail (mail_of bytes) taken) (needs s)
+    (either_needs (is_dropped (has_sii taken.controller.memory) s.application.kept bytes) taken (after_mail (mail_of bytes) taken) (needs s)
     refl refl)
     refl
 

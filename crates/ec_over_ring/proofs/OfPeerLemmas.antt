@@ -11,6 +11,7 @@ use Rattle.ec_regs.specs.SyncMan.{is_active, is_mailbox, master_reads}
 use Rattle.ec_regs.specs.declared.registers.TheConstants.{MEMORY_SIZE}
 use Rattle.ec_regs.specs.declared.sync_man.SyncMan.{SyncMan}
 use Rattle.ec_areas.specs.Records.{sync_manager_at}
+use Rattle.ec_areas.specs.Ranges.{has_sii}
 use Rattle.ec_esc.specs.Application.{with_mail_put, with_mail_taken}
 use Rattle.ec_esc.specs.State.{ControllerState}
 use Rattle.ec_app.specs.AbortCode.{abort_code}
@@ -201,7 +202,7 @@ mail_stays s size =
     let bytes : List ℕ = request_bytes c in
     either_stays c (can_answer c && has_request c) (after_bytes bytes taken) s
     (λ both.
-    either_stays c (is_dropped s.application.kept bytes) taken (after_mail (mail_of bytes) taken)
+    either_stays c (is_dropped (has_sii taken.controller.memory) s.application.kept bytes) taken (after_mail (mail_of bytes) taken)
     (λ dropped. first)
     (stays_then c taken.controller (after_mail (mail_of bytes) taken).controller first
     (replies_stay taken.controller (after_mail (mail_of bytes) taken).controller

@@ -10,6 +10,7 @@ use Rattle.std.proofs.lemmas.Bool.{and_from, cases_Bool}
 use Rattle.std.proofs.lemmas.List.{length-set}
 use Rattle.ec_regs.specs.declared.registers.TheConstants.{MEMORY_SIZE}
 use Rattle.ec_areas.specs.Records.{sync_manager_at}
+use Rattle.ec_areas.specs.Ranges.{has_sii}
 use Rattle.ec_esc.specs.Application.{with_mail_taken}
 use Rattle.ec_esc.specs.State.{ControllerState}
 use Rattle.ec_app.specs.Mail.{IsMail, counter_of, mail_bytes, mail_of, sent}
@@ -26,6 +27,7 @@ use Rattle.ec_app.specs.declared.sdo.Sdo.TheVariants.{Upload, UploadAnswer, Down
 use Rattle.ec_app.specs.declared.sdo.Sdo.TheVariants.{Other}
 use Rattle.ec_services.specs.Mailbox.{IsPeer, request_mail}
 use Rattle.ec_services.specs.declared.mailbox.Peer.{Peer}
+use Rattle.ec_app.proofs.Laws.{no_fault_for}
 use Rattle.ec_over_ring.specs.Recovery.{AreEmpty, HoldsOwn, IsOfPeer, OneIs, Replies}
 use Rattle.ec_over_ring.specs.Recovery.{ReplyWaits, RequestWaits}
 use Rattle.ec_over_ring.specs.Recovery.{answer_stands, reply_to, request_stands, steps_of}
@@ -121,9 +123,10 @@ dropped s m rest unasked can has bytes_are is kept =
     let c : ControllerState = s.controller in
     let taken : SlaveState = record s { controller = with_mail_taken c 0 } in
     let bytes : List ℕ = mail_bytes m ++ rest in
-    let drops : is_dropped s.application.kept bytes ≡ true =
+    let device : Bool = has_sii taken.controller.memory in
+    let drops : is_dropped device s.application.kept bytes ≡ true =
     ap (λ (o : Option MailFault). is_some o || is_kept s.application.kept (counter_of bytes))
-    (no_fault m rest is)
+    (no_fault_for device bytes (no_fault m rest is))
     ∙ ap (λ (n : Mail). is_kept s.application.kept n.counter) (read_back m rest is) ∙ kept in
     ap (λ (x : SlaveState). mail_step x) (idle_al s unasked)
     ∙ ap (λ (b : Bool). cond b (after_bytes (request_bytes c) taken) s) (and_from _ _ can has)

@@ -396,7 +396,7 @@ is_done peer asked s mail after ready has read =
         to = empty_again before m 0 peer.to same (omega arith) none ready.to;
         from = empty_again before m 1 peer.from same (omega arith) emptied.empty ready.from;
         counter = ap (λ (o : Option ℕ). is_kept o (next_counter peer.counter)) has.kept
-            ∙ next_other peer.counter;
+            ∙ ap (λ (b : Bool). b && not (eqb (next_counter peer.counter) 0)) (next_other peer.counter);
       };
       objects = has.objects;
       slave = record { controller = emptied.controller; values = has.slave.values };

@@ -8,6 +8,7 @@ use Rattle.std.specs.List.{AllByRecursion, find}
 use Rattle.std.specs.Option.{is_none, option_map, unwrap_or}
 use Rattle.std.proofs.lemmas.Bool.{and_from, and_parts, cases_Bool, eq-eqb, eqb-true}
 use Rattle.ec_wire.specs.Datagram.{DatagramRecord}
+use Rattle.ec_areas.specs.Ranges.{has_sii}
 use Rattle.ec_esc.specs.Application.{with_control_taken, with_mail_taken}
 use Rattle.ec_esc.specs.State.{word_at}
 use Rattle.ec_app.specs.AlStep.{after_request, al_answer, al_rows, al_step, with_al_answer}
@@ -269,7 +270,7 @@ mail_step_shape i j s =
     let bytes : List ℕ = request_bytes s.controller in
     either_shape i j s.application.objects (can_answer s.controller && has_request s.controller)
     (after_bytes bytes taken) s
-    (either_shape i j s.application.objects (is_dropped s.application.kept bytes) taken
+    (either_shape i j s.application.objects (is_dropped (has_sii taken.controller.memory) s.application.kept bytes) taken
     (after_mail (mail_of bytes) taken) refl (mail_shape i j (mail_of bytes) s.application.objects))
     refl
 

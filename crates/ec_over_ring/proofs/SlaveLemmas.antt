@@ -21,6 +21,7 @@ use Rattle.ec_regs.specs.declared.al.AlState.TheVariants.{Init, PreOp, SafeOp, O
 use Rattle.ec_regs.specs.declared.al.AlStatus.{AlStatus}
 use Rattle.ec_regs.specs.declared.registers.TheConstants.{AL_STATUS, AL_STATUS_CODE}
 use Rattle.ec_areas.specs.Records.{sync_manager_at}
+use Rattle.ec_areas.specs.Ranges.{has_sii}
 use Rattle.ec_esc.specs.Application.{al_status, mail_area, with_al, with_control_taken}
 use Rattle.ec_esc.specs.Application.{with_mail_taken}
 use Rattle.ec_esc.specs.State.{ControllerState, with_run, word_at}
@@ -317,7 +318,7 @@ mail_step_bytes s has =
       values = has.values;
     } in
     either_way (can_answer c && has_request c) (after_bytes bytes taken) s
-    (either_way (is_dropped s.application.kept bytes) taken (after_mail (mail_of bytes) taken) emptied
+    (either_way (is_dropped (has_sii taken.controller.memory) s.application.kept bytes) taken (after_mail (mail_of bytes) taken) emptied
     (mail_left taken (mail_of bytes) emptied (omega arith) (sub_small (take 8 (drop 8 bytes)) sdo)
     (value_small (take 8 (drop 8 bytes)) sdo)))
     has

@@ -16,6 +16,7 @@ use Rattle.ec_regs.specs.declared.registers.TheConstants.{MEMORY_SIZE}
 use Rattle.ec_regs.specs.declared.sync_man.SyncMan.{SyncMan}
 use Rattle.ec_areas.specs.Records.{sync_manager_at}
 use Rattle.ec_areas.proofs.Laws.{active_place}
+use Rattle.ec_areas.specs.Ranges.{has_sii}
 use Rattle.ec_esc.specs.Application.{mail_area, with_control_taken, with_mail_taken, with_mail_put}
 use Rattle.ec_esc.specs.State.{ControllerState, with_run, word_at}
 use Rattle.ec_esc.proofs.Laws.{length-with_run, get_or-with_run_beside}
@@ -28,6 +29,7 @@ use Rattle.ec_app.specs.Slave.{step}
 use Rattle.ec_app.specs.State.{SlaveState}
 use Rattle.ec_app.specs.declared.mail.Mail.{Mail}
 use Rattle.ec_app.specs.declared.mail.MailFault.{MailFault}
+use Rattle.ec_app.proofs.Laws.{no_fault_for}
 use Rattle.ec_over_ring.proofs.AnswerLemmas.{Outcome, outcome_of, with_outcome}
 use Rattle.ec_over_ring.proofs.MailboxLemmas.{set_bit, clear_bit, run_set}
 use Rattle.ec_over_ring.proofs.ManagerLemmas.{SameBut, but_then, start_same, length_same, answers_same}
@@ -79,9 +81,10 @@ mail_answered t m rest can has bytes_are is other =
     let taken : SlaveState = record t { controller = with_mail_taken c 0 } in
     let bytes : List ℕ = mail_bytes m ++ rest in
     let back : mail_of bytes ≡ m = read_back m rest is in
-    let kept : is_dropped t.application.kept bytes ≡ false =
+    let device : Bool = has_sii taken.controller.memory in
+    let kept : is_dropped device t.application.kept bytes ≡ false =
     ap (λ (o : Option MailFault). is_some o || is_kept t.application.kept (counter_of bytes))
-    (no_fault m rest is)
+    (no_fault_for device bytes (no_fault m rest is))
     ∙ ap (λ (n : Mail). is_kept t.application.kept n.counter) back ∙ other in
     ap (λ (b : Bool). cond b (after_bytes (request_bytes c) taken) t) (and_from _ _ can has)
     ∙ ap (λ (x : List ℕ). after_bytes x taken) bytes_are

@@ -8,6 +8,7 @@ use Rattle.std.proofs.Math.Bool.{and-false}
 use Rattle.std.proofs.lemmas.Bool.{and_from}
 use Rattle.ec_regs.specs.declared.registers.TheConstants.{MEMORY_SIZE}
 use Rattle.ec_areas.specs.Records.{sync_manager_at}
+use Rattle.ec_areas.specs.Ranges.{has_sii}
 use Rattle.ec_esc.specs.Application.{al_status, with_mail_taken}
 use Rattle.ec_esc.specs.State.{ControllerState}
 use Rattle.ec_app.specs.Mail.{mail_of}
@@ -90,7 +91,7 @@ taken_byte s size can has =
     reply_stays taken.controller (mail_of bytes) s.application.objects same_size (can_answer-taken c ∙ can) in
     ap (λ (b : Bool). get_or (cond b (after_bytes bytes taken) s).controller.memory 2053 0)
     (and_from _ _ can has)
-    ∙ either_byte (is_dropped s.application.kept bytes) taken (after_mail (mail_of bytes) taken) v cleared
+    ∙ either_byte (is_dropped (has_sii taken.controller.memory) s.application.kept bytes) taken (after_mail (mail_of bytes) taken) v cleared
     (replies.request ∙ cleared)
 
 pub takes_request : (peer : Peer) (s : SlaveState) → IsOfPeer peer s → TakesMail s

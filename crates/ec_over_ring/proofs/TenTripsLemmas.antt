@@ -1,10 +1,10 @@
 -- Where nothing is lost, a call of a slave that answers mails is answered within ten trips.
 use Rattle.std.proofs.Common.{◌≡◌, ℕ, zero, suc, ◌≤◌, Bool, true, false, cond, eqb, List, Option, None}
 use Rattle.std.proofs.Common.{Some, Result, Ok, Err, refl, sym, ap, ◌∙◌, arith, subst, inl, inr, ⊎_elim}
-use Rattle.std.proofs.Common.{true≢false, replicate, ◌-◌, take, drop}
+use Rattle.std.proofs.Common.{true≢false, replicate, ◌-◌, ◌&&◌, take, drop}
 use Rattle.std.specs.Prelude.{not}
 use Rattle.std.specs.Result.{result_ok}
-use Rattle.std.proofs.lemmas.Bool.{cases_Bool, eqb-true}
+use Rattle.std.proofs.lemmas.Bool.{and_parts, cases_Bool, eqb-true}
 use Rattle.ec_wire.specs.Datagram.{DatagramRecord}
 use Rattle.ec_esc.specs.Pass.{pass}
 use Rattle.ec_app.specs.Mail.{sent}
@@ -375,7 +375,9 @@ other_kept : (kept : Option ℕ) (counter : ℕ) → is_kept kept counter ≡ tr
     → is_kept kept (next_counter counter) ≡ false
 other_kept None counter is = absurd (true≢false (sym is))
 other_kept (Some m) counter is =
-    ap (λ (n : ℕ). eqb n (next_counter counter)) (eqb-true m counter is) ∙ next_other counter
+    let next : ℕ = next_counter counter in
+    ap (λ (n : ℕ). eqb n next && not (eqb next 0)) (eqb-true m counter (and_parts _ _ is).0)
+    ∙ ap (λ (b : Bool). b && not (eqb next 0)) (next_other counter)
 
 -- a request that the slave took last is dropped, and the next one is not
 record WasDropped (peer : Peer) (asked : Sdo) (s x : SlaveState) : Type 0 where

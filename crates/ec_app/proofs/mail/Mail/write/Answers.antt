@@ -10,7 +10,7 @@ pub returns-clause-value : goal.returns-clause-value
 returns-clause-value c = search rules
 
 pub returns-clause-read_back : goal.returns-clause-read_back
-returns-clause-read_back c proper rest =
+returns-clause-read_back c least proper rest =
     let m : Mail = c.args.self.now in
     let size : length c.write.result ≡ 8 = search rules in
     let spelling : length (sdo_bytes m.sdo) ≡ 8 =
@@ -18,4 +18,4 @@ returns-clause-read_back c proper rest =
     let fits : FitsSdo m.sdo = FitsSdo-FitsNumbers m.sdo c.write.ensures.fits spelling in
     let Begins : List ℕ → Type 0 = λ xs. BeginsWith (xs ++ rest) (sent m) in
     subst Begins (sym (returns-clause-value c))
-    (BeginsWith-sent m rest c.requires.counter.0 c.requires.counter.1 c.requires.service fits proper)
+    (BeginsWith-sent m rest least c.requires.counter c.requires.service fits proper)
