@@ -13,6 +13,7 @@ ghost use Rattle.ec_areas.specs.Records.{sync_manager_at};
 ghost use Rattle.ec_esc.specs.State.{word_at};
 ghost use Rattle.std.specs.Int.{w16, to_le_bytes};
 ghost use Rattle.ec_regs.specs.declared.registers.TheConstants.{CONTROLLER_TYPE, DL_STATUS, SII_BASE};
+ghost use Rattle.ec_regs.specs.declared.registers.TheConstants.{STATION_ALIAS};
 ghost use Rattle.ec_regs.specs.Information.{information_bytes};
 ghost use Rattle.ec_areas.specs.Ranges.{has_sii};
 ghost use Rattle.ec_esc.specs.Application.{with_registers, sii_registers};
@@ -24,7 +25,7 @@ ghost use Rattle.ec_esc.specs.Application.{with_mail_taken, put_mail_fault, with
 use crate::controller::Controller;
 use arrayvec::ArrayVec;
 use ec_regs::registers::{
-    AL_CONTROL, AL_STATUS_CODE, CONTROLLER_TYPE, DL_STATUS, SII_BASE, SII_SIZE,
+    AL_CONTROL, AL_STATUS_CODE, CONTROLLER_TYPE, DL_STATUS, SII_BASE, SII_SIZE, STATION_ALIAS,
 };
 use ec_regs::{AlStatus, Information, LONGEST_MAILBOX, SyncMan};
 
@@ -163,6 +164,13 @@ impl Controller {
     {
         self.memory
             .load_before(CONTROLLER_TYPE, &information.bytes());
+    }
+
+    /// Sets the station alias, register 0x0012 (IEC 61158-4-12, station alias); all else stays.
+    pub fn set_alias(&mut self, alias: u16)
+        ensures { self.new ≡ with_registers self.old STATION_ALIAS (to_le_bytes w16 alias) }
+    {
+        self.memory.load_before(STATION_ALIAS, &alias.to_le_bytes());
     }
 
     /// Sets DL status, register 0x0110: at which ports there is a link, and which are closed (IEC 61158-4-12,

@@ -33,7 +33,8 @@
 //!   `put_inputs`, `take_mail` and `put_mail` are its process data and its mail.
 //! - `set_information` says what the controller tells of itself; where that is a kind of chip, it has a slave
 //!   information interface (`has_sii`), whose registers the master writes and the application reads and
-//!   answers (`sii`, `set_sii`). `set_dl_status` tells of links. A master writes none of the others.
+//!   answers (`sii`, `set_sii`). `set_dl_status` tells of links, `set_alias` the station alias. A master
+//!   writes none of the others.
 //!
 //! What the contracts speak of stands in specs/: what a controller holds (`State`), the pass of a datagram
 //! and of a frame (`Pass`), what a write leaves beside the bytes that it wrote (`Writing`), and the

@@ -11,6 +11,9 @@ pub const INFORMATION_SIZE: u16 = 10;
 /// Station address, 2 bytes: the address by which FP commands name the slave.
 pub const STATION_ADDRESS: u16 = 0x0010;
 
+/// Station alias, 2 bytes: an address that a slave keeps, from its EEPROM. The master does not write it.
+pub const STATION_ALIAS: u16 = 0x0012;
+
 /// DL control, 4 bytes: what becomes of frames at the ports. Nothing hangs on it here.
 pub const DL_CONTROL: u16 = 0x0100;
 
