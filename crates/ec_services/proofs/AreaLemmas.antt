@@ -11,7 +11,7 @@ use Rattle.ec_merge.proofs.Laws.{length-joined, same_size}
 pub mail_area : (n : ℕ) (mail : List ℕ) → length mail ≡ 16 → 16 ≤ n → n ≤ 1486
     → take n (mail ++ drop 16 (replicate 1486 0)) ≡ mail ++ replicate (n - 16) 0
 mail_area n mail size least most =
-    let room : n - 16 ≤ 112 = omega arith in
+    let room : n - 16 ≤ 1470 = omega arith in
     let zeros : take (n - 16) (drop 16 (replicate 1486 0)) ≡ replicate (n - 16) 0 =
     ap (take (n - 16)) (drop-replicate 16 1486 0) ∙ take-replicate (n - 16) 1470 0 room in
     ap (λ (k : ℕ). take k (mail ++ drop 16 (replicate 1486 0))) (let e : n ≡ length mail + (n - 16) =

@@ -60,6 +60,11 @@ takes_status m a low high =
     rw (
       behind_range 16 18 a (omega arith) (omega arith),
       behind_range 288 290 a (omega arith) (omega arith),
+      behind_range 256 260 a (omega arith) (omega arith),
+      below_range 512 514 a (omega arith),
+      below_range 1024 1026 a (omega arith),
+      below_range 1040 1042 a (omega arith),
+      below_range 1056 1058 a (omega arith),
       below_range 1280 1296 a (omega arith),
       below_range 1536 1664 a (omega arith),
       below_range 4096 12288 a (omega arith),
@@ -73,6 +78,11 @@ takes_manager m a low high =
     rw (
       behind_range 16 18 a (omega arith) (omega arith),
       behind_range 288 290 a (omega arith) (omega arith),
+      behind_range 256 260 a (omega arith) (omega arith),
+      behind_range 512 514 a (omega arith) (omega arith),
+      behind_range 1024 1026 a (omega arith) (omega arith),
+      behind_range 1040 1042 a (omega arith) (omega arith),
+      behind_range 1056 1058 a (omega arith) (omega arith),
       behind_range 1280 1296 a (omega arith) (omega arith),
       behind_range 1536 1664 a (omega arith) (omega arith),
       below_range 4096 12288 a (omega arith),

@@ -53,8 +53,8 @@ fn assert_peer(rt: &impl Abort, peer: &Peer)
     ensures { IsPeer peer.now }
 {
     assert!(rt; 1 <= peer.counter && peer.counter <= 7);
-    assert!(rt; 16 <= peer.to.length && peer.to.length <= 128);
-    assert!(rt; 16 <= peer.from.length && peer.from.length <= 128);
+    assert!(rt; 16 <= peer.to.length && peer.to.length <= 1486);
+    assert!(rt; 16 <= peer.from.length && peer.from.length <= 1486);
 }
 
 /// A download of the setting that is broken off behind its request.
