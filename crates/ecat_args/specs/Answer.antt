@@ -5,7 +5,8 @@ use Rattle.clap.specs.declared.error.Error.{Error}
 use Rattle.clap.specs.declared.error.kind.ErrorKind.TheVariants.{OutOfMemory}
 use Rattle.ecat_args.specs.Given.{Given, IsComplete, IsNoAddress, LiesAt, control_in, force_in, forever_in}
 use Rattle.ecat_args.specs.Given.{by_index_in, index_in, lines_in}
-use Rattle.ecat_args.specs.Given.{judge_in, log_in, many_in, plain_in, port_in, station_in, sub_in, surely_in}
+use Rattle.ecat_args.specs.Given.{judge_in, log_in, many_in, plain_in, port_in, set_up_in, station_in, sub_in}
+use Rattle.ecat_args.specs.Given.{surely_in}
 use Rattle.ecat_args.specs.Given.{csv_in, every_in, faults_in, images_in, late_in, limit_in, once_in}
 use Rattle.ecat_args.specs.Given.{asked_in, data_in, packet_in, recover_in, stats_in, stop_in, value_in}
 use Rattle.ecat_args.specs.Given.{busy_in, or_stop_in, until_end_in, word_in}
@@ -60,12 +61,13 @@ SaysOfScene (Udp port judge pcap force) given =
     (given.0 ≡ codes "udp")
     × (port_in given ≡ Some port) × (judge_in given ≡ judge)
     × (word_in given (codes "PCAP") ≡ option_map (λ w. w.now) pcap) × (force_in given ≡ force)
-SaysOfScene (Serve port packets address forever control log plain raw pcap force) given =
+SaysOfScene (Serve port packets address forever control log plain set_up sii raw pcap force) given =
     (given.0 ≡ codes "serve")
     × (port_in given ≡ Some port) × (many_in given ≡ Some packets)
     × LiesAt (word_in given (codes "ADDRESS")) address
     × (forever_in given ≡ forever) × (control_in given ≡ control) × (log_in given ≡ log)
-    × (plain_in given ≡ plain)
+    × (plain_in given ≡ plain) × (set_up_in given ≡ set_up)
+    × (word_in given (codes "FOLDER") ≡ option_map (λ w. w.now) sii)
     × (word_in given (codes "RAW") ≡ option_map (λ w. w.now) raw)
     × (word_in given (codes "PCAP") ≡ option_map (λ w. w.now) pcap) × (force_in given ≡ force)
 SaysOfScene (Master words) given =

@@ -106,6 +106,9 @@ force_in given = flag_by (word_in given (codes "force"))
 abbrev pub plain_in : Given → Bool
 plain_in given = flag_by (word_in given (codes "plain"))
 
+abbrev pub set_up_in : Given → Bool
+set_up_in given = flag_by (word_in given (codes "set-up"))
+
 abbrev pub log_in : Given → Bool
 log_in given = flag_by (word_in given (codes "log"))
 

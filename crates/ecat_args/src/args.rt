@@ -327,6 +327,8 @@ fn serve<'a>(given: &ArgMatches<'a>) -> Option<Args<'a>>
             control: flag(given, "control"),
             log: flag(given, "log"),
             plain: flag(given, "plain"),
+            set_up: flag(given, "set-up"),
+            sii: word(given, "FOLDER"),
             raw: word(given, "RAW"),
             pcap: word(given, "PCAP"),
             force: flag(given, "force"),

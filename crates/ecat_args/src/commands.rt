@@ -107,7 +107,8 @@ pub enum SceneCommand<'a> {
         force: bool,
     },
     /// `serve SCENE [--port P] [--packets N] [--bind ADDRESS] [--forever] [--control] [--log] [--plain]
-    /// [--raw RAW] [--pcap PCAP] [--force]`: puts the line of a scene on the network.
+    /// [--set-up] [--sii FOLDER] [--raw RAW] [--pcap PCAP] [--force]`: puts the line of a scene on the
+    /// network.
     Serve {
         /// The port of the line's end A, 1024 to 65534. The end B has the next one.
         port: u16,
@@ -123,6 +124,10 @@ pub enum SceneCommand<'a> {
         log: bool,
         /// Whether slaves of which the scene does not say it are no devices.
         plain: bool,
+        /// Whether devices begin as the scene sets them up, and not as just switched on.
+        set_up: bool,
+        /// The path of a folder with what stands in the EEPROMs of devices.
+        sii: Option<&'a str>,
         /// The descriptors of packet sockets, if its ends lie at network interfaces.
         raw: Option<&'a str>,
         /// The path of a capture that gets each copy, as it comes and as it leaves.

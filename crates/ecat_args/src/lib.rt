@@ -14,7 +14,7 @@
 //! ecat sdo SCENE STATION INDEX SUB [VALUE] [--surely] [--once] [--at AT] [--raw RAW]
 //! ecat udp SCENE [--port P] [--judge] [--pcap PCAP] [--force]
 //! ecat serve SCENE [--port P] [--packets N] [--bind ADDRESS] [--forever] [--control] [--log] [--plain]
-//!     [--raw RAW] [--pcap PCAP] [--force]
+//!     [--set-up] [--sii FOLDER] [--raw RAW] [--pcap PCAP] [--force]
 //! ecat master SCENE [--at AT] [--raw RAW] [--cycles N] [--until-end] [--every MICROSECONDS] [--busy]
 //!     [--limit LIMIT] [--late LATE] [--outputs OUTPUTS] [--log LOG] [--log-images] [--log-or-stop] [--stop]
 //!     [--recover] [--leave STATE] [--pcap PCAP] [--force]

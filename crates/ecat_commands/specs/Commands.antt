@@ -158,12 +158,13 @@ abbrev pub udp_line : App
 udp_line = with_rules (new_app (codes "udp")) udp_words
 
 -- `serve SCENE [--port P] [--packets N] [--bind ADDRESS] [--forever] [--control] [--log] [--plain]
--- [--raw RAW] [--pcap PCAP] [--force]`
+-- [--set-up] [--sii FOLDER] [--raw RAW] [--pcap PCAP] [--force]`
 abbrev pub serve_words : List Rule
 serve_words = scene_rule ∷ port_rule
     ∷ option_rule (codes "N") (codes "packets") ∷ option_rule (codes "ADDRESS") (codes "bind")
     ∷ flag_rule (codes "forever") ∷ flag_rule (codes "control") ∷ flag_rule (codes "log")
-    ∷ flag_rule (codes "plain") ∷ raw_rule ∷ pcap_rule ∷ force_rule ∷ []
+    ∷ flag_rule (codes "plain") ∷ flag_rule (codes "set-up") ∷ option_rule (codes "FOLDER") (codes "sii")
+    ∷ raw_rule ∷ pcap_rule ∷ force_rule ∷ []
 
 abbrev pub serve_line : App
 serve_line = with_rules (new_app (codes "serve")) serve_words

@@ -317,7 +317,7 @@ fn udp<'a>(alloc: Global) -> Result<Command<'a>, AllocError>
 }
 
 // `serve SCENE [--port P] [--packets N] [--bind ADDRESS] [--forever] [--control] [--log] [--plain]
-// [--raw RAW] [--pcap PCAP] [--force]`
+// [--set-up] [--sii FOLDER] [--raw RAW] [--pcap PCAP] [--force]`
 fn serve<'a>(alloc: Global) -> Result<Command<'a>, AllocError>
     ensures { IfOk result (Builds serve_line) }
 {
@@ -328,6 +328,9 @@ fn serve<'a>(alloc: Global) -> Result<Command<'a>, AllocError>
     let forever = "Leaves standard input alone, so that it serves on where that has ended";
     let control = "Reads commands to the line from standard input, while it serves";
     let plain = "Leaves slaves that the scene does not call device without what devices tell";
+    let set_up = "Has devices begin as the scene sets them up, and not as just switched on";
+    let sii =
+        "A folder with what stands in the EEPROMs of devices: 0.bin of the first slave, 1.bin, ..";
     let words = vec![in alloc;
         scene(alloc),
         port(alloc),
@@ -341,6 +344,8 @@ fn serve<'a>(alloc: Global) -> Result<Command<'a>, AllocError>
             "Tells of each packet on standard error, a line each",
         ),
         flag(alloc, "plain", plain),
+        flag(alloc, "set-up", set_up),
+        option(alloc, "FOLDER", "sii", sii),
         raw(alloc),
         pcap(alloc),
         force(alloc),

@@ -206,7 +206,11 @@ whoever reaches the ports may write outputs then.
 Its slaves are devices, which a master of somebody else can identify: they have
 an EEPROM, and tell what they are and which of their links are up. Slaves that
 the scene calls plain have none of it, and with --plain all are that the scene
-does not call device.
+does not call device. A device begins as one that was just switched on: in Init,
+without a station, and with no sync manager and no FMMU; with --set-up it begins
+as the scene sets it up. Its EEPROM is made of the scene, or with --sii is what
+a file of FOLDER has, 0.bin of the first slave, 1.bin of the next one, as IgH's
+ethercat sii_read writes them.
 With --log standard error has a line for each packet: its number, end and size,
 and of a frame each datagram, with the counter as it came and as it left, and
 where it left; or why it was dropped, and ethernet or padded where it looks so.
@@ -220,6 +224,7 @@ two packets and answered by ok, what it asks for and ok, or refused and why:
   link K up|down            mends or breaks a link, 0 before the first slave
   mem SLAVE ADDRESS BYTES   loads process memory, as inputs
   state SLAVE 1|2|4|8       puts a slave into a state
+  error SLAVE CODE          has a slave show an error; in Op it goes to Safe-Op
   lose A|B N                loses the next N copies that arrive at an end
   late A|B MILLISECONDS N   has the next N copies leave an end so much later
   double A|B N              has them leave twice

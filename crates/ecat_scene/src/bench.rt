@@ -50,6 +50,13 @@ pub enum BenchCommand {
         /// The state.
         state: AlState,
     },
+    /// `error SLAVE CODE`
+    Error {
+        /// Whose application finds an error.
+        slave: SlaveName,
+        /// The AL status code that tells it.
+        code: u16,
+    },
     /// `lose A N` or `lose B N`
     Lose {
         /// At which end copies are lost that arrive.
@@ -140,6 +147,7 @@ fn command_of(alloc: Global, words: &[&[u8]]) -> Result<BenchCommand, CommandFau
         "link" => wanting("link K up|down", link(rest)),
         "mem" => wanting("mem SLAVE ADDRESS BYTES", load(alloc, rest)),
         "state" => wanting("state SLAVE 1|2|4|8", state(rest)),
+        "error" => wanting("error SLAVE CODE", error(rest)),
         "lose" => wanting("lose A|B N", lose(rest)),
         "late" => wanting("late A|B MILLISECONDS N", late(rest)),
         "double" => wanting("double A|B N", double(rest)),
@@ -150,7 +158,7 @@ fn command_of(alloc: Global, words: &[&[u8]]) -> Result<BenchCommand, CommandFau
         "counts" => wanting("counts", alone(rest, BenchCommand::Counts)),
         "quit" => wanting("quit", alone(rest, BenchCommand::Quit)),
         _ => wanting(
-            "link, mem, state, lose, late, double, damage, unplug, areas, line, counts or quit",
+            "link, mem, state, error, lose, late, double, damage, unplug, areas, line, counts or quit",
             Err(Stop::Fault(LineFault::UnknownWord)),
         ),
     }
@@ -217,6 +225,20 @@ fn state(words: &[&[u8]]) -> Result<BenchCommand, Stop>
     let state = state_of(code)?;
     let slave = slave_of(slave, slave_number)?;
     Ok(BenchCommand::State { slave, state })
+}
+
+/// `error SLAVE CODE`
+fn error(words: &[&[u8]]) -> Result<BenchCommand, Stop>
+    ensures { CountsWords 2 words.now result }
+{
+    let [slave, code] = words else {
+        return Err(Stop::Fault(LineFault::WrongCount));
+    };
+    let slave_number = number(slave)?;
+    let code = number(code)?;
+    let slave = slave_of(slave, slave_number)?;
+    let code = word(code)?;
+    Ok(BenchCommand::Error { slave, code })
 }
 
 /// `lose A N` or `lose B N`

@@ -1,12 +1,15 @@
 -- What is done to a line between its rounds, and why it is refused: links that are on the line (IEC
 -- 61158-4-12, a slave's ports), process memory and AL status of one of its slaves (IEC 61158-6-12, AL
 -- status).
-use Rattle.std.specs.Prelude.{◌≡◌, ℕ, ◌+◌, nat_lt, if◌then◌else◌, Option, None, Some, List, length, slice_get}
+use Rattle.std.specs.Prelude.{◌≡◌, ℕ, ◌+◌, nat_lt, true, if◌then◌else◌, Option, None, Some, List, length}
+use Rattle.std.specs.Prelude.{slice_get}
 use Rattle.ec_app.specs.AlStep.{with_state}
 use Rattle.ec_app.specs.Lending.{with_controller}
 use Rattle.ec_app.specs.State.{SlaveState}
+use Rattle.ec_esc.specs.Application.{al_status, with_al}
 use Rattle.ec_esc.specs.State.{with_bytes}
 use Rattle.ec_regs.specs.declared.al.AlState.{AlState}
+use Rattle.ec_regs.specs.declared.al.AlState.TheVariants.{Init, PreOp, SafeOp, Op}
 use Rattle.ec_regs.specs.declared.registers.TheConstants.{MEMORY_SIZE, PROCESS_MEMORY}
 use Rattle.ec_ring.specs.Ring.{with_slave}
 use Rattle.ec_ring.specs.declared.links.Links.{Links}
@@ -32,6 +35,21 @@ loaded address bytes slave = with_controller slave (with_bytes slave.controller 
 -- a slave in this state, with no error
 abbrev pub put_in : AlState → SlaveState → SlaveState
 put_in state slave = with_controller slave (with_state slave.controller state)
+
+-- the state that an application leaves for where it finds an error: none stays in Op
+abbrev pub fallen : AlState → AlState
+fallen Op = SafeOp
+fallen SafeOp = SafeOp
+fallen PreOp = PreOp
+fallen Init = Init
+
+-- a slave whose application found an error, which AL status and its code tell
+abbrev pub with_error : ℕ → SlaveState → SlaveState
+with_error code slave =
+    with_controller slave (with_al slave.controller (record {
+      state = fallen (al_status slave.controller).state;
+      error = true;
+    }) code)
 
 -- ---- what is refused
 

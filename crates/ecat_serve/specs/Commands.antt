@@ -3,18 +3,28 @@
 -- copies, process memory and states of its slaves (IEC 61158-6-12, AL status).
 use Rattle.std.specs.Prelude.{◌≡◌, ◌≢◌, ◌⊎◌, ℕ, zero, suc, ◌+◌, ◌-◌, ◌^◌, ◌<◌, ◌≤◌, Bool, List, length, min}
 use Rattle.std.specs.Prelude.{Result, Ok, Err}
+use Rattle.ec_app.specs.State.{SlaveState}
 use Rattle.ec_regs.specs.declared.al.AlState.{AlState}
 use Rattle.ec_regs.specs.declared.registers.TheConstants.{MEMORY_SIZE, PROCESS_MEMORY}
 use Rattle.ec_ring.specs.Links.{is_up}
 use Rattle.ec_ring.specs.declared.port.Port.{Port}
 use Rattle.ec_ring.specs.declared.port.PortFault.{PortFault}
-use Rattle.ecat_serve.specs.Bench.{Changes, loaded, put_in, with_links}
+use Rattle.ecat_serve.specs.Bench.{Changes, loaded, put_in, with_error, with_links}
 use Rattle.ecat_serve.specs.Ends.{Receives, Sends}
 use Rattle.ecat_serve.specs.Rounds.{Serves}
 use Rattle.ecat_serve.specs.State.{ServedState, linked, losing, to_lose_at, unplugged}
 use Rattle.ecat_serve.specs.declared.served.Counts.{Counts}
 
 -- ---- one command
+
+-- what a slave's AL status becomes: a state with no error, or an error of its application, with its code
+pub data Becomes : Type 0 where
+  State : (state : AlState) → Becomes
+  Error : (code : ℕ) → Becomes
+
+abbrev pub with_status : Becomes → SlaveState → SlaveState
+with_status (State state) = put_in state
+with_status (Error code) = with_error code
 
 pub data Command : Type 0 where
   -- it asks for something, or is refused, and changes nothing
@@ -23,8 +33,8 @@ pub data Command : Type 0 where
   Link : (number : ℕ) (up : Bool) → Command
   -- the slave at a place has these bytes in its process memory, and shows them
   Load : (place address : ℕ) (bytes : List ℕ) → Command
-  -- it is put into a state, with no error
-  State : (place : ℕ) (state : AlState) → Command
+  -- its AL status is another one
+  Status : (place : ℕ) (becomes : Becomes) → Command
   -- so many more of the copies that arrive at an end are to be lost
   Lose : (at : Port) (count : ℕ) → Command
   -- nobody has spoken at an end, which at end B takes the last link away
@@ -49,7 +59,7 @@ abbrev pub Leaves : Command → ServedState → ServedState → Type 0
 Leaves Nothing before later = later ≡ before
 Leaves (Link number up) before later = IsPut before number up later
 Leaves (Load place address bytes) before later = IsLoaded before place address bytes later
-Leaves (State place state) before later = Changes before place (put_in state) later
+Leaves (Status place becomes) before later = Changes before place (with_status becomes) later
 Leaves (Lose at count) before later =
     later ≡ losing before at (min (to_lose_at before at + count) (2 ^ 64 - 1))
 Leaves (Unplug at) before later = later ≡ unplugged before at

@@ -8,14 +8,14 @@ ghost use Rattle.ec_regs.specs.declared.registers.TheConstants.{MEMORY_SIZE, PRO
 ghost use Rattle.ec_ring.specs.Links.{is_up};
 ghost use Rattle.ec_ring.specs.declared.port.Port.TheVariants.{B};
 ghost use Rattle.ecat_serve.specs.Bench.{Changes, bytes_fault, link_fault, load_fault, loaded};
-ghost use Rattle.ecat_serve.specs.Bench.{put_in, slave_fault, with_links};
+ghost use Rattle.ecat_serve.specs.Bench.{fallen, put_in, slave_fault, with_error, with_links};
 ghost use Rattle.ecat_serve.specs.Commands.{IsCommanded};
 ghost use Rattle.ecat_serve.specs.State.{linked, losing, to_lose_at, unplugged};
 
 use crate::served::Served;
 use ec_app::Slave;
-use ec_regs::AlState;
 use ec_regs::registers::{MEMORY_SIZE, PROCESS_MEMORY};
+use ec_regs::{AlState, AlStatus};
 use ec_ring::Port;
 
 /// Why a line was not changed as asked. Where several hold, the first of them in this order is told.
@@ -128,6 +128,20 @@ impl Served {
         Ok(())
     }
 
+    /// Has the application of the slave at a place find an error, which this AL status code tells: the error
+    /// bit is set, and a slave in Op goes to Safe-Op (IEC 61158-6-12, AL management); all else stays. Without
+    /// such a slave nothing changes.
+    pub fn set_error(&mut self, place: usize, code: u16) -> Result<(), BenchFault>
+        ensures err { result_err result ≡ slave_fault self.old place }
+        ensures unchanged { OnErr result (self.new ≡ self.old) }
+        ensures ok { OnOk result (Changes self.old place (with_error code) self.new) }
+        ensures commanded { IsCommanded self.old self.new }
+    {
+        self.check_slave(place)?;
+        put_error(self.ring.slave_mut(place), code);
+        Ok(())
+    }
+
     /// Tests that a slave has this place.
     fn check_slave(&self, place: usize) -> Result<(), BenchFault>
         ensures err { result_err result ≡ slave_fault self.now place }
@@ -162,4 +176,23 @@ fn load_slave(slave: &mut Slave, address: u16, bytes: &[u8])
     ensures { slave.new ≡ loaded address bytes.now slave.old }
 {
     slave.controller_mut().load(address, bytes);
+}
+
+/// The state that an application leaves for where it finds an error: none stays in Op.
+fn fallen(state: AlState) -> AlState
+    ensures { result ≡ fallen state }
+{
+    match state {
+        AlState::Op => AlState::SafeOp,
+        AlState::Init | AlState::PreOp | AlState::SafeOp => state,
+    }
+}
+
+/// Has a slave show an error of its application; all else stays.
+fn put_error(slave: &mut Slave, code: u16)
+    ensures { slave.new ≡ with_error code slave.old }
+{
+    let state = fallen(slave.state());
+    let status = AlStatus { state, error: true };
+    slave.controller_mut().set_al(status, code);
 }

@@ -103,6 +103,7 @@ fn print_done<W: Write>(
         | BenchCommand::Link { .. }
         | BenchCommand::Load { .. }
         | BenchCommand::State { .. }
+        | BenchCommand::Error { .. }
         | BenchCommand::Lose { .. }
         | BenchCommand::Late { .. }
         | BenchCommand::Double { .. }
@@ -150,6 +151,10 @@ fn change(served: &mut Served, command: &BenchCommand) -> Result<(), BenchFault>
         BenchCommand::State { slave, state } => {
             let place = place_of(served, *slave)?;
             served.set_state(place, *state)
+        }
+        BenchCommand::Error { slave, code } => {
+            let place = place_of(served, *slave)?;
+            served.set_error(place, *code)
         }
         BenchCommand::Lose { at, count } => {
             served.lose(*at, u64::from(*count));

@@ -5,7 +5,7 @@
 //! One use:
 //!
 //! ```text
-//! let served = line_to_serve(alloc, service, scene)?;
+//! let served = line_to_serve(alloc, service, scene, Vec::new(alloc))?;
 //! let status = serve(served, service, &mut ends, &mut out, &mut err)?;
 //! ```
 //!

@@ -23,6 +23,8 @@ pub struct Service {
     pub log: bool,
     /// Whether slaves of which the scene does not say it are no devices.
     pub plain: bool,
+    /// Whether devices begin as the scene sets them up, and not as just switched on.
+    pub set_up: bool,
     /// The packet sockets at which the ends lie, if they do not lie at the address.
     pub raw: Option<Descriptors>,
 }

@@ -6,11 +6,14 @@ ghost use Rattle.ecat_service.specs.Services.{where_words};
 
 use crate::raw::RawWhereText;
 use crate::service::Service;
+use ec_applications::PlacedEeprom;
 use ec_ring::Ring;
 use ecat_log::{Cables, Log};
 use ecat_scene::Scene;
 use ecat_serve::{Console, Counts, Desk, Disturb, Ends, Onward, Served, Unwatched, Watch};
-use ecat_setup::{LineFailure, applications_of, for_packets, make_devices, ring_of};
+use ecat_setup::{
+    LineFailure, applications_with, for_packets, make_devices, ring_of, switch_on, take_aliases,
+};
 use ecat_text::{GOOD, Lines, print_areas};
 use std::alloc::Global;
 use std::fmt;
@@ -91,13 +94,24 @@ impl fmt::Display for CountsText {
 
 /// The line of the scene, which has no actions and no weathers, as it is served; its items are a master's,
 /// and are passed over. Slaves of which the scene does not say what they tell of themselves are devices,
-/// unless the service leaves them plain: it is there for masters that somebody else wrote.
-pub fn line_to_serve(alloc: Global, service: Service, scene: Scene) -> Result<Served, LineFailure> {
+/// unless the service leaves them plain: it is there for masters that somebody else wrote. Devices begin as
+/// ones that were just switched on, unless the service has them set up: so a master that forgets to set one
+/// up is seen. They have the EEPROMs that are given, or else ones that are made of the scene.
+pub fn line_to_serve(
+    alloc: Global,
+    service: Service,
+    scene: Scene,
+    eeproms: Vec<PlacedEeprom>,
+) -> Result<Served, LineFailure> {
     let mut scene = for_packets(scene)?;
     if !service.plain {
         make_devices(scene.slaves.as_mut_slice());
     }
-    let applications = applications_of(alloc, scene.slaves.as_slice())?;
+    take_aliases(scene.slaves.as_mut_slice(), eeproms.as_slice());
+    let applications = applications_with(alloc, scene.slaves.as_slice(), eeproms)?;
+    if !service.set_up {
+        switch_on(scene.slaves.as_mut_slice());
+    }
     let ring = ring_of(alloc, scene.slaves, scene.links_down.as_slice())?;
     let mut served = Served::acting(ring, applications);
     served.tell_links();

@@ -6,7 +6,8 @@ use crate::failure::LineFailure;
 use crate::process_data::{INPUTS, OUTPUTS, list, number_at, objects_for, pdos_of};
 use ec_app::objects::MAX_OBJECTS;
 use ec_app::{ObjectFault, Objects, Rights, Value};
-use ec_regs::SyncMan;
+use ec_applications::PlacedEeprom;
+use ec_regs::{AlState, SyncMan};
 use ec_sii::{Eeprom, Identity, ImageFault, Mailboxes, Pdo, SiiContents, SiiSyncManager};
 use ecat_scene::{SceneSlave, Setting, SlaveKind};
 use std::alloc::{AllocError, Global};
@@ -31,6 +32,9 @@ const MAILBOX_OUT: u16 = 0x1800;
 
 const MAILBOX_IN: u16 = 0x1C00;
 
+/// Where the alias stands in an EEPROM, in bytes.
+const ALIAS_AT: usize = 8;
+
 /// CoE, of the protocols that a mailbox carries.
 const COE: u16 = 4;
 
@@ -44,6 +48,35 @@ pub fn make_devices(slaves: &mut [SceneSlave]) {
     for slave in slaves.iter_mut() {
         if slave.kind == SlaveKind::Unsaid {
             slave.kind = SlaveKind::Device;
+        }
+    }
+}
+
+/// Has each device begin as one that was just switched on: in Init, without a station address, and with no
+/// sync manager and no FMMU; what lines say of these stands in its EEPROM, which was made before. What lines
+/// put into process memory is there.
+pub fn switch_on(slaves: &mut [SceneSlave]) {
+    for slave in slaves.iter_mut() {
+        if slave.kind == SlaveKind::Device {
+            slave.station = 0;
+            slave.state = AlState::Init;
+            slave
+                .settings
+                .retain(|setting| matches!(setting, Setting::Load(_)));
+        }
+    }
+}
+
+/// Has slaves tell the alias that stands in the EEPROM which they are given (ETG.1000.6, slave information
+/// interface, configured station alias).
+pub fn take_aliases(slaves: &mut [SceneSlave], given: &[PlacedEeprom]) {
+    for one in given {
+        let has_alias = one.eeprom.bytes().len() >= ALIAS_AT + 2;
+        if let Some(slave) = slaves.get_mut(one.place)
+            && has_alias
+        {
+            let at = ALIAS_AT as u64;
+            slave.alias = u16::from_le_bytes([one.eeprom.byte(at), one.eeprom.byte(at + 1)]);
         }
     }
 }

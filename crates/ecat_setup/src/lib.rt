@@ -31,10 +31,10 @@ mod stepping_ports;
 mod weathers;
 mod work;
 
-pub use devices::make_devices;
+pub use devices::{make_devices, switch_on, take_aliases};
 pub use expected::Expected;
 pub use failure::LineFailure;
-pub use line::{applications_of, ring_of, set_link, slaves_of};
+pub use line::{applications_of, applications_with, ring_of, set_link, slaves_of};
 pub use reading::{for_packets, is_for_run_alone, text_of, unread};
 pub use records::records_of;
 pub use stepping_ports::SteppingPorts;

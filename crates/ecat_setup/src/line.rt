@@ -7,6 +7,7 @@ use ec_applications::{Application, Applications, PlacedEeprom, tell_each};
 use ec_esc::Controller;
 use ec_regs::Information;
 use ec_ring::{Ring, Travel};
+use ec_sii::Eeprom;
 use ecat_scene::{SceneSlave, Setting, SlaveKind};
 use std::alloc::Global;
 
@@ -40,7 +41,7 @@ fn slave_of(alloc: Global, place: usize, mut described: SceneSlave) -> Result<Sl
         startup: _,
         kind: _,
         identity: _,
-        alias: _,
+        alias,
         name: _,
     } = described;
     let made = if simple {
@@ -53,15 +54,17 @@ fn slave_of(alloc: Global, place: usize, mut described: SceneSlave) -> Result<Sl
     };
     set_up(slave.controller_mut(), settings.as_slice());
     if is_device {
-        tell_what_it_is(slave.controller_mut());
+        tell_what_it_is(slave.controller_mut(), alias);
     }
     slave.set_state(state);
     Ok(slave)
 }
 
-/// Has a controller tell what it is, and have the slave information interface.
-fn tell_what_it_is(controller: &mut Controller) {
+/// Has a controller tell what it is, and which alias its EEPROM says, and have the slave information
+/// interface.
+fn tell_what_it_is(controller: &mut Controller, alias: u16) {
     controller.set_information(&Information::ip_core());
+    controller.set_alias(alias);
 }
 
 /// The applications of the slaves that a scene describes, in the order in which they act, slave by slave, and
@@ -69,6 +72,16 @@ fn tell_what_it_is(controller: &mut Controller) {
 pub fn applications_of(
     alloc: Global,
     described: &[SceneSlave],
+) -> Result<Applications, LineFailure> {
+    applications_with(alloc, described, Vec::new(alloc))
+}
+
+/// The applications as by `applications_of`, where devices have these EEPROMs in place of those that are made
+/// of the scene.
+pub fn applications_with(
+    alloc: Global,
+    described: &[SceneSlave],
+    given: Vec<PlacedEeprom>,
 ) -> Result<Applications, LineFailure> {
     let mut all = Vec::new(alloc);
     for (place, slave) in described.iter().enumerate() {
@@ -83,16 +96,29 @@ pub fn applications_of(
         }
     }
     let mut applications = Applications::new(all);
-    applications.set_eeproms(eeproms_of(alloc, described)?);
+    applications.set_eeproms(eeproms_of(alloc, described, given)?);
     Ok(applications)
 }
 
-/// The EEPROMs of the devices that a scene describes.
-fn eeproms_of(alloc: Global, described: &[SceneSlave]) -> Result<Vec<PlacedEeprom>, LineFailure> {
+/// The EEPROM of those given that is of a place, if one is.
+fn taken(given: &mut Vec<PlacedEeprom>, place: usize) -> Option<Eeprom> {
+    let number = given.iter().position(|one| one.place == place)?;
+    Some(given.swap_remove(number).eeprom)
+}
+
+/// The EEPROMs of the devices that a scene describes: those given, or else made of the scene.
+fn eeproms_of(
+    alloc: Global,
+    described: &[SceneSlave],
+    mut given: Vec<PlacedEeprom>,
+) -> Result<Vec<PlacedEeprom>, LineFailure> {
     let mut all = Vec::new(alloc);
     for (place, slave) in described.iter().enumerate() {
         if slave.kind == SlaveKind::Device {
-            let eeprom = eeprom_of(alloc, place, slave)?;
+            let eeprom = match taken(&mut given, place) {
+                Some(eeprom) => eeprom,
+                None => eeprom_of(alloc, place, slave)?,
+            };
             if all.push(PlacedEeprom { place, eeprom }).is_err() {
                 return Err(LineFailure::NoMemory);
             }

@@ -16,7 +16,7 @@ returns c =
               c.flag.ensures,
               (
                 c.flag-2.ensures,
-                (c.flag-3.ensures, (c.flag-4.ensures, (c.raw.ensures, (c.pcap.ensures, (c.force.ensures, tt))))),
+                (c.flag-3.ensures, (c.flag-4.ensures, (c.flag-5.ensures, (c.option-3.ensures, (c.raw.ensures, (c.pcap.ensures, (c.force.ensures, tt))))))),
               ),
             ),
           ),
