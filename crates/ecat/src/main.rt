@@ -10,6 +10,7 @@ use ecat_acts::console::Console;
 use ecat_acts::failure::{Failure, report, report_file};
 use ecat_acts::hints::{Fronted, Noted, hint_capture, hint_fault, hint_odd_lines, hint_scene};
 use ecat_acts::judging::{asked_of_judge, end_of_judging, frames_of, judge_by, judge_by_itself};
+use ecat_acts::kinds::{FileWanted, hint_file, hint_files};
 use ecat_acts::learning::{asked_of, end_of_learning};
 use ecat_acts::listing::{Wanted, act_list, act_list_file};
 use ecat_acts::on_scene::on_scene;
@@ -148,11 +149,17 @@ where
     V: io::Write,
 {
     match args {
-        Args::Capture(command) => on_capture(rt, command, console, out, err),
+        Args::Capture(command) => {
+            let status = on_capture(rt, command, console, out, err);
+            hint_files(rt, command, status, err);
+            status
+        }
         Args::Scene { path, command } => match fs::open(rt, path) {
             Ok(file) => {
                 let mut source = Counted::new(file);
-                over_scene(rt, command, path, console, &mut source, out, err)
+                let status = over_scene(rt, command, path, console, &mut source, out, err);
+                hint_file(rt, path, FileWanted::Scene, status, err);
+                status
             }
             Err(error) => report_file(&Failure::Open, path, &error, out, err),
         },

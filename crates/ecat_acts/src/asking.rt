@@ -5,13 +5,15 @@ ghost use Rattle.std.specs.Prelude.{◌≡◌, IfOk, is_some};
 use crate::failure::{Failure, report, report_file, status_of};
 use crate::finding::Finding;
 use crate::piped::Piped;
-use crate::remote::{Reach, raw_ports, remote_ports, tell_failing, tell_late};
+use crate::remote::{patience, reach_of, tell_failing, tell_late};
+use crate::room::refuse_long_mailbox;
 use crate::tape::{ToScene, make_scene};
 use ec_master::Ports;
 use ec_ring::{HeardPorts, Port};
 use ec_run::Watched;
 use ecat_args::ScanWords;
 use ecat_master::{Finder, Unfound, scan};
+use ecat_reach::{Reach, open_ports};
 use ecat_record::unrecorded;
 use ecat_scene::{Scene, SceneFault};
 use ecat_setup::LineFailure;
@@ -40,7 +42,7 @@ impl<'a> Scanning<'a> {
         ensures limit { IfOk result (λ scanning. scanning.limit ≡ words.now.limit) }
         ensures scene { IfOk result (λ scanning. is_some scanning.scene ≡ is_some words.now.scene) }
     {
-        let reach = Reach::of(words.at, words.raw)?;
+        let reach = reach_of(words.at, words.raw)?;
         Ok(Scanning {
             reach,
             limit: words.limit,
@@ -113,15 +115,9 @@ where
     W: io::Write,
     V: io::Write,
 {
-    match reach {
-        Reach::At(at) => match remote_ports(rt, at, limit, &mut unrecorded()) {
-            Ok(ports) => act_scan(ports, finder, out, err),
-            Err(failure) => report(&failure, out, err),
-        },
-        Reach::Raw(descriptors) => match raw_ports(rt, descriptors, limit, &mut unrecorded()) {
-            Ok(ports) => act_scan(ports, finder, out, err),
-            Err(failure) => report(&failure, out, err),
-        },
+    match open_ports(rt, reach, patience(limit), &mut unrecorded()) {
+        Ok(ports) => act_scan(ports, finder, out, err),
+        Err(fault) => report(&Failure::from(fault), out, err),
     }
 }
 
@@ -139,25 +135,14 @@ where
     W: io::Write,
     V: io::Write,
 {
-    let told = match reach {
-        Reach::At(at) => match remote_ports(rt, at, None, &mut unrecorded()) {
-            Ok(mut ports) => {
-                let told = located(rt.alloc(), &mut ports, scene, out);
-                tell_failing_of(&ports, err);
-                told
-            }
-            Err(failure) => return report(&failure, out, err),
-        },
-        Reach::Raw(descriptors) => match raw_ports(rt, descriptors, None, &mut unrecorded()) {
-            Ok(mut ports) => {
-                let told = located(rt.alloc(), &mut ports, scene, out);
-                tell_failing_of(&ports, err);
-                told
-            }
-            Err(failure) => return report(&failure, out, err),
-        },
-    };
-    status_of(told, out, err)
+    match open_ports(rt, reach, patience(None), &mut unrecorded()) {
+        Ok(mut ports) => {
+            let told = located(rt.alloc(), &mut ports, scene, out);
+            tell_failing_of(&ports, err);
+            status_of(told, out, err)
+        }
+        Err(fault) => report(&Failure::from(fault), out, err),
+    }
 }
 
 /// Tells which of these ports fail.
@@ -190,28 +175,18 @@ where
     W: io::Write,
     V: io::Write,
 {
-    let told = match reach {
-        Reach::At(at) => match remote_ports(rt, at, None, &mut unrecorded()) {
-            Ok(mut ports) => {
-                let told = transferred(rt.alloc(), asked, &mut ports, scene, out, err);
-                tell_failing_of(&ports, err);
-                told
-            }
-            Err(failure) => return report(&failure, out, err),
-        },
-        Reach::Raw(descriptors) => match raw_ports(rt, descriptors, None, &mut unrecorded()) {
-            Ok(mut ports) => {
-                let told = transferred(rt.alloc(), asked, &mut ports, scene, out, err);
-                tell_failing_of(&ports, err);
-                told
-            }
-            Err(failure) => return report(&failure, out, err),
-        },
-    };
-    status_of(told, out, err)
+    match open_ports(rt, reach, patience(None), &mut unrecorded()) {
+        Ok(mut ports) => {
+            let told = transferred(rt.alloc(), asked, &mut ports, scene, out, err);
+            tell_failing_of(&ports, err);
+            status_of(told, out, err)
+        }
+        Err(fault) => report(&Failure::from(fault), out, err),
+    }
 }
 
-/// Reads or writes an object of a slave on the line at ports, unless its scene is none.
+/// Reads or writes an object of a slave on the line at ports, unless its scene is none or its mailbox is so
+/// long that copies have no room for a number.
 fn transferred<P: Ports, W: Write, V: Write>(
     alloc: Global,
     asked: &Asked,
@@ -220,7 +195,15 @@ fn transferred<P: Ports, W: Write, V: Write>(
     out: &mut W,
     err: &mut V,
 ) -> Result<u8, LineFailure> {
-    sdo_far(alloc, asked, ports, scene?, out, err)
+    let scene = scene?;
+    if refuse_long_mailbox(
+        scene.slaves.as_slice(),
+        Some(asked.station),
+        &mut Lines::new(out),
+    )? {
+        return Ok(REFUSED);
+    }
+    sdo_far(alloc, asked, ports, scene, out, err)
 }
 
 /// Prints what slaves stand on a line, and answers the exit status. Whoever reads the output may close it.

@@ -3,7 +3,7 @@
 ghost use Rattle.std.specs.Prelude.{◌≡◌, length};
 
 use crate::failure::{Failure, report};
-use crate::room::refuse_full;
+use crate::room::{refuse_full, refuse_long_mailbox};
 use ec_master::Work;
 use ec_ring::HeardPorts;
 use ec_run::{MAX_STARTUP, StartupObject, Wanted, add_states, image_length, wanted_of};
@@ -46,19 +46,24 @@ impl Course {
 }
 
 /// Checks the scene that was read, before any socket is opened. Where there is nothing to cycle on, reports
-/// why and answers the exit status.
+/// why and answers the exit status. The course is boxed, and this is not put in line, so that a work that is
+/// handed on takes its room on the stack once.
+#[inline(never)]
 pub fn course_of<W, V>(
     alloc: Global,
     scene: Result<Scene, SceneFault>,
     out: &mut W,
     err: &mut V,
-) -> Result<Course, u8>
+) -> Result<Box<Course>, u8>
 where
     W: Write,
     V: Write,
 {
     match checked_course(alloc, scene, out) {
-        Ok(Some(course)) => Ok(course),
+        Ok(Some(course)) => match Box::new(alloc, course) {
+            Ok(course) => Ok(course),
+            Err(_) => Err(report(&Failure::Line(LineFailure::NoMemory), out, err)),
+        },
         Ok(None) => Err(REFUSED),
         Err(failure) => Err(report(&Failure::Line(failure), out, err)),
     }
@@ -74,8 +79,11 @@ fn checked_course<W: Write>(
     let scene = for_packets(scene?)?;
     let startups = startups_of(alloc, scene.slaves.as_slice())?;
     let identities = identities_of(alloc, scene.slaves.as_slice())?;
-    let ring = ring_of(alloc, scene.slaves, &[])?;
     let mut lines = Lines::new(out);
+    if refuse_long_mailbox(scene.slaves.as_slice(), None, &mut lines)? {
+        return Ok(None);
+    }
+    let ring = ring_of(alloc, scene.slaves, &[])?;
     if scene.items.is_empty() {
         lines.text("no items: nothing to cycle on")?;
         lines.end()?;

@@ -53,6 +53,8 @@ pub enum Failure {
     SceneWrite,
     /// The file of a master's outputs could not be opened.
     Outputs,
+    /// The file of an EEPROM could not be opened.
+    Eeprom,
     /// The file of a master's outputs has none.
     Images(ImagesFault),
     /// It is not said where a line lies that is somewhere else, or it is said twice.
@@ -130,6 +132,7 @@ pub fn report<W: Write, V: Write>(failure: &Failure, out: &mut W, err: &mut V) -
         Failure::SceneWrite => failed(err, b"scene: Write\n"),
         Failure::Clock => failed(err, b"clock: Open\n"),
         Failure::Outputs => failed(err, b"outputs: Open\n"),
+        Failure::Eeprom => failed(err, b"sii: Open\n"),
         Failure::Images(fault) => report_images(fault, out, err),
         Failure::Reach => bad_argument(err, b"argument: --at or --raw is wanted, one of them\n"),
         Failure::At => bad_argument(

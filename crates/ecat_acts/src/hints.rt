@@ -71,6 +71,7 @@ pub fn hint_capture<S: Source, V: Write>(path: &str, source: &Fronted<S>, status
             "a pcap file with nanoseconds: ecat list reads it, and editcap -F pcap IN OUT changes it"
         }
         [0x1f, 0x8b, ..] => "a file that gzip packed: gunzip it first",
+        [0x28, 0xb5, 0x2f, 0xfd] => "a file that zstd packed: unzstd it first",
         [] => "an empty file",
         _ => "no pcap file",
     };

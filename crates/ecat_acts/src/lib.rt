@@ -4,14 +4,15 @@
 //!
 //! - [`on_scene`](on_scene::on_scene) does a command on a scene: by [`act`](act::act) where it needs nothing
 //!   else; else a master by `mastering` on the `course` of its scene, what a line somewhere else is asked by
-//!   `asking`, a service by `serving`. Ports are opened by `remote`, `raw` and `udp`, images by `images`, and
-//!   what is written by `tape`;
+//!   `asking`, a service by `serving`. `remote` says how a line elsewhere is reached, `udp` opens sockets for
+//!   a cycle, `images` and `eeproms` read files, and `tape` makes those that are written; `room` is what
+//!   copies have beside their numbers;
 //! - [`act_list`](listing::act_list) and [`act_show`](show::act_show) go through a capture, `learning` tells
 //!   how `learn` ended, and `judging` judges a capture by a scene or by the line that it shows;
 //! - `piped` is an output that its reader may close, and `patience` says when a master waits for who reads
 //!   what it writes: not while its cycles run;
 //! - [`report`](failure::report) tells a [`Failure`](failure::Failure) by its fixed line, and `hints` what
-//!   helps a person behind it.
+//!   helps a person behind it; `kinds` is what a file is that was refused.
 //!
 //! The exit status of each failure, which failure it is where sockets could not be opened, what a master and
 //! a scan do by their words, and the words of a fault of packet sockets are proved (`specs/`); what is
@@ -22,11 +23,13 @@ mod asked;
 pub mod asking;
 pub mod console;
 mod course;
+mod eeproms;
 pub mod failure;
 mod finding;
 pub mod hints;
 mod images;
 pub mod judging;
+pub mod kinds;
 pub mod learning;
 pub mod listing;
 mod mastering;

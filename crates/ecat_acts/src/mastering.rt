@@ -8,14 +8,15 @@ use crate::course::{Course, act_master, course_of};
 use crate::failure::{Failure, report, report_file};
 use crate::images::images_at;
 use crate::patience::{Impatient, tell_left_out};
-use crate::remote::{Reach, left_in, raw_ports, remote_ports, tell_late};
-use crate::tape::{Pcap, end, make};
+use crate::remote::{left_in, patience, reach_of, tell_late};
+use crate::tape::{Pcap, end, recorder_at};
 use ec_regs::AlState;
 use ec_run::{Image, Outputs};
 use ecat_args::MasterWords;
 use ecat_master::Plan;
 use ecat_pace::{Beat, Ending};
-use ecat_record::{Moments, Recorder, WallClock, unrecorded};
+use ecat_reach::{Reach, open_ports};
+use ecat_record::{Moments, Recorder};
 use ecat_remote::{Carrier, RemotePorts, Timer};
 use ecat_scene::{Scene, SceneFault};
 use ecat_setup::LineFailure;
@@ -81,7 +82,7 @@ impl<'w> Running<'w> {
         ensures leave { words.now.leave ≡ None → IfOk result (λ running. running.leave ≡ Some Init) }
         ensures pcap { IfOk result (λ running. is_some running.pcap ≡ is_some words.now.pcap) }
     {
-        let reach = Reach::of(words.at, words.raw)?;
+        let reach = reach_of(words.at, words.raw)?;
         let leave = left_in(words.leave)?;
         Ok(Running {
             reach,
@@ -254,38 +255,33 @@ where
         Ok(images) => images,
         Err(status) => return status,
     };
-    let plan = running.plan(outputs_of(running.outputs, images.as_slice()));
-    let Some(pcap) = running.pcap else {
-        let recorder = &mut unrecorded();
-        return master_logged(rt, course, running, &plan, attended, recorder, out, err);
+    let mut recorder = match recorder_at(rt, running.pcap, out, err) {
+        Ok(recorder) => recorder,
+        Err(status) => return status,
     };
-    match make(rt, pcap, out, err) {
-        Ok(file) => {
-            let mut recorder = Recorder::new(file, WallClock::new(rt));
-            let status = master_logged(
-                rt,
-                course,
-                running,
-                &plan,
-                attended,
-                &mut recorder,
-                out,
-                err,
-            );
-            end(&mut recorder, status, err)
-        }
-        Err(status) => status,
-    }
+    let prepared = Prepared {
+        running,
+        plan: running.plan(outputs_of(running.outputs, images.as_slice())),
+        attended,
+    };
+    let status = master_logged(rt, course, prepared, &mut recorder, out, err);
+    end(&mut recorder, status, err)
+}
+
+/// A master that is about to run: by which words and to which plan, and what it has of its console.
+#[derive(Drop)]
+struct Prepared<'a> {
+    running: Running<'a>,
+    plan: Plan<'a>,
+    attended: Attended<'a>,
 }
 
 /// Opens the log of a master, if it has one, has it run, and tells how many lines of the log were left out,
 /// since no cycle waits for who reads it.
 fn master_logged<R, T, M, W, V>(
     rt: &R,
-    course: Course,
-    running: Running<'_>,
-    plan: &Plan<'_>,
-    attended: Attended<'_>,
+    course: Box<Course>,
+    prepared: Prepared<'_>,
     recorder: &mut Recorder<T, M>,
     out: &mut W,
     err: &mut V,
@@ -298,9 +294,8 @@ where
     W: io::Write,
     V: io::Write,
 {
-    let Some(path) = running.log else {
-        let log = &mut io::sink();
-        return run_master(rt, course, running, plan, attended, recorder, out, err, log);
+    let Some(path) = prepared.running.log else {
+        return run_master(rt, course, prepared, recorder, out, err, &mut io::sink());
     };
     let mut file = match fs::create(rt, path) {
         Ok(file) => file,
@@ -308,19 +303,18 @@ where
     };
     never_waits(&file);
     let reader = Behind(file.as_raw_fd());
-    let log = &mut Unblocking::new(&mut file, reader, AT_ONCE, attended.is_patient);
-    let status = run_master(rt, course, running, plan, attended, recorder, out, err, log);
+    let is_patient = prepared.attended.is_patient;
+    let mut log = Unblocking::new(&mut file, reader, AT_ONCE, is_patient);
+    let status = run_master(rt, course, prepared, recorder, out, err, &mut log);
     tell_left_out("log", log.left_out(), err);
     status
 }
 
-/// Opens the sockets and the clock of a master, and has it run.
+/// Opens the ports and the clock of a master, and has it run.
 fn run_master<R, T, M, W, V, L>(
     rt: &R,
-    course: Course,
-    running: Running<'_>,
-    plan: &Plan<'_>,
-    attended: Attended<'_>,
+    course: Box<Course>,
+    prepared: Prepared<'_>,
     recorder: &mut Recorder<T, M>,
     out: &mut W,
     err: &mut V,
@@ -334,6 +328,11 @@ where
     V: io::Write,
     L: io::Write,
 {
+    let Prepared {
+        running,
+        plan,
+        attended,
+    } = prepared;
     let Ok(beat) = beat_of(rt, running, attended.input) else {
         return report(&Failure::Clock, out, err);
     };
@@ -341,21 +340,13 @@ where
     let Ok(counters) = course.counters(rt.alloc()) else {
         return report(&Failure::Line(LineFailure::NoMemory), out, err);
     };
-    match running.reach {
-        Reach::At(at) => match remote_ports(rt, at, running.limit, recorder) {
-            Ok(ports) => {
-                let ports = ready(ports, counters, running.busy);
-                act_master(course, ports, plan, &mut pace, out, err, log)
-            }
-            Err(failure) => report(&failure, out, err),
-        },
-        Reach::Raw(descriptors) => match raw_ports(rt, descriptors, running.limit, recorder) {
-            Ok(ports) => {
-                let ports = ready(ports, counters, running.busy);
-                act_master(course, ports, plan, &mut pace, out, err, log)
-            }
-            Err(failure) => report(&failure, out, err),
-        },
+    match open_ports(rt, running.reach, patience(running.limit), recorder) {
+        Ok(ports) => {
+            let ports = ready(ports, counters, running.busy);
+            let course = Box::into_inner(course);
+            act_master(course, ports, &plan, &mut pace, out, err, log)
+        }
+        Err(fault) => report(&Failure::from(fault), out, err),
     }
 }
 

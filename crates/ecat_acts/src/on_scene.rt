@@ -7,13 +7,13 @@ use crate::asking::{sdo_at, where_at};
 use crate::console::Console;
 use crate::failure::{Failure, report, status_of};
 use crate::mastering::master_by;
-use crate::remote::Reach;
-use crate::serving::serve_at;
-use crate::tape::{Pcap, end, make};
+use crate::remote::reach_of;
+use crate::serving::{ServeFiles, serve_at};
+use crate::tape::{Pcap, counted_at, end};
 use crate::udp::{Prepared, Wanted, act_udp, prepare_udp};
 use ecat_args::SceneCommand;
 use ecat_raw::{Descriptors, descriptors_of};
-use ecat_record::{Counter, Moments, Recorder, TapedLine, unrecorded};
+use ecat_record::{Moments, Recorder, TapedLine};
 use ecat_scene::{Scene, SceneFault};
 use ecat_service::Service;
 use ecat_setup::LineFailure;
@@ -53,7 +53,7 @@ where
             at: None,
             raw: None,
         } => act(alloc, &Alone::Where, text, scene, out, err),
-        SceneCommand::Where { at, raw } => match Reach::of(*at, *raw) {
+        SceneCommand::Where { at, raw } => match reach_of(*at, *raw) {
             Ok(reach) => where_at(rt, reach, scene, out, err),
             Err(failure) => report(&failure, out, err),
         },
@@ -62,16 +62,8 @@ where
             pcap: None,
             ..
         } => act(alloc, &Alone::Run { judge: *judge }, text, scene, out, err),
-        SceneCommand::Run {
-            judge,
-            pcap: Some(path),
-            force,
-        } => {
-            let pcap = Pcap {
-                path,
-                force: *force,
-            };
-            run_taped(rt, *judge, pcap, scene, out, err)
+        SceneCommand::Run { judge, pcap, force } => {
+            run_taped(rt, *judge, Pcap::of(*pcap, *force), scene, out, err)
         }
         SceneCommand::Sdo {
             station,
@@ -97,7 +89,7 @@ where
             ..
         } => {
             let asked = asked_of(*station, *index, *sub, *value, !*once);
-            match Reach::of(*at, *raw) {
+            match reach_of(*at, *raw) {
                 Ok(reach) => sdo_at(rt, reach, &asked, scene, out, err),
                 Err(failure) => report(&failure, out, err),
             }
@@ -122,6 +114,8 @@ where
             control,
             log,
             plain,
+            set_up,
+            sii,
             raw,
             pcap,
             force,
@@ -137,10 +131,14 @@ where
                 control: *control,
                 log: *log,
                 plain: *plain,
+                set_up: *set_up,
                 raw,
             };
-            let pcap = Pcap::of(*pcap, *force);
-            serve_at(rt, service, pcap, console.input, scene, out, err)
+            let files = ServeFiles {
+                eeproms: *sii,
+                pcap: Pcap::of(*pcap, *force),
+            };
+            serve_at(rt, service, files, console.input, scene, out, err)
         }
         SceneCommand::Master(words) => master_by(rt, words, console, scene, out, err),
     }
@@ -173,17 +171,12 @@ where
         Ok(prepared) => prepared,
         Err(status) => return status,
     };
-    let Some(pcap) = pcap else {
-        return udp_taped(rt, prepared, wanted, &mut unrecorded(), out, err);
+    let mut recorder = match counted_at(rt, pcap, out, err) {
+        Ok(recorder) => recorder,
+        Err(status) => return status,
     };
-    match make(rt, pcap, out, err) {
-        Ok(file) => {
-            let mut recorder = Recorder::new(file, Counter::new());
-            let status = udp_taped(rt, prepared, wanted, &mut recorder, out, err);
-            end(&mut recorder, status, err)
-        }
-        Err(status) => status,
-    }
+    let status = udp_taped(rt, prepared, wanted, &mut recorder, out, err);
+    end(&mut recorder, status, err)
 }
 
 /// Opens the sockets of a line, over which the work of a scene is done, and records each copy at the master's
@@ -231,12 +224,12 @@ pub fn report_unbound<W: io::Write, V: io::Write>(
     status
 }
 
-/// Runs a scene, and records each copy of its frames.
+/// Runs a scene, and records each copy of its frames, if anybody wants it.
 #[inline(never)]
 fn run_taped<R, W, V>(
     rt: &R,
     judge: bool,
-    pcap: Pcap<'_>,
+    pcap: Option<Pcap<'_>>,
     scene: Result<Scene, SceneFault>,
     out: &mut W,
     err: &mut V,
@@ -246,16 +239,14 @@ where
     W: io::Write,
     V: io::Write,
 {
-    match make(rt, pcap, out, err) {
-        Ok(file) => {
-            let mut recorder = Recorder::new(file, Counter::new());
-            let done = match scene {
-                Ok(scene) => run(rt.alloc(), judge, &mut recorder, scene, out),
-                Err(fault) => Err(LineFailure::Scene(fault)),
-            };
-            let status = status_of(done, out, err);
-            end(&mut recorder, status, err)
-        }
-        Err(status) => status,
-    }
+    let mut recorder = match counted_at(rt, pcap, out, err) {
+        Ok(recorder) => recorder,
+        Err(status) => return status,
+    };
+    let done = match scene {
+        Ok(scene) => run(rt.alloc(), judge, &mut recorder, scene, out),
+        Err(fault) => Err(LineFailure::Scene(fault)),
+    };
+    let status = status_of(done, out, err);
+    end(&mut recorder, status, err)
 }

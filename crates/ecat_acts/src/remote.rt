@@ -1,30 +1,20 @@
-//! A line that lies somewhere else: how it is reached, and the two ports to it.
+//! A line that lies somewhere else: how the words say that it is reached, and how long they wait for it.
 
-ghost use Rattle.std.specs.Prelude.{◌≡◌, ◌<◌, ◌*◌, None, Ok, Some};
+ghost use Rattle.std.specs.Prelude.{◌≡◌, None, Ok, Some};
 ghost use Rattle.std.specs.Option.{unwrap_or};
 ghost use Rattle.ec_regs.specs.declared.al.AlState.TheVariants.{Init};
-ghost use Rattle.ecat_acts.specs.Failures.{unscanned};
-ghost use Rattle.ecat_acts.specs.declared.failure.Failure.TheVariants.{Remote};
+ghost use Rattle.ecat_acts.specs.Failures.{unreached, unscanned};
 
 use crate::failure::Failure;
-use arrayvec::ArrayVec;
-use ec_number::Trip;
 use ec_regs::AlState;
 use ec_ring::{Port, PortHealth};
-use ec_wire::{Command, Datagram, FrameBuf};
 use ecat_master::ScanEnd;
-use ecat_raw::{Descriptors, RawCarrier, descriptors_of};
-use ecat_record::{Moments, Recorder, TapedCarrier};
-use ecat_remote::{
-    Carrier, ClockTimer, OpenFault, RemotePorts, SteadyCarrier, UdpCarrier, ends_of, greet,
-};
+use ecat_raw::descriptors_of;
+use ecat_reach::{Reach, ReachFault};
+use ecat_remote::ends_of;
 use ecat_setup::LineFailure;
 use ecat_text::{PortText, SystemError};
 use std::io::Write;
-use std::net::Net;
-use std::random::RandomSource;
-use std::rt::Clock;
-use std::time::{SystemTime, UNIX_EPOCH};
 
 /// How long a trip waits for its copies where the words don't say, in microseconds.
 const LIMIT: u32 = 20_000;
@@ -59,27 +49,16 @@ pub fn left_in(word: Option<&str>) -> Result<Option<AlState>, Failure>
     }
 }
 
-/// How a line is reached that lies somewhere else.
-#[derive(Clone, Copy)]
-pub enum Reach<'a> {
-    /// By UDP, at `HOST:PORT` or two of them with a comma between.
-    At(&'a str),
-    /// By network interfaces, through packet sockets.
-    Raw(Descriptors),
-}
-
-impl<'a> Reach<'a> {
-    /// How the words say that it is reached: in one of both ways.
-    pub fn of(at: Option<&'a str>, raw: Option<&'a str>) -> Result<Reach<'a>, Failure> {
-        match (at, raw) {
-            (Some(at), None) if are_ends(at) => Ok(Reach::At(at)),
-            (Some(_), None) => Err(Failure::At),
-            (None, Some(raw)) => match descriptors_of(raw) {
-                Some(descriptors) => Ok(Reach::Raw(descriptors)),
-                None => Err(Failure::Descriptors),
-            },
-            _ => Err(Failure::Reach),
-        }
+/// How the words say that a line somewhere else is reached: in one of both ways.
+pub fn reach_of<'a>(at: Option<&'a str>, raw: Option<&'a str>) -> Result<Reach<'a>, Failure> {
+    match (at, raw) {
+        (Some(at), None) if are_ends(at) => Ok(Reach::At(at)),
+        (Some(_), None) => Err(Failure::At),
+        (None, Some(raw)) => match descriptors_of(raw) {
+            Some(descriptors) => Ok(Reach::Raw(descriptors)),
+            None => Err(Failure::Descriptors),
+        },
+        _ => Err(Failure::Reach),
     }
 }
 
@@ -97,11 +76,15 @@ fn is_end(end: &str) -> bool {
     }
 }
 
-impl From<OpenFault> for Failure {
-    fn from(fault: OpenFault) -> Failure
-        ensures { result ≡ Remote fault }
+impl From<ReachFault> for Failure {
+    fn from(fault: ReachFault) -> Failure
+        ensures { result ≡ unreached fault }
     {
-        Failure::Remote(fault)
+        match fault {
+            ReachFault::Remote(fault) => Failure::Remote(fault),
+            ReachFault::Raw(fault) => Failure::Raw(fault),
+            ReachFault::Clock => Failure::Clock,
+        }
     }
 }
 
@@ -116,67 +99,6 @@ impl From<ScanEnd> for Failure {
     }
 }
 
-/// A master's two ports over what carries the packets, one of which may fail.
-type SteadyPorts<'a, R, C> = RemotePorts<SteadyCarrier<C>, ClockTimer<'a, R>>;
-
-/// A master's two ports, of which each packet is recorded if anybody wants it, and one may fail.
-pub type TapedPorts<'a, 't, R, C, W, M> = SteadyPorts<'a, R, TapedCarrier<'t, C, W, M>>;
-
-/// The two ports of a master whose line lies there, `HOST:PORT` or two of them with a comma between. A first
-/// frame that asks nothing has gone out from each, so that whoever serves the line knows where both are: that
-/// is no trip, of which a copy would be missing at port B.
-pub fn remote_ports<'a, 't, R, W, M>(
-    rt: &'a R,
-    at: &str,
-    limit: Option<u32>,
-    recorder: &'t mut Recorder<W, M>,
-) -> Result<TapedPorts<'a, 't, R, UdpCarrier, W, M>, Failure>
-where
-    R: Clock + Net + RandomSource + AllocGlobal,
-    W: Write,
-    M: Moments,
-{
-    let mut carrier = TapedCarrier::new(UdpCarrier::open(rt, ends_of(at))?, recorder);
-    greet(&mut carrier, &greeting(), patience(limit));
-    ports_over(rt, carrier, limit)
-}
-
-/// The two ports of a master at packet sockets. What an earlier master sent over the same interfaces bears
-/// other numbers, so nothing is waited for.
-pub fn raw_ports<'a, 't, R, W, M>(
-    rt: &'a R,
-    descriptors: Descriptors,
-    limit: Option<u32>,
-    recorder: &'t mut Recorder<W, M>,
-) -> Result<TapedPorts<'a, 't, R, RawCarrier, W, M>, Failure>
-where
-    R: Clock + RandomSource + AllocGlobal,
-    W: Write,
-    M: Moments,
-{
-    match RawCarrier::open(descriptors) {
-        Ok(carrier) => ports_over(rt, TapedCarrier::new(carrier, recorder), limit),
-        Err(fault) => Err(Failure::Raw(fault)),
-    }
-}
-
-/// Ports over a carrier, which wait so long for copies.
-fn ports_over<'a, R, C>(
-    rt: &'a R,
-    carrier: C,
-    limit: Option<u32>,
-) -> Result<SteadyPorts<'a, R, C>, Failure>
-where
-    R: Clock + RandomSource + AllocGlobal,
-    C: Carrier + Drop,
-{
-    let steady = SteadyCarrier::new(carrier);
-    match ClockTimer::new(rt) {
-        Ok(timer) => Ok(RemotePorts::new(steady, timer, patience(limit), first_trip(rt))),
-        Err(_) => Err(Failure::Clock),
-    }
-}
-
 /// Tells which ports fail, by the system's words. A fault of such a line is passed over.
 pub fn tell_failing<V: Write>(a: PortHealth, b: PortHealth, err: &mut V) {
     for (port, health) in [(Port::A, a), (Port::B, b)] {
@@ -185,40 +107,4 @@ pub fn tell_failing<V: Write>(a: PortHealth, b: PortHealth, err: &mut V) {
             let _ = writeln!(err, "port {port} failed ({error})");
         }
     }
-}
-
-/// The first trip of a run: 63 bits that the system draws, or the nanoseconds since 1970 where it draws none.
-/// No other run has its numbers, unless by a chance of one in some thousand million for as many trips.
-fn first_trip<R: Clock + RandomSource>(rt: &R) -> Trip {
-    let mut drawn = [0; 8];
-    match rt.fill_bytes(&mut drawn) {
-        Ok(()) => Trip::of(u64::from_le_bytes(drawn)),
-        Err(_) => Trip::of(nanoseconds(rt)),
-    }
-}
-
-/// The nanoseconds since 1970; 0 where the clock fails.
-fn nanoseconds(clock: &impl Clock) -> u64 {
-    let Ok(now) = SystemTime::now(clock) else {
-        return 0;
-    };
-    match now.duration_since(UNIX_EPOCH) {
-        Ok(passed) => u64::try_from(passed.as_nanos()).unwrap_or(0),
-        Err(_) => 0,
-    }
-}
-
-/// A frame that asks nothing: each slave passes it on as it is.
-fn greeting() -> FrameBuf {
-    let mut payload = ArrayVec::new();
-    let _ = payload.try_extend_from_slice(&[0; 2]);
-    FrameBuf::of(&Datagram {
-        command: Command::Nop,
-        index: 0,
-        address: 0,
-        circulating: false,
-        irq: 0,
-        payload,
-        counter: 0,
-    })
 }

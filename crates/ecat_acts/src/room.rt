@@ -3,6 +3,7 @@
 use ec_master::{Work, frame_from};
 use ec_number::NUMBER_LENGTH;
 use ec_wire::{MAX_DATA, MAX_FRAME};
+use ecat_scene::{SceneSlave, Setting};
 use ecat_text::Lines;
 use std::io::{self, Write};
 
@@ -14,6 +15,9 @@ const MOST_DATA: usize = MAX_DATA - NUMBER_LENGTH;
 
 /// How many bytes of datagrams a frame has beside its number, at the most.
 const MOST_DATAGRAMS: usize = MAX_FRAME - HEADER - NUMBER_LENGTH;
+
+/// The sync managers below this one are those of mailboxes.
+const MAILBOXES: usize = 2;
 
 /// A frame of a work that has no room for a number.
 #[derive(Clone, Copy)]
@@ -76,4 +80,47 @@ pub(crate) fn refuse_full<W: Write>(
     }
     lines.end()?;
     Ok(true)
+}
+
+/// The length of a slave's mailbox whose copies have no room for a number, if one is that long.
+fn long_mailbox(slave: &SceneSlave) -> Option<u16> {
+    let mut long = None;
+    for setting in slave.settings.iter() {
+        if let Setting::SyncMan(manager) = setting
+            && manager.index < MAILBOXES
+            && usize::from(manager.record.length) > MOST_DATA
+        {
+            long = Some(manager.record.length);
+        }
+    }
+    long
+}
+
+/// Is a slave asked for objects: the one at this station, or without it each that has startup objects?
+fn is_asked(slave: &SceneSlave, station: Option<u16>) -> bool {
+    match station {
+        Some(station) => slave.station == station,
+        None => !slave.startup.is_empty(),
+    }
+}
+
+/// Has a slave that is asked for objects a mailbox so long that a copy has no room for a number beside it? If
+/// so, prints which one.
+pub(crate) fn refuse_long_mailbox<W: Write>(
+    slaves: &[SceneSlave],
+    station: Option<u16>,
+    lines: &mut Lines<'_, W>,
+) -> io::Result<bool> {
+    for (place, slave) in slaves.iter().enumerate() {
+        if is_asked(slave, station)
+            && let Some(length) = long_mailbox(slave)
+        {
+            lines.text(format_args!(
+                "refused: NoRoom slave {place}, its mailbox has {length} bytes, {MOST_DATA} at the most"
+            ))?;
+            lines.end()?;
+            return Ok(true);
+        }
+    }
+    Ok(false)
 }

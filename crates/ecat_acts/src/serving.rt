@@ -1,19 +1,28 @@
 //! `ecat serve`: the ends that it opens, and who works on the line.
 
+use crate::eeproms::eeproms_at;
 use crate::failure::{Failure, report, status_of, unbound};
 use crate::on_scene::report_unbound;
-use crate::tape::{Pcap, end, make};
+use crate::tape::{Pcap, end, recorder_at};
 use ecat_raw::{Carriers, Descriptors, RawEnds};
-use ecat_record::{Moments, Recorder, TapedEnds, WallClock, unrecorded};
+use ecat_record::{Moments, Recorder, TapedEnds};
 use ecat_remote::{ClockTimer, Timer};
 use ecat_scene::{Scene, SceneFault};
 use ecat_serve::{Cabled, Console as LineConsole, Disturbed, Served, TimedEnds, Times, UdpEnds};
 use ecat_service::{Service, control, line_to_serve, serve, serve_cabled};
 use ecat_setup::LineFailure;
-use std::alloc::Global;
 use std::io;
 use std::net::Net;
 use std::rt::{Clock, Files, Stdin};
+
+/// The files that a service reads and writes.
+#[derive(Clone, Copy)]
+pub struct ServeFiles<'a> {
+    /// The folder with what stands in EEPROMs, if there is one.
+    pub eeproms: Option<&'a str>,
+    /// The capture that gets each copy, if there is one.
+    pub pcap: Option<Pcap<'a>>,
+}
 
 /// Serves the line of a scene. Its ends are opened once it is known that there is one. The service ends with
 /// the input where that has commands, or where it is not left alone.
@@ -21,7 +30,7 @@ use std::rt::{Clock, Files, Stdin};
 pub fn serve_at<R, W, V>(
     rt: &R,
     service: Service,
-    pcap: Option<Pcap<'_>>,
+    files: ServeFiles<'_>,
     input: Stdin,
     scene: Result<Scene, SceneFault>,
     out: &mut W,
@@ -32,30 +41,45 @@ where
     W: io::Write,
     V: io::Write,
 {
-    let served = match served_of(rt.alloc(), service, scene) {
+    let served = match served_of(rt, service, files.eeproms, scene, out, err) {
         Ok(served) => served,
-        Err(failure) => return report(&Failure::Line(failure), out, err),
+        Err(status) => return status,
     };
-    let Some(pcap) = pcap else {
-        return serve_taped(rt, service, input, served, &mut unrecorded(), out, err);
+    let mut recorder = match recorder_at(rt, files.pcap, out, err) {
+        Ok(recorder) => recorder,
+        Err(status) => return status,
     };
-    match make(rt, pcap, out, err) {
-        Ok(file) => {
-            let mut recorder = Recorder::new(file, WallClock::new(rt));
-            let status = serve_taped(rt, service, input, served, &mut recorder, out, err);
-            end(&mut recorder, status, err)
-        }
-        Err(status) => status,
-    }
+    let status = serve_taped(rt, service, input, served, &mut recorder, out, err);
+    end(&mut recorder, status, err)
 }
 
-/// The line of a scene, as it is served.
-fn served_of(
-    alloc: Global,
+/// The line of a scene, as it is served, whose devices have the EEPROMs that stand in a folder, if one is
+/// named. Where there is no such line it is told why, and the exit status is the answer.
+fn served_of<R, W, V>(
+    rt: &R,
     service: Service,
+    folder: Option<&str>,
     scene: Result<Scene, SceneFault>,
-) -> Result<Served, LineFailure> {
-    line_to_serve(alloc, service, scene?)
+    out: &mut W,
+    err: &mut V,
+) -> Result<Served, u8>
+where
+    R: Files + AllocGlobal,
+    W: io::Write,
+    V: io::Write,
+{
+    let scene = match scene {
+        Ok(scene) => scene,
+        Err(fault) => return Err(report(&Failure::Line(LineFailure::Scene(fault)), out, err)),
+    };
+    let eeproms = match folder {
+        Some(folder) => eeproms_at(rt, folder, scene.slaves.len(), out, err)?,
+        None => Vec::new(rt.alloc()),
+    };
+    match line_to_serve(rt.alloc(), service, scene, eeproms) {
+        Ok(served) => Ok(served),
+        Err(failure) => Err(report(&Failure::Line(failure), out, err)),
+    }
 }
 
 /// Serves a line, and records each copy at its ends, if anybody wants it.

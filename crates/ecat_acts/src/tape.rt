@@ -4,11 +4,11 @@
 ghost use Rattle.std.specs.Prelude.{◌≡◌, is_some};
 
 use crate::failure::{Failure, report, report_file};
-use ecat_record::{Moments, Recorder};
+use ecat_record::{Counter, Moments, Recorder, WallClock};
 use ecat_text::FAILED;
 use std::fs::{self, File};
 use std::io::{self, ErrorKind, Write};
-use std::rt::Files;
+use std::rt::{Clock, Files};
 
 /// Where a capture is written.
 #[derive(Clone, Copy)]
@@ -52,15 +52,56 @@ impl<'a> Pcap<'a> {
     }
 }
 
-/// Makes the file of a capture. Where it cannot be made it is told why, and the exit status is the answer.
-pub fn make<R, W, V>(rt: &R, pcap: Pcap<'_>, out: &mut W, err: &mut V) -> Result<R::File, u8>
+/// What records each copy at the time of the clock: into the file of a capture, or nobody where none is
+/// wanted. Where the file cannot be made it is told why, and the exit status is the answer.
+pub fn recorder_at<'a, R, W, V>(
+    rt: &'a R,
+    pcap: Option<Pcap<'_>>,
+    out: &mut W,
+    err: &mut V,
+) -> Result<Recorder<R::File, WallClock<'a, R>>, u8>
+where
+    R: Clock + Files,
+    W: Write,
+    V: Write,
+{
+    Ok(Recorder::to(made(rt, pcap, out, err)?, WallClock::new(rt)))
+}
+
+/// What records each copy as by `recorder_at`, one after the other, of which each has the next number as its
+/// time.
+pub fn counted_at<R, W, V>(
+    rt: &R,
+    pcap: Option<Pcap<'_>>,
+    out: &mut W,
+    err: &mut V,
+) -> Result<Recorder<R::File, Counter>, u8>
 where
     R: Files,
     W: Write,
     V: Write,
 {
+    Ok(Recorder::to(made(rt, pcap, out, err)?, Counter::new()))
+}
+
+/// Makes the file of a capture, if one is wanted. Where it cannot be made it is told why, and the exit status
+/// is the answer.
+fn made<R, W, V>(
+    rt: &R,
+    pcap: Option<Pcap<'_>>,
+    out: &mut W,
+    err: &mut V,
+) -> Result<Option<R::File>, u8>
+where
+    R: Files,
+    W: Write,
+    V: Write,
+{
+    let Some(pcap) = pcap else {
+        return Ok(None);
+    };
     match made_at(rt, pcap.path, pcap.force) {
-        Ok(file) => Ok(file),
+        Ok(file) => Ok(Some(file)),
         Err(error) => {
             let why = (Failure::PcapOpen, Failure::PcapExists);
             Err(report_unmade(pcap.path, &why, &error, out, err))
@@ -68,7 +109,7 @@ where
     }
 }
 
-/// Makes the file of a scene, as `make` makes that of a capture.
+/// Makes the file of a scene, as `made` makes that of a capture.
 pub fn make_scene<R, W, V>(
     rt: &R,
     scene: ToScene<'_>,

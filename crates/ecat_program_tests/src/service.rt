@@ -25,6 +25,7 @@ const SERVICE: Service = Service {
     control: false,
     log: false,
     plain: false,
+    set_up: true,
     raw: None,
 };
 
@@ -36,7 +37,7 @@ fn written(cursor: &Cursor<[u8; ROOM]>) -> &[u8] {
 
 /// The line of a source, as it is served.
 fn line_of<S: Source>(alloc: Global, source: &mut S) -> Result<Served, LineFailure> {
-    line_to_serve(alloc, SERVICE, scene_of(alloc, source)?)
+    line_to_serve(alloc, SERVICE, scene_of(alloc, source)?, Vec::new(alloc))
 }
 
 /// Did memory run out?

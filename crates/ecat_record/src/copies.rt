@@ -1,5 +1,5 @@
 //! The copies of EtherCAT frames at a master's ports, as Ethernet frames.
-ghost use Rattle.std.specs.Prelude.{◌≡◌, ◌≤◌, IfSome, OnOk, false, length, take, true};
+ghost use Rattle.std.specs.Prelude.{◌≡◌, ◌≤◌, IfSome, OnOk, false, is_some, length, take, true};
 ghost use Rattle.std.specs.Io.KnownBytes.{Appends};
 ghost use Rattle.ec_wire.specs.declared.frame.TheConstants.{MAX_FRAME};
 ghost use Rattle.ecat_record.specs.Copies.{IsRecorded, address_of, copy_record, passed};
@@ -56,7 +56,9 @@ fn front_of(frame: &[u8]) -> &[u8]
 impl<W: Write> Tape<W> {
     /// Writes the record of a copy that left or arrived at a port, so many units of time after the epoch: an
     /// Ethernet frame to every station, of type 0x88A4, padded with zeros to 60 bytes. Of a longer frame the
-    /// first 1,500 bytes are written.
+    /// first 1,500 bytes are written. It is not put in line: each caller would else have room for packets on
+    /// its stack, where nobody wants any too.
+    #[inline(never)]
     pub fn copy(&mut self, ticks: u64, port: Port, way: Way, frame: &[u8])
         ensures grown { self.new.has_failed ≡ false → Appends self.old.held self.new.held
             (copy_record self.old.unit ticks port way frame.now) }
@@ -79,19 +81,26 @@ pub struct Recorder<W: Write, M> {
 impl<W: Write, M: Moments> Recorder<W, M> {
     /// A capture without copies, in microseconds.
     pub fn new(out: W, moments: M) -> Recorder<W, M> {
-        Recorder {
-            tape: Some(Tape::new(out, Unit::Microseconds)),
-            moments,
-        }
+        Recorder::to(Some(out), moments)
+    }
+
+    /// A capture without copies, as by `new`; or copies that nobody wants, where there is no writer.
+    pub fn to(out: Option<W>, moments: M) -> Recorder<W, M>
+        ensures wanted { is_some result.tape ≡ is_some out }
+    {
+        let tape = match out {
+            Some(out) => Some(Tape::new(out, Unit::Microseconds)),
+            None => None,
+        };
+        Recorder { tape, moments }
     }
 
     /// Records the copy that left or arrived at a port, if anybody wants it.
     pub fn copy(&mut self, port: Port, way: Way, frame: &[u8])
         ensures { IsRecorded port way frame.now self.old.tape self.new.tape }
     {
-        let ticks = self.moments.next();
         if let Some(tape) = &mut self.tape {
-            tape.copy(ticks, port, way, frame);
+            tape.copy(self.moments.next(), port, way, frame);
         }
     }
 

@@ -106,51 +106,73 @@ const SERVED: &str = "\
 serve a.scene | \
     Ok(Scene { path: \"a.scene\", command: Serve { port: 34980, packets: None, address: 127.0.0.1, \
     forever: false, \
-    control: false, log: false, plain: false, raw: None, pcap: None, force: false } })
+    control: false, log: false, plain: false, \
+    set_up: false, sii: None, raw: None, pcap: None, force: false } })
 serve a.scene --port 4000 | \
     Ok(Scene { path: \"a.scene\", command: Serve { port: 4000, packets: None, address: 127.0.0.1, \
     forever: false, \
-    control: false, log: false, plain: false, raw: None, pcap: None, force: false } })
+    control: false, log: false, plain: false, \
+    set_up: false, sii: None, raw: None, pcap: None, force: false } })
 serve --port=4000 a.scene | \
     Ok(Scene { path: \"a.scene\", command: Serve { port: 4000, packets: None, address: 127.0.0.1, \
     forever: false, \
-    control: false, log: false, plain: false, raw: None, pcap: None, force: false } })
+    control: false, log: false, plain: false, \
+    set_up: false, sii: None, raw: None, pcap: None, force: false } })
 serve a.scene --packets 100 | \
     Ok(Scene { path: \"a.scene\", command: Serve { port: 34980, packets: Some(100), address: 127.0.0.1, \
     forever: false, \
-    control: false, log: false, plain: false, raw: None, pcap: None, force: false } })
+    control: false, log: false, plain: false, \
+    set_up: false, sii: None, raw: None, pcap: None, force: false } })
 serve --packets=0x64 a.scene --port 4000 | \
     Ok(Scene { path: \"a.scene\", command: Serve { port: 4000, packets: Some(100), address: 127.0.0.1, \
     forever: false, \
-    control: false, log: false, plain: false, raw: None, pcap: None, force: false } })
+    control: false, log: false, plain: false, \
+    set_up: false, sii: None, raw: None, pcap: None, force: false } })
 serve --port 4000 --packets 100 a.scene | \
     Ok(Scene { path: \"a.scene\", command: Serve { port: 4000, packets: Some(100), address: 127.0.0.1, \
     forever: false, \
-    control: false, log: false, plain: false, raw: None, pcap: None, force: false } })
+    control: false, log: false, plain: false, \
+    set_up: false, sii: None, raw: None, pcap: None, force: false } })
 serve a.scene --control | \
     Ok(Scene { path: \"a.scene\", command: Serve { port: 34980, packets: None, address: 127.0.0.1, \
     forever: false, \
-    control: true, log: false, plain: false, raw: None, pcap: None, force: false } })
+    control: true, log: false, plain: false, \
+    set_up: false, sii: None, raw: None, pcap: None, force: false } })
 serve --control --packets=100 --port 4000 a.scene | \
     Ok(Scene { path: \"a.scene\", command: Serve { port: 4000, packets: Some(100), address: 127.0.0.1, \
     forever: false, \
-    control: true, log: false, plain: false, raw: None, pcap: None, force: false } })
+    control: true, log: false, plain: false, \
+    set_up: false, sii: None, raw: None, pcap: None, force: false } })
 serve --log a.scene --bind 192.168.0.7 --forever | \
     Ok(Scene { path: \"a.scene\", command: Serve { port: 34980, packets: None, address: 192.168.0.7, \
     forever: true, \
-    control: false, log: true, plain: false, raw: None, pcap: None, force: false } })
+    control: false, log: true, plain: false, \
+    set_up: false, sii: None, raw: None, pcap: None, force: false } })
 serve --forever --bind=192.168.0.7 --log a.scene | \
     Ok(Scene { path: \"a.scene\", command: Serve { port: 34980, packets: None, address: 192.168.0.7, \
     forever: true, \
-    control: false, log: true, plain: false, raw: None, pcap: None, force: false } })
+    control: false, log: true, plain: false, \
+    set_up: false, sii: None, raw: None, pcap: None, force: false } })
 serve --plain a.scene | \
     Ok(Scene { path: \"a.scene\", command: Serve { port: 34980, packets: None, address: 127.0.0.1, \
     forever: false, \
-    control: false, log: false, plain: true, raw: None, pcap: None, force: false } })
+    control: false, log: false, plain: true, \
+    set_up: false, sii: None, raw: None, pcap: None, force: false } })
+serve --set-up a.scene | \
+    Ok(Scene { path: \"a.scene\", command: Serve { port: 34980, packets: None, address: 127.0.0.1, \
+    forever: false, \
+    control: false, log: false, plain: false, \
+    set_up: true, sii: None, raw: None, pcap: None, force: false } })
+serve a.scene --sii of | \
+    Ok(Scene { path: \"a.scene\", command: Serve { port: 34980, packets: None, address: 127.0.0.1, \
+    forever: false, \
+    control: false, log: false, plain: false, \
+    set_up: false, sii: Some(\"of\"), raw: None, pcap: None, force: false } })
 serve a.scene --pcap a.pcap --force | \
     Ok(Scene { path: \"a.scene\", command: Serve { port: 34980, packets: None, address: 127.0.0.1, \
     forever: false, \
-    control: false, log: false, plain: false, raw: None, pcap: Some(\"a.pcap\"), force: true } })";
+    control: false, log: false, plain: false, \
+    set_up: false, sii: None, raw: None, pcap: Some(\"a.pcap\"), force: true } })";
 
 /// A flag has no value, is given once and to some commands alone; an option has a value.
 const FLAGS: &str = "\

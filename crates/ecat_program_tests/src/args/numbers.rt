@@ -77,23 +77,28 @@ const SERVED: &str = "\
 serve a.scene --port 1024 | \
     Ok(Scene { path: \"a.scene\", command: Serve { port: 1024, packets: None, address: 127.0.0.1, \
     forever: false, \
-    control: false, log: false, plain: false, raw: None, pcap: None, force: false } })
+    control: false, log: false, plain: false, \
+    set_up: false, sii: None, raw: None, pcap: None, force: false } })
 serve a.scene --port 0xfffe | \
     Ok(Scene { path: \"a.scene\", command: Serve { port: 65534, packets: None, address: 127.0.0.1, \
     forever: false, \
-    control: false, log: false, plain: false, raw: None, pcap: None, force: false } })
+    control: false, log: false, plain: false, \
+    set_up: false, sii: None, raw: None, pcap: None, force: false } })
 serve a.scene --packets 1 | \
     Ok(Scene { path: \"a.scene\", command: Serve { port: 34980, packets: Some(1), address: 127.0.0.1, \
     forever: false, \
-    control: false, log: false, plain: false, raw: None, pcap: None, force: false } })
+    control: false, log: false, plain: false, \
+    set_up: false, sii: None, raw: None, pcap: None, force: false } })
 serve a.scene --packets 4294967295 | \
     Ok(Scene { path: \"a.scene\", command: Serve { port: 34980, packets: Some(4294967295), \
     address: 127.0.0.1, \
-    forever: false, control: false, log: false, plain: false, raw: None, pcap: None, force: false } })
+    forever: false, control: false, log: false, plain: false, \
+    set_up: false, sii: None, raw: None, pcap: None, force: false } })
 serve a.scene --packets 0xffffffff | \
     Ok(Scene { path: \"a.scene\", command: Serve { port: 34980, packets: Some(4294967295), \
     address: 127.0.0.1, \
-    forever: false, control: false, log: false, plain: false, raw: None, pcap: None, force: false } })
+    forever: false, control: false, log: false, plain: false, \
+    set_up: false, sii: None, raw: None, pcap: None, force: false } })
 learn a.pcap --at 0 | Err(BadNumber)
 judge a.pcap --limit 0 | Err(BadNumber)
 judge a.pcap --limit 4294967296 | Err(BadNumber)
@@ -102,11 +107,13 @@ serve s --port 4000 --packets 0 | Err(BadNumber)
 serve a.scene --bind 0.0.0.0 | \
     Ok(Scene { path: \"a.scene\", command: Serve { port: 34980, packets: None, address: 0.0.0.0, \
     forever: false, \
-    control: false, log: false, plain: false, raw: None, pcap: None, force: false } })
+    control: false, log: false, plain: false, \
+    set_up: false, sii: None, raw: None, pcap: None, force: false } })
 serve a.scene --bind 255.10.9.1 | \
     Ok(Scene { path: \"a.scene\", command: Serve { port: 34980, packets: None, address: 255.10.9.1, \
     forever: false, \
-    control: false, log: false, plain: false, raw: None, pcap: None, force: false } })";
+    control: false, log: false, plain: false, \
+    set_up: false, sii: None, raw: None, pcap: None, force: false } })";
 
 /// Forms that are no numbers.
 static NO_NUMBERS: [&str; 14] = [
