@@ -35,7 +35,8 @@ RUBBISH = [ASKED[:-1], ASKED + b"\0", b"", ASKED[:1] + b"\x40" + ASKED[2:], byte
 
 # What a word is answered by that is no command.
 REFUSED_WORD = (
-    "refused: UnknownWord, wanted link, mem, state, lose, late, double, damage, unplug, areas, line, counts or quit"
+    "refused: UnknownWord, "
+    "wanted link, mem, state, error, lose, late, double, damage, unplug, areas, line, counts or quit"
 )
 
 # A capture's header, and the record of a packet of 14 bytes.
@@ -139,7 +140,7 @@ def asked(master, port, packet=ASKED):
 @case
 def packets_are_counted_until_there_were_so_many(stage):
     """The input is at its end from the start, and is not what ends the service."""
-    with stage.serve(SLAVE, "--packets", "23") as line, stage.master() as master:
+    with stage.serve(SLAVE, "--set-up", "--packets", "23") as line, stage.master() as master:
         yield "where", f"serving A 127.0.0.1:{stage.port} B 127.0.0.1:{stage.port + 1}\n", line.first
         for _ in range(11):
             yield "answer", ONE, asked(master, stage.port)
@@ -151,7 +152,7 @@ def packets_are_counted_until_there_were_so_many(stage):
 
 @case
 def service_ends_with_its_input(stage):
-    with stage.serve(SLAVE, stdin=subprocess.PIPE) as line, stage.master() as master:
+    with stage.serve(SLAVE, "--set-up", stdin=subprocess.PIPE) as line, stage.master() as master:
         line.process.stdin.write(b"not the end\n")
         yield "answer", ONE, asked(master, stage.port)
         line.process.stdin.write(b"\n")
@@ -293,7 +294,7 @@ def frames_leave_where_they_arrive(stage):
 def slaves_step_after_each_packet(stage):
     request = bytes.fromhex("0e10 0500 0110 2001 0200 0000 0200 0000")
     status = bytes.fromhex("0e10 0400 0110 3001 0200 0000 0000 0000")
-    with stage.serve(SLAVE, "--packets", "2") as line, stage.master() as master:
+    with stage.serve(SLAVE, "--set-up", "--packets", "2") as line, stage.master() as master:
         yield "request", "0e100500011020010200000002000100", asked(master, stage.port, request)
         yield "state", "0e100400011030010200000002000100", asked(master, stage.port, status)
         yield "end", "packets 2 frames 2 dropped 0\nslave 0 sm 2 open 00 shown 00\n0\n", line.end()
@@ -332,7 +333,7 @@ def moved(stage, master, outputs):
 
 @case
 def applications_act_behind_each_packet(stage):
-    with stage.serve(MOVING, "--packets", "5") as line, stage.master() as master:
+    with stage.serve(MOVING, "--set-up", "--packets", "5") as line, stage.master() as master:
         yield "first", "00000400", moved(stage, master, 0x5A)
         yield "mirrored", "5a010400", moved(stage, master, 0xC3)
         yield "and again", "c3020400", moved(stage, master, 0)
@@ -344,7 +345,7 @@ def applications_act_behind_each_packet(stage):
 @case
 def applications_act_between_commands(stage):
     """A byte that is put by hand into inputs is read once: then the application puts its own."""
-    with controlled(stage, MOVING) as line, stage.master() as master:
+    with controlled(stage, MOVING, "--set-up") as line, stage.master() as master:
         yield "input", "ok\n", command(line, "mem 1 0x1100 77")
         yield "by hand", "00770400", moved(stage, master, 0x5A)
         yield "output", "ok\n", command(line, "mem 0 0x1000 11")
@@ -412,7 +413,7 @@ def unplugged_end_gets_nothing_until_it_speaks(stage):
 def inputs_and_states_move_between_two_packets(stage):
     read = bytes.fromhex("0d10 0a00 0000 0100 0100 0000 00 0000")
     scene = "slave 1\nsm 3 0x1100 1 read\nfmmu 0 0x10000 1 0 7 0x1100 0 read\n"
-    with controlled(stage, scene) as line, stage.master() as master:
+    with controlled(stage, scene, "--set-up") as line, stage.master() as master:
         yield "input", "ok\n", command(line, "mem 0 0x1100 5a")
         yield "answer", "0d100a0000000100010000005a0100", asked(master, stage.port, read)
         yield "state", "ok\n", command(line, "state 0x0001 8")
@@ -472,7 +473,7 @@ def service_under_commands_ends_after_its_packets(stage):
 @case
 def outputs_of_a_service_are_told(stage):
     write = bytes.fromhex("0d10 0500 0110 0010 0100 0000 c3 0000")
-    with stage.serve(SLAVE, "--packets", "1") as line, stage.master() as master:
+    with stage.serve(SLAVE, "--set-up", "--packets", "1") as line, stage.master() as master:
         yield "answer", "0d1005000110001001000000c30100", asked(master, stage.port, write)
         yield "end", "packets 1 frames 1 dropped 0\nslave 0 sm 2 open c3 shown c3\n0\n", line.end()
 
@@ -942,6 +943,38 @@ def a_master_without_room_for_numbers_sends_nothing(stage):
         yield "nothing sent", "[]", str(select.select([silent], [], [], 0)[0])
 
 
+def with_mailboxes(length):
+    """A slave with mailboxes of so many bytes, and an object that a master writes at its start."""
+    return (
+        f"slave 0x1001\nareas 1 1\nsm 0 0x1800 {length} mailbox-write\nsm 1 0x2000 {length} mailbox-read\n"
+        "sm 2 0x1000 1 write\nsm 3 0x1100 1 read\nfmmu 0 0x10000 1 0 7 0x1000 0 write\n"
+        "fmmu 1 0x10000 1 0 7 0x1100 0 read\nobject 0x2000 1 4 rw 0\nstartup 0x2000 1 78563412\n"
+        "lrw 0x10000 a1\n"
+    )
+
+
+@case
+def mailboxes_are_used_as_long_as_copies_have_room_for_numbers(stage):
+    """The longest one is written by a frame that is as long as one may be; a longer one is refused."""
+    for length in (129, 256, 1024, 1466):
+        scene = with_mailboxes(length)
+        with stage.serve(scene, "--forever") as _line:
+            stage.file("m", scene)
+            at = ("--at", both_ends(stage))
+            told = stage.ends("master", "m", *at, *PATIENCE, "--cycles", "2", "--leave", "op").splitlines()
+            yield f"{length}: written", "True", str("startup objects written" in told)
+            yield f"{length}: status", "0", told[-1]
+            value = stage.ends("sdo", "m", "0x1001", "0x2000", "1", *at)
+            yield f"{length}: read", "value 0x12345678\n0\n", value
+    with stage.master() as silent:
+        at = ("--at", f"127.0.0.1:{silent.getsockname()[1]}")
+        stage.file("m", with_mailboxes(1467))
+        wanted = "refused: NoRoom slave 0, its mailbox has 1467 bytes, 1466 at the most\n1\n"
+        yield "master", wanted, stage.ends("master", "m", *at, "--cycles", "1")
+        yield "nothing sent", "[]", str(select.select([silent], [], [], 0)[0])
+        yield "sdo", wanted, stage.ends("sdo", "m", "0x1001", "0x2000", "1", *at)
+
+
 @case
 def lint_names_items_without_room_for_a_number(stage):
     stage.file("m", reads((1466, 1467)))
@@ -1199,7 +1232,7 @@ def startup_objects_are_written_to_a_slave_that_came_back(stage):
 
 @case
 def a_line_elsewhere_is_asked(stage):
-    with stage.serve(MACHINE, "--control", stdin=subprocess.PIPE) as line:
+    with stage.serve(MACHINE, "--set-up", "--control", stdin=subprocess.PIPE) as line:
         stage.file("m", MACHINE)
         at = ("--at", both_ends(stage))
         wanted = "at A after 0, at B after 3\nwhole\n0\n"
@@ -1483,7 +1516,7 @@ def nobody_who_answers_a_scan_is_told(stage):
 def an_object_is_read_again_and_again(stage):
     """Each run begins with the same counter of mails, which a slave takes for the same mail: only a run that
     goes on asking has an answer then."""
-    with stage.serve(MACHINE, "--control", stdin=subprocess.PIPE) as line:
+    with stage.serve(MACHINE, "--set-up", "--control", stdin=subprocess.PIPE) as line:
         stage.file("m", MACHINE)
         words = ("sdo", "m", "0x1002", "0x1018", "2", "--at", both_ends(stage))
         init = "slave 0x1002 is in Init, where it takes no mail; Pre-Op is wanted"
@@ -1655,7 +1688,7 @@ def a_master_tells_a_terminal_of_each_second_anew(stage):
 @case
 def a_scan_waits_as_long_as_it_is_told(stage):
     """Each copy is late by more than what a scan waits that is not told."""
-    with controlled(stage, "slave 7\n") as line:
+    with controlled(stage, "slave 7\n", "--set-up") as line:
         for end in "AB":
             yield "late", "ok\n", command(line, f"late {end} 40 100000")
         yield "scan", "slaves 1\nring whole\nslave 0 station 0x0007 state Init\n0\n", stage.ends(
@@ -2163,7 +2196,7 @@ def a_cycle_that_takes_long_does_not_hurry_those_behind_it(stage):
 @case
 def an_error_of_a_slave_in_init_is_no_other_state(stage):
     """A slave that was asked for Op in Init shows an error there, and takes no mail all the same."""
-    with stage.serve(MACHINE, "--forever") as _line, stage.master() as master:
+    with stage.serve(MACHINE, "--set-up", "--forever") as _line, stage.master() as master:
         stage.file("m", MACHINE)
         asked(master, stage.port, bytes.fromhex("0e10 0500 0210 2001 0200 0000 0800 0000"))
         status = bytes.fromhex("1210 0400 0210 3001 0600 0000 000000000000 0000")
@@ -2171,6 +2204,84 @@ def an_error_of_a_slave_in_init_is_no_other_state(stage):
         words = ("sdo", "m", "0x1002", "0x1018", "2", "--at", both_ends(stage))
         init = "slave 0x1002 is in Init, where it takes no mail; Pre-Op is wanted"
         yield "sdo", f"fault NoAnswer\n{init}\n1\n", stage.ends(*words)
+
+
+# A slave that is set up: its station and alias, its state, and its first sync manager.
+SET_UP = (
+    "slave 0x1001\nalias 0x1234\nstate 4\nsm 0 0x1800 32 mailbox-write\nsm 1 0x1880 32 mailbox-read\n"
+    "fmmu 0 0x10000 1 0 7 0x1000 0 write\nmem 0x1100 5a\n"
+)
+
+
+@case
+def a_device_begins_as_one_that_was_just_switched_on(stage):
+    """It is in Init, has its alias and no station, no sync manager and no FMMU; with --set-up, and where it is
+    no device, it is as its scene sets it up. What is loaded is there."""
+    begins = {
+        (): ("00003412", "0100", "0000000000000000", "0000000000000000"),
+        ("--set-up",): ("01103412", "0400", "0018200006000100", "0000010001000007"),
+        ("--plain",): ("01100000", "0400", "0018200006000100", "0000010001000007"),
+    }
+    for words, (station, state, manager, fmmu) in begins.items():
+        with stage.serve(SET_UP, *words, "--packets", "5") as _line, stage.master() as master:
+            for name, address, wanted in (
+                ("station and alias", "1000", station),
+                ("state", "3001", state),
+                ("sync manager", "0008", manager),
+                ("FMMU", "0006", fmmu),
+                ("loaded", "0011", "5a"),
+            ):
+                count = len(wanted) // 2
+                head = f"{12 + count:02x}10 0100 0000 {address} {count:02x}00 0000"
+                packet = bytes.fromhex(head) + bytes(count + 2)
+                yield f"{name} {words}", f"{wanted}0100", asked(master, stage.port, packet)[24:]
+
+
+# What stands in an EEPROM: an alias, vendor 2, product 0x100, revision 0x10000, serial 7.
+EEPROM = bytes.fromhex("0000 0000 0000 0000 3412 0000 0000 3000 02000000 00010000 00000100 07000000")
+
+
+@case
+def eeproms_of_a_folder_are_those_of_the_slaves(stage):
+    """The second slave has a file, and tells its alias; the first one's EEPROM is made of the scene."""
+    os.mkdir(os.path.join(stage.folder, "of"))
+    with open(os.path.join(stage.folder, "of", "1.bin"), "wb") as file:
+        file.write(EEPROM)
+    line = "slave 0x1001\nsimple\nslave 0x1002\nsimple\nidentity 9 9 9 9\n"
+    with stage.serve(line, "--sii", "of", "--packets", "6") as _line, stage.master() as master:
+        for place, alias, vendor in (("0000", "0000", "a7ec0000"), ("ffff", "3412", "02000000")):
+            read = bytes.fromhex(f"0e10 0100 {place} 1200 0200 0000 0000 0000")
+            yield f"alias {place}", f"{alias}0100", asked(master, stage.port, read)[24:]
+            ask = bytes.fromhex(f"1210 0200 {place} 0205 0600 0000 0001 08000000 0000")
+            yield f"asked {place}", "0100", asked(master, stage.port, ask)[36:]
+            given = bytes.fromhex(f"1010 0100 {place} 0805 0400 0000 00000000 0000")
+            yield f"vendor {place}", f"{vendor}0100", asked(master, stage.port, given)[24:]
+
+
+@case
+def folders_without_eeproms_are_named(stage):
+    stage.file("s", "slave 0x1001\n")
+    words = ("serve", "s", "--port", str(stage.port), "--packets", "1", "--sii")
+    none = "no file of a slave of the line; 0.bin is that of the first one"
+    yield "no folder", f"sii: NoFile\nnone: {none}\n1\n", stage.ends(*words, "none")
+    os.makedirs(os.path.join(stage.folder, "of", "0.bin"))
+    yield "a folder", "file: Read\n3\n", stage.ends(*words, "of")
+    os.rmdir(os.path.join(stage.folder, "of", "0.bin"))
+    with open(os.path.join(stage.folder, "of", "0.bin"), "wb") as file:
+        file.write(bytes(0x20001))
+    yield "too long", "sii: TooLong\nof/0.bin: more than 131072 bytes\n1\n", stage.ends(*words, "of")
+
+
+@case
+def a_master_that_sets_up_no_mailbox_is_refused(stage):
+    """A device that was just switched on has none, and says so; one that its scene set up has."""
+    scene = SET_UP.replace("state 4\n", "")
+    to_pre_op = bytes.fromhex("0e10 0200 0000 2001 0200 0000 0200 0000")
+    status = bytes.fromhex("1210 0100 0000 3001 0600 0000 000000000000 0000")
+    for words, wanted in (((), "110000001600"), (("--set-up",), "020000000000")):
+        with stage.serve(scene, *words, "--packets", "2") as _line, stage.master() as master:
+            asked(master, stage.port, to_pre_op)
+            yield f"status {words}", wanted, asked(master, stage.port, status)[24:36]
 
 
 @case

@@ -3,11 +3,11 @@
  *
  *     ECAT=./ecat master [PORT [WAIT]]
  *
- * It starts `ecat serve scenes/serve/bench.scene --control`, a line of five slaves, breaks two of its links
- * while it cycles and mends them, and prints each change: the verdict, and where the cable is broken. With
- * WAIT, the milliseconds for which a copy is awaited, it prints each cycle, and its inputs. Run it at the top
- * of the repository. The status is 0 where the line was short for a while, and good at last. It is C11 and
- * C++17.
+ * It starts `ecat serve scenes/serve/bench.scene --control --set-up`, a line of five slaves in Op, breaks two
+ * of its links while it cycles and mends them, and prints each change: the verdict, and where the cable is
+ * broken. With WAIT, the milliseconds for which a copy is awaited, it prints each cycle, and its inputs. Run it
+ * at the top of the repository. The status is 0 where the line was short for a while, and good at last. It is
+ * C11 and C++17.
  */
 #ifndef _POSIX_C_SOURCE
 #define _POSIX_C_SOURCE 200809L
@@ -173,7 +173,7 @@ static void cycle(const int ports[2], char *told, size_t room) {
 static FILE *serve(int port) {
     char command[512];
     const char *program = getenv("ECAT");
-    snprintf(command, sizeof command, "%s serve scenes/serve/bench.scene --control --port %d >/dev/null",
+    snprintf(command, sizeof command, "%s serve scenes/serve/bench.scene --control --set-up --port %d >/dev/null",
              program ? program : "./ecat", port);
     FILE *line = popen(command, "w");
     if (!line)

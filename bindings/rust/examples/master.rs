@@ -2,11 +2,11 @@
 //!
 //!     cargo run --offline --manifest-path bindings/rust/Cargo.toml --example master [PORT [WAIT]]
 //!
-//! It starts `ecat serve scenes/serve/bench.scene --control` (`./ecat`, or what ECAT names), a line of five
-//! slaves, breaks two of its links while it cycles and mends them, and prints each change: the verdict, and
-//! where the cable is broken. With WAIT, the milliseconds for which a copy is awaited, it prints each cycle,
-//! and its inputs. Run it at the top of the repository. The status is 0 where the line was short for a while,
-//! and good at last.
+//! It starts `ecat serve scenes/serve/bench.scene --control --set-up` (`./ecat`, or what ECAT names), a line of
+//! five slaves in Op, breaks two of its links while it cycles and mends them, and prints each change: the
+//! verdict, and where the cable is broken. With WAIT, the milliseconds for which a copy is awaited, it prints
+//! each cycle, and its inputs. Run it at the top of the repository. The status is 0 where the line was short
+//! for a while, and good at last.
 
 use rummymaple::{frame, locate, open, seal, Cable, Cycle, Fault, Form, Item, Kind, State, Verdict};
 use std::fs::File;
@@ -132,7 +132,8 @@ fn find_break(ports: &mut Ports) -> Result<std::result::Result<Cable, Fault>> {
 /// The line: its standard input takes commands.
 fn serve(port: u16) -> Result<Child> {
     let program = std::env::var("ECAT").unwrap_or("./ecat".into());
-    let words = ["serve", "scenes/serve/bench.scene", "--control", "--port", &port.to_string()];
+    let scene = "scenes/serve/bench.scene";
+    let words = ["serve", scene, "--control", "--set-up", "--port", &port.to_string()];
     Command::new(program).args(words).stdin(Stdio::piped()).stdout(Stdio::null()).spawn()
 }
 
