@@ -162,12 +162,15 @@ udp_line = with_rules (new_app (codes "udp")) udp_words
 abbrev pub serve_words : List Rule
 serve_words = scene_rule ∷ port_rule
     ∷ option_rule (codes "N") (codes "packets") ∷ option_rule (codes "ADDRESS") (codes "bind")
-    ∷ flag_rule (codes "forever") ∷ flag_rule (codes "control") ∷ flag_rule (codes "log")
-    ∷ flag_rule (codes "plain") ∷ flag_rule (codes "set-up") ∷ option_rule (codes "FOLDER") (codes "sii")
-    ∷ raw_rule ∷ pcap_rule ∷ force_rule ∷ []
+    ∷ flag_rule (codes "forever") ∷ flag_rule (codes "control") ∷ flag_rule (codes "log") ∷ []
+
+-- what its slaves are, and where it lies
+abbrev pub device_words : List Rule
+device_words = flag_rule (codes "plain") ∷ flag_rule (codes "set-up")
+    ∷ option_rule (codes "FOLDER") (codes "sii") ∷ raw_rule ∷ pcap_rule ∷ force_rule ∷ []
 
 abbrev pub serve_line : App
-serve_line = with_rules (new_app (codes "serve")) serve_words
+serve_line = with_rules (with_rules (new_app (codes "serve")) serve_words) device_words
 
 -- `master SCENE [--at AT] [--raw RAW] [--cycles N] [--until-end] [--every MICROSECONDS] [--busy]
 -- [--limit LIMIT] [--late LATE] [--outputs OUTPUTS] [--log LOG] [--log-images] [--log-or-stop] [--stop]

@@ -9,7 +9,8 @@ ghost use Rattle.ecat_commands.specs.Commands.{needed_rule, option_rule, at_rule
 ghost use Rattle.ecat_commands.specs.Commands.{judge_rule, late_rule, limit_rule, pcap_rule, port_rule};
 ghost use Rattle.ecat_commands.specs.Commands.{raw_rule, check_line, cover_line, learn_line, lint_line};
 ghost use Rattle.ecat_commands.specs.Commands.{list_line, master_line, run_line, scan_line, sdo_line};
-ghost use Rattle.ecat_commands.specs.Commands.{serve_line, show_line, sweep_line, udp_line};
+ghost use Rattle.ecat_commands.specs.Commands.{device_words, serve_line, serve_words, show_line, sweep_line};
+ghost use Rattle.ecat_commands.specs.Commands.{udp_line};
 ghost use Rattle.ecat_commands.specs.Commands.{ecat_setup, vectors_line, where_line, with_rules};
 
 use crate::help;
@@ -322,35 +323,52 @@ fn serve<'a>(alloc: Global) -> Result<Command<'a>, AllocError>
     ensures { IfOk result (Builds serve_line) }
 {
     let about = "Puts the line of a scene on the network, behind UDP sockets";
+    let words = line_of_serve(alloc)?;
+    let serve = command(alloc, "serve", about, help::SERVE, words)?;
+    let devices = devices_of_serve(alloc)?;
+    more(serve, devices)
+}
+
+// The words of `serve` are made by some at a time, as those of `master` are: here `SCENE [--port P]
+// [--packets N] [--bind ADDRESS] [--forever] [--control] [--log]`.
+#[inline(never)]
+fn line_of_serve<'a>(alloc: Global) -> Result<Vec<Arg<'a>>, AllocError>
+    ensures { IfOk result (λ words. AreWords serve_words words.items) }
+{
     let packets =
         "After how many packets it ends, 1 to 4294967295; at the input's end if not given";
     let address = "The IPv4 address of both ends; 127.0.0.1 if not given, for this machine alone";
     let forever = "Leaves standard input alone, so that it serves on where that has ended";
     let control = "Reads commands to the line from standard input, while it serves";
-    let plain = "Leaves slaves that the scene does not call device without what devices tell";
-    let set_up = "Has devices begin as the scene sets them up, and not as just switched on";
-    let sii =
-        "A folder with what stands in the EEPROMs of devices: 0.bin of the first slave, 1.bin, ..";
-    let words = vec![in alloc;
+    let log = "Tells of each packet on standard error, a line each";
+    Ok(vec![in alloc;
         scene(alloc),
         port(alloc),
         option(alloc, "N", "packets", packets),
         option(alloc, "ADDRESS", "bind", address),
         flag(alloc, "forever", forever),
         flag(alloc, "control", control),
-        flag(
-            alloc,
-            "log",
-            "Tells of each packet on standard error, a line each",
-        ),
+        flag(alloc, "log", log),
+    ]?)
+}
+
+// `[--plain] [--set-up] [--sii FOLDER] [--raw RAW] [--pcap PCAP] [--force]`
+#[inline(never)]
+fn devices_of_serve<'a>(alloc: Global) -> Result<Vec<Arg<'a>>, AllocError>
+    ensures { IfOk result (λ words. AreWords device_words words.items) }
+{
+    let plain = "Leaves slaves that the scene does not call device without what devices tell";
+    let set_up = "Has devices begin as the scene sets them up, and not as just switched on";
+    let sii =
+        "A folder with what stands in the EEPROMs of devices: 0.bin of the first slave, 1.bin, ..";
+    Ok(vec![in alloc;
         flag(alloc, "plain", plain),
         flag(alloc, "set-up", set_up),
         option(alloc, "FOLDER", "sii", sii),
         raw(alloc),
         pcap(alloc),
         force(alloc),
-    ]?;
-    command(alloc, "serve", about, help::SERVE, words)
+    ]?)
 }
 
 // `master SCENE [--at AT] [--raw RAW] [--cycles N] [--until-end] [--every MICROSECONDS] [--busy]
