@@ -164,6 +164,35 @@ def service_ends_with_its_input(stage):
 
 
 @case
+def service_serving_a_service_tells_where_it_lies_and_what_came(stage):
+    """A cable is broken behind the slave, so that the frame leaves where it came in."""
+    mapped = "sm 2 0x1000 1 write\nfmmu 0 0x10000 1 0 7 0x1000 0 write\n"
+    scene = f"slave 0x1001\n{mapped}link 1 down\nlrw 0x10000 ff\n"
+    sent, back = "0d100b000000010001000000aa0000", "0d100b000000010001000000aa0100"
+    serving = f"serving A 127.0.0.1:{stage.port} B 127.0.0.1:{stage.port + 1}\n"
+    area = "slave 0 sm 2 open aa shown aa\n"
+    ended = "input: ended; with --forever or --packets N it is left alone\n"
+    for words in ((), ("--packets", "1"), ("--packets", "2", "--log")):
+        with stage.serve(scene, "--set-up", *words, stdin=subprocess.PIPE) as line, stage.master() as master:
+            yield "where", serving, line.first
+            yield "answer", back, asked(master, stage.port, bytes.fromhex(sent))
+            told = "packets 2 frames 1 dropped 1\n" + area
+            if words[1:] == ("1",):
+                told = "packets 1 frames 1 dropped 0\n" + area
+            else:
+                master.sendto(bytes.fromhex(sent[:6]), ("127.0.0.1", stage.port))
+            if not words:
+                told += ended
+            if "--log" in words:
+                told += f"speaker A 127.0.0.1:{master.getsockname()[1]}\n"
+                told += "packet 0 A size 15 frame LWR log 00010000 length 1 counter 0>1 left A\n"
+                told += "packet 1 A size 3 dropped Short at 3\n"
+            line.process.stdin.close()
+            line.process.stdin = None
+            yield "end", told + "0\n", line.end()
+
+
+@case
 def service_goes_on_forever_without_an_input(stage):
     with stage.serve("slave 1\n", "--forever") as line, stage.master() as master:
         for _ in range(2):
@@ -623,6 +652,22 @@ def faults_of_standard_error_are_passed_over(stage):
 @case
 def words_that_are_no_text_are_bad(stage):
     yield "end", "argument: BadNumber\n2\n", stage.ends("run", b"\xff")
+
+
+@case
+def args_numbers_other_forms_are_bad_numbers_with_spaces(stage):
+    """Words that no line of a file gives: empty ones, and ones with a space."""
+    of = "it wants 0 to 65535, as decimal digits or as 0x and hexadecimal ones"
+    small = of.replace("65535", "255")
+    value = "it wants 0x and 2, 4 or 8 hexadecimal digits"
+    for place, (name, wants) in enumerate((("STATION", of), ("INDEX", of), ("SUB", small), ("VALUE", value))):
+        for word in ("", " 1", "1 ") if place < 3 else ("",):
+            words = ["1", "1", "1"] if place == 3 else ["0", "0", "0"]
+            words[place:place + 1] = [word]
+            told = f'argument: BadNumber\n{name} is "{word}"; {wants}\n2\n'
+            yield f"{name} {word!r}", told, stage.ends("sdo", "a.scene", *words)
+    told = 'argument: BadNumber\n--bind is " 1.2.3.4"; it wants an IPv4 address, as 127.0.0.1\n2\n'
+    yield "--bind", told, stage.ends("serve", "a.scene", "--bind", " 1.2.3.4")
 
 
 @case
@@ -2454,3 +2499,269 @@ def a_scene_that_is_learned_has_as_many_objects_as_it_has_room_for(stage):
         yield f"{slaves} slaves", str((65536, comments, [32] * slaves)), str(learned(slaves, room))
         yield f"{slaves} slaves, a byte more", str((False, fewer)), str(learned(slaves, room + 1)[1:])
     yield "64 slaves", str((False, [32] * 59 + [0] * 5)), str(learned(64, 0)[1:])
+
+
+# A line of two slaves whose stations a frame asks for: as it is sent, as both answer it, and as the first one
+# alone does; and a packet that is no frame.
+TWO_SLAVES = "slave 0x1001\nslave 0x1002\n"
+STATIONS = bytes.fromhex("0e10 0707 0000 1000 0200 0000 0000 0000")
+BY_BOTH = "0e100707020010000200000003100200"
+BY_FIRST = "0e100707010010000200000001100100"
+NO_FRAME = b"\xff" * 16
+
+
+class Peers:
+    """Those who speak to the ends of a line, and what each step brings them: a command, or a packet that
+    somebody sends to an end. A packet that waits is served before the command behind it."""
+
+    def __init__(self, stage, line, count):
+        self.stage, self.line, self.masters = stage, line, [stage.master() for _ in range(count)]
+
+    def __enter__(self):
+        return self
+
+    def __exit__(self, *_fault):
+        for master in self.masters:
+            master.close()
+
+    def send(self, end, peer, packet=STATIONS):
+        self.masters[peer - 1].sendto(packet, ("127.0.0.1", self.stage.port + "AB".index(end)))
+
+    def served(self):
+        """Waits until the service has seen to what was sent, and answers its counts."""
+        counts = command(self.line, "counts")
+        self.line.line()
+        return counts.split(maxsplit=1)[1].rstrip("\n")
+
+    def heard(self):
+        """What has come by now: from which end, to whom, and its bytes."""
+        told = []
+        for number, master in enumerate(self.masters, 1):
+            while select.select([master], [], [], 0)[0]:
+                packet, (_, port) = master.recvfrom(2000)
+                told.append(f"{'AB'[port - self.stage.port]} {number} {packet.hex()}")
+        return " ".join(told)
+
+    def step(self, *words):
+        """What comes of a command, or of a packet at an end from somebody."""
+        if len(words) == 1:
+            return command(self.line, words[0])
+        self.send(*words)
+        self.served()
+        return self.heard()
+
+    def port(self, peer):
+        return self.masters[peer - 1].getsockname()[1]
+
+    @contextlib.contextmanager
+    def at_once(self):
+        """What is sent in this block comes while the service stands still."""
+        self.line.process.send_signal(signal.SIGSTOP)
+        yield
+        self.line.process.send_signal(signal.SIGCONT)
+
+
+@contextlib.contextmanager
+def spoken_to(stage, scene, count, *words):
+    """Serves a scene under commands, to whose ends so many speak."""
+    with controlled(stage, scene, "--set-up", *words) as line, Peers(stage, line, count) as peers:
+        yield line, peers
+
+
+@case
+def log_lines_a_line_for_each_packet(stage):
+    two = "1910 0c07 00000100 0180 0000 00 0000 0208 ffff2001 0000 0000 0000"
+    ethernet = bytes.fromhex(f"ffffffffffff 020000000001 88a4 {two}")
+    with spoken_to(stage, "slave 0x1001\n", 3, "--log") as (line, peers):
+        peers.step("A", 1, ASKED)
+        peers.step("A", 2, ASKED + b"\0")
+        peers.step("B", 3, ethernet)
+        peers.step("A", 1, b"")
+        yield "quit", "ok\n", peers.step("quit")
+        told = ["packets 4 frames 1 dropped 3", f"speaker A 127.0.0.1:{peers.port(1)}"]
+        told += ["packet 0 A size 16 frame BRD adp 0000 ado 0130 length 2 counter 0>1 left A"]
+        told += ["packet 1 A size 17 dropped Trailing at 16 padded"]
+        told += ["packet 2 B size 41 dropped BadType at 1 ethernet", "packet 3 A size 0 dropped Short at 0"]
+        yield "end", "\n".join(told + ["0", ""]), line.end()
+
+
+@case
+def log_lines_each_datagram_is_told(stage):
+    two = bytes.fromhex("1910 0c07 00000100 0180 0000 00 0000 0208 ffff2001 0000 0000 0000")
+    with spoken_to(stage, "slave 0x1001\n", 1, "--log") as (line, peers):
+        yield "answer", "", peers.step("B", 1, two)
+        yield "quit", "ok\n", peers.step("quit")
+        told = ["packets 1 frames 1 dropped 0", f"speaker B 127.0.0.1:{peers.port(1)}"]
+        told += ["packet 0 B size 27 frame LRW log 00010000 length 1 counter 0>0, "
+                 "APWR adp ffff ado 0120 length 0 counter 0>0 nobody at A"]
+        yield "end", "\n".join(told + ["0", ""]), line.end()
+
+
+@case
+def log_lines_a_new_speaker_is_told_and_so_is_what_is_lost(stage):
+    frame = "A size 16 frame BRD adp 0000 ado 0130 length 2 counter 0>"
+    with spoken_to(stage, "slave 0x1001\n", 2, "--log") as (line, peers):
+        yield "lose", "ok\n", peers.step("lose A 1")
+        yield "lost", "", peers.step("A", 1, ASKED)
+        yield "left", f"A 2 {ONE}", peers.step("A", 2, ASKED)
+        for text in ("unplug A", "link 0 down"):
+            yield text, "ok\n", peers.step(text)
+        yield "nowhere", "", peers.step("A", 2, ASKED)
+        yield "quit", "ok\n", peers.step("quit")
+        other = f"speaker A 127.0.0.1:{peers.port(2)}"
+        told = ["packets 3 frames 3 dropped 0", f"speaker A 127.0.0.1:{peers.port(1)}"]
+        told += [f"packet 0 {frame}1 lost at A", other, f"packet 1 {frame}1 left A"]
+        told += [other, f"packet 2 {frame}- left nowhere"]
+        yield "end", "\n".join(told + ["0", ""]), line.end()
+
+
+@case
+def log_lines_a_fault_of_the_writer_is_passed_over(stage):
+    with open("/dev/full", "wb") as full:
+        with stage.serve("slave 0x1001\n", "--log", "--packets", "2", stderr=full) as line:
+            with stage.master() as master:
+                yield "answer", ONE, asked(master, stage.port)
+                master.sendto(ASKED + b"\0", ("127.0.0.1", stage.port))
+                yield "end", "packets 2 frames 1 dropped 1\n0\n", line.end()
+
+
+@case
+def serve_real_a_frame_gets_its_answer_and_rubbish_none(stage):
+    with spoken_to(stage, TWO_SLAVES, 1) as (_line, peers):
+        with peers.at_once():
+            peers.send("A", 1, NO_FRAME)
+            peers.send("A", 1)
+        yield "counts", "2 frames 1 dropped 1", peers.served()
+        yield "heard", f"A 1 {BY_BOTH}", peers.heard()
+
+
+@case
+def serve_real_frames_at_both_ends_take_turns(stage):
+    with spoken_to(stage, TWO_SLAVES + "link 1 down\n", 2, "--log") as (line, peers):
+        with peers.at_once():
+            peers.send("A", 1)
+            peers.send("A", 1)
+            peers.send("B", 2, NO_FRAME)
+        yield "counts", "3 frames 2 dropped 1", peers.served()
+        yield "heard", f"A 1 {BY_FIRST} A 1 {BY_FIRST}", peers.heard()
+        yield "quit", "ok\n", peers.step("quit")
+        yield "turns", "A B A", " ".join(re.findall(r"^packet \d (.)", line.end(), re.M))
+
+
+@case
+def serve_real_ends_lie_where_they_are_asked_for_or_nowhere(stage):
+    with spoken_to(stage, TWO_SLAVES, 0) as (line, _peers):
+        words = ("serve", "s", "--port", str(stage.port))
+        yield "a port is bound once", unbound(stage.port), stage.ends(*words)
+        here = f"serving A 127.0.0.2:{stage.port} B 127.0.0.2:{stage.port + 1}\n"
+        ended = "packets 0 frames 0 dropped 0\n"
+        ended += "input: ended; with --forever or --packets N it is left alone\n0\n"
+        yield "at another address", here + ended, stage.ends(*words, "--bind", "127.0.0.2")
+        yield "at that of another machine", "socket: Bind\n", stage.ends(*words, "--bind", "192.0.2.1")[:13]
+        for port in ("0", "65535"):
+            yield port, "argument: BadNumber\n", stage.ends("serve", "s", "--port", port)[:20]
+        yield "the first one", "ok\n", command(line, "quit")
+
+
+@case
+def serve_waiting_the_ends_wait_and_tell_what_came_in_turn(stage):
+    with spoken_to(stage, TWO_SLAVES, 2, "--log") as (line, peers):
+        yield "from A, at A", f"A 1 {BY_BOTH}", peers.step("A", 1)
+        yield "from B, at A", f"A 1 {STATIONS.hex()}", peers.step("B", 2)
+        yield "from A, at B", f"B 2 {BY_BOTH}", peers.step("A", 1)
+        for port in (stage.port, stage.port + 1):
+            with socket.socket(type=socket.SOCK_DGRAM) as beside:
+                beside.bind(("127.0.0.2", port))
+        # where both have something, the end that was served last is served last
+        for ends in ("B", "AB", "A", "AB"):
+            with peers.at_once():
+                for end in ends:
+                    peers.send(end, "AB".index(end) + 1, NO_FRAME)
+            peers.served()
+        yield "quit", "ok\n", peers.step("quit")
+        yield "turns", "A B A B A B A B A", " ".join(re.findall(r"^packet \d (.)", line.end(), re.M))
+
+
+@case
+def serve_waiting_the_ends_wait_and_tell_what_came_in_turn_before_the_input_ends(stage):
+    with stage.serve(TWO_SLAVES, "--set-up", stdin=subprocess.PIPE) as line, stage.master() as master:
+        line.process.stdin.write(b"\n" * 1000)
+        yield "answer", BY_BOTH, asked(master, stage.port, STATIONS)
+        line.process.send_signal(signal.SIGSTOP)
+        line.process.stdin.close()
+        line.process.stdin = None
+        for port in (stage.port, stage.port + 1):
+            master.sendto(STATIONS, ("127.0.0.1", port))
+        line.process.send_signal(signal.SIGCONT)
+        told = "input: ended; with --forever or --packets N it is left alone\n0\n"
+        yield "end", "packets 3 frames 3 dropped 0\n" + told, line.end()
+
+
+@case
+def serve_waiting_the_ends_wait_and_tell_what_came_in_turn_where_one_cannot_wait(stage):
+    stage.file("input", "one\n")
+    with open(os.path.join(stage.folder, "input"), "rb") as file:
+        with stage.serve(TWO_SLAVES, stdin=file) as line:
+            told = "input: ended; with --forever or --packets N it is left alone\n0\n"
+            yield "end", "packets 0 frames 0 dropped 0\n" + told, line.end()
+
+
+@case
+def serve_console_lines_come_beside_packets(stage):
+    with spoken_to(stage, TWO_SLAVES, 1) as (line, peers):
+        with peers.at_once():
+            for _ in range(34):
+                peers.send("A", 1, NO_FRAME)
+            line.process.stdin.write(b"counts\n")
+        yield "after 32 packets", "packets 32 frames 0 dropped 32\n", line.line()
+        yield "ok", "ok\n", line.line()
+        yield "all of them", "34 frames 0 dropped 34", peers.served()
+        line.process.stdin.write(b"one\ntwo\nthr")
+        line.process.stdin.close()
+        line.process.stdin = None
+        counts = "packets 34 frames 0 dropped 34\n0\n"
+        yield "lines", 3 * f"{REFUSED_WORD}\n" + counts, line.end()
+    stage.file("commands", "one\n")
+    with open(os.path.join(stage.folder, "commands"), "rb") as commands:
+        with stage.serve(TWO_SLAVES, "--control", stdin=commands) as line:
+            yield "of a file", f"{REFUSED_WORD}\npackets 0 frames 0 dropped 0\n0\n", line.end()
+
+
+@case
+def serve_bench_a_line_is_worked_on_between_its_packets(stage):
+    whole_at_a, whole_at_b = f"A 1 {BY_BOTH}", f"B 2 {BY_BOTH}"
+    no_link = "refused: OutOfRange, wanted a link of the line, 0 to its number of slaves\n"
+    rows = {
+        "a cable breaks and is mended": [
+            ("A", 1, whole_at_a), ("link 1 down", "ok\n"), ("A", 1, f"A 1 {BY_FIRST}"),
+            ("link 3 down", no_link), ("link 1 up", "ok\n"), ("A", 1, whole_at_a),
+        ],
+        # where nobody has spoken at end B yet, the answer comes back to end A; later it arrives at end B
+        "so many copies are lost at an end and no more": [
+            ("lose A 1", "ok\n"), ("lose A 1", "ok\n"), ("lose B 1", "ok\n"), ("A", 1, ""),
+            ("B", 2, ""), ("B", 2, f"A 1 {STATIONS.hex()}"), ("A", 1, ""), ("A", 1, whole_at_b),
+        ],
+        "at an unplugged end nobody has spoken": [
+            ("B", 2, ""), ("A", 1, whole_at_b), ("unplug B", "ok\n"), ("A", 1, whole_at_a),
+            ("unplug A", "ok\n"), ("B", 2, ""),
+        ],
+    }
+    for name, steps in rows.items():
+        with spoken_to(stage, TWO_SLAVES, 2) as (_line, peers):
+            for *words, wanted in steps:
+                yield name, wanted, peers.step(*words)
+
+
+@case
+def serve_applications_a_counter_counts_each_packet_also_one_that_is_dropped(stage):
+    def inputs(station, counter, data):
+        return f"0e100400{station}10001102000000{data}{counter}"
+
+    scene = TWO_SLAVES + "sm 3 0x1100 2 read\ncount 3\n"
+    with spoken_to(stage, scene, 1) as (_line, peers):
+        yield "a packet", f"A 1 {BY_BOTH}", peers.step("A", 1)
+        yield "one that is dropped", "", peers.step("A", 1, NO_FRAME)
+        rows = {"behind two": ("02", "0200"), "behind three": ("02", "0300"), "another slave": ("01", "0000")}
+        for name, (station, data) in rows.items():
+            read = bytes.fromhex(inputs(station, "0000", "0000"))
+            yield name, f"A 1 {inputs(station, '0100', data)}", peers.step("A", 1, read)

@@ -1,14 +1,11 @@
 //! Rows of command lines, and what they give.
 mod door;
-mod explain;
 mod lines;
 mod memory;
-mod numbers;
 
 use clap::error::ErrorKind;
 use ecat_args::{Args, ArgsFault};
 use std::alloc::{AllocError, Global};
-use std::fmt::Debug;
 use std::process::Abort;
 
 /// A fault, with the kind alone of clap's error.
@@ -29,13 +26,11 @@ fn read<'a>(alloc: Global, words: &'a [&'a str]) -> Result<Args<'a>, Refusal> {
     }
 }
 
-/// The words of a line behind the program's name, with `tried` in the place of a question mark.
-fn words_of<'a>(alloc: Global, line: &'a str, tried: &'a str) -> Result<Vec<&'a str>, AllocError> {
+/// The words of a line behind the program's name.
+fn words_of(alloc: Global, line: &str) -> Result<Vec<&str>, AllocError> {
     let mut words = vec![in alloc; "ecat"]?;
     for word in line.split(' ') {
-        if word == "?" {
-            words.push(tried)?;
-        } else if !word.is_empty() {
+        if !word.is_empty() {
             words.push(word)?;
         }
     }
@@ -43,8 +38,8 @@ fn words_of<'a>(alloc: Global, line: &'a str, tried: &'a str) -> Result<Vec<&'a 
 }
 
 /// What such words give, as `Debug` writes it.
-fn told<'a>(alloc: Global, line: &'a str, tried: &'a str) -> Result<String, AllocError> {
-    let words = words_of(alloc, line, tried)?;
+fn told(alloc: Global, line: &str) -> Result<String, AllocError> {
+    let words = words_of(alloc, line)?;
     let answer = read(alloc, words.as_slice());
     format!(in alloc; "{answer:?}")
 }
@@ -53,18 +48,7 @@ fn told<'a>(alloc: Global, line: &'a str, tried: &'a str) -> Result<String, Allo
 fn assert_rows(rt: &impl Abort, alloc: Global, rows: &str) {
     for row in rows.split('\n') {
         let (line, wanted) = row.split_once('|').expect(rt, "a bar");
-        let found = told(alloc, line, "").expect(rt, "memory");
+        let found = told(alloc, line).expect(rt, "memory");
         assert!(rt; found.as_str() == wanted.trim(), "{row}: {found}");
-    }
-}
-
-/// Asserts that each of these words is a bad number where a line has its question mark.
-fn assert_bad_numbers(rt: &impl Abort, alloc: Global, line: &str, tried: &[&str]) {
-    for word in tried {
-        let found = told(alloc, line, word).expect(rt, "memory");
-        assert!(rt;
-            found.as_str() == "Err(BadNumber)",
-            "{line}: \"{word}\": {found}"
-        );
     }
 }

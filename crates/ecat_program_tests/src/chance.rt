@@ -48,13 +48,4 @@ impl Chance {
     pub(crate) fn byte(&mut self, numbers: &[u32]) -> u8 {
         self.one_of(numbers).min(0xff) as u8
     }
-
-    /// One of these texts; none where there is none.
-    pub(crate) fn text_of(&mut self, texts: &[&'static str]) -> &'static str {
-        let count = (texts.len() as u64).max(1);
-        match texts.get((self.draw() % count) as usize) {
-            Some(text) => *text,
-            None => "",
-        }
-    }
 }

@@ -1,4 +1,4 @@
-//! A line that is served: in memory, where a call may fail, and over real sockets.
+//! A line that is served, in memory, where a call may fail; and ends at real sockets, whose input fails.
 
 /// A packet in memory: the end, who is there by his number, and the name of its bytes.
 macro_rules! packet {
@@ -11,18 +11,11 @@ macro_rules! packet {
     };
 }
 
-mod applications;
-mod bench;
 mod cables;
 mod commands;
-mod console;
 mod disturbed;
 mod faults;
-mod input;
 mod line;
 mod memory;
 mod packets;
-mod real;
-mod speaking;
-mod stage;
-mod waiting;
+mod reads;

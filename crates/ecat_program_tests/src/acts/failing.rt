@@ -1,71 +1,17 @@
 //! Writes that fail, each in turn, and what is told of each failure.
 
-ghost use Rattle.std.specs.Prelude.{◌≡◌, None};
-
-use super::{ROOM, written};
-use ec_master::PortFault;
+use super::packets::{Fake, Way};
+use crate::outputs::{ROOM, Stops, written};
+use crate::reading::EXAMPLE;
 use ec_run::{ImageFault, ImagesFault};
-use ec_wire::PACKET_ROOM;
 use ecat_acts::failure::{Failure, report, unbound};
 use ecat_acts::udp::{act_udp, prepare_udp};
 use ecat_scene::{LineFault, Scene, SceneFault};
 use ecat_serve::BindFault;
 use ecat_setup::LineFailure;
 use ecat_source::PcapFault;
-use ecat_udp::{PacketLine, Socket};
-use std::io::{self, Cursor, Write};
+use std::io::Cursor;
 use std::process::Abort;
-
-/// Two slaves with a broken cable between them; what `run` prints of them is three lines.
-const EXAMPLE: &[u8] = b"slave 0x1001\nstate 8\nsm 2 0x1000 1 write\nsm 3 0x1100 1 read\n\
-    fmmu 0 0x10000 1 0 7 0x1000 0 write\nfmmu 1 0x10000 1 0 7 0x1100 0 read\nmem 0x1100 12\n\
-    slave 0x1002\nstate 4\nlink 1 down\nlrw 0x10000 ff\nbrd 0x0130 0000\n";
-
-/// An output whose write after so many fails.
-#[derive(Drop)]
-struct Stops {
-    left: usize,
-}
-
-impl Write for Stops {
-    fn write(&mut self, bytes: &[u8]) -> io::Result<usize> {
-        if self.left == 0 {
-            return Err(io::Error::from(io::ErrorKind::BrokenPipe));
-        }
-        self.left -= 1;
-        Ok(bytes.len())
-    }
-
-    fn flush(&mut self) -> io::Result<()> {
-        Ok(())
-    }
-}
-
-/// A line over which no packet comes.
-#[derive(Drop)]
-struct Silent;
-
-impl PacketLine for Silent {
-    ghost failed = { λ line. 0 };
-
-    ghost gives = { λ before at packet later. packet ≡ None };
-
-    fn send(&mut self, _from: Socket, _to: Socket, _bytes: &[u8]) -> Result<(), PortFault> {
-        Ok(())
-    }
-
-    fn receive(
-        &mut self,
-        _at: Socket,
-        _into: &mut [u8; PACKET_ROOM],
-    ) -> Result<Option<usize>, PortFault> {
-        Ok(None)
-    }
-
-    fn failures(&self) -> u64 {
-        0
-    }
-}
 
 #[test]
 fn each_write_that_fails_ends_a_cycle_over_packets(rt: HostRuntime) {
@@ -74,7 +20,10 @@ fn each_write_that_fails_ends_a_cycle_over_packets(rt: HostRuntime) {
         let mut out = Stops { left: writes };
         let scene = Scene::read(rt.alloc(), EXAMPLE);
         let answer = match prepare_udp(rt.alloc(), scene, &mut out, &mut err) {
-            Ok(prepared) => act_udp(prepared, false, Silent, &mut out, &mut err),
+            Ok(prepared) => {
+                let line = Fake::new(Way::Loses);
+                act_udp(prepared, false, line, &mut out, &mut err)
+            }
             Err(status) => status,
         };
         assert_eq!(rt; answer, 3, "write {writes}");

@@ -1,6 +1,5 @@
 //! The commands, and lines that are none of them.
 use super::{Refusal, assert_rows, read};
-use crate::asserts::assert_same;
 use clap::error::ErrorKind;
 
 /// The commands that do no cycle by sockets: with their words, and with what may be asked beside them.
@@ -174,6 +173,73 @@ serve a.scene --pcap a.pcap --force | \
     control: false, log: false, plain: false, \
     set_up: false, sii: None, raw: None, pcap: Some(\"a.pcap\"), force: true } })";
 
+/// The digits of a value give its size.
+const VALUES: &str = "\
+sdo a.scene 1 1 1 0x02 | \
+    Ok(Scene { path: \"a.scene\", command: Sdo { station: 1, index: 1, sub: 1, value: Some(One(2)), \
+    surely: false, once: false, at: None, raw: None } })
+sdo a.scene 1 1 1 0xFf | \
+    Ok(Scene { path: \"a.scene\", command: Sdo { station: 1, index: 1, sub: 1, value: Some(One(255)), \
+    surely: false, once: false, at: None, raw: None } })
+sdo a.scene 1 1 1 0x0002 | \
+    Ok(Scene { path: \"a.scene\", command: Sdo { station: 1, index: 1, sub: 1, value: Some(Two(2)), \
+    surely: false, once: false, at: None, raw: None } })
+sdo a.scene 1 1 1 0xABcd | \
+    Ok(Scene { path: \"a.scene\", command: Sdo { station: 1, index: 1, sub: 1, value: Some(Two(43981)), \
+    surely: false, once: false, at: None, raw: None } })
+sdo a.scene 1 1 1 0x00000002 | \
+    Ok(Scene { path: \"a.scene\", command: Sdo { station: 1, index: 1, sub: 1, value: Some(Four(2)), \
+    surely: false, once: false, at: None, raw: None } })
+sdo a.scene 1 1 1 0xffffffff | \
+    Ok(Scene { path: \"a.scene\", command: Sdo { station: 1, index: 1, sub: 1, \
+    value: Some(Four(4294967295)), surely: false, \
+    once: false, at: None, raw: None } })";
+
+/// Numbers at the ends of their ranges: ports from 1024 to 65534, packets from 1 to 4294967295, addresses of
+/// four decimal numbers. What is a bad number is told by the program, and so is what an object's are.
+const ENDS: &str = "\
+udp a.scene --port 1024 | Ok(Scene { path: \"a.scene\", command: Udp { port: 1024, judge: false, \
+    pcap: None, force: false } })
+udp a.scene --port 65534 | \
+    Ok(Scene { path: \"a.scene\", command: Udp { port: 65534, judge: false, pcap: None, force: false } })
+udp a.scene --port 0xfffe | \
+    Ok(Scene { path: \"a.scene\", command: Udp { port: 65534, judge: false, pcap: None, force: false } })
+serve a.scene --port 1024 | \
+    Ok(Scene { path: \"a.scene\", command: Serve { port: 1024, packets: None, address: 127.0.0.1, \
+    forever: false, \
+    control: false, log: false, plain: false, \
+    set_up: false, sii: None, raw: None, pcap: None, force: false } })
+serve a.scene --port 0xfffe | \
+    Ok(Scene { path: \"a.scene\", command: Serve { port: 65534, packets: None, address: 127.0.0.1, \
+    forever: false, \
+    control: false, log: false, plain: false, \
+    set_up: false, sii: None, raw: None, pcap: None, force: false } })
+serve a.scene --packets 1 | \
+    Ok(Scene { path: \"a.scene\", command: Serve { port: 34980, packets: Some(1), address: 127.0.0.1, \
+    forever: false, \
+    control: false, log: false, plain: false, \
+    set_up: false, sii: None, raw: None, pcap: None, force: false } })
+serve a.scene --packets 4294967295 | \
+    Ok(Scene { path: \"a.scene\", command: Serve { port: 34980, packets: Some(4294967295), \
+    address: 127.0.0.1, \
+    forever: false, control: false, log: false, plain: false, \
+    set_up: false, sii: None, raw: None, pcap: None, force: false } })
+serve a.scene --packets 0xffffffff | \
+    Ok(Scene { path: \"a.scene\", command: Serve { port: 34980, packets: Some(4294967295), \
+    address: 127.0.0.1, \
+    forever: false, control: false, log: false, plain: false, \
+    set_up: false, sii: None, raw: None, pcap: None, force: false } })
+serve a.scene --bind 0.0.0.0 | \
+    Ok(Scene { path: \"a.scene\", command: Serve { port: 34980, packets: None, address: 0.0.0.0, \
+    forever: false, \
+    control: false, log: false, plain: false, \
+    set_up: false, sii: None, raw: None, pcap: None, force: false } })
+serve a.scene --bind 255.10.9.1 | \
+    Ok(Scene { path: \"a.scene\", command: Serve { port: 34980, packets: None, address: 255.10.9.1, \
+    forever: false, \
+    control: false, log: false, plain: false, \
+    set_up: false, sii: None, raw: None, pcap: None, force: false } })";
+
 /// A flag has no value, is given once and to some commands alone; an option has a value.
 const FLAGS: &str = "\
 run a.scene --judge=true | Err(Line(TooManyValues))
@@ -217,8 +283,8 @@ serve s --packets 1 --packets 2 | Err(Line(ArgumentConflict))";
 #[test]
 fn each_line_gives_its_answer(rt: HostRuntime) {
     let missing = Some(Refusal::Line(ErrorKind::MissingSubcommand));
-    assert_same(&rt, read(rt.alloc(), &[]).err(), missing);
-    for rows in [COMMANDS, CYCLES, SERVED, FLAGS, CALLS, COUNTS] {
+    assert!(rt; read(rt.alloc(), &[]).err() == missing);
+    for rows in [COMMANDS, CYCLES, SERVED, VALUES, ENDS, FLAGS, CALLS, COUNTS] {
         assert_rows(&rt, rt.alloc(), rows);
     }
 }

@@ -4,30 +4,38 @@
 ghost use Rattle.std.specs.Prelude.{◌<◌};
 ghost use Rattle.ec_regs.specs.declared.registers.TheConstants.{FMMU_COUNT};
 
-use super::{assert_alike, is_want_of_memory};
+use super::assert_alike;
 use crate::chance::Chance;
-use crate::reading::scene_of;
-use crate::scenes::mapped::{BITS, LENGTHS, LOGICAL, Mapping, PHYSICAL};
 use ec_app::{Objects, Slave};
 use ec_check::{Mapped, Records};
 use ec_regs::{AlState, Fmmu, SyncMan};
 use ec_wire::{Kind, address_of};
 use ecat_scene::{FmmuSetting, SceneSlave, Setting, SlaveKind, SyncManSetting};
 use ecat_setup::{LineFailure, records_of, slaves_of};
-use ecat_source::Bytes;
 use std::alloc::{AllocError, Global};
 use std::process::Abort;
 
-/// How many scenes are made as texts, and how many slaves each has.
-const SCENES: usize = 30;
+/// Logical addresses, at the ends of their range and close to each other.
+const LOGICAL: [u32; 8] = [0, 1, 7, 0x10000, 0x10001, 0x10002, 0xffff_fffe, 0xffff_ffff];
+
+/// Lengths of areas and of what FMMUs map.
+const LENGTHS: [u32; 8] = [0, 1, 2, 3, 4, 8, 0x1000, 0xffff];
+
+/// Bits, those of a byte and others.
+const BITS: [u32; 8] = [0, 7, 0, 7, 1, 6, 8, 255];
+
+/// Physical addresses, at the ends of registers, of process memory and of their range.
+const PHYSICAL: [u32; 9] = [
+    0, 0x0fff, 0x1000, 0x1001, 0x1100, 0x2fff, 0x3000, 0xfffe, 0xffff,
+];
+
+/// How many lines are made.
+const LINES: usize = 50;
 
 /// How many slaves each of them has.
 const SLAVES: u32 = 4;
 
-/// How many lines are made without a text.
-const LINES: usize = 20;
-
-/// How many settings a slave has at most.
+/// How many settings each slave has.
 const SETTINGS: u32 = 14;
 
 /// How many requests are asked of what each FMMU and each sync manager maps.
@@ -167,46 +175,33 @@ fn any_byte(chance: &mut Chance) -> u8 {
     }
 }
 
-/// An FMMU with any fields, active or not and of any type.
-fn any_fmmu(chance: &mut Chance) -> Fmmu {
-    Fmmu {
-        logical: chance.one_of(&LOGICAL),
-        length: chance.word(&LENGTHS),
-        start: chance.byte(&BITS),
-        stop: chance.byte(&BITS),
-        physical: chance.word(&PHYSICAL),
-        bit: chance.byte(&BITS),
-        kind: chance.below(5) as u8,
-        activate: any_byte(chance),
-        reserved: [0, any_byte(chance), 0xa5],
+/// A setting of a record with any fields: an FMMU, active or not and of any type, or a sync manager, also
+/// with a status.
+fn any_setting(chance: &mut Chance) -> Setting {
+    let index = chance.below(8) as usize;
+    if chance.below(2) == 0 {
+        let record = Fmmu {
+            logical: chance.one_of(&LOGICAL),
+            length: chance.word(&LENGTHS),
+            start: chance.byte(&BITS),
+            stop: chance.byte(&BITS),
+            physical: chance.word(&PHYSICAL),
+            bit: chance.byte(&BITS),
+            kind: chance.below(5) as u8,
+            activate: any_byte(chance),
+            reserved: [0, any_byte(chance), 0xa5],
+        };
+        return Setting::Fmmu(FmmuSetting { index, record });
     }
-}
-
-/// A sync manager with any fields, also with a status.
-fn any_manager(chance: &mut Chance) -> SyncMan {
-    SyncMan {
+    let record = SyncMan {
         start: chance.word(&PHYSICAL),
         length: chance.word(&LENGTHS),
         control: chance.below(16) as u8,
         status: any_byte(chance),
         activate: any_byte(chance),
         pdi: any_byte(chance),
-    }
-}
-
-/// A setting of any record.
-fn any_setting(chance: &mut Chance) -> Setting {
-    let index = chance.below(8) as usize;
-    match chance.below(2) {
-        0 => Setting::Fmmu(FmmuSetting {
-            index,
-            record: any_fmmu(chance),
-        }),
-        _ => Setting::SyncMan(SyncManSetting {
-            index,
-            record: any_manager(chance),
-        }),
-    }
+    };
+    Setting::SyncMan(SyncManSetting { index, record })
 }
 
 /// A slave that is described by settings of any records.
@@ -239,20 +234,6 @@ fn any_line(alloc: Global, chance: &mut Chance) -> Result<Vec<SceneSlave>, Alloc
         line.push(any_slave(alloc, chance)?)?;
     }
     Ok(line)
-}
-
-#[test]
-fn the_records_of_each_scene_are_mapped_as_its_slaves(rt: HostRuntime) {
-    let mut chance = Chance::new(7);
-    for _ in 0..SCENES {
-        let settings = chance.below(SETTINGS);
-        if let Ok(made) = Mapping::of_ends(rt.alloc(), &mut chance, SLAVES, settings) {
-            match scene_of(rt.alloc(), &mut Bytes::new(made.text().as_bytes())) {
-                Ok(scene) => assert_described(&rt, scene.slaves, &mut chance),
-                Err(failure) => assert!(rt; is_want_of_memory(&failure), "{}", made.text()),
-            }
-        }
-    }
 }
 
 #[test]

@@ -1,20 +1,51 @@
 //! Reads and writes that fail, each in turn.
 
-use super::{Command, ROOM, is_want_of_memory, written};
-use crate::reading::scene_of;
-use ecat_setup::LineFailure;
-use ecat_simulation::{Asked, sdo};
+use crate::outputs::{NoRoom, ROOM, Stops, written};
+use crate::reading::{EXAMPLE, is_want_of_memory, scene_of};
+use ecat_record::unrecorded;
+use ecat_scene::Scene;
+use ecat_setup::{LineFailure, text_of};
+use ecat_simulation::{Asked, check, cover, lint, run, sdo, sweep, where_broken};
 use ecat_source::{Bytes, FailsAt, Source};
 use std::alloc::Global;
 use std::io::{self, Cursor, Write};
 use std::process::Abort;
 
-/// Two slaves with a broken cable between them; what `run` prints of them is three lines.
-const EXAMPLE: &[u8] = b"slave 0x1001\nstate 8\nsm 2 0x1000 1 write\nsm 3 0x1100 1 read\n\
-    fmmu 0 0x10000 1 0 7 0x1000 0 write\nfmmu 1 0x10000 1 0 7 0x1100 0 read\nmem 0x1100 12\n\
-    slave 0x1002\nstate 4\nlink 1 down\nlrw 0x10000 ff\nbrd 0x0130 0000\n";
+/// A command over a scene.
+#[derive(Clone, Copy)]
+enum Command {
+    Check,
+    Cover,
+    Judge,
+    Lint,
+    Run,
+    Sweep,
+    Where,
+}
 
-/// What `sdo` is asked of it.
+impl Command {
+    /// Does the command over a source.
+    fn act<S: Source, W: Write>(
+        self,
+        alloc: Global,
+        source: &mut S,
+        out: &mut W,
+    ) -> Result<u8, LineFailure> {
+        let text = text_of(alloc, source)?;
+        let scene = Scene::read(alloc, text.as_slice())?;
+        match self {
+            Command::Check => check(alloc, &scene, out),
+            Command::Cover => cover(alloc, &scene, out),
+            Command::Judge => run(alloc, true, &mut unrecorded(), scene, out),
+            Command::Lint => lint(alloc, text.as_slice(), &scene, out),
+            Command::Run => run(alloc, false, &mut unrecorded(), scene, out),
+            Command::Sweep => sweep(alloc, scene, out),
+            Command::Where => where_broken(alloc, scene, out),
+        }
+    }
+}
+
+/// What `sdo` is asked of the example.
 const ASKED: Asked = Asked {
     station: 0x1001,
     index: 0x1018,
@@ -37,33 +68,48 @@ const COMMANDS: [Command; 7] = [
 /// How many bytes a read gives.
 const PIECE: usize = 50;
 
-/// An output whose write after so many fails.
+/// Room for all that a sweep prints of a long line.
+const LONG_ROOM: usize = 10_240;
+
+/// After how many bytes an output fails: `sweep` writes 4,096 at once.
+const PLACES: [usize; 6] = [0, 1, 4095, 4096, 4097, LONG_ROOM];
+
+/// A line of which a sweep prints more than what is written at once.
+const LONG: &[u8] =
+    b"slave 1\nslave 2\nslave 3\nslave 4\nslave 5\nslave 6\nslave 7\nslave 8\nslave 9\nslave 10\n\
+    slave 11\nslave 12\nslave 13\nslave 14\nslave 15\nbrd 0x0130 0000\n";
+
+/// An output that keeps what it takes, and fails when it has taken so much.
 #[derive(Drop)]
-struct Stops {
+struct Bounded {
+    kept: Cursor<[u8; LONG_ROOM]>,
     left: usize,
 }
 
-impl Write for Stops {
+impl Bounded {
+    /// One that fails after so many bytes.
+    fn new(left: usize) -> Bounded {
+        Bounded {
+            kept: Cursor::new([0; LONG_ROOM]),
+            left,
+        }
+    }
+
+    /// What it took.
+    fn taken(&self) -> &[u8] {
+        let count = self.kept.position().min(LONG_ROOM as u64) as usize;
+        &self.kept.get_ref()[..count]
+    }
+}
+
+impl Write for Bounded {
     fn write(&mut self, bytes: &[u8]) -> io::Result<usize> {
         if self.left == 0 {
             return Err(io::Error::from(io::ErrorKind::BrokenPipe));
         }
-        self.left -= 1;
-        Ok(bytes.len())
-    }
-
-    fn flush(&mut self) -> io::Result<()> {
-        Ok(())
-    }
-}
-
-/// An output with no room.
-#[derive(Drop)]
-struct NoRoom;
-
-impl Write for NoRoom {
-    fn write(&mut self, _bytes: &[u8]) -> io::Result<usize> {
-        Ok(0)
+        let count = bytes.len().min(self.left);
+        self.left -= count;
+        self.kept.write(&bytes[..count])
     }
 
     fn flush(&mut self) -> io::Result<()> {
@@ -145,5 +191,27 @@ fn each_read_that_fails_ends_each_command(rt: HostRuntime) {
         let mut source = FailsAt::new(EXAMPLE, PIECE, reads);
         let done = transfer(rt.alloc(), &mut source, &mut printed);
         assert_read_failed(&rt, done, &printed, reads);
+    }
+}
+
+/// An output that fails has taken what comes before that place, and nothing else.
+#[test]
+fn a_sweep_ends_with_its_output_behind_a_front(rt: HostRuntime) {
+    let mut whole = Bounded::new(LONG_ROOM);
+    let all = Command::Sweep.act(rt.alloc(), &mut Bytes::new(LONG), &mut whole);
+    if all.is_err() {
+        return;
+    }
+    assert!(rt; whole.taken().len() > 4097 && whole.taken().len() < LONG_ROOM);
+    for room in PLACES {
+        let mut out = Bounded::new(room);
+        let done = Command::Sweep.act(rt.alloc(), &mut Bytes::new(LONG), &mut out);
+        assert!(rt; whole.taken().starts_with(out.taken()), "{room}");
+        let is_so = match &done {
+            Ok(_) => out.taken() == whole.taken(),
+            Err(LineFailure::Output) => out.taken().len() == room,
+            Err(failure) => is_want_of_memory(failure),
+        };
+        assert!(rt; is_so, "{room}");
     }
 }

@@ -9,27 +9,27 @@ use std::alloc::Global;
 use std::process::Abort;
 
 /// The frame as a master sends it.
-pub const ASKED: [u8; 16] = [
+const ASKED: [u8; 16] = [
     0x0E, 0x10, 0x07, 0x07, 0x00, 0x00, 0x10, 0x00, 0x02, 0x00, 0x00, 0x00, 0x00, 0x00, 0x00, 0x00,
 ];
 
 /// Both slaves have put in their stations, 0x1001 and 0x1002.
-pub const BY_BOTH: [u8; 16] = [
+const BY_BOTH: [u8; 16] = [
     0x0E, 0x10, 0x07, 0x07, 0x02, 0x00, 0x10, 0x00, 0x02, 0x00, 0x00, 0x00, 0x03, 0x10, 0x02, 0x00,
 ];
 
 /// The first one alone has.
-pub const BY_FIRST: [u8; 16] = [
+const BY_FIRST: [u8; 16] = [
     0x0E, 0x10, 0x07, 0x07, 0x01, 0x00, 0x10, 0x00, 0x02, 0x00, 0x00, 0x00, 0x01, 0x10, 0x01, 0x00,
 ];
 
 /// The second one alone has, behind whose closed port 0 the frame turned round.
-pub const BY_SECOND: [u8; 16] = [
+const BY_SECOND: [u8; 16] = [
     0x0E, 0x10, 0x07, 0x07, 0x01, 0x00, 0x10, 0x00, 0x02, 0x40, 0x00, 0x00, 0x02, 0x10, 0x01, 0x00,
 ];
 
 /// A packet that is no frame.
-pub const RUBBISH: [u8; 16] = [0xFF; 16];
+const RUBBISH: [u8; 16] = [0xFF; 16];
 
 /// A packet, by the name of its bytes.
 #[derive(Clone, Copy)]
@@ -70,7 +70,7 @@ pub fn served(rt: &impl Abort, alloc: Global, up: [bool; 3]) -> Served {
 }
 
 /// The ring of such a line.
-pub fn ring(rt: &impl Abort, alloc: Global, up: [bool; 3]) -> Ring
+fn ring(rt: &impl Abort, alloc: Global, up: [bool; 3]) -> Ring
     ensures { length result.slaves ≡ 2 }
 {
     let mut slaves = Vec::new(alloc);

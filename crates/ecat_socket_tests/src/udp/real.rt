@@ -1,12 +1,12 @@
-//! Cycles over real sockets, and what those refuse.
+//! What real sockets carry, and what they refuse.
 
 ghost use Rattle.std.specs.Prelude.{◌<◌};
 
-use super::cycles::{ANSWERED, AS_SENT, assert_exchange, assert_read};
-use super::exchange::{ring, station_read, taken};
+use super::cycles::{AS_SENT, assert_exchange, assert_read};
+use super::exchange::{ring, station_read};
 use super::sockets::{Row, Step, takes};
 use crate::asserts::assert_found;
-use ec_master::{CycleFault, Ports, Verdict};
+use ec_master::CycleFault;
 use ec_wire::{Command, Datagram, FrameBuf};
 use ecat_udp::{BindFault, PacketLine, Socket, UdpLine, UdpPorts};
 use std::net::Net;
@@ -21,18 +21,6 @@ fn open(rt: &(impl Abort + Net)) -> (UdpLine, u16) {
         }
     }
     panic!(rt; "no port is free");
-}
-
-#[test]
-fn a_cycle_goes_over_real_sockets(rt: HostRuntime) {
-    let row = "cycles over real sockets";
-    let (line, _) = open(&rt);
-    let mut ports = UdpPorts::new(ring(&rt, rt.alloc()), line);
-    for _cycle in 0..3usize {
-        assert_exchange(&rt, row, &mut ports, Ok(Verdict::Good), ANSWERED);
-    }
-    assert_found(&rt, row, taken(&rt, ports.ring()), [0x5A, 0xA5]);
-    assert_found(&rt, row, ports.failures(), 0);
 }
 
 #[test]

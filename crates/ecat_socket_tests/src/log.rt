@@ -1,3 +1,0 @@
-//! A log beside a service whose packets come from memory.
-
-mod lines;
