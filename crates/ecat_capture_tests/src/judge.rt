@@ -1,9 +1,3 @@
-//! Tests of the judging of a capture (`ecat_judge`): small captures that are put together from tables, with
-//! the lines that are written of them, worked out by hand.
+//! Tests of the judging of a capture (`ecat_judge`): the use on the crate's page, and outputs that fail.
 
 mod ends;
-mod lines;
-mod losses;
-mod missing;
-mod numbered;
-mod play;

@@ -12,6 +12,8 @@ mod judge;
 #[cfg(test)]
 mod list;
 #[cfg(test)]
+mod outputs;
+#[cfg(test)]
 mod source;
 #[cfg(test)]
 mod tape;

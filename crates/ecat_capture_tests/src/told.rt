@@ -1,7 +1,6 @@
-//! Tests of what a capture tells of a line (`ecat_told`): tables of datagrams, each with what came back of it
-//! and what is told then, worked out by hand; and small captures with the scene that is written of them.
+//! Tests of what a capture tells of a line (`ecat_told`): the use on the crate's page, and a table of
+//! datagrams with what is told behind each, byte by byte, worked out by hand.
 
-mod counts;
 mod door;
 mod play;
 mod writes;

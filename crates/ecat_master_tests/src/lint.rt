@@ -1,4 +1,3 @@
-//! What is said of a faulty line, and which lines are odd.
+//! What is said of a faulty line.
 
 mod faulty;
-mod odd;

@@ -1,5 +1,5 @@
-//! Scenes that are taken, and each fault with its line. A test accepts want of memory as an answer, so
-//! that each allocation can be made to fail in turn.
+//! Scenes that are taken, and lines that are written. A test accepts want of memory as an answer, so that each
+//! allocation can be made to fail in turn.
 
 use crate::asserts::assert_same;
 use ecat_scene::{Scene, SceneFault};
@@ -10,8 +10,7 @@ use std::process::Abort;
 mod bench;
 mod door;
 mod limits;
-mod refusals;
-pub(crate) mod shown;
+mod shown;
 mod takes;
 mod written;
 
@@ -27,13 +26,13 @@ fn taken(rt: &(impl AllocGlobal + Abort), text: &[u8]) -> Option<Scene> {
 }
 
 /// The two sides of a row, a line of a table: a text, up to a blank and a bar, and what is wanted of it.
-pub(crate) fn sides<'a>(rt: &impl Abort, row: &'a str) -> (&'a str, &'a str) {
+fn sides<'a>(rt: &impl Abort, row: &'a str) -> (&'a str, &'a str) {
     let (text, wanted) = row.split_once('|').expect(rt, "a bar");
     (text.strip_suffix(" ").unwrap_or(text), wanted.trim())
 }
 
 /// The bytes of a text of a row, in which `/` ends a line.
-pub(crate) fn lines_of(alloc: Global, text: &str) -> Result<Vec<u8>, AllocError> {
+fn lines_of(alloc: Global, text: &str) -> Result<Vec<u8>, AllocError> {
     let mut bytes = Vec::new(alloc);
     for byte in text.as_bytes() {
         bytes.push(if *byte == b'/' { b'\n' } else { *byte })?;

@@ -1,83 +1,64 @@
-//! Captures without frames, damaged ones, outputs and sources that fail.
+//! The use on the crate's page: an exchange with a drive that is good, and outputs that fail.
 
-use crate::judge::play::Packet::{Back, Sent};
-use crate::judge::play::{
-    ALL, BASE, Gram, Packet, assert_drives, capture, drives, exchange, judge_into,
-};
-use ec_wire::Command::Lrw;
-use ecat_judge::Judged;
-use ecat_judge::Judged::{Closed, Damaged, Good, NoFrames, NoMemory, OutputFailed};
+use crate::outputs::Fails;
+use ec_check::Records;
+use ec_map::Item;
+use ec_regs::{Fmmu, SyncMan};
+use ec_wire::Kind;
+use ecat_frames::{Frames, Looked, look};
+use ecat_judge::Judged::{Closed, Good, NoMemory, OutputFailed};
+use ecat_judge::{Asked, Judged, judge};
+use ecat_source::Bytes;
 use std::alloc::Global;
-use std::io::{self, ErrorKind, Write};
+use std::io::{ErrorKind, Write};
 
-/// One exchange with a drive.
-const ONE: [Gram; 1] = [Gram(Lrw, BASE, &[0, 0], &[0, 7], 3, 0)];
+/// A capture of an LRW of two bytes, as it was sent and as it came back.
+const CYCLE: &str = "d4c3b2a1020004000000000000000000ffff000001000000\
+    00000000000000001e0000001e000000ffffffffffff00010510000088a40e100c00000001000200000000000000\
+    000000000a0000001e0000001e000000ffffffffffff02010510000088a40e100c00000001000200000000070300";
 
-const CYCLE: [Packet; 2] = [Sent(0, 0, &ONE), Back(10, 0, &ONE)];
-
+/// What is written of it.
 const CYCLE_TEXT: &str = "\
 item 0 LRW 0x00010000 2 bytes: sent 1 good 1 short 0 over 0 lost 0
   packets 1 to 1, 0.000000 to 0.000000
   back in 0.000010 0.000010 0.000010 s
 ";
 
+/// A drive, which takes one byte of outputs and gives one of inputs behind it.
+fn drive() -> Records {
+    let mut records = Records::of_station(0x1001);
+    records.set_syncman(2, &SyncMan::outputs(0x1000, 1));
+    records.set_syncman(3, &SyncMan::inputs(0x1100, 1));
+    records.set_fmmu(0, &Fmmu::writing(0x0001_0000, 1, 0x1000));
+    records.set_fmmu(1, &Fmmu::reading(0x0001_0001, 1, 0x1100));
+    records
+}
+
+/// How the cycle is judged that is written to this output; nothing where memory runs out in front of it.
+fn judged<W: Write>(alloc: Global, out: &mut W) -> Option<Judged> {
+    let bytes = hex::decode(alloc, CYCLE).ok()?;
+    let item = Item::new(Kind::Lrw, 0x0001_0000, &[0, 0]).ok()?;
+    let mut looked = Looked::new();
+    let _ = look(alloc, Bytes::new(bytes.as_slice()), &mut looked);
+    let mut frames = Frames::of_file(alloc, Bytes::new(bytes.as_slice()), looked.marks(), None);
+    let asked = Asked {
+        csv: false,
+        limit: 1000,
+    };
+    Some(judge(alloc, &mut frames, &[drive()], &[item], &asked, out))
+}
+
 #[test]
 fn a_good_cycle(rt: HostRuntime) {
-    assert_drives(&rt, rt.alloc(), 1, &[0, 0], &CYCLE, Good, CYCLE_TEXT);
-}
-
-#[test]
-fn a_capture_without_frames(rt: HostRuntime) {
-    assert_drives(&rt, rt.alloc(), 1, &[0, 0], &[], NoFrames, "");
-}
-
-/// How the cycle is judged whose last bytes are cut off, or that is written to this output.
-fn judged<W: Write>(alloc: Global, cut: usize, out: &mut W) -> Judged {
-    let Some(bytes) = capture(alloc, &CYCLE, false) else {
-        return NoMemory;
-    };
-    let Some(line) = drives(alloc, 1) else {
-        return NoMemory;
-    };
-    let Some(item) = exchange(&[0, 0]) else {
-        return NoMemory;
-    };
-    let kept = bytes.len().saturating_sub(cut);
-    let items = [item];
-    match bytes.as_slice().get(..kept) {
-        Some(bytes) => judge_into(alloc, bytes, line.as_slice(), &items, &ALL, out),
-        None => NoMemory,
-    }
-}
-
-/// Of a capture that is cut what stands in front is judged: the exchange is on the way.
-const CUT_TEXT: &str = "\
-item 0 LRW 0x00010000 2 bytes: sent 0 good 0 short 0 over 0 lost 0
-";
-
-#[test]
-fn a_damaged_capture_is_judged_in_front(rt: HostRuntime) {
     let mut out = Vec::new(rt.alloc());
-    let found = judged(rt.alloc(), 5, &mut out);
-    if found != NoMemory && found != OutputFailed {
-        assert!(rt; matches!(&found, Damaged(_)), "{found:?}");
-        assert!(rt; out.as_slice() == CUT_TEXT.as_bytes(), "{out:?}");
-    }
-}
-
-/// An output whose first write fails.
-#[derive(Drop)]
-struct Fails {
-    kind: ErrorKind,
-}
-
-impl Write for Fails {
-    fn write(&mut self, _bytes: &[u8]) -> io::Result<usize> {
-        Err(io::Error::from(self.kind))
-    }
-
-    fn flush(&mut self) -> io::Result<()> {
-        Ok(())
+    let found = judged(rt.alloc(), &mut out);
+    if found == Some(Good) {
+        assert!(rt; out.as_slice() == CYCLE_TEXT.as_bytes(), "{out:?}");
+    } else {
+        assert!(rt;
+            matches!(found, None | Some(NoMemory | OutputFailed)),
+            "{found:?}"
+        );
     }
 }
 
@@ -91,8 +72,10 @@ const FAILURES: [(ErrorKind, Judged); 2] = [
 fn an_output_may_fail(rt: HostRuntime) {
     for (kind, wanted) in FAILURES {
         let mut out = Fails { kind };
-        let found = judged(rt.alloc(), 0, &mut out);
-        if found != NoMemory {
+        let found = judged(rt.alloc(), &mut out);
+        if let Some(found) = found
+            && found != NoMemory
+        {
             assert_eq!(rt; found, wanted);
         }
     }

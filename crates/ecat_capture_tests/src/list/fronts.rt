@@ -1,8 +1,8 @@
 //! What a listing hands on where its output, its source or memory fails: a front of what it hands on where
 //! nothing does, and how it ends.
 //!
-//! What stands in a line is a clause of `ecat_list`. No clause says what a writer is handed and when: that is
-//! tried here on made captures, as is that these have what they are made for.
+//! What stands in a line is a clause of `ecat_list`. No clause says what a writer is handed and when: where
+//! something fails that is tried here, and where nothing does by `cases/made.py`, on the same made captures.
 
 use super::made::{long_lines, mixed};
 use super::refused::Refusal;
@@ -226,124 +226,6 @@ pub(super) fn assert_no_memory(rt: &impl Abort, alloc: Global) {
     );
 }
 
-/// A piece of 64 KiB.
-const PIECE: usize = 65_536;
-
-/// What was handed on of a listing since the last flush, as far as it is gone through.
-#[derive(Drop)]
-struct Piece {
-    size: usize,
-    last: u8,
-    at_number: bool,
-    number: u64,
-    first: Option<u64>,
-}
-
-impl Piece {
-    /// Nothing yet.
-    fn new() -> Piece {
-        Piece {
-            size: 0,
-            last: FLUSHED,
-            at_number: true,
-            number: 0,
-            first: None,
-        }
-    }
-
-    /// Takes a byte of text. Is it still of the packet of the first line?
-    fn take(&mut self, byte: u8) -> bool {
-        self.size = self.size.saturating_add(1);
-        self.last = byte;
-        if byte == b'\n' {
-            self.at_number = true;
-            self.number = 0;
-        } else if self.at_number && byte.is_ascii_digit() {
-            let digit = u64::from(byte.wrapping_sub(b'0'));
-            self.number = self.number.wrapping_mul(10).wrapping_add(digit);
-        } else if self.at_number {
-            self.at_number = false;
-            return self.is_of_first();
-        }
-        true
-    }
-
-    /// Has the line that begins the number of the first one?
-    fn is_of_first(&mut self) -> bool {
-        match self.first {
-            Some(number) => number == self.number,
-            None => {
-                self.first = Some(self.number);
-                true
-            }
-        }
-    }
-}
-
-/// Asserts that lines are handed on whole: live those of each packet by themselves, else in pieces of 64 KiB
-/// at least, but for the last. How many pieces are there?
-fn assert_pieces(rt: &impl Abort, outcome: &Outcome, live: bool) -> usize {
-    let mut piece = Piece::new();
-    let mut count: usize = 0;
-    let mut is_last = false;
-    for byte in &outcome.bytes {
-        if *byte == FLUSHED {
-            assert!(rt; piece.last == b'\n', "a piece ends within a line");
-            assert!(rt; !is_last, "a short piece is not the last");
-            is_last = !live && piece.size < PIECE;
-            count = count.saturating_add(1);
-            piece = Piece::new();
-        } else {
-            let of_first = piece.take(*byte);
-            assert!(rt; !live || of_first, "lines of two packets at once");
-        }
-    }
-    assert!(rt; piece.size == 0, "the last piece is not flushed");
-    count
-}
-
-/// The lines of a made capture are handed on whole, the same ones in pieces and live; or memory runs out.
-fn compare_pieces(rt: &impl Abort, alloc: Global, file: &[u8]) -> Result<usize, AllocError> {
-    let pieces = told_of(alloc, &Case::whole(file, Form::Lines, false))?;
-    let live = told_of(alloc, &Case::whole(file, Form::Lines, true))?;
-    assert_pieces(rt, &live, true);
-    assert!(rt;
-        live.count() == pieces.count(),
-        "{} bytes live",
-        live.count()
-    );
-    Ok(assert_pieces(rt, &pieces, false))
-}
-
-/// A made capture is handed on in whole lines, or memory runs out.
-fn compare_mixed(rt: &impl Abort, alloc: Global, number: u32) -> Result<(), AllocError> {
-    let file = mixed(alloc, number)?;
-    compare_pieces(rt, alloc, &file)?;
-    Ok(())
-}
-
-/// The longest lines are handed on in more than one piece, or memory runs out.
-fn compare_long(rt: &impl Abort, alloc: Global) -> Result<(), AllocError> {
-    let file = long_lines(alloc)?;
-    let pieces = compare_pieces(rt, alloc, &file)?;
-    assert!(rt; 1 < pieces, "{pieces} pieces of long lines");
-    Ok(())
-}
-
-#[test]
-fn lines_are_handed_on_whole(rt: HostRuntime) {
-    for number in 0..MIXED {
-        if compare_mixed(&rt, rt.alloc(), number).is_err()
-            && compare_mixed(&rt, rt.alloc(), number).is_err()
-        {
-            assert_no_memory(&rt, rt.alloc());
-        }
-    }
-    if compare_long(&rt, rt.alloc()).is_err() && compare_long(&rt, rt.alloc()).is_err() {
-        assert_no_memory(&rt, rt.alloc());
-    }
-}
-
 /// Where an output fails: at once, within the first lines, and on both sides of a piece of 64 KiB.
 const ROOMS: [usize; 14] = [
     0, 1, 2, 62, 63, 64, 65, 100, 1000, 65_535, 65_536, 65_537, 70_000, 131_072,
@@ -417,100 +299,29 @@ fn of_a_source_that_fails_a_front_is_told(rt: HostRuntime) {
     }
 }
 
-/// What the listings of made captures have to have, so that they try what they are made for.
-const WORDS: [&str; 33] = [
-    " NOP 0x",
-    " APRD -",
-    " APWR 0:",
-    " APRW 32767:",
-    " ARMW -32768:",
-    " FPRD 0x",
-    " FPWR 0x",
-    " FPRW 0x",
-    " FRMW 0x",
-    " BRD 0x",
-    " BWR 0x",
-    " BRW 0x",
-    " LRD 0x",
-    " LWR 0x",
-    " LRW 0x",
-    " - short\n",
-    " - - short\n",
-    " bad length\n",
-    " fragment\n",
-    " type 4\n",
-    " type 5\n",
-    " fault Short at ",
-    " fault BadType at 1\n",
-    " fault Reserved at ",
-    " fault Empty at 0\n",
-    " fault TooLong at 0\n",
-    " fault BadCommand at ",
-    " fault Overrun at ",
-    " fault MoreAtEnd at ",
-    " fault LeftOver at ",
-    " fault Trailing at ",
-    " 1486 wkc ",
-    " 123 ",
-];
+/// A sum of the bytes of the captures of packets of every kind: that of `cases/made.py`, which looks at what
+/// their listings have.
+const SUM: u64 = 0x3bea_050c_a057_0f81;
 
-/// Times that the listings of made captures have to have.
-const TIMES: [&str; 11] = [
-    " - 02:",
-    " 0.000000 ",
-    " 0.000000000 ",
-    " 0.000001 ",
-    " 0.999999 ",
-    " 1.000000 ",
-    " 1.000001 ",
-    " 0.999999999 ",
-    " 1.000000000 ",
-    " -0.",
-    " -1.",
-];
-
-/// Marks which of these words a text has.
-fn mark(text: &str, words: &[&str], seen: &mut [bool]) {
-    for (k, word) in words.iter().enumerate() {
-        if k < seen.len() && text.contains(*word) {
-            seen[k] = true;
-        }
+/// The sum with that of more bytes.
+fn summed(sum: u64, bytes: &[u8]) -> u64 {
+    let mut sum = sum;
+    for byte in bytes {
+        sum = sum
+            .wrapping_mul(1_099_511_628_211)
+            .wrapping_add(u64::from(*byte));
     }
-}
-
-/// Marks which words the lines of a made capture have.
-fn mark_mixed(
-    alloc: Global,
-    number: u32,
-    words: &mut [bool],
-    times: &mut [bool],
-) -> Result<(), AllocError> {
-    let file = mixed(alloc, number)?;
-    let told = told_of(alloc, &Case::whole(&file, Form::Lines, false))?;
-    let text = str::from_utf8(&told.bytes).unwrap_or("no text");
-    mark(text, &WORDS, words);
-    mark(text, &TIMES, times);
-    Ok(())
-}
-
-/// Asserts that each word was seen.
-fn assert_seen(rt: &impl Abort, words: &[&str], seen: &[bool]) {
-    for (k, word) in words.iter().enumerate() {
-        assert!(rt; seen.get(k) == Some(&true), "no made capture has {word}");
-    }
+    sum
 }
 
 #[test]
-fn made_captures_have_packets_of_every_kind(rt: HostRuntime) {
-    let mut words = [false; WORDS.len()];
-    let mut times = [false; TIMES.len()];
+fn made_captures_are_those_of_the_cases(rt: HostRuntime) {
+    let mut sum = 0;
     for number in 0..MIXED {
-        if mark_mixed(rt.alloc(), number, &mut words, &mut times).is_err()
-            && mark_mixed(rt.alloc(), number, &mut words, &mut times).is_err()
-        {
-            return assert_no_memory(&rt, rt.alloc());
-        }
+        let Ok(file) = mixed(rt.alloc(), number) else {
+            return;
+        };
+        sum = summed(sum, &file);
     }
-    assert_seen(&rt, &WORDS, &words);
-    assert_seen(&rt, &TIMES, &times);
+    assert_eq!(rt; sum, SUM);
 }

@@ -1,14 +1,8 @@
-//! Captures, whole and cut, good and bad, in pieces of any size.
+//! Captures of which a read fails, or for which memory runs out.
 use crate::asserts::assert_same;
-use ecat_source::{Bytes, FailsAt, Packet, Pcap, PcapFault, Pieces, Source};
-use std::alloc::{AllocError, Global};
+use ecat_source::{Bytes, FailsAt, Packet, Pcap, PcapFault, Source};
 use std::process::Abort;
 use std::test::Fail;
-
-/// A capture's header: magic, version 2.4, zone, accuracy, greatest length 65,535, Ethernet.
-const HEADER: [u8; 24] = [
-    0xd4, 0xc3, 0xb2, 0xa1, 2, 0, 4, 0, 0, 0, 0, 0, 0, 0, 0, 0, 0xff, 0xff, 0, 0, 1, 0, 0, 0,
-];
 
 /// A capture of one record, whose 30 bytes are an Ethernet frame with one BRD datagram.
 const CAPTURE: [u8; 70] = [
@@ -33,106 +27,12 @@ fn expect_packet(rt: &impl Abort, next: Result<Option<Packet>, PcapFault>, bytes
     }
 }
 
-// There is no next packet.
-fn expect_end(rt: &impl Abort, next: Result<Option<Packet>, PcapFault>) {
-    match next {
-        Ok(Some(_)) => panic!(rt; "there was a packet"),
-        Ok(None) => {}
-        Err(fault) => panic!(rt; "{fault}"),
-    }
-}
-
 // The next packet is refused so.
 fn expect_fault(rt: &impl Abort, next: Result<Option<Packet>, PcapFault>, expected: PcapFault) {
     match next {
         Ok(Some(_)) => panic!(rt; "there was a packet"),
         Ok(None) => panic!(rt; "the capture ended"),
         Err(fault) => assert_eq!(rt; fault, expected),
-    }
-}
-
-// The first packet of this capture is refused so, and every further one with `Failed`.
-fn expect_refusal<S: Source + Drop>(rt: &impl Abort, mut pcap: Pcap<S>, expected: PcapFault) {
-    expect_fault(rt, pcap.next(), expected);
-    expect_fault(rt, pcap.next(), PcapFault::Failed);
-    expect_fault(rt, pcap.next(), PcapFault::Failed);
-}
-
-#[test]
-fn header_alone_has_no_packet(rt: HostRuntime) {
-    let mut pcap = Pcap::new(rt.alloc(), Bytes::new(&HEADER));
-    expect_end(&rt, pcap.next());
-    expect_end(&rt, pcap.next());
-}
-
-#[test]
-fn cut_header_is_short(rt: HostRuntime) {
-    let pcap = Pcap::new(rt.alloc(), Bytes::new(&HEADER[..23]));
-    expect_refusal(&rt, pcap, PcapFault::Short);
-}
-
-#[test]
-fn other_magic_is_no_pcap(rt: HostRuntime) {
-    let mut bytes = HEADER;
-    bytes[..4].copy_from_slice(&[0xa1, 0xb2, 0xc3, 0xd4]);
-    expect_refusal(
-        &rt,
-        Pcap::new(rt.alloc(), Bytes::new(&bytes)),
-        PcapFault::NotPcap,
-    );
-}
-
-#[test]
-fn header_is_tested_in_order(rt: HostRuntime) {
-    let mut bytes = HEADER;
-    bytes[20] = 101;
-    expect_refusal(
-        &rt,
-        Pcap::new(rt.alloc(), Bytes::new(&bytes)),
-        PcapFault::LinkType,
-    );
-    bytes[6] = 3;
-    expect_refusal(
-        &rt,
-        Pcap::new(rt.alloc(), Bytes::new(&bytes)),
-        PcapFault::Version,
-    );
-    bytes[3] = 0;
-    expect_refusal(
-        &rt,
-        Pcap::new(rt.alloc(), Bytes::new(&bytes)),
-        PcapFault::NotPcap,
-    );
-}
-
-#[test]
-fn zone_accuracy_and_lengths_may_be_anything(rt: HostRuntime) {
-    let mut bytes = CAPTURE;
-    bytes[8..20].copy_from_slice(&[0xee; 12]);
-    bytes[24..32].copy_from_slice(&[0xee; 8]);
-    bytes[36..40].copy_from_slice(&[0xee; 4]);
-    let mut pcap = Pcap::new(rt.alloc(), Bytes::new(&bytes));
-    expect_packet(&rt, pcap.next(), &PACKET);
-    expect_end(&rt, pcap.next());
-}
-
-#[test]
-fn cut_capture_in_pieces(rt: HostRuntime) {
-    for most in [1, 2, 3, 7] {
-        for length in 0..CAPTURE.len() + 1 {
-            let pieces = Pieces::new(&CAPTURE[..length], most);
-            let mut pcap = Pcap::new(rt.alloc(), pieces);
-            if length == 24 {
-                expect_end(&rt, pcap.next());
-                expect_end(&rt, pcap.next());
-            } else if length == 70 {
-                expect_packet(&rt, pcap.next(), &PACKET);
-                expect_end(&rt, pcap.next());
-                expect_end(&rt, pcap.next());
-            } else {
-                expect_refusal(&rt, pcap, PcapFault::Short);
-            }
-        }
     }
 }
 
@@ -167,64 +67,6 @@ fn read_that_fails_at_the_end_is_read(rt: HostRuntime) {
     expect_packet(&rt, pcap.next(), &PACKET);
     expect_fault(&rt, pcap.next(), PcapFault::Read);
     expect_fault(&rt, pcap.next(), PcapFault::Failed);
-}
-
-// A capture of one record, which says by these bytes how many it stores, and stores so many.
-fn capture_of(alloc: Global, says: [u8; 4], stored: usize) -> Result<Vec<u8>, AllocError> {
-    let mut bytes = Vec::from_slice(alloc, &HEADER)?;
-    bytes.extend_from_slice(&[0; 8])?;
-    bytes.extend_from_slice(&says)?;
-    bytes.extend_from_slice(&says)?;
-    for _ in 0..stored {
-        bytes.push(0x5a)?;
-    }
-    Ok(bytes)
-}
-
-#[test]
-fn greatest_stored_length_is_taken(rt: HostRuntime) -> Result<(), Fail> {
-    let bytes = capture_of(rt.alloc(), [0xff, 0xff, 0, 0], 65535)?;
-    let mut pcap = Pcap::new(rt.alloc(), Pieces::new(&bytes, 7000));
-    match pcap.next() {
-        Ok(Some(packet)) => assert_same(&rt, packet.bytes.len(), 65535),
-        Ok(None) => panic!(rt; "the capture ended"),
-        Err(fault) => panic!(rt; "{fault}"),
-    }
-    expect_end(&rt, pcap.next());
-    Ok(())
-}
-
-#[test]
-fn one_stored_byte_more_is_too_long(rt: HostRuntime) -> Result<(), Fail> {
-    let bytes = capture_of(rt.alloc(), [0, 0, 1, 0], 65536)?;
-    let pcap = Pcap::new(rt.alloc(), Pieces::new(&bytes, 7000));
-    expect_refusal(&rt, pcap, PcapFault::TooLong);
-    Ok(())
-}
-
-#[test]
-fn many_packets_over_several_buffers(rt: HostRuntime) -> Result<(), Fail> {
-    let mut bytes = Vec::from_slice(rt.alloc(), &HEADER)?;
-    for _ in 0..3000 {
-        bytes.extend_from_slice(&CAPTURE[24..])?;
-    }
-    for most in [13, 4096, 1_000_000] {
-        let mut pcap = Pcap::new(rt.alloc(), Pieces::new(&bytes, most));
-        for _ in 0..3000 {
-            expect_packet(&rt, pcap.next(), &PACKET);
-        }
-        expect_end(&rt, pcap.next());
-    }
-    Ok(())
-}
-
-#[test]
-fn empty_packet_is_a_packet(rt: HostRuntime) {
-    let mut bytes = [0; 40];
-    bytes[..24].copy_from_slice(&HEADER);
-    let mut pcap = Pcap::new(rt.alloc(), Bytes::new(&bytes));
-    expect_packet(&rt, pcap.next(), &[]);
-    expect_end(&rt, pcap.next());
 }
 
 // Run with an allocation that is refused, too: then the call that wanted it says so, and every later one

@@ -1,7 +1,6 @@
 //! Bytes in memory, counted readers, and the whole of a source.
 use crate::asserts::assert_same;
 use ecat_source::{Bytes, Counted, FailsAt, Pieces, ReadAllFault, Source, SourceFault, read_all};
-use std::alloc::{AllocError, Global};
 use std::io;
 use std::io::{ErrorKind, Read};
 use std::test::Fail;
@@ -37,49 +36,6 @@ fn each_failed_read_is_counted(rt: HostRuntime) {
     assert_same(&rt, source.read(&mut into), Err(SourceFault));
     assert_same(&rt, source.read(&mut into), Err(SourceFault));
     assert_same(&rt, source.failures(), 2);
-}
-
-#[test]
-fn reader_is_read_through_the_count(rt: HostRuntime) -> Result<(), Fail> {
-    let bytes: &[u8] = b"slave 1\n";
-    let mut source = Counted::new(bytes);
-    let whole = read_all(rt.alloc(), &mut source, 100)?;
-    assert_same(&rt, whole.as_slice(), bytes);
-    assert_same(&rt, source.failures(), 0);
-    Ok(())
-}
-
-#[test]
-fn whole_of_a_source_in_pieces(rt: HostRuntime) -> Result<(), Fail> {
-    let bytes: &[u8] = b"slave 1\nmap 2\n";
-    for most in [1, 2, 3, 7, 100] {
-        let whole = read_all(rt.alloc(), &mut Pieces::new(bytes, most), 14)?;
-        assert_same(&rt, whole.as_slice(), bytes);
-    }
-    Ok(())
-}
-
-// So many bytes.
-fn filled(alloc: Global, length: usize) -> Result<Vec<u8>, AllocError> {
-    let mut bytes = Vec::new(alloc);
-    for _ in 0..length {
-        bytes.push(b'#')?;
-    }
-    Ok(bytes)
-}
-
-#[test]
-fn whole_at_the_limit_and_one_above(rt: HostRuntime) -> Result<(), Fail> {
-    let fits = filled(rt.alloc(), 65536)?;
-    let above = filled(rt.alloc(), 65537)?;
-    for most in [1000, 5000] {
-        let whole = read_all(rt.alloc(), &mut Pieces::new(&fits, most), 65536)?;
-        assert_same(&rt, whole.as_slice(), fits.as_slice());
-
-        let fault = read_all(rt.alloc(), &mut Pieces::new(&above, most), 65536).err();
-        assert_same(&rt, fault, Some(ReadAllFault::TooLong));
-    }
-    Ok(())
 }
 
 #[test]

@@ -1,10 +1,10 @@
-//! The outputs of cycles as a text gives them, and what is wrong with a text.
+//! The outputs of cycles as a text gives them.
 
 use crate::asserts::assert_found;
 use crate::master::line;
 use ec_map::{Item, Kind};
 use ec_master::Work;
-use ec_run::{ImageFault, ImagesFault, Outputs, image_length, read_images};
+use ec_run::{Outputs, image_length, read_images};
 use std::process::Abort;
 
 /// A text that has the outputs, and what the items of a work send in a cycle.
@@ -101,73 +101,5 @@ fn the_items_send_the_lines_in_turn(rt: HostRuntime) {
     for row in &SENDING {
         let work = if row.mixed { &mixed } else { &exchange };
         sends(&rt, row, work);
-    }
-}
-
-/// A text that has no images of so many bytes, and why.
-struct Refusal {
-    name: &'static str,
-    text: &'static [u8],
-    length: usize,
-    fault: ImagesFault,
-}
-
-/// Texts without images.
-static REFUSALS: [Refusal; 8] = [
-    Refusal {
-        name: "no hexadecimal digit",
-        text: b"01\n0g\n",
-        length: 1,
-        fault: ImagesFault::Line(2, ImageFault::NotHex),
-    },
-    Refusal {
-        name: "half a byte",
-        text: b"01\n012\n",
-        length: 1,
-        fault: ImagesFault::Line(2, ImageFault::NotHex),
-    },
-    Refusal {
-        name: "CR before LF",
-        text: b"01\r\n01\r\n",
-        length: 1,
-        fault: ImagesFault::Line(1, ImageFault::NotHex),
-    },
-    Refusal {
-        name: "0x before the digits",
-        text: b"0x01\n",
-        length: 2,
-        fault: ImagesFault::Line(1, ImageFault::NotHex),
-    },
-    Refusal {
-        name: "the first faulty line is named",
-        text: b"01\n0102\n0g\n",
-        length: 1,
-        fault: ImagesFault::Line(2, ImageFault::Length(2)),
-    },
-    Refusal {
-        name: "an empty line between others",
-        text: b"01\n\n01\n",
-        length: 1,
-        fault: ImagesFault::Line(2, ImageFault::Length(0)),
-    },
-    Refusal {
-        name: "no text",
-        text: b"",
-        length: 1,
-        fault: ImagesFault::Empty,
-    },
-    Refusal {
-        name: "an empty line alone",
-        text: b"\n",
-        length: 1,
-        fault: ImagesFault::Empty,
-    },
-];
-
-#[test]
-fn the_first_faulty_line_is_named_and_an_empty_text_has_none(rt: HostRuntime) {
-    for row in &REFUSALS {
-        let read = read_images(rt.alloc(), row.text, row.length);
-        assert_found(&rt, row.name, read.err(), Some(row.fault));
     }
 }

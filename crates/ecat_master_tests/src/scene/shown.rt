@@ -5,7 +5,7 @@ use ecat_scene::{Action, Scene, SceneSlave, SceneWeather, Setting};
 use std::alloc::{AllocError, Global};
 
 /// Puts a part behind those before.
-pub(crate) fn put(text: &mut String, part: &str) -> Result<(), AllocError> {
+pub(super) fn put(text: &mut String, part: &str) -> Result<(), AllocError> {
     if !text.is_empty() {
         text.push_str("; ")?;
     }
