@@ -15,6 +15,7 @@ pub use Rattle.ec_run.proofs.AlikeLemmas.{are_done_of, asks_of, brings_of, count
 pub use Rattle.ec_run.proofs.AlikeLemmas.{looked_up_of, recovered_of, runs_of, sure_of, talks_of, within_of}
 pub use Rattle.ec_run.proofs.AlikeCycleLemmas.{cycle_of, run_of}
 pub use Rattle.ec_run.proofs.CycleTripsLemmas.{cycle_within}
+pub use Rattle.ec_run.proofs.OutputLemmas.{filled_length}
 pub use Rattle.ec_run.proofs.EndLemmas.{EndsWith, done_ends, recovered_ends, tried_ends}
 
 pub run_none : {P : Type 0} (trips : Trips P) (outputs : Outputs) (expected : List ℕ) (start : Cycles)

@@ -4,6 +4,7 @@ mod StepLemmas
 mod RecoveryLemmas
 mod StatesLemmas
 mod OutputLemmas
+mod InputsLemmas
 mod ImagesLemmas
 mod TravelsLemmas
 mod EndLemmas

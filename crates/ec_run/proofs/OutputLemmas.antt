@@ -76,13 +76,13 @@ fills_all image rest items work k past so_far =
 
 -- ---- how many items there are
 
-filled-length : (image : List ℕ) (items : List ItemRecord) → length (filled image items) ≡ length items
+pub filled_length : (image : List ℕ) (items : List ItemRecord) → length (filled image items) ≡ length items
 unfolding filled
-filled-length image [] = refl
-filled-length image (r ∷ rest) = ap suc (filled-length (left_by image r) rest)
+filled_length image [] = refl
+filled_length image (r ∷ rest) = ap suc (filled_length (left_by image r) rest)
 
 pub length_of_outputs : (outputs : Outputs) (cycle : ℕ) (items : List ItemRecord)
     → length (outputs_at outputs cycle items) ≡ length items
 length_of_outputs Kept cycle items = refl
 length_of_outputs Count cycle items = length-map items (numbered cycle)
-length_of_outputs (Images images) cycle items = filled-length (image_of images.now cycle) items
+length_of_outputs (Images images) cycle items = filled_length (image_of images.now cycle) items

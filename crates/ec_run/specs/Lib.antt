@@ -13,6 +13,7 @@ pub mod Recovering
 pub mod Turns
 pub mod Along
 pub mod Outputs
+pub mod Inputs
 pub mod Images
 pub mod Cycles
 pub mod Alike

@@ -3,9 +3,10 @@
 ghost use Rattle.std.specs.Prelude.{◌≡◌, ◌≤◌, ◌<◌, ◌^◌, ◌-◌, length, Err, Some};
 ghost use Rattle.ec_master.specs.declared.cycle.CycleFault.TheVariants.{Port};
 ghost use Rattle.ec_run.specs.Cycles.{AddUp, IsCycle, begun_with, image_after};
+ghost use Rattle.ec_run.specs.Outputs.{filled};
 
 use crate::counts::Counts;
-use crate::outputs::Outputs;
+use crate::outputs::{Outputs, fill_all};
 use ec_master::{CycleFault, Ports, Verdict, Work, run_cycle_in};
 
 /// The most cycles: a count of 64 bits has no room for another one.
@@ -56,6 +57,14 @@ impl Cycles {
             image: None,
             counts: Counts::none(),
         }
+    }
+
+    /// Gives the items that write their data from an image, one item after the other: it is what they are asked
+    /// with from now on. Where the image ends, the data stay as they are.
+    pub fn put_outputs(&mut self, image: &[u8])
+        ensures { self.new ≡ record self.old { asked = filled image.now self.old.asked } }
+    {
+        fill_all(image, &mut self.asked);
     }
 
     /// Makes one cycle: its outputs are put into the items, which go out over the ports with counters of 0

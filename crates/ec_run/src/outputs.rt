@@ -83,7 +83,7 @@ fn image_at(images: &[Image], place: usize) -> &Image
 }
 
 /// Gives the items of a work that write their data from an image, one after the other.
-fn fill_all(image: &[u8], work: &mut Work)
+pub(crate) fn fill_all(image: &[u8], work: &mut Work)
     ensures { work.new ≡ filled image.now work.old }
 {
     let mut rest = image;

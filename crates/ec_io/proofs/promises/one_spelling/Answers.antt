@@ -1,0 +1,9 @@
+use Rattle.ec_io.proofs.OrderLemmas.{one_order}
+use Rattle.ec_io.proofs.ReportLemmas.{one_report}
+use Rattle.ec_io.proofs.promises.one_spelling.Goals as goal
+
+pub returns-clause-orders : goal.returns-clause-orders
+returns-clause-orders c = one_order
+
+pub returns-clause-reports : goal.returns-clause-reports
+returns-clause-reports c = one_report
