@@ -1,8 +1,9 @@
 -- Looks and rounds, one after the other, and how many trips they make.
 use Rattle.std.proofs.Common.{◌≡◌, ◌≤◌, ℕ, zero, suc, ◌+◌, ◌*◌, ◌-◌, Bool, true, false, List, length, refl}
-use Rattle.std.proofs.Common.{sym, ap, ◌∙◌, subst, arith, inl, inr, Option, Ok, Err}
+use Rattle.std.proofs.Common.{sym, ap, ◌∙◌, subst, arith, inl, inr, Option, None, Some, Ok, Err}
 use Rattle.std.proofs.Math.Nat.{suc-mul}
 use Rattle.ec_diag.specs.declared.located.Located.{Located}
+use Rattle.ec_map.specs.Item.{ItemRecord}
 use Rattle.ec_master.specs.declared.verdict.Verdict.TheVariants.{Good, Short, Over}
 use Rattle.ec_run.specs.Cycles.{End, counted}
 use Rattle.ec_run.specs.declared.counts.Counts.{Counts}
@@ -11,12 +12,13 @@ use Rattle.ec_run.specs.Watched.{PortsTrip, WatchedState, WatchedTrips, came_of,
 use Rattle.ec_run.specs.declared.cycles.Cycles.{Cycles}
 use Rattle.ec_run.specs.declared.outputs.Outputs.{Outputs}
 use Rattle.ec_run.specs.declared.wanted.Wanted.{Wanted}
-use Rattle.ec_run.proofs.Laws.{along_within, cycle_within, looked_at_within, turn_within, within_less}
+use Rattle.ec_run.proofs.Laws.{along_within, cycle_within, filled_length, looked_at_within, turn_within}
+use Rattle.ec_run.proofs.Laws.{within_less}
 use Rattle.ec_run.proofs.Laws.{within_none, within_one, within_then}
 use Rattle.ecat_master.specs.Course.{AreLooks, HeardTrips, IsCourse, IsFollowed, IsLook, IsRound}
-use Rattle.ecat_master.specs.Course.{IsSeenTo, MayBeLookedAt, MayBeLookedOver, Rounds, is_last_look}
+use Rattle.ecat_master.specs.Course.{IsSeenTo, MayBeLooked, MayBeLookedAt, Rounds, is_last_look}
 use Rattle.ecat_master.specs.Course.{round_trips}
-use Rattle.ecat_master.specs.declared.startup.TheConstants.{MORE_CABLE_LOOKS}
+use Rattle.ecat_master.specs.Task.{Listens, TakesOutputs, items_with}
 
 -- ---- looks at the cable
 
@@ -89,7 +91,7 @@ not_followed heard line before =
     record { between = before; looks = inl refl; seen_to = IsSeenTo.looked_at (MayBeLookedAt.none refl) }
 
 pub only_looks : {P : Type 0} (heard : HeardTrips P) (line : List Wanted) (before later : WatchedState P)
-    → MayBeLookedOver heard before (length line) later → IsFollowed heard line before later
+    → MayBeLooked heard before (length line) later → IsFollowed heard line before later
 only_looks heard line before later looks =
     record { between = later; looks = looks; seen_to = IsSeenTo.looked_at (MayBeLookedAt.none refl) }
 
@@ -102,28 +104,45 @@ counted_once (Ok Good) c = refl
 counted_once (Ok (Short k)) c = refl
 counted_once (Ok (Over k)) c = refl
 
-pub no_rounds : {P : Type 0} (heard : HeardTrips P) (outputs : Outputs) (expected : List ℕ)
-    (line : List Wanted) (s : Cycles) (ports : WatchedState P)
-    → IsCourse heard outputs expected line s ports s ports
+pub no_rounds : {P D : Type 0} (heard : HeardTrips P) (listens : Listens D) (held : D → List ℕ)
+    (outputs : Outputs) (expected : List ℕ) (line : List Wanted) (s : Cycles) (ports : WatchedState P)
+    → IsCourse heard listens held outputs expected line s ports None s ports
 unfolding Rounds
-no_rounds heard outputs expected line s ports =
-    record { number = 0; rounds = (refl, refl); counts = omega arith }
+no_rounds heard listens held outputs expected line s ports =
+    record { number = 0; rounds = (refl, refl, refl); counts = omega arith }
 
-pub one_round : {P : Type 0} (heard : HeardTrips P) (outputs : Outputs) (expected : List ℕ)
-    (line : List Wanted) (s now after : Cycles) (start ports later : WatchedState P)
-    → IsCourse heard outputs expected line s start now ports
-    → IsRound heard outputs expected line now ports after later
-    → IsCourse heard outputs expected line s start after later
+pub one_round : {P D : Type 0} (heard : HeardTrips P) (listens : Listens D) (held : D → List ℕ)
+    (outputs : Outputs) (expected : List ℕ) (line : List Wanted) (s now after : Cycles)
+    (start ports later : WatchedState P) (last : Option End) (end : End)
+    → IsCourse heard listens held outputs expected line s start last now ports
+    → IsRound heard listens held outputs expected line now ports end after later
+    → IsCourse heard listens held outputs expected line s start (Some end) after later
 unfolding Rounds
-one_round heard outputs expected line s now after start ports later course round =
+one_round heard listens held outputs expected line s now after start ports later last end course round =
     let before : now.counts.cycles ≡ s.counts.cycles + course.number = course.counts in
-    let counts : after.counts.cycles ≡ now.counts.cycles + 1 =
-    ap (λ (c : Cycles). c.counts.cycles) round.cycle.after_is ∙ counted_once round.end now.counts in
+    let same : round.supplied.counts.cycles ≡ now.counts.cycles =
+    ap (λ (c : Cycles). c.counts.cycles) round.takes.now_is in
+    let counts : after.counts.cycles ≡ round.supplied.counts.cycles + 1 =
+    ap (λ (c : Cycles). c.counts.cycles) round.cycle.after_is ∙ counted_once end round.supplied.counts in
     record {
       number = suc course.number;
-      rounds = (now, ports, course.rounds, round);
-      counts = omega (arith, before, counts);
+      rounds = (now, ports, last, end, course.rounds, round, refl);
+      counts = omega (arith, before, same, counts);
     }
+
+-- ---- how many items
+
+items_length : (are_others : Bool) (image : List ℕ) (items : List ItemRecord)
+    → length (items_with are_others image items) ≡ length items
+items_length true image items = filled_length image items
+items_length false image items = refl
+
+-- the outputs of a task leave as many items as there were
+pub supplied_length : {D : Type 0} (listens : Listens D) (held : D → List ℕ) (s now : Cycles)
+    → TakesOutputs listens held s now → length now.asked ≡ length s.asked
+supplied_length listens held s now takes =
+    ap (λ (c : Cycles). length c.asked) takes.now_is
+    ∙ items_length takes.are_others (held takes.later) s.asked
 
 -- ---- how many trips
 
@@ -181,13 +200,12 @@ looks_within heard (suc more) slaves before later found (first, between, look, r
     look_then_within heard more slaves before between later first found (is_last_look first) look rest
     (λ others. looks_within heard more slaves between later found others)
 
-looked_over_within : {P : Type 0} (heard : HeardTrips P) (slaves : ℕ) (before later : WatchedState P)
-    → MayBeLookedOver heard before slaves later
-    → IsWithin (PortsTrip heard) (MORE_CABLE_LOOKS + 1) before.ports later.ports
-looked_over_within heard slaves before later (inl same) =
-    within_none (PortsTrip heard) (MORE_CABLE_LOOKS + 1) before.ports later.ports (ap (λ s. s.ports) same)
-looked_over_within heard slaves before later (inr (found, over)) =
-    looks_within heard MORE_CABLE_LOOKS slaves before.ports later.ports found over.looks
+looked_within : {P : Type 0} (heard : HeardTrips P) (slaves : ℕ) (before later : WatchedState P)
+    → MayBeLooked heard before slaves later → IsWithin (PortsTrip heard) 1 before.ports later.ports
+looked_within heard slaves before later (inl same) =
+    within_none (PortsTrip heard) 1 before.ports later.ports (ap (λ s. s.ports) same)
+looked_within heard slaves before later (inr (found, once)) =
+    look_within heard before.ports later.ports slaves found once.look
 
 looked_at_once : {P : Type 0} (heard : HeardTrips P) (line : List Wanted) (before later : WatchedState P)
     → MayBeLookedAt heard line before later → IsWithin (WatchedTrips heard) 1 before later
@@ -211,63 +229,81 @@ seen_to_within heard line before later (IsSeenTo.looked_along first result betwe
 seen_to_within heard line before later (IsSeenTo.turned wanted recovery turn there taken) =
     turn_within (WatchedTrips heard) before later wanted recovery turn taken
 
-round_within : {P : Type 0} (heard : HeardTrips P) (outputs : Outputs) (expected : List ℕ)
-    (line : List Wanted) (s after : Cycles) (before later : WatchedState P)
-    → IsRound heard outputs expected line s before after later
+round_within : {P D : Type 0} (heard : HeardTrips P) (listens : Listens D) (held : D → List ℕ)
+    (outputs : Outputs) (expected : List ℕ) (line : List Wanted) (s after : Cycles)
+    (before later : WatchedState P) (end : End)
+    → IsRound heard listens held outputs expected line s before end after later
     → IsWithin (PortsTrip heard) (round_trips (length s.asked)) before.ports later.ports
-round_within heard outputs expected line s after before later round =
+round_within heard listens held outputs expected line s after before later end round =
     let trips = PortsTrip heard in
     let looked = round.followed.between in
-    within_then trips (length s.asked + (MORE_CABLE_LOOKS + 1)) turn_trips before.ports looked.ports
-    later.ports
-    (within_then trips (length s.asked) (MORE_CABLE_LOOKS + 1) before.ports round.between.ports looked.ports
-    (within_aside heard (length s.asked) (untold before.ports) round.between
-    (cycle_within (WatchedTrips heard) (untold before.ports) round.between outputs expected s after round.end
-    round.cycle))
-    (looked_over_within heard (length line) round.between looked round.followed.looks))
+    subst (λ (n : ℕ). IsWithin trips (round_trips n) before.ports later.ports) (supplied_length listens held s round.supplied round.takes)
+    (within_then trips (length round.supplied.asked + 1) turn_trips before.ports looked.ports later.ports
+    (within_then trips (length round.supplied.asked) 1 before.ports round.between.ports looked.ports
+    (within_aside heard (length round.supplied.asked) (untold before.ports) round.between
+    (cycle_within (WatchedTrips heard) (untold before.ports) round.between outputs expected round.supplied
+    after end round.cycle))
+    (looked_within heard (length line) round.between looked round.followed.looks))
     (within_aside heard turn_trips looked later
-    (seen_to_within heard line looked later round.followed.seen_to))
+    (seen_to_within heard line looked later round.followed.seen_to)))
 
--- each asks what the first one asked
-rounds_ask : {P : Type 0} (heard : HeardTrips P) (outputs : Outputs) (expected : List ℕ) (line : List Wanted)
-    (n : ℕ) (s after : Cycles) (before later : WatchedState P)
-    → Rounds heard outputs expected line n s before after later → after.asked ≡ s.asked
+-- each asks as many items as the first one
+rounds_ask : {P D : Type 0} (heard : HeardTrips P) (listens : Listens D) (held : D → List ℕ)
+    (outputs : Outputs) (expected : List ℕ) (line : List Wanted) (n : ℕ) (s after : Cycles)
+    (before later : WatchedState P) (last : Option End)
+    → Rounds heard listens held outputs expected line n s before last after later
+    → length after.asked ≡ length s.asked
 unfolding Rounds
-rounds_ask heard outputs expected line zero s after before later (is, same) =
-    ap (λ (c : Cycles). c.asked) is
-rounds_ask heard outputs expected line (suc n) s after before later (now, ports, rounds, round) =
-    ap (λ (c : Cycles). c.asked) round.cycle.after_is
-    ∙ rounds_ask heard outputs expected line n s now before ports rounds
+rounds_ask heard listens held outputs expected line zero s after before later last (is, same, none) =
+    ap (λ (c : Cycles). length c.asked) is
+rounds_ask heard listens held outputs expected line (suc n) s after before later last
+    (now, ports, end_before, end, rounds, round, some) =
+    ap (λ (c : Cycles). length c.asked) round.cycle.after_is
+    ∙ supplied_length listens held now round.supplied round.takes
+    ∙ rounds_ask heard listens held outputs expected line n s now before ports end_before rounds
 
-rounds_within : {P : Type 0} (heard : HeardTrips P) (outputs : Outputs) (expected : List ℕ)
-    (line : List Wanted) (n : ℕ) (s after : Cycles) (before later : WatchedState P)
-    → Rounds heard outputs expected line n s before after later
+rounds_within : {P D : Type 0} (heard : HeardTrips P) (listens : Listens D) (held : D → List ℕ)
+    (outputs : Outputs) (expected : List ℕ) (line : List Wanted) (n : ℕ) (s after : Cycles)
+    (before later : WatchedState P) (last : Option End)
+    → Rounds heard listens held outputs expected line n s before last after later
     → IsWithin (PortsTrip heard) (n * round_trips (length s.asked)) before.ports later.ports
 unfolding Rounds
-rounds_within heard outputs expected line zero s after before later (is, same) =
+rounds_within heard listens held outputs expected line zero s after before later last (is, same, none) =
     within_none (PortsTrip heard) _ before.ports later.ports (ap (λ x. x.ports) same)
-rounds_within heard outputs expected line (suc n) s after before later (now, ports, rounds, round) =
+rounds_within heard listens held outputs expected line (suc n) s after before later last
+    (now, ports, end_before, end, rounds, round, some) =
     let trips = PortsTrip heard in
     let t : ℕ = round_trips (length s.asked) in
     let asked : length now.asked ≡ length s.asked =
-    ap length (rounds_ask heard outputs expected line n s now before ports rounds) in
+    rounds_ask heard listens held outputs expected line n s now before ports end_before rounds in
     let size : suc n * t ≡ n * t + t = suc-mul n t in
     let less : n * t + t ≤ suc n * t = omega (arith, size) in
     within_less trips (n * t + t) (suc n * t) before.ports later.ports less
     (within_then trips (n * t) t before.ports ports.ports later.ports
-    (rounds_within heard outputs expected line n s now before ports rounds)
+    (rounds_within heard listens held outputs expected line n s now before ports end_before rounds)
     (subst (λ (k : ℕ). IsWithin trips (round_trips k) ports.ports later.ports) asked
-    (round_within heard outputs expected line now after ports later round)))
+    (round_within heard listens held outputs expected line now after ports later end round)))
 
 -- a course makes so many trips at the most for each of its cycles
-pub course_within : {P : Type 0} (heard : HeardTrips P) (outputs : Outputs) (expected : List ℕ)
-    (line : List Wanted) (s after : Cycles) (before later : WatchedState P)
-    → IsCourse heard outputs expected line s before after later
+pub course_within : {P D : Type 0} (heard : HeardTrips P) (listens : Listens D) (held : D → List ℕ)
+    (outputs : Outputs) (expected : List ℕ) (line : List Wanted) (s after : Cycles)
+    (before later : WatchedState P) (last : Option End)
+    → IsCourse heard listens held outputs expected line s before last after later
     → IsWithin (PortsTrip heard)
     ((after.counts.cycles - s.counts.cycles) * round_trips (length s.asked)) before.ports later.ports
-course_within heard outputs expected line s after before later course =
+course_within heard listens held outputs expected line s after before later last course =
     let counts : after.counts.cycles ≡ s.counts.cycles + course.number = course.counts in
     let same : course.number ≡ after.counts.cycles - s.counts.cycles = omega (arith, counts) in
     subst (λ (n : ℕ). IsWithin (PortsTrip heard) (n * round_trips (length s.asked)) before.ports later.ports)
     same
-    (rounds_within heard outputs expected line course.number s after before later course.rounds)
+    (rounds_within heard listens held outputs expected line course.number s after before later last
+    course.rounds)
+
+-- and asks as many items as before
+pub course_asks : {P D : Type 0} (heard : HeardTrips P) (listens : Listens D) (held : D → List ℕ)
+    (outputs : Outputs) (expected : List ℕ) (line : List Wanted) (s after : Cycles)
+    (before later : WatchedState P) (last : Option End)
+    → IsCourse heard listens held outputs expected line s before last after later
+    → length after.asked ≡ length s.asked
+course_asks heard listens held outputs expected line s after before later last course =
+    rounds_ask heard listens held outputs expected line course.number s after before later last course.rounds

@@ -1,4 +1,3 @@
-mod LastLemmas
 mod CourseLemmas
 mod StartLemmas
 mod GoodRunLemmas

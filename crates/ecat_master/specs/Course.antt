@@ -1,5 +1,6 @@
--- The course of a running master over its ports, end to end: cycle after cycle, and behind each one the looks
--- at the cable, and what is done with a slave before the next one begins.
+-- The course of a running master over its ports, end to end: cycle after cycle, before each one the outputs of
+-- the task that it serves, and behind each one a look at the cable and what is done with a slave before the next
+-- one begins.
 use Rattle.std.specs.Prelude.{◌≡◌, ◌⊎◌, ℕ, zero, suc, ◌+◌, Bool, true, false, List, length, Option, None}
 use Rattle.std.specs.Prelude.{Some, Result, slice_get}
 use Rattle.std.specs.Result.{result_ok}
@@ -23,6 +24,7 @@ use Rattle.ec_run.specs.declared.along.Along.{Along}
 use Rattle.ec_run.specs.declared.recovery.Seen.{Seen}
 use Rattle.ec_run.specs.declared.turns.Turn.{Turn}
 use Rattle.ec_run.specs.declared.wanted.Wanted.{Wanted}
+use Rattle.ecat_master.specs.Task.{Listens, TakesOutputs}
 use Rattle.ecat_master.specs.declared.startup.TheConstants.{MORE_CABLE_LOOKS}
 
 -- ports that tell where copies arrive: the ports before a trip, the frame, what arrives, the ports behind it
@@ -67,10 +69,16 @@ pub record IsLookedOver {P : Type 0} (heard : HeardTrips P) (before : WatchedSta
   pub looks : AreLooks heard before.ports slaves MORE_CABLE_LOOKS found later.ports
   pub still_told : later.tally ≡ before.tally
 
--- the cable is looked at, or it is not
-abbrev pub MayBeLookedOver : {P : Type 0} → HeardTrips P → WatchedState P → ℕ → WatchedState P → Type 0
-MayBeLookedOver heard before slaves later =
-    (later ≡ before) ⊎ ((found : Option Located) × IsLookedOver heard before slaves found later)
+-- once; what the copies of cycles told stays as it was
+pub record IsLookedOnce {P : Type 0} (heard : HeardTrips P) (before : WatchedState P) (slaves : ℕ)
+    (found : Option Located) (later : WatchedState P) : Type 0 where
+  pub look : IsLook heard before.ports slaves found later.ports
+  pub still_told : later.tally ≡ before.tally
+
+-- the cable is looked at once, or it is not
+abbrev pub MayBeLooked : {P : Type 0} → HeardTrips P → WatchedState P → ℕ → WatchedState P → Type 0
+MayBeLooked heard before slaves later =
+    (later ≡ before) ⊎ ((found : Option Located) × IsLookedOnce heard before slaves found later)
 
 -- ---- between two cycles
 
@@ -96,40 +104,44 @@ pub data IsSeenTo {P : Type 0} (heard : HeardTrips P) (line : List Wanted) (befo
       → IsTurn (WatchedTrips heard) before wanted recovery turn later
       → IsSeenTo heard line before later
 
--- behind a cycle: looks at the cable, and then a slave is seen to
+-- behind a cycle: a look at the cable, and then a slave is seen to
 pub record IsFollowed {P : Type 0} (heard : HeardTrips P) (line : List Wanted) (before later : WatchedState P)
     : Type 0 where
   pub between : WatchedState P
-  pub looks : MayBeLookedOver heard before (length line) between
+  pub looks : MayBeLooked heard before (length line) between
   pub seen_to : IsSeenTo heard line between later
 
 -- ---- end to end
 
--- what was told is forgotten; a cycle is made, and what its copies tell is kept; and what is done behind it
-pub record IsRound {P : Type 0} (heard : HeardTrips P) (outputs : Outputs) (expected : List ℕ)
-    (line : List Wanted) (s : Cycles) (before : WatchedState P) (after : Cycles) (later : WatchedState P)
-    : Type 0 where
-  pub end : End
+-- the outputs that the task has are taken; what was told is forgotten; a cycle is made, and what its copies tell
+-- is kept; and what is done behind it
+pub record IsRound {P D : Type 0} (heard : HeardTrips P) (listens : Listens D) (held : D → List ℕ)
+    (outputs : Outputs) (expected : List ℕ) (line : List Wanted) (s : Cycles) (before : WatchedState P)
+    (end : End) (after : Cycles) (later : WatchedState P) : Type 0 where
+  pub supplied : Cycles
+  pub takes : TakesOutputs listens held s supplied
   pub between : WatchedState P
-  pub cycle : IsCycle (WatchedTrips heard) (untold before.ports) outputs expected s end after between
+  pub cycle : IsCycle (WatchedTrips heard) (untold before.ports) outputs expected supplied end after between
   pub followed : IsFollowed heard line between later
 
--- so many of them, each from the ports that the one before it left
-unfoldable pub Rounds : {P : Type 0} → HeardTrips P → Outputs → List ℕ → List Wanted → ℕ → Cycles
-    → WatchedState P → Cycles → WatchedState P → Type 0
-Rounds heard outputs expected line zero s before after later = (after ≡ s) × (later ≡ before)
-Rounds {P} heard outputs expected line (suc n) s before after later =
-    (now : Cycles) × (ports : WatchedState P) × Rounds heard outputs expected line n s before now ports
-    × IsRound heard outputs expected line now ports after later
+-- so many of them, each from the ports that the one before it left, and how the last one ended, if there was one
+unfoldable pub Rounds : {P D : Type 0} → HeardTrips P → Listens D → (D → List ℕ) → Outputs → List ℕ
+    → List Wanted → ℕ → Cycles → WatchedState P → Option End → Cycles → WatchedState P → Type 0
+Rounds heard listens held outputs expected line zero s before last after later =
+    (after ≡ s) × (later ≡ before) × (last ≡ None)
+Rounds {P} heard listens held outputs expected line (suc n) s before last after later =
+    (now : Cycles) × (ports : WatchedState P) × (end_before : Option End) × (end : End)
+    × Rounds heard listens held outputs expected line n s before end_before now ports
+    × IsRound heard listens held outputs expected line now ports end after later × (last ≡ Some end)
 
 -- some number of them, as many as cycles are counted
-pub record IsCourse {P : Type 0} (heard : HeardTrips P) (outputs : Outputs) (expected : List ℕ)
-    (line : List Wanted) (s : Cycles) (before : WatchedState P) (after : Cycles) (later : WatchedState P)
-    : Type 0 where
+pub record IsCourse {P D : Type 0} (heard : HeardTrips P) (listens : Listens D) (held : D → List ℕ)
+    (outputs : Outputs) (expected : List ℕ) (line : List Wanted) (s : Cycles) (before : WatchedState P)
+    (last : Option End) (after : Cycles) (later : WatchedState P) : Type 0 where
   pub number : ℕ
-  pub rounds : Rounds heard outputs expected line number s before after later
+  pub rounds : Rounds heard listens held outputs expected line number s before last after later
   pub counts : after.counts.cycles ≡ s.counts.cycles + number
 
--- the most trips of a round: a frame for each item, the looks at the cable, and a turn with a slave
+-- the most trips of a round: a frame for each item, a look at the cable, and a turn with a slave
 abbrev pub round_trips : ℕ → ℕ
-round_trips items = items + (MORE_CABLE_LOOKS + 1) + turn_trips
+round_trips items = items + 1 + turn_trips

@@ -11,6 +11,7 @@ use Rattle.ecat_master.specs.Exits.{start_status}
 use Rattle.ecat_master.specs.GoodRun.{IsMade}
 use Rattle.ecat_master.specs.Last.{in_op, status_told}
 use Rattle.ecat_master.specs.Start.{IsCaused}
+use Rattle.ecat_master.specs.Task.{Listens}
 use Rattle.ecat_master.specs.declared.leaving.Left.{Left}
 use Rattle.ecat_master.specs.declared.leaving.Left.TheVariants.{AsTheyAre, All, NotAll}
 use Rattle.ecat_master.specs.declared.run.Plan.{Plan}
@@ -41,12 +42,13 @@ IsTold (Ok last) all_well status = (status ≡ FAILED) ⊎ (status ≡ status_to
 -- it is 3 where output or log could not be written; that of the fault where the line could not be started,
 -- and the fault has its cause; and else, behind a start and a course of cycles, that of the last cycle, if
 -- there was one, and of the way in which the slaves were left
-pub data IsEnded {P : Type 0} (heard : HeardTrips P) (before : P) (line : List Wanted)
-    (work : List ItemRecord) (expected : List ℕ) (plan : Plan) (status : ℕ) : Type 0 where
-  unwritten : status ≡ FAILED → IsEnded heard before line work expected plan status
+pub data IsEnded {P D : Type 0} (heard : HeardTrips P) (listens : Listens D) (held : D → List ℕ)
+    (before : P) (line : List Wanted) (work : List ItemRecord) (expected : List ℕ) (plan : Plan)
+    (status : ℕ) : Type 0 where
+  unwritten : status ≡ FAILED → IsEnded heard listens held before line work expected plan status
   not_started : (fault : StartFault) → IsCaused heard (untold before) line plan.identities.now fault
-      → status ≡ start_status fault → IsEnded heard before line work expected plan status
+      → status ≡ start_status fault → IsEnded heard listens held before line work expected plan status
   ran : (last : Option End) (cycles : Cycles) (left : Left)
-      → IsMade heard before line work expected plan last cycles → IsLeft plan.leave left
+      → IsMade heard listens held before line work expected plan last cycles → IsLeft plan.leave left
       → status ≡ status_told last (is_well left && in_op plan.states cycles.image)
-      → IsEnded heard before line work expected plan status
+      → IsEnded heard listens held before line work expected plan status

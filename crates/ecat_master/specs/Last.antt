@@ -1,28 +1,11 @@
--- How the last of cycles ended that were made one after the other, and the exit status that tells it.
-use Rattle.std.specs.Prelude.{◌≡◌, ℕ, Bool, true, not, if◌then◌else◌, Option, None, Some, List}
+-- The exit status that tells how the last of the cycles ended.
+use Rattle.std.specs.Prelude.{ℕ, Bool, true, not, if◌then◌else◌, Option, None, Some, List}
 use Rattle.std.specs.Prelude.{Ok, Err}
 use Rattle.ec_map.specs.Item.{ItemRecord}
-use Rattle.ec_master.specs.Ports.{Trips}
 use Rattle.ec_master.specs.declared.cycle.CycleFault.TheVariants.{Port, Stranger}
 use Rattle.ec_master.specs.declared.verdict.Verdict.TheVariants.{Good, Short, Over}
-use Rattle.ec_run.specs.Cycles.{End, IsCycle, IsRun}
+use Rattle.ec_run.specs.Cycles.{End}
 use Rattle.ec_run.specs.States.{tells_all_in_op}
-use Rattle.ec_run.specs.declared.cycles.Cycles.{Cycles}
-use Rattle.ec_run.specs.declared.outputs.Outputs.{Outputs}
-
--- the last one of some cycles ended so, behind all the others
-pub record LastEnded {P : Type 0} (trips : Trips P) (outputs : Outputs) (expected : List ℕ)
-    (start : Cycles) (end : End) (now : Cycles) : Type 0 where
-  pub between : Cycles
-  pub run : IsRun trips outputs expected start between
-  pub before : P
-  pub later : P
-  pub cycle : IsCycle trips before outputs expected between end now later
-
--- it ended so, or there was no cycle
-abbrev pub IsLast : {P : Type 0} → Trips P → Outputs → List ℕ → Cycles → Option End → Cycles → Type 0
-IsLast trips outputs expected start None now = now ≡ start
-IsLast trips outputs expected start (Some end) now = LastEnded trips outputs expected start end now
 
 -- the answers of the last good cycle tell that all slaves are in Op; where cycles don't tell the states,
 -- nothing speaks against it

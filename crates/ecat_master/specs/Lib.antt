@@ -1,5 +1,6 @@
 pub mod Last
 pub mod Exits
+pub mod Task
 pub mod Course
 pub mod Identities
 pub mod Start

@@ -4,8 +4,8 @@
 //!
 //! What it does is that of `ec_run`: steps, cycles, recovery. Here is in which order a program does them,
 //! what it tells of them, and its exit status, with no socket and no clock of its own: the ports are any that
-//! tell where copies arrive ([`ec_ring::HeardPorts`]), the time is a [`Pace`], and what is told goes to
-//! writers. One use, which `master/door.rt` of `ecat_master_tests` tries; `wanted`, `ring` and `work` of
+//! tell where copies arrive ([`ec_ring::HeardPorts`]), the time is a [`Pace`], outputs are those of a [`Task`]
+//! that is told what each cycle came to, and what else is told goes to writers. One use, which `master/door.rt` of `ecat_master_tests` tries; `wanted`, `ring` and `work` of
 //! `master/line.rt` make three slaves as a scene has them, a ring of slaves that were told nothing, and an
 //! exchange of three bytes; `Stage` and `Count` of `master/stage.rt` are ports to that ring, whose link 2
 //! breaks before cycle 3, and so many cycles:
@@ -28,7 +28,7 @@
 //! };
 //! let mut pace = Count { left: 5 };
 //! let status = master(
-//!     ports, &line, work, &EXPECTED, &plan, &mut pace, &mut out, &mut err, &mut log,
+//!     ports, &line, work, &EXPECTED, &plan, &mut pace, &mut NoTask, &mut out, &mut err, &mut log,
 //! );
 //! ```
 //!
@@ -65,11 +65,12 @@
 //!   answered or told another number, a cable that the looks found broken otherwise, a step that failed so;
 //!   and behind Pre-Op the first entry of an identity that is another one or could not be read, as it is
 //!   told. (`trips`): so many trips are the most of a start that answers Ok, whatever a clock says.
-//! - [`run_cycles`] (`cycles`): the cycles of a run are `Cycles::cycle`, one after the other, and their ends
-//!   add up; (`last`): it answers how the last one ended. (`course`): cycles, looks at the cable, looks at
-//!   slaves and turns of recoveries follow each other end to end, from the ports before to those behind; what
-//!   copies told is forgotten before each cycle, kept of its trips, and left as it is by looks at the cable.
-//!   (`trips`): so many trips are the most for each cycle, whatever a clock says.
+//! - [`run_cycles`] (`course`): the cycles of a run are `Cycles::cycle`, one after the other, and their ends
+//!   add up. Before each one its [`Task`] is listened to, and where that has other outputs the items that
+//!   write have these. Cycles, a look at the cable, looks at slaves and turns of recoveries follow each other
+//!   end to end, from the ports before to those behind; what copies told is forgotten before each cycle, kept
+//!   of its trips, and left as it is by a look at the cable. (`last`): it answers how the last cycle of that
+//!   course ended. (`trips`): so many trips are the most for each cycle, whatever a clock says.
 //! - [`master`] (`good`): an exit status of 0 says that the line was started so, and that the last cycle on
 //!   it was good with all slaves in Op, if there was one. (`ended`): whichever it is, it is that of the fault
 //!   of a start, or that of the last cycle and of the way in which the slaves were left; or it is 3, which it
@@ -95,6 +96,7 @@ mod scanning;
 mod slaves;
 mod spread;
 mod startup;
+mod task;
 mod teller;
 mod telling;
 mod words;
@@ -102,7 +104,8 @@ mod words;
 pub use identity::{ENTRIES, IDENTITY, Identity, OtherSlave};
 pub use over_ring::{found_line, started_line};
 pub use pace::Pace;
-pub use run::{FAILED, GOOD, Plan, REFUSED, master, run_cycles};
+pub use run::{FAILED, GOOD, LinePlan, Plan, REFUSED, master, run_cycles};
 pub use scanning::{Finder, ScanEnd, Unfound, scan};
 pub use startup::{StartEnd, StartFault, put_start_fault, start};
+pub use task::{NoTask, Report, Task};
 pub use teller::{Teller, Unwritten};

@@ -19,6 +19,7 @@ ghost use Rattle.ecat_master.specs.Identities.{WantedIdentity};
 ghost use Rattle.ecat_master.specs.Start.{IsStarted};
 ghost use Rattle.ecat_master.specs.declared.run.Plan.{Plan};
 
+use crate::task::Task;
 use ec_diag::promises::trips_are_heard;
 
 /// A line that was started ([`crate::start`]) over a ring with at most one link down, of which nothing is
@@ -26,8 +27,8 @@ use ec_diag::promises::trips_are_heard;
 /// slave of the ring alone has its station address, is in Op without an error, and its FMMUs and the sync
 /// managers of its process data stand as they were wanted (`started`); whoever had which station at first,
 /// and in whatever states the slaves were. So it is of the line of a run that ends with the exit status 0
-/// ([`crate::master`]), before its first cycle (`good`).
-pub fn started_line()
+/// ([`crate::master`]), before its first cycle, whichever task it serves (`good`).
+pub fn started_line<D: Task>()
     ensures started { (line : List Wanted) (identities : List WantedIdentity) (cable : Located)
         (before later : WatchedState RingState)
         → ReachesAll before.ports → AreWanted line
@@ -35,7 +36,7 @@ pub fn started_line()
         → AllByRecursion (IsSetUp later.ports) line }
     ensures good { (line : List Wanted) (work : List ItemRecord) (expected : List ℕ) (plan : Plan)
         (r : RingState) → ReachesAll r → AreWanted line
-        → (run : IsGoodRun HeardRing r line work expected plan)
+        → (run : IsGoodRun HeardRing D.listens D.held r line work expected plan)
         → AllByRecursion (IsSetUp run.made.between.ports) line }
 {}
 

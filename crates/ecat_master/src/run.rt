@@ -1,14 +1,14 @@
 //! A master that runs: the start-up of a line, and then cycle after cycle.
 
-ghost use Rattle.std.specs.Prelude.{◌≡◌, ◌≢◌, ◌-◌, ◌*◌, ◌&&◌, ℕ, Err, IfOk, IsOk, length};
-ghost use Rattle.ec_run.specs.Cycles.{AddUp, IsRun};
+ghost use Rattle.std.specs.Prelude.{◌≡◌, ◌≢◌, ◌-◌, ◌*◌, ◌<◌, ◌&&◌, ℕ, Err, IfOk, IsOk, Option, length};
+ghost use Rattle.ec_run.specs.Cycles.{AddUp, End};
 ghost use Rattle.ec_run.specs.Travels.{IsWithin};
-ghost use Rattle.ec_run.specs.Watched.{PortsTrip, WatchedTrips, untold};
-ghost use Rattle.ecat_master.specs.Course.{IsCourse, round_trips};
+ghost use Rattle.ec_run.specs.Watched.{PortsTrip};
+ghost use Rattle.ecat_master.specs.Course.{IsCourse, IsRound, round_trips};
 ghost use Rattle.ecat_master.specs.Ended.{IsEnded, IsTold, is_well};
 ghost use Rattle.ecat_master.specs.Exits.{asked_status, start_status};
 ghost use Rattle.ecat_master.specs.GoodRun.{EndsGood, IsGoodRun};
-ghost use Rattle.ecat_master.specs.Last.{IsLast, in_op, status_told};
+ghost use Rattle.ecat_master.specs.Last.{in_op, status_told};
 ghost use Rattle.ecat_master.specs.Start.{IsCaused, IsStarted};
 ghost use Rattle.ecat_master.specs.declared.run.StartFailure.TheVariants.{Told};
 ghost use Rattle.ecat_master.specs.declared.startup.StartFault.{StartFault};
@@ -20,6 +20,7 @@ use crate::leaving::{Left, leave_line, put_left};
 use crate::pace::Pace;
 use crate::ports::{put_failing, put_failures};
 use crate::startup::{StartEnd, StartFault, put_start_fault, start};
+use crate::task::{Task, report_of, take_outputs};
 use crate::teller::{Teller, Unwritten};
 use crate::telling::{CycleEnd, Images, put_counts, tell_image};
 use ec_diag::Located;
@@ -78,49 +79,69 @@ fn in_op(states: bool, image: &Option<Work>) -> bool
     }
 }
 
-/// Makes cycle after cycle, as long as the pace has another one, and tells of them; between two cycles the
-/// cable or a slave may be looked at. It answers how the last one ended; nothing where there was none. An
-/// error is one of `out` or of the log.
-pub fn run_cycles<P, T, W, V, L>(
-    cycles: &mut Cycles,
-    ports: &mut Watched<P>,
-    line: &[Wanted],
-    expected: &[u16],
-    plan: &Plan<'_>,
-    pace: &mut T,
-    teller: &mut Teller<'_, W, V, L>,
-) -> Result<Option<Result<Verdict, CycleFault>>, Unwritten>
-where
-    P: HeardPorts,
-    T: Pace,
-    W: Write,
-    V: Write,
-    L: Write,
-    requires items { length expected.now ≡ length cycles.old.asked }
-    requires sum { AddUp cycles.old.counts }
-    ensures adds_up { AddUp cycles.new.counts }
-    ensures asked { cycles.new.asked ≡ cycles.old.asked }
-    ensures cycles { IsRun (WatchedTrips P.trips) plan.now.outputs expected.now cycles.old cycles.new }
-    ensures course { IsCourse P.trips plan.now.outputs expected.now line.now cycles.old ports.old cycles.new
-        ports.new }
-    ensures trips { IsWithin (PortsTrip P.trips) ((cycles.new.counts.cycles - cycles.old.counts.cycles)
-        * round_trips (length cycles.old.asked)) ports.old.ports ports.new.ports }
-    ensures last { IfOk result (λ last. IsLast (WatchedTrips P.trips) plan.now.outputs expected.now
-        cycles.old last cycles.new) }
-{
-    let mut last = None;
-    let mut rooms = Rooms::new();
-    while cycles.counts.cycles < MOST_CYCLES && pace.next() {
+/// How a master runs on a line.
+#[derive(Clone, Copy)]
+pub struct LinePlan<'a> {
+    /// What the slaves are to be told, by their places.
+    pub line: &'a [Wanted],
+    /// What the counters of a cycle's items are to gain, in their order.
+    pub expected: &'a [u16],
+    /// How it runs.
+    pub plan: &'a Plan<'a>,
+}
+
+/// How a round has ended: a cycle, and what was done behind it.
+#[derive(Clone, Copy)]
+struct Rounded {
+    /// How the cycle ended.
+    ended: Result<Verdict, CycleFault>,
+    /// Whether it is to be the last one; or what could not be written of it.
+    told: Result<bool, Unwritten>,
+}
+
+impl LinePlan<'_> {
+    /// How many items of a cycle are the scene's: the read of the states behind them is not.
+    pub(crate) fn items(&self) -> usize {
+        self.expected
+            .len()
+            .saturating_sub(usize::from(self.plan.states))
+    }
+
+    /// Makes one round: the outputs of the task are taken, a cycle is made, the task is told what it came to,
+    /// and then the others are, while the cable or a slave may be looked at.
+    fn round<P, T, D, W, V, L>(
+        &self,
+        cycles: &mut Cycles,
+        rooms: &mut Rooms,
+        ports: &mut Watched<P>,
+        pace: &mut T,
+        task: &mut D,
+        teller: &mut Teller<'_, W, V, L>,
+    ) -> Rounded
+    where
+        P: HeardPorts,
+        T: Pace,
+        D: Task,
+        W: Write,
+        V: Write,
+        L: Write,
+        requires items { length self.now.expected.now ≡ length cycles.old.asked }
+        requires room { cycles.old.counts.cycles < MOST_CYCLES }
+        requires sum { AddUp cycles.old.counts }
+        ensures round { IsRound P.trips D.listens D.held self.now.plan.now.outputs self.now.expected.now
+            self.now.line.now cycles.old ports.old result.ended cycles.new ports.new }
+        ensures adds_up { AddUp cycles.new.counts }
+    {
         let began = pace.now();
+        let late = pace.late();
         teller
             .lateness
-            .take(cycles.counts.cycles, pace.late(), pace.missed());
+            .take(cycles.counts.cycles, late, pace.missed());
+        take_outputs(task, cycles);
         let first = ports.trips_made();
         ports.begin_cycle(teller.time_left(pace.left()));
-        let ended = cycles.cycle_in(ports, plan.outputs, expected, &mut rooms);
-        let late = end_cycle(ports);
-        let is_good = ended == Ok(Verdict::Good);
-        last = Some(ended);
+        let ended = cycles.cycle_in(ports, self.plan.outputs, self.expected, rooms);
+        let late_copies = end_cycle(ports);
         let at = pace.now();
         let trips = CycleTrips {
             first,
@@ -129,15 +150,92 @@ where
         };
         let end = CycleEnd {
             ended,
-            in_op: in_op(plan.states, &cycles.image),
+            in_op: in_op(self.plan.states, &cycles.image),
             at,
-            unsure: teller.take_cycle(cycles.counts, trips, late, at, is_good, plan),
+            unsure: teller.take_cycle(cycles.counts, trips, late_copies, at, ended, self.plan),
         };
-        let images = Images {
-            sent: rooms.sent(),
-            image: cycles.image.as_ref(),
-        };
-        let is_last = teller.follow(cycles.counts, end, ports, expected, line, images, plan)?;
+        task.report(&report_of(cycles, end, late, self.items(), ports));
+        let images = images_of(rooms, cycles);
+        let told = teller.follow(cycles.counts, end, ports, self, images);
+        Rounded { ended, told }
+    }
+}
+
+/// What a log may have of a cycle: its items as they went out, and what the last good one left of them.
+fn images_of<'a>(rooms: &'a Rooms, cycles: &'a Cycles) -> Images<'a> {
+    Images {
+        sent: rooms.sent(),
+        image: cycles.image.as_ref(),
+    }
+}
+
+/// Makes cycle after cycle, as long as the pace has another one, with the outputs of a task, and tells of
+/// them; between two cycles the cable or a slave may be looked at. It answers how the last one ended; nothing
+/// where there was none. An error is one of `out` or of the log.
+pub fn run_cycles<P, T, D, W, V, L>(
+    cycles: &mut Cycles,
+    ports: &mut Watched<P>,
+    line_plan: &LinePlan<'_>,
+    pace: &mut T,
+    task: &mut D,
+    teller: &mut Teller<'_, W, V, L>,
+) -> Result<Option<Result<Verdict, CycleFault>>, Unwritten>
+where
+    P: HeardPorts,
+    T: Pace,
+    D: Task,
+    W: Write,
+    V: Write,
+    L: Write,
+    requires items { length line_plan.now.expected.now ≡ length cycles.old.asked }
+    requires sum { AddUp cycles.old.counts }
+    ensures adds_up { AddUp cycles.new.counts }
+    ensures asked { length cycles.new.asked ≡ length cycles.old.asked }
+    ensures course { (last : Option End) × IsCourse P.trips D.listens D.held line_plan.now.plan.now.outputs
+        line_plan.now.expected.now line_plan.now.line.now cycles.old ports.old last cycles.new ports.new }
+    ensures last { IfOk result (λ last. IsCourse P.trips D.listens D.held line_plan.now.plan.now.outputs
+        line_plan.now.expected.now line_plan.now.line.now cycles.old ports.old last cycles.new ports.new) }
+    ensures trips { IsWithin (PortsTrip P.trips) ((cycles.new.counts.cycles - cycles.old.counts.cycles)
+        * round_trips (length cycles.old.asked)) ports.old.ports ports.new.ports }
+{
+    let made = make_rounds(cycles, ports, line_plan, pace, task, teller)?;
+    match teller.close(line_plan) {
+        Ok(()) => Ok(made),
+        Err(unwritten) => Err(unwritten),
+    }
+}
+
+/// Makes round after round, as long as the pace has another cycle and none is to be the last one, and answers
+/// how the last cycle ended.
+fn make_rounds<P, T, D, W, V, L>(
+    cycles: &mut Cycles,
+    ports: &mut Watched<P>,
+    line_plan: &LinePlan<'_>,
+    pace: &mut T,
+    task: &mut D,
+    teller: &mut Teller<'_, W, V, L>,
+) -> Result<Option<Result<Verdict, CycleFault>>, Unwritten>
+where
+    P: HeardPorts,
+    T: Pace,
+    D: Task,
+    W: Write,
+    V: Write,
+    L: Write,
+    requires items { length line_plan.now.expected.now ≡ length cycles.old.asked }
+    requires sum { AddUp cycles.old.counts }
+    ensures adds_up { AddUp cycles.new.counts }
+    ensures course { (last : Option End) × IsCourse P.trips D.listens D.held line_plan.now.plan.now.outputs
+        line_plan.now.expected.now line_plan.now.line.now cycles.old ports.old last cycles.new ports.new }
+    ensures last { IfOk result (λ last. IsCourse P.trips D.listens D.held line_plan.now.plan.now.outputs
+        line_plan.now.expected.now line_plan.now.line.now cycles.old ports.old last cycles.new ports.new) }
+{
+    let mut last = None;
+    let mut rooms = Rooms::new();
+    while cycles.counts.cycles < MOST_CYCLES && pace.next() {
+        let round = line_plan.round(cycles, &mut rooms, ports, pace, task, teller);
+        last = Some(round.ended);
+        let is_last = round.told?;
         if is_last {
             break;
         }
@@ -211,16 +309,18 @@ fn status_of_start(fault: &StartFault) -> u8
 /// Brings up a line over two ports and makes cycle after cycle, leaves the slaves in the state of the plan,
 /// and answers the exit status (`GOOD`, `REFUSED`, `FAILED`). `line` is what the slaves are to be told, by
 /// their places; `work` is what each cycle asks, and `expected` what the counters of its items are to gain.
+/// Its cycles serve `task`: they send the outputs that it holds, and it is told what each of them came to.
 /// `out` has a line for each part of the start-up and for what changes while the cycles run, and at the end
 /// how many there were and the last image; `err` has the progress, and `log` every cycle, where the plan says
 /// so.
-pub fn master<P, T, W, V, L>(
+pub fn master<P, T, D, W, V, L>(
     ports: P,
     line: &[Wanted],
     work: Work,
     expected: &[u16],
     plan: &Plan<'_>,
     pace: &mut T,
+    task: &mut D,
     out: &mut W,
     err: &mut V,
     log: &mut L,
@@ -228,12 +328,14 @@ pub fn master<P, T, W, V, L>(
 where
     P: HeardPorts + Drop,
     T: Pace,
+    D: Task,
     W: Write,
     V: Write,
     L: Write,
     requires { length expected.now ≡ length work }
-    ensures good { result ≡ GOOD → IsGoodRun P.trips ports line.now work expected.now plan.now }
-    ensures ended { IsEnded P.trips ports line.now work expected.now plan.now result }
+    ensures good { result ≡ GOOD → IsGoodRun P.trips D.listens D.held ports line.now work expected.now
+        plan.now }
+    ensures ended { IsEnded P.trips D.listens D.held ports line.now work expected.now plan.now result }
 {
     let mut ports = Watched::new(ports);
     let cable = match begin(&mut ports, line, plan.identities, &mut Lines::new(out)) {
@@ -243,15 +345,12 @@ where
     };
     let mut cycles = Cycles::new(work);
     let mut teller = Teller::new(Lines::new(out), Lines::new(err), Lines::new(log), cable);
-    let ran = run_cycles(
-        &mut cycles,
-        &mut ports,
+    let line_plan = LinePlan {
         line,
         expected,
         plan,
-        pace,
-        &mut teller,
-    );
+    };
+    let ran = run_cycles(&mut cycles, &mut ports, &line_plan, pace, task, &mut teller);
     let left = leave_line(&mut ports, plan.leave, line.len());
     conclude(ran, left, &cycles, expected, plan, &ports, &mut teller)
 }

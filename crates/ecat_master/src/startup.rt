@@ -27,7 +27,7 @@ use ecat_text::Lines;
 use std::io::{self, Write};
 
 /// How often the cable is looked at again, where that did not come out as it should.
-const MORE_CABLE_LOOKS: usize = 9;
+pub(crate) const MORE_CABLE_LOOKS: usize = 9;
 
 /// How often the slaves are counted again, where they were not as many as they are to be.
 const MORE_COUNTS: usize = 9;
@@ -263,7 +263,7 @@ fn look<P: HeardPorts, W: Write>(
 }
 
 /// Is it known of each link whether it is down, but for those between two that are?
-fn is_known(located: Located) -> bool
+pub(crate) fn is_known(located: Located) -> bool
     ensures { result ≡ is_known located }
 {
     matches!(
@@ -283,7 +283,7 @@ fn is_last_look(found: Option<Located>) -> bool
 }
 
 /// Looks at the cable of a line of so many slaves, and says where it is broken; nothing where a port failed.
-fn look_once<P: HeardPorts>(ports: &mut Watched<P>, slaves: usize) -> Option<Located>
+pub(crate) fn look_once<P: HeardPorts>(ports: &mut Watched<P>, slaves: usize) -> Option<Located>
     ensures look { IsLook P.trips ports.old.ports slaves result ports.new.ports }
     ensures still_told { ports.new.tally ≡ ports.old.tally }
 {

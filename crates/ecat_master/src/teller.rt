@@ -7,10 +7,10 @@ use crate::care::{Care, Next, most_asked, wanted_at};
 use crate::late::{CycleTrips, LateCycles, Unsure};
 use crate::lateness::Lateness;
 use crate::ports::PortsNews;
-use crate::run::Plan;
+use crate::run::{LinePlan, Plan};
 use crate::slaves::SlaveStates;
 use crate::spread::Spread;
-use crate::telling::{CycleEnd, Images, Told, log_cycle, put_counts, put_cycle};
+use crate::telling::{CycleEnd, Images, Setting, Told, log_cycle, put_counts, put_cycle};
 use crate::words::{put_code, put_step_fault, state_name};
 use ec_diag::Located;
 use ec_master::{CycleFault, Verdict};
@@ -165,11 +165,11 @@ impl<'a, W: Write, V: Write, L: Write> Teller<'a, W, V, L> {
         trips: CycleTrips,
         late: LateCopies,
         now: u64,
-        is_good: bool,
+        ended: Result<Verdict, CycleFault>,
         plan: &Plan<'_>,
     ) -> Option<Unsure> {
         let took = now.saturating_sub(trips.began);
-        if is_good {
+        if ended == Ok(Verdict::Good) {
             self.least_good = Some(self.least_good.map_or(took, |least| least.min(took)));
         }
         self.take_time(counts, took, now, plan);
@@ -208,23 +208,21 @@ impl<'a, W: Write, V: Write, L: Write> Teller<'a, W, V, L> {
         counts: Counts,
         end: CycleEnd,
         ports: &mut Watched<P>,
-        expected: &[u16],
-        line: &[Wanted],
+        line_plan: &LinePlan<'_>,
         images: Images<'_>,
-        plan: &Plan<'_>,
     ) -> Result<bool, Unwritten>
-        ensures followed { IsFollowed P.trips line.now ports.old ports.new }
+        ensures followed { IsFollowed P.trips line_plan.now.line.now ports.old ports.new }
     {
+        let plan = line_plan.plan;
         let cycle = counts.cycles.saturating_sub(1);
-        let items = expected.len().saturating_sub(usize::from(plan.states));
         let images = if plan.log_images { Some(images) } else { None };
         if self
-            .log_one(cycle, end, ports.counts(), items, images, plan)
+            .log_one(cycle, end, ports.counts(), line_plan.items(), images, plan)
             .is_err()
         {
             return Err(Unwritten::Log);
         }
-        match self.tell(cycle, end, ports, expected, line, plan) {
+        match self.tell(cycle, end, ports, line_plan) {
             Ok(()) => Ok(plan.stop && !end.is_well()),
             Err(_) => Err(Unwritten::Output),
         }
@@ -270,27 +268,39 @@ impl<'a, W: Write, V: Write, L: Write> Teller<'a, W, V, L> {
         cycle: u64,
         end: CycleEnd,
         ports: &mut Watched<P>,
-        expected: &[u16],
-        line: &[Wanted],
-        plan: &Plan<'_>,
+        line_plan: &LinePlan<'_>,
     ) -> io::Result<()>
-        ensures followed { IsFollowed P.trips line.now ports.old ports.new }
+        ensures followed { IsFollowed P.trips line_plan.now.line.now ports.old ports.new }
     {
         self.tell_times(cycle, end, ports)?;
-        self.told.tell(
-            cycle,
-            end.ended,
-            ports,
-            expected,
-            line,
-            plan.states,
-            self.ports.some_fails(),
-            &mut self.out,
-        )?;
+        let setting = self.setting(line_plan);
+        self.told
+            .tell(cycle, end.ended, ports, setting, &mut self.out)?;
         if end.ended == Ok(Verdict::Good) {
             self.states.take(cycle, end.in_op, &mut self.out)?;
         }
-        self.see_to(cycle, end, ports, line, plan)
+        self.see_to(cycle, end, ports, line_plan.line, line_plan.plan)
+    }
+
+    /// What cycles are told by.
+    fn setting<'s>(&self, line_plan: &LinePlan<'s>) -> Setting<'s>
+        ensures { result.line.now ≡ line_plan.now.line.now }
+    {
+        Setting {
+            line: line_plan.line,
+            expected: line_plan.expected,
+            states: line_plan.plan.states,
+            port_fails: self.ports.some_fails(),
+        }
+    }
+
+    /// Tells, behind the last cycle, what is not told yet.
+    pub(crate) fn close(&mut self, line_plan: &LinePlan<'_>) -> Result<(), Unwritten> {
+        let setting = self.setting(line_plan);
+        match self.told.close(setting, &mut self.out) {
+            Ok(()) => Ok(()),
+            Err(_) => Err(Unwritten::Output),
+        }
     }
 
     /// Tells which cycles were left out, which copies came late, and at which port none come.
@@ -308,6 +318,8 @@ impl<'a, W: Write, V: Write, L: Write> Teller<'a, W, V, L> {
 
     /// Sees to a slave behind a cycle, by a frame or two, or one step: one that is being brought to Op goes
     /// on, one that may have left it is looked at, and else, where that is due, the line is looked along.
+    /// Behind a cycle of which no copy came nobody is seen to: it has waited for all its time, and who it was
+    /// to be goes on behind the next one.
     fn see_to<P: HeardPorts>(
         &mut self,
         cycle: u64,
@@ -318,6 +330,9 @@ impl<'a, W: Write, V: Write, L: Write> Teller<'a, W, V, L> {
     ) -> io::Result<()>
         ensures seen_to { IsSeenTo P.trips line.now ports.old ports.new }
     {
+        if !ports.has_heard() {
+            return Ok(());
+        }
         match mem::replace(&mut self.care, Care::Nobody) {
             Care::Brings(recovery) => self.go_on(cycle, recovery, ports, line),
             Care::LooksAt(place, nobody) => {

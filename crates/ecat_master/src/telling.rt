@@ -1,10 +1,10 @@
 //! What is told of cycles while they run.
 
 ghost use Rattle.std.specs.Prelude.{◌≡◌, ◌≤◌, length};
-ghost use Rattle.ecat_master.specs.Course.{MayBeLookedOver};
+ghost use Rattle.ecat_master.specs.Course.{MayBeLooked};
 
 use crate::late::Unsure;
-use crate::startup::look_surely;
+use crate::startup::{MORE_CABLE_LOOKS, is_known, look_once};
 use crate::words::put_cable;
 use ec_diag::Located;
 use ec_master::{CycleFault, Verdict, Work};
@@ -44,10 +44,45 @@ struct Showing {
     signs: Signs,
 }
 
+/// What a look at the cable found.
+#[derive(Clone, Copy)]
+struct Look {
+    /// Where the cable is broken, as far as that is known.
+    cable: Located,
+    /// Whether no other look is needed, or of use.
+    is_last: bool,
+}
+
+/// What a cycle showed of which nothing is told yet: the looks at the cable behind it brought too little.
+#[derive(Clone, Copy)]
+struct Open {
+    /// The number of the cycle.
+    cycle: u64,
+    /// What it showed.
+    showing: Showing,
+    /// What is known of the cable.
+    cable: Located,
+    /// How often the cable was looked at.
+    looks: usize,
+}
+
+/// What cycles are told by.
+#[derive(Clone, Copy)]
+pub(crate) struct Setting<'a> {
+    /// What the slaves are to be told, by their places.
+    pub(crate) line: &'a [Wanted],
+    /// What the counters of the items are to gain.
+    pub(crate) expected: &'a [u16],
+    /// Whether the last item reads the states of all slaves.
+    pub(crate) states: bool,
+    /// Whether a port fails, of which it is told already that redundancy is lost by it.
+    pub(crate) port_fails: bool,
+}
+
 /// What was told of the cycles so far.
 #[derive(Clone, Copy)]
 pub struct Told {
-    /// What the last cycle showed.
+    /// What the last cycle showed of those that are told.
     last: Showing,
     /// Where the cable was broken when that was last told.
     cable: Located,
@@ -56,6 +91,8 @@ pub struct Told {
     settled: bool,
     /// The number of the cycle that began what goes on.
     since: u64,
+    /// What is told once it is known where the cable is broken, if there is something.
+    open: Option<Open>,
 }
 
 impl Told {
@@ -73,6 +110,7 @@ impl Told {
             cable,
             settled: true,
             since: 0,
+            open: None,
         }
     }
 
@@ -83,72 +121,125 @@ impl Told {
 
     /// Tells what a cycle showed that the last one did not: that it was not good, that it is good again, that
     /// a link is down though it was good, or that none is any more. Only then another frame goes out, which
-    /// looks where the cable is broken; and one more behind the next cycle, where that found something new.
-    /// Of a port that fails it is told already that redundancy is lost by it.
-    pub fn tell<P: HeardPorts, W: Write>(
+    /// looks where the cable is broken; one more behind the next cycle where that found something new, and
+    /// some more, one behind each cycle, until enough copies of one have come.
+    pub(crate) fn tell<P: HeardPorts, W: Write>(
         &mut self,
         cycle: u64,
         ended: Result<Verdict, CycleFault>,
         ports: &mut Watched<P>,
-        expected: &[u16],
-        line: &[Wanted],
-        states: bool,
-        port_fails: bool,
+        setting: Setting<'_>,
         lines: &mut Lines<'_, W>,
     ) -> io::Result<()>
-        ensures looks { MayBeLookedOver P.trips ports.old (length line.now) ports.new }
+        ensures looks { MayBeLooked P.trips ports.old (length setting.entry.line.now) ports.new }
     {
         let now = Showing {
             ended,
             came: came_of(ended, ports.counts()),
             signs: ports.signs(),
         };
-        if now == self.last && self.settled {
+        if now == self.last && self.settled && self.open.is_none() {
             return Ok(());
         }
+        let look = self.look(ended, ports, setting.line.len());
+        self.take_look(cycle, now, look, setting, lines)
+    }
+
+    /// Looks once where the cable is broken now. Nothing new is known where the ports have failed.
+    fn look<P: HeardPorts>(
+        &self,
+        ended: Result<Verdict, CycleFault>,
+        ports: &mut Watched<P>,
+        slaves: usize,
+    ) -> Look
+        ensures looks { MayBeLooked P.trips ports.old slaves ports.new }
+    {
+        let known = Look {
+            cable: self.cable,
+            is_last: true,
+        };
+        if ended == Err(CycleFault::Port) {
+            return known;
+        }
+        match look_once(ports, slaves) {
+            Some(cable) => Look {
+                cable,
+                is_last: is_known(cable),
+            },
+            None => known,
+        }
+    }
+
+    /// Takes what a look found behind a cycle that showed this. What another cycle showed before it is told
+    /// now, whatever is known.
+    fn take_look<W: Write>(
+        &mut self,
+        cycle: u64,
+        showing: Showing,
+        look: Look,
+        setting: Setting<'_>,
+        lines: &mut Lines<'_, W>,
+    ) -> io::Result<()> {
+        let mut looks = 0;
+        let mut began = cycle;
+        if let Some(open) = self.open {
+            if open.showing == showing {
+                looks = open.looks;
+                began = open.cycle;
+            } else {
+                self.settle(open.cycle, &open.showing, look.cable, setting, lines)?;
+            }
+        }
+        if look.is_last || looks == MORE_CABLE_LOOKS {
+            return self.settle(began, &showing, look.cable, setting, lines);
+        }
+        self.open = Some(Open {
+            cycle: began,
+            showing,
+            cable: look.cable,
+            looks: looks.saturating_add(1),
+        });
+        Ok(())
+    }
+
+    /// Tells what is not told yet, by what is known of the cable.
+    pub(crate) fn close<W: Write>(
+        &mut self,
+        setting: Setting<'_>,
+        lines: &mut Lines<'_, W>,
+    ) -> io::Result<()> {
+        match self.open {
+            Some(open) => self.settle(open.cycle, &open.showing, open.cable, setting, lines),
+            None => Ok(()),
+        }
+    }
+
+    /// Tells what a cycle showed while the cable was broken there, as far as it was not told before.
+    fn settle<W: Write>(
+        &mut self,
+        cycle: u64,
+        now: &Showing,
+        cable: Located,
+        setting: Setting<'_>,
+        lines: &mut Lines<'_, W>,
+    ) -> io::Result<()> {
         let before = *self;
-        self.last = now;
-        let cable = self.look(ended, ports, line.len());
+        let ended = now.ended;
+        self.open = None;
+        self.last = *now;
         self.cable = cable;
         self.settled = cable == before.cable;
-        if before.is_as(&now, cable) {
+        if before.is_as(now, cable) {
             return Ok(());
         }
         if before.last.ended != Ok(Verdict::Good) {
             tell_end(cycle, cycle.saturating_sub(before.since), ended, lines)?;
         }
         self.since = cycle;
-        if port_fails && ended == Ok(Verdict::Good) && cable != Located::Whole {
+        if setting.port_fails && ended == Ok(Verdict::Good) && cable != Located::Whole {
             return Ok(());
         }
-        tell_showing(
-            cycle,
-            &now,
-            expected,
-            cable,
-            line,
-            before.cable,
-            states,
-            lines,
-        )
-    }
-
-    /// Where the cable is broken now. Nothing new is known where the ports have failed.
-    fn look<P: HeardPorts>(
-        &self,
-        ended: Result<Verdict, CycleFault>,
-        ports: &mut Watched<P>,
-        slaves: usize,
-    ) -> Located
-        ensures looks { MayBeLookedOver P.trips ports.old slaves ports.new }
-    {
-        if ended == Err(CycleFault::Port) {
-            return self.cable;
-        }
-        match look_surely(ports, slaves) {
-            Some(located) => located,
-            None => self.cable,
-        }
+        tell_showing(cycle, now, cable, before.cable, setting, lines)
     }
 
     /// Is what a cycle showed what was told already?
@@ -194,19 +285,18 @@ fn tell_end<W: Write>(
 fn tell_showing<W: Write>(
     cycle: u64,
     now: &Showing,
-    expected: &[u16],
     cable: Located,
-    line: &[Wanted],
     cable_before: Located,
-    states: bool,
+    setting: Setting<'_>,
     lines: &mut Lines<'_, W>,
 ) -> io::Result<()> {
+    let line = setting.line;
     match now.ended {
         Ok(Verdict::Good) if cable == cable_before => Ok(()),
         Ok(Verdict::Good) => tell_cable(cycle, cable, line, lines),
         Ok(Verdict::Short(item)) | Ok(Verdict::Over(item)) => {
             put_cycle(cycle, lines)?;
-            put_count(item, now.came, expected, states, lines)?;
+            put_count(item, now.came, setting.expected, setting.states, lines)?;
             lines.text("; ")?;
             put_cable(cable, line, lines)?;
             lines.end()

@@ -9,7 +9,7 @@ use ec_master::{PortFault, Work};
 use ec_ring::{Arrivals, HeardPorts, Ring, Travel, Weather};
 use ec_run::{Outputs, Wanted, wanted_of};
 use ec_wire::{Command, FrameBuf};
-use ecat_master::{Pace, Plan, master};
+use ecat_master::{NoTask, Pace, Plan, master};
 use ecat_scene::Scene;
 use ecat_setup::{Expected, ring_of, set_link, slaves_of, work_of};
 use std::alloc::Global;
@@ -168,6 +168,7 @@ fn run(ports: Machine, course: Course, cycles: u32) -> Option<u64> {
         expected.counters(),
         &plan,
         &mut Count { left: cycles },
+        &mut NoTask,
         &mut out,
         &mut err,
         &mut log,

@@ -5,7 +5,7 @@ use super::stage::{Count, Event, ROOM, Stage, written};
 use crate::asserts::assert_found;
 use ec_regs::AlState;
 use ec_run::Outputs;
-use ecat_master::{Plan, master};
+use ecat_master::{NoTask, Plan, master};
 use std::io::Cursor;
 
 /// What is printed of it.
@@ -49,6 +49,7 @@ fn a_line_is_brought_up_and_a_link_breaks_while_it_cycles(rt: HostRuntime) {
         &EXPECTED,
         &plan,
         &mut pace,
+        &mut NoTask,
         &mut out,
         &mut err,
         &mut log,

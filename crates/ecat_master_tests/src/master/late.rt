@@ -5,7 +5,7 @@ use super::stage::{
     Count, Event, PLAN, ROOM, Row, Stage, Told, assert_rows, ring_with, wanted_with, written,
 };
 use crate::asserts::assert_found;
-use ecat_master::{Pace, master};
+use ecat_master::{NoTask, Pace, master};
 use std::io::Cursor;
 
 /// What is told of copies of earlier trips.
@@ -112,6 +112,7 @@ fn unsure_cycles_are_logged(rt: HostRuntime) {
         &EXPECTED,
         &plan,
         &mut pace,
+        &mut NoTask,
         &mut out,
         &mut err,
         &mut log,
@@ -196,6 +197,7 @@ fn cycles_that_are_left_out_are_told_at_once_and_counted(rt: HostRuntime) {
         &EXPECTED,
         &PLAN,
         &mut pace,
+        &mut NoTask,
         &mut out,
         &mut err,
         &mut log,

@@ -3,7 +3,7 @@
 use super::line::{EXPECTED, work};
 use super::stage::{Count, Event, PLAN, ROOM, Stage, Told, ring_with, wanted_with, written};
 use crate::asserts::assert_found;
-use ecat_master::{Plan, master};
+use ecat_master::{NoTask, Plan, master};
 use std::io::{Cursor, Write};
 use std::process::Abort;
 
@@ -48,6 +48,7 @@ fn assert_logs<L: Write>(
         &EXPECTED,
         plan,
         &mut pace,
+        &mut NoTask,
         &mut out,
         &mut err,
         log,

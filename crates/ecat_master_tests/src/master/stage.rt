@@ -10,7 +10,7 @@ use ec_regs::{AlState, AlStatus};
 use ec_ring::{Arrival, Arrivals, HeardPorts, LateCopies, Port, PortHealth, Ring, Travel, Weather};
 use ec_run::{Outputs, StartupObject, Wanted};
 use ec_wire::{Command, Datagram, FrameBuf, address_of};
-use ecat_master::{Pace, Plan, master};
+use ecat_master::{NoTask, Pace, Plan, master};
 use std::io::{Cursor, Write};
 use std::process::Abort;
 
@@ -392,7 +392,16 @@ pub fn assert_runs<W: Write>(
     let mut pace = Count { left: cycles };
     assert!(rt; work.len() == EXPECTED.len());
     let ended = master(
-        ports, line, work, &EXPECTED, plan, &mut pace, out, &mut err, &mut log,
+        ports,
+        line,
+        work,
+        &EXPECTED,
+        plan,
+        &mut pace,
+        &mut NoTask,
+        out,
+        &mut err,
+        &mut log,
     );
     assert_found(rt, row, ended, status);
 }

@@ -3,7 +3,7 @@
 use super::line::{EXPECTED, work};
 use super::stage::{PLAN, ROOM, Stage, Told, ring_with, wanted_with, written};
 use crate::asserts::assert_found;
-use ecat_master::{Pace, master};
+use ecat_master::{NoTask, Pace, master};
 use std::io::Cursor;
 
 /// What each cycle takes, in microseconds.
@@ -67,6 +67,7 @@ fn progress_has_the_times_since_the_last_line(rt: HostRuntime) {
         &EXPECTED,
         &plan,
         &mut pace,
+        &mut NoTask,
         &mut out,
         &mut err,
         &mut log,

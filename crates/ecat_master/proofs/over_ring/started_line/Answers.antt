@@ -3,9 +3,9 @@ use Rattle.ecat_master.proofs.OverRingLemmas.{all_set_up}
 use Rattle.ecat_master.proofs.over_ring.started_line.Goals as goal
 
 pub returns-clause-started : goal.returns-clause-started
-returns-clause-started c = all_set_up
+returns-clause-started g c = all_set_up
 
 pub returns-clause-good : goal.returns-clause-good
-returns-clause-good c line work expected plan r ring wanted run =
+returns-clause-good g c line work expected plan r ring wanted run =
     all_set_up line plan.identities.now run.made.cable (untold r) run.made.between ring wanted
     run.made.started

@@ -1,135 +1,44 @@
-use Rattle.std.proofs.Common.{refl, subst}
-use Rattle.ec_run.specs.Cycles.{IsCycle}
-use Rattle.ec_run.specs.Watched.{WatchedTrips}
-use Rattle.ec_run.proofs.Laws.{run_starts, run_goes_on, is_run}
-use Rattle.ecat_master.specs.Course.{IsFollowed}
-use Rattle.ecat_master.proofs.CourseLemmas.{course_within, no_rounds, one_round}
-use Rattle.ecat_master.proofs.LastLemmas.{cycle_is_last}
+use Rattle.ecat_master.proofs.CourseLemmas.{course_asks, course_within}
 use Rattle.ecat_master.proofs.run.run_cycles.Goals as goal
 
-pub loop-cycles-init : goal.loop-cycles-init
-loop-cycles-init g c = (
-  run_starts (WatchedTrips g.P.HeardPorts.trips) c.args.plan.now.outputs c.args.expected.now
-      c.args.cycles.now c.requires.sum,
-  refl,
-  no_rounds g.P.HeardPorts.trips c.args.plan.now.outputs c.args.expected.now c.args.line.now
-      c.args.cycles.now c.args.ports.now,
-)
+pub returns-in_err-made-clause-asked : goal.returns-in_err-made-clause-asked
+returns-in_err-made-clause-asked g c =
+    course_asks g.P.HeardPorts.trips g.D.Task.listens g.D.Task.held c.args.line_plan.now.plan.now.outputs
+    c.args.line_plan.now.expected.now c.args.line_plan.now.line.now c.args.cycles.now
+    c.make_rounds.new.cycles c.args.ports.now c.make_rounds.new.ports
+    c.make_rounds.ensures.course.0 c.make_rounds.ensures.course.1
 
-pub loop-cycles-preserved : goal.loop-cycles-preserved
-loop-cycles-preserved g c = (
-  run_goes_on (WatchedTrips g.P.HeardPorts.trips) c.args.plan.now.outputs c.args.expected.now
-      c.args.cycles.now c.loop-cycles.cycles c.cycle_in-ended.new.self _ _ _ c.loop-cycles.invariant.0
-      c.cycle_in-ended.ensures.cycle c.cycle_in-ended.ensures.adds_up,
-  cycle_is_last (WatchedTrips g.P.HeardPorts.trips) c.args.plan.now.outputs c.args.expected.now
-      c.args.cycles.now c.loop-cycles.cycles c.cycle_in-ended.new.self _ _ _ c.loop-cycles.invariant.0
-      c.cycle_in-ended.ensures.cycle,
-  one_round g.P.HeardPorts.trips c.args.plan.now.outputs c.args.expected.now c.args.line.now
-      c.args.cycles.now c.loop-cycles.cycles c.cycle_in-ended.new.self c.args.ports.now c.loop-cycles.ports
-      c.follow.new.ports c.loop-cycles.invariant.2
-      (record {
-        end = c.cycle_in-ended.result;
-        between = c.cycle_in-ended.new.ports;
-        cycle = subst (λ p. IsCycle (WatchedTrips g.P.HeardPorts.trips) p c.args.plan.now.outputs
-            c.args.expected.now c.loop-cycles.cycles c.cycle_in-ended.result c.cycle_in-ended.new.self
-            c.cycle_in-ended.new.ports) c.begin_cycle.ensures c.cycle_in-ended.ensures.cycle;
-        followed = subst (λ p. IsFollowed g.P.HeardPorts.trips c.args.line.now p c.follow.new.ports)
-            c.end_cycle-late.ensures c.follow.ensures.followed;
-      }),
-)
+pub returns-in_err-made-clause-trips : goal.returns-in_err-made-clause-trips
+returns-in_err-made-clause-trips g c =
+    course_within g.P.HeardPorts.trips g.D.Task.listens g.D.Task.held c.args.line_plan.now.plan.now.outputs
+    c.args.line_plan.now.expected.now c.args.line_plan.now.line.now c.args.cycles.now
+    c.make_rounds.new.cycles c.args.ports.now c.make_rounds.new.ports
+    c.make_rounds.ensures.course.0 c.make_rounds.ensures.course.1
 
-pub returns-in_err-is_last-clause-cycles : goal.returns-in_err-is_last-clause-cycles
-returns-in_err-is_last-clause-cycles g c =
-    is_run (WatchedTrips g.P.HeardPorts.trips) c.args.plan.now.outputs c.args.expected.now c.args.cycles.now
-    c.cycle_in-ended.new.self
-    (run_goes_on (WatchedTrips g.P.HeardPorts.trips) c.args.plan.now.outputs c.args.expected.now
-    c.args.cycles.now c.loop-cycles.cycles c.cycle_in-ended.new.self _ _ _ c.loop-cycles.invariant.0
-    c.cycle_in-ended.ensures.cycle c.cycle_in-ended.ensures.adds_up)
+pub returns-in-Ok-clause-asked : goal.returns-in-Ok-clause-asked
+returns-in-Ok-clause-asked g c =
+    course_asks g.P.HeardPorts.trips g.D.Task.listens g.D.Task.held c.args.line_plan.now.plan.now.outputs
+    c.args.line_plan.now.expected.now c.args.line_plan.now.line.now c.args.cycles.now
+    c.make_rounds.new.cycles c.args.ports.now c.make_rounds.new.ports
+    c.make_rounds.ensures.course.0 c.make_rounds.ensures.course.1
 
-pub returns-in_err-is_last-clause-course : goal.returns-in_err-is_last-clause-course
-returns-in_err-is_last-clause-course g c =
-    one_round g.P.HeardPorts.trips c.args.plan.now.outputs c.args.expected.now c.args.line.now
-    c.args.cycles.now c.loop-cycles.cycles c.cycle_in-ended.new.self c.args.ports.now c.loop-cycles.ports
-    c.follow.new.ports c.loop-cycles.invariant.2
-    (record {
-      end = c.cycle_in-ended.result;
-      between = c.cycle_in-ended.new.ports;
-      cycle = subst (λ p. IsCycle (WatchedTrips g.P.HeardPorts.trips) p c.args.plan.now.outputs
-          c.args.expected.now c.loop-cycles.cycles c.cycle_in-ended.result c.cycle_in-ended.new.self
-          c.cycle_in-ended.new.ports) c.begin_cycle.ensures c.cycle_in-ended.ensures.cycle;
-      followed = subst (λ p. IsFollowed g.P.HeardPorts.trips c.args.line.now p c.follow.new.ports)
-          c.end_cycle-late.ensures c.follow.ensures.followed;
-    })
+pub returns-in-Ok-clause-trips : goal.returns-in-Ok-clause-trips
+returns-in-Ok-clause-trips g c =
+    course_within g.P.HeardPorts.trips g.D.Task.listens g.D.Task.held c.args.line_plan.now.plan.now.outputs
+    c.args.line_plan.now.expected.now c.args.line_plan.now.line.now c.args.cycles.now
+    c.make_rounds.new.cycles c.args.ports.now c.make_rounds.new.ports
+    c.make_rounds.ensures.course.0 c.make_rounds.ensures.course.1
 
-pub returns-in_err-is_last-clause-trips : goal.returns-in_err-is_last-clause-trips
-returns-in_err-is_last-clause-trips g c =
-    course_within g.P.HeardPorts.trips c.args.plan.now.outputs c.args.expected.now c.args.line.now
-    c.args.cycles.now c.cycle_in-ended.new.self c.args.ports.now c.follow.new.ports
-    (one_round g.P.HeardPorts.trips c.args.plan.now.outputs c.args.expected.now c.args.line.now
-    c.args.cycles.now c.loop-cycles.cycles c.cycle_in-ended.new.self c.args.ports.now c.loop-cycles.ports
-    c.follow.new.ports c.loop-cycles.invariant.2
-    (record {
-      end = c.cycle_in-ended.result;
-      between = c.cycle_in-ended.new.ports;
-      cycle = subst (λ p. IsCycle (WatchedTrips g.P.HeardPorts.trips) p c.args.plan.now.outputs
-          c.args.expected.now c.loop-cycles.cycles c.cycle_in-ended.result c.cycle_in-ended.new.self
-          c.cycle_in-ended.new.ports) c.begin_cycle.ensures c.cycle_in-ended.ensures.cycle;
-      followed = subst (λ p. IsFollowed g.P.HeardPorts.trips c.args.line.now p c.follow.new.ports)
-          c.end_cycle-late.ensures c.follow.ensures.followed;
-    }))
+pub returns-in-Err-clause-asked : goal.returns-in-Err-clause-asked
+returns-in-Err-clause-asked g c =
+    course_asks g.P.HeardPorts.trips g.D.Task.listens g.D.Task.held c.args.line_plan.now.plan.now.outputs
+    c.args.line_plan.now.expected.now c.args.line_plan.now.line.now c.args.cycles.now
+    c.make_rounds.new.cycles c.args.ports.now c.make_rounds.new.ports
+    c.make_rounds.ensures.course.0 c.make_rounds.ensures.course.1
 
-pub returns-then-is_last-clause-cycles : goal.returns-then-is_last-clause-cycles
-returns-then-is_last-clause-cycles g c =
-    is_run (WatchedTrips g.P.HeardPorts.trips) c.args.plan.now.outputs c.args.expected.now c.args.cycles.now
-    c.cycle_in-ended.new.self
-    (run_goes_on (WatchedTrips g.P.HeardPorts.trips) c.args.plan.now.outputs c.args.expected.now
-    c.args.cycles.now c.loop-cycles.cycles c.cycle_in-ended.new.self _ _ _ c.loop-cycles.invariant.0
-    c.cycle_in-ended.ensures.cycle c.cycle_in-ended.ensures.adds_up)
-
-pub returns-then-is_last-clause-course : goal.returns-then-is_last-clause-course
-returns-then-is_last-clause-course g c =
-    one_round g.P.HeardPorts.trips c.args.plan.now.outputs c.args.expected.now c.args.line.now
-    c.args.cycles.now c.loop-cycles.cycles c.cycle_in-ended.new.self c.args.ports.now c.loop-cycles.ports
-    c.follow.new.ports c.loop-cycles.invariant.2
-    (record {
-      end = c.cycle_in-ended.result;
-      between = c.cycle_in-ended.new.ports;
-      cycle = subst (λ p. IsCycle (WatchedTrips g.P.HeardPorts.trips) p c.args.plan.now.outputs
-          c.args.expected.now c.loop-cycles.cycles c.cycle_in-ended.result c.cycle_in-ended.new.self
-          c.cycle_in-ended.new.ports) c.begin_cycle.ensures c.cycle_in-ended.ensures.cycle;
-      followed = subst (λ p. IsFollowed g.P.HeardPorts.trips c.args.line.now p c.follow.new.ports)
-          c.end_cycle-late.ensures c.follow.ensures.followed;
-    })
-
-pub returns-then-is_last-clause-trips : goal.returns-then-is_last-clause-trips
-returns-then-is_last-clause-trips g c =
-    course_within g.P.HeardPorts.trips c.args.plan.now.outputs c.args.expected.now c.args.line.now
-    c.args.cycles.now c.cycle_in-ended.new.self c.args.ports.now c.follow.new.ports
-    (one_round g.P.HeardPorts.trips c.args.plan.now.outputs c.args.expected.now c.args.line.now
-    c.args.cycles.now c.loop-cycles.cycles c.cycle_in-ended.new.self c.args.ports.now c.loop-cycles.ports
-    c.follow.new.ports c.loop-cycles.invariant.2
-    (record {
-      end = c.cycle_in-ended.result;
-      between = c.cycle_in-ended.new.ports;
-      cycle = subst (λ p. IsCycle (WatchedTrips g.P.HeardPorts.trips) p c.args.plan.now.outputs
-          c.args.expected.now c.loop-cycles.cycles c.cycle_in-ended.result c.cycle_in-ended.new.self
-          c.cycle_in-ended.new.ports) c.begin_cycle.ensures c.cycle_in-ended.ensures.cycle;
-      followed = subst (λ p. IsFollowed g.P.HeardPorts.trips c.args.line.now p c.follow.new.ports)
-          c.end_cycle-late.ensures c.follow.ensures.followed;
-    }))
-
-pub returns-then-is_last-clause-last : goal.returns-then-is_last-clause-last
-returns-then-is_last-clause-last g c =
-    cycle_is_last (WatchedTrips g.P.HeardPorts.trips) c.args.plan.now.outputs c.args.expected.now
-    c.args.cycles.now c.loop-cycles.cycles c.cycle_in-ended.new.self _ _ _ c.loop-cycles.invariant.0
-    c.cycle_in-ended.ensures.cycle
-
-pub returns-else-next-clause-trips : goal.returns-else-next-clause-trips
-returns-else-next-clause-trips g c =
-    course_within g.P.HeardPorts.trips c.args.plan.now.outputs c.args.expected.now c.args.line.now
-    c.args.cycles.now c.loop-cycles.cycles c.args.ports.now c.loop-cycles.ports c.loop-cycles.invariant.2
-
-pub returns-after-loop-cycles-clause-trips : goal.returns-after-loop-cycles-clause-trips
-returns-after-loop-cycles-clause-trips g c =
-    course_within g.P.HeardPorts.trips c.args.plan.now.outputs c.args.expected.now c.args.line.now
-    c.args.cycles.now c.loop-cycles.cycles c.args.ports.now c.loop-cycles.ports c.loop-cycles.invariant.2
+pub returns-in-Err-clause-trips : goal.returns-in-Err-clause-trips
+returns-in-Err-clause-trips g c =
+    course_within g.P.HeardPorts.trips g.D.Task.listens g.D.Task.held c.args.line_plan.now.plan.now.outputs
+    c.args.line_plan.now.expected.now c.args.line_plan.now.line.now c.args.cycles.now
+    c.make_rounds.new.cycles c.args.ports.now c.make_rounds.new.ports
+    c.make_rounds.ensures.course.0 c.make_rounds.ensures.course.1
