@@ -1117,6 +1117,120 @@ def numbers_are_in_nobodys_way_who_reads_a_capture(stage):
         yield text, "True", "True" if re.search(r"sent (\d+) good \1 short 0 over 0 lost 0$", told) else told
 
 
+# What a program orders of a running master, and what it is told of a cycle, but for the process data.
+ORDER, REPORT = struct.Struct("<4sBBHQ"), struct.Struct("<4sBBHQQBBHIQ")
+NO_CYCLE = 2**64 - 1
+
+
+@contextlib.contextmanager
+def serving_a_task(stage, *words):
+    """A master on the machine for whose outputs a program is asked: it, and the socket of that program."""
+    with stage.serve(MACHINE, "--forever"):
+        stage.file("m", MACHINE)
+        words = ("--every", "5000", "--log", "log", "--log-images", "--io", "127.0.0.1:0", *words, *PATIENCE)
+        with stage.start("master", "m", "--at", both_ends(stage), *words, stdin=subprocess.PIPE) as master:
+            where = master.process.stderr.readline().decode()
+            with stage.master() as program:
+                program.connect(("127.0.0.1", int(where.rsplit(":", 1)[1])))
+                yield master, program, where
+
+
+def report(program):
+    """The next report, as the values of its head, and its inputs."""
+    packet = program.recv(65535)
+    return REPORT.unpack_from(packet), packet[REPORT.size :].hex()
+
+
+def outputs_sent(stage):
+    """What cycles sent by the log: the outputs by the cycles' numbers, and those that followed one another."""
+    with open(os.path.join(stage.folder, "log"), encoding="latin-1") as log:
+        sent = dict(re.findall(r"^cycle (\d+) .* sent (\w+),", log.read(), re.M))
+    rows = list(sent.values())
+    return sent, [row for row, before in zip(rows, [None, *rows]) if row != before]
+
+
+def end_of_task(master):
+    """What a master tells of its program at its end, behind the end of its input."""
+    master.process.stdin.close()
+    master.process.stdin = None
+    return [row for row in master.end().splitlines() if row.startswith("task:") or row.isdigit()]
+
+
+@case
+def a_program_gives_the_outputs_of_a_running_master(stage):
+    """What it orders goes out in the cycle of the next report, and what is no order changes nothing."""
+    with serving_a_task(stage) as (master, program, where):
+        yield "where", "task: outputs of 3 bytes wanted at 127.0.0.1:", where.rsplit(":", 1)[0] + ":"
+        for wanted in STARTED.splitlines(True):
+            yield "start", wanted, master.line()
+        program.send(ORDER.pack(b"EcIO", 1, 1, 3, NO_CYCLE) + bytes.fromhex("010203"))
+        first, inputs = report(program)
+        cycle = first[4]
+        yield "head", "(b'EcIO', 1, 2, 5)", str(first[:4])
+        yield "end", "(0, 0, 0)", str(first[6:9])
+        yield "of", str(cycle), str(first[10])
+        yield "inputs", "1122330800", inputs
+        refused = [b"", b"EcIO", bytes(19), ORDER.pack(b"EcIO", 2, 1, 3, 0) + bytes(3)]
+        refused += [ORDER.pack(b"EcIO", 1, 2, 3, 0) + bytes(3), ORDER.pack(b"EcIO", 1, 1, 3, 0) + bytes(2)]
+        for packet in [*refused, ORDER.pack(b"EcIO", 1, 1, 2, 0) + bytes(2)]:
+            program.send(packet)
+        second, _ = report(program)
+        yield "goes on", str(cycle + 1), str(second[4])
+        program.send(ORDER.pack(b"EcIO", 1, 1, 0, second[4]))
+        third, _ = report(program)
+        program.send(ORDER.pack(b"EcIO", 1, 1, 3, third[4]) + bytes.fromhex("0a0b0c"))
+        while (last := report(program)[0])[4] < third[4] + 3:
+            pass
+        end = end_of_task(master)
+    yield "refused", "task: refused packets 7, the last one: 2 bytes of outputs", end[1]
+    yield "orders", "task: orders 3, ", end[0][: len("task: orders 3, ")]
+    yield "status", "0", end[-1]
+    sent, rows = outputs_sent(stage)
+    yield "first", "010203", sent[str(cycle)]
+    yield "last", "0a0b0c", sent[str(last[4])]
+    yield "outputs", "010203 0a0b0c", " ".join(rows[-2:])
+
+
+@case
+def outputs_of_a_silent_program_become_stale(stage):
+    """They are told as stale and are 0 then, up to its next order."""
+    with serving_a_task(stage, "--io-stale", "4", "--io-rest", "zeros") as (master, program, _where):
+        program.send(ORDER.pack(b"EcIO", 1, 1, 3, NO_CYCLE) + bytes.fromhex("010203"))
+        flags = [report(program)[0][7] for _ in range(6)]
+        yield "stale behind four cycles", "[0, 0, 0, 0, 8, 8]", str(flags)
+        program.send(ORDER.pack(b"EcIO", 1, 1, 3, 0) + bytes.fromhex("040506"))
+        yield "no more", "True", str(0 in [report(program)[0][7] for _ in range(20)])
+        end = end_of_task(master)
+    yield "status", "0", end[-1]
+    _, rows = outputs_sent(stage)
+    yield "outputs", "010203 000000 040506", " ".join(rows[rows.index("010203") :][:3])
+
+
+@case
+def examples_of_tasks_run(stage):
+    """The programs of examples/, each for a hundred cycles; the one in C where there is a compiler."""
+    examples = os.path.join(os.path.dirname(os.path.dirname(os.path.abspath(__file__))), "examples")
+    with serving_a_task(stage) as (master, _program, where):
+        for wanted in STARTED.splitlines(True):
+            yield "start", wanted, master.line()
+        port = where.split(":")[-1].strip()
+        words = [sys.executable, os.path.join(examples, "task.py"), "127.0.0.1", port, "3", "100"]
+        ran = subprocess.run(words, capture_output=True, text=True, timeout=stage.limit, check=False)
+        yield "python", "inputs 1122330800\n0", f"{ran.stdout[-18:]}{ran.returncode}"
+        words = [os.path.join(examples, "task.sh"), port, "2a0000"]
+        ran = subprocess.run(words, capture_output=True, text=True, timeout=stage.limit, check=False)
+        yield "shell", "11 22 33 08 00\n0", f"{ran.stdout[-15:]}{ran.stderr}{ran.returncode}"
+        if shutil.which("cc"):
+            task = os.path.join(stage.folder, "task")
+            built = ["cc", "-D_DEFAULT_SOURCE", "-std=c11", "-Wall", "-Werror", "-o", task]
+            subprocess.run([*built, os.path.join(examples, "task.c")], check=True)
+            words = [task, port, "3", "100"]
+            ran = subprocess.run(words, capture_output=True, text=True, timeout=stage.limit, check=False)
+            yield "c", "end 0, inputs 11 22 33 08 00\n0", f"{ran.stdout[-29:]}{ran.returncode}"
+        end = end_of_task(master)
+    yield "status", "0", end[-1]
+
+
 @contextlib.contextmanager
 def machine_and_master(stage):
     """The machine, which takes commands, and a master that cycles on it until its input ends."""

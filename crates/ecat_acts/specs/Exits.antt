@@ -7,13 +7,16 @@ use Rattle.ec_services.specs.declared.fault.MasterFault.{MasterFault}
 use Rattle.ec_services.specs.declared.fault.MasterFault.TheVariants.{Port as PortFailed}
 use Rattle.ecat_acts.specs.declared.failure.Failure.{Failure}
 use Rattle.ecat_acts.specs.declared.failure.Failure.TheVariants.{Asked, At, Capture, Descriptors, Forms}
-use Rattle.ecat_acts.specs.declared.failure.Failure.TheVariants.{Images, IndexAlone, NeedsScene, Reach, State}
+use Rattle.ecat_acts.specs.declared.failure.Failure.TheVariants.{Images, IndexAlone, IoAlone, NeedsScene}
+use Rattle.ecat_acts.specs.declared.failure.Failure.TheVariants.{Reach, Rest, State, Task, TwoOutputs}
 use Rattle.ecat_acts.specs.declared.failure.Failure.TheVariants.{Line as OfLine}
 use Rattle.ecat_setup.specs.declared.failure.LineFailure.{LineFailure}
 use Rattle.ecat_setup.specs.declared.failure.LineFailure.TheVariants.{NoMemory, Output, Port, Read}
 use Rattle.ecat_source.specs.declared.capture.PcapFault.{PcapFault}
 use Rattle.ecat_source.specs.declared.capture.PcapFault.TheVariants.{NoMemory as NoMemoryForCapture}
 use Rattle.ecat_source.specs.declared.capture.PcapFault.TheVariants.{Read as ReadFailed}
+use Rattle.ecat_task.specs.declared.udp.TaskFault.{TaskFault}
+use Rattle.ecat_task.specs.declared.udp.TaskFault.TheVariants.{Reachable}
 use Rattle.ecat_text.specs.declared.status.TheConstants.{BAD_ARGUMENTS, FAILED, REFUSED}
 
 -- content is refused, or the output fails
@@ -42,6 +45,11 @@ IsLineExit Output status = status ≡ FAILED
 IsLineExit Port status = status ≡ FAILED
 IsLineExit _ status = IsRefusal status
 
+-- of the socket of a master's program: where it may not lie is a matter of the words
+abbrev pub IsTaskExit : TaskFault → ℕ → Type 0
+IsTaskExit Reachable status = status ≡ BAD_ARGUMENTS
+IsTaskExit _ status = status ≡ FAILED
+
 abbrev pub IsExit : Failure → ℕ → Type 0
 IsExit (OfLine failure) status = IsLineExit failure status
 IsExit (Capture fault) status = IsCaptureExit fault status
@@ -54,4 +62,8 @@ IsExit NeedsScene status = status ≡ BAD_ARGUMENTS
 IsExit IndexAlone status = status ≡ BAD_ARGUMENTS
 IsExit Descriptors status = status ≡ BAD_ARGUMENTS
 IsExit State status = status ≡ BAD_ARGUMENTS
+IsExit Rest status = status ≡ BAD_ARGUMENTS
+IsExit TwoOutputs status = status ≡ BAD_ARGUMENTS
+IsExit IoAlone status = status ≡ BAD_ARGUMENTS
+IsExit (Task fault) status = IsTaskExit fault status
 IsExit _ status = status ≡ FAILED

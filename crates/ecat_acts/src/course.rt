@@ -7,7 +7,7 @@ use crate::room::{refuse_full, refuse_long_mailbox};
 use ec_master::Work;
 use ec_ring::HeardPorts;
 use ec_run::{MAX_STARTUP, StartupObject, Wanted, add_states, image_length, wanted_of};
-use ecat_master::{ENTRIES, IDENTITY, Identity, Pace, Plan, master};
+use ecat_master::{ENTRIES, IDENTITY, Identity, Pace, Plan, Task, master};
 use ecat_scene::{Scene, SceneFault, SceneSlave};
 use ecat_setup::{Expected, LineFailure, for_packets, ring_of, work_of};
 use ecat_text::{Lines, REFUSED, refuse};
@@ -161,12 +161,13 @@ fn startup_of(described: &SceneSlave) -> Startup {
     startup
 }
 
-/// Brings up a line over two ports and cycles on it, and answers the exit status. It takes no memory.
-pub fn act_master<P, T, W, V, L>(
+/// Brings up a line over two ports and cycles on it for a task, and answers the exit status. It takes no memory.
+pub fn act_master<P, T, D, W, V, L>(
     course: Course,
     ports: P,
     plan: &Plan<'_>,
     pace: &mut T,
+    task: &mut D,
     out: &mut W,
     err: &mut V,
     log: &mut L,
@@ -174,6 +175,7 @@ pub fn act_master<P, T, W, V, L>(
 where
     P: HeardPorts + Drop,
     T: Pace,
+    D: Task,
     W: Write,
     V: Write,
     L: Write,
@@ -197,6 +199,7 @@ where
         expected.counters(),
         &plan,
         pace,
+        task,
         out,
         err,
         log,

@@ -2,7 +2,7 @@
 
 ghost use Rattle.std.specs.Prelude.{◌≡◌, IfErr, IfOk};
 ghost use Rattle.ecat_acts.specs.Exits.{IsExit, IsAskedExit, IsCaptureExit, IsImagesExit, IsLineExit};
-ghost use Rattle.ecat_acts.specs.Exits.{IsRefusal};
+ghost use Rattle.ecat_acts.specs.Exits.{IsRefusal, IsTaskExit};
 ghost use Rattle.ecat_acts.specs.Failures.{unbound};
 ghost use Rattle.ecat_acts.specs.declared.failure.Failure.TheVariants.{Line};
 ghost use Rattle.ecat_setup.specs.declared.failure.LineFailure.TheVariants.{Output};
@@ -17,6 +17,7 @@ use ecat_scene::SceneFault;
 use ecat_serve::BindFault;
 use ecat_setup::LineFailure;
 use ecat_source::PcapFault;
+use ecat_task::TaskFault;
 use ecat_text::{BAD_ARGUMENTS, FAILED, FaultText, PortText, REFUSED};
 use std::io::{self, Write};
 
@@ -75,6 +76,14 @@ pub enum Failure {
     Raw(RawFault),
     /// The clock of a master, or the wait for its input, could not be had.
     Clock,
+    /// The socket of a master's program could not be had.
+    Task(TaskFault),
+    /// What stale outputs of a master's program become has another name.
+    Rest,
+    /// Both a file and a program are to give the outputs of a master.
+    TwoOutputs,
+    /// Something is said of a master's program, and there is none.
+    IoAlone,
 }
 
 impl From<LineFailure> for Failure {
@@ -153,6 +162,16 @@ pub fn report<W: Write, V: Write>(failure: &Failure, out: &mut W, err: &mut V) -
             err,
             b"argument: --leave wants init, pre-op, safe-op or op\n",
         ),
+        Failure::Rest => bad_argument(err, b"argument: --io-rest wants kept or zeros\n"),
+        Failure::TwoOutputs => bad_argument(
+            err,
+            b"argument: --io gives the outputs, and so does --outputs\n",
+        ),
+        Failure::IoAlone => bad_argument(
+            err,
+            b"argument: --io-open, --io-stale and --io-rest are of --io\n",
+        ),
+        Failure::Task(fault) => report_task(fault, err),
         Failure::Raw(fault) => report_raw(*fault, err),
         Failure::Remote(fault) => {
             let end = PortText(fault.end);
@@ -210,6 +229,23 @@ fn report_capture<W: Write, V: Write>(fault: &PcapFault, out: &mut W, err: &mut 
         | PcapFault::LinkType
         | PcapFault::TooLong
         | PcapFault::Failed => refused(writeln!(out, "capture: {fault}"), err),
+    }
+}
+
+/// Writes the line of a socket of a master's program that could not be had.
+fn report_task<V: Write>(fault: &TaskFault, err: &mut V) -> u8
+    ensures { IsTaskExit fault.now result }
+{
+    match fault {
+        TaskFault::NoMemory => failed(err, b"io: NoMemory\n"),
+        TaskFault::Reachable => bad_argument(
+            err,
+            b"argument: --io lies where other machines reach it; --io-open lets them\n",
+        ),
+        TaskFault::Socket(error) => {
+            let _ = writeln!(err, "io: {error}");
+            FAILED
+        }
     }
 }
 

@@ -20,6 +20,8 @@ use ecat_record::{Moments, Recorder};
 use ecat_remote::{Carrier, RemotePorts, Timer};
 use ecat_scene::{Scene, SceneFault};
 use ecat_setup::LineFailure;
+use ecat_task::{Rest, TaskFault, Terms, UdpTask};
+use ecat_text::Lines;
 use ecat_unblocking::{AT_ONCE, Behind, Screen, Unblocking, never_waits};
 use std::cell::Cell;
 use std::net::Net;
@@ -52,6 +54,8 @@ struct Running<'a> {
     log_images: bool,
     /// Whether it ends where the log cannot be written.
     log_or_stop: bool,
+    /// The program that gives the outputs, if there is one.
+    program: Option<Program<'a>>,
     /// Whether it ends at the first cycle that is not good.
     stop: bool,
     /// Whether slaves are brought up again.
@@ -84,6 +88,7 @@ impl<'w> Running<'w> {
     {
         let reach = reach_of(words.at, words.raw)?;
         let leave = left_in(words.leave)?;
+        let program = program_of(words)?;
         Ok(Running {
             reach,
             cycles: words.cycles,
@@ -95,6 +100,7 @@ impl<'w> Running<'w> {
             log: words.log,
             log_images: words.log_images,
             log_or_stop: words.log_or_stop,
+            program,
             stop: words.stop,
             recover: words.recover,
             progress: console.is_watched,
@@ -135,6 +141,53 @@ impl<'w> Running<'w> {
             identities: &[],
             leave: self.leave,
         }
+    }
+}
+
+/// A program that gives the outputs of a master, as words say it.
+#[derive(Clone, Copy)]
+struct Program<'a> {
+    /// Where it speaks, `HOST:PORT`.
+    address: &'a str,
+    /// Whether other machines may reach that address.
+    is_open: bool,
+    /// After how many cycles without a packet its outputs are stale.
+    stale_after: Option<u32>,
+    /// What they become then.
+    rest: Rest,
+}
+
+impl Program<'_> {
+    /// The terms of a program that gives so many bytes of outputs.
+    fn terms(&self, count: usize) -> Terms {
+        Terms {
+            count,
+            stale_after: self.stale_after,
+            rest: self.rest,
+            is_open: self.is_open,
+        }
+    }
+}
+
+/// The program that the words name, if they name one.
+fn program_of<'w>(words: &MasterWords<'w>) -> Result<Option<Program<'w>>, Failure> {
+    let rest = match words.io_rest {
+        None | Some("kept") => Rest::Kept,
+        Some("zeros") => Rest::Zeros,
+        Some(_) => return Err(Failure::Rest),
+    };
+    match words.io {
+        Some(_) if words.outputs.is_some() => Err(Failure::TwoOutputs),
+        Some(address) => Ok(Some(Program {
+            address,
+            is_open: words.io_open,
+            stale_after: words.io_stale,
+            rest,
+        })),
+        None if words.io_open || words.io_stale.is_some() || words.io_rest.is_some() => {
+            Err(Failure::IoAlone)
+        }
+        None => Ok(None),
     }
 }
 
@@ -340,13 +393,39 @@ where
     let Ok(counters) = course.counters(rt.alloc()) else {
         return report(&Failure::Line(LineFailure::NoMemory), out, err);
     };
+    let mut task = match task_of(rt, running.program, course.image_length()) {
+        Ok(task) => task,
+        Err(fault) => return report(&Failure::Task(fault), out, err),
+    };
+    tell_task(&task, course.image_length(), err);
     match open_ports(rt, running.reach, patience(running.limit), recorder) {
         Ok(ports) => {
             let ports = ready(ports, counters, running.busy);
             let course = Box::into_inner(course);
-            act_master(course, ports, &plan, &mut pace, out, err, log)
+            let status = act_master(course, ports, &plan, &mut pace, &mut task, out, err, log);
+            let _ = task.put_sum(&mut Lines::new(err));
+            status
         }
         Err(fault) => report(&Failure::from(fault), out, err),
+    }
+}
+
+/// The task of a program that gives so many bytes of outputs, or none.
+fn task_of<R>(rt: &R, program: Option<Program<'_>>, count: usize) -> Result<UdpTask, TaskFault>
+where
+    R: Net + AllocGlobal,
+{
+    match program {
+        Some(program) => UdpTask::open(rt, rt.alloc(), program.address, program.terms(count)),
+        None => Ok(UdpTask::none(rt.alloc())?),
+    }
+}
+
+/// Tells where a program gives outputs, if one does, and how many bytes of them. A fault of that line is
+/// passed over.
+fn tell_task<V: io::Write>(task: &UdpTask, count: usize, err: &mut V) {
+    if let Some(address) = task.address() {
+        let _ = writeln!(err, "task: outputs of {count} bytes wanted at {address}");
     }
 }
 

@@ -4,7 +4,7 @@ use Rattle.clap.specs.Words.{IsAmong, Text, fault_of, kind_of, subcommand_of, ta
 use Rattle.clap.specs.declared.error.Error.{Error}
 use Rattle.clap.specs.declared.error.kind.ErrorKind.TheVariants.{OutOfMemory}
 use Rattle.ecat_args.specs.Given.{Given, IsComplete, IsNoAddress, LiesAt, control_in, force_in, forever_in}
-use Rattle.ecat_args.specs.Given.{by_index_in, index_in, lines_in}
+use Rattle.ecat_args.specs.Given.{by_index_in, index_in, io_open_in, io_stale_in, lines_in}
 use Rattle.ecat_args.specs.Given.{judge_in, log_in, many_in, plain_in, port_in, set_up_in, station_in, sub_in}
 use Rattle.ecat_args.specs.Given.{surely_in}
 use Rattle.ecat_args.specs.Given.{csv_in, every_in, faults_in, images_in, late_in, limit_in, once_in}
@@ -79,7 +79,11 @@ SaysOfScene (Master words) given =
     × (late_in given ≡ Some words.late)
     × (word_in given (codes "OUTPUTS") ≡ option_map (λ w. w.now) words.outputs)
     × (word_in given (codes "LOG") ≡ option_map (λ w. w.now) words.log) × (images_in given ≡ words.log_images)
-    × (or_stop_in given ≡ words.log_or_stop) × (stop_in given ≡ words.stop)
+    × (or_stop_in given ≡ words.log_or_stop)
+    × (word_in given (codes "IO") ≡ option_map (λ w. w.now) words.io) × (io_open_in given ≡ words.io_open)
+    × (io_stale_in given ≡ Some words.io_stale)
+    × (word_in given (codes "REST") ≡ option_map (λ w. w.now) words.io_rest)
+    × (stop_in given ≡ words.stop)
     × (recover_in given ≡ words.recover)
     × (word_in given (codes "STATE") ≡ option_map (λ w. w.now) words.leave)
     × (word_in given (codes "PCAP") ≡ option_map (λ w. w.now) words.pcap) × (force_in given ≡ words.force)
@@ -108,7 +112,7 @@ HasBadNumber given =
     ⊎ ((given.0 ≡ codes "serve") × ((port_in given ≡ None) ⊎ (many_in given ≡ None)
     ⊎ IsNoAddress (word_in given (codes "ADDRESS"))))
     ⊎ ((given.0 ≡ codes "master") × ((many_in given ≡ None) ⊎ (every_in given ≡ None)
-    ⊎ (limit_in given ≡ None) ⊎ (late_in given ≡ None)))
+    ⊎ (limit_in given ≡ None) ⊎ (late_in given ≡ None) ⊎ (io_stale_in given ≡ None)))
     ⊎ ((given.0 ≡ codes "scan") × ((limit_in given ≡ None) ⊎ (late_in given ≡ None)))
 
 -- clap's definition of the line takes the words, and what it gives of them is complete and

@@ -80,6 +80,10 @@ limit_in given = count_by (word_in given (codes "LIMIT"))
 abbrev pub late_in : Given → Option (Option ℕ)
 late_in given = count_by (word_in given (codes "LATE"))
 
+-- after how many cycles without a packet outputs are stale
+abbrev pub io_stale_in : Given → Option (Option ℕ)
+io_stale_in given = count_by (word_in given (codes "CYCLES"))
+
 -- whether a flag was given: clap writes down `true` for it, and `false` where it was not
 abbrev pub flag_by : Option Text → Bool
 flag_by None = false
@@ -117,6 +121,9 @@ images_in given = flag_by (word_in given (codes "log-images"))
 
 abbrev pub or_stop_in : Given → Bool
 or_stop_in given = flag_by (word_in given (codes "log-or-stop"))
+
+abbrev pub io_open_in : Given → Bool
+io_open_in given = flag_by (word_in given (codes "io-open"))
 
 abbrev pub until_end_in : Given → Bool
 until_end_in given = flag_by (word_in given (codes "until-end"))

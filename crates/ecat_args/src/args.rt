@@ -346,6 +346,7 @@ fn master<'a>(given: &ArgMatches<'a>) -> Option<Args<'a>>
     let every = count_given(given, "MICROSECONDS")?;
     let limit = count_given(given, "LIMIT")?;
     let late = count_given(given, "LATE")?;
+    let io_stale = count_given(given, "CYCLES")?;
     Some(Args::Scene {
         path: text(given, "SCENE"),
         command: SceneCommand::Master(MasterWords {
@@ -361,6 +362,10 @@ fn master<'a>(given: &ArgMatches<'a>) -> Option<Args<'a>>
             log: word(given, "LOG"),
             log_images: flag(given, "log-images"),
             log_or_stop: flag(given, "log-or-stop"),
+            io: word(given, "IO"),
+            io_open: flag(given, "io-open"),
+            io_stale,
+            io_rest: word(given, "REST"),
             stop: flag(given, "stop"),
             recover: flag(given, "recover"),
             leave: word(given, "STATE"),

@@ -136,9 +136,9 @@ pub enum SceneCommand<'a> {
         force: bool,
     },
     /// `master SCENE [--at AT] [--raw RAW] [--cycles N] [--until-end] [--every MICROSECONDS] [--busy]
-    /// [--limit LIMIT] [--late LATE] [--outputs OUTPUTS] [--log LOG] [--log-images] [--log-or-stop] [--stop]
-    /// [--recover] [--leave STATE] [--pcap PCAP] [--force]`: brings a line somewhere else to Op, cycles on
-    /// it, and leaves it in a state.
+    /// [--limit LIMIT] [--late LATE] [--outputs OUTPUTS] [--log LOG] [--log-images] [--log-or-stop] [--io IO]
+    /// [--io-open] [--io-stale CYCLES] [--io-rest REST] [--stop] [--recover] [--leave STATE] [--pcap PCAP]
+    /// [--force]`: brings a line somewhere else to Op, cycles on it, and leaves it in a state.
     Master(MasterWords<'a>),
 }
 
@@ -169,6 +169,14 @@ pub struct MasterWords<'a> {
     pub log_images: bool,
     /// Whether it ends where the log cannot be written.
     pub log_or_stop: bool,
+    /// The address where a program gives the outputs and gets the inputs of each cycle.
+    pub io: Option<&'a str>,
+    /// Whether other machines may reach that address.
+    pub io_open: bool,
+    /// After how many cycles without a packet of the program its outputs are stale, one at least.
+    pub io_stale: Option<u32>,
+    /// What stale outputs become: `kept` or `zeros`.
+    pub io_rest: Option<&'a str>,
     /// Whether it ends at the first cycle that is not good.
     pub stop: bool,
     /// Whether slaves are brought up again.

@@ -173,8 +173,9 @@ abbrev pub serve_line : App
 serve_line = with_rules (with_rules (new_app (codes "serve")) serve_words) device_words
 
 -- `master SCENE [--at AT] [--raw RAW] [--cycles N] [--until-end] [--every MICROSECONDS] [--busy]
--- [--limit LIMIT] [--late LATE] [--outputs OUTPUTS] [--log LOG] [--log-images] [--log-or-stop] [--stop]
--- [--recover] [--leave STATE] [--pcap PCAP] [--force]`
+-- [--limit LIMIT] [--late LATE] [--outputs OUTPUTS] [--log LOG] [--log-images] [--log-or-stop] [--io IO]
+-- [--io-open] [--io-stale CYCLES] [--io-rest REST] [--stop] [--recover] [--leave STATE] [--pcap PCAP]
+-- [--force]`
 abbrev pub master_words : List Rule
 master_words = scene_rule ∷ at_rule ∷ raw_rule
     ∷ option_rule (codes "N") (codes "cycles") ∷ flag_rule (codes "until-end") ∷ []
@@ -190,6 +191,11 @@ course_words = option_rule (codes "OUTPUTS") (codes "outputs")
     ∷ option_rule (codes "LOG") (codes "log") ∷ flag_rule (codes "log-images")
     ∷ flag_rule (codes "log-or-stop") ∷ []
 
+-- where a program gives the outputs and gets the inputs
+abbrev pub io_words : List Rule
+io_words = option_rule (codes "IO") (codes "io") ∷ flag_rule (codes "io-open")
+    ∷ option_rule (codes "CYCLES") (codes "io-stale") ∷ option_rule (codes "REST") (codes "io-rest") ∷ []
+
 -- how it ends, and its other words
 abbrev pub end_words : List Rule
 end_words = flag_rule (codes "stop") ∷ flag_rule (codes "recover")
@@ -197,8 +203,8 @@ end_words = flag_rule (codes "stop") ∷ flag_rule (codes "recover")
 
 abbrev pub master_line : App
 master_line =
-    with_rules (with_rules (with_rules (with_rules (new_app (codes "master")) master_words) pace_words)
-    course_words) end_words
+    with_rules (with_rules (with_rules (with_rules (with_rules (new_app (codes "master")) master_words)
+    pace_words) course_words) io_words) end_words
 
 -- `scan [--at AT] [--raw RAW] [--limit LIMIT] [--late LATE] [--scene SCENE] [--force]`
 abbrev pub scan_words : List Rule

@@ -2,7 +2,8 @@
 ghost use Rattle.std.specs.Prelude.{◌≡◌, List, IfOk, codes};
 ghost use Rattle.clap.specs.Words.{App, Rule, new_app, new_rule, with_subcommand};
 ghost use Rattle.ecat_commands.specs.Commands.{AreWords, Builds, IsWord, flag_rule, line};
-ghost use Rattle.ecat_commands.specs.Commands.{capture_lines, course_words, end_words, master_words};
+ghost use Rattle.ecat_commands.specs.Commands.{capture_lines, course_words, end_words, io_words};
+ghost use Rattle.ecat_commands.specs.Commands.{master_words};
 ghost use Rattle.ecat_commands.specs.Commands.{judge_line, pace_words, scene_lines, socket_lines};
 ghost use Rattle.ecat_commands.specs.Commands.{with_commands};
 ghost use Rattle.ecat_commands.specs.Commands.{needed_rule, option_rule, at_rule, force_rule};
@@ -372,8 +373,9 @@ fn devices_of_serve<'a>(alloc: Global) -> Result<Vec<Arg<'a>>, AllocError>
 }
 
 // `master SCENE [--at AT] [--raw RAW] [--cycles N] [--until-end] [--every MICROSECONDS] [--busy]
-// [--limit LIMIT] [--late LATE] [--outputs OUTPUTS] [--log LOG] [--log-images] [--log-or-stop] [--stop]
-// [--recover] [--leave STATE] [--pcap PCAP] [--force]`
+// [--limit LIMIT] [--late LATE] [--outputs OUTPUTS] [--log LOG] [--log-images] [--log-or-stop] [--io IO]
+// [--io-open] [--io-stale CYCLES] [--io-rest REST] [--stop] [--recover] [--leave STATE] [--pcap PCAP]
+// [--force]`
 fn master<'a>(alloc: Global) -> Result<Command<'a>, AllocError>
     ensures { IfOk result (Builds master_line) }
 {
@@ -384,8 +386,10 @@ fn master<'a>(alloc: Global) -> Result<Command<'a>, AllocError>
     let paced = more(master, pace)?;
     let course = course_of_master(alloc)?;
     let on_course = more(paced, course)?;
+    let io = io_of_master(alloc)?;
+    let spoken_to = more(on_course, io)?;
     let end = end_of_master(alloc)?;
-    more(on_course, end)
+    more(spoken_to, end)
 }
 
 // The words of `master` are made by some at a time, so that not all of them stand on the stack at once: here
@@ -435,6 +439,23 @@ fn course_of_master<'a>(alloc: Global) -> Result<Vec<Arg<'a>>, AllocError>
         option(alloc, "LOG", "log", log),
         flag(alloc, "log-images", images),
         flag(alloc, "log-or-stop", or_stop),
+    ]?)
+}
+
+// `[--io IO] [--io-open] [--io-stale CYCLES] [--io-rest REST]`
+#[inline(never)]
+fn io_of_master<'a>(alloc: Global) -> Result<Vec<Arg<'a>>, AllocError>
+    ensures { IfOk result (λ words. AreWords io_words words.items) }
+{
+    let io = "HOST:PORT where a program gives the outputs and gets the inputs of each cycle";
+    let open = "Lets other machines reach that address";
+    let stale = "After how many cycles without a packet of the program its outputs are stale";
+    let rest = "What stale outputs become: kept, zeros; kept if not given";
+    Ok(vec![in alloc;
+        option(alloc, "IO", "io", io),
+        flag(alloc, "io-open", open),
+        option(alloc, "CYCLES", "io-stale", stale),
+        option(alloc, "REST", "io-rest", rest),
     ]?)
 }
 

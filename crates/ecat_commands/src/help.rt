@@ -258,6 +258,12 @@ With --outputs count the outputs are a number that grows by one each cycle.
 With --outputs and a file, of 1 MiB at most, each of its lines has the outputs
 of one cycle, and behind the last line it begins again at the first: the bytes
 of the items that write, item after item, two hexadecimal digits each.
+With --io a program at HOST:PORT, by UDP, gives the outputs and gets the inputs
+of each cycle, one packet each way: what it ordered last before a cycle goes out
+in it, and it is told each cycle's number, end and inputs. The address has to be
+one of this machine alone, unless --io-open is said. With --io-stale N outputs of
+which no packet came for N cycles are stale: the program is told, and with
+--io-rest zeros they become 0.
 With --stop it ends at the first cycle that is not good. With --recover slaves
 that show an error, or came back in Init, are brought up again.
 With --log FILE each cycle has a line there; with --log-images beside it that

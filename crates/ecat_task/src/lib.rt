@@ -1,0 +1,32 @@
+#![tactic(auto)]
+//! A control task at the other end of a UDP socket: a program that gives outputs to a running master and
+//! gets inputs of it, one packet each way in a cycle (`ec_io`).
+//!
+//! - [`UdpTask`] is the `ecat_master::Task` of such a program: what it orders last before a cycle are the
+//!   outputs of that cycle, and each cycle is reported to who ordered last.
+//! - [`Held`] are the outputs that are held: what packets make of them, and what becomes of them where no
+//!   packet comes any more.
+//!
+//! One use; `rt` is what `main` is given, and `work` has outputs of three bytes:
+//!
+//! ```text
+//! let terms = Terms { count: 3, stale_after: Some(100), rest: Rest::Zeros };
+//! let mut task = UdpTask::open(&rt, rt.alloc(), "127.0.0.1:34990", terms)?;
+//! let status = master(ports, line, work, expected, &plan, &mut pace, &mut task, out, err, log);
+//! ```
+//!
+//! What is promised: outputs that became others are, whole, those of one packet that is an order, or those
+//! that the terms have for a task that says nothing any more; and outputs of another length than the line's
+//! are refused (`Held::take`, `listens` of [`UdpTask`]). What a report says is exact (`report_of`): the end
+//! of its cycle, and the inputs of the last good one. Up to the first order and while nobody listens nothing
+//! is sent. It takes memory when it is opened, and none in a cycle.
+//!
+//! What a socket gives is up to the system.
+
+mod counts;
+mod held;
+mod told;
+mod udp;
+
+pub use held::{Held, Refused};
+pub use udp::{Rest, TaskFault, Terms, UdpTask};

@@ -1,0 +1,307 @@
+//! A control task at a UDP socket.
+
+ghost use Rattle.std.specs.Prelude.{◌≡◌, ◌||◌, true};
+ghost use Rattle.std.specs.Option.{option_map};
+ghost use Rattle.ec_io.specs.Cycle.{IsSpellable};
+ghost use Rattle.ecat_task.specs.Held.{Become, orders_others};
+
+use crate::counts::Counts;
+use crate::held::{Held, Refused};
+use crate::told::report_of;
+use ec_io::{ORDER_HEAD, REPORT_HEAD};
+use ec_master::Verdict;
+use ec_run::{Inputs, MOST_INPUTS, put_inputs};
+use ecat_master::{Report, Task};
+use ecat_text::Lines;
+use std::alloc::{AllocError, Global};
+use std::io::{self, Write};
+use std::net::{Net, SocketAddr, UdpSocket};
+
+/// How many packets are taken between two cycles at the most, so that nobody who sends more can hold one.
+const MOST_PACKETS: usize = 64;
+
+/// What outputs become where no order comes any more.
+#[derive(Clone, Copy, PartialEq, Eq, Debug)]
+pub enum Rest {
+    /// They stay as they are.
+    Kept,
+    /// They are all 0.
+    Zeros,
+}
+
+/// What a task may order, and what becomes of outputs where it does not.
+#[derive(Clone, Copy)]
+pub struct Terms {
+    /// How many bytes of outputs there are: those of the items that write.
+    pub count: usize,
+    /// After how many cycles without an order they are stale; never where it is nothing.
+    pub stale_after: Option<u32>,
+    /// What they become then.
+    pub rest: Rest,
+    /// Whether the socket may lie at an address that others than this machine reach.
+    pub is_open: bool,
+}
+
+/// Why the socket of a task cannot be had.
+#[derive(Drop)]
+pub enum TaskFault {
+    /// Memory ran out.
+    NoMemory,
+    /// The address is one that other machines reach, and is not to be.
+    Reachable,
+    /// What the system says.
+    Socket(io::Error),
+}
+
+impl From<AllocError> for TaskFault {
+    fn from(_fault: AllocError) -> TaskFault {
+        TaskFault::NoMemory
+    }
+}
+
+impl From<io::Error> for TaskFault {
+    fn from(fault: io::Error) -> TaskFault {
+        TaskFault::Socket(fault)
+    }
+}
+
+/// The task of a program that speaks at a UDP socket; or no task, where there is no socket.
+///
+/// Who sent the last order is told of each cycle, and nobody is before the first one. Of the packets that
+/// came between two cycles, 64 at the most are taken, and the last order counts.
+#[derive(Drop)]
+pub struct UdpTask {
+    socket: Option<UdpSocket>,
+    /// Who sent the last order.
+    program: Option<SocketAddr>,
+    held: Held,
+    /// Room for a packet that comes, with a byte more than an order has.
+    room: Vec<u8>,
+    /// Room for a packet that goes.
+    packet: Vec<u8>,
+    inputs: Box<Inputs>,
+    /// The number of the last good cycle.
+    good: Option<u64>,
+    /// The number of the last cycle that was reported.
+    reported: Option<u64>,
+    counts: Counts,
+}
+
+impl UdpTask {
+    /// No task.
+    pub fn none(alloc: Global) -> Result<UdpTask, AllocError> {
+        let terms = Terms {
+            count: 0,
+            stale_after: None,
+            rest: Rest::Kept,
+            is_open: false,
+        };
+        UdpTask::at(alloc, None, terms)
+    }
+
+    /// The task of who speaks at this address (`HOST:PORT`), on these terms.
+    pub fn open(
+        net: &impl Net,
+        alloc: Global,
+        address: &str,
+        terms: Terms,
+    ) -> Result<UdpTask, TaskFault> {
+        let socket = UdpSocket::bind(net, address)?;
+        socket.set_nonblocking(true)?;
+        if !terms.is_open && !socket.local_addr()?.ip().is_loopback() {
+            return Err(TaskFault::Reachable);
+        }
+        Ok(UdpTask::at(alloc, Some(socket), terms)?)
+    }
+
+    /// The task at a socket, or none.
+    #[inline(never)]
+    fn at(alloc: Global, socket: Option<UdpSocket>, terms: Terms) -> Result<UdpTask, AllocError> {
+        let rest = match terms.rest {
+            Rest::Kept => None,
+            Rest::Zeros => Some(zeros(alloc, terms.count)?),
+        };
+        let held = Held::new(zeros(alloc, terms.count)?, rest, terms.stale_after);
+        let room = if socket.is_some() { MOST_INPUTS } else { 0 };
+        Ok(UdpTask {
+            socket,
+            program: None,
+            held,
+            room: zeros(alloc, terms.count.saturating_add(ORDER_HEAD + 1))?,
+            packet: zeros(alloc, REPORT_HEAD + room)?,
+            inputs: Box::new(alloc, Inputs::new())?,
+            good: None,
+            reported: None,
+            counts: Counts::none(),
+        })
+    }
+
+    /// Where the socket lies, if there is one.
+    pub fn address(&self) -> Option<SocketAddr> {
+        match &self.socket {
+            Some(socket) => socket.local_addr().ok(),
+            None => None,
+        }
+    }
+
+    /// Writes how often the task spoke, if there is one.
+    pub fn put_sum<W: Write>(&self, lines: &mut Lines<'_, W>) -> io::Result<()> {
+        match &self.socket {
+            Some(_) => self.counts.put(lines),
+            None => Ok(()),
+        }
+    }
+
+    /// Receives a packet, if one waits: how many bytes of it, and of whom.
+    fn receive(&mut self) -> Option<(usize, SocketAddr)>
+        ensures { self.new.held ≡ self.old.held }
+    {
+        match &self.socket {
+            Some(socket) => socket.recv_from(self.room.as_mut_slice()).ok(),
+            None => None,
+        }
+    }
+
+    /// Takes a packet that waits, if one does; it says whether it is an order, and whether the outputs are
+    /// those that it orders now.
+    fn take_next(&mut self) -> Option<Result<bool, Refused>>
+        ensures outputs { Become (option_map (λ rest. rest.items) self.old.held.rest)
+            self.old.held.outputs.items (orders_others result) self.new.held.outputs.items }
+        ensures rest { self.new.held.rest ≡ self.old.held.rest }
+    {
+        let (count, from) = self.receive()?;
+        let taken = self.held.take(self.room.get(..count).unwrap_or(&[]));
+        match taken {
+            Ok(_) => {
+                self.program = Some(from);
+                let is_prompt = self.reported.is_some() && self.held.seen() == self.reported;
+                self.counts = self.counts.with_order(is_prompt);
+            }
+            Err(why) => self.counts = self.counts.with_refused(why),
+        }
+        Some(taken)
+    }
+
+    /// Takes the packets that wait, up to so many, and says whether one was an order, and whether the outputs
+    /// are others now.
+    fn take_all(&mut self) -> Orders
+        ensures outputs { Become (option_map (λ rest. rest.items) self.old.held.rest)
+            self.old.held.outputs.items result.are_others self.new.held.outputs.items }
+        ensures rest { self.new.held.rest ≡ self.old.held.rest }
+    {
+        let mut orders = Orders {
+            is_ordered: false,
+            are_others: false,
+        };
+        for _packet in 0..MOST_PACKETS {
+            match self.take_next() {
+                Some(Ok(are_others)) => orders = orders.with(are_others),
+                Some(Err(_)) => {}
+                None => break,
+            }
+        }
+        orders
+    }
+}
+
+/// What packets ordered.
+#[derive(Clone, Copy)]
+struct Orders {
+    /// Whether one of them was an order.
+    is_ordered: bool,
+    /// Whether the outputs are others by them.
+    are_others: bool,
+}
+
+impl Orders {
+    /// With an order more, which has outputs or has none.
+    fn with(self, are_others: bool) -> Orders
+        ensures { result ≡ record { is_ordered = true; are_others = self.are_others || are_others } }
+    {
+        Orders {
+            is_ordered: true,
+            are_others: self.are_others || are_others,
+        }
+    }
+}
+
+impl Task for UdpTask {
+    ghost listens = { λ before are_others later. Become (option_map (λ rest. rest.items) before.held.rest)
+        before.held.outputs.items are_others later.held.outputs.items };
+
+    ghost held = { λ task. task.held.outputs.items };
+
+    fn listen(&mut self) -> bool {
+        let orders = self.take_all();
+        let rests = self.held.begin_cycle(orders.is_ordered);
+        orders.are_others || rests
+    }
+
+    fn outputs(&self) -> &[u8] {
+        self.held.outputs()
+    }
+
+    fn report(&mut self, report: &Report<'_>) {
+        if report.ended == Ok(Verdict::Good) {
+            self.good = Some(report.cycle);
+        }
+        self.reported = Some(report.cycle);
+        if self.socket.is_some() && self.held.is_stale() {
+            self.counts = self.counts.with_stale();
+        }
+        self.send(report);
+    }
+}
+
+impl UdpTask {
+    /// The number of the last good cycle, as a packet can tell it.
+    fn good_cycle(&self) -> Option<u64>
+        ensures { IsSpellable result }
+    {
+        match self.good {
+            Some(cycle) => ec_io::cycle_of(cycle),
+            None => None,
+        }
+    }
+
+    /// Sends who ordered last what a cycle came to; nothing where nobody did.
+    fn send(&mut self, report: &Report<'_>)
+        ensures { self.new.held ≡ self.old.held }
+    {
+        if self.program.is_none() {
+            return;
+        }
+        let size = self.write(report);
+        if !self.is_sent(size) {
+            self.counts = self.counts.with_unsent();
+        }
+    }
+
+    /// Writes the packet that tells what a cycle came to, and says how many bytes it has.
+    fn write(&mut self, report: &Report<'_>) -> Option<usize>
+        ensures { self.new.held ≡ self.old.held }
+    {
+        if let Some(image) = report.image {
+            put_inputs(image, report.items, &mut self.inputs);
+        }
+        let good = self.good_cycle();
+        let is_stale = self.held.is_stale();
+        let told = report_of(report, good, self.inputs.as_slice(), is_stale);
+        told.write(self.packet.as_mut_slice()).ok()
+    }
+
+    /// Sends so many bytes of the packet to who ordered last, if the system takes them at once.
+    fn is_sent(&self, size: Option<usize>) -> bool {
+        match (&self.socket, self.program, size) {
+            (Some(socket), Some(program), Some(size)) => socket
+                .send_to(self.packet.get(..size).unwrap_or(&[]), program)
+                .is_ok(),
+            _ => false,
+        }
+    }
+}
+
+/// So many bytes of 0.
+fn zeros(alloc: Global, count: usize) -> Result<Vec<u8>, AllocError> {
+    vec![in alloc; 0; count]
+}
