@@ -37,6 +37,15 @@ impl<T: Pace> Pace for Impatient<'_, T> {
         self.pace.left()
     }
 
+    fn spare(&mut self) -> u64 {
+        self.pace.spare()
+    }
+
+    fn end(&mut self) {
+        self.pace.end();
+        self.is_patient.set(true);
+    }
+
     fn now(&mut self) -> u64 {
         self.pace.now()
     }

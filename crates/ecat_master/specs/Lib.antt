@@ -1,3 +1,4 @@
+pub mod Allowance
 pub mod Last
 pub mod Exits
 pub mod Task

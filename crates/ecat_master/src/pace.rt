@@ -20,6 +20,15 @@ pub trait Pace {
         None
     }
 
+    /// How many microseconds before the next cycle is due a cycle ends at the latest, as long as cycles take
+    /// less than lies between them. What a good one took at the least is left in any case.
+    fn spare(&mut self) -> u64 {
+        0
+    }
+
+    /// Behind the last cycle: no cycle waits any more.
+    fn end(&mut self) {}
+
     /// Microseconds since the pace began, never falling.
     fn now(&mut self) -> u64;
 }

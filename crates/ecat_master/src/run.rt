@@ -139,7 +139,7 @@ impl LinePlan<'_> {
             .take(cycles.counts.cycles, late, pace.missed());
         take_outputs(task, cycles);
         let first = ports.trips_made();
-        ports.begin_cycle(teller.time_left(pace.left()));
+        ports.begin_cycle(teller.time_left(pace.left(), pace.spare()));
         let ended = cycles.cycle_in(ports, self.plan.outputs, self.expected, rooms);
         let late_copies = end_cycle(ports);
         let at = pace.now();
@@ -198,7 +198,9 @@ where
     ensures trips { IsWithin (PortsTrip P.trips) ((cycles.new.counts.cycles - cycles.old.counts.cycles)
         * round_trips (length cycles.old.asked)) ports.old.ports ports.new.ports }
 {
-    let made = make_rounds(cycles, ports, line_plan, pace, task, teller)?;
+    let made = make_rounds(cycles, ports, line_plan, pace, task, teller);
+    pace.end();
+    let made = made?;
     match teller.close(line_plan) {
         Ok(()) => Ok(made),
         Err(unwritten) => Err(unwritten),

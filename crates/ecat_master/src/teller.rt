@@ -1,8 +1,11 @@
 //! Who is told of the cycles of a master while they run, and when slaves are looked at.
 
 ghost use Rattle.std.specs.Prelude.{◌≡◌};
+ghost use Rattle.std.specs.Option.{option_map};
+ghost use Rattle.ecat_master.specs.Allowance.{time_left};
 ghost use Rattle.ecat_master.specs.Course.{IsFollowed, IsSeenTo, MayBeLookedAt};
 
+use crate::allowance::Allowance;
 use crate::care::{Care, Next, most_asked, wanted_at};
 use crate::late::{CycleTrips, LateCycles, Unsure};
 use crate::lateness::Lateness;
@@ -103,8 +106,8 @@ pub struct Teller<'a, W, V, L> {
     pub(crate) states: SlaveStates,
     /// How long cycles took, all of them.
     pub(crate) took: Spread,
-    /// How long a good one took at the least, if there was one.
-    least_good: Option<u64>,
+    /// How long they took, as far as that says for how long the next one may wait.
+    pub(crate) allowance: Allowance,
     /// By how much they began late, where they are to begin at a time.
     pub(crate) lateness: Lateness,
     /// Which copies of earlier cycles came late.
@@ -136,7 +139,7 @@ impl<'a, W: Write, V: Write, L: Write> Teller<'a, W, V, L> {
             told: Told::new(cable),
             states: SlaveStates::new(),
             took: Spread::none(),
-            least_good: None,
+            allowance: Allowance::new(),
             lateness: Lateness::none(),
             late_copies: LateCycles::none(),
             ports: PortsNews::new(),
@@ -148,13 +151,15 @@ impl<'a, W: Write, V: Write, L: Write> Teller<'a, W, V, L> {
         }
     }
 
-    /// For how many microseconds a cycle may wait for copies that begins so long before the next one is due:
-    /// what a good cycle took at the least is left for that. It is no less than twice as long, so that cycles
-    /// that take longer than lies between them are late and not cut off; nor is one before the first good
-    /// one.
-    pub(crate) fn time_left(&self, left: Option<u64>) -> Option<u64> {
-        let (left, least) = (left?, self.least_good?);
-        Some(left.saturating_sub(least).max(least.saturating_mul(2)))
+    /// For how many microseconds the trips of a cycle may wait that begins so long before the next one is
+    /// due, where so much is spared; `None` where cycles go back to back.
+    pub(crate) fn time_left(&self, left: Option<u64>, spare: u64) -> Option<u64>
+        ensures { result ≡ option_map (λ left. time_left self.now.allowance left spare) left }
+    {
+        match left {
+            Some(left) => Some(self.allowance.time_left(left, spare)),
+            None => None,
+        }
     }
 
     /// Takes the trips of a cycle that was made, which copies came late up to its end, and how long it took;
@@ -169,9 +174,7 @@ impl<'a, W: Write, V: Write, L: Write> Teller<'a, W, V, L> {
         plan: &Plan<'_>,
     ) -> Option<Unsure> {
         let took = now.saturating_sub(trips.began);
-        if ended == Ok(Verdict::Good) {
-            self.least_good = Some(self.least_good.map_or(took, |least| least.min(took)));
-        }
+        self.allowance = self.allowance.behind(took, ended == Ok(Verdict::Good));
         self.take_time(counts, took, now, plan);
         self.late_copies.take(trips, late, now)
     }

@@ -40,7 +40,8 @@ fn cycles_are_as_far_apart_as_they_are_to_be(rt: HostRuntime) {
 fn cycles_whose_time_has_passed_are_left_out(rt: HostRuntime) {
     let every = Some(Duration::from_millis(2));
     let beat = Beat::<_, Stdin>::new(&rt, every, Some(2), None);
-    let mut beat = beat.ok().expect(&rt, "a clock");
+    let mut beat = beat.ok().expect(&rt, "a clock").sparing();
+    assert_same(&rt, beat.spare(), 400);
     goes_on(&rt, &mut beat, true);
     // the first one is at once, and the second one two milliseconds later
     assert_same(&rt, (beat.late(), beat.missed()), (None, 0));

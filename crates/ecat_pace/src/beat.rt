@@ -1,7 +1,7 @@
 //! When the next cycle of a master is due.
 
 ghost use Rattle.std.specs.Prelude.{◌≡◌, ◌-◌, Some, true, false};
-ghost use Rattle.ecat_pace.specs.Beat.{due_behind, missed_by};
+ghost use Rattle.ecat_pace.specs.Beat.{due_behind, missed_by, spared};
 
 use crate::input::Ending;
 use ecat_master::Pace;
@@ -13,6 +13,9 @@ use std::time::{Duration, Instant};
 
 /// How often a clock is looked at in a microsecond, at the most: a look takes some 25 nanoseconds.
 const LOOKS: u64 = 100;
+
+/// Which part of the time between two cycles a sparing beat leaves.
+const SPARED: u64 = 5;
 
 /// The beat of a master's cycles, over a clock: the first one begins at once, and each other one is due so
 /// long after the one before was, or at once. A cycle whose time has passed when the next one is due is left
@@ -29,6 +32,8 @@ pub struct Beat<'a, R: Clock, I: Read + AsRawFd + Drop> {
     missed: u64,
     left: Option<u32>,
     input: Option<Ending<I>>,
+    /// How long before the next cycle is due a cycle ends, in microseconds.
+    spare: u64,
     /// Whether it never sleeps.
     busy: bool,
 }
@@ -54,6 +59,7 @@ impl<'a, R: Clock, I: Read + AsRawFd + Drop> Beat<'a, R, I> {
             missed: 0,
             left: cycles,
             input,
+            spare: 0,
             busy: false,
         })
     }
@@ -64,6 +70,19 @@ impl<'a, R: Clock, I: Read + AsRawFd + Drop> Beat<'a, R, I> {
     {
         let mut beat = self;
         beat.busy = true;
+        beat
+    }
+
+    /// A beat whose cycles end a fifth of the time before the next one is due.
+    pub fn sparing(self) -> Beat<'a, R, I>
+        ensures left { result.left ≡ self.entry.left }
+        ensures spare { result.spare ≡ spared self.entry.every }
+    {
+        let mut beat = self;
+        beat.spare = match beat.every {
+            Some(every) => every / SPARED,
+            None => 0,
+        };
         beat
     }
 
@@ -161,6 +180,10 @@ impl<'a, R: Clock, I: Read + AsRawFd + Drop> Pace for Beat<'a, R, I> {
             (Some(_), Some(due)) => Some(due.saturating_sub(self.passed())),
             _ => None,
         }
+    }
+
+    fn spare(&mut self) -> u64 {
+        self.spare
     }
 
     fn now(&mut self) -> u64 {

@@ -1,15 +1,49 @@
 //! The cycle whose frames go out, and up to when its trips wait.
 
 ghost use Rattle.std.specs.Prelude.{◌≡◌, ◌+◌, ◌≤◌, ◌^◌, length, min, IfSome, None, Some};
-ghost use Rattle.ecat_remote.specs.Waiting.{again_of, until_of};
+ghost use Rattle.ecat_remote.specs.Waiting.{again_of, bounded, deadline_after, until_of};
 
 /// What is known of the cycle whose next frame goes out, or behind which others do.
 #[derive(Clone, Copy)]
 pub(crate) struct Cycle {
     /// How many of its datagrams have gone out; `None` between cycles.
     pub(crate) gone: Option<usize>,
-    /// The time up to which its trips wait at the latest, if there is one.
-    pub(crate) deadline: Option<u64>,
+    /// Up to when its trips wait at the latest, and how long those wait behind it whose copies go out later.
+    pub(crate) deadline: Option<Deadline>,
+}
+
+/// Up to when the trips of a cycle wait.
+#[derive(Clone, Copy)]
+pub(crate) struct Deadline {
+    /// The time.
+    pub(crate) at: u64,
+    /// For how many microseconds a trip behind the cycle waits at the most, once that time is over.
+    pub(crate) grace: u64,
+}
+
+impl Deadline {
+    /// That of a cycle that begins then and whose trips may wait for so many microseconds: a trip that goes
+    /// out past it waits half as long at the most.
+    pub(crate) fn after(now: u64, left: u64) -> Deadline
+        ensures { result ≡ deadline_after now left }
+    {
+        Deadline {
+            at: now.saturating_add(left),
+            grace: left / 2,
+        }
+    }
+
+    /// Up to when a trip waits that went out then and would wait up to a time, in the cycle or behind it.
+    fn bounds(self, is_cycle: bool, sent_at: u64, until: u64) -> u64
+        ensures { result ≡ bounded self is_cycle sent_at until }
+    {
+        let end = if is_cycle || sent_at < self.at {
+            self.at
+        } else {
+            sent_at.saturating_add(self.grace)
+        };
+        until.min(end)
+    }
 }
 
 impl Cycle {
@@ -24,7 +58,7 @@ impl Cycle {
     }
 
     /// One that begins, with a deadline or without.
-    pub(crate) fn begun(deadline: Option<u64>) -> Cycle
+    pub(crate) fn begun(deadline: Option<Deadline>) -> Cycle
         ensures { result ≡ record { gone = Some 0; deadline = deadline } }
     {
         Cycle {
@@ -54,14 +88,14 @@ impl Cycle {
     }
 
     /// Up to when a trip waits whose copies were sent at this time. One behind a cycle waits no longer than
-    /// the cycle could, as long as that lies ahead.
+    /// the cycle could, and where it went out later, for the grace of the deadline.
     pub(crate) fn until(self, limit: u64, sent_at: u64) -> u64
         ensures { result ≡ until_of self limit sent_at }
     {
         let until = sent_at.saturating_add(limit);
         match self.deadline {
-            Some(deadline) if self.gone.is_some() || sent_at < deadline => until.min(deadline),
-            _ => until,
+            Some(deadline) => deadline.bounds(self.gone.is_some(), sent_at, until),
+            None => until,
         }
     }
 }

@@ -15,7 +15,7 @@ ghost use Rattle.ecat_remote.specs.Trips.{RemoteState, RemoteTrips, HeardTrips, 
 
 use crate::carrier::Carrier;
 use crate::copies::{NumberedCopy, Outgoing, number_both, opened, told_by};
-use crate::cycle::{Cycle, again};
+use crate::cycle::{Cycle, Deadline, again};
 use crate::enough::{Awaited, Both, have_come, have_come_at, is_enough};
 use crate::late::late_trip;
 use crate::ready::Ready;
@@ -38,8 +38,9 @@ const TURNS: u64 = 4;
 const MORE_TURNS: u64 = 4096;
 
 /// For how many microseconds at least the other copy is waited for behind one that came with each counter
-/// that is expected, unless nothing comes at its port any more: as long as a process on a busy machine may be
-/// kept from a processor between the two, but no longer than this part of the time that the trip has.
+/// that is expected: as long as a process on a busy machine may be kept from a processor between the two, but
+/// no longer than this part of the time that the trip has; half as long with each cycle in which nothing has
+/// come at its port.
 const FLOOR: u64 = 5_000;
 
 const FLOOR_PART: u64 = 4;
@@ -104,8 +105,8 @@ struct Received {
 ///
 /// A trip ends as soon as nothing is gained by waiting: when each copy has come that is awaited; when one has
 /// come with each counter that is expected, and the other one has had as long again, and at least 5
-/// milliseconds or a quarter of the trip's time, whichever is less; or when its time is over. At a port at
-/// which nothing came for 100 cycles nothing is waited for at least.
+/// milliseconds or a quarter of the trip's time, whichever is less; or when its time is over. These 5
+/// milliseconds are halved with each cycle in which nothing came at the port.
 #[derive(Drop)]
 pub struct RemotePorts<C: Carrier, T: Timer> {
     carrier: C,
@@ -420,11 +421,8 @@ impl<C: Carrier, T: Timer> RemotePorts<C, T> {
     /// For how many microseconds at least the copy at a port is waited for behind the other one, in a trip
     /// that waits for so long.
     fn least(&self, missing: Port, span: Span) -> u64 {
-        if self.silence.is_long(missing) {
-            0
-        } else {
-            FLOOR.min(span.until.saturating_sub(span.sent_at) / FLOOR_PART)
-        }
+        let floor = self.silence.halved(missing, FLOOR);
+        floor.min(span.until.saturating_sub(span.sent_at) / FLOOR_PART)
     }
 
     /// Receives a packet at each port that may have one. A copy that came stays.
@@ -696,7 +694,7 @@ impl<C: Carrier, T: Timer> HeardPorts for RemotePorts<C, T> {
 
     fn begin_cycle(&mut self, left: Option<u64>) {
         let deadline = match left {
-            Some(left) => Some(self.timer.now().saturating_add(left)),
+            Some(left) => Some(Deadline::after(self.timer.now(), left)),
             None => None,
         };
         self.cycle = Cycle::begun(deadline);

@@ -1,7 +1,7 @@
 //! For how many cycles nothing came at a port.
 
 ghost use Rattle.std.specs.Prelude.{◌≡◌, ◌+◌, ◌-◌, ◌^◌, min, nat_lt};
-ghost use Rattle.ecat_remote.specs.Waiting.{since_at};
+ghost use Rattle.ecat_remote.specs.Waiting.{halved, since_at};
 ghost use Rattle.ecat_remote.specs.declared.silence.TheConstants.{SILENT_CYCLES};
 
 use ec_ring::Port;
@@ -44,15 +44,29 @@ impl Silence {
         }
     }
 
+    /// How many cycles have begun since a packet came at a port.
+    fn since(self, at: Port) -> u64
+        ensures { result ≡ since_at at self }
+    {
+        match at {
+            Port::A => self.a,
+            Port::B => self.b,
+        }
+    }
+
+    /// A time that is halved with each cycle but this one that has begun since a packet came at a port.
+    pub(crate) fn halved(self, at: Port, micros: u64) -> u64
+        ensures { result ≡ halved (since_at at self) micros }
+    {
+        let halvings = self.since(at).saturating_sub(1);
+        if halvings < 64 { micros >> halvings } else { 0 }
+    }
+
     /// Whether nothing came at a port in the last [`SILENT_CYCLES`] cycles before this one, nor in this one
     /// yet.
     pub(crate) fn is_long(self, at: Port) -> bool
         ensures { result ≡ nat_lt SILENT_CYCLES (since_at at self) }
     {
-        let since = match at {
-            Port::A => self.a,
-            Port::B => self.b,
-        };
-        SILENT_CYCLES < since
+        SILENT_CYCLES < self.since(at)
     }
 }

@@ -126,15 +126,36 @@ fn the_deadline_of_a_cycle_ends_a_trip(rt: HostRuntime) {
 }
 
 #[test]
-fn a_port_at_which_nothing_comes_is_not_waited_for(rt: HostRuntime) {
-    // in the hundredth cycle still: up to 8 milliseconds
-    let mut ports = ports_at(&rt, rt.alloc(), copies([4, 0], 0), 2);
-    pass_cycles(&mut ports, 99);
-    assert_cycle(&rt, &mut ports, None, [CAME, None], [13, 14]);
-    // behind it no more: up to 6
-    let mut ports = ports_at(&rt, rt.alloc(), copies([4, 0], 0), 2);
+fn a_trip_behind_a_late_cycle_waits_half_its_time(rt: HostRuntime) {
+    let script = Script::new([under(1, 2); 4], 0, [under(0, 2); 4], 0);
+    let mut ports = ports_at(&rt, rt.alloc(), script, 2);
+    // ten milliseconds from half of one before the sending: 18 looks, and the last one
+    assert_cycle(&rt, &mut ports, Some(10_000), [None, None], [19, 19]);
+    // one look before the sending, and in five milliseconds 9 looks, and the last one
+    assert_same(&rt, trip(&rt, &mut ports), [None, None]);
+    assert_same(&rt, ports.carrier().looks, [30, 30]);
+}
+
+#[test]
+fn a_port_at_which_nothing_comes_is_waited_for_less_and_less(rt: HostRuntime) {
+    // the copy is there one millisecond behind the sending: the other one has 5 more, behind one silent cycle
+    // 2.5, behind two 1.25, and then as long again
+    let rows = [
+        (0, [9, 10]),
+        (1, [4, 5]),
+        (2, [2, 3]),
+        (3, [1, 2]),
+        (99, [1, 2]),
+    ];
+    for (silent, looks) in rows {
+        let mut ports = ports_at(&rt, rt.alloc(), copies([0, 0], 0), 2);
+        pass_cycles(&mut ports, silent);
+        assert_cycle(&rt, &mut ports, None, [CAME, None], looks);
+    }
+    // nor is the clock watched for one close behind, once nothing came for 100 cycles
+    let mut ports = ports_at(&rt, rt.alloc(), copies([0, 0], 0), 2);
     pass_cycles(&mut ports, 100);
-    assert_cycle(&rt, &mut ports, None, [CAME, None], [10, 11]);
+    assert_cycle(&rt, &mut ports, None, [CAME, None], [2, 3]);
 }
 
 #[test]
