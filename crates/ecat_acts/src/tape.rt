@@ -6,8 +6,11 @@ ghost use Rattle.std.specs.Prelude.{◌≡◌, is_some};
 use crate::failure::{Failure, report, report_file};
 use ecat_record::{Counter, Moments, Recorder, WallClock};
 use ecat_text::FAILED;
+use ecat_unblocking::{Behind, Records, never_waits};
+use std::cell::Cell;
 use std::fs::{self, File};
 use std::io::{self, ErrorKind, Write};
+use std::os::fd::AsRawFd;
 use std::rt::{Clock, Files};
 
 /// Where a capture is written.
@@ -66,6 +69,57 @@ where
     V: Write,
 {
     Ok(Recorder::to(made(rt, pcap, out, err)?, WallClock::new(rt)))
+}
+
+/// A capture of which no write waits, but as long as a cell says so.
+pub type Unawaited<'p, F> = Records<'p, F, Behind>;
+
+/// What records each copy as by `recorder_at`, for a master whose cycles wait for no reader: where a pipe is
+/// not read, packets are left out.
+pub fn unawaited_at<'a, 'p, R, W, V>(
+    rt: &'a R,
+    pcap: Option<Pcap<'_>>,
+    is_patient: &'p Cell<bool>,
+    out: &mut W,
+    err: &mut V,
+) -> Result<Recorder<Unawaited<'p, R::File>, WallClock<'a, R>>, u8>
+where
+    R: Clock + Files,
+    R::File: AsRawFd,
+    W: Write,
+    V: Write,
+{
+    let records = match made(rt, pcap, out, err)? {
+        Some(file) => {
+            never_waits(&file);
+            let reader = Behind(file.as_raw_fd());
+            Some(Records::new(file, reader, is_patient))
+        }
+        None => None,
+    };
+    Ok(Recorder::to(records, WallClock::new(rt)))
+}
+
+/// Tells how many packets were left out of a capture, since nobody read it, and ends it behind a command with
+/// this exit status as `end` does.
+pub fn end_unawaited<F, M, V>(
+    recorder: &mut Recorder<Unawaited<'_, F>, M>,
+    status: u8,
+    err: &mut V,
+) -> u8
+where
+    F: Write,
+    M: Moments,
+    V: Write,
+{
+    let left_out = recorder.writer().map_or(0, |records| records.left_out());
+    if left_out != 0 {
+        let _ = writeln!(
+            err,
+            "pcap: nobody read it, so packets were left out: {left_out}"
+        );
+    }
+    end(recorder, status, err)
 }
 
 /// What records each copy as by `recorder_at`, one after the other, of which each has the next number as its

@@ -104,6 +104,14 @@ impl<W: Write, M: Moments> Recorder<W, M> {
         }
     }
 
+    /// The writer of the copies, if anybody wants them.
+    pub fn writer(&self) -> Option<&W> {
+        match &self.tape {
+            Some(tape) => Some(tape.writer()),
+            None => None,
+        }
+    }
+
     /// Flushes the writer, and says whether every write was made.
     pub fn finish(&mut self) -> Result<(), TapeFault>
         ensures { OnOk result (IfSome self.old.tape (λ tape. tape.has_failed ≡ false)) }

@@ -64,6 +64,11 @@ impl<W: Write> Tape<W> {
         self.write(record_of(self.unit, ticks, packet).as_slice());
     }
 
+    /// The writer.
+    pub fn writer(&self) -> &W {
+        &self.out
+    }
+
     /// Has every write been made?
     pub fn is_whole(&self) -> bool
         ensures { result ≡ not self.now.has_failed }

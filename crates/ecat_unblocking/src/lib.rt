@@ -1,8 +1,9 @@
 #![tactic(auto)]
-//! Writers of lines whose readers may stop: who writes goes on, and lines that nobody takes are left out and
-//! counted.
+//! Writers whose readers may stop: who writes goes on, and lines or records that nobody takes are left out
+//! and counted.
 //!
 //! - `Unblocking`: a writer over another one and its reader. While it is not patient no write waits.
+//! - `Records`: the same of records, of which each comes in one write.
 //! - `Reader`: who says whether a write would be taken at once, and `Behind`: the one at the other end of a
 //!   descriptor, as the system knows it.
 //! - `Screen`: a terminal that is opened once more, so that no write to it waits (`never_waits`).
@@ -25,12 +26,16 @@
 //! What a system says of a descriptor, and that a write is taken behind that, is up to it.
 
 mod gap;
+mod reader;
+mod records;
 mod terminal;
 mod writer;
 
 pub use gap::Gap;
+pub use reader::{Behind, Reader};
+pub use records::Records;
 pub use terminal::{Screen, never_waits};
-pub use writer::{AT_ONCE, Behind, Reader, Unblocking};
+pub use writer::{AT_ONCE, Unblocking};
 
 #[cfg(test)]
 mod tests;

@@ -1,6 +1,6 @@
 //! What goes out and what is left out, to readers that take some writes and not others.
 
-use crate::{AT_ONCE, Behind, Reader, Unblocking};
+use crate::{AT_ONCE, Behind, Reader, Records, Unblocking};
 use std::cell::Cell;
 use std::io::{self, ErrorKind, Write};
 use std::os::fd::AsRawFd;
@@ -212,4 +212,30 @@ fn what_would_have_to_wait_is_left_out(rt: HostRuntime) {
         narrow.written == *b"one\ntw\nsix\n\0\0\0\0\0",
         "what goes out"
     );
+}
+
+#[test]
+fn records_that_nobody_takes_are_left_out_whole(rt: HostRuntime) {
+    let (is_patient, waited) = (Cell::new(false), Cell::new(-1));
+    let narrow = Narrow {
+        takes: &[4, 0, 4],
+        call: 0,
+        written: [0; 16],
+        count: 0,
+    };
+    let reader = Script {
+        takes: &[true, false, true, true],
+        asked: 0,
+        waited: &waited,
+    };
+    let mut records = Records::new(narrow, reader, &is_patient);
+    // the second one is not asked for, and the third would have to wait
+    for record in ["\n\0\n1", "\n\0\n2", "\n\0\n3", "\n\0\n4"] {
+        assert!(rt; records.write_all(record.as_bytes()).is_ok(), "{record}");
+    }
+    assert!(rt; records.left_out() == 2, "{}", records.left_out());
+    assert!(rt; waited.get() == 0, "nobody is waited for");
+    is_patient.set(true);
+    assert!(rt; records.write_all(b"more").is_ok(), "one more");
+    assert!(rt; waited.get() == 1_000, "who reads is waited for");
 }

@@ -1,42 +1,14 @@
-//! Writers whose readers may stop.
+//! A writer of lines whose reader may stop.
 
 ghost use Rattle.std.specs.Prelude.{◌≡◌};
 
 use crate::gap::Gap;
-use libc::net::POLLOUT;
-use libc::types::pollfd;
+use crate::reader::{Awaited, Reader};
 use std::cell::Cell;
 use std::io::{self, ErrorKind, Write};
-use std::os::fd::RawFd;
 
 /// How many bytes go out at once: a pipe that takes anything takes so many whole (Linux, `PIPE_BUF`).
 pub const AT_ONCE: usize = 4096;
-
-/// For how many milliseconds a patient writer waits for its reader.
-const PATIENCE: i32 = 1_000;
-
-/// Who reads what is written.
-pub trait Reader {
-    /// Is a write of as many bytes as go out at once taken without waiting? So many milliseconds may pass
-    /// until it is.
-    fn takes(&mut self, milliseconds: i32) -> bool;
-}
-
-/// Who reads at the other end of a descriptor, as the system knows it. A plain file takes whatever is
-/// written; so does what is closed or has failed, in order that the write says so.
-#[derive(Clone, Copy)]
-pub struct Behind(pub RawFd);
-
-impl Reader for Behind {
-    fn takes(&mut self, milliseconds: i32) -> bool {
-        let mut asked = [pollfd {
-            fd: self.0,
-            events: POLLOUT,
-            revents: 0,
-        }];
-        libc::net::poll(&mut asked, milliseconds) != 0
-    }
-}
 
 /// A writer that leaves out lines, and counts them, where its reader does not take them at once: where he
 /// says so before a write, or where the writer below would have to wait.
@@ -48,11 +20,8 @@ impl Reader for Behind {
 #[derive(Drop)]
 pub struct Unblocking<'a, 'p, W, R> {
     out: &'a mut W,
-    reader: R,
+    awaited: Awaited<'p, R>,
     at_once: usize,
-    is_patient: &'p Cell<bool>,
-    /// Whether the reader took nothing when he was waited for last.
-    has_stopped: bool,
     gap: Gap,
 }
 
@@ -68,10 +37,8 @@ impl<'a, 'p, W: Write, R: Reader> Unblocking<'a, 'p, W, R> {
     {
         Unblocking {
             out,
-            reader,
+            awaited: Awaited::new(reader, is_patient),
             at_once,
-            is_patient,
-            has_stopped: false,
             gap: Gap::none(),
         }
     }
@@ -83,19 +50,9 @@ impl<'a, 'p, W: Write, R: Reader> Unblocking<'a, 'p, W, R> {
         self.gap.lines
     }
 
-    /// Does the reader take what goes out at once?
-    fn is_taken(&mut self) -> bool
-        ensures { self.new.gap ≡ self.old.gap }
-    {
-        let waits = self.is_patient.get() && !self.has_stopped;
-        let is_taken = self.reader.takes(if waits { PATIENCE } else { 0 });
-        self.has_stopped = !is_taken && (waits || self.has_stopped);
-        is_taken
-    }
-
     /// Does a piece of a line go out? The end of a line that was cut off goes out before it.
     fn is_open(&mut self) -> io::Result<bool> {
-        if !self.is_taken() {
+        if !self.awaited.takes() {
             return Ok(false);
         }
         if !self.gap.is_cut {
@@ -106,7 +63,7 @@ impl<'a, 'p, W: Write, R: Reader> Unblocking<'a, 'p, W, R> {
             Err(fault) if fault.kind() == ErrorKind::WouldBlock => return Ok(false),
             Err(fault) => return Err(fault),
         }
-        Ok(!self.gap.is_cut && self.is_taken())
+        Ok(!self.gap.is_cut && self.awaited.takes())
     }
 }
 
