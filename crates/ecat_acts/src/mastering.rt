@@ -4,15 +4,16 @@ ghost use Rattle.std.specs.Prelude.{◌≡◌, ◌||◌, IfOk, None, Some, is_no
 ghost use Rattle.ec_regs.specs.declared.al.AlState.TheVariants.{Init};
 
 use crate::console::Console;
-use crate::course::{Course, act_master, course_of};
+use crate::course::course_of;
 use crate::failure::{Failure, report, report_file};
 use crate::images::images_at;
 use crate::patience::{Impatient, tell_left_out};
 use crate::remote::{left_in, patience, reach_of, tell_late};
-use crate::tape::{Pcap, end, recorder_at};
+use crate::tape::{Pcap, end_unawaited, unawaited_at};
 use ec_regs::AlState;
 use ec_run::{Image, Outputs};
 use ecat_args::MasterWords;
+use ecat_course::{Course, act_master};
 use ecat_master::Plan;
 use ecat_pace::{Beat, Ending};
 use ecat_reach::{Reach, open_ports};
@@ -308,7 +309,7 @@ where
         Ok(images) => images,
         Err(status) => return status,
     };
-    let mut recorder = match recorder_at(rt, running.pcap, out, err) {
+    let mut recorder = match unawaited_at(rt, running.pcap, attended.is_patient, out, err) {
         Ok(recorder) => recorder,
         Err(status) => return status,
     };
@@ -318,7 +319,7 @@ where
         attended,
     };
     let status = master_logged(rt, course, prepared, &mut recorder, out, err);
-    end(&mut recorder, status, err)
+    end_unawaited(&mut recorder, status, err)
 }
 
 /// A master that is about to run: by which words and to which plan, and what it has of its console.
@@ -439,7 +440,8 @@ fn ready<C: Carrier, T: Timer>(
     if busy { ports.busily() } else { ports }
 }
 
-/// The beat of a master's cycles, which end after as many as the words say, or with the input.
+/// The beat of a master's cycles, which end after as many as the words say, or with the input. Where no limit
+/// is given, each cycle ends a fifth of the time before the next one is due.
 fn beat_of<'a, R>(rt: &'a R, running: Running<'_>, input: Stdin) -> io::Result<Beat<'a, R, Stdin>>
 where
     R: Clock + Net + AllocGlobal,
@@ -454,5 +456,10 @@ where
         None => None,
     };
     let beat = Beat::new(rt, every, running.cycles, ending)?;
+    let beat = if running.limit.is_none() {
+        beat.sparing()
+    } else {
+        beat
+    };
     Ok(if running.busy { beat.busily() } else { beat })
 }

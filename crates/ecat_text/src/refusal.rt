@@ -1,11 +1,20 @@
 //! Why a line or an item is refused, as it is printed.
 
-ghost use Rattle.std.specs.Prelude.{Some};
+ghost use Rattle.std.specs.Prelude.{Some, ◌≡◌, Ok, OnOk, IfErr, true, false};
+ghost use Rattle.std.specs.List.{AllByRecursion};
+ghost use Rattle.ec_check.specs.Fit.{IsFit};
+ghost use Rattle.ec_check.specs.Line.{controllers, controllers_by};
+ghost use Rattle.ec_map.specs.Place.{IsPlaced};
+ghost use Rattle.ec_master.specs.Acceptance.{IsRefusal};
+ghost use Rattle.ec_master.specs.Unordered.{IsAccepted};
+ghost use Rattle.ec_master.specs.declared.acceptance.Refusal.{Refusal};
+ghost use Rattle.ecat_text.specs.Refused.{AreTaken, IsRefusedFor};
 ghost use Rattle.ecat_text.specs.Refusals.{address_words, item_refusal_words, line_refusal_words};
 
 use crate::lines::Lines;
 use ec_app::Slave;
 use ec_map::{Item, MapFault, Mapped, PlaceFault, check as check_line, check_item};
+use ec_master::{Refusal, Work, accept};
 use std::fmt;
 use std::io::{self, Write};
 
@@ -124,7 +133,11 @@ pub fn refuse<W: Write>(
     line: &[Slave],
     items: &[Item],
     lines: &mut Lines<'_, W>,
-) -> io::Result<bool> {
+) -> io::Result<bool>
+    ensures accepted { result ≡ Ok false → AreTaken (controllers line.now) items.now }
+    ensures refused { result ≡ Ok true
+        → (refusal : Refusal) × IsRefusedFor (controllers line.now) items.now refusal }
+{
     refuse_mapped(line, items, lines)
 }
 
@@ -133,18 +146,69 @@ pub fn refuse_mapped<S: Mapped, W: Write>(
     line: &[S],
     items: &[Item],
     lines: &mut Lines<'_, W>,
-) -> io::Result<bool> {
-    if let Err(fault) = check_line(line) {
-        lines.text(LineRefusal(fault))?;
-        lines.end()?;
-        return Ok(true);
-    }
-    for (number, item) in items.iter().enumerate() {
-        if let Err(fault) = check_item(line, item) {
-            lines.text(ItemRefusal { number, fault })?;
-            lines.end()?;
-            return Ok(true);
+) -> io::Result<bool>
+    ensures accepted { result ≡ Ok false → AreTaken (controllers_by S.controller line.now) items.now }
+    ensures refused { result ≡ Ok true
+        → (refusal : Refusal) × IsRefusedFor (controllers_by S.controller line.now) items.now refusal }
+{
+    match refusal_of(line, items) {
+        Ok(()) => Ok(false),
+        Err(refusal) => {
+            put_refusal(refusal, lines)?;
+            Ok(true)
         }
     }
-    Ok(false)
+}
+
+/// Is the line or an item of a work refused? If so, prints why.
+pub fn refuse_work<W: Write>(
+    line: &[Slave],
+    work: &Work,
+    lines: &mut Lines<'_, W>,
+) -> io::Result<bool>
+    ensures accepted { result ≡ Ok false → IsAccepted line.now work.now }
+    ensures refused { result ≡ Ok true → (refusal : Refusal) × IsRefusal line.now work.now refusal }
+{
+    match accept(line, work) {
+        Ok(()) => Ok(false),
+        Err(refusal) => {
+            put_refusal(refusal, lines)?;
+            Ok(true)
+        }
+    }
+}
+
+/// Why a line or items on it are refused, if they are.
+fn refusal_of<S: Mapped>(line: &[S], items: &[Item]) -> Result<(), Refusal>
+    ensures accepted { OnOk result (AreTaken (controllers_by S.controller line.now) items.now) }
+    ensures refused { IfErr result (IsRefusedFor (controllers_by S.controller line.now) items.now) }
+{
+    match check_line(line) {
+        Ok(()) => misplaced_in(line, items),
+        Err(fault) => Err(Refusal::Line(fault)),
+    }
+}
+
+/// The first of the items on a fit line that goes where a cycle may not, if there is one.
+fn misplaced_in<S: Mapped>(line: &[S], items: &[Item]) -> Result<(), Refusal>
+    requires { IsFit (controllers_by S.controller line.now) }
+    ensures placed { OnOk result (AllByRecursion (IsPlaced (controllers_by S.controller line.now)) items.now) }
+    ensures refused { IfErr result (IsRefusedFor (controllers_by S.controller line.now) items.now) }
+{
+    for k in 0..items.len() {
+        match check_item(line, &items[k]) {
+            Ok(()) => {}
+            Err(fault) => return Err(Refusal::Item(k, fault)),
+        }
+    }
+    Ok(())
+}
+
+/// Prints why a line or an item is refused.
+fn put_refusal<W: Write>(refusal: Refusal, lines: &mut Lines<'_, W>) -> io::Result<()> {
+    match refusal {
+        Refusal::Line(fault) => lines.text(LineRefusal(fault))?,
+        Refusal::Item(number, fault) => lines.text(ItemRefusal { number, fault })?,
+    }
+    lines.end()
 }

@@ -106,7 +106,7 @@ fn is_asked(slave: &SceneSlave, station: Option<u16>) -> bool {
 
 /// Has a slave that is asked for objects a mailbox so long that a copy has no room for a number beside it? If
 /// so, prints which one.
-pub(crate) fn refuse_long_mailbox<W: Write>(
+pub fn refuse_long_mailbox<W: Write>(
     slaves: &[SceneSlave],
     station: Option<u16>,
     lines: &mut Lines<'_, W>,
