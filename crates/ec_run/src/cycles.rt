@@ -59,8 +59,8 @@ impl Cycles {
         }
     }
 
-    /// Gives the items that write their data from an image, one item after the other: it is what they are asked
-    /// with from now on. Where the image ends, the data stay as they are.
+    /// Gives the items that write their data from an image, one item after the other: it is what they are
+    /// asked with from now on. Where the image ends, the data stay as they are.
     pub fn put_outputs(&mut self, image: &[u8])
         ensures { self.new ≡ record self.old { asked = filled image.now self.old.asked } }
     {

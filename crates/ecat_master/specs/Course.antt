@@ -1,6 +1,6 @@
--- The course of a running master over its ports, end to end: cycle after cycle, before each one the outputs of
--- the task that it serves, and behind each one a look at the cable and what is done with a slave before the next
--- one begins.
+-- The course of a running master over its ports, end to end: cycle after cycle, before each one the outputs
+-- of the task that it serves, and behind each one a look at the cable and what is done with a slave before the
+-- next one begins.
 use Rattle.std.specs.Prelude.{◌≡◌, ◌⊎◌, ℕ, zero, suc, ◌+◌, Bool, true, false, List, length, Option, None}
 use Rattle.std.specs.Prelude.{Some, Result, slice_get}
 use Rattle.std.specs.Result.{result_ok}
@@ -113,8 +113,8 @@ pub record IsFollowed {P : Type 0} (heard : HeardTrips P) (line : List Wanted) (
 
 -- ---- end to end
 
--- the outputs that the task has are taken; what was told is forgotten; a cycle is made, and what its copies tell
--- is kept; and what is done behind it
+-- the outputs that the task has are taken; what was told is forgotten; a cycle is made, and what its copies
+-- tell is kept; and what is done behind it
 pub record IsRound {P D : Type 0} (heard : HeardTrips P) (listens : Listens D) (held : D → List ℕ)
     (outputs : Outputs) (expected : List ℕ) (line : List Wanted) (s : Cycles) (before : WatchedState P)
     (end : End) (after : Cycles) (later : WatchedState P) : Type 0 where
@@ -124,7 +124,8 @@ pub record IsRound {P D : Type 0} (heard : HeardTrips P) (listens : Listens D) (
   pub cycle : IsCycle (WatchedTrips heard) (untold before.ports) outputs expected supplied end after between
   pub followed : IsFollowed heard line between later
 
--- so many of them, each from the ports that the one before it left, and how the last one ended, if there was one
+-- so many of them, each from the ports that the one before it left, and how the last one ended, if there was
+-- one
 unfoldable pub Rounds : {P D : Type 0} → HeardTrips P → Listens D → (D → List ℕ) → Outputs → List ℕ
     → List Wanted → ℕ → Cycles → WatchedState P → Option End → Cycles → WatchedState P → Type 0
 Rounds heard listens held outputs expected line zero s before last after later =

@@ -26,7 +26,8 @@ pub record IsMade {P D : Type 0} (heard : HeardTrips P) (listens : Listens D) (h
   pub between : WatchedState P
   pub started : IsStarted heard (untold before) line plan.identities.now cable between
   pub later : WatchedState P
-  pub course : IsCourse heard listens held plan.outputs expected line (begun_with work) between last cycles later
+  pub course : IsCourse heard listens held plan.outputs expected line (begun_with work) between last cycles
+      later
 
 -- and the last one was good
 pub record IsGoodRun {P D : Type 0} (heard : HeardTrips P) (listens : Listens D) (held : D → List ℕ)

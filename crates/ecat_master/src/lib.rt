@@ -2,10 +2,12 @@
 //! A master that runs, over any two ports: it brings a line to Op, cycles on it, and says where a cable
 //! breaks and when it is whole again (IEC 61158-6-12, AL management; IEC 61158-4-12, working counter).
 //!
-//! What it does is that of `ec_run`: steps, cycles, recovery. Here is in which order a program does them,
-//! what it tells of them, and its exit status, with no socket and no clock of its own: the ports are any that
-//! tell where copies arrive ([`ec_ring::HeardPorts`]), the time is a [`Pace`], outputs are those of a [`Task`]
-//! that is told what each cycle came to, and what else is told goes to writers. One use, which `master/door.rt` of `ecat_master_tests` tries; `wanted`, `ring` and `work` of
+//! What it does is that of `ec_run`: steps, cycles, recovery. Here is in which order a program does them, what
+//! it tells of them, and its exit status, with no socket and no clock of its own: the ports are any that tell
+//! where copies arrive ([`ec_ring::HeardPorts`]), the time is a [`Pace`], outputs are those of a [`Task`] that
+//! is told what each cycle came to, and what else is told goes to writers.
+//!
+//! One use, which `master/door.rt` of `ecat_master_tests` tries; `wanted`, `ring` and `work` of
 //! `master/line.rt` make three slaves as a scene has them, a ring of slaves that were told nothing, and an
 //! exchange of three bytes; `Stage` and `Count` of `master/stage.rt` are ports to that ring, whose link 2
 //! breaks before cycle 3, and so many cycles:
@@ -83,6 +85,7 @@
 //!
 //! What is printed and when is tried by tests.
 
+mod allowance;
 mod care;
 mod identity;
 mod late;

@@ -1,5 +1,5 @@
-//! Scenes that are taken, and lines that are written. A test accepts want of memory as an answer, so that each
-//! allocation can be made to fail in turn.
+//! Scenes that are taken, and lines that are written. A test accepts want of memory as an answer, so that
+//! each allocation can be made to fail in turn.
 
 use crate::asserts::assert_same;
 use ecat_scene::{Scene, SceneFault};

@@ -79,7 +79,8 @@ impl Counts {
             unsent,
         } = *self;
         lines.text(format_args!(
-            "task: orders {orders}, {prompt} to the last report, stale cycles {stale}, unsent reports {unsent}"
+            "task: orders {orders}, {prompt} to the last report, stale cycles {stale}, \
+            unsent reports {unsent}"
         ))?;
         lines.end()?;
         match why {
