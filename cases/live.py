@@ -913,6 +913,24 @@ def a_cable_at_an_end_costs_no_cycle_its_time(stage):
 
 
 @case
+def cycles_without_copies_cost_no_other_one_its_time(stage):
+    """Three copies are lost at either end: the cable is looked at for no longer than a cycle may last."""
+    with controlled(stage, MACHINE) as line:
+        stage.file("m", MACHINE)
+        words = ("--cycles", "60", "--every", "50000", "--limit", "1000000")
+        with stage.start("master", "m", "--at", both_ends(stage), *words) as master:
+            for wanted in STARTED.splitlines(True):
+                yield "start", wanted, master.line()
+            for end in "AB":
+                yield end, "ok\n", command(line, f"lose {end} 3")
+            end = master.end()
+    good = re.search(r"cycles 60 good (\d+)", end)
+    yield "good", "True", "True" if good and 54 <= int(good[1]) < 60 else end
+    missed = re.search(r"^lateness .*, missed (\d+)$", end, re.M)
+    yield "missed", "True", "True" if missed and int(missed[1]) <= 6 else end
+
+
+@case
 def a_master_that_stood_still_tells_what_it_left_out(stage):
     with stage.serve(MACHINE, "--forever"):
         stage.file("m", MACHINE)
@@ -1538,6 +1556,46 @@ def a_log_that_nobody_reads_keeps_no_cycle_waiting(stage):
         rows = re.sub(" unsure .*", "", taken_of(pipe))
         yield "log", "".join(f"cycle {k} good counts 9 3\n" for k in range(cycles - count)), rows
         yield "left out", "True", str(0 < count < cycles)
+
+
+@case
+def a_capture_that_nobody_reads_keeps_no_cycle_waiting(stage):
+    """The capture is a pipe that is read behind the last cycle: it has whole packets, and others are counted."""
+    cycles = 1000
+    with stage.serve(MACHINE, "--forever"), small_pipe(stage) as pipe:
+        stage.file("m", MACHINE)
+        words = ("--cycles", str(cycles), "--pcap", "pipe", "--force", *PATIENCE)
+        end = without_late(stage.ends("master", "m", "--at", both_ends(stage), *words))
+        found = re.search(r"^pcap: nobody read it, so packets were left out: (\d+)$", end, flags=re.M)
+        count = int(found[1]) if found else 0
+        told = f"pcap: nobody read it, so packets were left out: {count}\n0\n"
+        yield "master", STARTED + LEFT + sums(cycles) + ITEMS + told, end
+        with open(os.path.join(stage.folder, "kept"), "wb") as kept:
+            kept.write(pipe.read() or b"")
+    packets = [packet for _, packet in packets_of(stage, "kept")]
+    yield "whole packets", "True", str({packet[12:14] for packet in packets} == {b"\x88\xa4"})
+    yield "left out", "True", str(len(packets) > 20 and count > 2 * cycles)
+
+
+@case
+def the_sums_of_a_master_that_stops_wait_for_their_reader(stage):
+    """Its output is full when a cycle is the last one, and is read a third of a second later."""
+    with controlled(stage, MACHINE) as line:
+        stage.file("m", MACHINE)
+        words = ("master", "m", "--at", both_ends(stage), "--stop", "--every", "50000", *PATIENCE)
+        with stage.start(*words, stdin=subprocess.PIPE) as master:
+            for wanted in STARTED.splitlines(True):
+                yield "start", wanted, master.line()
+            output = master.process.stdout.fileno()
+            fcntl.fcntl(output, fcntl.F_SETPIPE_SZ, 8192)
+            filler = os.open(f"/proc/{master.process.pid}/fd/1", os.O_WRONLY | os.O_NONBLOCK)
+            os.write(filler, b"x" * 4999 + b"\n")
+            os.close(filler)
+            yield "state", "ok\n", command(line, "state 1 4")
+            time.sleep(0.3)
+            end = master.end()
+        told_behind = end[end.index("\n") + 1:]
+        yield "sums", "True", "True" if re.match(LEFT + r"cycles \d+ good", told_behind) else told_behind
 
 
 @case
