@@ -2394,16 +2394,20 @@ def times_that_are_seldom_are_among_99_of_100(stage):
 
 @case
 def a_cycle_that_takes_long_does_not_hurry_those_behind_it(stage):
-    """The cycle 1 takes as long as fifteen others. Those behind it begin no sooner one after the other."""
-    began = {}
+    """The master stands still in cycle 1 for as long as fifteen others take. Those behind it begin no sooner
+    one after the other."""
+    began, processes = {}, []
 
     def begins(place):
         began[place] = time.monotonic()
         if place == (1, 0):
+            processes[0].send_signal(signal.SIGSTOP)
             time.sleep(0.6)
+            processes[0].send_signal(signal.SIGCONT)
 
     words = ("--every", "40000", *PATIENCE)
     with master_behind(stage, 16, *words, gives=as_it_came, begins=begins) as (_line, between, master):
+        processes.append(master.process)
         end = between.until_the_end_of(master)
         yield "status", "0", end.splitlines()[-1]
         # It is 13 times 40 milliseconds, and three quarters of it on a machine that is loaded.
