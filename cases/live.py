@@ -931,6 +931,24 @@ def cycles_without_copies_cost_no_other_one_its_time(stage):
 
 
 @case
+def a_cycle_without_copies_ends_sooner_where_no_limit_is_given(stage):
+    """Four fifths of the time between two cycles are waited for then, and else all but what a cycle takes."""
+    for words, least, most in (((), 15_500, 18_299), (("--limit", "1000000"), 18_300, 26_000)):
+        with controlled(stage, MACHINE) as line:
+            stage.file("m", MACHINE)
+            words = ("--cycles", "40", "--every", "20000", *words)
+            with stage.start("master", "m", "--at", both_ends(stage), *words) as master:
+                for wanted in STARTED.splitlines(True):
+                    yield "start", wanted, master.line()
+                time.sleep(0.1)
+                for end in "AB":
+                    yield end, "ok\n", command(line, f"lose {end} 2")
+                end = master.end()
+        took = re.search(r"^cycle time .* greatest (\d+) microseconds", end, re.M)
+        yield "greatest", "True", "True" if took and least <= int(took[1]) <= most else end
+
+
+@case
 def a_master_that_stood_still_tells_what_it_left_out(stage):
     with stage.serve(MACHINE, "--forever"):
         stage.file("m", MACHINE)
