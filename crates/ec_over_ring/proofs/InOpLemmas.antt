@@ -47,7 +47,7 @@ use Rattle.ec_run.specs.Cycles.{items_sent}
 use Rattle.ec_run.specs.declared.cycles.Cycles.{Cycles}
 use Rattle.ec_run.specs.declared.outputs.Outputs.{Outputs}
 use Rattle.ec_run.specs.States.{says_op, says_op_if, states_item, tells_all_in_op}
-use Rattle.ec_over_ring.specs.InOp.{CycleTellsAllInOp, TellsAllInOp}
+use Rattle.ec_over_ring.specs.InOp.{CycleTellsAllInOp, IsToldAllInOp, TellsAllInOp}
 use Rattle.ec_over_ring.proofs.SentLemmas.{sent_asks, sent_items}
 
 -- ---- one broadcast read of AL status
@@ -349,4 +349,15 @@ in_op_by_cycles before later outputs expected cycles after n s told says accepte
     status_says s.controller
     (all_silent told.items sent brought (by_station before.ring.slaves) n s asks each
     (says.good refl) tells is (accepting before.ring.slaves sent n s accepted each is))
+    names
+
+-- ---- over whatever ports
+
+pub in_op_told : (ws : List Weather) (r : RingState) (items sent image : List ItemRecord) (n : ℕ)
+    (s : SlaveState) → IsToldAllInOp ws r items sent image → by_station r.slaves n ≡ Some s
+    → NamesState s.controller.memory → al_status s.controller ≡ record { state = Op; error = false }
+in_op_told ws r items sent image n s told is names =
+    status_says s.controller
+    (all_silent items sent image (by_station r.slaves) n s told.asks told.each (told.says.good refl)
+    told.tells is (accepting r.slaves sent n s told.accepted told.each is))
     names

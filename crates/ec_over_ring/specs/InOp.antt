@@ -9,6 +9,7 @@ use Rattle.ec_ring.specs.declared.links.TheConstants.{MAX_SLAVES}
 use Rattle.ec_ring.specs.declared.weather.Weather.{Weather}
 use Rattle.ec_master.specs.Again.{AskTheSame}
 use Rattle.ec_master.specs.Certificate.{verdict_under}
+use Rattle.ec_master.specs.Suffice.{SaysOf}
 use Rattle.ec_master.specs.Travelled.{answers_under}
 use Rattle.ec_master.specs.Unordered.{IsAccepted}
 use Rattle.ec_master.specs.WeatherTrips.{InWeather, WeatherTrips}
@@ -43,4 +44,14 @@ pub record CycleTellsAllInOp (before later : InWeather) (outputs : Outputs) (exp
   pub expects : expected ≡ map (expected_of (line_of before.ring)) s.asked
   pub cycle : IsCycle WeatherTrips before outputs expected s (Ok Good) after later
   pub image_is : after.image ≡ Some image
+  pub tells : tells_all_in_op image ≡ true
+
+-- over whatever ports, a good cycle says of a ring all that one over it says; its items ask for the states
+-- last, and its image tells that all are in Op
+pub record IsToldAllInOp (ws : List Weather) (r : RingState) (items sent image : List ItemRecord)
+    : Type 0 where
+  pub asks : AskTheSame (items ++ states_item ∷ []) sent
+  pub accepted : IsAccepted r.slaves sent
+  pub each : AllByRecursion IsItem sent
+  pub says : SaysOf ws r sent (Ok Good) image
   pub tells : tells_all_in_op image ≡ true

@@ -88,7 +88,7 @@ pub use outputs::Outputs;
 pub use phase::{PHASES, Phase, StepFault, bring, bring_line};
 pub use recovering::Recovery;
 pub use recovery::{Outcome, Remedy, Seen, look_at, look_for, recover, tells_places};
-pub use states::{add_states, leave, states_item, tells_all_in_op};
+pub use states::{LEAVE_ASKS, add_states, leave, states_item, tells_all_in_op};
 pub use step::{Step, startup_number};
 pub use tally::{Signs, Tally, Ways};
 pub use turns::Turn;

@@ -16,8 +16,8 @@ use ec_wire::{Command, FrameBuf, Kind, address_of};
 /// What AL status says of a slave that is in Op and has no error (IEC 61158-6-12, AL status).
 const IN_OP: u8 = 8;
 
-/// How often all slaves are asked for a state, at the most.
-const MOST_ASKS: u32 = 25;
+/// How often [`leave`] asks all slaves for a state, at the most.
+pub const LEAVE_ASKS: u32 = 25;
 
 /// The item that reads the AL status of all slaves: a broadcast read of one byte, sent as 0. The answer has
 /// each bit that the byte of any slave has (IEC 61158-4-12, broadcast read; IEC 61158-6-12, AL status).
@@ -65,15 +65,15 @@ fn is_left(joined: &Result<FrameBuf, MasterFault>, state: AlState, slaves: u16) 
 
 /// Asks all slaves of a line for a state at once, by a broadcast write of AL control, which acknowledges
 /// errors that stand; and again until an answer says that as many slaves as there are to be are in that
-/// state. A trip that fails is one that brings no answer. `NoAnswer`: none of `MOST_ASKS` answers said so.
+/// state. A trip that fails is one that brings no answer. `NoAnswer`: none of `LEAVE_ASKS` answers said so.
 pub fn leave<P: Ports>(ports: &mut P, state: AlState, slaves: u16) -> Result<(), MasterFault>
-    ensures leaves { Leaves P.trips ports.old state slaves MOST_ASKS result ports.new }
+    ensures leaves { Leaves P.trips ports.old state slaves LEAVE_ASKS result ports.new }
     ensures never_lower { P.failed ports.old ≤ P.failed ports.new }
 {
     let control = [state.acknowledging_request(), 0];
     let write = request(Command::Bwr, address_of(0, AL_CONTROL), &control);
     let read = request(Command::Brd, address_of(0, AL_STATUS), &[0]);
-    for _ask in 0..MOST_ASKS {
+    for _ask in 0..LEAVE_ASKS {
         let _ = put(ports, &write);
         let joined = put(ports, &read);
         if is_left(&joined, state, slaves) {

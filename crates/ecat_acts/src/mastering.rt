@@ -14,7 +14,7 @@ use ec_regs::AlState;
 use ec_run::{Image, Outputs};
 use ecat_args::MasterWords;
 use ecat_course::{Course, act_master};
-use ecat_master::Plan;
+use ecat_master::{Plan, Writers};
 use ecat_pace::{Beat, Ending};
 use ecat_reach::{Reach, open_ports};
 use ecat_record::{Moments, Recorder};
@@ -403,7 +403,12 @@ where
         Ok(ports) => {
             let ports = ready(ports, counters, running.busy);
             let course = Box::into_inner(course);
-            let status = act_master(course, ports, &plan, &mut pace, &mut task, out, err, log);
+            let writers = Writers {
+                out,
+                err: &mut *err,
+                log,
+            };
+            let status = act_master(course, ports, &plan, &mut pace, &mut task, writers);
             let _ = task.put_sum(&mut Lines::new(err));
             status
         }

@@ -19,6 +19,8 @@ impl<'a, T: Pace> Impatient<'a, T> {
 }
 
 impl<T: Pace> Pace for Impatient<'_, T> {
+    ghost over = { λ impatient. T.over impatient.pace };
+
     fn next(&mut self) -> bool {
         let goes_on = self.pace.next();
         self.is_patient.set(!goes_on);

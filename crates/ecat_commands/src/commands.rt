@@ -80,10 +80,9 @@ fn raw<'a>(alloc: Global) -> Arg<'a>
 }
 
 // How long a copy is waited for.
-fn limit<'a>(alloc: Global) -> Arg<'a>
+fn limit<'a>(alloc: Global, help: &'a str) -> Arg<'a>
     ensures { IsWord limit_rule result }
 {
-    let help = "After how many microseconds a copy counts as lost; 20000 if not given";
     option(alloc, "LIMIT", "limit", help)
 }
 
@@ -416,10 +415,12 @@ fn pace_of_master<'a>(alloc: Global) -> Result<Vec<Arg<'a>>, AllocError>
 {
     let every = "How far apart the cycles begin; back to back if not given";
     let busy = "Never sleeps while it waits, which takes a processor of its own";
+    let lost =
+        "After how many microseconds a copy counts as lost; if not given 20000, and four fifths of --every at most";
     Ok(vec![in alloc;
         option(alloc, "MICROSECONDS", "every", every),
         flag(alloc, "busy", busy),
-        limit(alloc),
+        limit(alloc, lost),
         late(alloc),
     ]?)
 }
@@ -481,10 +482,11 @@ fn scan<'a>(alloc: Global) -> Result<Command<'a>, AllocError>
 {
     let about = "Tells what slaves a line somewhere else has";
     let scene = "A file that gets the line as a scene; it must not be there yet";
+    let lost = "After how many microseconds a copy counts as lost; 20000 if not given";
     let words = vec![in alloc;
         at(alloc),
         raw(alloc),
-        limit(alloc),
+        limit(alloc, lost),
         late(alloc),
         option(alloc, "SCENE", "scene", scene),
         force(alloc),

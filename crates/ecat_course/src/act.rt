@@ -2,11 +2,12 @@
 
 ghost use Rattle.std.specs.Prelude.{◌≡◌};
 ghost use Rattle.ecat_course.specs.Gone.{IsEndedCourse, IsGoodCourse};
+ghost use Rattle.ecat_master.specs.Course.{sides_of};
 ghost use Rattle.ecat_text.specs.declared.status.TheConstants.{GOOD};
 
 use crate::course::Course;
 use ec_ring::HeardPorts;
-use ecat_master::{Pace, Plan, Task, master};
+use ecat_master::{LinePlan, Pace, Plan, Task, Writers, master};
 use std::io::Write;
 
 /// Brings up a line over two ports and cycles on it for a task, and answers the exit status. It takes no
@@ -17,9 +18,7 @@ pub fn act_master<P, T, D, W, V, L>(
     plan: &Plan<'_>,
     pace: &mut T,
     task: &mut D,
-    out: &mut W,
-    err: &mut V,
-    log: &mut L,
+    writers: Writers<'_, W, V, L>,
 ) -> u8
 where
     P: HeardPorts + Drop,
@@ -28,8 +27,9 @@ where
     W: Write,
     V: Write,
     L: Write,
-    ensures good { result ≡ GOOD → IsGoodCourse P.trips D.listens D.held ports course plan.now }
-    ensures ended { IsEndedCourse P.trips D.listens D.held ports course plan.now result }
+    ensures good { result ≡ GOOD
+        → IsGoodCourse (sides_of P.trips D.listens D.held T.over) ports course plan.now }
+    ensures ended { IsEndedCourse (sides_of P.trips D.listens D.held T.over) ports course plan.now result }
 {
     let Course {
         line,
@@ -43,16 +43,10 @@ where
         states,
         ..*plan
     };
-    master(
-        ports,
-        line.as_slice(),
-        work,
-        expected.counters(),
-        &plan,
-        pace,
-        task,
-        out,
-        err,
-        log,
-    )
+    let line_plan = LinePlan {
+        line: line.as_slice(),
+        expected: expected.counters(),
+        plan: &plan,
+    };
+    master(ports, work, &line_plan, pace, task, writers)
 }

@@ -10,15 +10,15 @@ use Rattle.ec_run.specs.declared.counts.Counts.{Counts}
 use Rattle.ec_run.specs.Travels.{IsWithin, Travels, turn_trips}
 use Rattle.ec_run.specs.Watched.{PortsTrip, WatchedState, WatchedTrips, came_of, untold}
 use Rattle.ec_run.specs.declared.cycles.Cycles.{Cycles}
-use Rattle.ec_run.specs.declared.outputs.Outputs.{Outputs}
 use Rattle.ec_run.specs.declared.wanted.Wanted.{Wanted}
 use Rattle.ec_run.proofs.Laws.{along_within, cycle_within, filled_length, looked_at_within, turn_within}
 use Rattle.ec_run.proofs.Laws.{within_less}
 use Rattle.ec_run.proofs.Laws.{within_none, within_one, within_then}
-use Rattle.ecat_master.specs.Course.{AreLooks, HeardTrips, IsCourse, IsFollowed, IsLook, IsRound}
+use Rattle.ecat_master.specs.Course.{AreLooks, HeardTrips, IsCourse, IsFollowed, IsLook, IsRound, Sides}
 use Rattle.ecat_master.specs.Course.{IsSeenTo, MayBeLooked, MayBeLookedAt, Rounds, is_last_look}
 use Rattle.ecat_master.specs.Course.{round_trips}
 use Rattle.ecat_master.specs.Task.{Listens, TakesOutputs, items_with}
+use Rattle.ecat_master.specs.declared.run.LinePlan.{LinePlan}
 
 -- ---- looks at the cable
 
@@ -104,21 +104,19 @@ counted_once (Ok Good) c = refl
 counted_once (Ok (Short k)) c = refl
 counted_once (Ok (Over k)) c = refl
 
-pub no_rounds : {P D : Type 0} (heard : HeardTrips P) (listens : Listens D) (held : D → List ℕ)
-    (outputs : Outputs) (expected : List ℕ) (line : List Wanted) (s : Cycles) (ports : WatchedState P)
-    → IsCourse heard listens held outputs expected line s ports None s ports
+pub no_rounds : {P D T : Type 0} (sides : Sides P D T) (planned : LinePlan) (s : Cycles) (ports : WatchedState P)
+    → IsCourse sides planned s ports None s ports
 unfolding Rounds
-no_rounds heard listens held outputs expected line s ports =
+no_rounds sides planned s ports =
     record { number = 0; rounds = (refl, refl, refl); counts = omega arith }
 
-pub one_round : {P D : Type 0} (heard : HeardTrips P) (listens : Listens D) (held : D → List ℕ)
-    (outputs : Outputs) (expected : List ℕ) (line : List Wanted) (s now after : Cycles)
+pub one_round : {P D T : Type 0} (sides : Sides P D T) (planned : LinePlan) (s now after : Cycles)
     (start ports later : WatchedState P) (last : Option End) (end : End)
-    → IsCourse heard listens held outputs expected line s start last now ports
-    → IsRound heard listens held outputs expected line now ports end after later
-    → IsCourse heard listens held outputs expected line s start (Some end) after later
+    → IsCourse sides planned s start last now ports
+    → IsRound sides planned now ports end after later
+    → IsCourse sides planned s start (Some end) after later
 unfolding Rounds
-one_round heard listens held outputs expected line s now after start ports later last end course round =
+one_round sides planned s now after start ports later last end course round =
     let before : now.counts.cycles ≡ s.counts.cycles + course.number = course.counts in
     let same : round.supplied.counts.cycles ≡ now.counts.cycles =
     ap (λ (c : Cycles). c.counts.cycles) round.takes.now_is in
@@ -229,81 +227,76 @@ seen_to_within heard line before later (IsSeenTo.looked_along first result betwe
 seen_to_within heard line before later (IsSeenTo.turned wanted recovery turn there taken) =
     turn_within (WatchedTrips heard) before later wanted recovery turn taken
 
-round_within : {P D : Type 0} (heard : HeardTrips P) (listens : Listens D) (held : D → List ℕ)
-    (outputs : Outputs) (expected : List ℕ) (line : List Wanted) (s after : Cycles)
+round_within : {P D T : Type 0} (sides : Sides P D T) (planned : LinePlan) (s after : Cycles)
     (before later : WatchedState P) (end : End)
-    → IsRound heard listens held outputs expected line s before end after later
-    → IsWithin (PortsTrip heard) (round_trips (length s.asked)) before.ports later.ports
-round_within heard listens held outputs expected line s after before later end round =
-    let trips = PortsTrip heard in
+    → IsRound sides planned s before end after later
+    → IsWithin (PortsTrip sides.heard) (round_trips (length s.asked)) before.ports later.ports
+round_within sides planned s after before later end round =
+    let trips = PortsTrip sides.heard in
     let looked = round.followed.between in
-    subst (λ (n : ℕ). IsWithin trips (round_trips n) before.ports later.ports) (supplied_length listens held s round.supplied round.takes)
+    subst (λ (n : ℕ). IsWithin trips (round_trips n) before.ports later.ports) (supplied_length sides.listens sides.held s round.supplied round.takes)
     (within_then trips (length round.supplied.asked + 1) turn_trips before.ports looked.ports later.ports
-    (within_then trips (length round.supplied.asked) 1 before.ports round.between.ports looked.ports
-    (within_aside heard (length round.supplied.asked) (untold before.ports) round.between
-    (cycle_within (WatchedTrips heard) (untold before.ports) round.between outputs expected round.supplied
+    (within_then trips (length round.supplied.asked) 1 before.ports round.behind.ports looked.ports
+    (within_aside sides.heard (length round.supplied.asked) (untold before.ports) round.behind
+    (cycle_within (WatchedTrips sides.heard) (untold before.ports) round.behind planned.plan.now.outputs planned.expected.now round.supplied
     after end round.cycle))
-    (looked_within heard (length line) round.between looked round.followed.looks))
-    (within_aside heard turn_trips looked later
-    (seen_to_within heard line looked later round.followed.seen_to)))
+    (looked_within sides.heard (length planned.line.now) round.behind looked round.followed.looks))
+    (within_aside sides.heard turn_trips looked later
+    (seen_to_within sides.heard planned.line.now looked later round.followed.seen_to)))
 
 -- each asks as many items as the first one
-rounds_ask : {P D : Type 0} (heard : HeardTrips P) (listens : Listens D) (held : D → List ℕ)
-    (outputs : Outputs) (expected : List ℕ) (line : List Wanted) (n : ℕ) (s after : Cycles)
+rounds_ask : {P D T : Type 0} (sides : Sides P D T) (planned : LinePlan) (n : ℕ) (s after : Cycles)
     (before later : WatchedState P) (last : Option End)
-    → Rounds heard listens held outputs expected line n s before last after later
+    → Rounds sides planned n s before last after later
     → length after.asked ≡ length s.asked
 unfolding Rounds
-rounds_ask heard listens held outputs expected line zero s after before later last (is, same, none) =
+rounds_ask sides planned zero s after before later last (is, same, none) =
     ap (λ (c : Cycles). length c.asked) is
-rounds_ask heard listens held outputs expected line (suc n) s after before later last
+rounds_ask sides planned (suc n) s after before later last
     (now, ports, end_before, end, rounds, round, some) =
     ap (λ (c : Cycles). length c.asked) round.cycle.after_is
-    ∙ supplied_length listens held now round.supplied round.takes
-    ∙ rounds_ask heard listens held outputs expected line n s now before ports end_before rounds
+    ∙ supplied_length sides.listens sides.held now round.supplied round.takes
+    ∙ rounds_ask sides planned n s now before ports end_before rounds
 
-rounds_within : {P D : Type 0} (heard : HeardTrips P) (listens : Listens D) (held : D → List ℕ)
-    (outputs : Outputs) (expected : List ℕ) (line : List Wanted) (n : ℕ) (s after : Cycles)
+pub rounds_within : {P D T : Type 0} (sides : Sides P D T) (planned : LinePlan) (n : ℕ) (s after : Cycles)
     (before later : WatchedState P) (last : Option End)
-    → Rounds heard listens held outputs expected line n s before last after later
-    → IsWithin (PortsTrip heard) (n * round_trips (length s.asked)) before.ports later.ports
+    → Rounds sides planned n s before last after later
+    → IsWithin (PortsTrip sides.heard) (n * round_trips (length s.asked)) before.ports later.ports
 unfolding Rounds
-rounds_within heard listens held outputs expected line zero s after before later last (is, same, none) =
-    within_none (PortsTrip heard) _ before.ports later.ports (ap (λ x. x.ports) same)
-rounds_within heard listens held outputs expected line (suc n) s after before later last
+rounds_within sides planned zero s after before later last (is, same, none) =
+    within_none (PortsTrip sides.heard) _ before.ports later.ports (ap (λ x. x.ports) same)
+rounds_within sides planned (suc n) s after before later last
     (now, ports, end_before, end, rounds, round, some) =
-    let trips = PortsTrip heard in
+    let trips = PortsTrip sides.heard in
     let t : ℕ = round_trips (length s.asked) in
     let asked : length now.asked ≡ length s.asked =
-    rounds_ask heard listens held outputs expected line n s now before ports end_before rounds in
+    rounds_ask sides planned n s now before ports end_before rounds in
     let size : suc n * t ≡ n * t + t = suc-mul n t in
     let less : n * t + t ≤ suc n * t = omega (arith, size) in
     within_less trips (n * t + t) (suc n * t) before.ports later.ports less
     (within_then trips (n * t) t before.ports ports.ports later.ports
-    (rounds_within heard listens held outputs expected line n s now before ports end_before rounds)
+    (rounds_within sides planned n s now before ports end_before rounds)
     (subst (λ (k : ℕ). IsWithin trips (round_trips k) ports.ports later.ports) asked
-    (round_within heard listens held outputs expected line now after ports later end round)))
+    (round_within sides planned now after ports later end round)))
 
 -- a course makes so many trips at the most for each of its cycles
-pub course_within : {P D : Type 0} (heard : HeardTrips P) (listens : Listens D) (held : D → List ℕ)
-    (outputs : Outputs) (expected : List ℕ) (line : List Wanted) (s after : Cycles)
+pub course_within : {P D T : Type 0} (sides : Sides P D T) (planned : LinePlan) (s after : Cycles)
     (before later : WatchedState P) (last : Option End)
-    → IsCourse heard listens held outputs expected line s before last after later
-    → IsWithin (PortsTrip heard)
+    → IsCourse sides planned s before last after later
+    → IsWithin (PortsTrip sides.heard)
     ((after.counts.cycles - s.counts.cycles) * round_trips (length s.asked)) before.ports later.ports
-course_within heard listens held outputs expected line s after before later last course =
+course_within sides planned s after before later last course =
     let counts : after.counts.cycles ≡ s.counts.cycles + course.number = course.counts in
     let same : course.number ≡ after.counts.cycles - s.counts.cycles = omega (arith, counts) in
-    subst (λ (n : ℕ). IsWithin (PortsTrip heard) (n * round_trips (length s.asked)) before.ports later.ports)
+    subst (λ (n : ℕ). IsWithin (PortsTrip sides.heard) (n * round_trips (length s.asked)) before.ports later.ports)
     same
-    (rounds_within heard listens held outputs expected line course.number s after before later last
+    (rounds_within sides planned course.number s after before later last
     course.rounds)
 
 -- and asks as many items as before
-pub course_asks : {P D : Type 0} (heard : HeardTrips P) (listens : Listens D) (held : D → List ℕ)
-    (outputs : Outputs) (expected : List ℕ) (line : List Wanted) (s after : Cycles)
+pub course_asks : {P D T : Type 0} (sides : Sides P D T) (planned : LinePlan) (s after : Cycles)
     (before later : WatchedState P) (last : Option End)
-    → IsCourse heard listens held outputs expected line s before last after later
+    → IsCourse sides planned s before last after later
     → length after.asked ≡ length s.asked
-course_asks heard listens held outputs expected line s after before later last course =
-    rounds_ask heard listens held outputs expected line course.number s after before later last course.rounds
+course_asks sides planned s after before later last course =
+    rounds_ask sides planned course.number s after before later last course.rounds

@@ -1,5 +1,7 @@
 mod CourseLemmas
 mod StartLemmas
+mod LeavingLemmas
+mod OverLemmas
 mod GoodRunLemmas
 mod EndedLemmas
 mod ScanLemmas
@@ -7,3 +9,4 @@ mod IdentityLemmas
 mod StartTripsLemmas
 mod OverRingLemmas
 mod FoundLemmas
+pub mod Laws

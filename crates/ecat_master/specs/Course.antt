@@ -1,6 +1,6 @@
 -- The course of a running master over its ports, end to end: cycle after cycle, before each one the outputs
--- of the task that it serves, and behind each one a look at the cable and what is done with a slave before the
--- next one begins.
+-- of the task that it serves, and behind each one a look at the cable and what is done with a slave before
+-- the next one begins.
 use Rattle.std.specs.Prelude.{◌≡◌, ◌⊎◌, ℕ, zero, suc, ◌+◌, Bool, true, false, List, length, Option, None}
 use Rattle.std.specs.Prelude.{Some, Result, slice_get}
 use Rattle.std.specs.Result.{result_ok}
@@ -19,17 +19,28 @@ use Rattle.ec_run.specs.Travels.{turn_trips}
 use Rattle.ec_run.specs.Turns.{IsTurn}
 use Rattle.ec_run.specs.Watched.{WatchedState, WatchedTrips, untold}
 use Rattle.ec_run.specs.declared.cycles.Cycles.{Cycles}
-use Rattle.ec_run.specs.declared.outputs.Outputs.{Outputs}
 use Rattle.ec_run.specs.declared.along.Along.{Along}
 use Rattle.ec_run.specs.declared.recovery.Seen.{Seen}
 use Rattle.ec_run.specs.declared.turns.Turn.{Turn}
 use Rattle.ec_run.specs.declared.wanted.Wanted.{Wanted}
 use Rattle.ecat_master.specs.Task.{Listens, TakesOutputs}
+use Rattle.ecat_master.specs.declared.run.LinePlan.{LinePlan}
 use Rattle.ecat_master.specs.declared.startup.TheConstants.{MORE_CABLE_LOOKS}
 
 -- ports that tell where copies arrive: the ports before a trip, the frame, what arrives, the ports behind it
 abbrev pub HeardTrips : Type 0 → Type 1
 HeardTrips P = P → List DatagramRecord → Result Arrivals PortFault → P → Type 0
+
+-- what a running master stands between: its ports, by the trips that they make; the task that it serves, by
+-- how that is listened to and which outputs it holds; and the pace, by where it has no other cycle
+pub record Sides (P D T : Type 0) : Type 1 where
+  pub heard : HeardTrips P
+  pub listens : Listens D
+  pub held : D → List ℕ
+  pub over : T → Type 0
+
+abbrev pub sides_of : {P D T : Type 0} → HeardTrips P → Listens D → (D → List ℕ) → (T → Type 0) → Sides P D T
+sides_of heard listens held over = record { heard = heard; listens = listens; held = held; over = over }
 
 -- ---- looks at the cable
 
@@ -115,32 +126,30 @@ pub record IsFollowed {P : Type 0} (heard : HeardTrips P) (line : List Wanted) (
 
 -- the outputs that the task has are taken; what was told is forgotten; a cycle is made, and what its copies
 -- tell is kept; and what is done behind it
-pub record IsRound {P D : Type 0} (heard : HeardTrips P) (listens : Listens D) (held : D → List ℕ)
-    (outputs : Outputs) (expected : List ℕ) (line : List Wanted) (s : Cycles) (before : WatchedState P)
-    (end : End) (after : Cycles) (later : WatchedState P) : Type 0 where
+pub record IsRound {P D T : Type 0} (sides : Sides P D T) (planned : LinePlan) (s : Cycles)
+    (before : WatchedState P) (end : End) (after : Cycles) (later : WatchedState P) : Type 0 where
   pub supplied : Cycles
-  pub takes : TakesOutputs listens held s supplied
-  pub between : WatchedState P
-  pub cycle : IsCycle (WatchedTrips heard) (untold before.ports) outputs expected supplied end after between
-  pub followed : IsFollowed heard line between later
+  pub takes : TakesOutputs sides.listens sides.held s supplied
+  pub behind : WatchedState P
+  pub cycle : IsCycle (WatchedTrips sides.heard) (untold before.ports) planned.plan.now.outputs
+      planned.expected.now supplied end after behind
+  pub followed : IsFollowed sides.heard planned.line.now behind later
 
 -- so many of them, each from the ports that the one before it left, and how the last one ended, if there was
 -- one
-unfoldable pub Rounds : {P D : Type 0} → HeardTrips P → Listens D → (D → List ℕ) → Outputs → List ℕ
-    → List Wanted → ℕ → Cycles → WatchedState P → Option End → Cycles → WatchedState P → Type 0
-Rounds heard listens held outputs expected line zero s before last after later =
-    (after ≡ s) × (later ≡ before) × (last ≡ None)
-Rounds {P} heard listens held outputs expected line (suc n) s before last after later =
+unfoldable pub Rounds : {P D T : Type 0} → Sides P D T → LinePlan → ℕ → Cycles → WatchedState P → Option End
+    → Cycles → WatchedState P → Type 0
+Rounds sides planned zero s before last after later = (after ≡ s) × (later ≡ before) × (last ≡ None)
+Rounds {P} sides planned (suc n) s before last after later =
     (now : Cycles) × (ports : WatchedState P) × (end_before : Option End) × (end : End)
-    × Rounds heard listens held outputs expected line n s before end_before now ports
-    × IsRound heard listens held outputs expected line now ports end after later × (last ≡ Some end)
+    × Rounds sides planned n s before end_before now ports
+    × IsRound sides planned now ports end after later × (last ≡ Some end)
 
 -- some number of them, as many as cycles are counted
-pub record IsCourse {P D : Type 0} (heard : HeardTrips P) (listens : Listens D) (held : D → List ℕ)
-    (outputs : Outputs) (expected : List ℕ) (line : List Wanted) (s : Cycles) (before : WatchedState P)
-    (last : Option End) (after : Cycles) (later : WatchedState P) : Type 0 where
+pub record IsCourse {P D T : Type 0} (sides : Sides P D T) (planned : LinePlan) (s : Cycles)
+    (before : WatchedState P) (last : Option End) (after : Cycles) (later : WatchedState P) : Type 0 where
   pub number : ℕ
-  pub rounds : Rounds heard listens held outputs expected line number s before last after later
+  pub rounds : Rounds sides planned number s before last after later
   pub counts : after.counts.cycles ≡ s.counts.cycles + number
 
 -- the most trips of a round: a frame for each item, a look at the cable, and a turn with a slave

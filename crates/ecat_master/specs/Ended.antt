@@ -1,38 +1,27 @@
 -- The exit status of a master's run, whichever it is, and what it tells.
-use Rattle.std.specs.Prelude.{◌≡◌, ◌⊎◌, ◌&&◌, ℕ, Bool, true, false, Option, None, Some, List, Result, Ok, Err}
+use Rattle.std.specs.Prelude.{◌≡◌, ◌⊎◌, ◌&&◌, ℕ, Bool, true, false, Option, List, length, Result, Ok, Err}
 use Rattle.ec_map.specs.Item.{ItemRecord}
-use Rattle.ec_regs.specs.declared.al.AlState.{AlState}
 use Rattle.ec_run.specs.Cycles.{End}
-use Rattle.ec_run.specs.Watched.{untold}
+use Rattle.ec_run.specs.Watched.{WatchedState, untold}
 use Rattle.ec_run.specs.declared.cycles.Cycles.{Cycles}
-use Rattle.ec_run.specs.declared.wanted.Wanted.{Wanted}
-use Rattle.ecat_master.specs.Course.{HeardTrips}
+use Rattle.ecat_master.specs.Course.{Sides}
 use Rattle.ecat_master.specs.Exits.{start_status}
 use Rattle.ecat_master.specs.GoodRun.{IsMade}
 use Rattle.ecat_master.specs.Last.{in_op, status_told}
+use Rattle.ecat_master.specs.Leaving.{IsLeft}
 use Rattle.ecat_master.specs.Start.{IsCaused}
-use Rattle.ecat_master.specs.Task.{Listens}
 use Rattle.ecat_master.specs.declared.leaving.Left.{Left}
 use Rattle.ecat_master.specs.declared.leaving.Left.TheVariants.{AsTheyAre, All, NotAll}
-use Rattle.ecat_master.specs.declared.run.Plan.{Plan}
+use Rattle.ecat_master.specs.declared.run.LinePlan.{LinePlan}
 use Rattle.ecat_master.specs.declared.run.TheConstants.{FAILED}
 use Rattle.ecat_master.specs.declared.startup.StartFault.{StartFault}
 use Rattle.ecat_master.specs.declared.teller.Unwritten.{Unwritten}
 
--- ---- the slaves at the end
-
--- as they are where they are to be left so; else all of them in the state that is wanted, or not all
-abbrev pub IsLeft : Option AlState → Left → Type 0
-IsLeft None left = left ≡ AsTheyAre
-IsLeft (Some state) left = (left ≡ All state) ⊎ (left ≡ NotAll state)
-
--- are they as they are to be left
+-- are the slaves as they are to be left
 abbrev pub is_well : Left → Bool
 is_well AsTheyAre = true
 is_well (All state) = true
 is_well (NotAll state) = false
-
--- ---- the status
 
 -- behind cycles: that of the last one, or 3 where not all could be written
 abbrev pub IsTold : Result (Option End) Unwritten → Bool → ℕ → Type 0
@@ -42,13 +31,14 @@ IsTold (Ok last) all_well status = (status ≡ FAILED) ⊎ (status ≡ status_to
 -- it is 3 where output or log could not be written; that of the fault where the line could not be started,
 -- and the fault has its cause; and else, behind a start and a course of cycles, that of the last cycle, if
 -- there was one, and of the way in which the slaves were left
-pub data IsEnded {P D : Type 0} (heard : HeardTrips P) (listens : Listens D) (held : D → List ℕ)
-    (before : P) (line : List Wanted) (work : List ItemRecord) (expected : List ℕ) (plan : Plan)
-    (status : ℕ) : Type 0 where
-  unwritten : status ≡ FAILED → IsEnded heard listens held before line work expected plan status
-  not_started : (fault : StartFault) → IsCaused heard (untold before) line plan.identities.now fault
-      → status ≡ start_status fault → IsEnded heard listens held before line work expected plan status
-  ran : (last : Option End) (cycles : Cycles) (left : Left)
-      → IsMade heard listens held before line work expected plan last cycles → IsLeft plan.leave left
-      → status ≡ status_told last (is_well left && in_op plan.states cycles.image)
-      → IsEnded heard listens held before line work expected plan status
+pub data IsEnded {P D T : Type 0} (sides : Sides P D T) (before : P) (work : List ItemRecord)
+    (planned : LinePlan) (status : ℕ) : Type 0 where
+  unwritten : status ≡ FAILED → IsEnded sides before work planned status
+  not_started : (fault : StartFault)
+      → IsCaused sides.heard (untold before) planned.line.now planned.plan.now.identities.now fault
+      → status ≡ start_status fault → IsEnded sides before work planned status
+  ran : (last : Option End) (cycles : Cycles) (behind : WatchedState P) (left : Left)
+      (later : WatchedState P) → IsMade sides before work planned last cycles behind
+      → IsLeft sides.heard planned.plan.now.leave (length planned.line.now) behind left later
+      → status ≡ status_told last (is_well left && in_op planned.plan.now.states cycles.image)
+      → IsEnded sides before work planned status

@@ -3,8 +3,10 @@ pub mod Last
 pub mod Exits
 pub mod Task
 pub mod Course
+pub mod Over
 pub mod Identities
 pub mod Start
 pub mod GoodRun
+pub mod Leaving
 pub mod Ended
 pub mod Scan

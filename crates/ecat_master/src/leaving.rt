@@ -1,7 +1,11 @@
 //! The end of a run: the state in which the slaves are left.
 
-ghost use Rattle.std.specs.Prelude.{◌≡◌};
-ghost use Rattle.ecat_master.specs.Ended.{IsLeft, is_well};
+ghost use Rattle.std.specs.Prelude.{◌≡◌, false, true};
+ghost use Rattle.ec_run.specs.Travels.{IsWithin};
+ghost use Rattle.ec_run.specs.Watched.{PortsTrip};
+ghost use Rattle.ecat_master.specs.Ended.{is_well};
+ghost use Rattle.ecat_master.specs.Leaving.{IsBrought, IsLeavingRound, IsLeft, IsNotBrought, answers_of};
+ghost use Rattle.ecat_master.specs.Leaving.{leaving_trips};
 
 use crate::words::state_name;
 use ec_regs::AlState;
@@ -39,22 +43,55 @@ pub(crate) fn leave_line<P: HeardPorts>(
     state: Option<AlState>,
     slaves: usize,
 ) -> Left
-    ensures { IsLeft state result }
+    ensures left { IsLeft P.trips state slaves ports.old result ports.new }
+    ensures trips { IsWithin (PortsTrip P.trips) leaving_trips ports.old.ports ports.new.ports }
 {
-    let Some(state) = state else {
-        return Left::AsTheyAre;
-    };
-    let slaves = u16::try_from(slaves).unwrap_or(u16::MAX);
-    for _round in 0..ROUNDS {
-        ports.clear();
-        if leave(ports, state, slaves).is_ok() {
-            return Left::All(state);
-        }
-        if !ports.has_heard() {
-            break;
+    match state {
+        None => Left::AsTheyAre,
+        Some(state) => {
+            if bring_all(ports, state, answers_of(slaves)) {
+                Left::All(state)
+            } else {
+                Left::NotAll(state)
+            }
         }
     }
-    Left::NotAll(state)
+}
+
+/// How many answers are waited for: one of each slave, and never more than a working counter can count.
+fn answers_of(slaves: usize) -> u16
+    ensures { result ≡ answers_of slaves }
+{
+    if slaves < 65_535 {
+        slaves as u16
+    } else {
+        65_535
+    }
+}
+
+/// Brings all slaves of a line to a state, and answers whether they are in it.
+fn bring_all<P: HeardPorts>(ports: &mut Watched<P>, state: AlState, slaves: u16) -> bool
+    ensures brought { result ≡ true → IsBrought P.trips state slaves ports.old ports.new }
+    ensures not_brought { result ≡ false → IsNotBrought P.trips state slaves ports.old ports.new }
+{
+    for round in 0..ROUNDS {
+        if bring_once(ports, state, slaves) {
+            return true;
+        }
+        if !ports.has_heard() {
+            return false;
+        }
+    }
+    false
+}
+
+/// Asks all slaves for a state, until so many answer that they are in it, as often as one round does; and
+/// answers whether they did.
+fn bring_once<P: HeardPorts>(ports: &mut Watched<P>, state: AlState, slaves: u16) -> bool
+    ensures { IsLeavingRound P.trips state slaves ports.old result ports.new }
+{
+    ports.clear();
+    leave(ports, state, slaves).is_ok()
 }
 
 /// Writes in which state the slaves were left.

@@ -2,10 +2,10 @@
 //! A master that runs, over any two ports: it brings a line to Op, cycles on it, and says where a cable
 //! breaks and when it is whole again (IEC 61158-6-12, AL management; IEC 61158-4-12, working counter).
 //!
-//! What it does is that of `ec_run`: steps, cycles, recovery. Here is in which order a program does them, what
-//! it tells of them, and its exit status, with no socket and no clock of its own: the ports are any that tell
-//! where copies arrive ([`ec_ring::HeardPorts`]), the time is a [`Pace`], outputs are those of a [`Task`] that
-//! is told what each cycle came to, and what else is told goes to writers.
+//! What it does is that of `ec_run`: steps, cycles, recovery. Here is in which order a program does them,
+//! what it tells of them, and its exit status, with no socket and no clock of its own: the ports are any that
+//! tell where copies arrive ([`ec_ring::HeardPorts`]), the time is a [`Pace`], outputs are those of a [`Task`]
+//! that is told what each cycle came to, and what else is told goes to writers.
 //!
 //! One use, which `master/door.rt` of `ecat_master_tests` tries; `wanted`, `ring` and `work` of
 //! `master/line.rt` make three slaves as a scene has them, a ring of slaves that were told nothing, and an
@@ -28,10 +28,10 @@
 //!     identities: &[],
 //!     leave: Some(AlState::Init),
 //! };
+//! let line_plan = LinePlan { line: line.as_slice(), expected: &EXPECTED, plan: &plan };
+//! let writers = Writers { out: &mut out, err: &mut err, log: &mut log };
 //! let mut pace = Count { left: 5 };
-//! let status = master(
-//!     ports, &line, work, &EXPECTED, &plan, &mut pace, &mut NoTask, &mut out, &mut err, &mut log,
-//! );
+//! let status = master(ports, work, &line_plan, &mut pace, &mut NoTask, writers);
 //! ```
 //!
 //! The status is 0, and `out` has
@@ -76,7 +76,9 @@
 //! - [`master`] (`good`): an exit status of 0 says that the line was started so, and that the last cycle on
 //!   it was good with all slaves in Op, if there was one. (`ended`): whichever it is, it is that of the fault
 //!   of a start, or that of the last cycle and of the way in which the slaves were left; or it is 3, which it
-//!   is too where output or log could not be written.
+//!   is too where output or log could not be written. Slaves are left in a state where all of them were asked
+//!   for it and so many answered that they are in it; not all are where no round of asking brought that
+//!   (`specs/Leaving.antt`).
 //! - [`started_line`], a law: over a ring with at most one link down, of which nothing is lost, each slave
 //!   of a line that was started is in Op without an error, alone with its station address, and with the FMMUs
 //!   and the sync managers of process data that were wanted. [`found_line`], another one: what a start finds
@@ -107,7 +109,7 @@ mod words;
 pub use identity::{ENTRIES, IDENTITY, Identity, OtherSlave};
 pub use over_ring::{found_line, started_line};
 pub use pace::Pace;
-pub use run::{FAILED, GOOD, LinePlan, Plan, REFUSED, master, run_cycles};
+pub use run::{FAILED, GOOD, LinePlan, Plan, REFUSED, Writers, master, run_cycles};
 pub use scanning::{Finder, ScanEnd, Unfound, scan};
 pub use startup::{StartEnd, StartFault, put_start_fault, start};
 pub use task::{NoTask, Report, Task};

@@ -14,11 +14,13 @@ ghost use Rattle.ec_run.specs.declared.wanted.Wanted.{Wanted};
 ghost use Rattle.ec_over_ring.specs.Brought.{ReachesAll};
 ghost use Rattle.ec_over_ring.specs.Heard.{HeardRing};
 ghost use Rattle.ec_over_ring.specs.Started.{AreWanted, IsSetUp};
+ghost use Rattle.ecat_master.specs.Course.{sides_of};
 ghost use Rattle.ecat_master.specs.GoodRun.{IsGoodRun};
 ghost use Rattle.ecat_master.specs.Identities.{WantedIdentity};
 ghost use Rattle.ecat_master.specs.Start.{IsStarted};
-ghost use Rattle.ecat_master.specs.declared.run.Plan.{Plan};
+ghost use Rattle.ecat_master.specs.declared.run.LinePlan.{LinePlan};
 
+use crate::pace::Pace;
 use crate::task::Task;
 use ec_diag::promises::trips_are_heard;
 
@@ -28,16 +30,16 @@ use ec_diag::promises::trips_are_heard;
 /// managers of its process data stand as they were wanted (`started`); whoever had which station at first,
 /// and in whatever states the slaves were. So it is of the line of a run that ends with the exit status 0
 /// ([`crate::master`]), before its first cycle, whichever task it serves (`good`).
-pub fn started_line<D: Task>()
+pub fn started_line<D: Task, T: Pace>()
     ensures started { (line : List Wanted) (identities : List WantedIdentity) (cable : Located)
         (before later : WatchedState RingState)
         → ReachesAll before.ports → AreWanted line
         → IsStarted HeardRing before line identities cable later
         → AllByRecursion (IsSetUp later.ports) line }
-    ensures good { (line : List Wanted) (work : List ItemRecord) (expected : List ℕ) (plan : Plan)
-        (r : RingState) → ReachesAll r → AreWanted line
-        → (run : IsGoodRun HeardRing D.listens D.held r line work expected plan)
-        → AllByRecursion (IsSetUp run.made.between.ports) line }
+    ensures good { (work : List ItemRecord) (planned : LinePlan) (r : RingState)
+        → ReachesAll r → AreWanted planned.line.now
+        → (run : IsGoodRun (sides_of HeardRing D.listens D.held T.over) r work planned)
+        → AllByRecursion (IsSetUp run.made.begun.ports) planned.line.now }
 {}
 
 /// What such a start finds is so of the ring. It has as many slaves as the line (`slaves`), and its cable is

@@ -1,10 +1,15 @@
 //! What goes on between two cycles.
 
+ghost use Rattle.std.specs.Prelude.{◌≡◌, false};
+
 /// What goes on between two cycles: the time, and whether there is to be another one.
 pub trait Pace {
-    /// Waits until the next cycle is due; `false` where none is to come (so many were made, the input has
-    /// ended, the output closed).
-    fn next(&mut self) -> bool;
+    /// That no other cycle is to come: so many were made, say, or the input has ended.
+    ghost over: { Self → Type 0 };
+
+    /// Waits until the next cycle is due; `false` where none is to come.
+    fn next(&mut self) -> bool
+        ensures { result ≡ false → over self.new };
 
     /// By how many microseconds the last cycle that it had was let begin behind its time; `None` where cycles
     /// begin back to back.
@@ -27,7 +32,9 @@ pub trait Pace {
     }
 
     /// Behind the last cycle: no cycle waits any more.
-    fn end(&mut self) {}
+    fn end(&mut self)
+        ensures { over self.old → over self.new }
+    {}
 
     /// Microseconds since the pace began, never falling.
     fn now(&mut self) -> u64;

@@ -1,17 +1,21 @@
 //! A master that runs: the start-up of a line, and then cycle after cycle.
 
-ghost use Rattle.std.specs.Prelude.{◌≡◌, ◌≢◌, ◌-◌, ◌*◌, ◌<◌, ◌&&◌, ℕ, Err, IfOk, IsOk, Option, length};
+ghost use Rattle.std.specs.Prelude.{◌≡◌, ◌≢◌, ◌-◌, ◌*◌, ◌<◌, ◌⊎◌, ◌&&◌, ℕ, Ok, Err, IfOk, IsOk, Option};
+ghost use Rattle.std.specs.Prelude.{false, length, true};
+ghost use Rattle.ec_run.specs.declared.cycles.TheConstants.{MOST_CYCLES};
 ghost use Rattle.ec_run.specs.Cycles.{AddUp, End};
 ghost use Rattle.ec_run.specs.Travels.{IsWithin};
 ghost use Rattle.ec_run.specs.Watched.{PortsTrip};
-ghost use Rattle.ecat_master.specs.Course.{IsCourse, IsRound, round_trips};
+ghost use Rattle.ecat_master.specs.Course.{IsCourse, IsRound, sides_of, round_trips};
 ghost use Rattle.ecat_master.specs.Ended.{IsEnded, IsTold, is_well};
 ghost use Rattle.ecat_master.specs.Exits.{asked_status, start_status};
 ghost use Rattle.ecat_master.specs.GoodRun.{EndsGood, IsGoodRun};
 ghost use Rattle.ecat_master.specs.Last.{in_op, status_told};
+ghost use Rattle.ecat_master.specs.Over.{IsOver, ends_well};
 ghost use Rattle.ecat_master.specs.Start.{IsCaused, IsStarted};
 ghost use Rattle.ecat_master.specs.declared.run.StartFailure.TheVariants.{Told};
 ghost use Rattle.ecat_master.specs.declared.startup.StartFault.{StartFault};
+ghost use Rattle.ecat_master.specs.declared.teller.Unwritten.{Unwritten};
 ghost use Rattle.ecat_master.specs.declared.run.TheConstants.{FAILED, GOOD};
 
 use crate::identity::Identity;
@@ -27,7 +31,7 @@ use ec_diag::Located;
 use ec_master::{CycleFault, Verdict, Work};
 use ec_regs::AlState;
 use ec_ring::{HeardPorts, LateCopies, MAX_SLAVES, Port};
-use ec_run::{Cycles, MOST_CYCLES, Outputs, Rooms, Wanted, Watched, tells_all_in_op};
+use ec_run::{Counts, Cycles, MOST_CYCLES, Outputs, Rooms, Wanted, Watched, tells_all_in_op};
 use ec_services::MasterFault;
 use ecat_text::Lines;
 use std::io::{self, Write};
@@ -128,9 +132,11 @@ impl LinePlan<'_> {
         requires items { length self.now.expected.now ≡ length cycles.old.asked }
         requires room { cycles.old.counts.cycles < MOST_CYCLES }
         requires sum { AddUp cycles.old.counts }
-        ensures round { IsRound P.trips D.listens D.held self.now.plan.now.outputs self.now.expected.now
-            self.now.line.now cycles.old ports.old result.ended cycles.new ports.new }
+        ensures round { IsRound (sides_of P.trips D.listens D.held T.over) self.now cycles.old ports.old
+            result.ended cycles.new ports.new }
         ensures adds_up { AddUp cycles.new.counts }
+        ensures stops { result.told ≡ Ok true → (self.now.plan.now.stop ≡ true)
+            × (ends_well result.ended (in_op self.now.plan.now.states cycles.new.image) ≡ false) }
     {
         let began = pace.now();
         let late = pace.late();
@@ -171,7 +177,9 @@ fn images_of<'a>(rooms: &'a Rooms, cycles: &'a Cycles) -> Images<'a> {
 
 /// Makes cycle after cycle, as long as the pace has another one, with the outputs of a task, and tells of
 /// them; between two cycles the cable or a slave may be looked at. It answers how the last one ended; nothing
-/// where there was none. An error is one of `out` or of the log.
+/// where there was none. An error is one of `out` or of the log. A cycle is the last one only for a cause
+/// (`over`): the pace has no other, as many were made as are counted, it did not end well and the plan wants
+/// that to be the end, or it could not be written what it came to.
 pub fn run_cycles<P, T, D, W, V, L>(
     cycles: &mut Cycles,
     ports: &mut Watched<P>,
@@ -191,20 +199,33 @@ where
     requires sum { AddUp cycles.old.counts }
     ensures adds_up { AddUp cycles.new.counts }
     ensures asked { length cycles.new.asked ≡ length cycles.old.asked }
-    ensures course { (last : Option End) × IsCourse P.trips D.listens D.held line_plan.now.plan.now.outputs
-        line_plan.now.expected.now line_plan.now.line.now cycles.old ports.old last cycles.new ports.new }
-    ensures last { IfOk result (λ last. IsCourse P.trips D.listens D.held line_plan.now.plan.now.outputs
-        line_plan.now.expected.now line_plan.now.line.now cycles.old ports.old last cycles.new ports.new) }
+    ensures course { (last : Option End) × IsCourse (sides_of P.trips D.listens D.held T.over) line_plan.now
+        cycles.old ports.old last cycles.new ports.new }
+    ensures last { IfOk result (λ last. IsCourse (sides_of P.trips D.listens D.held T.over) line_plan.now
+        cycles.old ports.old last cycles.new ports.new) }
+    ensures over { IsOver T.over line_plan.now.plan.now pace.new result cycles.new }
     ensures trips { IsWithin (PortsTrip P.trips) ((cycles.new.counts.cycles - cycles.old.counts.cycles)
         * round_trips (length cycles.old.asked)) ports.old.ports ports.new.ports }
 {
     let made = make_rounds(cycles, ports, line_plan, pace, task, teller);
     pace.end();
-    let made = made?;
-    match teller.close(line_plan) {
-        Ok(()) => Ok(made),
-        Err(unwritten) => Err(unwritten),
+    close(made, line_plan, teller)
+}
+
+/// Tells, behind cycles that could be written, what is not told yet, and answers how they ended.
+fn close<W: Write, V: Write, L: Write>(
+    made: Result<Option<Result<Verdict, CycleFault>>, Unwritten>,
+    line_plan: &LinePlan<'_>,
+    teller: &mut Teller<'_, W, V, L>,
+) -> Result<Option<Result<Verdict, CycleFault>>, Unwritten>
+    ensures { (result ≡ made) ⊎ ((why : Unwritten) × (result ≡ Err why)) }
+{
+    if made.is_ok()
+        && let Err(unwritten) = teller.close(line_plan)
+    {
+        return Err(unwritten);
     }
+    made
 }
 
 /// Makes round after round, as long as the pace has another cycle and none is to be the last one, and answers
@@ -227,22 +248,32 @@ where
     requires items { length line_plan.now.expected.now ≡ length cycles.old.asked }
     requires sum { AddUp cycles.old.counts }
     ensures adds_up { AddUp cycles.new.counts }
-    ensures course { (last : Option End) × IsCourse P.trips D.listens D.held line_plan.now.plan.now.outputs
-        line_plan.now.expected.now line_plan.now.line.now cycles.old ports.old last cycles.new ports.new }
-    ensures last { IfOk result (λ last. IsCourse P.trips D.listens D.held line_plan.now.plan.now.outputs
-        line_plan.now.expected.now line_plan.now.line.now cycles.old ports.old last cycles.new ports.new) }
+    ensures course { (last : Option End) × IsCourse (sides_of P.trips D.listens D.held T.over) line_plan.now
+        cycles.old ports.old last cycles.new ports.new }
+    ensures last { IfOk result (λ last. IsCourse (sides_of P.trips D.listens D.held T.over) line_plan.now
+        cycles.old ports.old last cycles.new ports.new) }
+    ensures over { IsOver T.over line_plan.now.plan.now pace.new result cycles.new }
 {
     let mut last = None;
     let mut rooms = Rooms::new();
-    while cycles.counts.cycles < MOST_CYCLES && pace.next() {
+    while is_due(cycles.counts, pace) {
         let round = line_plan.round(cycles, &mut rooms, ports, pace, task, teller);
         last = Some(round.ended);
-        let is_last = round.told?;
-        if is_last {
-            break;
+        match round.told {
+            Ok(false) => {}
+            Ok(true) => return Ok(last),
+            Err(unwritten) => return Err(unwritten),
         }
     }
     Ok(last)
+}
+
+/// Is another cycle due? None is where as many were counted as can be.
+fn is_due<T: Pace>(counts: Counts, pace: &mut T) -> bool
+    ensures due { result ≡ true → counts.cycles < MOST_CYCLES }
+    ensures over { result ≡ false → (counts.cycles ≡ MOST_CYCLES) ⊎ T.over pace.new }
+{
+    counts.cycles < MOST_CYCLES && pace.next()
 }
 
 /// Tells the ports that a cycle is over, and answers which copies came late.
@@ -308,24 +339,31 @@ fn status_of_start(fault: &StartFault) -> u8
     }
 }
 
+/// To whom a master tells what goes on.
+pub struct Writers<'a, W, V, L> {
+    /// A line for each part of the start-up and for what changes while the cycles run, and at the end how
+    /// many there were and the last image.
+    pub out: &'a mut W,
+    /// The progress, and what could not be written elsewhere.
+    pub err: &'a mut V,
+    /// A line for every cycle, where the plan says so.
+    pub log: &'a mut L,
+}
+
 /// Brings up a line over two ports and makes cycle after cycle, leaves the slaves in the state of the plan,
-/// and answers the exit status (`GOOD`, `REFUSED`, `FAILED`). `line` is what the slaves are to be told, by
-/// their places; `work` is what each cycle asks, and `expected` what the counters of its items are to gain.
-/// Its cycles serve `task`: they send the outputs that it holds, and it is told what each of them came to.
-/// `out` has a line for each part of the start-up and for what changes while the cycles run, and at the end
-/// how many there were and the last image; `err` has the progress, and `log` every cycle, where the plan says
-/// so.
+/// and answers the exit status (`GOOD`, `REFUSED`, `FAILED`). `work` is what each cycle asks. Its cycles serve
+/// `task`: they send the outputs that it holds, and it is told what each of them came to.
+///
+/// `GOOD` says that the line was started, that cycles were made from there on, and that the last one was good
+/// with all slaves in Op (`good`). Each status has its cause (`ended`): what could not be written, the fault
+/// of a line that was not started, or else how the last cycle ended, and how the slaves were left behind it.
 pub fn master<P, T, D, W, V, L>(
     ports: P,
-    line: &[Wanted],
     work: Work,
-    expected: &[u16],
-    plan: &Plan<'_>,
+    line_plan: &LinePlan<'_>,
     pace: &mut T,
     task: &mut D,
-    out: &mut W,
-    err: &mut V,
-    log: &mut L,
+    writers: Writers<'_, W, V, L>,
 ) -> u8
 where
     P: HeardPorts + Drop,
@@ -334,27 +372,23 @@ where
     W: Write,
     V: Write,
     L: Write,
-    requires { length expected.now ≡ length work }
-    ensures good { result ≡ GOOD → IsGoodRun P.trips D.listens D.held ports line.now work expected.now
-        plan.now }
-    ensures ended { IsEnded P.trips D.listens D.held ports line.now work expected.now plan.now result }
+    requires { length line_plan.now.expected.now ≡ length work }
+    ensures good { result ≡ GOOD
+        → IsGoodRun (sides_of P.trips D.listens D.held T.over) ports work line_plan.now }
+    ensures ended { IsEnded (sides_of P.trips D.listens D.held T.over) ports work line_plan.now result }
 {
+    let Writers { out, err, log } = writers;
     let mut ports = Watched::new(ports);
-    let cable = match begin(&mut ports, line, plan.identities, &mut Lines::new(out)) {
+    let cable = match begin(&mut ports, line_plan, &mut Lines::new(out)) {
         Ok(cable) => cable,
         Err(StartFailure::Told(status)) => return status,
         Err(StartFailure::Output) => return output_failed(err),
     };
     let mut cycles = Cycles::new(work);
     let mut teller = Teller::new(Lines::new(out), Lines::new(err), Lines::new(log), cable);
-    let line_plan = LinePlan {
-        line,
-        expected,
-        plan,
-    };
-    let ran = run_cycles(&mut cycles, &mut ports, &line_plan, pace, task, &mut teller);
-    let left = leave_line(&mut ports, plan.leave, line.len());
-    conclude(ran, left, &cycles, expected, plan, &ports, &mut teller)
+    let ran = run_cycles(&mut cycles, &mut ports, line_plan, pace, task, &mut teller);
+    let left = leave_line(&mut ports, line_plan.plan.leave, line_plan.line.len());
+    conclude(ran, left, &cycles, line_plan, &ports, &mut teller)
 }
 
 /// Why a master ends before its first cycle.
@@ -369,17 +403,18 @@ enum StartFailure {
 /// Brings up a line, and answers where its cable is broken; or how it ended, once the fault is told.
 fn begin<P: HeardPorts, W: Write>(
     ports: &mut Watched<P>,
-    line: &[Wanted],
-    identities: &[Identity],
+    line_plan: &LinePlan<'_>,
     lines: &mut Lines<'_, W>,
 ) -> Result<Located, StartFailure>
-    ensures started { IfOk result (λ cable. IsStarted P.trips ports.old line.now identities.now cable
-        ports.new) }
+    ensures started { IfOk result (λ cable. IsStarted P.trips ports.old line_plan.now.line.now
+        line_plan.now.plan.now.identities.now cable ports.new) }
     ensures told { (status : ℕ) → result ≡ Err (Told status) → status ≢ GOOD }
     ensures by_fault { (status : ℕ) → result ≡ Err (Told status) → (fault : StartFault)
-        × IsCaused P.trips ports.old line.now identities.now fault × (status ≡ start_status fault) }
+        × IsCaused P.trips ports.old line_plan.now.line.now line_plan.now.plan.now.identities.now fault
+        × (status ≡ start_status fault) }
 {
-    match start(ports, line, identities, lines) {
+    let line = line_plan.line;
+    match start(ports, line, line_plan.plan.identities, lines) {
         Ok(cable) => Ok(cable),
         Err(StartEnd::Output) => Err(StartFailure::Output),
         Err(StartEnd::Fault(fault)) => match put_failed_start(ports, &fault, line, lines) {
@@ -419,18 +454,18 @@ fn conclude<P: HeardPorts, W: Write, V: Write, L: Write>(
     ran: Result<Option<Result<Verdict, CycleFault>>, Unwritten>,
     left: Left,
     cycles: &Cycles,
-    expected: &[u16],
-    plan: &Plan<'_>,
+    line_plan: &LinePlan<'_>,
     ports: &Watched<P>,
     teller: &mut Teller<'_, W, V, L>,
 ) -> u8
-    ensures good { result ≡ GOOD → IfOk ran (λ last. EndsGood last plan.now cycles.now) }
+    ensures good { result ≡ GOOD
+        → IfOk ran (λ last. EndsGood last line_plan.now.plan.now cycles.now) }
     ensures ran { result ≡ GOOD → IsOk ran }
-    ensures told { IsTold ran (is_well left && in_op plan.now.states cycles.now.image) result }
+    ensures told { IsTold ran (is_well left && in_op line_plan.now.plan.now.states cycles.now.image)
+        result }
 {
-    if ran != Err(Unwritten::Output)
-        && put_end(left, cycles, expected, plan, ports, teller).is_ok()
-    {
+    let plan = line_plan.plan;
+    if ran != Err(Unwritten::Output) && put_end(left, cycles, line_plan, ports, teller).is_ok() {
         return match ran {
             Ok(_) if !teller.is_logged() => FAILED,
             Ok(last) => status_where(last, left, in_op(plan.states, &cycles.image)),
@@ -457,12 +492,12 @@ fn put_unwritten<W: Write>(what: &str, lines: &mut Lines<'_, W>) -> io::Result<(
 fn put_end<P: HeardPorts, W: Write, V: Write, L: Write>(
     left: Left,
     cycles: &Cycles,
-    expected: &[u16],
-    plan: &Plan<'_>,
+    line_plan: &LinePlan<'_>,
     ports: &Watched<P>,
     teller: &mut Teller<'_, W, V, L>,
 ) -> io::Result<()> {
-    let not_in_op = teller.states.cycles_if(plan.states);
+    let states = line_plan.plan.states;
+    let not_in_op = teller.states.cycles_if(states);
     let lines = &mut teller.out;
     put_left(left, lines)?;
     put_sum(cycles, not_in_op, lines)?;
@@ -473,7 +508,7 @@ fn put_end<P: HeardPorts, W: Write, V: Write, L: Write>(
     teller.late_copies.put(lines)?;
     put_failures(ports, lines)?;
     match &cycles.image {
-        Some(image) => tell_image(image, expected, plan.states, lines),
+        Some(image) => tell_image(image, line_plan.expected, states, lines),
         None => Ok(()),
     }
 }

@@ -1,7 +1,8 @@
 //! The task that the cycles of a running master serve.
 
-ghost use Rattle.std.specs.Prelude.{◌≡◌, ℕ, Bool, List, false, []};
-ghost use Rattle.std.specs.Option.{option_map};
+ghost use Rattle.std.specs.Prelude.{◌≡◌, ◌-◌, ℕ, Bool, List, false, []};
+ghost use Rattle.std.specs.Option.{option_map, unwrap_or};
+ghost use Rattle.ec_run.specs.Tally.{came_at};
 ghost use Rattle.ecat_master.specs.Task.{TakesOutputs};
 
 use crate::telling::CycleEnd;
@@ -91,6 +92,11 @@ pub(crate) fn report_of<'a, P: HeardPorts>(
     items: usize,
     ports: &Watched<P>,
 ) -> Report<'a>
+    ensures cycle { result.cycle ≡ cycles.now.counts.cycles - 1 }
+    ensures at { result.at ≡ end.at }
+    ensures late { result.late ≡ unwrap_or late 0 }
+    ensures came_at_a { result.came_at_a ≡ came_at Port.A ports.now.tally }
+    ensures came_at_b { result.came_at_b ≡ came_at Port.B ports.now.tally }
     ensures ended { result.ended ≡ end.ended }
     ensures in_op { result.in_op ≡ end.in_op }
     ensures image { option_map (λ work. work.now) result.image ≡ cycles.now.image }

@@ -1,9 +1,10 @@
 //! Who is told of the cycles of a master while they run, and when slaves are looked at.
 
-ghost use Rattle.std.specs.Prelude.{◌≡◌};
+ghost use Rattle.std.specs.Prelude.{◌≡◌, Ok, false, true};
 ghost use Rattle.std.specs.Option.{option_map};
 ghost use Rattle.ecat_master.specs.Allowance.{time_left};
 ghost use Rattle.ecat_master.specs.Course.{IsFollowed, IsSeenTo, MayBeLookedAt};
+ghost use Rattle.ecat_master.specs.Over.{ends_well};
 
 use crate::allowance::Allowance;
 use crate::care::{Care, Next, most_asked, wanted_at};
@@ -215,6 +216,8 @@ impl<'a, W: Write, V: Write, L: Write> Teller<'a, W, V, L> {
         images: Images<'_>,
     ) -> Result<bool, Unwritten>
         ensures followed { IsFollowed P.trips line_plan.now.line.now ports.old ports.new }
+        ensures stops { result ≡ Ok true → (line_plan.now.plan.now.stop ≡ true)
+            × (ends_well end.ended end.in_op ≡ false) }
     {
         let plan = line_plan.plan;
         let cycle = counts.cycles.saturating_sub(1);

@@ -2,6 +2,7 @@
 
 ghost use Rattle.std.specs.Prelude.{◌≡◌, ◌≤◌, length};
 ghost use Rattle.ecat_master.specs.Course.{MayBeLooked};
+ghost use Rattle.ecat_master.specs.Over.{ends_well};
 
 use crate::late::Unsure;
 use crate::startup::{MORE_CABLE_LOOKS, is_known, look_once};
@@ -28,8 +29,13 @@ pub(crate) struct CycleEnd {
 
 impl CycleEnd {
     /// Was the cycle good, with all slaves in Op?
-    pub(crate) fn is_well(self) -> bool {
-        self.ended == Ok(Verdict::Good) && self.in_op
+    pub(crate) fn is_well(self) -> bool
+        ensures { result ≡ ends_well self.ended self.in_op }
+    {
+        match self.ended {
+            Ok(Verdict::Good) => self.in_op,
+            Ok(Verdict::Short(_)) | Ok(Verdict::Over(_)) | Err(_) => false,
+        }
     }
 }
 

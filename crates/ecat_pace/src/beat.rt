@@ -1,6 +1,7 @@
 //! When the next cycle of a master is due.
 
-ghost use Rattle.std.specs.Prelude.{◌≡◌, ◌-◌, Some, true, false};
+ghost use Rattle.std.specs.Prelude.{◌≡◌, ◌-◌, ◌⊎◌, Some, true, false};
+ghost use Rattle.ecat_pace.specs.declared.input.Ending.{Ending};
 ghost use Rattle.ecat_pace.specs.Beat.{due_behind, missed_by, spared};
 
 use crate::input::Ending;
@@ -113,6 +114,7 @@ impl<'a, R: Clock, I: Read + AsRawFd + Drop> Beat<'a, R, I> {
     /// Counts a cycle, if there is to be one more.
     fn count(&mut self) -> bool
         ensures none { self.old.left ≡ Some 0 → result ≡ false }
+        ensures last { result ≡ false → self.new.left ≡ Some 0 }
     {
         match self.left {
             Some(0) => false,
@@ -156,6 +158,9 @@ fn due_behind(due: u64, every: u64, missed: u64) -> u64
 }
 
 impl<'a, R: Clock, I: Read + AsRawFd + Drop> Pace for Beat<'a, R, I> {
+    ghost over = { λ beat. (beat.left ≡ Some 0)
+        ⊎ ((input : Ending I) × (beat.input ≡ Some input) × (input.ended ≡ true)) };
+
     fn next(&mut self) -> bool {
         if !self.count() {
             return false;

@@ -44,7 +44,9 @@ impl<I: Read + AsRawFd + Drop> Ending<I> {
     }
 
     /// Has the input ended? It is looked at without waiting. An input that fails has ended.
-    pub fn has_ended(&mut self) -> bool {
+    pub fn has_ended(&mut self) -> bool
+        ensures { result ≡ self.new.ended }
+    {
         if self.ended {
             return true;
         }

@@ -10,16 +10,20 @@ use Rattle.ec_master.specs.Work.{nth_item}
 use Rattle.ec_master.specs.declared.acceptance.Refusal.{Refusal}
 use Rattle.ec_master.specs.declared.acceptance.Refusal.TheVariants.{Line, Item}
 
+-- each item goes where a cycle may
+abbrev pub ArePlaced : List ControllerState → List ItemRecord → Type 0
+ArePlaced line items = AllByRecursion (IsPlaced line) items
+
 -- the line is fit, and each item goes where a cycle may
 pub record AreTaken (line : List ControllerState) (items : List ItemRecord) : Type 0 where
   pub fit : IsFit line
-  pub placed : AllByRecursion (IsPlaced line) items
+  pub placed : ArePlaced line items
 
 -- the item with a number is the first that goes where it may not, as the fault says
 pub record IsFirstOutside (line : List ControllerState) (items : List ItemRecord) (k : ℕ) (fault : PlaceFault)
     : Type 0 where
   pub there : k < length items
-  pub before : AllByRecursion (IsPlaced line) (take k items)
+  pub before : ArePlaced line (take k items)
   pub here : IsPlaceFault line (nth_item items k) fault
 
 -- the first fault of the line, or on a fit line that of the first item which goes where a cycle may not

@@ -1,14 +1,12 @@
 //! Why a line or an item is refused, as it is printed.
 
 ghost use Rattle.std.specs.Prelude.{Some, ◌≡◌, Ok, OnOk, IfErr, true, false};
-ghost use Rattle.std.specs.List.{AllByRecursion};
 ghost use Rattle.ec_check.specs.Fit.{IsFit};
 ghost use Rattle.ec_check.specs.Line.{controllers, controllers_by};
-ghost use Rattle.ec_map.specs.Place.{IsPlaced};
 ghost use Rattle.ec_master.specs.Acceptance.{IsRefusal};
 ghost use Rattle.ec_master.specs.Unordered.{IsAccepted};
 ghost use Rattle.ec_master.specs.declared.acceptance.Refusal.{Refusal};
-ghost use Rattle.ecat_text.specs.Refused.{AreTaken, IsRefusedFor};
+ghost use Rattle.ecat_text.specs.Refused.{ArePlaced, AreTaken, IsRefusedFor};
 ghost use Rattle.ecat_text.specs.Refusals.{address_words, item_refusal_words, line_refusal_words};
 
 use crate::lines::Lines;
@@ -192,7 +190,7 @@ fn refusal_of<S: Mapped>(line: &[S], items: &[Item]) -> Result<(), Refusal>
 /// The first of the items on a fit line that goes where a cycle may not, if there is one.
 fn misplaced_in<S: Mapped>(line: &[S], items: &[Item]) -> Result<(), Refusal>
     requires { IsFit (controllers_by S.controller line.now) }
-    ensures placed { OnOk result (AllByRecursion (IsPlaced (controllers_by S.controller line.now)) items.now) }
+    ensures placed { OnOk result (ArePlaced (controllers_by S.controller line.now) items.now) }
     ensures refused { IfErr result (IsRefusedFor (controllers_by S.controller line.now) items.now) }
 {
     for k in 0..items.len() {

@@ -9,7 +9,7 @@ use ec_master::{PortFault, Work};
 use ec_ring::{Arrivals, HeardPorts, Ring, Travel, Weather};
 use ec_run::{Outputs, Wanted, wanted_of};
 use ec_wire::{Command, FrameBuf};
-use ecat_master::{NoTask, Pace, Plan, master};
+use ecat_master::{LinePlan, NoTask, Pace, Plan, Writers, master};
 use ecat_scene::Scene;
 use ecat_setup::{Expected, ring_of, set_link, slaves_of, work_of};
 use std::alloc::Global;
@@ -85,6 +85,8 @@ struct Count {
 }
 
 impl Pace for Count {
+    ghost over = { λ count. count.left ≡ 0 };
+
     fn next(&mut self) -> bool {
         if self.left == 0 {
             return false;
@@ -161,17 +163,23 @@ fn run(ports: Machine, course: Course, cycles: u32) -> Option<u64> {
     let mut out = Digest::new();
     let mut err = Digest::new();
     let mut log = Digest::new();
+    let line_plan = LinePlan {
+        line: line.as_slice(),
+        expected: expected.counters(),
+        plan: &plan,
+    };
+    let writers = Writers {
+        out: &mut out,
+        err: &mut err,
+        log: &mut log,
+    };
     let status = master(
         ports,
-        line.as_slice(),
         work,
-        expected.counters(),
-        &plan,
+        &line_plan,
         &mut Count { left: cycles },
         &mut NoTask,
-        &mut out,
-        &mut err,
-        &mut log,
+        writers,
     );
     out.take(u64::from(status));
     out.take(err.value());

@@ -5,7 +5,7 @@ use super::stage::{Count, Event, ROOM, Stage, written};
 use crate::asserts::assert_found;
 use ec_regs::AlState;
 use ec_run::Outputs;
-use ecat_master::{NoTask, Plan, master};
+use ecat_master::{LinePlan, NoTask, Plan, Writers, master};
 use std::io::Cursor;
 
 /// What is printed of it.
@@ -42,18 +42,17 @@ fn a_line_is_brought_up_and_a_link_breaks_while_it_cycles(rt: HostRuntime) {
     if work.len() != EXPECTED.len() {
         return;
     }
-    let status = master(
-        ports,
-        line.as_slice(),
-        work,
-        &EXPECTED,
-        &plan,
-        &mut pace,
-        &mut NoTask,
-        &mut out,
-        &mut err,
-        &mut log,
-    );
+    let line_plan = LinePlan {
+        line: line.as_slice(),
+        expected: &EXPECTED,
+        plan: &plan,
+    };
+    let writers = Writers {
+        out: &mut out,
+        err: &mut err,
+        log: &mut log,
+    };
+    let status = master(ports, work, &line_plan, &mut pace, &mut NoTask, writers);
     assert_found(&rt, "the status", status, 0);
     assert_found(&rt, "what is told", written(&out), TOLD);
     assert_found(

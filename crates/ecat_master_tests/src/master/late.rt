@@ -1,11 +1,13 @@
 //! Copies of earlier cycles that come late while a master runs, and cycles that begin late.
 
+ghost use Rattle.std.specs.Prelude.{⊤};
+
 use super::line::{EXPECTED, work};
 use super::stage::{
     Count, Event, PLAN, ROOM, Row, Stage, Told, assert_rows, ring_with, wanted_with, written,
 };
 use crate::asserts::assert_found;
-use ecat_master::{NoTask, Pace, master};
+use ecat_master::{LinePlan, NoTask, Pace, Writers, master};
 use std::io::Cursor;
 
 /// What is told of copies of earlier trips.
@@ -105,18 +107,17 @@ fn unsure_cycles_are_logged(rt: HostRuntime) {
     let mut log = Cursor::new([0u8; 2 * ROOM]);
     let work = work(&rt);
     assert!(&rt; work.len() == EXPECTED.len());
-    let status = master(
-        ports,
-        line.as_slice(),
-        work,
-        &EXPECTED,
-        &plan,
-        &mut pace,
-        &mut NoTask,
-        &mut out,
-        &mut err,
-        &mut log,
-    );
+    let line_plan = LinePlan {
+        line: line.as_slice(),
+        expected: &EXPECTED,
+        plan: &plan,
+    };
+    let writers = Writers {
+        out: &mut out,
+        err: &mut err,
+        log: &mut log,
+    };
+    let status = master(ports, work, &line_plan, &mut pace, &mut NoTask, writers);
     assert_found(&rt, "the status", status, 0);
     let count = log.position().min(2 * ROOM as u64) as usize;
     let text = std::str::from_utf8(&log.get_ref()[..count]).unwrap_or("no text");
@@ -162,6 +163,8 @@ impl Beats {
 }
 
 impl Pace for Beats {
+    ghost over = { λ pace. ⊤ };
+
     fn next(&mut self) -> bool {
         self.next = self.next.saturating_add(1);
         self.next <= BEATS.len()
@@ -190,18 +193,17 @@ fn cycles_that_are_left_out_are_told_at_once_and_counted(rt: HostRuntime) {
     let mut log = Cursor::new([0u8; ROOM]);
     let work = work(&rt);
     assert!(&rt; work.len() == EXPECTED.len());
-    let status = master(
-        ports,
-        line.as_slice(),
-        work,
-        &EXPECTED,
-        &PLAN,
-        &mut pace,
-        &mut NoTask,
-        &mut out,
-        &mut err,
-        &mut log,
-    );
+    let line_plan = LinePlan {
+        line: line.as_slice(),
+        expected: &EXPECTED,
+        plan: &PLAN,
+    };
+    let writers = Writers {
+        out: &mut out,
+        err: &mut err,
+        log: &mut log,
+    };
+    let status = master(ports, work, &line_plan, &mut pace, &mut NoTask, writers);
     assert_found(&rt, "the status", status, 0);
     assert_found(&rt, "what is told", written(&out), LATENESS);
 }

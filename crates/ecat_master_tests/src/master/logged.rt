@@ -3,7 +3,7 @@
 use super::line::{EXPECTED, work};
 use super::stage::{Count, Event, PLAN, ROOM, Stage, Told, ring_with, wanted_with, written};
 use crate::asserts::assert_found;
-use ecat_master::{NoTask, Plan, master};
+use ecat_master::{LinePlan, NoTask, Plan, Writers, master};
 use std::io::{Cursor, Write};
 use std::process::Abort;
 
@@ -41,18 +41,17 @@ fn assert_logs<L: Write>(
     let mut err = Cursor::new([0u8; ROOM]);
     let work = work(rt);
     assert!(rt; work.len() == EXPECTED.len());
-    let ended = master(
-        ports,
-        line.as_slice(),
-        work,
-        &EXPECTED,
+    let line_plan = LinePlan {
+        line: line.as_slice(),
+        expected: &EXPECTED,
         plan,
-        &mut pace,
-        &mut NoTask,
-        &mut out,
-        &mut err,
+    };
+    let writers = Writers {
+        out: &mut out,
+        err: &mut err,
         log,
-    );
+    };
+    let ended = master(ports, work, &line_plan, &mut pace, &mut NoTask, writers);
     assert_found(rt, "the status", ended, status);
     assert_found(rt, "what is said", written(&err), said);
 }

@@ -1,6 +1,6 @@
 //! Ports in memory to a ring, at which things happen before the frame of a cycle.
 
-ghost use Rattle.std.specs.Prelude.{⊤};
+ghost use Rattle.std.specs.Prelude.{⊤, ◌≡◌};
 
 use super::line::{EXPECTED, ring, wanted, work};
 use crate::asserts::assert_found;
@@ -10,7 +10,7 @@ use ec_regs::{AlState, AlStatus};
 use ec_ring::{Arrival, Arrivals, HeardPorts, LateCopies, Port, PortHealth, Ring, Travel, Weather};
 use ec_run::{Outputs, StartupObject, Wanted};
 use ec_wire::{Command, Datagram, FrameBuf, address_of};
-use ecat_master::{NoTask, Pace, Plan, master};
+use ecat_master::{LinePlan, NoTask, Pace, Plan, Writers, master};
 use std::io::{Cursor, Write};
 use std::process::Abort;
 
@@ -261,6 +261,8 @@ pub struct Count {
 }
 
 impl Pace for Count {
+    ghost over = { λ count. count.left ≡ 0 };
+
     fn next(&mut self) -> bool {
         if self.left == 0 {
             return false;
@@ -391,18 +393,17 @@ pub fn assert_runs<W: Write>(
     let mut log = Cursor::new([0u8; ROOM]);
     let mut pace = Count { left: cycles };
     assert!(rt; work.len() == EXPECTED.len());
-    let ended = master(
-        ports,
+    let line_plan = LinePlan {
         line,
-        work,
-        &EXPECTED,
+        expected: &EXPECTED,
         plan,
-        &mut pace,
-        &mut NoTask,
+    };
+    let writers = Writers {
         out,
-        &mut err,
-        &mut log,
-    );
+        err: &mut err,
+        log: &mut log,
+    };
+    let ended = master(ports, work, &line_plan, &mut pace, &mut NoTask, writers);
     assert_found(rt, row, ended, status);
 }
 

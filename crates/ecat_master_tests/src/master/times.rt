@@ -1,9 +1,11 @@
 //! Progress, by a time that goes on.
 
+ghost use Rattle.std.specs.Prelude.{⊤};
+
 use super::line::{EXPECTED, work};
 use super::stage::{PLAN, ROOM, Stage, Told, ring_with, wanted_with, written};
 use crate::asserts::assert_found;
-use ecat_master::{NoTask, Pace, master};
+use ecat_master::{LinePlan, NoTask, Pace, Writers, master};
 use std::io::Cursor;
 
 /// What each cycle takes, in microseconds.
@@ -26,6 +28,8 @@ struct Timed {
 }
 
 impl Pace for Timed {
+    ghost over = { λ pace. ⊤ };
+
     fn next(&mut self) -> bool {
         self.next < TOOK.len()
     }
@@ -60,18 +64,17 @@ fn progress_has_the_times_since_the_last_line(rt: HostRuntime) {
     let mut log = Cursor::new([0u8; ROOM]);
     let work = work(&rt);
     assert!(&rt; work.len() == EXPECTED.len());
-    let status = master(
-        ports,
-        line.as_slice(),
-        work,
-        &EXPECTED,
-        &plan,
-        &mut pace,
-        &mut NoTask,
-        &mut out,
-        &mut err,
-        &mut log,
-    );
+    let line_plan = LinePlan {
+        line: line.as_slice(),
+        expected: &EXPECTED,
+        plan: &plan,
+    };
+    let writers = Writers {
+        out: &mut out,
+        err: &mut err,
+        log: &mut log,
+    };
+    let status = master(ports, work, &line_plan, &mut pace, &mut NoTask, writers);
     assert_found(&rt, "the status", status, 0);
     assert_found(&rt, "progress", written(&err), PROGRESS);
 }

@@ -36,3 +36,7 @@ returns-clause-by_cycles c before later outputs expected cycles after n s told i
     let given = c.weathers_give.ensures.gives sent before later _ each told.cycle.suffices.brought in
     lemmas.in_op_by_cycles before later outputs expected cycles after n s told
     (told.cycle.suffices.says before.ahead before.ring told.limit accepted expects given) accepted is names
+
+pub returns-clause-told : goal.returns-clause-told
+returns-clause-told c ws r items sent image n s told is names =
+    lemmas.in_op_told ws r items sent image n s told is names

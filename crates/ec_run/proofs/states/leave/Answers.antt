@@ -1,14 +1,14 @@
 use Rattle.std.proofs.Common.{rules, ◌≡◌, suc, ◌+◌, ◌-◌, arith, sym, ◌∙◌}
-use Rattle.ec_run.specs.declared.states.TheConstants.{MOST_ASKS}
+use Rattle.ec_run.specs.declared.states.TheConstants.{LEAVE_ASKS}
 use Rattle.ec_run.proofs.StatesLemmas.{leaves_on, leaves_end, leaves_none}
 use Rattle.ec_run.proofs.states.leave.Goals as goal
 
 pub returns-then-is_left-clause-leaves : goal.returns-then-is_left-clause-leaves
 returns-then-is_left-clause-leaves g c =
     leaves_end g.P.Ports.trips c.args.ports.now c.loop-ask.ports c.put-joined-in-loop-ask.new.ports
-    c.args.state c.args.slaves MOST_ASKS (MOST_ASKS - c.loop-ask._ask) (MOST_ASKS - (c.loop-ask._ask + 1))
+    c.args.state c.args.slaves LEAVE_ASKS (LEAVE_ASKS - c.loop-ask._ask) (LEAVE_ASKS - (c.loop-ask._ask + 1))
     c.put-joined-in-loop-ask.result c.loop-ask.invariant.leaves_on
-    (let e : MOST_ASKS - c.loop-ask._ask ≡ suc (MOST_ASKS - (c.loop-ask._ask + 1)) =
+    (let e : LEAVE_ASKS - c.loop-ask._ask ≡ suc (LEAVE_ASKS - (c.loop-ask._ask + 1)) =
     omega (arith, c.loop-ask-test.true) in e)
     (sym c.is_left.ensures ∙ c.if-is_left.true)
     (record {
@@ -27,9 +27,9 @@ loop-ask-preserved g c = record {
     c.put-joined-in-loop-ask.ensures.never_lower,
   );
   leaves_on = leaves_on g.P.Ports.trips c.args.ports.now c.loop-ask.ports c.put-joined-in-loop-ask.new.ports
-      c.args.state c.args.slaves MOST_ASKS (MOST_ASKS - c.loop-ask._ask)
-      (MOST_ASKS - (c.loop-ask._ask + 1)) c.put-joined-in-loop-ask.result c.loop-ask.invariant.leaves_on
-      (let e : MOST_ASKS - c.loop-ask._ask ≡ suc (MOST_ASKS - (c.loop-ask._ask + 1)) =
+      c.args.state c.args.slaves LEAVE_ASKS (LEAVE_ASKS - c.loop-ask._ask)
+      (LEAVE_ASKS - (c.loop-ask._ask + 1)) c.put-joined-in-loop-ask.result c.loop-ask.invariant.leaves_on
+      (let e : LEAVE_ASKS - c.loop-ask._ask ≡ suc (LEAVE_ASKS - (c.loop-ask._ask + 1)) =
       omega (arith, c.loop-ask-test.true) in e)
       (sym c.is_left.ensures ∙ c.if-is_left.false)
       (record {
@@ -42,6 +42,6 @@ loop-ask-preserved g c = record {
 
 pub returns-clause-leaves : goal.returns-clause-leaves
 returns-clause-leaves g c =
-    leaves_none g.P.Ports.trips c.args.ports.now c.loop-ask.ports c.args.state c.args.slaves MOST_ASKS
-    (MOST_ASKS - c.loop-ask._ask) c.loop-ask.invariant.leaves_on
-    (let e : MOST_ASKS - c.loop-ask._ask ≡ 0 = omega (arith, c.loop-ask-test.false) in e)
+    leaves_none g.P.Ports.trips c.args.ports.now c.loop-ask.ports c.args.state c.args.slaves LEAVE_ASKS
+    (LEAVE_ASKS - c.loop-ask._ask) c.loop-ask.invariant.leaves_on
+    (let e : LEAVE_ASKS - c.loop-ask._ask ≡ 0 = omega (arith, c.loop-ask-test.false) in e)

@@ -6,6 +6,6 @@ pub returns-clause-started : goal.returns-clause-started
 returns-clause-started g c = all_set_up
 
 pub returns-clause-good : goal.returns-clause-good
-returns-clause-good g c line work expected plan r ring wanted run =
-    all_set_up line plan.identities.now run.made.cable (untold r) run.made.between ring wanted
-    run.made.started
+returns-clause-good g c work planned r ring wanted run =
+    all_set_up planned.line.now planned.plan.now.identities.now run.made.cable (untold r) run.made.begun ring
+    wanted run.made.started

@@ -1,44 +1,29 @@
+use Rattle.ecat_master.specs.Course.{IsCourse, sides_of}
 use Rattle.ecat_master.proofs.CourseLemmas.{course_asks, course_within}
+use Rattle.ecat_master.proofs.OverLemmas.{if_closed, over_closed}
 use Rattle.ecat_master.proofs.run.run_cycles.Goals as goal
 
-pub returns-in_err-made-clause-asked : goal.returns-in_err-made-clause-asked
-returns-in_err-made-clause-asked g c =
-    course_asks g.P.HeardPorts.trips g.D.Task.listens g.D.Task.held c.args.line_plan.now.plan.now.outputs
-    c.args.line_plan.now.expected.now c.args.line_plan.now.line.now c.args.cycles.now
-    c.make_rounds-made.new.cycles c.args.ports.now c.make_rounds-made.new.ports
-    c.make_rounds-made.ensures.course.0 c.make_rounds-made.ensures.course.1
+pub returns-clause-asked : goal.returns-clause-asked
+returns-clause-asked g c =
+    course_asks (sides_of g.P.HeardPorts.trips g.D.Task.listens g.D.Task.held g.T.Pace.over)
+    c.args.line_plan.now c.args.cycles.now c.make_rounds-made.new.cycles c.args.ports.now
+    c.make_rounds-made.new.ports c.make_rounds-made.ensures.course.0 c.make_rounds-made.ensures.course.1
 
-pub returns-in_err-made-clause-trips : goal.returns-in_err-made-clause-trips
-returns-in_err-made-clause-trips g c =
-    course_within g.P.HeardPorts.trips g.D.Task.listens g.D.Task.held c.args.line_plan.now.plan.now.outputs
-    c.args.line_plan.now.expected.now c.args.line_plan.now.line.now c.args.cycles.now
-    c.make_rounds-made.new.cycles c.args.ports.now c.make_rounds-made.new.ports
-    c.make_rounds-made.ensures.course.0 c.make_rounds-made.ensures.course.1
+pub returns-clause-trips : goal.returns-clause-trips
+returns-clause-trips g c =
+    course_within (sides_of g.P.HeardPorts.trips g.D.Task.listens g.D.Task.held g.T.Pace.over)
+    c.args.line_plan.now c.args.cycles.now c.make_rounds-made.new.cycles c.args.ports.now
+    c.make_rounds-made.new.ports c.make_rounds-made.ensures.course.0 c.make_rounds-made.ensures.course.1
 
-pub returns-in-Ok-clause-asked : goal.returns-in-Ok-clause-asked
-returns-in-Ok-clause-asked g c =
-    course_asks g.P.HeardPorts.trips g.D.Task.listens g.D.Task.held c.args.line_plan.now.plan.now.outputs
-    c.args.line_plan.now.expected.now c.args.line_plan.now.line.now c.args.cycles.now
-    c.make_rounds-made.new.cycles c.args.ports.now c.make_rounds-made.new.ports
-    c.make_rounds-made.ensures.course.0 c.make_rounds-made.ensures.course.1
+pub returns-clause-last : goal.returns-clause-last
+returns-clause-last g c =
+    if_closed (λ last. IsCourse (sides_of g.P.HeardPorts.trips g.D.Task.listens g.D.Task.held g.T.Pace.over)
+    c.args.line_plan.now c.args.cycles.now c.args.ports.now last c.make_rounds-made.new.cycles
+    c.make_rounds-made.new.ports) c.make_rounds-made.result c.close.result c.make_rounds-made.ensures.last
+    c.close.ensures
 
-pub returns-in-Ok-clause-trips : goal.returns-in-Ok-clause-trips
-returns-in-Ok-clause-trips g c =
-    course_within g.P.HeardPorts.trips g.D.Task.listens g.D.Task.held c.args.line_plan.now.plan.now.outputs
-    c.args.line_plan.now.expected.now c.args.line_plan.now.line.now c.args.cycles.now
-    c.make_rounds-made.new.cycles c.args.ports.now c.make_rounds-made.new.ports
-    c.make_rounds-made.ensures.course.0 c.make_rounds-made.ensures.course.1
-
-pub returns-in-Err-clause-asked : goal.returns-in-Err-clause-asked
-returns-in-Err-clause-asked g c =
-    course_asks g.P.HeardPorts.trips g.D.Task.listens g.D.Task.held c.args.line_plan.now.plan.now.outputs
-    c.args.line_plan.now.expected.now c.args.line_plan.now.line.now c.args.cycles.now
-    c.make_rounds-made.new.cycles c.args.ports.now c.make_rounds-made.new.ports
-    c.make_rounds-made.ensures.course.0 c.make_rounds-made.ensures.course.1
-
-pub returns-in-Err-clause-trips : goal.returns-in-Err-clause-trips
-returns-in-Err-clause-trips g c =
-    course_within g.P.HeardPorts.trips g.D.Task.listens g.D.Task.held c.args.line_plan.now.plan.now.outputs
-    c.args.line_plan.now.expected.now c.args.line_plan.now.line.now c.args.cycles.now
-    c.make_rounds-made.new.cycles c.args.ports.now c.make_rounds-made.new.ports
-    c.make_rounds-made.ensures.course.0 c.make_rounds-made.ensures.course.1
+pub returns-clause-over : goal.returns-clause-over
+returns-clause-over g c =
+    over_closed g.T.Pace.over c.args.line_plan.now.plan.now c.make_rounds-made.new.pace c.end.new.self
+    c.make_rounds-made.result c.close.result c.make_rounds-made.new.cycles c.end.ensures
+    c.make_rounds-made.ensures.over c.close.ensures

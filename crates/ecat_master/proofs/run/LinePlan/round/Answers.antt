@@ -16,18 +16,18 @@ cycle_in-ended-requires g c = record {
   sum = subst (λ (s : Cycles). AddUp s.counts) (sym c.take_outputs.ensures.now_is) c.requires.sum;
 }
 
-pub returns : goal.returns
-returns g c = record {
-  round = record {
-    supplied = c.take_outputs.new.cycles;
-    takes = c.take_outputs.ensures;
-    between = c.cycle_in-ended.new.ports;
-    cycle = subst (λ p. IsCycle (WatchedTrips g.P.HeardPorts.trips) p c.args.self.now.plan.now.outputs
-        c.args.self.now.expected.now c.take_outputs.new.cycles c.cycle_in-ended.result
-        c.cycle_in-ended.new.self c.cycle_in-ended.new.ports) c.begin_cycle.ensures
-        c.cycle_in-ended.ensures.cycle;
-    followed = subst (λ p. IsFollowed g.P.HeardPorts.trips c.args.self.now.line.now p
-        c.follow-told.new.ports) c.end_cycle-late_copies.ensures c.follow-told.ensures.followed;
-  };
-  adds_up = c.cycle_in-ended.ensures.adds_up;
+pub returns-clause-round : goal.returns-clause-round
+returns-clause-round g c = record {
+  supplied = c.take_outputs.new.cycles;
+  takes = c.take_outputs.ensures;
+  behind = c.cycle_in-ended.new.ports;
+  cycle = subst (λ p. IsCycle (WatchedTrips g.P.HeardPorts.trips) p c.args.self.now.plan.now.outputs
+      c.args.self.now.expected.now c.take_outputs.new.cycles c.cycle_in-ended.result
+      c.cycle_in-ended.new.self c.cycle_in-ended.new.ports) c.begin_cycle.ensures
+      c.cycle_in-ended.ensures.cycle;
+  followed = subst (λ p. IsFollowed g.P.HeardPorts.trips c.args.self.now.line.now p
+      c.follow-told.new.ports) c.end_cycle-late_copies.ensures c.follow-told.ensures.followed;
 }
+
+pub returns-clause-adds_up : goal.returns-clause-adds_up
+returns-clause-adds_up g c = c.cycle_in-ended.ensures.adds_up

@@ -1,0 +1,25 @@
+-- A cycle over ports that keep what copies told is one over the ports themselves.
+use Rattle.std.proofs.Common.{◌≡◌, List, Result, Ok, Err, refl, ◌∙◌, ℕ}
+use Rattle.ec_wire.specs.Datagram.{DatagramRecord}
+use Rattle.ec_ring.specs.declared.arrivals.Arrivals.{Arrivals}
+use Rattle.ec_ring.specs.declared.port.PortFault.{PortFault}
+use Rattle.ec_ring.specs.declared.weather.Came.{Came}
+use Rattle.ec_run.specs.Alike.{AreTripsOf}
+use Rattle.ec_run.specs.Watched.{WatchedState, WatchedTrips}
+use Rattle.ec_run.specs.Watched.{came_of as heard_of}
+use Rattle.ecat_remote.specs.Taken.{Gives, Heard}
+use Rattle.ecat_remote.specs.Trips.{HeardCopies, HeardTrips, RemoteState, came_of}
+
+-- the copies, wherever they arrived
+same_came : (arrivals : Result Arrivals PortFault) → heard_of arrivals ≡ came_of arrivals
+same_came (Ok arrivals) = refl
+same_came (Err failed) = refl
+
+pub watched_copies : {C : Type 0} (gives : Gives C) (heard : Heard C)
+    → AreTripsOf (λ (w : WatchedState (RemoteState C)). w.ports) (WatchedTrips (HeardTrips gives heard))
+    (HeardCopies gives heard)
+watched_copies gives heard before sent came later trip = record {
+  arrivals = trip.arrivals;
+  made = trip.made;
+  copies = trip.copies ∙ same_came trip.arrivals;
+}

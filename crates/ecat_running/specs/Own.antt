@@ -1,0 +1,53 @@
+-- What the end of a cycle of a running master says, whatever the network gave.
+use Rattle.std.specs.Prelude.{◌≡◌, ◌≤◌, ℕ, List, length, map}
+use Rattle.std.specs.List.{AllByRecursion}
+use Rattle.ec_esc.specs.State.{ControllerState}
+use Rattle.ec_line.specs.Answered.{sent_of}
+use Rattle.ec_line.specs.Moving.{Visit}
+use Rattle.ec_map.specs.Item.{ItemRecord}
+use Rattle.ec_map.specs.Share.{expected_of}
+use Rattle.ec_ring.specs.Ring.{RingState, line_of}
+use Rattle.ec_ring.specs.declared.links.TheConstants.{MAX_SLAVES}
+use Rattle.ec_ring.specs.declared.weather.Weather.{Weather}
+use Rattle.ec_master.specs.Cut.{frames_of}
+use Rattle.ec_master.specs.Given.{AllThatCame}
+use Rattle.ec_master.specs.Moments.{IsMovingCycle, SaysOfMoving}
+use Rattle.ec_master.specs.Unordered.{IsAccepted}
+use Rattle.ec_run.specs.Cycles.{End}
+use Rattle.ecat_remote.specs.Moving.{NetworkGaveMoving, losing_each}
+use Rattle.ecat_remote.specs.Network.{AreAllTaken, IsOfCycle, NetworkGaveAll, NoneFailed, TakesAll}
+use Rattle.ecat_remote.specs.Taken.{Gives, Heard}
+use Rattle.ecat_remote.specs.Trips.{HasRoom, RemoteState}
+use Rattle.ecat_remote.specs.declared.enough.Both.{Both}
+
+-- a ring accepts these items, and this is what its slaves add to their counters
+pub record Expects (r : RingState) (items : List ItemRecord) (expected : List ℕ) : Type 0 where
+  pub size : length r.slaves ≤ MAX_SLAVES
+  pub accepted : IsAccepted r.slaves items
+  pub expects : expected ≡ map (expected_of (line_of r)) items
+
+-- over whatever ring that accepts the items, where what bears a number of a trip of this cycle is one of that
+-- trip's two copies, the end says of the ring all that a cycle over it says: over one that stands still while
+-- the frames travel, and over one that moves
+pub record SaysOfTheRing {C : Type 0} (gives : Gives C) (heard : Heard C) (before : RemoteState C)
+    (items : List ItemRecord) (expected : List ℕ) (came : AllThatCame) (end : End)
+    (items_later : List ItemRecord) (later : RemoteState C) : Type 0 where
+  pub still : (r : RingState) (taken : List Both) (behind : List ControllerState) → Expects r items expected
+      → TakesAll gives heard before (map sent_of (frames_of items)) taken came later
+      → NetworkGaveAll before.next (line_of r) (map sent_of (frames_of items)) taken behind
+      → IsOfCycle r items came behind end items_later
+  pub moving : (r : RingState) (ws : List Weather) (runs : List (List Visit)) (taken : List Both)
+      → Expects r items expected → IsMovingCycle ws r items runs
+      → TakesAll gives heard before (map sent_of (frames_of items)) taken came later
+      → NetworkGaveMoving before.next (length r.slaves) (frames_of items) ws runs taken
+      → SaysOfMoving (losing_each taken ws) r items runs end items_later
+
+-- a cycle with these items: of each of its trips, where none failed and each frame had room for a number, it
+-- is known which copies were taken; and so its end says of the ring what a cycle over it says
+pub record IsOwn {C : Type 0} (gives : Gives C) (heard : Heard C) (before : RemoteState C)
+    (items : List ItemRecord) (expected : List ℕ) (end : End) (items_later : List ItemRecord)
+    (later : RemoteState C) : Type 0 where
+  pub came : AllThatCame
+  pub taken : NoneFailed came → AllByRecursion HasRoom (map sent_of (frames_of items))
+      → AreAllTaken gives heard before (map sent_of (frames_of items)) came later
+  pub says : SaysOfTheRing gives heard before items expected came end items_later later

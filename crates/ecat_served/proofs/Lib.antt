@@ -1,0 +1,16 @@
+pub mod MovedLemmas
+pub mod VisitLemmas
+pub mod HistoryLemmas
+pub mod CopyLemmas
+pub mod QuietLemmas
+pub mod TripLemmas
+pub mod PlainLemmas
+pub mod SealedLemmas
+pub mod StillLemmas
+pub mod CycleLemmas
+pub mod NetworkLemmas
+pub mod EachLemmas
+pub mod ByteLemmas
+pub mod SoundLemmas
+pub mod ActingLemmas
+pub mod ServingLemmas
