@@ -1,14 +1,28 @@
-"""The cases of made captures, the same ones in each run, with packets on both sides of every limit of a
-listing: what a listing hands on at once, and that a stream has the sums of its file."""
+"""Captures that are made, the same ones in each run, with packets on both sides of every limit of a listing,
+and their cases: what a listing hands on at once, what it tells where its file, its source or its output ends
+early, and that a stream has the sums of its file. tools/refuse/commands lists them with memory refused."""
+import fcntl
 import os
+import resource
 import socket
 import struct
 import subprocess
 import threading
 
-# How many captures are made of packets of every kind, how many packets each has, and of how many captures of
-# each sort the sums are compared.
-MIXED, PACKETS, SUMMED = 36, 40, 12
+# How many captures are made of packets of every kind, how many packets each has, of how many captures of
+# each sort the sums are compared, and of how many each front is listed.
+MIXED, PACKETS, SUMMED, FRONTS = 36, 40, 12, 3
+# How many captures are made of cycles and of short lines, with numbers behind those.
+CYCLES, STEPPED = 30, 72
+# How many datagrams have a group of their own where there are more than are told apart, and how many a frame
+# has of them.
+MANY, IN_A_FRAME = 4160, 104
+# The forms of a listing of packets.
+FORMS = ((), ("--csv",), ("--faults",))
+# What is said of a source that fails.
+FAILED_READ = b"file: Read\n"
+# Where an output fails: at once, within the first lines, and on both sides of a piece.
+ROOMS = (0, 1, 2, 62, 63, 64, 65, 100, 1000, 65_535, 65_536, 65_537, 70_000, 131_072)
 # A listing hands on so many bytes at once, but for the last ones.
 PIECE = 65_536
 # Room for what one write hands on.
@@ -37,7 +51,7 @@ FAULTS = (
 PIECES = ((20, "2000"), (20, "00b9"), (14, "4400"), (38, "0007"))
 MICROSECONDS, NANOSECONDS, BLOCKS = range(3)
 # What the listings of the captures of packets of every kind have to have, so that they try what they are made
-# for; and a sum of their bytes, by which they are those of `list/fronts.rt` of `ecat_capture_tests`.
+# for; and a sum of their bytes, by which they are those that these words were looked up in.
 WORDS = (
     " NOP 0x", " APRD -", " APWR 0:", " APRW 32767:", " ARMW -32768:", " FPRD 0x", " FPWR 0x", " FPRW 0x",
     " FRMW 0x", " BRD 0x", " BWR 0x", " BRW 0x", " LRD 0x", " LWR 0x", " LRW 0x", " - short\n",
@@ -268,6 +282,77 @@ def cycles(number):
     return file.bytes
 
 
+def one_of_many(packet, place):
+    """Which of many groups comes at a place of a packet: all in one order, the last that is told apart and
+    the first by turns, all in that order again, and then some far from each other."""
+    if packet in (40, 41):
+        return place % 2 * 4095
+    if packet < 82:
+        return packet % 42 * IN_A_FRAME + place
+    return (place * 4095 + packet) % MANY
+
+
+def many_groups():
+    """A capture of more groups than are told apart, by their addresses."""
+    chance = Chance(0)
+    file = File(chance, NANOSECONDS)
+    for number in range(100):
+        parts = [(10, 0, one_of_many(number, k), 0, chance.counter()) for k in range(IN_A_FRAME)]
+        file.put(file.begins + number * 1001, ethernet(of_parts(chance, parts)))
+    return file.bytes
+
+
+def stepped(number):
+    """A capture of a few packets with two short lines each, of which the first is a byte longer than that of
+    the number before, by a digit of its counter or by two of its data. So from one number to the next the end
+    of the memory that a text has goes a byte back among the columns of the second, which is of a place on the
+    line, of a station or of a logical address by turns; 72 numbers have all lengths."""
+    chance = Chance(number)
+    file = File(chance, MICROSECONDS)
+    longer = (4, 0, 0x01301001, number // 2 % 36, 10 if number % 2 else 1)
+    short = (*((1, 1, 0x0130FFFE), (5, 1, 0x01201001), (12, 1, 0x00010000))[number % 3], 3, 3)
+    for k in range(4):
+        file.put(file.begins + k * 1001, ethernet(of_parts(chance, (longer, short))))
+    return file.bytes
+
+
+def captures():
+    """All captures that are made, each with its name."""
+    for number in range(MIXED):
+        yield f"mixed {number}", mixed(number)
+    for number in range(MIXED, MIXED + CYCLES):
+        yield f"cycles {number}", cycles(number)
+    for number in range(MIXED + CYCLES, MIXED + CYCLES + STEPPED):
+        yield f"stepped {number}", stepped(number)
+    yield "long lines", long_lines()
+    yield "many groups", many_groups()
+
+
+def fronts_of(capture):
+    """Where the header of a capture ends, or its section, and each packet or block behind it that is whole;
+    and how many packets stand before."""
+    classic = capture[:4] != bytes.fromhex("0a0d0d0a")
+    at, packets = 24 if classic else 28, 0
+    while at <= len(capture):
+        yield at, packets
+        if len(capture) < at + 16:
+            return
+        kind, size, captured = struct.unpack_from("<III", capture, at)
+        packets += classic or kind in (3, 6)
+        at += 16 + captured if classic else size
+
+
+def there_and_back(layout, times):
+    """A capture of a datagram that is sent and comes back, again and again: when each, in ticks."""
+    chance = Chance(0)
+    file = File(chance, layout)
+    for number, (sent, back) in enumerate(times):
+        for time, source, counter in ((sent, "001105040000", 0), (back, "021105040000", 3)):
+            frame = of_parts(chance, ((12, number % 256, 0x00010000, 4, counter),))
+            file.put(time, ADDRESSES[:6] + bytes.fromhex(source) + ethernet(frame)[12:])
+    return file.bytes
+
+
 # ---- cases
 
 class Made:
@@ -287,6 +372,11 @@ def cases(limit):
 def case(function):
     CASES.append(function)
     return function
+
+
+def keep(path, capture):
+    with open(path, "wb") as file:
+        file.write(capture)
 
 
 def handed_on(ecat, path, limit, live):
@@ -323,20 +413,121 @@ def fault_of(pieces, live):
 @case
 def list_fronts_lines_are_handed_on_whole(ecat, path, limit):
     for name, capture in [*((f"{k}", mixed(k)) for k in range(MIXED)), ("of long lines", long_lines())]:
-        with open(path, "wb") as file:
-            file.write(capture)
+        keep(path, capture)
         whole, live = (handed_on(ecat, path, limit, way) for way in (False, True))
         yield f"capture {name}", "", fault_of(whole, False) or fault_of(live, True)
         yield f"capture {name} live", b"".join(whole).decode(), b"".join(live).decode()
     yield "several pieces of long lines", "True", f"{1 < len(whole)}"
 
 
+def packets_of(text, packets):
+    """The lines of the first packets, with the names of the columns where there are some."""
+    def is_among(line):
+        number = line.replace(b",", b" ").split()[0]
+        return not number.isdigit() or int(number) <= packets
+
+    return b"".join(line for line in text.splitlines(True) if is_among(line))
+
+
+def listed(ecat, path, form, limit):
+    """How a listing of a file ended, its last line on standard error as far as a colon, and what it wrote."""
+    done = subprocess.run([ecat, "list", *form, path], capture_output=True, timeout=limit)
+    return done.returncode, done.stderr[:done.stderr.find(b":") + 1], done.stdout
+
+
+@case
+def list_fronts_of_a_capture_that_ends_early_the_packets_before_are_listed(ecat, path, limit):
+    faults = []
+    for capture in map(mixed, range(FRONTS)):
+        keep(path, capture)
+        wholes = [listed(ecat, path, form, limit)[2] for form in FORMS]
+        fronts = list(fronts_of(capture))
+        for (at, packets), (behind, _) in zip(fronts, fronts[1:]):
+            for end in sorted({at, at + 1, (at + behind) // 2, behind - 1}):
+                keep(path, capture[:end])
+                ended = (0, b"") if end == at else (1, b"capture:")
+                for form, whole in zip(FORMS, wholes):
+                    if listed(ecat, path, form, limit) != (*ended, packets_of(whole, packets)):
+                        faults.append(f"{packets} packets and {end - at} bytes {' '.join(form)}")
+    yield "fronts", "", "\n".join(faults)
+
+
+def with_room(room):
+    """Lets a process write so many bytes into a file."""
+    return lambda: resource.setrlimit(resource.RLIMIT_FSIZE, (room, room))
+
+
+def rooms(ecat, path, limit):
+    """The listings of long lines, and of faults, in rooms on both sides of a piece: what each is, its words,
+    its room, and what it writes where it has room enough."""
+    for form, capture in zip(FORMS, (long_lines(), long_lines(), mixed(0))):
+        keep(path, capture)
+        whole = listed(ecat, path, form, limit)[2]
+        for room in ROOMS:
+            for where in (path, "-"):
+                words = [ecat, "list", *form, where]
+                yield f"{' '.join(words[2:])} {room} bytes", words, room, whole
+
+
+@case
+def list_fronts_an_output_that_fails_has_a_front_of_what_is_told(ecat, path, limit):
+    out = f"{path}.out"
+    for what, words, room, whole in rooms(ecat, path, limit):
+        with open(path, "rb") as source, open(out, "wb") as file:
+            streams = {"stdin": source, "stdout": file, "stderr": subprocess.PIPE, "timeout": limit}
+            # A process that is stopped for its file's size is told so instead where the signal is ignored.
+            done = subprocess.run(words, **streams, preexec_fn=with_room(room), restore_signals=False)
+        ended = (0, b"") if len(whole) <= room else (3, b"output: Write\n")
+        with open(out, "rb") as file:
+            yield what, f"{ended} True", f"{(done.returncode, done.stderr)} {file.read() == whole[:room]}"
+
+
+@case
+def list_fronts_an_output_that_is_closed_has_a_front_of_what_is_told(ecat, path, limit):
+    for what, words, room, whole in rooms(ecat, path, limit):
+        ours, theirs = os.pipe()
+        fcntl.fcntl(ours, fcntl.F_SETPIPE_SZ, 4096)
+        with open(path, "rb") as source:
+            process = subprocess.Popen(words, stdin=source, stdout=theirs, stderr=subprocess.PIPE)
+        os.close(theirs)
+        seen = b""
+        while len(seen) < room and (piece := os.read(ours, room - len(seen))):
+            seen += piece
+        os.close(ours)
+        said = process.communicate(timeout=limit)[1]
+        yield what, "(0, b'') True", f"{(process.returncode, said)} {seen == whole[:room]}"
+
+
+def of_a_stream_that_fails(words, capture, limit):
+    """How a command ended whose input is a stream that brings so much and then fails, and what it wrote."""
+    with socket.create_server(("127.0.0.1", 0)) as server:
+        ours = socket.create_connection(server.getsockname())
+        theirs, _ = server.accept()
+    with ours, theirs:
+        process = subprocess.Popen(words, stdin=theirs, stdout=subprocess.PIPE, stderr=subprocess.PIPE)
+        ours.sendall(capture)
+        # A stream that is closed so has failed for who reads it, behind what was sent.
+        ours.setsockopt(socket.SOL_SOCKET, socket.SO_LINGER, struct.pack("ii", 1, 0))
+    out, said = process.communicate(timeout=limit)
+    return process.returncode, said, out
+
+
+@case
+def list_fronts_of_a_source_that_fails_the_packets_before_are_told(ecat, path, limit):
+    capture = mixed(0)
+    for at, packets in (front for front in fronts_of(capture) if front[1] in (0, 1, 7, 39)):
+        keep(path, capture[:at])
+        for form in (*FORMS, ("--stats",)):
+            wanted = listed(ecat, path, form, limit)[2]
+            seen = of_a_stream_that_fails([ecat, "list", *form, "-"], capture[:at + 5], limit)
+            yield f"{packets} packets {' '.join(form)}", f"{(3, FAILED_READ, wanted)}", f"{seen}"
+
+
 @case
 def list_fronts_made_captures_have_packets_of_every_kind(ecat, path, limit):
     text, total = "", 0
     for capture in map(mixed, range(MIXED)):
-        with open(path, "wb") as file:
-            file.write(capture)
+        keep(path, capture)
         text += subprocess.run([ecat, "list", path], capture_output=True, timeout=limit).stdout.decode()
         for byte in capture:
             total = (total * 1_099_511_628_211 + byte) % 2**64
@@ -350,8 +541,7 @@ def list_stats_alike_a_stream_has_the_sums_of_the_file(ecat, path, limit):
     captures = [(f"{k}", mixed(k)) for k in range(SUMMED)]
     captures += [(f"{k} of cycles", cycles(k)) for k in range(SUMMED)]
     for name, capture in captures:
-        with open(path, "wb") as file:
-            file.write(capture)
+        keep(path, capture)
         for options in ((), ("--index",)):
             summed = [ecat, "list", "--stats", *options]
             twice = subprocess.run([*summed, path], capture_output=True, timeout=limit)
@@ -362,3 +552,52 @@ def list_stats_alike_a_stream_has_the_sums_of_the_file(ecat, path, limit):
                 ("status", f"{twice.returncode}", f"{once.returncode}"),
             ):
                 yield f"capture {name} {' '.join(options)} {what}", wanted, seen
+
+
+def seconds(nanoseconds, fine):
+    """A time as it is told: to the microsecond, or to the nanosecond."""
+    whole, part = divmod(nanoseconds, 10**9)
+    return f"{whole}.{part:09}" if fine else f"{whole}.{part // 1000:06}"
+
+
+def told_of_times(label, times, fine):
+    """What is told of times: the least, the mean and the greatest; of a hundred and more also in which time
+    shares of them are, and how many are up to each power of two. A time is told by its four highest binary
+    digits; the longest ones, which have a bucket or a power in common, by the greatest."""
+    def upper(time, digits):
+        low = max(time.bit_length() - digits, 0)
+        is_in_last = time >> 36 >= (15 if digits == 4 else 8)
+        return greatest if is_in_last else min(((time >> low) + 1 << low) - 1, greatest)
+
+    greatest, mean = max(times), sum(times) // len(times)
+    text = f"  {label} " + " ".join(seconds(it, fine) for it in (min(times), mean, greatest)) + " s\n"
+    if len(times) < 100:
+        return text
+    bounds = sorted(upper(time, 4) for time in times)
+    shares = " ".join(seconds(bounds[-1 - len(times) // many], fine) for many in (2, 10, 100, 1000))
+    powers = [max(upper(time, 1), min(7, greatest)) for time in times]
+    counts = (f"{powers.count(power)} up to {seconds(power, fine)}" for power in sorted(set(powers)))
+    return f"{text}  {label} at most {shares} s in 50 90 99 99.9 of 100\n  {label} {', '.join(counts)} s\n"
+
+
+@case
+def list_stats_shares_of_times_are_told(ecat, path, limit):
+    steps = {
+        "of a millisecond": (MICROSECONDS, [1000 + k % 7 for k in range(1000)] + [5000]),
+        "of nanoseconds": (NANOSECONDS, list(range(1, 300)) + [2**k for k in range(9, 30)]),
+        "of each power of two": (NANOSECONDS, [2**k + j for k in range(46) for j in (-1, 0, 1)][3:]),
+        "that are too few": (MICROSECONDS, [1000] * 98 + [3000]),
+        "that are just enough": (MICROSECONDS, [1000] * 99 + [3000]),
+    }
+    for name, (layout, gaps) in steps.items():
+        fine, now, times = layout == NANOSECONDS, 10**9, []
+        unit = 1 if fine else 1000
+        for gap in [1, *gaps]:
+            now += 2 * gap
+            times.append((now, now + gap // 2))
+        every = [(after[0] - before[0]) * unit for before, after in zip(times, times[1:])]
+        back = [(it[1] - it[0]) * unit for it in times]
+        keep(path, there_and_back(layout, times))
+        wanted = f"LRW 0x00010000 4 bytes: {len(times)} sent, {len(times)} back of wkc 3\n"
+        wanted += told_of_times("every", every, fine) + told_of_times("back in", back, fine)
+        yield f"times {name}", wanted, listed(ecat, path, ("--stats",), limit)[2].decode().split("\n", 2)[2]

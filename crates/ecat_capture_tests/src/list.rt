@@ -1,11 +1,8 @@
-//! What is listed of captures where outputs, sources and memory fail. A test accepts want of memory as
-//! an answer, so that each allocation can be made to fail in turn.
+//! What is listed of captures where outputs and sources fail. A test accepts want of memory as an answer, so
+//! that each allocation can be made to fail in turn.
 
 mod ends;
-mod fronts;
 mod lines;
-mod made;
-mod refused;
 mod samples;
 mod stats;
 

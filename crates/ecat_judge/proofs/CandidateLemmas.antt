@@ -10,7 +10,7 @@ pub slave_none : each_slave 0 ≡ []
 unfolding each_slave
 slave_none = refl
 
-slave_suc : (n : ℕ) → each_slave (suc n) ≡ each_slave n ++ one_if true (Slaves n (n + 1))
+pub slave_suc : (n : ℕ) → each_slave (suc n) ≡ each_slave n ++ one_if true (Slaves n (n + 1))
 unfolding each_slave
 slave_suc n = refl
 
@@ -23,7 +23,8 @@ pub half_none : each_half 0 ≡ []
 unfolding each_half
 half_none = refl
 
-half_suc : (n : ℕ) → each_half (suc n) ≡ (each_half n ++ one_if true (Inputs n)) ++ one_if true (Outputs n)
+pub half_suc : (n : ℕ)
+    → each_half (suc n) ≡ (each_half n ++ one_if true (Inputs n)) ++ one_if true (Outputs n)
 unfolding each_half
 half_suc n = refl
 
@@ -37,7 +38,7 @@ pub run_none : (any : Bool) (from : ℕ) → runs_from any from 0 ≡ []
 unfolding runs_from
 run_none any from = refl
 
-run_suc : (any : Bool) (from to : ℕ)
+pub run_suc : (any : Bool) (from to : ℕ)
     → runs_from any from (suc to)
     ≡ runs_from any from to ++ one_if (any && nat_lt (from + 1) to) (Slaves from to)
 unfolding runs_from
@@ -56,7 +57,7 @@ pub neighbour_none : (any : Bool) (count : ℕ) → neighbours any count 0 ≡ [
 unfolding neighbours
 neighbour_none any count = refl
 
-neighbour_suc : (any : Bool) (count from : ℕ)
+pub neighbour_suc : (any : Bool) (count from : ℕ)
     → neighbours any count (suc from) ≡ (neighbours any count from ++ runs_from any from count)
     ++ one_if (nat_lt (from + 1) count) (Slaves from count)
 unfolding neighbours

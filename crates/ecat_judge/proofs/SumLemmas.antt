@@ -43,7 +43,7 @@ pub any_none : (test : ℕ → Bool) → any_below test 0 ≡ false
 unfolding any_below
 any_none test = refl
 
-any_suc : (test : ℕ → Bool) (n : ℕ) → any_below test (suc n) ≡ (any_below test n || test n)
+pub any_suc : (test : ℕ → Bool) (n : ℕ) → any_below test (suc n) ≡ (any_below test n || test n)
 unfolding any_below
 any_suc test n = refl
 

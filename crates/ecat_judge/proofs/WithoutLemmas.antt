@@ -11,7 +11,7 @@ use Rattle.ec_map.specs.Item.{ItemRecord}
 use Rattle.ec_map.specs.Share.{share, request_of, expected_of}
 use Rattle.ecat_judge.specs.declared.share.Share.{Share}
 use Rattle.ecat_judge.specs.declared.share.Missing.{Missing}
-use Rattle.ecat_judge.specs.declared.share.Missing.TheVariants.{Slaves, Inputs, Outputs}
+use Rattle.ecat_judge.specs.declared.share.Missing.TheVariants.{Slaves, Inputs, Outputs, Two}
 use Rattle.ecat_judge.specs.declared.evidence.Row.{Row}
 use Rattle.ecat_judge.specs.declared.evidence.Evidence.{Evidence}
 use Rattle.ecat_judge.specs.Share.{whole, no_share, share_at, part, part_at, lacking, sum_below}
@@ -30,6 +30,7 @@ part_most : (missing : Missing) (s : Share) (place : ℕ) → part missing s pla
 part_most (Slaves from to) s place = or_none _ (whole s) (whole s) (omega arith)
 part_most (Inputs slave) s place = or_none _ s.inputs (whole s) (omega arith)
 part_most (Outputs slave) s place = or_none _ s.outputs (whole s) (omega arith)
+part_most (Two one other) s place = or_none _ (whole s) (whole s) (omega arith)
 
 -- what lacks and what the slave adds are the whole share
 parts_at : (missing : Missing) (shares : List Share) (place : ℕ)

@@ -1,17 +1,14 @@
 -- What bad trips tell of what was missing: how short each item was, which slaves were seen, and how many were
 -- gone.
 use Rattle.std.specs.Prelude.{ℕ, zero, suc, ◌-◌, ◌==◌, ◌&&◌, ◌||◌, Bool, true, false, not}
-use Rattle.std.specs.Prelude.{if◌then◌else◌, Option, None, Some}
+use Rattle.std.specs.Prelude.{Option, None, Some}
 use Rattle.std.specs.Prelude.{List, length, slice_index_or}
-use Rattle.std.specs.List.{list_all, list_any}
+use Rattle.std.specs.List.{list_all}
 use Rattle.ecat_judge.specs.declared.share.Share.{Share}
 use Rattle.ecat_judge.specs.declared.share.Missing.{Missing}
-use Rattle.ecat_judge.specs.declared.share.Missing.TheVariants.{Slaves, Inputs, Outputs}
+use Rattle.ecat_judge.specs.declared.share.Missing.TheVariants.{Slaves, Inputs, Outputs, Two}
 use Rattle.ecat_judge.specs.declared.evidence.Row.{Row}
 use Rattle.ecat_judge.specs.declared.evidence.Evidence.{Evidence}
-use Rattle.ecat_judge.specs.declared.candidates.Candidates.{Candidates}
-use Rattle.ecat_judge.specs.declared.evidence.Class.{Class}
-use Rattle.ecat_judge.specs.declared.evidence.Class.TheVariants.{Slave, Neighbours, Half, Other}
 use Rattle.ecat_judge.specs.Share.{has_inputs_of, lacking}
 
 -- an item is as short as it is where this is missing
@@ -39,6 +36,7 @@ abbrev pub size_of : Missing → ℕ
 size_of (Slaves from to) = to - from
 size_of (Inputs slave) = 0
 size_of (Outputs slave) = 0
+size_of (Two one other) = 2
 
 abbrev pub has_size : Missing → Option ℕ → Bool
 has_size missing None = true
@@ -49,14 +47,3 @@ abbrev pub fits : Missing → Evidence → Bool
 fits missing e =
     has_size missing e.gone && not (was_seen missing e.passed.items)
     && list_all (explains missing) e.rows.items
-
--- the first class of which any fits
-abbrev pub any_fits : Evidence → List Missing → Bool
-any_fits e candidates = list_any (λ missing. fits missing e) candidates
-
-abbrev pub class_of : Evidence → Candidates → Class
-class_of e c =
-    if any_fits e c.slaves.items then Slave
-    else if any_fits e c.neighbours.items then Neighbours
-    else if any_fits e c.halves.items then Half
-    else Other

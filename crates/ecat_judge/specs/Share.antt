@@ -1,13 +1,13 @@
 -- What a slave adds to the working counter of an item, and what of it lacks where slaves are missing (IEC
 -- 61158-4-12, working counter).
-use Rattle.std.specs.Prelude.{ℕ, zero, suc, ◌+◌, ◌-◌, ◌%◌, ◌==◌, ◌&&◌, Bool, false, nat_le, nat_lt}
+use Rattle.std.specs.Prelude.{ℕ, zero, suc, ◌+◌, ◌-◌, ◌%◌, ◌==◌, ◌&&◌, ◌||◌, Bool, false, nat_le, nat_lt}
 use Rattle.std.specs.Prelude.{if◌then◌else◌}
 use Rattle.std.specs.Prelude.{List, length, slice_index_or}
 use Rattle.ec_wire.specs.declared.kind.Kind.{Kind}
 use Rattle.ec_wire.specs.declared.kind.Kind.TheVariants.{Lrd, Lwr, Lrw, Brd, Fprd, Fpwr}
 use Rattle.ecat_judge.specs.declared.share.Share.{Share}
 use Rattle.ecat_judge.specs.declared.share.Missing.{Missing}
-use Rattle.ecat_judge.specs.declared.share.Missing.TheVariants.{Slaves, Inputs, Outputs}
+use Rattle.ecat_judge.specs.declared.share.Missing.TheVariants.{Slaves, Inputs, Outputs, Two}
 
 -- ---- the share of one slave
 
@@ -40,12 +40,14 @@ abbrev pub has_inputs_of : Missing → ℕ → Bool
 has_inputs_of (Slaves from to) place = nat_le from place && nat_lt place to
 has_inputs_of (Inputs slave) place = place == slave
 has_inputs_of (Outputs slave) place = false
+has_inputs_of (Two one other) place = place == one || place == other
 
 -- what lacks of the share of the slave at a place, where this is missing
 abbrev pub part : Missing → Share → ℕ → ℕ
 part (Slaves from to) s place = if nat_le from place && nat_lt place to then whole s else 0
 part (Inputs slave) s place = if place == slave then s.inputs else 0
 part (Outputs slave) s place = if place == slave then s.outputs else 0
+part (Two one other) s place = if place == one || place == other then whole s else 0
 
 abbrev pub no_share : Share
 no_share = record { inputs = 0; outputs = 0; registers = 0 }

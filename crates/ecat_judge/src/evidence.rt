@@ -1,11 +1,11 @@
 //! What bad trips tell of what was missing, and whether something missing fits to it.
 
-ghost use Rattle.std.specs.Prelude.{◌≡◌, ◌<◌, length};
-ghost use Rattle.std.specs.List.{count_by, list_all, list_any};
-ghost use Rattle.ecat_judge.specs.Evidence.{class_of, explains, fits, has_size, is_seen_at, was_seen};
+ghost use Rattle.std.specs.Prelude.{◌≡◌, ◌<◌, false, length, slice_index_or};
+ghost use Rattle.std.specs.List.{list_all};
+ghost use Rattle.ecat_judge.specs.declared.share.Missing.TheVariants.{Two};
+ghost use Rattle.ecat_judge.specs.Evidence.{explains, fits, has_size, is_seen_at, was_seen};
 
-use crate::candidates::Candidates;
-use crate::share::{Missing, Share, lacks};
+use crate::share::{Missing, Share, lacks, two_lack};
 
 /// An item, as bad trips had it.
 #[derive(Drop)]
@@ -27,19 +27,6 @@ pub struct Evidence {
     pub gone: Option<u16>,
 }
 
-/// The classes of what may be missing, in the order in which they are told.
-#[derive(Clone, Copy, PartialEq, Eq, Debug)]
-pub enum Class {
-    /// One slave.
-    Slave,
-    /// Neighbours.
-    Neighbours,
-    /// The inputs or the outputs alone of one slave.
-    Half,
-    /// None of these fits.
-    Other,
-}
-
 impl Row {
     /// Is the item as short as it is where this is missing?
     fn explains(&self, missing: Missing) -> bool
@@ -50,6 +37,34 @@ impl Row {
             Some(short) => lacks(self.shares.as_slice(), missing, short),
         }
     }
+
+    /// Is the item as short as it is where two slaves are missing?
+    fn explains_two(&self, one: usize, other: usize) -> bool
+        requires { one < other }
+        ensures { result ≡ explains (Two one other) self.now }
+    {
+        match self.short {
+            None => true,
+            Some(short) => two_lack(self.shares.as_slice(), one, other, short),
+        }
+    }
+}
+
+/// Was the slave at a place seen?
+fn is_seen(passed: &[bool], place: usize) -> bool
+    ensures { result ≡ slice_index_or passed.now place false }
+{
+    match passed.get(place) {
+        Some(seen) => *seen,
+        None => false,
+    }
+}
+
+/// Was one of the slaves at two places seen?
+fn two_seen(passed: &[bool], one: usize, other: usize) -> bool
+    ensures { result ≡ was_seen (Two one other) passed.now }
+{
+    is_seen(passed, one) || is_seen(passed, other)
 }
 
 /// Is the slave at a place one whose inputs are missing, and did it change a bit that it reads?
@@ -82,6 +97,7 @@ fn has_size(missing: Missing, gone: Option<u16>) -> bool
             Missing::Slaves(from, to) => to.saturating_sub(from) == usize::from(gone),
             Missing::Inputs(_) => gone == 0,
             Missing::Outputs(_) => gone == 0,
+            Missing::Two(_, _) => gone == 2,
         },
     }
 }
@@ -103,36 +119,21 @@ impl Evidence {
     {
         self.rows.iter().all(|row| row.explains(missing))
     }
-
-    /// Does any of these fit?
-    pub fn any_fits(&self, candidates: &[Missing]) -> bool
-        ensures { result ≡ list_any (λ missing. fits missing self.now) candidates.now }
+    /// Is each item as short as it is where two slaves are missing?
+    fn are_explained_by_two(&self, one: usize, other: usize) -> bool
+        requires { one < other }
+        ensures { result ≡ list_all (explains (Two one other)) self.now.rows.items }
     {
-        candidates.iter().any(|missing| self.fits(*missing))
+        self.rows.iter().all(|row| row.explains_two(one, other))
     }
 
-    /// How many of these fit.
-    pub fn count(&self, candidates: &[Missing]) -> usize
-        ensures { result ≡ count_by (λ missing. fits missing self.now) candidates.now }
+    /// Do two slaves fit? It costs no walk along the line.
+    pub(crate) fn fits_two(&self, one: usize, other: usize) -> bool
+        requires { one < other }
+        ensures { result ≡ fits (Two one other) self.now }
     {
-        candidates
-            .iter()
-            .filter(|missing| self.fits(**missing))
-            .count()
-    }
-
-    /// The first class of which any fits.
-    pub fn class(&self, candidates: &Candidates) -> Class
-        ensures { result ≡ class_of self.now candidates.now }
-    {
-        if self.any_fits(candidates.slaves.as_slice()) {
-            Class::Slave
-        } else if self.any_fits(candidates.neighbours.as_slice()) {
-            Class::Neighbours
-        } else if self.any_fits(candidates.halves.as_slice()) {
-            Class::Half
-        } else {
-            Class::Other
-        }
+        has_size(Missing::Two(one, other), self.gone)
+            && !two_seen(self.passed.as_slice(), one, other)
+            && self.are_explained_by_two(one, other)
     }
 }

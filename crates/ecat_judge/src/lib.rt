@@ -26,12 +26,20 @@
 //! A trip ([`ecat_trips`]) with items is good where each of their counters moved as far as [`ec_map`] expects
 //! of the line. Trips are judged from the first one on in which a logical item moved. Bad ones that follow
 //! each other with one counter of each item, and that something missing explains together, are one line: a
-//! run. What is told of it is the first of these that fits, by up to four names:
+//! run. What is told of it is all that fits, joined by `or`, up to four names, and of more how many of each
+//! class:
 //!
 //! - one slave; all slaves from one on, and of a master with two ports any run of neighbours; the inputs
-//!   alone or the outputs alone of one slave; else how many sets of slaves fit the item that is short most;
+//!   alone or the outputs alone of a slave that does not fit whole. Where none of these fits, how many sets
+//!   of slaves fit the item that is short most;
+//! - `may be more` behind it, where two slaves fit as well that are no neighbours. So one name alone, without
+//!   it, is all that fits of what is tried;
 //! - `one copy alone`, where one of two sent copies did not come back, and `more than the slaves of the
 //!   scene`.
+//!
+//! Where several items were short, and none of them counted at all, a line says `no item counted`; columns
+//! name them all. As long as nothing was captured that was sent by a master with one port, a frame that came
+//! back is judged as one that was sent with the counters 0; where nothing was in the end, a line says so.
 //!
 //! With [`Asked::csv`] each run, and each row of losses, is a row of columns, and nothing else is written:
 //!
@@ -49,27 +57,31 @@
 //! What is promised:
 //!
 //! - [`is_good`], [`Counted`]: the verdict of a trip and how far a counter is short (`specs/Verdict.antt`);
-//! - [`Evidence::fits`]: this explains what bad trips tell of counters, inputs and ADPs; [`Evidence::class`]:
-//!   the first class of which any does; [`Evidence::count`]: how many do (`specs/Evidence.antt`);
+//! - [`Evidence::fits`]: this explains what bad trips tell of counters, inputs and ADPs
+//!   (`specs/Evidence.antt`);
 //! - [`Candidates::new`]: what is tried, by classes (`specs/Candidates.antt`);
-//! - [`missing_fits`]: what is missing is among what fits, so where one alone fits, that is it
-//!   (`specs/Without.antt`);
+//! - [`Evidence::answer`], [`Evidence::all_names`], [`Evidence::names`]: how much of each class is told and
+//!   by which names, and whether two slaves fit that are no neighbours (`specs/Answer.antt`);
+//! - [`missing_fits`]: what is missing is among what fits (`specs/Without.antt`); [`one_name_alone`]: one
+//!   name alone, where no more may be missing, is all that fits;
 //! - [`Sums::count`]: what became of each datagram of an item is counted once (`specs/Sums.antt`);
 //! - any bytes are taken, and all calls end.
 //!
 //! Only tested: which trips make a run, which bits a slave reads, how many sets fit where no class does,
-//! texts and their order.
+//! texts and their order, and that the page puts the names that it is told.
 //!
 //! It cannot tell equal slaves apart where inputs stand still and no ADP is counted, nor two slaves that are
-//! missing by turns from one.
+//! missing by turns from one, and it tries no three slaves that are no neighbours.
 //!
-//! - `share`, `evidence`, `candidates`: what a counter lacks, what fits, what is tried; `sets`: any sets.
+//! - `share`, `evidence`, `candidates`: what a counter lacks, what fits, what is tried.
+//! - `answer`: what is told of it; `sets`: how many sets, where nothing is told by name.
 //! - `verdict`, `sums`, `times`: of one trip, of all.
 //! - `table`: the line and its items; `strangers`: what no item asks for.
 //! - `run`, `trial`: packet after packet; `page`: the lines; `door`: the whole capture.
 //!
 //! It takes what `ecat_trips` takes, and 400 KB for 256 slaves and 32 items; of two ports 1 MB more.
 
+mod answer;
 mod candidates;
 mod door;
 mod evidence;
@@ -85,10 +97,11 @@ mod times;
 mod trial;
 mod verdict;
 
+pub use answer::Answer;
 pub use candidates::Candidates;
 pub use door::{Asked, Judged, judge};
-pub use evidence::{Class, Evidence, Row};
-pub use promises::{missing_fits, missing_lacks};
+pub use evidence::{Evidence, Row};
+pub use promises::{missing_fits, missing_lacks, one_name_alone};
 pub use share::{Missing, Share, lacks};
 pub use sums::{Outcome, Sums};
 pub use verdict::{Counted, Standing, is_good};

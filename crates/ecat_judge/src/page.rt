@@ -1,7 +1,8 @@
 //! The lines that are written of a judged capture.
 
+use crate::answer::Answer;
 use crate::candidates::Candidates;
-use crate::evidence::{Class, Evidence};
+use crate::evidence::Evidence;
 use crate::run::{Kind, Run};
 use crate::sets::{MOST_SETS, sets_of};
 use crate::share::Missing;
@@ -13,12 +14,28 @@ use ec_wire::{Command, ado_of, adp_of};
 use std::alloc::{AllocError, Global};
 use std::fmt;
 
-/// How many members of a class are told by name.
+/// How much of what fits is told by name.
 const NAMED: usize = 4;
+
+/// What is guessed of a capture that has nothing that was sent.
+const GUESS: &str = "guess: what was sent had the counters 0, since nothing of it was captured\n";
+
+/// The classes of what may be missing, in the order in which they are told.
+#[derive(Clone, Copy)]
+enum Class {
+    /// One slave.
+    Slave,
+    /// Neighbours.
+    Neighbours,
+    /// The inputs or the outputs alone of one slave.
+    Half,
+}
 
 /// The lines that are gathered and not written yet, and how the ones to come are written.
 #[derive(Drop)]
 pub(crate) struct Page {
+    /// Where names are gathered.
+    alloc: Global,
     /// The lines.
     pub text: String,
     /// Are they rows of columns?
@@ -80,6 +97,7 @@ impl Page {
     /// Nothing is written. So many lines of runs and losses are told.
     pub(crate) fn new(alloc: Global, csv: bool, limit: u64) -> Page {
         Page {
+            alloc,
             text: String::new(alloc),
             csv,
             limit,
@@ -208,13 +226,17 @@ impl Page {
         match run.kind {
             Kind::Alone => self.text.push_str("one copy alone")?,
             Kind::More => self.text.push_str("more than the slaves of the scene")?,
-            Kind::Missing => self.put_missing(run.class, table, evidence)?,
+            Kind::Missing => self.put_missing(table, evidence)?,
         }
         self.text.push_str(if self.csv { "\"\n" } else { "\n" })
     }
 
-    /// Puts the counters of a run that are not those of the line.
+    /// Puts the counters of a run that are not those of the line; where none of several items counted at all,
+    /// one word for all, but in columns.
     fn put_counters(&mut self, run: &Run, table: &Table) -> Result<(), AllocError> {
+        if !self.csv && run.counted_none() {
+            return self.text.push_str(", no item counted");
+        }
         let mut some = false;
         for (item, entry) in table.entries.iter().enumerate() {
             if let Some(counter) = run.counter_of(item)
@@ -251,29 +273,62 @@ impl Page {
 
     // ---- what was missing
 
-    /// Puts what was missing, by the first class of which any fits.
-    fn put_missing(
+    /// Puts what was missing: all that fits, by up to four names, or how much of each class.
+    fn put_missing(&mut self, table: &Table, evidence: &Evidence) -> Result<(), AllocError> {
+        let answer = evidence.answer(&table.candidates, table.stations.len());
+        let total = answer.total();
+        if total == 0 {
+            return self.put_sets(evidence);
+        }
+        self.text.push_str("without ")?;
+        if total <= NAMED {
+            let names = evidence.all_names(self.alloc, &table.candidates)?;
+            self.put_names(names.as_slice(), table)?;
+        } else {
+            self.put_classes(&answer, table, evidence)?;
+        }
+        if answer.more {
+            self.text.push_str(", may be more")?;
+        }
+        Ok(())
+    }
+
+    /// Puts how much of each class fits.
+    fn put_classes(
         &mut self,
-        class: Class,
+        answer: &Answer,
         table: &Table,
         evidence: &Evidence,
     ) -> Result<(), AllocError> {
-        let candidates = candidates_of(class, &table.candidates);
-        let count = evidence.count(candidates);
-        if class == Class::Other {
-            self.put_sets(evidence)
-        } else if count <= NAMED {
-            self.put_named(candidates, table, evidence)
-        } else {
-            match class {
-                Class::Slave => write!(self.text, "without one of {count} slaves"),
-                Class::Neighbours => write!(self.text, "without one of {count} sets of slaves"),
-                Class::Half => write!(
-                    self.text,
-                    "without inputs or outputs of one of {count} slaves"
-                ),
-                Class::Other => Ok(()),
-            }
+        let slaves = answer.slaves;
+        let runs = answer.neighbours;
+        let both = slaves.saturating_add(runs);
+        self.put_class(Class::Slave, slaves, 0, table, evidence)?;
+        self.put_class(Class::Neighbours, runs, slaves, table, evidence)?;
+        self.put_class(Class::Half, answer.halves, both, table, evidence)
+    }
+
+    /// Puts how much of a class fits, by its name where that is one; behind how much of others?
+    fn put_class(
+        &mut self,
+        class: Class,
+        count: usize,
+        others: usize,
+        table: &Table,
+        evidence: &Evidence,
+    ) -> Result<(), AllocError> {
+        if count == 0 {
+            return Ok(());
+        }
+        self.text.push_str(if 0 < others { " or " } else { "" })?;
+        if count == 1 {
+            let names = evidence.names(self.alloc, candidates_of(class, &table.candidates))?;
+            return self.put_names(names.as_slice(), table);
+        }
+        match class {
+            Class::Slave => write!(self.text, "one of {count} slaves"),
+            Class::Neighbours => write!(self.text, "one of {count} sets of slaves"),
+            Class::Half => write!(self.text, "inputs or outputs of one of {count} slaves"),
         }
     }
 
@@ -293,20 +348,13 @@ impl Page {
         }
     }
 
-    /// Puts each of these that fits.
-    fn put_named(
-        &mut self,
-        candidates: &[Missing],
-        table: &Table,
-        evidence: &Evidence,
-    ) -> Result<(), AllocError> {
-        let mut words = "without ";
-        for missing in candidates {
-            if evidence.fits(*missing) {
-                self.text.push_str(words)?;
-                self.put_one(*missing, table)?;
-                words = " or ";
-            }
+    /// Puts each of these.
+    fn put_names(&mut self, names: &[Missing], table: &Table) -> Result<(), AllocError> {
+        let mut words = "";
+        for missing in names {
+            self.text.push_str(words)?;
+            self.put_one(*missing, table)?;
+            words = " or ";
         }
         Ok(())
     }
@@ -321,6 +369,14 @@ impl Page {
             Missing::Outputs(slave) => {
                 let station = station_of(table, slave);
                 write!(self.text, "outputs of slave {slave} (0x{station:04x})")
+            }
+            Missing::Two(one, other) => {
+                let one_station = station_of(table, one);
+                let other_station = station_of(table, other);
+                write!(
+                    self.text,
+                    "slaves {one}, {other} (0x{one_station:04x}, 0x{other_station:04x})"
+                )
             }
             Missing::Slaves(from, to) => {
                 let last = to.saturating_sub(1);
@@ -430,6 +486,14 @@ impl Page {
         write!(self.text, "{words}{least} {mean} {greatest} s")
     }
 
+    /// Puts what was guessed, where nothing was captured that was sent.
+    pub(crate) fn put_guess(&mut self, is_guessed: bool) -> Result<(), AllocError> {
+        if is_guessed {
+            self.text.push_str(GUESS)?;
+        }
+        Ok(())
+    }
+
     /// Puts what no item of the scene asks for.
     pub(crate) fn put_strangers(&mut self, strangers: &Strangers) -> Result<(), AllocError> {
         let groups = strangers.groups();
@@ -468,7 +532,6 @@ fn candidates_of(class: Class, candidates: &Candidates) -> &[Missing] {
         Class::Slave => candidates.slaves.as_slice(),
         Class::Neighbours => candidates.neighbours.as_slice(),
         Class::Half => candidates.halves.as_slice(),
-        Class::Other => &[],
     }
 }
 

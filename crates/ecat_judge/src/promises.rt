@@ -1,7 +1,8 @@
-//! That what is missing is among what fits.
+//! That what is missing is among what fits, and what one name alone says.
 
-ghost use Rattle.std.specs.Prelude.{◌≡◌, ◌-◌, ◌*◌, ◌<◌, ℕ, true, List, length};
-ghost use Rattle.std.specs.List.{Contains};
+ghost use Rattle.std.specs.Prelude.{◌≡◌, ◌⊎◌, ◌-◌, ◌*◌, ◌<◌, ℕ, Bool, true, false, List, [], ◌∷◌, length};
+ghost use Rattle.std.specs.Prelude.{filter};
+ghost use Rattle.std.specs.List.{count_by};
 ghost use Rattle.ec_esc.specs.State.{ControllerState};
 ghost use Rattle.ec_map.specs.Item.{ItemRecord};
 ghost use Rattle.ec_map.specs.Share.{expected_of};
@@ -9,6 +10,9 @@ ghost use Rattle.ecat_judge.specs.declared.share.Share.{Share};
 ghost use Rattle.ecat_judge.specs.declared.share.Missing.{Missing};
 ghost use Rattle.ecat_judge.specs.declared.evidence.Evidence.{Evidence};
 ghost use Rattle.ecat_judge.specs.Share.{lacking};
+ghost use Rattle.ecat_judge.specs.declared.candidates.Candidates.{Candidates};
+ghost use Rattle.ecat_judge.specs.Answer.{IsTried, any_two_fit, is_told, named, whole_of};
+ghost use Rattle.ecat_judge.specs.Candidates.{AreCandidates};
 ghost use Rattle.ecat_judge.specs.Evidence.{fits};
 ghost use Rattle.ecat_judge.specs.Without.{AreShares, WentWithout, rest};
 
@@ -20,13 +24,26 @@ pub fn missing_lacks()
         → lacking missing shares ≡ expected_of line item - rest missing shares }
 {}
 
-/// What is missing fits to what trips tell that passed the line without it. So where one alone of what may be
-/// missing fits, that is it.
+/// What is missing fits to what trips tell that passed the line without it.
 pub fn missing_fits()
-    ensures fits { (line : List ControllerState) (items : ℕ → ItemRecord) (missing : Missing) (e : Evidence)
+    ensures { (line : List ControllerState) (items : ℕ → ItemRecord) (missing : Missing) (e : Evidence)
         → WentWithout line items missing e → fits missing e ≡ true }
-    ensures alone { (line : List ControllerState) (items : ℕ → ItemRecord) (missing told : Missing)
-        (e : Evidence) (candidates : List Missing) → WentWithout line items missing e
-        → Contains candidates missing
-        → ((m : Missing) → Contains candidates m → fits m e ≡ true → m ≡ told) → missing ≡ told }
+{}
+
+/// Where one name is told alone, and not that more may be missing, nothing else that is tried fits: no
+/// slave, no run of neighbours, no half of a slave but one of that slave itself, and no two slaves that are
+/// no neighbours (`only`). It is one that is told (`counted`). So if what is missing is among all that is
+/// tried, it is what is told, or a half of it (`is`).
+pub fn one_name_alone()
+    ensures counted { (e : Evidence) (c : Candidates) (name : Missing)
+        → filter (is_told e) (named c) ≡ name ∷ [] → count_by (is_told e) (named c) ≡ 1 }
+    ensures only { (e : Evidence) (c : Candidates) (count : ℕ) (two : Bool) (name m : Missing)
+        → AreCandidates c count two → count < 65536 → filter (is_told e) (named c) ≡ name ∷ []
+        → any_two_fit e count ≡ false → IsTried c count m → fits m e ≡ true
+        → (m ≡ name) ⊎ (whole_of m ≡ name) }
+    ensures is { (line : List ControllerState) (items : ℕ → ItemRecord) (missing name : Missing)
+        (e : Evidence) (c : Candidates) (two : Bool) → WentWithout line items missing e
+        → AreCandidates c (length line) two → IsTried c (length line) missing
+        → filter (is_told e) (named c) ≡ name ∷ [] → any_two_fit e (length line) ≡ false
+        → (missing ≡ name) ⊎ (whole_of missing ≡ name) }
 {}

@@ -1,6 +1,5 @@
 //! Trips, one after the other, in which each item has one counter.
 
-use crate::evidence::Class;
 use crate::times::At;
 use crate::verdict::Counted;
 use std::alloc::{AllocError, Global};
@@ -23,8 +22,8 @@ pub(crate) struct Run {
     counters: Vec<Option<u16>>,
     /// What is told of its bad trips.
     pub kind: Kind,
-    /// What fits.
-    pub class: Class,
+    /// Does anything fit that has a name?
+    pub is_explained: bool,
     /// How many slaves its bad trips passed, where an ADP tells.
     pub grown: Option<u16>,
     /// The packet in which the first bad trip was sent.
@@ -51,7 +50,7 @@ impl Run {
         Ok(Run {
             counters,
             kind: Kind::Missing,
-            class: Class::Other,
+            is_explained: false,
             grown: None,
             first: NOWHERE,
             last: NOWHERE,
@@ -65,7 +64,7 @@ impl Run {
             *counter = None;
         }
         self.kind = Kind::Missing;
-        self.class = Class::Other;
+        self.is_explained = false;
         self.grown = None;
         self.times = 0;
     }
@@ -76,6 +75,20 @@ impl Run {
             Some(counter) => *counter,
             None => None,
         }
+    }
+
+    /// Has it several items, and did the counter of none of them move?
+    pub(crate) fn counted_none(&self) -> bool {
+        let mut items = 0u64;
+        for counter in self.counters.as_slice() {
+            if let Some(moved) = counter {
+                if *moved != 0 {
+                    return false;
+                }
+                items = items.saturating_add(1);
+            }
+        }
+        1 < items
     }
 
     /// Has a trip the counters of the run?

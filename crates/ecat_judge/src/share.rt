@@ -1,7 +1,9 @@
 //! What a slave adds to the working counter of an item, and what of it lacks where slaves are missing.
 
 ghost use Rattle.std.specs.Prelude.{◌≡◌, ◌==◌, ◌<◌, length};
-ghost use Rattle.ecat_judge.specs.Share.{has_inputs_of, lacking, part, part_at, share_of, whole};
+ghost use Rattle.ecat_judge.specs.declared.share.Missing.TheVariants.{Two};
+ghost use Rattle.ecat_judge.specs.Share.{has_inputs_of, lacking, part, part_at, share_at, share_of};
+ghost use Rattle.ecat_judge.specs.Share.{whole};
 
 use ec_wire::Kind;
 
@@ -25,6 +27,8 @@ pub enum Missing {
     Inputs(usize),
     /// The outputs alone of the slave at a place.
     Outputs(usize),
+    /// The slaves at two places.
+    Two(usize, usize),
 }
 
 impl Missing {
@@ -36,6 +40,7 @@ impl Missing {
             Missing::Slaves(from, to) => from <= place && place < to,
             Missing::Inputs(slave) => place == slave,
             Missing::Outputs(_) => false,
+            Missing::Two(one, other) => place == one || place == other,
         }
     }
 }
@@ -108,6 +113,13 @@ impl Share {
                     0
                 }
             }
+            Missing::Two(one, other) => {
+                if place == one || place == other {
+                    self.whole()
+                } else {
+                    0
+                }
+            }
         }
     }
 }
@@ -133,4 +145,23 @@ pub fn lacks(shares: &[Share], missing: Missing, short: u16) -> bool
         left -= part;
     }
     left == 0
+}
+
+/// What the slave at a place adds, if there is one.
+fn whole_at(shares: &[Share], place: usize) -> u16
+    ensures { result ≡ whole (share_at shares.now place) }
+{
+    match shares.get(place) {
+        Some(share) => share.whole(),
+        None => 0,
+    }
+}
+
+/// Does a counter lack just so much where two slaves are missing?
+pub(crate) fn two_lack(shares: &[Share], one: usize, other: usize, short: u16) -> bool
+    requires { one < other }
+    ensures { result ≡ (lacking (Two one other) shares.now == short) }
+{
+    let both = u32::from(whole_at(shares, one)) + u32::from(whole_at(shares, other));
+    both == u32::from(short)
 }

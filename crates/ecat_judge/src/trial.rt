@@ -2,7 +2,7 @@
 
 ghost use Rattle.std.specs.Prelude.{◌<◌, length};
 
-use crate::evidence::{Class, Evidence};
+use crate::evidence::Evidence;
 use crate::page::Page;
 use crate::run::{Kind, Run};
 use crate::strangers::Strangers;
@@ -30,6 +30,19 @@ struct Losses {
     times: u64,
 }
 
+/// A trip that came back, and what is known of it.
+#[derive(Clone, Copy)]
+struct Back {
+    /// The packet in which it was sent; in which it came back, where that was not captured.
+    first: At,
+    /// The packet in which it came back last.
+    last: At,
+    /// Have all copies of it come back?
+    is_whole: bool,
+    /// Was it captured as it was sent?
+    is_sent: bool,
+}
+
 /// How many slaves a trip passed, as an ADP tells.
 #[derive(Clone, Copy)]
 enum Passage {
@@ -53,6 +66,10 @@ pub(crate) struct Trial {
     strangers: Strangers,
     /// Has a logical item moved yet? Trips in front of it are not judged.
     begun: bool,
+    /// Was a packet captured that was sent?
+    is_sent: bool,
+    /// Was a trip judged of which none was?
+    is_guessed: bool,
     /// The items of the trip that is taken.
     found: Vec<Counted>,
     /// Of each slave, whether a bit that it reads changed in that trip.
@@ -113,7 +130,7 @@ fn is_whole(trip: &Trip) -> bool {
 }
 
 /// The packet in which a trip came back last; in which it was sent, where it did not.
-fn back_of(trip: &Trip) -> At {
+fn last_of(trip: &Trip) -> At {
     match trip.again {
         Some(again) => at(&again),
         None => match trip.back {
@@ -121,6 +138,27 @@ fn back_of(trip: &Trip) -> At {
             None => at(&trip.first),
         },
     }
+}
+
+/// A trip that came back.
+fn back_of(trip: &Trip) -> Back {
+    Back {
+        first: at(&trip.first),
+        last: last_of(trip),
+        is_whole: is_whole(trip),
+        is_sent: true,
+    }
+}
+
+/// A frame that came back, with the counters 0 that it was sent with.
+fn uncounted(frame: &FrameBuf) -> FrameBuf {
+    let mut sent = frame.copy();
+    for k in 0..frame.count() {
+        if k < sent.count() {
+            sent.set_counter(k, 0);
+        }
+    }
+    sent
 }
 
 /// How many slaves the first datagram that counts ADP passed.
@@ -168,6 +206,8 @@ impl Trial {
             losses: NO_LOSSES,
             strangers: Strangers::new(alloc),
             begun: false,
+            is_sent: false,
+            is_guessed: false,
             found: Vec::new(alloc),
             seen: flags(alloc, line.len())?,
             added: Vec::new(alloc),
@@ -187,7 +227,7 @@ impl Trial {
         self.page.look(packet.time);
         for _ in 0..u64::MAX {
             let step = self.trips.take(marks, packet, frame)?;
-            let is_taken = self.take_step(frame, &step)?;
+            let is_taken = self.take_step(marks, packet, frame, &step)?;
             self.trips.reuse(step);
             if is_taken {
                 break;
@@ -197,33 +237,72 @@ impl Trial {
     }
 
     /// Takes what happens; is the packet taken?
-    fn take_step(&mut self, frame: &FrameBuf, step: &Step) -> Result<bool, AllocError> {
+    fn take_step(
+        &mut self,
+        marks: &Marks,
+        packet: &Outline,
+        frame: &FrameBuf,
+        step: &Step,
+    ) -> Result<bool, AllocError> {
         match step {
             Step::Ended(kept) => {
                 self.take_trip(kept.trip())?;
                 Ok(false)
             }
             Step::Taken(_, fate) => {
-                self.take_fate(frame, fate)?;
+                self.take_fate(marks, packet, frame, fate)?;
                 Ok(true)
             }
         }
     }
 
     /// Takes what becomes of a packet.
-    fn take_fate(&mut self, frame: &FrameBuf, fate: &Fate) -> Result<(), AllocError> {
+    fn take_fate(
+        &mut self,
+        marks: &Marks,
+        packet: &Outline,
+        frame: &FrameBuf,
+        fate: &Fate,
+    ) -> Result<(), AllocError> {
         match fate {
-            Fate::Replaces(kept) | Fate::Closes(kept) => self.take_trip(kept.trip()),
-            Fate::Begins | Fate::Second(_) | Fate::Back(_) => Ok(()),
+            Fate::Replaces(kept) => {
+                self.is_sent = true;
+                self.take_trip(kept.trip())
+            }
+            Fate::Closes(kept) => self.take_trip(kept.trip()),
+            Fate::Begins | Fate::Second(_) => {
+                self.is_sent = true;
+                Ok(())
+            }
+            Fate::Back(_) => Ok(()),
             Fate::Late => {
                 self.take_unpaired(frame);
                 Ok(())
             }
-            Fate::Stray => {
-                self.take_unpaired(frame);
-                self.take_strangers(frame)
-            }
+            Fate::Stray => self.take_stray(marks, packet, frame),
         }
+    }
+
+    /// Takes a frame that came back of no trip. Where nothing was captured yet that was sent, it is one that
+    /// was sent with the counters 0; of a master with two ports each copy would have a part of them.
+    fn take_stray(
+        &mut self,
+        marks: &Marks,
+        packet: &Outline,
+        frame: &FrameBuf,
+    ) -> Result<(), AllocError> {
+        if self.is_sent || marks.two {
+            self.take_unpaired(frame);
+            return self.take_strangers(frame);
+        }
+        self.is_guessed = true;
+        let back = Back {
+            first: at(packet),
+            last: at(packet),
+            is_whole: true,
+            is_sent: false,
+        };
+        self.take_back(&back, &uncounted(frame), frame)
     }
 
     /// Takes the datagrams of a frame that no item asks for, but for the one that carries its number.
@@ -251,7 +330,7 @@ impl Trial {
     /// Takes a trip that ended.
     fn take_trip(&mut self, trip: &Trip) -> Result<(), AllocError> {
         match &trip.came {
-            Some(came) => self.take_back(trip, came.frame()),
+            Some(came) => self.take_back(&back_of(trip), &trip.sent.frame, came.frame()),
             None => self.take_lost(trip),
         }
     }
@@ -344,8 +423,13 @@ impl Trial {
     }
 
     /// Takes a trip that came back.
-    fn take_back(&mut self, trip: &Trip, came: &FrameBuf) -> Result<(), AllocError> {
-        self.find(&trip.sent.frame, came)?;
+    fn take_back(
+        &mut self,
+        back: &Back,
+        sent: &FrameBuf,
+        came: &FrameBuf,
+    ) -> Result<(), AllocError> {
+        self.find(sent, came)?;
         if self.found.is_empty() {
             return Ok(());
         }
@@ -354,7 +438,7 @@ impl Trial {
             return Ok(());
         }
         self.end_losses()?;
-        self.count_found(trip);
+        self.count_found(back);
         if !self.run.agrees(self.found.as_slice()) {
             self.end_run()?;
         }
@@ -362,13 +446,12 @@ impl Trial {
             self.run.take(self.found.as_slice());
             Ok(())
         } else {
-            self.take_bad(trip, came)
+            self.take_bad(back, sent, came)
         }
     }
 
     /// Counts the items of a trip that came back.
-    fn count_found(&mut self, trip: &Trip) {
-        let back = back_of(trip).time;
+    fn count_found(&mut self, back: &Back) {
         for counted in self.found.as_slice() {
             if let Some(account) = self.accounts.get_mut(counted.item) {
                 let outcome = match counted.standing() {
@@ -377,17 +460,24 @@ impl Trial {
                     Standing::Over => Outcome::Over,
                 };
                 account.sums.count(outcome);
-                account.times.send(at(&trip.first));
-                account.times.come_back(trip.first.time, back);
+                account.times.send(back.first);
+                if back.is_sent {
+                    account.times.come_back(back.first.time, back.last.time);
+                }
             }
         }
     }
 
     /// Takes a trip that was not good.
-    fn take_bad(&mut self, trip: &Trip, came: &FrameBuf) -> Result<(), AllocError> {
+    fn take_bad(
+        &mut self,
+        back: &Back,
+        sent: &FrameBuf,
+        came: &FrameBuf,
+    ) -> Result<(), AllocError> {
         let slaves = self.table.stations.len();
-        let passage = if is_whole(trip) {
-            passage_of(&trip.sent.frame, came, slaves)
+        let passage = if back.is_whole && back.is_sent {
+            passage_of(sent, came, slaves)
         } else {
             Passage::Untold
         };
@@ -396,7 +486,7 @@ impl Trial {
             Passage::Of(passed) => (Kind::Missing, Some(passed)),
             Passage::Beyond => (Kind::More, None),
         };
-        let kind = if !is_whole(trip) {
+        let kind = if !back.is_whole {
             Kind::Alone
         } else if is_over(self.found.as_slice()) {
             Kind::More
@@ -407,12 +497,11 @@ impl Trial {
             self.end_run()?;
         }
         if kind == Kind::Missing {
-            self.look(&trip.sent.frame, came);
+            self.look(sent, came);
             self.weigh(grown)?;
         }
         self.run.take(self.found.as_slice());
-        self.run
-            .take_bad(at(&trip.first), back_of(trip), kind, grown);
+        self.run.take_bad(back.first, back.last, kind, grown);
         Ok(())
     }
 
@@ -469,16 +558,16 @@ impl Trial {
         if before == self.evidence.gone && self.added.is_empty() && self.added_rows.is_empty() {
             return Ok(());
         }
-        let class = self.evidence.class(&self.table.candidates);
-        if class == Class::Other && self.run.class != Class::Other && 0 < self.run.times {
+        let is_explained = self.evidence.is_explained(&self.table.candidates);
+        if !is_explained && self.run.is_explained && 0 < self.run.times {
             self.undo(before);
             self.end_run()?;
             self.evidence.gone = now;
             self.add_seen()?;
             self.add_rows()?;
-            self.run.class = self.evidence.class(&self.table.candidates);
+            self.run.is_explained = self.evidence.is_explained(&self.table.candidates);
         } else {
-            self.run.class = class;
+            self.run.is_explained = is_explained;
         }
         Ok(())
     }
@@ -590,6 +679,7 @@ impl Trial {
         }
         if !self.page.csv {
             self.put_sums()?;
+            self.page.put_guess(self.is_guessed && !self.is_sent)?;
             self.page.put_strangers(&self.strangers)?;
         }
         self.page.put_rest()

@@ -1,5 +1,7 @@
+mod CutLemmas
 mod FrontLemmas
 mod HexLemmas
+mod HistogramLemmas
 mod LineLemmas
 mod PassedLemmas
 mod SecondsLemmas

@@ -1,12 +1,15 @@
 pub mod Address
 pub mod Counts
+pub mod Cut
 pub mod Digits
 pub mod Front
+pub mod Histogram
 pub mod Line
 pub mod Listing
 pub mod Note
 pub mod Passed
 pub mod Seconds
 pub mod Shown
+pub mod Spans
 pub mod Stats
 pub mod Tally

@@ -1,18 +1,23 @@
 //! What is told of one group of datagrams.
 
-ghost use Rattle.std.specs.Prelude.{◌≡◌, [], List, Bool};
+ghost use Rattle.std.specs.Prelude.{◌≡◌, ◌<◌, [], ◌∷◌, ◌++◌, List, Bool, ℕ};
 ghost use Rattle.ecat_list.specs.declared.passed.What.{What};
 ghost use Rattle.ecat_list.specs.declared.counters.Came.{Came};
+ghost use Rattle.ecat_list.specs.Spans.{AreSpans, bound_of, within};
 ghost use Rattle.ecat_list.specs.Stats.{IsGroup, on_the_way, with_passed};
 
 use crate::counters::{Came, Tally};
+use crate::histogram::{BUCKETS, Histogram, last_of, upper_of};
 use crate::passed::{Passed, Seen, What};
 use ec_wire::Command;
 
+/// The longest span.
+const LONGEST: u64 = 18_446_744_073_709_551_615;
+
 /// Spans of time, in nanoseconds.
-#[derive(Clone, Copy)]
+#[derive(Drop)]
 pub(crate) struct Spans {
-    /// How many.
+    /// How many, up to 2^64 - 1.
     pub count: u64,
     /// The least one.
     pub least: u64,
@@ -20,16 +25,21 @@ pub(crate) struct Spans {
     pub greatest: u64,
     /// All together.
     sum: u64,
+    /// How many fall in each bucket.
+    histogram: Histogram,
 }
 
 impl Spans {
     /// None yet.
-    fn new() -> Spans {
+    fn new() -> Spans
+        ensures { AreSpans [] result }
+    {
         Spans {
             count: 0,
-            least: u64::MAX,
+            least: LONGEST,
             greatest: 0,
             sum: 0,
+            histogram: Histogram::new(),
         }
     }
 
@@ -38,11 +48,44 @@ impl Spans {
         let (Some(from), Some(to)) = (from, to) else {
             return;
         };
-        let span = to.max(from) - to.min(from);
+        self.take_span(to.max(from) - to.min(from));
+    }
+
+    /// Takes one.
+    fn take_span(&mut self, span: u64)
+        ensures { (all : List ℕ) → AreSpans all self.old → AreSpans (all ++ span ∷ []) self.new }
+    {
         self.count = self.count.saturating_add(1);
         self.least = self.least.min(span);
         self.greatest = self.greatest.max(span);
         self.sum = self.sum.saturating_add(span);
+        self.histogram.take(span);
+    }
+
+    /// The upper bound of the bucket in which all end but one in so many, and at most the greatest one.
+    pub(crate) fn all_but_one_in(&self, many: u64) -> u64
+        requires { 0 < many }
+        ensures { result ≡ bound_of self.now.count self.now.greatest many self.now.histogram.counts }
+    {
+        self.within(last_of(self.count / many, self.count, self.histogram.counts()))
+    }
+
+    /// The upper bound of a bucket, and at most the greatest one.
+    pub(crate) fn within(&self, bucket: usize) -> u64
+        ensures { result ≡ within self.now.greatest bucket }
+    {
+        if bucket < BUCKETS - 1 {
+            upper_of(bucket).min(self.greatest)
+        } else {
+            self.greatest
+        }
+    }
+
+    /// How many fall in each bucket.
+    pub(crate) fn counts(&self) -> &[u64]
+        ensures { result.now ≡ self.now.histogram.counts }
+    {
+        self.histogram.counts()
     }
 
     /// The mean of them, 0 of none.
@@ -56,7 +99,7 @@ impl Spans {
 }
 
 /// When the datagrams of a group were sent, and how soon they came back.
-#[derive(Clone, Copy)]
+#[derive(Drop)]
 pub(crate) struct Times {
     /// From one that was sent to the next.
     pub every: Spans,

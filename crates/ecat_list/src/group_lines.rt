@@ -12,6 +12,15 @@ const MIN_GAPS: u64 = 2;
 
 const MIN_RETURNS: u64 = 3;
 
+/// How many times there are at least where shares of them are told.
+const MIN_SHARED: u64 = 100;
+
+/// The shares that are told, and for each of how many times one is beyond it.
+const SHARES: [u64; 4] = [2, 10, 100, 1000];
+
+/// How many buckets a power of two has.
+const STEPS: usize = 8;
+
 /// By what times are told.
 #[derive(Clone, Copy)]
 pub(crate) struct Clock {
@@ -189,5 +198,57 @@ fn put_spans(
     put_seconds(text, spans.mean(), clock.fine)?;
     put_byte(text, b' ')?;
     put_seconds(text, spans.greatest, clock.fine)?;
+    text.extend_from_slice(b" s\n")?;
+    if MIN_SHARED <= spans.count {
+        put_shares(text, clock, before, spans)?;
+        put_histogram(text, clock, before, spans)?;
+    }
+    Ok(())
+}
+
+/// Puts in which time the half of some times are, and all but one in ten, in a hundred and in a thousand.
+fn put_shares(
+    text: &mut Vec<u8>,
+    clock: Clock,
+    before: &[u8],
+    spans: &Spans,
+) -> Result<(), AllocError> {
+    text.extend_from_slice(before)?;
+    text.extend_from_slice(b"at most")?;
+    for many in SHARES {
+        put_byte(text, b' ')?;
+        put_seconds(text, spans.all_but_one_in(many), clock.fine)?;
+    }
+    text.extend_from_slice(b" s in 50 90 99 99.9 of 100\n")
+}
+
+/// Puts how many times are up to each power of two, where there are some.
+fn put_histogram(
+    text: &mut Vec<u8>,
+    clock: Clock,
+    before: &[u8],
+    spans: &Spans,
+) -> Result<(), AllocError> {
+    text.extend_from_slice(before)?;
+    let mut between: &[u8] = b"";
+    for (k, counts) in spans.counts().chunks(STEPS).enumerate() {
+        let count = sum_of(counts);
+        if count > 0 {
+            text.extend_from_slice(between)?;
+            put_decimal(text, count)?;
+            text.extend_from_slice(b" up to ")?;
+            put_seconds(text, spans.within(STEPS * k + STEPS - 1), clock.fine)?;
+            between = b", ";
+        }
+    }
     text.extend_from_slice(b" s\n")
+}
+
+/// All of some counts together.
+fn sum_of(counts: &[u64]) -> u64 {
+    let mut sum: u64 = 0;
+    for count in counts {
+        sum = sum.saturating_add(*count);
+    }
+    sum
 }

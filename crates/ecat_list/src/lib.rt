@@ -29,16 +29,20 @@
 //! a front of it; what `Stats` counts, of each group of datagrams apart those that were sent, came back, were
 //! lost, came late and are stray, each with its working counters in the order in which they came first, how
 //! often and where first, and how many datagrams are of further groups than are told apart
-//! (`specs/Stats.antt`, `specs/Passed.antt`); and that no bytes, times or counters make any of this crate
-//! fail but for memory and the output. Which packets these are, when a writer is handed what, how a listing
-//! ends and the texts of sums are tried by tests alone.
+//! (`specs/Stats.antt`, `specs/Passed.antt`); of the times of a group how many fall in each bucket, and in
+//! which one a share of them ends (`specs/Histogram.antt`, `specs/Spans.antt`); of packets that were cut how
+//! many they are, and behind how many bytes (`specs/Cut.antt`); and that no bytes, times or counters make any
+//! of this crate fail but for memory and the output. Which packets these are, when a writer is handed what,
+//! how a listing ends and the texts of sums are tried by tests alone.
 
 mod address;
 mod counters;
 mod cut;
+mod cut_packets;
 mod date;
 mod group;
 mod group_lines;
+mod histogram;
 mod line;
 mod listing;
 mod output;

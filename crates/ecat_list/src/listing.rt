@@ -5,6 +5,7 @@ ghost use Rattle.ecat_list.specs.Listing.{noted_words, told_words};
 ghost use Rattle.ecat_list.specs.Note.{note_line_words};
 
 use crate::cut::{CutDatagram, refill_front};
+use crate::cut_packets::CutPackets;
 use crate::line::{CSV_HEAD, Head, Note, Since, Style, any_frame, put_datagrams, put_note};
 use crate::output::{Output, Stop};
 use crate::row::Row;
@@ -59,8 +60,9 @@ pub enum Listed {
 /// After how many packets it is told how many were read.
 pub(crate) const PROGRESS_STEP: u64 = 100_000;
 
-/// Lists the capture that the source has ahead: the texts go to `out`, and where progress is asked for to
-/// `err` how many packets were read. A write to `err` that fails is passed over.
+/// Lists the capture that the source has ahead: the texts go to `out`; to `err` goes where progress is asked
+/// for how many packets were read, and at the end how many were cut when they were captured, if any. A write
+/// to `err` that fails is passed over.
 pub fn list<S: Source + Drop, W: Write, V: Write>(
     alloc: Global,
     source: S,
@@ -74,12 +76,24 @@ pub fn list<S: Source + Drop, W: Write, V: Write>(
         Err(stop) => return listed_of(stop),
     };
     let read = listing.read_all(&mut capture, err);
-    match listing.finish() {
-        Ok(()) => read,
-        Err(stop) => match read {
-            Listed::Closed | Listed::OutputFailed | Listed::NoMemory => read,
-            Listed::Whole | Listed::Damaged(_) | Listed::SourceFailed => listed_of(stop),
-        },
+    let end = listing.finish();
+    if !is_read(read) {
+        return read;
+    }
+    match end {
+        Ok(()) => {
+            listing.tell_cut(err);
+            read
+        }
+        Err(stop) => listed_of(stop),
+    }
+}
+
+/// Was the capture read as far as it can be?
+fn is_read(listed: Listed) -> bool {
+    match listed {
+        Listed::Whole | Listed::Damaged(_) | Listed::SourceFailed => true,
+        Listed::Closed | Listed::OutputFailed | Listed::NoMemory => false,
     }
 }
 
@@ -120,6 +134,8 @@ struct Listing<'a, W> {
     output: Output<'a, W>,
     frame: FrameBuf,
     first: Option<u64>,
+    /// The packets that were cut, as far as they may be of EtherCAT.
+    cut: CutPackets,
     /// What the lines of a packet begin with.
     head: Row,
     /// A line.
@@ -138,6 +154,7 @@ impl<'a, W: Write> Listing<'a, W> {
             output,
             frame: any_frame(),
             first: None,
+            cut: CutPackets::new(),
             head: Row::new(),
             row: Row::new(),
         })
@@ -176,7 +193,7 @@ impl<'a, W: Write> Listing<'a, W> {
                 self.frame(&head, packet, &bytes[from..to], Carrier::Udp)?
             }
             Payload::Fragment => self.note(&head, Note::Fragment)?,
-            Payload::Short => self.note(&head, Note::Short)?,
+            Payload::Short => self.short(&head, packet)?,
             Payload::BadLength => self.note(&head, Note::BadLength)?,
             Payload::Other => return Ok(()),
         }
@@ -231,6 +248,14 @@ impl<'a, W: Write> Listing<'a, W> {
         }
     }
 
+    /// Takes a packet that ends before it tells what it carries.
+    fn short(&mut self, head: &Head, packet: &Packet) -> Result<(), Stop> {
+        if packet.captured < packet.original {
+            self.cut.take(packet.captured);
+        }
+        self.note(head, Note::Short)
+    }
+
     /// Takes a frame that was cut when it was captured: its datagrams that are there, and in which one it is
     /// cut.
     fn cut_frame(
@@ -240,6 +265,7 @@ impl<'a, W: Write> Listing<'a, W> {
         payload: &[u8],
         fault: WireFault,
     ) -> Result<(), Stop> {
+        self.cut.take(packet.captured);
         if refill_front(&mut self.frame, payload) {
             self.datagrams(head)?;
         }
@@ -299,6 +325,15 @@ impl<'a, W: Write> Listing<'a, W> {
         let text = &mut self.output.text;
         put_note(text, &mut self.head, style, head, note)?;
         Ok(())
+    }
+
+    /// Tells how many packets were cut, if any: of their datagrams there are fewer lines, or none.
+    fn tell_cut<V: Write>(&mut self, err: &mut V) {
+        if self.cut.are_there() {
+            self.row.clear();
+            self.cut.lead(&mut self.row);
+            let _ = err.write_all(self.row.as_slice());
+        }
     }
 
     /// Writes what is left to write.

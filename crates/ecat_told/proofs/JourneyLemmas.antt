@@ -53,14 +53,14 @@ unfolding came came_by
 came_all [] d = refl
 came_all (c ∷ cs) d = came_all cs (pass c d).datagram
 
-one_line : (n : ℕ) (cs : List ControllerState) (d : DatagramRecord)
+pub one_line : (n : ℕ) (cs : List ControllerState) (d : DatagramRecord)
     → (front_pass n cs (d ∷ [])).line ≡ left_by n cs d
 unfolding left_by line_pass frame_pass
 one_line zero cs d = refl
 one_line (suc n) [] d = refl
 one_line (suc n) (c ∷ cs) d = ap (λ es. (pass c d).state ∷ es) (one_line n cs (pass c d).datagram)
 
-rest_line : (n : ℕ) (cs : List ControllerState) (d : DatagramRecord) (ds : List DatagramRecord)
+pub rest_line : (n : ℕ) (cs : List ControllerState) (d : DatagramRecord) (ds : List DatagramRecord)
     → (front_pass n cs (d ∷ ds)).line ≡ (front_pass n (left_by n cs d) ds).line
 unfolding left_by line_pass frame_pass
 rest_line zero cs d ds = refl
@@ -89,7 +89,7 @@ none_came zero cs = refl
 none_came (suc n) [] = refl
 none_came (suc n) (c ∷ cs) = none_came n cs
 
-size_left : (n : ℕ) (cs : List ControllerState) (d : DatagramRecord) → length (left_by n cs d) ≡ length cs
+pub size_left : (n : ℕ) (cs : List ControllerState) (d : DatagramRecord) → length (left_by n cs d) ≡ length cs
 unfolding left_by
 size_left zero cs d = refl
 size_left (suc n) [] d = refl
@@ -129,12 +129,12 @@ names_left (suc n) (c ∷ cs) d have are names = (
 )
 
 -- what is needed of a line
-record IsKeptLine (cs : List ControllerState) : Type 0 where
+pub record IsKeptLine (cs : List ControllerState) : Type 0 where
   pub memories : HaveMemory cs
   pub names : NameStates cs
   pub few : length cs ≤ 256
 
-line_left : (n : ℕ) (cs : List ControllerState) (d : DatagramRecord) → AreBytes d.payload → IsKeptLine cs
+pub line_left : (n : ℕ) (cs : List ControllerState) (d : DatagramRecord) → AreBytes d.payload → IsKeptLine cs
     → IsKeptLine (left_by n cs d)
 line_left n cs d are line =
     let size = size_left n cs d in
@@ -145,7 +145,7 @@ line_left n cs d are line =
       few = omega (arith, size, few);
     }
 
-found_by : (cs : List ControllerState) (d : DatagramRecord) → IsKeptLine cs → IsSent d → IsFitFor d cs
+pub found_by : (cs : List ControllerState) (d : DatagramRecord) → IsKeptLine cs → IsSent d → IsFitFor d cs
     → IsFound d cs
 found_by cs d line sent fit = record {
   memories = line.memories;
@@ -155,7 +155,7 @@ found_by cs d line sent fit = record {
   bytes = sent.bytes;
 }
 
-fit_on : (n : ℕ) (cs : List ControllerState) (d : DatagramRecord) (ds : List DatagramRecord)
+pub fit_on : (n : ℕ) (cs : List ControllerState) (d : DatagramRecord) (ds : List DatagramRecord)
     → AreFit n (front_pass n cs (d ∷ [])).line ds → AreFit n (left_by n cs d) ds
 fit_on n cs d ds fit = subst (λ es. AreFit n es ds) (one_line n cs d) fit
 
@@ -178,7 +178,7 @@ unplaced_so states two cs d k so = by_place (two && is_place_write d.command)
     by_place false = so
 
 -- APRD is the read by place
-place_read : (x : Command) → is_place_read x ≡ true → x ≡ Aprd
+pub place_read : (x : Command) → is_place_read x ≡ true → x ≡ Aprd
 place_read Aprd is = refl
 place_read Nop is = absurd (cc)
 place_read Apwr is = absurd (cc)
@@ -234,7 +234,7 @@ unmoved_one states n cs d k sent found so =
     subst (λ ss. IsSo states ss (left_by n cs d)) (sym (unmoved_slaves d k sent.counter))
     (lost_one states n cs d k found so)
 
-unmoved_over : (states broken : Bool) (n : ℕ) (cs : List ControllerState) (d : DatagramRecord)
+pub unmoved_over : (states broken : Bool) (n : ℕ) (cs : List ControllerState) (d : DatagramRecord)
     (k : KnownState) → IsSent d → IsFound d cs → IsSo states k.slaves cs
     → IsSo states (returned_over broken false d d k).slaves (left_by n cs d)
 unmoved_over states broken n cs d k sent found so =
@@ -283,7 +283,7 @@ counted_one states all n cs d k each line is so =
     (read_so states (length cs) (counted false all d (came cs d) k.slaves) cs d is line.memories
     (counted_so states false all k.slaves cs d (λ starts. absurd (cc)) line.few so)))
 
-returned_one : (states broken all : Bool) (n : ℕ) (cs : List ControllerState) (d : DatagramRecord)
+pub returned_one : (states broken all : Bool) (n : ℕ) (cs : List ControllerState) (d : DatagramRecord)
     (k : KnownState) → n ≡ length cs → IsKeptLine cs → IsSent d → IsFitFor d cs → IsSo states k.slaves cs
     → IsSo states (returned_over broken all d (came_by n cs d) k).slaves (left_by n cs d)
 returned_one states broken all n cs d k each line sent fit so =
@@ -320,14 +320,14 @@ frame_is_back states broken all n (d ∷ ds) cs k each line sent fit so =
 
 -- ---- journeys
 
-frame_left : (n : ℕ) (frame : List DatagramRecord) (cs : List ControllerState) → IsKeptLine cs
+pub frame_left : (n : ℕ) (frame : List DatagramRecord) (cs : List ControllerState) → IsKeptLine cs
     → AllByRecursion IsSent frame → IsKeptLine (front_pass n cs frame).line
 frame_left n [] cs line sent = subst IsKeptLine (sym (none_left n cs)) line
 frame_left n (d ∷ ds) cs line sent =
     subst IsKeptLine (sym (rest_line n cs d ds))
     (frame_left n ds (left_by n cs d) (line_left n cs d sent.0.bytes line) sent.1)
 
-trip_so : (states : Bool) (n : ℕ) (t : Trip) (cs : List ControllerState) (k : KnownState)
+pub trip_so : (states : Bool) (n : ℕ) (t : Trip) (cs : List ControllerState) (k : KnownState)
     → IsBack n t cs ⊎ IsLost t → IsKeptLine cs → AllByRecursion IsSent t.sent.frame
     → AreFit n cs t.sent.frame → IsSo states k.slaves cs
     → IsSo states (trip_after t k).slaves (front_pass n cs t.sent.frame).line
@@ -363,7 +363,7 @@ kept_all _ (_ ∷ _) (_ ∷ _) [] have _ = absurd have
 kept_all states (s ∷ ss) (x ∷ xs) (y ∷ ys) have so =
     (kept_one states s x y so.0 have.0, kept_all states ss xs ys have.1 so.1)
 
-kept_so : (states : Bool) (ss : List Slave) (xs ys : List ControllerState) → HaveKept states xs ys
+pub kept_so : (states : Bool) (ss : List Slave) (xs ys : List ControllerState) → HaveKept states xs ys
     → IsSo states ss xs → IsSo states ss ys
 kept_so states ss xs ys have (inl none) = inl none
 kept_so states ss xs ys have (inr so) = inr (kept_all states ss xs ys have so)
@@ -387,7 +387,7 @@ kept_size _ [] (_ ∷ _) have = absurd have
 kept_size _ (_ ∷ _) [] have = absurd have
 kept_size states (x ∷ xs) (y ∷ ys) have = ap suc (kept_size states xs ys have.1)
 
-kept_line : (states : Bool) (xs ys : List ControllerState) → HaveKept states xs ys → length xs ≤ 256
+pub kept_line : (states : Bool) (xs ys : List ControllerState) → HaveKept states xs ys → length xs ≤ 256
     → IsKeptLine ys
 kept_line states xs ys have few =
     let size = kept_size states xs ys have in

@@ -18,6 +18,7 @@ mod DatagramLemmas
 mod ReturnedLemmas
 mod CountedLemmas
 mod JourneyLemmas
+mod FoundLemmas
 mod RunLemmas
 mod HeardLemmas
 mod RingLemmas

@@ -1,6 +1,6 @@
 -- Frames that go over a line of simulated controllers, and what is told by their trips.
 use Rattle.std.specs.Prelude.{◌≡◌, ◌⊎◌, ℕ, ◌<◌, ◌≤◌, Bool, None, Some, List, [], ◌∷◌, length}
-use Rattle.std.specs.Prelude.{count_by, slice_index, true, false, not, ◌&&◌}
+use Rattle.std.specs.Prelude.{count_by, slice_index, true, false, not, ◌&&◌, if◌then◌else◌, Option}
 use Rattle.std.specs.List.{AllByRecursion}
 use Rattle.ec_regs.specs.Bits.{AreBytes}
 use Rattle.ec_regs.specs.SyncMan.{is_active, is_enabled}
@@ -15,7 +15,7 @@ use Rattle.ec_esc.specs.declared.counting.TheConstants.{MOST_CONTROLLERS}
 use Rattle.ec_line.specs.Trip.{front_pass}
 use Rattle.ecat_trips.specs.declared.trip.Trip.{Trip}
 use Rattle.ec_wire.specs.declared.command.Command.{Command}
-use Rattle.ecat_told.specs.Known.{KnownState, came_whole, is_logical, trip_after}
+use Rattle.ecat_told.specs.Known.{KnownState, came_whole, is_logical, moves_logical, trip_after}
 use Rattle.ecat_told.specs.So.{IsClaimed, has_station}
 
 -- ---- what must hold of the line and of the frames
@@ -106,3 +106,25 @@ behind (j ∷ js) line = behind js j.later
 abbrev pub told_of : List Journey → KnownState → KnownState
 told_of [] k = k
 told_of (j ∷ js) k = told_of js (trip_after j.trip k)
+
+-- ---- the line that cycles find
+
+-- the line that the last logical datagram of a frame found that moved, where the frame passed the first n
+-- controllers; where none moved, the one that was found before
+abbrev pub found_in : ℕ → List ControllerState → List DatagramRecord → List DatagramRecord
+    → List ControllerState → List ControllerState
+found_in n line [] came last = last
+found_in n line (d ∷ ds) [] last = last
+found_in n line (d ∷ ds) (c ∷ cs) last =
+    found_in n (front_pass n line (d ∷ [])).line ds cs (if moves_logical d c then line else last)
+
+-- of a trip; one that was lost found none
+abbrev pub found_on : ℕ → Trip → Option (List DatagramRecord) → List ControllerState → List ControllerState
+    → List ControllerState
+found_on n t None line last = last
+found_on n t (Some came) line last = found_in n line t.sent.frame came last
+
+-- of all trips
+abbrev pub found : List Journey → List ControllerState → List ControllerState → List ControllerState
+found [] line last = last
+found (j ∷ js) line last = found js j.later (found_on j.passed j.trip j.trip.came line last)

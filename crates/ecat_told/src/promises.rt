@@ -24,7 +24,7 @@ ghost use Rattle.ecat_told.specs.Known.{tells_states};
 ghost use Rattle.ecat_told.specs.Slave.{told_run};
 ghost use Rattle.ecat_told.specs.So.{IsClaimed, IsSlaveSo, IsSo};
 ghost use Rattle.ecat_told.specs.Journeys.{AreJourneys, IsGuarding, IsLine, IsSent, Journey};
-ghost use Rattle.ecat_told.specs.Journeys.{behind, told_of, writes_registers};
+ghost use Rattle.ecat_told.specs.Journeys.{behind, found, told_of, writes_registers};
 
 /// What is told of one slave stays so where one datagram passes its controller: a read tells the bytes that
 /// it brings, a write that was counted those that it carries, and of what may have been written, whether the
@@ -55,15 +55,25 @@ pub fn one_told_run()
 
 /// What is told is so: over a line of simulated controllers, and behind any number of frames that are lost,
 /// wherever that is, or come back from the whole line, each byte that is told is that of the controller at
-/// its place. At first nothing is told. A frame is lost too where a copy alone came back that no slave
-/// processed. Of AL status it is said where nothing changes it between the frames, of the status bytes of
-/// sync managers never. When a datagram comes that writes registers, each enabled sync manager must guard an
-/// area; and of those that a datagram by station finds at most one may have that station.
+/// its place (`later`). And each byte of the line that is kept, the one that `learn` prints once a logical
+/// datagram has moved, is that of the controller as the last such datagram found it (`line`). At first
+/// nothing is told (`at_first`).
+///
+/// What it rests on: a frame came back from the whole line, or it is lost; lost too where a copy alone came
+/// back that no slave processed. A copy back from a part of the line is neither, so of a capture in which a
+/// cable was broken at any time nothing is said from that frame on. When a datagram comes that writes
+/// registers, each enabled sync manager must guard an area; and of those that a datagram by station finds at
+/// most one may have that station. Of AL status it is said where nothing changes it between the frames, of
+/// the status bytes of sync managers never.
 pub fn told_is_so()
     ensures at_first { (states : Bool) (line : List ControllerState) → IsSo states nothing.slaves line }
+    ensures none_at_first { (states : Bool) (line : List ControllerState) → IsSo states nothing.line line }
     ensures later { (states : Bool) (js : List Journey) (line : List ControllerState) (k : KnownState)
         → IsLine line → IsSo states k.slaves line → AreJourneys states js line
         → IsSo states (told_of js k).slaves (behind js line) }
+    ensures line { (states : Bool) (js : List Journey) (line last : List ControllerState) (k : KnownState)
+        → IsLine line → IsSo states k.slaves line → IsSo states k.line last → AreJourneys states js line
+        → IsSo states (told_of js k).line (found js line last) }
 {}
 
 /// A step of a slave's application leaves each byte of what is claimed without AL status. So it may stand

@@ -1,6 +1,6 @@
 //! Outputs and sources that fail.
-use super::samples::ONE;
-use super::{ROOM, asked};
+use super::samples::{CUT, LINE, ONE};
+use super::{ROOM, asked, written};
 use crate::outputs::Fails;
 use ecat_list::{Form, Listed, list};
 use ecat_source::{Bytes, FailsAt};
@@ -22,10 +22,10 @@ fn a_closed_pipe_is_told_from_a_failed_write_and_a_failing_source(rt: HostRuntim
         );
     }
     let mut out = Cursor::new([0u8; ROOM]);
-    let source = FailsAt::new(&ONE, 30, 1);
+    let source = FailsAt::new(&CUT, 68, 1);
     let listed = list(rt.alloc(), source, asked(Form::Lines), &mut out, &mut err);
-    assert!(&rt;
-        listed == Listed::SourceFailed || listed == Listed::NoMemory,
-        "{listed:?}"
-    );
+    if listed != Listed::NoMemory {
+        assert_eq!(&rt; listed, Listed::SourceFailed);
+        assert_eq!(&rt; written(&out), LINE);
+    }
 }

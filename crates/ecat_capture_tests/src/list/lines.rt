@@ -1,5 +1,5 @@
 //! The use on the crate's page: a capture of one packet.
-use super::samples::ONE;
+use super::samples::{LINE, ONE};
 use super::{ROOM, asked, written};
 use ecat_list::{Form, Listed, list};
 use ecat_source::Bytes;
@@ -13,10 +13,7 @@ fn a_packet_is_listed(rt: HostRuntime) {
     let listed = list(rt.alloc(), Bytes::new(&ONE), asked, &mut out, &mut err);
     if listed != Listed::NoMemory {
         assert_eq!(rt; listed, Listed::Whole);
-        assert_eq!(rt;
-            written(&out),
-            "1 0.000000 02:01:05:10:00:00 0 APRD -2:0x0130 0 wkc 0 -\n"
-        );
+        assert_eq!(rt; written(&out), LINE);
         assert_eq!(rt; written(&err), "");
     }
 }
