@@ -1,5 +1,7 @@
 //! An input with whose end something ends.
 
+ghost use Rattle.std.specs.Prelude.{◌≡◌};
+
 use mio::unix::SourceFd;
 use mio::{Events, Interest, Poll, Token};
 use std::alloc::Global;

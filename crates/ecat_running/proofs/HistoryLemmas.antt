@@ -1,7 +1,8 @@
 -- Trips of ports that tell where copies arrive, one after the other, as a history.
-use Rattle.std.proofs.Common.{◌≡◌, ◌≤◌, ◌⊎◌, ℕ, zero, suc, ◌+◌, List, [], ◌∷◌, ◌++◌, length, refl, sym, ap, ◌∙◌}
+use Rattle.std.proofs.Common.{◌≡◌, ◌≤◌, ◌⊎◌, ℕ, zero, suc, ◌+◌, List, [], ◌∷◌, ◌++◌, length}
 use Rattle.std.proofs.Common.{subst, arith, inl, inr, Result, Ok, Err}
 use Rattle.ec_wire.specs.Datagram.{DatagramRecord}
+use Rattle.ec_ring.specs.declared.arrivals.Arrivals.{Arrivals}
 use Rattle.ec_ring.specs.declared.port.PortFault.{PortFault}
 use Rattle.ec_ring.specs.declared.weather.Came.{Came}
 use Rattle.ec_run.specs.Travels.{IsWithin, Travels}
@@ -18,14 +19,20 @@ EachIsPast {C} gives heard =
     → RemoteTrips gives heard before sent came later
     → (later ≡ before) ⊎ IsPast before (record { number = before.next; frame = sent }) later
 
+heard_past : {C : Type 0} (gives : Gives C) (heard : Heard C) → EachIsPast gives heard
+    → (before later : RemoteState C) (sent : List DatagramRecord) (arrivals : Result Arrivals PortFault)
+    → HeardTrips gives heard before sent arrivals later
+    → (later ≡ before) ⊎ IsPast before (record { number = before.next; frame = sent }) later
+heard_past gives heard each before later sent (Ok came) made =
+    each before later sent (Ok made.copies) made.trip
+heard_past gives heard each before later sent (Err failed) made = each before later sent (Err failed) made
+
 one_past : {C : Type 0} (gives : Gives C) (heard : Heard C) → EachIsPast gives heard
     → (before later : RemoteState C) (sent : List DatagramRecord) (came : Result Came PortFault)
     → PortsTrip (HeardTrips gives heard) before sent came later
     → (later ≡ before) ⊎ IsPast before (record { number = before.next; frame = sent }) later
-one_past gives heard each before later sent came (record { arrivals = Ok arrivals; made = made; copies = copies }) =
-    each before later sent (Ok made.copies) made.trip
-one_past gives heard each before later sent came (record { arrivals = Err failed; made = made; copies = copies }) =
-    each before later sent (Err failed) made
+one_past gives heard each before later sent came trip =
+    heard_past gives heard each before later sent trip.arrivals trip.made
 
 -- a trip, and a history behind it
 one_then : {C : Type 0} (n : ℕ) (before between later : RemoteState C) (p : PastTrip)
@@ -73,8 +80,8 @@ MayGoOn C =
     → Went before more later → Went first (past ++ more) later
 
 both_lengths : (past more : List PastTrip) → length (past ++ more) ≡ length past + length more
-both_lengths [] more = refl
-both_lengths (p ∷ past) more = ap suc (both_lengths past more)
+both_lengths [] more = omega arith
+both_lengths (p ∷ past) more = omega (arith, both_lengths past more)
 
 pub joined : {C : Type 0} → MayGoOn C → (m n : ℕ) (before between later : RemoteState C)
     → IsHistory before m between → IsHistory between n later → IsHistory before (m + n) later

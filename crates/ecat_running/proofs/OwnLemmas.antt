@@ -1,9 +1,11 @@
--- A cycle over ports that keep what copies told is one over the ports themselves.
-use Rattle.std.proofs.Common.{◌≡◌, List, Result, Ok, Err, refl, ◌∙◌, ℕ}
+-- What ports bring that keep what copies told, the ports themselves bring.
+use Rattle.std.proofs.Common.{◌≡◌, List, [], ◌∷◌, Result, Ok, Err, refl, ap, ◌∙◌}
 use Rattle.ec_wire.specs.Datagram.{DatagramRecord}
 use Rattle.ec_ring.specs.declared.arrivals.Arrivals.{Arrivals}
 use Rattle.ec_ring.specs.declared.port.PortFault.{PortFault}
 use Rattle.ec_ring.specs.declared.weather.Came.{Came}
+use Rattle.ec_master.specs.Given.{AllThatCame}
+use Rattle.ec_master.specs.Suffice.{Brings}
 use Rattle.ec_run.specs.Alike.{AreTripsOf}
 use Rattle.ec_run.specs.Watched.{WatchedState, WatchedTrips}
 use Rattle.ec_run.specs.Watched.{came_of as heard_of}
@@ -15,7 +17,7 @@ same_came : (arrivals : Result Arrivals PortFault) → heard_of arrivals ≡ cam
 same_came (Ok arrivals) = refl
 same_came (Err failed) = refl
 
-pub watched_copies : {C : Type 0} (gives : Gives C) (heard : Heard C)
+watched_copies : {C : Type 0} (gives : Gives C) (heard : Heard C)
     → AreTripsOf (λ (w : WatchedState (RemoteState C)). w.ports) (WatchedTrips (HeardTrips gives heard))
     (HeardCopies gives heard)
 watched_copies gives heard before sent came later trip = record {
@@ -23,3 +25,16 @@ watched_copies gives heard before sent came later trip = record {
   made = trip.made;
   copies = trip.copies ∙ same_came trip.arrivals;
 }
+
+pub brought_by_ports : {C : Type 0} (gives : Gives C) (heard : Heard C)
+    (before later : WatchedState (RemoteState C)) (frames : List (List DatagramRecord)) (came : AllThatCame)
+    → Brings (WatchedTrips (HeardTrips gives heard)) before frames came later
+    → Brings (HeardCopies gives heard) before.ports frames came later.ports
+unfolding Brings
+brought_by_ports gives heard before later frames [] same = ap (λ s. s.ports) same
+brought_by_ports gives heard before later [] (came ∷ more) never = absurd never
+brought_by_ports gives heard before later (sent ∷ rest) (came ∷ more) (between, trip, others) = (
+  between.ports,
+  watched_copies gives heard before sent came between trip,
+  brought_by_ports gives heard between later rest more others,
+)

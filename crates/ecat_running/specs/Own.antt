@@ -16,9 +16,17 @@ use Rattle.ec_master.specs.Unordered.{IsAccepted}
 use Rattle.ec_run.specs.Cycles.{End}
 use Rattle.ecat_remote.specs.Moving.{NetworkGaveMoving, losing_each}
 use Rattle.ecat_remote.specs.Network.{AreAllTaken, IsOfCycle, NetworkGaveAll, NoneFailed, TakesAll}
+use Rattle.ecat_remote.specs.Network.{by_number}
 use Rattle.ecat_remote.specs.Taken.{Gives, Heard}
 use Rattle.ecat_remote.specs.Trips.{HasRoom, RemoteState}
-use Rattle.ecat_remote.specs.declared.enough.Both.{Both}
+
+-- what a function takes
+abbrev domain : {X Y : Type 0} → (X → Y) → Type 0
+domain {X} f = X
+
+-- both copies that were taken on a trip, as the laws of ports that lie elsewhere have them
+abbrev pub BothTaken : Type 0
+BothTaken = domain by_number
 
 -- a ring accepts these items, and this is what its slaves add to their counters
 pub record Expects (r : RingState) (items : List ItemRecord) (expected : List ℕ) : Type 0 where
@@ -32,11 +40,11 @@ pub record Expects (r : RingState) (items : List ItemRecord) (expected : List �
 pub record SaysOfTheRing {C : Type 0} (gives : Gives C) (heard : Heard C) (before : RemoteState C)
     (items : List ItemRecord) (expected : List ℕ) (came : AllThatCame) (end : End)
     (items_later : List ItemRecord) (later : RemoteState C) : Type 0 where
-  pub still : (r : RingState) (taken : List Both) (behind : List ControllerState) → Expects r items expected
+  pub still : (r : RingState) (taken : List BothTaken) (behind : List ControllerState) → Expects r items expected
       → TakesAll gives heard before (map sent_of (frames_of items)) taken came later
       → NetworkGaveAll before.next (line_of r) (map sent_of (frames_of items)) taken behind
       → IsOfCycle r items came behind end items_later
-  pub moving : (r : RingState) (ws : List Weather) (runs : List (List Visit)) (taken : List Both)
+  pub moving : (r : RingState) (ws : List Weather) (runs : List (List Visit)) (taken : List BothTaken)
       → Expects r items expected → IsMovingCycle ws r items runs
       → TakesAll gives heard before (map sent_of (frames_of items)) taken came later
       → NetworkGaveMoving before.next (length r.slaves) (frames_of items) ws runs taken

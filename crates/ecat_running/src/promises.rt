@@ -12,11 +12,10 @@ ghost use Rattle.ecat_master.specs.Course.{IsRound, Rounds, round_trips, sides_o
 ghost use Rattle.ecat_master.specs.Identities.{WantedIdentity};
 ghost use Rattle.ecat_master.specs.Leaving.{IsLeft, leaving_trips};
 ghost use Rattle.ecat_master.specs.Start.{IsStarted, start_trips};
-ghost use Rattle.ecat_master.specs.declared.leaving.Left.{Left};
 ghost use Rattle.ecat_master.specs.declared.run.LinePlan.{LinePlan};
 ghost use Rattle.ecat_remote.specs.History.{PastTrip, Went};
 ghost use Rattle.ecat_remote.specs.Trips.{RemoteState, HeardTrips};
-ghost use Rattle.ecat_running.specs.History.{IsHistory};
+ghost use Rattle.ecat_running.specs.History.{IsHistory, WayLeft};
 ghost use Rattle.ecat_running.specs.Own.{IsOwn};
 
 use ecat_master::{Pace, Task};
@@ -37,7 +36,7 @@ pub fn trips_of_a_run<C: Carrier, D: Task, T: Pace>()
         later
         → IsHistory before.ports (n * round_trips (length s.asked)) later.ports }
     ensures left { (state : Option AlState) (slaves : ℕ) (before later : WatchedState (RemoteState C))
-        (left : Left) → IsLeft (HeardTrips C.gives C.heard) state slaves before left later
+        (left : WayLeft) → IsLeft (HeardTrips C.gives C.heard) state slaves before left later
         → IsHistory before.ports leaving_trips later.ports }
     ensures joined { (m n : ℕ) (before between later : RemoteState C) → IsHistory before m between
         → IsHistory between n later → IsHistory before (m + n) later }

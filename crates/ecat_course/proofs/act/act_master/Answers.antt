@@ -1,14 +1,30 @@
 use Rattle.std.proofs.Common.{refl}
-use Rattle.ecat_master.specs.declared.run.Plan.{Plan}
 use Rattle.ecat_course.proofs.act.act_master.Goals as goal
 
+pub returns-clause-good : goal.returns-clause-good
+returns-clause-good g c well = record {
+  stands = c.args.course.stands;
+  planned = _;
+  is_planned = record {
+    line = c.as_slice-2.ensures.value;
+    expected = c.counters.ensures;
+    states = refl;
+    identities = c.as_slice.ensures.value;
+    rest = refl;
+  };
+  run = c.master.ensures.good well;
+}
+
 pub returns-clause-ended : goal.returns-clause-ended
-returns-clause-ended g c =
-    let planned : Plan =
-    record c.args.plan.now { identities = c.as_slice.result; states = c.args.course.states } in
-    record {
-      stands = c.args.course.stands;
-      planned = planned;
-      is_planned = record { states = refl; identities = c.as_slice.ensures.value; rest = refl };
-      run = rw (← c.as_slice-2.ensures.value, ← c.counters.ensures) c.master.ensures.ended;
-    }
+returns-clause-ended g c = record {
+  stands = c.args.course.stands;
+  planned = _;
+  is_planned = record {
+    line = c.as_slice-2.ensures.value;
+    expected = c.counters.ensures;
+    states = refl;
+    identities = c.as_slice.ensures.value;
+    rest = refl;
+  };
+  run = c.master.ensures.ended;
+}

@@ -1,0 +1,6 @@
+mod RecordLemmas
+mod SlaveLemmas
+mod CertifiedLemmas
+mod SetUpLemmas
+mod StartedLemmas
+mod PhaseLemmas
