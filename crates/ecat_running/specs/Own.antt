@@ -40,7 +40,8 @@ pub record Expects (r : RingState) (items : List ItemRecord) (expected : List �
 pub record SaysOfTheRing {C : Type 0} (gives : Gives C) (heard : Heard C) (before : RemoteState C)
     (items : List ItemRecord) (expected : List ℕ) (came : AllThatCame) (end : End)
     (items_later : List ItemRecord) (later : RemoteState C) : Type 0 where
-  pub still : (r : RingState) (taken : List BothTaken) (behind : List ControllerState) → Expects r items expected
+  pub still : (r : RingState) (taken : List BothTaken) (behind : List ControllerState)
+      → Expects r items expected
       → TakesAll gives heard before (map sent_of (frames_of items)) taken came later
       → NetworkGaveAll before.next (line_of r) (map sent_of (frames_of items)) taken behind
       → IsOfCycle r items came behind end items_later

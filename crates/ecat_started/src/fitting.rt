@@ -15,9 +15,9 @@ ghost use Rattle.ecat_started.specs.Certified.{addressed_ring};
 
 use ec_over_ring::brought::start_succeeds;
 
-/// A line that was started and of which no identity was wanted. Where its slaves, once they have their station
-/// addresses, fit what is wanted of them and take their startup objects ([`start_succeeds`]), sync managers 0
-/// and 1 stand as they were wanted in the end, as [`crate::certified_line`] asks.
+/// A line that was started and of which no identity was wanted. Where its slaves, once they have their
+/// station addresses, fit what is wanted of them and take their startup objects ([`start_succeeds`]), sync
+/// managers 0 and 1 stand as they were wanted in the end, as [`crate::certified_line`] asks.
 pub fn mailboxes_stand()
     ensures { (line : List Wanted) (cable : Located) (before later : WatchedState RingState)
         → AreWanted line → (started : IsStarted HeardRing before line [] cable later)
