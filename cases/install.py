@@ -2,6 +2,7 @@
 
 What a machine lacks to look at what was installed (a C compiler, man) is told on standard error.
 """
+import gzip
 import os
 import shutil
 import subprocess
@@ -101,6 +102,11 @@ def what_is_installed_works_and_goes(ecat, folder, _limit):
     yield "program", left(ecat, "help"), left(program, "help")
     os.symlink(program, os.path.join(folder, "link"))
     yield "through a symlink", left(ecat, "help"), left(os.path.join(folder, "link"), "help")
+    capture = os.path.join(ROOT, "scenes/startup.pcap")
+    with open(capture, "rb") as file, open(os.path.join(folder, "c.gz"), "wb") as packed:
+        packed.write(gzip.compress(file.read()))
+    if has("gzip", "no packed capture is listed"):
+        yield "a packed capture", left(ecat, "list", capture), left(program, "list", os.path.join(folder, "c.gz"))
     said = lines_of(to, "lib/pkgconfig/rummymaple.pc", "Version")
     yield "what pkg-config says", f"Version: {version}\n", said
     if has("cc", "nothing is compiled with the installed library"):
@@ -175,7 +181,7 @@ def nothing_is_built_to_be_installed(_ecat, folder, limit):
     clone = Clone(folder, limit)
     for name in ("tools/install", "tools/release", "tools/man", "tools/completion", "VERSION"):
         shutil.copy(os.path.join(ROOT, name), clone.at(name))
-    for tool in ("awk", "cmp", "cp", "install", "mktemp", "head"):
+    for tool in ("install", "mktemp", "head"):
         if not os.path.exists(os.path.join(clone.bin, tool)):
             os.symlink(shutil.which(tool), os.path.join(clone.bin, tool))
     clone.rt(toolchain(OTHER))
@@ -222,7 +228,6 @@ def another_version_is_named_by_its_place(_ecat, folder, _limit):
 def the_released_program_is_compared_with_one_that_was_built(_ecat, folder, limit):
     clone = Clone(folder, limit)
     shutil.copy(os.path.join(ROOT, "tools/release"), clone.at("tools/release"))
-    os.symlink(shutil.which("cmp"), os.path.join(clone.bin, "cmp"))
     clone.file("same", '#!/bin/sh\necho packed "$@"\n')
     clone.file("other", '#!/bin/sh\necho other "$@"\n')
     clone.rt(toolchain(RELEASES))

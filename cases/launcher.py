@@ -5,11 +5,13 @@ two crates of a line each, and a program of release/ that prints what it was giv
 prints tells which program ran. `rt` is none or a script, whatever the machine has. It gives what `cases/try`
 compares: a name, what is wanted, what is seen.
 """
+import gzip
 import hashlib
 import lzma
 import os
 import re
 import shutil
+import signal
 import subprocess
 import tarfile
 import time
@@ -19,8 +21,8 @@ CASES = []
 ROOT = os.path.dirname(os.path.dirname(os.path.abspath(__file__)))
 
 # What the launcher and its tools call.
-TOOLS = "awk bash basename cat chmod cp cut dirname env find git grep mkdir mv printf readlink realpath rm"
-TOOLS += " sed sh sha256sum sleep sort tar timeout true xargs xz"
+TOOLS = "awk bash basename cat chmod cmp cp cut dirname env find git grep gzip mkdir mv printf readlink realpath rm"
+TOOLS += " sed sh sha256sum sleep sort stat tar timeout tr true xargs xz"
 
 RELEASES = "rattle-kit-1a logic 00ff"
 OTHER = "rattle-kit-2b logic 11ee"
@@ -51,8 +53,8 @@ def toolchain(version, seconds=0):
 
 
 def copy(path, to):
-    """Copies a file that will be run. Another process does it: cases run side by side, and a file that one has
-    open for writing while another one starts a process cannot be run."""
+    """Copies a file that will be run. Another process does it: cases run side by side, and a file that one
+    has open for writing while another one starts a process cannot be run."""
     subprocess.run(["cp", path, to], check=True)
 
 
@@ -393,6 +395,185 @@ def a_clone_that_cannot_be_written_to_unpacks_elsewhere(clone):
     clone.rt(toolchain(OTHER))
     none = f"tools/build: {clone.top}/target/build cannot be written, and the work is done there\n"
     yield "build", f"ecat: {TAKES}\n{none}3\n", clone.ecat("--build")
+
+
+# Longer than the two seconds, by a clock of whole ones, for which what was changed is not noted.
+SETTLED = 3.5
+
+
+def noted(clone, name):
+    """A clone in a folder of its own which is left alone for a while, so that its program can be noted."""
+    folder = os.path.join(clone.folder, name)
+    os.mkdir(folder)
+    made = Clone(folder, clone.limit)
+    made.ecat()
+    return made
+
+
+def change(path, old, new):
+    """Puts other bytes into a file, with its times as they were."""
+    told = os.stat(path)
+    with open(path, "r+b") as file:
+        content = file.read()
+        file.seek(0)
+        file.write(content.replace(old, new))
+    os.utime(path, ns=(told.st_atime_ns, told.st_mtime_ns))
+
+
+def replaced(path, old, new):
+    """Puts another file in the place of one, as git does, with its time and its size."""
+    shutil.copy2(path, path + "~")
+    change(path + "~", old, new)
+    os.replace(path + "~", path)
+
+
+def moved_in(made):
+    """A folder with a source that lay elsewhere."""
+    folder = os.path.join(made.folder, "more")
+    os.mkdir(folder)
+    shutil.copy2(made.at("crates/low/src/lib.rt"), os.path.join(folder, "more.rt"))
+    os.rename(folder, made.at("crates/low/src/more"))
+
+
+CHANGES = {
+    "a byte of a source, with its time put back": lambda made: change(
+        made.at("crates/low/src/lib.rt"), b"low", b"lov"),
+    "a source that is another file": lambda made: replaced(made.at("crates/low/specs/Low.antt"), b"low", b"lov"),
+    "a source that is gone": lambda made: os.remove(made.at("crates/low/specs/Low.antt")),
+    "a source that has another name": lambda made: os.rename(
+        made.at("crates/low/src/lib.rt"), made.at("crates/low/src/lob.rt")),
+    "a source that came": lambda made: os.rename(
+        made.at("crates/low_tests/src/lib.rt"), made.at("crates/ecat/src/lib.rt")),
+    "a folder that came": moved_in,
+    "a folder that has another name": lambda made: os.rename(made.at("crates/low/src"), made.at("crates/low/specs/src")),
+    "a crate that came": lambda made: (
+        change(made.at("crates.txt"), b"low_tests:", b"low_teste:"),
+        os.rename(made.at("crates/low_tests"), made.at("crates/low_teste"))),
+    "what a source is": lambda made: change(made.at("tools/sources"), b"[A-Za-z0-9_]+'", b"[A-Zd-z0-9_]+'"),
+    "the sums": lambda made: change(made.at("release/sums"), b"sources ", b"sources 0"),
+}
+
+
+@case
+def what_is_noted_is_forgotten_with_any_change(clone):
+    clones = {name: noted(clone, str(number)) for number, name in enumerate(CHANGES)}
+    time.sleep(SETTLED)
+    none = f"ecat: no rt here to build the program: {CHANGED}\n3\n"
+    for name, made in clones.items():
+        made.ecat()
+        os.remove(os.path.join(made.bin, "sha256sum"))
+        yield f"no sums are taken: {name}", "packed x\n0\n", made.ecat("x")
+        os.symlink(shutil.which("sha256sum"), os.path.join(made.bin, "sha256sum"))
+        CHANGES[name](made)
+        yield name, none, made.ecat("x")
+
+
+@case
+def a_noted_program_is_the_one_that_was_summed(clone):
+    clones = [noted(clone, name) for name in ("program", "built", "mode", "whose", "place", "fresh")]
+    time.sleep(SETTLED)
+    for made in clones:
+        made.ecat()
+        yield "noted", "True", str(os.path.exists(made.at("release/out/noted")))
+    program, built, mode, whose, place, fresh = clones
+    change(program.at("release/out/ecat"), b"packed", b"hacked")
+    yield "a program that was changed", "packed x\n0\n", program.ecat("x")
+    built.rt(toolchain(OTHER))
+    built.ecat("--build")
+    yield "one that was built since", "built x\n0\n", built.ecat("x")
+    os.chmod(mode.at("release/out/ecat"), 0o644)
+    yield "one that cannot be run", "packed x\n0\n", mode.ecat("x")
+    os.rename(place.top, place.top + "-moved")
+    yield "a clone that was moved", "packed x\n0\n", "".join(place.run(place.top + "-moved/ecat", "x"))
+    fresh.file("crates/low/src/lib.rt~", "// A stray changes its folder.\n")
+    os.remove(fresh.at("release/out/noted"))
+    fresh.ecat()
+    yield "what may still change", "False", str(os.path.exists(fresh.at("release/out/noted")))
+    # Whoever may write the note of another user does not say what he runs.
+    if os.geteuid() == 0:
+        other = os.path.join(whose.folder, "other")
+        whose.file("../other", "#!/bin/sh\necho other\n")
+        os.chmod(other, 0o755)
+        told = whose.run("stat", "-L", "-c", "%.9Z %s %i %d %n", other)[0]
+        whose.file("release/out/watched", other + "\n")
+        whose.file("release/out/noted", f"{other}\n{told}")
+        yield "one's own note", "other\n0\n", whose.ecat()
+        for name in ("watched", "noted"):
+            os.chown(whose.at(f"release/out/{name}"), 65534, 65534)
+        yield "somebody else's note", "packed\n0\n", whose.ecat()
+
+
+# A program that tells its words, and what it reads where it is given standard input.
+READS = b"""#!/bin/sh
+echo "read $*"
+case "$*" in *' -'* | *stdin*) cat ;; esac
+exit 7
+"""
+
+
+@case
+def a_packed_capture_is_unpacked(clone):
+    clone.release(READS, clone.sum())
+    capture = bytes.fromhex("d4c3b2a1020004") + b"of packets"
+    files = {"plain.gz": capture, "c.gz": gzip.compress(capture), "packed": gzip.compress(capture)}
+    if shutil.which("zstd"):
+        os.symlink(shutil.which("zstd"), os.path.join(clone.bin, "zstd"))
+        files["c.zst"] = subprocess.run(["zstd", "-qc"], input=capture, capture_output=True, check=True).stdout
+    for name, content in files.items():
+        with open(os.path.join(clone.folder, name), "wb") as file:
+            file.write(content)
+    for name in set(files) - {"plain.gz"}:
+        for words, wanted in [
+            ("list F", "list -"), ("list --csv F", "list --csv -"), ("show F", "show /dev/stdin"),
+            ("learn --at 3 F --data", "learn --at 3 - --data"), ("judge F line", "judge - line"),
+            ("judge --limit 3 F line", "judge --limit 3 - line"), ("list --at=3 F", "list --at=3 -"),
+        ]:
+            seen = clone.ecat(*words.replace("F", name).split(), errors="replace")
+            yield f"{words}, {name}", f"read {wanted}\n{capture.decode(errors='replace')}7\n", seen
+    for words in ("list plain.gz", "judge c.gz", "judge --limit 3 c.gz", "check c.gz", "learn --at c.gz",
+                  "list nowhere.gz", "list plain.gz c.gz", "list -h"):
+        yield words, f"read {words}\n7\n", clone.ecat(*words.split())
+    os.remove(os.path.join(clone.bin, "gzip"))
+    yield "no gzip", "read list c.gz\n7\n", clone.ecat("list", "c.gz")
+
+
+@case
+def what_cannot_be_unpacked_is_told(clone):
+    clone.release(READS.replace(b"exit 7", b""), clone.sum())
+    packed = gzip.compress(b"packets and packets\n")
+    told = "ecat: c.gz: gzip did not unpack all of it\n"
+    for name, content, wanted in [
+        ("whole", packed, "0\n"),
+        ("cut", packed[:-6], told + "3\n"),
+        ("a wrong sum", packed[:-8] + b"1234" + packed[-4:], told + "3\n"),
+        ("nothing but the magic", packed[:2], told + "3\n"),
+    ]:
+        with open(os.path.join(clone.folder, "c.gz"), "wb") as file:
+            file.write(content)
+        seen = clone.ecat("list", "c.gz").removeprefix("read list -\n").removeprefix("packets and packets\n")
+        yield name, wanted, re.sub("gzip: .*\n|\n(?=gzip)|^\n+", "", seen)
+    clone.release(b"#!/bin/sh\nexit 1\n", clone.sum())
+    clone.forget()
+    with open(os.path.join(clone.folder, "c.gz"), "wb") as file:
+        file.write(gzip.compress(os.urandom(1 << 20)))
+    yield "a program that reads nothing", "1\n", clone.ecat("list", "c.gz")
+
+
+@case
+def signals_end_a_command_on_a_packed_capture(clone):
+    clone.release(b"#!/bin/sh\necho begun\nexec sleep 60\n", clone.sum())
+    clone.ecat("--path")
+    with open(os.path.join(clone.folder, "c.gz"), "wb") as file:
+        file.write(gzip.compress(os.urandom(1 << 20)))
+    for number in (signal.SIGINT, signal.SIGTERM, signal.SIGHUP, signal.SIGQUIT):
+        process = subprocess.Popen([clone.at("ecat"), "list", "c.gz"], cwd=clone.folder, env=clone.env,
+                                   stdin=subprocess.DEVNULL, stdout=subprocess.PIPE, start_new_session=True)
+        process.stdout.readline()
+        process.send_signal(number)
+        status = process.wait(clone.limit)
+        yield number.name, f"{128 + number}", str(status)
+        yield f"{number.name}: nobody is left", "", process.stdout.read().decode()
+        process.stdout.close()
 
 
 @case

@@ -2,6 +2,7 @@
 
 Each is a function of a `Stage`. It gives what `cases/try` compares: a name, what is wanted, what is seen.
 """
+import collections
 import contextlib
 import fcntl
 import os
@@ -557,8 +558,8 @@ def copies_of_a_run_are_kept_and_listed(stage):
     yield "list", COPIES, stage.ends("list", "p")
 
 
-# Each copy as it leaves and as it arrives, marked there by bit 1 of its source: each turns at the broken link,
-# behind one of the two slaves.
+# Each copy as it leaves and as it arrives, marked there by bit 1 of its source: each turns at the broken
+# link, behind one of the two slaves.
 COPIES = """\
 1 0.000000 10:52:4d:50:00:0a 0 BRD 0x0000:0x0130 2 wkc 0 0000
 2 0.000001 12:52:4d:50:00:0a 0 BRD 0x0001:0x0130 2 wkc 1 0100
@@ -773,7 +774,7 @@ def last_lines(text, count):
 def told(line):
     """A line of a master, with N for the number of its cycle and M for how many it lasted."""
     line = re.sub(r"^cycle \d+:", "cycle N:", line)
-    return re.sub(r"after \d+ cycles", "after M cycles", line)
+    return re.sub(r"after \d+ cycles?", "after M cycles", line)
 
 
 @case
@@ -833,7 +834,8 @@ def a_scan_writes_the_line_that_it_finds(stage):
     yield "records", FOUND, "\n".join([*records, ""])
     yield "check", "accepted\n0\n", stage.ends("check", "found")
     nobody = ("scan", "--at", "127.0.0.1:9", "--limit", "1000", "--scene", "none")
-    yield "nobody", "nobody answers at A\n1\n", last_lines(stage.ends(*nobody), 2)
+    refused = "nobody answers at A\nport A failed (Connection refused)\n1\n"
+    yield "nobody", refused, last_lines(stage.ends(*nobody), 3)
 
 
 # Slaves without a mailbox: one of outputs alone, one that counts, one whose outputs come back.
@@ -1178,7 +1180,8 @@ def report(program):
 
 
 def outputs_sent(stage):
-    """What cycles sent by the log: the outputs by the cycles' numbers, and those that followed one another."""
+    """What cycles sent by the log: the outputs by the cycles' numbers, and those that followed one
+    another."""
     with open(os.path.join(stage.folder, "log"), encoding="latin-1") as log:
         sent = dict(re.findall(r"^cycle (\d+) .* sent (\w+),", log.read(), re.M))
     rows = list(sent.values())
@@ -1273,7 +1276,7 @@ def machine_and_master(stage):
     control = {"stdin": subprocess.PIPE}
     with stage.serve(MACHINE, "--control", **control) as line:
         stage.file("m", MACHINE)
-        words = ("master", "m", "--at", both_ends(stage), "--every", "50000", *PATIENCE)
+        words = ("master", "m", "--at", both_ends(stage), "--every", "100000", *PATIENCE)
         with stage.start(*words, **control) as master:
             yield line, master
 
@@ -1289,7 +1292,7 @@ def a_master_sees_cables_break_and_heal(stage):
             """Reads on to a line with these words. A cycle that met a change between its two copies may have
             another counter: its line tells of the cable too, and the next one that it is good again."""
             seen, until = told(master.line()), time.monotonic() + stage.limit
-            others = "came|good again|other than before|lost: links|left out"
+            others = "came|good again|lost: links|left out"
             while words not in seen and re.search(others, seen) and time.monotonic() < until:
                 seen = told(master.line())
             if "came" in seen and "came" not in words:
@@ -1405,7 +1408,7 @@ def startup_objects_are_written_to_a_slave_that_came_back(stage):
     """The service is started anew under a master: its slaves know nothing."""
     stage.file("m", STARTING)
     line = stage.serve(WRITABLE, "--forever")
-    words = ("master", "m", "--at", both_ends(stage), "--every", "50000", "--recover", "--leave", "op")
+    words = ("master", "m", "--at", both_ends(stage), "--every", "10000", "--recover", "--leave", "op")
     with stage.start(*words, stdin=subprocess.PIPE) as master:
         for wanted in OBJECTS_STARTED.splitlines(True):
             yield "start", wanted, master.line()
@@ -1562,7 +1565,8 @@ def taken_of(pipe):
 
 @case
 def a_log_that_nobody_reads_keeps_no_cycle_waiting(stage):
-    """The log is a pipe that is read behind the last cycle: it has whole lines, and the others are counted."""
+    """The log is a pipe that is read behind the last cycle: it has whole lines, and the others are
+    counted."""
     cycles = 1000
     with stage.serve(MACHINE, "--forever"), small_pipe(stage) as pipe:
         stage.file("m", MACHINE)
@@ -1578,7 +1582,8 @@ def a_log_that_nobody_reads_keeps_no_cycle_waiting(stage):
 
 @case
 def a_capture_that_nobody_reads_keeps_no_cycle_waiting(stage):
-    """The capture is a pipe that is read behind the last cycle: it has whole packets, and others are counted."""
+    """The capture is a pipe that is read behind the last cycle: it has whole packets, and others are
+    counted."""
     cycles = 1000
     with stage.serve(MACHINE, "--forever"), small_pipe(stage) as pipe:
         stage.file("m", MACHINE)
@@ -1744,7 +1749,63 @@ def a_busy_master_cycles_as_another_one(stage):
 
 @case
 def nobody_who_answers_a_scan_is_told(stage):
-    yield "nobody", "nobody answers at A\n1\n", stage.ends("scan", "--at", f"127.0.0.1:{stage.port}")
+    wanted = "nobody answers at A\nport A failed (Connection refused)\n1\n"
+    yield "nobody", wanted, stage.ends("scan", "--at", f"127.0.0.1:{stage.port}")
+
+
+@case
+def a_start_to_which_nobody_listens_says_why_no_copy_comes(stage):
+    stage.file("m", MACHINE)
+    refused = "port A failed (Connection refused)\nport B failed (Connection refused)\n"
+    nobody = "slaves 0, wanted 3\nno copy came back: nothing known\n"
+    wanted = f"{nobody}{refused}fault: another number of slaves\n1\n"
+    yield "master", wanted, stage.ends("master", "m", "--at", both_ends(stage), "--cycles", "1")
+
+
+@case
+def ports_in_the_other_order_are_told(stage):
+    """By `where`, by `scan` and by the start of a master, which says what is to be done."""
+    stage.file("m", MACHINE)
+    at = ("--at", f"127.0.0.1:{stage.port + 1},127.0.0.1:{stage.port}")
+    swapped = "ports A and B are swapped\n"
+    with stage.serve(MACHINE, "--set-up", "--forever"):
+        wanted = f"at A after 3, at B after 0\n{swapped}1\n"
+        yield "where", wanted, stage.ends("where", "m", *at)
+        seen = stage.ends("scan", *at, *PATIENCE)
+        yield "scan", f"slaves 3\n{swapped}", "".join(seen.splitlines(True)[:2])
+        fault = "fault: ports A and B are swapped: name them in the other order\n"
+        ended = stage.ends("master", "m", *at, "--cycles", "1", *PATIENCE)
+        yield "master", f"slaves 3\n{swapped}{fault}1\n", ended
+
+
+@case
+def a_master_of_one_port_is_told_of_no_lost_redundancy(stage):
+    """Its line ends at the port that it does not name, and slaves behind a broken link are missing."""
+    stage.file("m", MACHINE)
+    end = "link 3 down: between slave 2 (0x1003) and port B\n"
+    with controlled(stage, MACHINE) as line:
+        command(line, "link 3 down")
+        words = ("master", "m", "--at", f"127.0.0.1:{stage.port}", "--every", "5000", *PATIENCE)
+        with stage.start(*words, stdin=subprocess.PIPE) as master:
+            for wanted in STARTED.replace("ring whole\n", end).splitlines(True):
+                yield "start", wanted, master.line()
+            seen, until = [], time.monotonic() + stage.limit
+
+            def reads_on_to(words):
+                while words not in "".join(seen) and time.monotonic() < until:
+                    seen.append(master.line())
+
+            command(line, "link 1 down")
+            reads_on_to("came 3 of 9; link 1 is the first down")
+            command(line, "link 1 up")
+            reads_on_to(f": {end}")
+            master.process.stdin.close()
+            master.process.stdin = None
+            seen.append(master.end())
+    text = "".join(seen)
+    behind = text.partition("good again after")[2]
+    yield "told", "True", str(bool(re.search(f"cycle [0-9]+: {re.escape(end)}", behind)))
+    yield "redundancy", "False", str("redundancy" in text)
 
 
 @case
@@ -1889,8 +1950,8 @@ PROGRESS = (
 
 @case
 def a_master_tells_a_terminal_of_each_second_anew(stage):
-    """The times are those of the cycles since the last line: a long cycle is in one line alone. Where standard
-    output is the terminal and standard error is none, nothing is told."""
+    """The times are those of the cycles since the last line: a long cycle is in one line alone. Where
+    standard output is the terminal and standard error is none, nothing is told."""
     def greatest(text):
         return [int(micros) for micros in re.findall(PROGRESS, text)]
 
@@ -1916,7 +1977,7 @@ def a_master_tells_a_terminal_of_each_second_anew(stage):
                 seen = seen_on(written, stage.limit, has_none)
                 yield "none", "", "" if has_none(seen) else seen
         with terminal() as (_written, screen):
-            words = (*words, "--every", "2000", "--cycles", "600", "--leave", "op", *PATIENCE)
+            words = (*words, "--every", "20000", "--cycles", "80", "--leave", "op", *PATIENCE)
             yield "no terminal", "0\n", stage.ends(*words, stdout=screen)
 
 
@@ -2063,9 +2124,9 @@ def packet_sockets_of_another_type_or_of_no_interface_are_refused(stage):
                 yield f"{words[0]}: {what}", f"{bound_elsewhere}{who}3\n", told
 
 
-# Runs a program at the loopback of a network of its own, through a packet socket whose descriptor stands in the
-# place of {}. It prints what that printed, its status, how many packets it sent and how many microseconds lay
-# between two of them at the least, by the stamp that the system puts on each (SO_TIMESTAMPNS).
+# Runs a program at the loopback of a network of its own, through a packet socket whose descriptor stands in
+# the place of {}. It prints what that printed, its status, how many packets it sent and how many microseconds
+# lay between two of them at the least, by the stamp that the system puts on each (SO_TIMESTAMPNS).
 AT_LOOPBACK = """
 import fcntl, socket, struct, subprocess, sys
 with socket.socket(type=socket.SOCK_DGRAM) as any_one:
@@ -2138,8 +2199,8 @@ def a_port_that_fails_has_the_status_of_a_failure(stage):
 
 @case
 def a_packet_that_cannot_be_sent_is_a_missing_copy(stage):
-    """One packet of all cannot be sent, of a cycle: the start takes fewer. Where strace is not to be had there
-    is nothing to see."""
+    """One packet of all cannot be sent, of a cycle: the start takes fewer. Where strace is not to be had
+    there is nothing to see."""
     if not has_faults():
         return
     stage.file("m", MACHINE)
@@ -2159,7 +2220,8 @@ def a_packet_that_cannot_be_sent_is_a_missing_copy(stage):
 
 @case
 def a_service_that_is_gone_is_no_failure_of_a_port(stage):
-    """What was sent to nobody is a lost copy, and the cycles are good again once somebody serves the line."""
+    """What was sent to nobody is a lost copy, which is told of the port, and the cycles are good again once
+    somebody serves the line."""
     stage.file("m", TERMINALS)
     words = ("master", "m", "--at", both_ends(stage), "--every", "20000", "--recover", "--limit", "20000")
     line = stage.serve(TERMINALS, "--forever")
@@ -2180,14 +2242,16 @@ def a_service_that_is_gone_is_no_failure_of_a_port(stage):
             master.process.stdin = None
             seen.append(master.end())
     text = "".join(seen)
-    yield "no failure", "False", str("a port failed" in text)
+    for port in "AB":
+        for words in (f"port {port} failed (Connection refused)\n", f"port {port} works again\n"):
+            yield "told once", "1", str(text.count(words))
     yield "sums", "fault 0", (re.search("fault [0-9]+", text) or [""])[0]
 
 
 @case
 def each_slave_that_cannot_be_brought_up_again_is_told_once(stage):
-    """The service is started anew, with two slaves that are others by now and go to Safe-Op no more: of each it
-    is told once."""
+    """The service is started anew, with two slaves that are others by now and go to Safe-Op no more: of each
+    it is told once."""
     stage.file("m", MACHINE)
     one, *others = re.split("(?=slave)", MACHINE)[1:]
     anew = one + "".join(others).replace("areas 1 1\n", "")
@@ -2245,21 +2309,32 @@ class Between:
         """Hands on until the master ends, and answers what that printed, and its status."""
         until = time.monotonic() + self.limit
         while master.process.poll() is None and time.monotonic() < until:
-            for ready in select.select(self.near, [], [], 0.05)[0]:
-                self.take(self.near.index(ready))
+            ready = select.select(self.near, [], [], 0.05)[0]
+            if ready:
+                self.take(self.near.index(ready[0]))
         return master.end()
 
     def take(self, sent):
+        """Hands on what comes from a port, and behind what comes from port A what port B sends with it. What
+        both give is given at once, so that no copy is late because the machine had something else to do."""
+        given = self.answers(sent)
+        if sent == A and select.select([self.near[B]], [], [], 0.1)[0]:
+            given += self.answers(B)
+        for port, packet in given:
+            self.near[port].sendto(packet, self.speakers[port])
+
+    def answers(self, sent):
+        """Hands on the next packet from a port, and answers what is to be given in return, each with its
+        port."""
         packet, self.speakers[sent] = self.near[sent].recvfrom(2000)
         if sent == A:
             self.cycle, self.trips = (self.cycle + 1, 0) if packet[2] == LRW else (self.cycle, self.trips + 1)
             self.places.append((self.cycle, self.trips))
             self.begins(self.places[-1])
         self.far[sent].send(packet)
-        for ready in select.select(self.far, [], [], self.limit)[0]:
-            leaves = self.far.index(ready)
-            for port, given in self.gives(self.places[-1], sent, leaves, ready.recv(2000)):
-                self.near[port].sendto(given, self.speakers[port])
+        ready = select.select(self.far, [], [], self.limit)[0]
+        left = [(self.far.index(one), one.recv(2000)) for one in ready]
+        return [one for leaves, packet in left for one in self.gives(self.places[-1], sent, leaves, packet)]
 
 
 @contextlib.contextmanager
@@ -2284,13 +2359,62 @@ def lost_copies_are_asked_for_again_at_the_start(stage):
         yield "start", STARTED, "".join(end.splitlines(True)[:7])
 
 
+@case
+def a_slave_is_brought_up_by_one_frame_behind_each_cycle(stage):
+    """A slave that falls to Init while a look at it is not due is asked one question behind each cycle: a
+    look along the line may be followed by one at the slave, and no cycle has more."""
+    def gives(place, sent, leaves, packet):
+        return [(leaves, packet)]
+
+    def begins(place):
+        if place == (3, 0):
+            command(line, "state 1 1")
+
+    words = ("--recover", "--leave", "op", *PATIENCE)
+    with master_behind(stage, 120, *words, gives=gives, begins=begins) as (line, between, master):
+        end = between.until_the_end_of(master)
+        yield "brought", "1", str(end.count("slave 1 (0x1002) was in Init, brought to Op"))
+        behind = collections.Counter(cycle for cycle, _ in between.places if cycle >= 0)
+        asked = [trips - 1 for cycle, trips in sorted(behind.items()) if cycle < 119]
+        yield "most", "True", str(max(asked) <= 2)
+        yield "two at once", "True", str(sum(count == 2 for count in asked) <= 3)
+        # Two for each of three states, four for each of eight sync managers, two for each of eight FMMUs.
+        yield "questions", "True", str(sum(asked) >= 54)
+
+
+@case
+def a_state_is_read_as_often_as_is_said(stage):
+    """From cycle 3 on a slave says for ever that it is in Init: Pre-Op is asked for in a cycle, AL status is
+    read behind each of the next three, and then the slave is told."""
+    asked, read = [], []
+
+    def gives(place, _sent, leaves, packet):
+        if place[0] >= 3 and packet[4:8] == bytes.fromhex("0210 2001") and packet[12] % 16 == 2:
+            asked.append(place[0])
+        if place[0] >= 3 and packet[4:8] == bytes.fromhex("0210 3001"):
+            read.append(place[0])
+            packet = packet[:12] + b"\1" + packet[13:]
+        return [(leaves, packet)]
+
+    def begins(place):
+        if place == (3, 0):
+            command(line, "state 1 1")
+
+    words = ("--recover", "--tries", "3", "--leave", "op", *PATIENCE)
+    with master_behind(stage, 100, *words, gives=gives, begins=begins) as (line, between, master):
+        rows = between.until_the_end_of(master).splitlines()
+        told_of = [row for row in rows if row.endswith("slave 1 (0x1002): Pre-Op: NoAnswer")]
+        yield "told", "cycle", " ".join(row.split()[0] for row in told_of)
+        behind = [cycle - first for first in asked[:1] for cycle in range(first, first + 5) if cycle in read]
+        yield "reads", "[1, 2, 3]", str(behind)
+
+
 def two_short_cycles(fifth, sixth):
     """What a master prints of ten cycles, of which the fifth and the sixth are told so."""
     return STARTED + (
         f"cycle 5: item 0: {fifth}\n"
-        "cycle 6: other than before, which lasted 1 cycles\n"
-        f"cycle 6: item 0: {sixth}\n"
-        "cycle 7: good again after 1 cycles\n"
+        f"cycle 6: item 0: {sixth}; not good since cycle 5\n"
+        "cycle 7: good again after 2 cycles\n"
     ) + LEFT + "cycles 10 good 8 short 2 over 0 fault 0 not-in-op 0\ncycle time N\n" + ITEMS + "0\n"
 
 
@@ -2309,7 +2433,7 @@ def a_look_that_found_something_new_is_made_again(stage):
 
     with master_behind(stage, 10, *PATIENCE, gives=gives, begins=begins) as (line, between, master):
         fifth = "came 0 of 9; link 1 down: between slave 0 (0x1001) and slave 1 (0x1002)"
-        wanted = two_short_cycles(fifth, "came 0 of 9; ring whole")
+        wanted = two_short_cycles(fifth, "came 0 of 9; ring whole, nothing came at port B")
         yield "master", wanted, timed(between.until_the_end_of(master))
 
 
@@ -2332,9 +2456,10 @@ def another_count_is_told_though_the_cable_is_the_same(stage):
 
 @case
 def late_packets_are_dropped_before_a_trip(stage):
-    """Of two cycles the copy at port A is lost, and what comes at port B is all that is wanted. With the second
-    one more packets come than a port passes over: none is in the way of the next cycle, of which both copies
-    are taken. So there the cable is looked at once more, and at no other cycle behind the first loss."""
+    """Of two cycles the copy at port A is lost, and what comes at port B is all that is wanted. With the
+    second one more packets come than a port passes over: none is in the way of the next cycle, of which both
+    copies are taken. So there the cable is looked at once more, and at no other cycle behind the first
+    loss."""
     for noisy in (A, B):
         noise = 200 * [(noisy, b"late")]
 
@@ -2378,18 +2503,20 @@ def as_it_came(_place, _sent, leaves, packet):
 
 @case
 def a_port_is_told_at_which_nothing_came_for_100_cycles(stage):
-    """In the cycle 2, and from the cycle 5 on, what is given at port B is no copy; from the cycle 110 on copies
-    come there again. In the cycle 50 none comes at either port, which tells nothing of one of them."""
-    def gives(place, _sent, leaves, packet):
-        is_silent = place[0] == 2 or 5 <= place[0] < 110
-        if place[1] == 0 and (leaves == B and is_silent or place[0] == 50):
+    """In the cycle 2, and from the cycle 5 on, the copy from port A comes back there, as where the last link
+    is down, and what is given at port B is no copy; from the cycle 110 on copies come there again. In the
+    cycle 50 none comes at either port, which tells nothing of one of them."""
+    def gives(place, sent, leaves, packet):
+        if place == (50, 0):
             return [(leaves, b"late")]
+        if place[1] == 0 and (place[0] == 2 or 5 <= place[0] < 110):
+            return [(A, packet)] if sent == A else [(B, b"late")]
         return [(leaves, packet)]
 
-    with master_behind(stage, 112, "--limit", "50000", gives=gives) as (_line, between, master):
+    with master_behind(stage, 112, *PATIENCE, gives=gives) as (_line, between, master):
         told_of = "cycle 105: nothing came at port B for 100 cycles\ncycle 110: copies come at port B again\n"
-        end = between.until_the_end_of(master)
-        yield "ports", told_of, "".join(row for row in end.splitlines(True) if "port" in row)
+        rows = between.until_the_end_of(master).splitlines(True)
+        yield "ports", told_of, "".join(row for row in rows if " at port B" in row)
 
 
 @case
@@ -2454,8 +2581,8 @@ SET_UP = (
 
 @case
 def a_device_begins_as_one_that_was_just_switched_on(stage):
-    """It is in Init, has its alias and no station, no sync manager and no FMMU; with --set-up, and where it is
-    no device, it is as its scene sets it up. What is loaded is there."""
+    """It is in Init, has its alias and no station, no sync manager and no FMMU; with --set-up, and where it
+    is no device, it is as its scene sets it up. What is loaded is there."""
     begins = {
         (): ("00003412", "0100", "0000000000000000", "0000000000000000"),
         ("--set-up",): ("01103412", "0400", "0018200006000100", "0000010001000007"),

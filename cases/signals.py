@@ -20,8 +20,8 @@ CASES = []
 
 INT, TERM, HUP = signal.SIGINT, signal.SIGTERM, signal.SIGHUP
 
-# What began these cases in the background may have them ignore signals, and a shell can take no notice of those
-# that it ignores from its beginning on.
+# What began these cases in the background may have them ignore signals, and a shell can take no notice of
+# those that it ignores from its beginning on.
 for ignored in (INT, TERM, HUP, signal.SIGQUIT):
     if signal.getsignal(ignored) == signal.SIG_IGN:
         signal.signal(ignored, signal.SIG_DFL)

@@ -203,8 +203,8 @@ impl Mail {
     }
 
     /// The bytes of this mail as it is sent: address, channel, priority and number are written as 0. They are
-    /// read again as that mail, whatever follows them, where its counter is not 0 and its transfer is one that
-    /// a mail can carry.
+    /// read again as that mail, whatever follows them, where its counter is not 0 and its transfer is one
+    /// that a mail can carry.
     pub fn write(&self) -> [u8; 16]
         requires counter { self.now.counter ≤ 7 }
         requires service { (self.now.service ≡ REQUEST) ⊎ (self.now.service ≡ RESPONSE) }

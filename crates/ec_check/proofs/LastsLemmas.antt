@@ -93,14 +93,13 @@ manager_same before after i same below =
     λ k inside beside. byte_same before after i k same below inside beside in
     let control = byte 4 (omega arith) (λ is. omega (arith, is)) in
     let activate = byte 6 (omega arith) (λ is. omega (arith, is)) in
-    let pdi = byte 7 (omega arith) (λ is. omega (arith, is)) in
     (λ j. record {
       start = from_le_bytes w16 (start j);
       length = from_le_bytes w16 (size j);
       control = control j;
       status = 0;
       activate = activate j;
-      pdi = pdi j;
+      pdi = 0;
     })
 
 -- memories with these registers the same have the same mapping

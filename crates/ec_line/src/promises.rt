@@ -212,10 +212,10 @@ pub fn own_copies()
 {}
 
 /// An application may change whatever leaves the mapping (the station address, the FMMUs, and the sync
-/// managers but for their status bytes): then the controller reads, writes, accepts, counts, takes and shows
-/// as before, and stays fit. It has moved as an application may where what it shows is also as it was, and
-/// each byte of process memory that no sync manager of inputs or of a mailbox guards: no bit that an accepted
-/// request writes is among the others.
+/// managers but for their status and PDI bytes): then the controller reads, writes, accepts, counts, takes
+/// and shows as before, and stays fit. It has moved as an application may where what it shows is also as it
+/// was, and each byte of process memory that no sync manager of inputs or of a mailbox guards: no bit that an
+/// accepted request writes is among the others.
 pub fn moves_by_mapping()
     ensures alike { (c later : ControllerState) → mapping_of later ≡ mapping_of c → IsController later
         → IsAlike c later }

@@ -1,11 +1,11 @@
 -- What the working counters of a cycle certify: the verdict by counts of passes, and what it promises of the
 -- slaves by their stations.
 use Rattle.std.specs.Prelude.{◌≡◌, ◌≤◌, ℕ, suc, ◌==◌, nat_lt, nat_le, ◌||◌, false, if◌then◌else◌, Option}
-use Rattle.std.specs.Prelude.{List, [], ◌∷◌, ◌++◌, map, sum_by, slice_index}
+use Rattle.std.specs.Prelude.{List, [], ◌∷◌, ◌++◌, map, slice_get, slice_index, sum_by}
 use Rattle.std.specs.Option.{option_map}
 use Rattle.ec_esc.specs.State.{ControllerState}
 use Rattle.ec_app.specs.State.{SlaveState, ApplicationState}
-use Rattle.ec_line.specs.After.{Entry}
+use Rattle.ec_line.specs.After.{Entry, after_frame}
 use Rattle.ec_line.specs.Trip.{Trip, returned}
 use Rattle.ec_map.specs.Item.{ItemRecord}
 use Rattle.ec_map.specs.Share.{share, expected_of}
@@ -66,6 +66,14 @@ shown_at slaves k n = option_map (λ (s : SlaveState). slice_index s.controller.
 unfoldable pub entries_at : List Trip → ℕ → List Entry
 entries_at [] k = []
 entries_at (t ∷ ts) k = (if nat_lt k t.front || nat_le t.back k then t.entries else []) ++ entries_at ts k
+
+-- the memory of the slave at a place
+abbrev pub memory_in : List SlaveState → ℕ → Option (List ℕ)
+memory_in slaves k = option_map (λ (s : SlaveState). s.controller.memory) (slice_get slaves k)
+
+-- the memory of the slave at a place behind the entries of those trips of which a copy reached it, each once
+abbrev pub reached_memory : List Trip → ℕ → SlaveState → List ℕ
+reached_memory ts k s = (after_frame (entries_at ts k) s.controller).memory
 
 -- ---- weathers
 

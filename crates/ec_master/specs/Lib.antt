@@ -17,3 +17,4 @@ pub mod Acceptance
 pub mod Report
 pub mod WeatherTrips
 pub mod Covered
+pub mod Good

@@ -1,6 +1,6 @@
 //! A line and a work are checked once, before the first cycle.
 
-ghost use Rattle.std.specs.Prelude.{◌≡◌, ◌≢◌, ℕ, Ok, OnOk, IfOk, IfErr, IsOk, map, take, length};
+ghost use Rattle.std.specs.Prelude.{◌≡◌, ◌≢◌, Ok, OnOk, IfOk, IfErr, IsOk, map, take, length};
 ghost use Rattle.std.specs.List.{AllByRecursion};
 ghost use Rattle.ec_check.specs.Fit.{IsFit};
 ghost use Rattle.ec_check.specs.Line.{controllers};
@@ -8,9 +8,10 @@ ghost use Rattle.ec_map.specs.Place.{IsPlaced};
 ghost use Rattle.ec_map.specs.Share.{expected_of};
 ghost use Rattle.ec_ring.specs.Ring.{line_of};
 ghost use Rattle.ec_master.specs.Acceptance.{IsRefusal};
-ghost use Rattle.ec_master.specs.Certificate.{verdict_by_counts, IsOneDown, memory_at};
+ghost use Rattle.ec_master.specs.Certificate.{verdict_by_counts, IsOneDown};
+ghost use Rattle.ec_master.specs.Good.{IsGoodCycle};
 ghost use Rattle.ec_master.specs.Travelled.{trips_under, weathers_under};
-ghost use Rattle.ec_master.specs.Unordered.{IsAccepted, by_station, AreAnswers, slaves_after_all};
+ghost use Rattle.ec_master.specs.Unordered.{IsAccepted};
 
 use crate::verdict::Verdict;
 use crate::weather::weather_cycle;
@@ -70,8 +71,8 @@ pub fn all_expected(line: &[Slave], work: &Work) -> [u16; MAX_ITEMS]
 
 /// Checks a ring's line and a work on it, and then makes one cycle in any weather (`weather_cycle`). Its
 /// promise has no premise but its own answer: on `Ok(Good)` the work has the answers, and each slave the
-/// memory, of the cycle over slaves that are known by their stations alone; else the work is as before. A
-/// refusal leaves the ring as it is, too.
+/// memory, of the cycle over slaves that are known by their stations alone, and all else that a good verdict
+/// says (`good`); else the work is as before. A refusal leaves the ring as it is, too.
 pub fn checked_cycle(
     ring: &mut Ring,
     weather: &[Weather],
@@ -81,10 +82,8 @@ pub fn checked_cycle(
         × (ring.new ≡ ring.old)) }
     ensures verdict { IfOk result (λ verdict. verdict
         ≡ verdict_by_counts (trips_under weather.now ring.old work.old) work.old (line_of ring.old)) }
-    ensures good_image { result ≡ Ok Verdict.Good
-        → AreAnswers (by_station ring.old.slaves) work.old work.new }
-    ensures good_memories { (n : ℕ) → result ≡ Ok Verdict.Good → memory_at (by_station ring.new.slaves) n
-        ≡ memory_at (slaves_after_all work.old (by_station ring.old.slaves)) n }
+    ensures good { result ≡ Ok Verdict.Good
+        → IsGoodCycle work.old work.new ring.old.slaves ring.new.slaves }
     ensures untouched_work { result ≢ Ok Verdict.Good → work.new ≡ work.old }
     ensures good_when_one_link_is_down { IsOk result → AllByRecursion (IsOneDown (length ring.old.slaves))
         (weathers_under weather.now ring.old work.old) → result ≡ Ok Verdict.Good }

@@ -4,12 +4,11 @@
 ghost use Rattle.std.specs.Prelude.{◌≡◌, ℕ, ◌≤◌, ◌<◌, ◌+◌, Some, List, [], length, map, slice_get};
 ghost use Rattle.std.specs.Prelude.{Result, Ok};
 ghost use Rattle.std.specs.List.{AllByRecursion};
-ghost use Rattle.std.specs.Option.{option_map};
 ghost use Rattle.ec_regs.specs.declared.registers.TheConstants.{PROCESS_MEMORY, PROCESS_MEMORY_SIZE};
 ghost use Rattle.ec_app.specs.State.{SlaveState};
 ghost use Rattle.ec_esc.specs.State.{ControllerState};
 ghost use Rattle.ec_esc.specs.declared.counting.TheConstants.{MOST_CONTROLLERS};
-ghost use Rattle.ec_line.specs.After.{Entry, after_frame};
+ghost use Rattle.ec_line.specs.After.{Entry};
 ghost use Rattle.ec_line.specs.Request.{OnWay};
 ghost use Rattle.ec_line.specs.Trip.{Trip, passed};
 ghost use Rattle.ec_ring.specs.Travel.{as_trip};
@@ -21,8 +20,8 @@ ghost use Rattle.ec_ring.specs.declared.links.TheConstants.{MAX_SLAVES};
 ghost use Rattle.ec_ring.specs.declared.weather.Weather.{Weather};
 ghost use Rattle.ec_map.specs.Share.{expected_of};
 ghost use Rattle.ec_master.specs.Again.{AskTheSame};
-ghost use Rattle.ec_master.specs.Certificate.{verdict_under, verdict_by_counts, entries_at, IsOneDown};
-ghost use Rattle.ec_master.specs.Certificate.{memory_at, application_at, shown_at};
+ghost use Rattle.ec_master.specs.Certificate.{verdict_under, verdict_by_counts, IsOneDown};
+ghost use Rattle.ec_master.specs.Certificate.{memory_at, memory_in, reached_memory, application_at, shown_at};
 ghost use Rattle.ec_master.specs.Cut.{frames_of};
 ghost use Rattle.ec_master.specs.Ports.{IsPortCycle};
 ghost use Rattle.ec_master.specs.Given.{AllThatCame, in_turn};
@@ -82,8 +81,7 @@ pub fn good_outputs()
 pub fn memory_on_every_verdict()
     ensures { (ws : List Weather) (r : RingState) (items : List ItemRecord) (k : ℕ) (s : SlaveState)
         → IsAccepted r.slaves items → AllByRecursion IsItem items → slice_get r.slaves k ≡ Some s
-        → option_map (λ (t : SlaveState). t.controller.memory) (slice_get (ring_under ws r items).slaves k)
-        ≡ Some (after_frame (entries_at (trips_under ws r items) k) s.controller).memory }
+        → memory_in (ring_under ws r items).slaves k ≡ Some (reached_memory (trips_under ws r items) k s) }
 {}
 
 /// The application of each slave is as before a cycle.

@@ -32,11 +32,12 @@ ghost use Rattle.ec_master.specs.declared.verdict.Verdict.TheVariants.{Good};
 ///   counted as if each slave were passed once;
 /// - `one_link_down`: where each frame travels with at most one link down, the same for both copies, and
 ///   nothing is lost, it is good;
-/// - `image`: on a good one there is for each frame and each slave one moment, the passage of a copy that
-///   came back, such that the answers of all items of the frame are those of the slaves as they were at their
-///   moments: no word that a slave gives in a frame is torn, and each mapped input that an item reads is as
-///   it was then. A slave that counts an item was passed by exactly one of the copies that came back. Between
-///   two slaves, and between two frames, the moments may differ;
+/// - `image`: on a good one there is for each frame and each slave one moment such that the answers of all
+///   items of the frame are those of the slaves as they were at their moments: no word that a slave gives in
+///   a frame is torn, and each mapped input that an item reads is as it was then. A slave that counts an item
+///   was passed by exactly one of the copies that came back, and its moment is that passage; of one that
+///   counts nothing the moment may be the place of a copy that was lost. Between two slaves, and between two
+///   frames, the moments may differ;
 /// - `outputs`: on a good one each bit that an accepted request writes is afterwards the one sent last;
 /// - `shown`: and so it is shown to the application, where in each frame the last entry that shows its byte
 ///   is the last that writes it;

@@ -1,27 +1,19 @@
 //! A master's cycle whatever befalls its frames.
 
-ghost use Rattle.std.specs.Prelude.{◌≡◌, ◌≢◌, ◌+◌, ◌<◌, ◌≤◌, ℕ, Some, List, length, map, slice_get};
+ghost use Rattle.std.specs.Prelude.{◌≡◌, ◌≢◌, ◌≤◌, ℕ, Some, List, length, map, slice_get};
 ghost use Rattle.std.specs.List.{AllByRecursion};
-ghost use Rattle.std.specs.Option.{option_map};
-ghost use Rattle.ec_regs.specs.declared.registers.TheConstants.{PROCESS_MEMORY, PROCESS_MEMORY_SIZE};
 ghost use Rattle.ec_app.specs.State.{SlaveState};
-ghost use Rattle.ec_line.specs.After.{after_frame};
-ghost use Rattle.ec_line.specs.Shown.{ShowsLast, NoAreaTwice};
-ghost use Rattle.ec_check.specs.Line.{controllers};
-ghost use Rattle.ec_map.specs.Covered.{IsCovered};
 ghost use Rattle.ec_map.specs.Item.{ItemRecord, IsItem};
-ghost use Rattle.ec_map.specs.NotShown.{AreShown};
 ghost use Rattle.ec_map.specs.Share.{expected_of};
 ghost use Rattle.ec_ring.specs.Ring.{line_of};
 ghost use Rattle.ec_ring.specs.declared.links.TheConstants.{MAX_SLAVES};
-ghost use Rattle.ec_master.specs.Certificate.{verdict_under, verdict_by_counts, entries_at, IsOneDown};
-ghost use Rattle.ec_master.specs.Certificate.{memory_at, application_at, shown_at};
-ghost use Rattle.ec_master.specs.Covered.{InputsStand, OutputsAreShown};
-ghost use Rattle.ec_master.specs.Cut.{frames_of};
+ghost use Rattle.ec_master.specs.Certificate.{verdict_under, verdict_by_counts, IsOneDown};
+ghost use Rattle.ec_master.specs.Certificate.{application_at, memory_in, reached_memory};
+ghost use Rattle.ec_master.specs.Good.{IsGoodCycle};
 ghost use Rattle.ec_master.specs.Again.{AskTheSame};
 ghost use Rattle.ec_master.specs.Ports.{taken_on};
 ghost use Rattle.ec_master.specs.Travelled.{trips_under, answers_under, ring_under, weathers_under};
-ghost use Rattle.ec_master.specs.Unordered.{by_station, slaves_after_all, AreAnswers, IsAccepted};
+ghost use Rattle.ec_master.specs.Unordered.{by_station, IsAccepted};
 
 use crate::ring::travel;
 use crate::verdict::{Verdict, conclude};
@@ -36,16 +28,14 @@ use ec_ring::{Travel, Weather};
 ///
 /// On a line and for items that the mapping checker accepts, whatever was lost or passed twice:
 /// - `verdict`: it is that by counts of passes;
-/// - `good_image`, `good_memories`: on `Good` the answers are those of the cycle over slaves that are known
-///   by their stations alone, and so is each memory;
-/// - `good_outputs`, `good_outputs_alone`: so is each shown byte, where in each frame the last item that
-///   shows it anew is the last that writes it, and where no two items of a frame write into one area of
-///   outputs;
-/// - `inputs_stand`: on `Good` the work has each input that a slave maps and an item reads, as it was before
-///   the cycle;
-/// - `outputs_are_shown`: on `Good` each slave's application is shown, for each output that it maps, the bit
-///   that the master sent last, where the items cover the line (`ec_map`, `first_uncovered` and
-///   `first_not_shown` find nothing) and none is an addressed write to the slave's station;
+/// - `good`: on `Good` the answers are those of the cycle over slaves that are known by their stations alone,
+///   and so is each memory (`image`, `memories`); so is each shown byte, where in each frame the last item
+///   that shows it anew is the last that writes it (`outputs`), and where no two items of a frame write into
+///   one area of outputs (`outputs_alone`); the work has each input that a slave maps and an item reads, as
+///   it was before the cycle (`inputs_stand`); and each slave's application is shown, for each output that it
+///   maps, the bit that the master sent last, where the items cover the line (`ec_map`, `first_uncovered` and
+///   `first_not_shown` find nothing) and none is an addressed write to the slave's station
+///   (`outputs_are_shown`);
 /// - `untouched_work`: on another verdict the work is unchanged;
 /// - `memory_on_every_verdict`: a slave's memory is that after the items of those frames of which a copy
 ///   reached it, each once;
@@ -68,33 +58,12 @@ pub fn weather_cycle<T: Travel>(
     ensures verdict { IsAccepted (T.ring ring.old).slaves work.old → result
         ≡ verdict_by_counts (trips_under weather.now (T.ring ring.old) work.old) work.old
         (line_of (T.ring ring.old)) }
-    ensures good_image { IsAccepted (T.ring ring.old).slaves work.old → result ≡ Verdict.Good
-        → AreAnswers (by_station (T.ring ring.old).slaves) work.old work.new }
-    ensures good_memories { (n : ℕ) → IsAccepted (T.ring ring.old).slaves work.old → result ≡ Verdict.Good
-        → memory_at (by_station (T.ring ring.new).slaves) n
-        ≡ memory_at (slaves_after_all work.old (by_station (T.ring ring.old).slaves)) n }
-    ensures good_outputs { (n k : ℕ) (s : SlaveState) → IsAccepted (T.ring ring.old).slaves work.old
-        → result ≡ Verdict.Good → k < PROCESS_MEMORY_SIZE → by_station (T.ring ring.old).slaves n ≡ Some s
-        → AllByRecursion (ShowsLast s.controller (PROCESS_MEMORY + k)) (frames_of work.old)
-        → shown_at (by_station (T.ring ring.new).slaves) k n
-        ≡ shown_at (slaves_after_all work.old (by_station (T.ring ring.old).slaves)) k n }
-    ensures good_outputs_alone { (n k : ℕ) (s : SlaveState) → IsAccepted (T.ring ring.old).slaves work.old
-        → result ≡ Verdict.Good → k < PROCESS_MEMORY_SIZE → by_station (T.ring ring.old).slaves n ≡ Some s
-        → AllByRecursion (NoAreaTwice s.controller) (frames_of work.old)
-        → shown_at (by_station (T.ring ring.new).slaves) k n
-        ≡ shown_at (slaves_after_all work.old (by_station (T.ring ring.old).slaves)) k n }
+    ensures good { IsAccepted (T.ring ring.old).slaves work.old → result ≡ Verdict.Good
+        → IsGoodCycle work.old work.new (T.ring ring.old).slaves (T.ring ring.new).slaves }
     ensures untouched_work { result ≢ Verdict.Good → work.new ≡ work.old }
     ensures memory_on_every_verdict { (k : ℕ) (s : SlaveState) → IsAccepted (T.ring ring.old).slaves work.old
-        → slice_get (T.ring ring.old).slaves k ≡ Some s
-        → option_map (λ (t : SlaveState). t.controller.memory) (slice_get (T.ring ring.new).slaves k)
-        ≡ Some (after_frame (entries_at (trips_under weather.now (T.ring ring.old) work.old) k)
-        s.controller).memory }
-    ensures inputs_stand { IsAccepted (T.ring ring.old).slaves work.old → result ≡ Verdict.Good
-        → InputsStand (T.ring ring.old).slaves work.old work.new }
-    ensures outputs_are_shown { IsAccepted (T.ring ring.old).slaves work.old
-        → IsCovered (controllers (T.ring ring.old).slaves) work.old
-        → AreShown (controllers (T.ring ring.old).slaves) work.old → result ≡ Verdict.Good
-        → OutputsAreShown (T.ring ring.old).slaves work.old (T.ring ring.new).slaves }
+        → slice_get (T.ring ring.old).slaves k ≡ Some s → memory_in (T.ring ring.new).slaves k
+        ≡ Some (reached_memory (trips_under weather.now (T.ring ring.old) work.old) k s) }
     ensures applications { (n : ℕ) → IsAccepted (T.ring ring.old).slaves work.old
         → application_at (by_station (T.ring ring.new).slaves) n
         ≡ application_at (by_station (T.ring ring.old).slaves) n }

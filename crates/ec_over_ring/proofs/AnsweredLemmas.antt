@@ -9,7 +9,7 @@ use Rattle.ec_services.specs.Course.{IsStep, Runs}
 use Rattle.ec_services.specs.Mailbox.{IsPeer}
 use Rattle.ec_services.specs.Progress.{Known}
 use Rattle.ec_services.specs.Surely.{IsSure, asking, begun, next_sent}
-use Rattle.ec_services.specs.Transfer.{downloaded_by, understood, uploaded_by}
+use Rattle.ec_services.specs.Transfer.{downloaded_by, understood, uploaded_by, uploading, downloading}
 use Rattle.ec_services.specs.declared.fault.MasterFault.{MasterFault}
 use Rattle.ec_services.specs.declared.mailbox.Peer.{Peer}
 use Rattle.ec_over_ring.specs.Recovery.{CalmTrips, History, IsOfPeer, IsStored, OneIs, SlaveTrips, TakesMail}
@@ -76,7 +76,7 @@ upload_known i j last h (Ok mail) fits is = upload_ok i j last h mail fits is.en
 pub upload_answered : (peer peer_later : Peer) (i j limit : ℕ) (s : SlaveState)
     (result : Result Value MasterFault) (later : History) → IsPeer peer → IsOfPeer peer s
     → IsRequest (Upload i j) → TakesMail s → 10 ≤ limit
-    → IsSure CalmTrips (begun_at s) peer (Upload i j) limit uploaded_by result peer_later later
+    → IsSure CalmTrips (begun_at s) peer (uploading i j) limit result peer_later later
     → result ≡ upload_of i j later.now.application.objects
 upload_answered peer peer_later i j limit s result later peer_is is fits takes some sure =
     subst (λ (r : Result Value MasterFault). r ≡ upload_of i j later.now.application.objects)
@@ -93,7 +93,7 @@ download_known i j v last h (Ok mail) fits is = download_ok i j v last h mail fi
 pub download_answered : (peer peer_later : Peer) (i j : ℕ) (v : Value) (limit : ℕ) (s : SlaveState)
     (result : Result (Unit {0}) MasterFault) (later : History) → IsPeer peer → IsOfPeer peer s
     → IsRequest (Download i j v) → TakesMail s → 10 ≤ limit
-    → IsSure CalmTrips (begun_at s) peer (Download i j v) limit downloaded_by result peer_later later
+    → IsSure CalmTrips (begun_at s) peer (downloading i j v) limit result peer_later later
     → OneIs (IsStored i j v result later.now) (times_of later)
 download_answered peer peer_later i j v limit s result later peer_is is fits takes some sure =
     subst (λ (r : Result (Unit {0}) MasterFault). OneIs (IsStored i j v r later.now) (times_of later))

@@ -18,7 +18,7 @@ use Rattle.ec_services.specs.Course.{IsStep, Runs}
 use Rattle.ec_services.specs.Mailbox.{IsPeer}
 use Rattle.ec_services.specs.Progress.{Known}
 use Rattle.ec_services.specs.Surely.{IsSure, asking, begun, next_sent}
-use Rattle.ec_services.specs.Transfer.{downloaded_by, uploaded_by}
+use Rattle.ec_services.specs.Transfer.{downloaded_by, uploaded_by, uploading, downloading, service_of}
 use Rattle.ec_services.specs.declared.fault.MasterFault.{MasterFault}
 use Rattle.ec_services.specs.declared.mailbox.Peer.{Peer}
 use Rattle.ec_over_ring.specs.Recovery.{ComesSo, HasSlave, IsInWeather, RingHistory, WeatherSteps, begun_ring}
@@ -113,13 +113,13 @@ runs_of trips ring are (suc n) asked p last past x later result (Ok None, learne
 pub record IsOverRing {P A : Type 0} (ring : P → RingState) (peer peer_later : Peer) (asked : Sdo) (limit : ℕ)
     (comes_to : Mail → Result A MasterFault) (x later : P) (result : Result A MasterFault) : Type 0 where
   pub gone : List RingState
-  pub sure : IsSure WeatherSteps (begun_ring (ring x)) peer asked limit comes_to result peer_later
-      (record { now = ring later; past = gone })
+  pub sure : IsSure WeatherSteps (begun_ring (ring x)) peer (service_of asked comes_to) limit result
+      peer_later (record { now = ring later; past = gone })
 
 pub over_any_ports : {P A : Type 0} (trips : Trips P) (ring : P → RingState) → AreRing trips ring
     → (peer peer_later : Peer) (asked : Sdo) (limit : ℕ) (comes_to : Mail → Result A MasterFault)
     (x later : P) (result : Result A MasterFault)
-    → IsSure trips x peer asked limit comes_to result peer_later later
+    → IsSure trips x peer (service_of asked comes_to) limit result peer_later later
     → IsOverRing ring peer peer_later asked limit comes_to x later result
 over_any_ports trips ring are peer peer_later asked limit comes_to x later result sure =
     let runs : RunsOver ring limit asked (begun peer) sure.last [] x later sure.answer =
@@ -152,7 +152,7 @@ ring_is x y frame came made = record {
 pub ports_uploaded : (peer peer_later : Peer) (i j limit : ℕ) (r : RingState)
     (before behind : List SlaveState) (s : SlaveState) (value : Value) (later : RingState)
     → IsPeer peer → HasSlave peer r before s behind → IsRequest (Upload i j)
-    → IsSure RingTrips r peer (Upload i j) limit uploaded_by (Ok value) peer_later later
+    → IsSure RingTrips r peer (uploading i j) limit (Ok value) peer_later later
     → value_at i j (slave_at (length before) s later).application.objects ≡ Some value
 ports_uploaded peer peer_later i j limit r before behind s value later peer_is has fits sure =
     let over = over_any_ports RingTrips (λ (x : RingState). x) ring_is peer peer_later (Upload i j) limit
@@ -163,7 +163,7 @@ ports_uploaded peer peer_later i j limit r before behind s value later peer_is h
 pub ports_downloaded : (peer peer_later : Peer) (i j : ℕ) (value : Value) (limit : ℕ) (r : RingState)
     (before behind : List SlaveState) (s : SlaveState) (later : RingState)
     → IsPeer peer → HasSlave peer r before s behind → IsRequest (Download i j value)
-    → IsSure RingTrips r peer (Download i j value) limit downloaded_by (Ok tt) peer_later later
+    → IsSure RingTrips r peer (downloading i j value) limit (Ok tt) peer_later later
     → value_at i j (slave_at (length before) s later).application.objects ≡ Some value
 ports_downloaded peer peer_later i j value limit r before behind s later peer_is has fits sure =
     let over = over_any_ports RingTrips (λ (x : RingState). x) ring_is peer peer_later (Download i j value)

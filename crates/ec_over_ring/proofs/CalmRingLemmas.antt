@@ -26,7 +26,8 @@ use Rattle.ec_services.specs.Course.{IsStep, Runs}
 use Rattle.ec_services.specs.Mailbox.{IsPeer}
 use Rattle.ec_services.specs.Progress.{Known}
 use Rattle.ec_services.specs.Surely.{IsSure, asking, begun, next_known, next_sent}
-use Rattle.ec_services.specs.Transfer.{downloaded_by, understood, uploaded_by}
+use Rattle.ec_services.specs.Transfer.{downloaded_by, downloading, service_of, understood, uploaded_by}
+use Rattle.ec_services.specs.Transfer.{uploading}
 use Rattle.ec_services.specs.declared.fault.MasterFault.{MasterFault}
 use Rattle.ec_services.specs.declared.mailbox.Peer.{Peer}
 use Rattle.ec_over_ring.specs.Question.{IsByStation}
@@ -276,7 +277,7 @@ record IsCalmCall {A : Type 0} (peer peer_later : Peer) (asked : Sdo) (limit pla
     (comes_to : Mail → Result A MasterFault) (result : Result A MasterFault) (later : RingState)
     : Type 0 where
   gone : List RingState
-  sure : IsSure CalmTrips (begun_at s) peer asked limit comes_to result peer_later
+  sure : IsSure CalmTrips (begun_at s) peer (service_of asked comes_to) limit result peer_later
       (history_at place s (since gone later))
   end : IsOnCall asked place s sure.last gone later
   station : sure.last.peer.station ≡ peer.station
@@ -285,7 +286,7 @@ calm_call : {A : Type 0} (peer peer_later : Peer) (asked : Sdo) (limit : ℕ)
     (comes_to : Mail → Result A MasterFault) (r : RingState) (before behind : List SlaveState)
     (s : SlaveState) (result : Result A MasterFault) (later : RingState) → IsPeer peer
     → HasSlave peer r before s behind → AtMostOneDown r → IsRequest asked
-    → IsSure RingTrips r peer asked limit comes_to result peer_later later
+    → IsSure RingTrips r peer (service_of asked comes_to) limit result peer_later later
     → IsCalmCall peer peer_later asked limit (length before) s comes_to result later
 calm_call peer peer_later asked limit comes_to r before behind s result later peer_is has down fits sure =
     let place : ℕ = length before in
@@ -311,7 +312,7 @@ pub ring_answers_upload : (peer peer_later : Peer) (i j limit : ℕ) (r : RingSt
     (before behind : List SlaveState) (s : SlaveState) (result : Result Value MasterFault) (later : RingState)
     → IsPeer peer → HasSlave peer r before s behind → AtMostOneDown r → TakesMail s
     → IsRequest (Upload i j) → 10 ≤ limit
-    → IsSure RingTrips r peer (Upload i j) limit uploaded_by result peer_later later
+    → IsSure RingTrips r peer (uploading i j) limit result peer_later later
     → result ≡ upload_of i j (slave_at (length before) s later).application.objects
 ring_answers_upload peer peer_later i j limit r before behind s result later peer_is has down takes fits some
     sure =
@@ -343,7 +344,7 @@ pub ring_answers_download : (peer peer_later : Peer) (i j : ℕ) (v : Value) (li
     (later : RingState)
     → IsPeer peer → HasSlave peer r before s behind → AtMostOneDown r → TakesMail s
     → IsRequest (Download i j v) → 10 ≤ limit
-    → IsSure RingTrips r peer (Download i j v) limit downloaded_by result peer_later later
+    → IsSure RingTrips r peer (downloading i j v) limit result peer_later later
     → HoldsStored i j v result s (slave_at (length before) s later)
 ring_answers_download peer peer_later i j v limit r before behind s result later peer_is has down takes fits
     some sure =
@@ -382,7 +383,7 @@ pub slave_behind : (peer peer_later : Peer) (i j : ℕ) (v : Value) (limit : ℕ
     (later : RingState)
     → IsPeer peer → HasSlave peer r before s behind → AtMostOneDown r → TakesMail s
     → IsRequest (Download i j v) → 10 ≤ limit → result ≡ Ok tt
-    → IsSure RingTrips r peer (Download i j v) limit downloaded_by result peer_later later
+    → IsSure RingTrips r peer (downloading i j v) limit result peer_later later
     → HasSuch (IsBehind i j v s) peer.station later.slaves
 slave_behind peer peer_later i j v limit r before behind s result later peer_is has down takes fits some ok
     sure =

@@ -94,10 +94,10 @@ counted_some n some limit =
 
 -- ---- all links are up
 
-sent_broadcast : IsBroadcast 0 status_broadcast
+pub sent_broadcast : IsBroadcast 0 status_broadcast
 sent_broadcast = record { command = refl; index = refl; place = refl; size = refl; counter = refl }
 
-own_broadcast : (n : ℕ) (e : DatagramRecord) → IsBroadcast n e → IsOwn (status_broadcast ∷ []) (e ∷ [])
+pub own_broadcast : (n : ℕ) (e : DatagramRecord) → IsBroadcast n e → IsOwn (status_broadcast ∷ []) (e ∷ [])
 own_broadcast n e is =
     own_alone status_broadcast e is.command is.index is.size is.place
 
@@ -137,14 +137,14 @@ whole_counts links line up controllers limit =
 -- ---- a link is down
 
 -- both copies behind their pieces of a line
-record AreCounted (i j : ℕ) (line : List ControllerState) (p : Passed) : Type 0 where
-  a : DatagramRecord
-  b : DatagramRecord
-  first : p.a ≡ a ∷ []
-  second : p.b ≡ b ∷ []
-  left : p.line ≡ line
-  a_is : IsBroadcast i a
-  b_is : IsBroadcast j b
+pub record AreCounted (i j : ℕ) (line : List ControllerState) (p : Passed) : Type 0 where
+  pub a : DatagramRecord
+  pub b : DatagramRecord
+  pub first : p.a ≡ a ∷ []
+  pub second : p.b ≡ b ∷ []
+  pub left : p.line ≡ line
+  pub a_is : IsBroadcast i a
+  pub b_is : IsBroadcast j b
 
 first_counted : (p : ℕ) (line : List ControllerState) (d : DatagramRecord)
     → (far : IsCountedLine 0 (take p line) d)
@@ -168,7 +168,7 @@ second_counted q b line far =
     ∙ ap (λ (xs : List ControllerState). record { frame = far.told ∷ []; line = xs })
     (take-append-drop q line)
 
-are_counted : (p q : ℕ) (b : Bool) (line : List ControllerState) → AllByRecursion IsController line
+pub are_counted : (p q : ℕ) (b : Bool) (line : List ControllerState) → AllByRecursion IsController line
     → length line ≤ MAX_SLAVES
     → AreCounted (length (take p line)) (length (drop q line)) line
     (pieces_pass p q b line status_broadcast)
@@ -239,8 +239,8 @@ broken_tells lost_a lost_b i j a b answer a_is b_is a_some b_some brings =
     counted x (nth (joined_frame (d ∷ []) (came_or came.a (d ∷ [])) (came_or came.b (d ∷ []))) 0).counter)
     (seen_broken lost_a lost_b i j a b a_is b_is a_some b_some)
 
-abbrev came_of : Bool → Bool → List DatagramRecord → List DatagramRecord → Came
-came_of lost_a lost_b a b = record { a = cond lost_a None (Some a); b = cond lost_b None (Some b) }
+abbrev brought : Bool → Bool → List DatagramRecord → List DatagramRecord → Came
+brought lost_a lost_b a b = record { a = cond lost_a None (Some a); b = cond lost_b None (Some b) }
 
 broken_way : (lost_a lost_b : Bool) (i j : ℕ) (line : List ControllerState) (p : Passed)
     → AreCounted i j line p → (lost_a ≡ false → 1 ≤ i) → (lost_b ≡ false → 1 ≤ j)
@@ -250,9 +250,9 @@ broken_way lost_a lost_b i j line p are a_some b_some = record {
   tells = λ answer brings.
       broken_tells lost_a lost_b i j are.a are.b answer are.a_is are.b_is a_some b_some
       (subst (λ (x : List DatagramRecord).
-      Brings status_broadcast (Ok (came_of lost_a lost_b (are.a ∷ []) x)) answer) are.second
+      Brings status_broadcast (Ok (brought lost_a lost_b (are.a ∷ []) x)) answer) are.second
       (subst (λ (x : List DatagramRecord).
-      Brings status_broadcast (Ok (came_of lost_a lost_b x p.b)) answer) are.first brings));
+      Brings status_broadcast (Ok (brought lost_a lost_b x p.b)) answer) are.first brings));
 }
 
 pub broken_counts : (links : Links) (line : List ControllerState) → SomeDown links (length line)

@@ -3,7 +3,7 @@ use Rattle.std.proofs.Common.{◌≡◌, ◌∙◌, ap, refl, sym, subst, List, 
 use Rattle.std.specs.Option.{option_map}
 use Rattle.ec_wire.specs.Datagram.{DatagramRecord}
 use Rattle.ec_esc.specs.State.{ControllerState}
-use Rattle.ec_ring.specs.Arrivals.{arrivals_of, copies_of}
+use Rattle.ec_ring.specs.Arrivals.{arrivals_of, copies_came, copies_of}
 use Rattle.ec_ring.specs.Ring.{RingState, line_of}
 use Rattle.ec_ring.specs.Travel.{travelled}
 use Rattle.ec_ring.specs.Walk.{Walked, walked_from_a, walked_from_b}
@@ -16,7 +16,7 @@ use Rattle.ec_ring.specs.declared.port.PortFault.{PortFault}
 use Rattle.ec_ring.specs.declared.weather.Came.{Came}
 use Rattle.ec_master.specs.RingTrips.{RingTrips}
 use Rattle.ec_run.specs.Alike.{AreTripsOf}
-use Rattle.ec_run.specs.Watched.{WatchedState, WatchedTrips, came_of}
+use Rattle.ec_run.specs.Watched.{WatchedState, WatchedTrips}
 use Rattle.ec_over_ring.specs.Heard.{HeardRing}
 
 -- ---- the copies
@@ -43,9 +43,9 @@ calm_copies links sent line =
 
 pub heard_is_ring : (before : RingState) (sent : List DatagramRecord) (arrivals : Result Arrivals PortFault)
     (later : RingState) → HeardRing before sent arrivals later
-    → RingTrips before sent (came_of arrivals) later
+    → RingTrips before sent (copies_came arrivals) later
 heard_is_ring before sent arrivals later (is, stepped) = (
-  ap came_of is
+  ap copies_came is
       ∙ ap (λ (came : Came). Ok came) (calm_copies before.links sent (line_of before)),
   stepped,
 )

@@ -168,7 +168,7 @@ line_counted station count (c ∷ cs) d is small =
 -- ---- both copies
 
 -- behind the first ones of a line the others stand as they stood
-behind_first : (m : ℕ) (line : List ControllerState) (frame : List DatagramRecord)
+pub behind_first : (m : ℕ) (line : List ControllerState) (frame : List DatagramRecord)
     → drop m (front_pass m line frame).line ≡ drop m line
 unfolding line_pass
 behind_first zero line frame = refl
@@ -176,12 +176,12 @@ behind_first (suc m) [] frame = refl
 behind_first (suc m) (c ∷ cs) frame = behind_first m cs (frame_pass c frame).frame
 
 -- a copy that came back, or the frame that was sent, counted so often
-record IsTold (count : ℕ) (frame : List DatagramRecord) : Type 0 where
-  told : DatagramRecord
-  is : frame ≡ told ∷ []
-  counter : told.counter ≡ count
+pub record IsTold (count : ℕ) (frame : List DatagramRecord) : Type 0 where
+  pub told : DatagramRecord
+  pub is : frame ≡ told ∷ []
+  pub counter : told.counter ≡ count
 
-told_or_lost : (lost : Bool) (count : ℕ) (d e : DatagramRecord) (frame : List DatagramRecord)
+pub told_or_lost : (lost : Bool) (count : ℕ) (d e : DatagramRecord) (frame : List DatagramRecord)
     → (lost ≡ true → count ≡ 0) → d.counter ≡ 0 → frame ≡ e ∷ [] → e.counter ≡ count
     → IsTold count (came_or (cond lost None (Some frame)) (d ∷ []))
 told_or_lost true count d e frame none sent is counter =
@@ -193,7 +193,7 @@ abbrev pub SaysCount : Answer → ℕ → Type 0
 SaysCount (Err fault) n = fault ≡ Stranger
 SaysCount (Ok back) n = (nth back.joined 0).counter ≡ n
 
-answer_counts : (d : DatagramRecord) (came : Came) (answer : Answer) (i j : ℕ) → d.counter ≡ 0
+pub answer_counts : (d : DatagramRecord) (came : Came) (answer : Answer) (i j : ℕ) → d.counter ≡ 0
     → IsTold i (came_or came.a (d ∷ [])) → IsTold j (came_or came.b (d ∷ [])) → i + j < 65536
     → Brings d (Ok came) answer → SaysCount answer (i + j)
 answer_counts d came (Err fault) i j sent a b small brings = brings.0
@@ -255,7 +255,7 @@ way_counted lost_a lost_b m b station d line answer is limit none_a none_b bring
 
 -- ---- over a ring
 
-lost_one : (o : Option Port) → is_none o ≡ true → o ≡ None
+pub lost_one : (o : Option Port) → is_none o ≡ true → o ≡ None
 lost_one None is = refl
 lost_one (Some p) is = absurd (true≢false (sym is))
 

@@ -53,10 +53,11 @@ use Rattle.ec_over_ring.proofs.SentLemmas.{sent_asks, sent_items}
 -- ---- one broadcast read of AL status
 
 -- what is asked of each slave, whatever the ADP
-abbrev read_request : ℕ → Request
+abbrev pub read_request : ℕ → Request
 read_request adp = record { kind = Brd; address = adp + 65536 * 304; count = 1 }
 
-asked_states : (last : ItemRecord) → AsksTheSame states_item last → request_of last ≡ read_request last.adp
+pub asked_states : (last : ItemRecord) → AsksTheSame states_item last
+    → request_of last ≡ read_request last.adp
 asked_states last asks =
     ap (λ (k : Kind). record {
       kind = k;
@@ -128,7 +129,7 @@ says_so b b0 b1 b2 b4 names =
     rw (code, error) refl
 
 -- AL status whose bits but the one of Op are 0
-status_says : (c : ControllerState) → ((i : ℕ) → i < 8 → bit_at 8 i ≡ 0 → bit c.memory (2432 + i) ≡ 0)
+pub status_says : (c : ControllerState) → ((i : ℕ) → i < 8 → bit_at 8 i ≡ 0 → bit c.memory (2432 + i) ≡ 0)
     → NamesState c.memory → al_status c ≡ record { state = Op; error = false }
 status_says c zeros names =
     let zero_at : (i : ℕ) → i < 8 → bit_at 8 i ≡ 0 → bit_at (get_or c.memory 304 0) i ≡ 0 =
@@ -173,14 +174,14 @@ status_left r rs s passes =
 -- ---- item after item
 
 -- of more than one answer the last one is that of the others
-tells_behind : (g h : ItemRecord) (gots : List ItemRecord)
+pub tells_behind : (g h : ItemRecord) (gots : List ItemRecord)
     → tells_all_in_op (g ∷ h ∷ gots) ≡ tells_all_in_op (h ∷ gots)
 tells_behind g h gots =
     let one_less : length (g ∷ h ∷ gots) - 1 ≡ suc (length (h ∷ gots) - 1) = omega arith in
     ap (λ (n : ℕ). says_op_if (slice_get (g ∷ h ∷ gots) n)) one_less
 
 -- there is an item that reads the states
-some_item : (items : List ItemRecord) → AskTheSame (items ++ states_item ∷ []) [] → ⊥
+pub some_item : (items : List ItemRecord) → AskTheSame (items ++ states_item ∷ []) [] → ⊥
 some_item [] asks = asks
 some_item (r ∷ rs) asks = asks
 
@@ -272,7 +273,7 @@ found P (t ∷ ts) n s all is =
     (cases_Bool (eqb (station t) n))
 
 -- so the slave of a station accepts all items that are accepted
-accepting : (slaves : List SlaveState) (sent : List ItemRecord) (n : ℕ) (s : SlaveState)
+pub accepting : (slaves : List SlaveState) (sent : List ItemRecord) (n : ℕ) (s : SlaveState)
     → IsAccepted slaves sent → AllByRecursion IsItem sent → by_station slaves n ≡ Some s → Passes sent s
 accepting slaves sent n s accepted each is = record {
   controller = found IsController slaves n s accepted.are is;
@@ -327,6 +328,23 @@ in_op_behind ws r items sent n t answers memories told is names =
 
 -- ---- a cycle of a running master
 
+-- what it sent asks for the states last, and what it brought tells
+pub record IsToldSo (items sent brought : List ItemRecord) : Type 0 where
+  pub asks : AskTheSame (items ++ states_item ∷ []) sent
+  pub tells : tells_all_in_op brought ≡ true
+
+pub told_so : (outputs : Outputs) (cycles after : Cycles) (items image brought : List ItemRecord)
+    → cycles.asked ≡ items ++ states_item ∷ [] → after.image ≡ Some image → after.image ≡ Some brought
+    → tells_all_in_op image ≡ true → IsToldSo items (items_sent outputs cycles) brought
+told_so outputs cycles after items image brought asks is_image is_brought tells =
+    let images : Some image ≡ Some brought = sym is_image ∙ is_brought in
+    let same : image ≡ brought = cc in
+    record {
+      asks = subst (λ (xs : List ItemRecord). AskTheSame xs (items_sent outputs cycles)) asks
+          (sent_asks outputs cycles);
+      tells = subst (λ (xs : List ItemRecord). tells_all_in_op xs ≡ true) same tells;
+    }
+
 -- what it sends is answered so, and each slave of the ring is in Op
 pub in_op_by_cycles : (before later : InWeather) (outputs : Outputs) (expected : List ℕ)
     (cycles after : Cycles) (n : ℕ) (s : SlaveState)
@@ -339,16 +357,12 @@ in_op_by_cycles before later outputs expected cycles after n s told says accepte
     let sent : List ItemRecord = items_sent outputs cycles in
     let brought : List ItemRecord = told.cycle.brought in
     let each : AllByRecursion IsItem sent = sent_items outputs cycles told.each in
-    let image : Some told.image ≡ Some brought =
-    sym told.image_is ∙ ap (λ (x : Cycles). x.image) told.cycle.after_is in
-    let same : told.image ≡ brought = cc in
-    let tells : tells_all_in_op brought ≡ true = subst (λ (xs : List ItemRecord). tells_all_in_op xs ≡ true)
-    same told.tells in
-    let asks : AskTheSame (told.items ++ states_item ∷ []) sent =
-    subst (λ (xs : List ItemRecord). AskTheSame xs sent) told.asks (sent_asks outputs cycles) in
+    let so : IsToldSo told.items sent brought =
+    told_so outputs cycles after told.items told.image brought told.asks told.image_is
+    (ap (λ (x : Cycles). x.image) told.cycle.after_is) told.tells in
     status_says s.controller
-    (all_silent told.items sent brought (by_station before.ring.slaves) n s asks each
-    (says.good refl) tells is (accepting before.ring.slaves sent n s accepted each is))
+    (all_silent told.items sent brought (by_station before.ring.slaves) n s so.asks each
+    (says.good refl) so.tells is (accepting before.ring.slaves sent n s accepted each is))
     names
 
 -- ---- over whatever ports

@@ -1,5 +1,5 @@
--- The laws that crates above cite: on one question over a ring, on a state request, on transfers, and on
--- calls that recover, which stand in the files that are named below.
+-- The laws that crates above cite: on one question over a ring, on a state request, on transfers, on calls
+-- that recover, and on the parts of a start, which stand in the files that are named below.
 use Rattle.std.proofs.Common.{◌≡◌, ◌≤◌, ℕ, true, false, List, Result, Ok, None, Some, ap, ◌∙◌}
 use Rattle.std.specs.List.{AllByRecursion}
 use Rattle.ec_regs.specs.declared.al.AlState.{AlState}
@@ -24,7 +24,7 @@ use Rattle.ec_services.specs.Ask.{Answer, Asks}
 use Rattle.ec_services.specs.Mailbox.{skipped}
 use Rattle.ec_services.specs.Settling.{IsSettled}
 use Rattle.ec_services.specs.States.{IsRequested}
-use Rattle.ec_services.specs.Transfer.{IsTransferred, uploaded_by, downloaded_by}
+use Rattle.ec_services.specs.Transfer.{IsTransferred, uploading, downloading}
 use Rattle.ec_services.specs.declared.fault.MasterFault.{MasterFault}
 use Rattle.ec_services.specs.declared.mailbox.Peer.{Peer}
 use Rattle.ec_over_ring.specs.Question.{IsByStation, IsOther, ReachesOne, Tells, ring_after}
@@ -47,7 +47,18 @@ pub use Rattle.ec_over_ring.proofs.StartedLemmas.{all_started}
 pub use Rattle.ec_over_ring.proofs.ReadOffLemmas.{read_off_fits, read_off_wanted}
 pub use Rattle.ec_over_ring.proofs.SucceedLemmas.{all_succeed}
 pub use Rattle.ec_over_ring.proofs.MailedLemmas.{download_leaves, upload_leaves}
-pub use Rattle.ec_over_ring.proofs.TakingLemmas.{none_taken, off_free}
+pub use Rattle.ec_over_ring.proofs.PhaseLemmas.{fits_still}
+unfoldable pub use Rattle.ec_over_ring.proofs.FoundLemmas.{AreAlike, AreAsFound, IsMild}
+pub use Rattle.ec_over_ring.proofs.FoundLemmas.{IsStillThere, found_alike, there_then, within_there}
+pub use Rattle.ec_over_ring.proofs.AddressedLemmas.{AreAddressed, Goes, IsOnItsWay, all_addressed}
+pub use Rattle.ec_over_ring.proofs.AddressedLemmas.{before_addressed, behind_addressed, way_then, way_trip}
+pub use Rattle.ec_over_ring.proofs.CountedLemmas.{IsCountedSo, ring_counted}
+unfoldable pub use Rattle.ec_over_ring.proofs.StagesLemmas.{Paired}
+pub use Rattle.ec_over_ring.proofs.StagesLemmas.{AtFirst, InInit, InPreOp, InSafeOp, MayTake}
+pub use Rattle.ec_over_ring.proofs.StagesLemmas.{first_stage, init_done, init_willing, objects_done, op_done}
+pub use Rattle.ec_over_ring.proofs.StagesLemmas.{pre_op_done, pre_op_willing, safe_op_done, willing_first}
+pub use Rattle.ec_over_ring.proofs.BoxesLemmas.{AreRead, boxes_last, boxes_read, boxes_set, peer_high}
+pub use Rattle.ec_over_ring.proofs.TakingLemmas.{AreWilling, none_taken, off_free}
 pub use Rattle.ec_over_ring.proofs.LeftLemmas.{left_in_op}
 pub use Rattle.ec_over_ring.proofs.HeardLemmas.{heard_is_ring, watched_ring}
 pub use Rattle.ec_over_ring.proofs.RecoveryLemmas.{begins, decides}
@@ -170,9 +181,9 @@ settled_at_once peer limit r before behind s result later =
 pub upload_answered : (peer peer_later : Peer) (index sub limit : ℕ) (r : RingState)
     (before behind : List SlaveState) (s : SlaveState) (result : Result Value MasterFault) (later : RingState)
     → HasPeer peer r before s behind → IsRequest (Upload index sub) → 1 ≤ limit
-    → IsTransferred RingTrips r peer (Upload index sub) limit uploaded_by result peer_later later
-    → IsAnswered peer (Upload index sub) r before s behind (upload_of index sub s.application.objects) result
-    peer_later later
+    → IsTransferred RingTrips r peer (uploading index sub) limit result peer_later later
+    → (result ≡ upload_of index sub s.application.objects)
+    × IsAnswered peer (Upload index sub) r before s behind peer_later later
 upload_answered peer peer_later index sub limit r before behind s result later =
     objects.uploaded peer peer_later index sub limit r before s behind result later
 
@@ -181,9 +192,9 @@ pub download_answered : (peer peer_later : Peer) (index sub : ℕ) (value : Valu
     (before behind : List SlaveState) (s : SlaveState) (result : Result (Unit {0}) MasterFault)
     (later : RingState)
     → HasPeer peer r before s behind → IsRequest (Download index sub value) → 1 ≤ limit
-    → IsTransferred RingTrips r peer (Download index sub value) limit downloaded_by result peer_later later
-    → IsAnswered peer (Download index sub value) r before s behind
-    (download_of index sub value s.application.objects) result peer_later later
+    → IsTransferred RingTrips r peer (downloading index sub value) limit result peer_later later
+    → (result ≡ download_of index sub value s.application.objects)
+    × IsAnswered peer (Download index sub value) r before s behind peer_later later
 download_answered peer peer_later index sub value limit r before behind s result later =
     objects.downloaded peer peer_later index sub value limit r before s behind result later
 
@@ -208,13 +219,13 @@ pub object_read : (peer peer_later : Peer) (index sub limit : ℕ) (r : RingStat
     (before behind : List SlaveState) (s : SlaveState) (result : Result Value MasterFault) (later : RingState)
     (rights : Rights) (value : Value)
     → HasPeer peer r before s behind → IsRequest (Upload index sub) → 1 ≤ limit
-    → IsTransferred RingTrips r peer (Upload index sub) limit uploaded_by result peer_later later
+    → IsTransferred RingTrips r peer (uploading index sub) limit result peer_later later
     → object_at index sub s.application.objects ≡ Some (rights, value) → may_read rights ≡ true
     → result ≡ Ok value
 object_read peer peer_later index sub limit r before behind s result later rights value has fits some transfer
     is may =
     (objects.uploaded peer peer_later index sub limit r before s behind result later has fits some
-    transfer).result_is
+    transfer).0
     ∙ objects.readable index sub s.application.objects rights value is may
 
 -- one that may be written takes a value of its length
@@ -222,14 +233,14 @@ pub object_written : (peer peer_later : Peer) (index sub : ℕ) (value : Value) 
     (before behind : List SlaveState) (s : SlaveState) (result : Result (Unit {0}) MasterFault)
     (later : RingState) (rights : Rights) (old : Value)
     → HasPeer peer r before s behind → IsRequest (Download index sub value) → 1 ≤ limit
-    → IsTransferred RingTrips r peer (Download index sub value) limit downloaded_by result peer_later later
+    → IsTransferred RingTrips r peer (downloading index sub value) limit result peer_later later
     → object_at index sub s.application.objects ≡ Some (rights, old) → may_write rights ≡ true
     → size_of value ≡ size_of old
     → result ≡ Ok tt
 object_written peer peer_later index sub value limit r before behind s result later rights old has fits some
     transfer is may size =
     (objects.downloaded peer peer_later index sub value limit r before s behind result later has fits some
-    transfer).result_is
+    transfer).0
     ∙ objects.writable index sub s.application.objects rights value old is may size
 
 -- and holds it then

@@ -52,6 +52,7 @@ pub mod CalmRingLemmas
 pub mod AnyPortsLemmas
 pub mod SentLemmas
 pub mod InOpLemmas
+pub mod InOpMovingLemmas
 pub mod TripKeepsLemmas
 pub mod HoldersLemmas
 pub mod BroughtLemmas
@@ -75,4 +76,10 @@ pub mod StoredLemmas
 pub mod TakingLemmas
 pub mod SucceedLemmas
 pub mod ReadOffLemmas
+pub mod FoundLemmas
+pub mod PlacedLemmas
+pub mod AddressedLemmas
+pub mod CountedLemmas
+pub mod StagesLemmas
+pub mod BoxesLemmas
 pub mod Laws

@@ -30,7 +30,7 @@ use Rattle.ec_services.specs.Ask.{Answer}
 use Rattle.ec_services.specs.Course.{IsStep, Runs}
 use Rattle.ec_services.specs.Progress.{Known, any_known}
 use Rattle.ec_services.specs.Surely.{IsSure, asking, begun, next_known, next_sent}
-use Rattle.ec_services.specs.Transfer.{downloaded_by, uploaded_by}
+use Rattle.ec_services.specs.Transfer.{downloaded_by, uploaded_by, uploading, downloading, service_of}
 use Rattle.ec_services.specs.declared.fault.MasterFault.{MasterFault}
 use Rattle.ec_services.specs.declared.mailbox.Peer.{Peer}
 use Rattle.ec_run.specs.Phase.{steps_of}
@@ -166,7 +166,7 @@ sends_none to asked p =
 abbrev StaysHigh : ℕ → Known → Type 0
 StaysHigh to p = (answer : Answer) → LiesHigh to p → LiesHigh to (next_known p answer)
 
-stays_high : (to : ℕ) (p : Known) → StaysHigh to p
+pub stays_high : (to : ℕ) (p : Known) → StaysHigh to p
 stays_high to p =
     any_known (StaysHigh to)
     (λ posted peer answer high. record {
@@ -263,7 +263,7 @@ mailed_fmmu to s t n (Some f) few sizes mailed held = λ k below.
     fmmu_registers n (length (fmmu_bytes f)) few (sizes f refl) in
     mailed.bytes (1536 + 16 * n + k) (registers.left k below) (registers.no_status k below) ∙ held k below
 
-mailed_set : (to : ℕ) (s t : SlaveState) (wanted : Wanted) (x : Step) → IsWanted wanted → IsMailed to s t
+pub mailed_set : (to : ℕ) (s t : SlaveState) (wanted : Wanted) (x : Step) → IsWanted wanted → IsMailed to s t
     → HoldsSet wanted s.controller.memory x → HoldsSet wanted t.controller.memory x
 mailed_set to s t wanted (SyncManager n) wants mailed held =
     mailed_manager to s t (manager_number n) (slice_get wanted.managers (manager_number n)) (small_number n)
@@ -332,7 +332,7 @@ is_set_up wanted r ring wants has =
 pub call_leaves : {A : Type 0} (asked : Sdo) (limit : ℕ) (comes_to : Mail → Result A MasterFault)
     (peer peer_later : Peer) (result : Result A MasterFault) (wanted : Wanted) (r later : RingState)
     → ReachesAll r → IsWanted wanted → HasAreas peer
-    → IsSure RingTrips r peer asked limit comes_to result peer_later later → IsSetUp r wanted
+    → IsSure RingTrips r peer (service_of asked comes_to) limit result peer_later later → IsSetUp r wanted
     → IsSetUp later wanted
 call_leaves {A} asked limit comes_to peer peer_later result wanted r later ring wants areas sure set_up =
     let P : SlaveState → Type 0 = HasAll (IsThere Op) wanted (steps_of SafeOp) in
@@ -344,7 +344,7 @@ call_leaves {A} asked limit comes_to peer peer_later result wanted r later ring 
 
 pub upload_leaves : (peer peer_later : Peer) (index sub limit : ℕ) (result : Result Value MasterFault)
     (wanted : Wanted) (r later : RingState) → ReachesAll r → IsWanted wanted → HasAreas peer
-    → IsSure RingTrips r peer (Upload index sub) limit uploaded_by result peer_later later
+    → IsSure RingTrips r peer (uploading index sub) limit result peer_later later
     → IsSetUp r wanted → IsSetUp later wanted
 upload_leaves peer peer_later index sub limit result wanted r later ring wants areas sure set_up =
     call_leaves (Upload index sub) limit uploaded_by peer peer_later result wanted r later ring wants areas
@@ -353,7 +353,7 @@ upload_leaves peer peer_later index sub limit result wanted r later ring wants a
 pub download_leaves : (peer peer_later : Peer) (index sub : ℕ) (value : Value) (limit : ℕ)
     (result : Result (Unit {0}) MasterFault) (wanted : Wanted) (r later : RingState) → ReachesAll r
     → IsWanted wanted → HasAreas peer
-    → IsSure RingTrips r peer (Download index sub value) limit downloaded_by result peer_later later
+    → IsSure RingTrips r peer (downloading index sub value) limit result peer_later later
     → IsSetUp r wanted → IsSetUp later wanted
 download_leaves peer peer_later index sub value limit result wanted r later ring wants areas sure set_up =
     call_leaves (Download index sub value) limit downloaded_by peer peer_later result wanted r later ring

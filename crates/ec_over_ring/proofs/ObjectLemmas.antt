@@ -19,7 +19,7 @@ use Rattle.ec_app.specs.declared.value.Value.TheVariants.{One}
 use Rattle.ec_ring.specs.Ring.{RingState}
 use Rattle.ec_master.specs.RingTrips.{RingTrips}
 use Rattle.ec_services.specs.Mailbox.{skipped}
-use Rattle.ec_services.specs.Transfer.{IsTransferred, uploaded_by, downloaded_by}
+use Rattle.ec_services.specs.Transfer.{IsTransferred, uploaded_by, downloaded_by, uploading, downloading}
 use Rattle.ec_services.specs.declared.fault.MasterFault.{MasterFault}
 use Rattle.ec_services.specs.declared.fault.MasterFault.TheVariants.{Abort as Aborted}
 use Rattle.ec_services.specs.declared.mailbox.Peer.{Peer}
@@ -34,29 +34,29 @@ use Rattle.ec_over_ring.proofs.TransferLemmas.{done_alone, own_slave, peer_again
 pub uploaded : (peer peer_later : Peer) (i j limit : ℕ) (r : RingState) (before : List SlaveState)
     (s : SlaveState) (behind : List SlaveState) (result : Result Value MasterFault) (later : RingState)
     → HasPeer peer r before s behind → IsRequest (Upload i j) → 1 ≤ limit
-    → IsTransferred RingTrips r peer (Upload i j) limit uploaded_by result peer_later later
-    → IsAnswered peer (Upload i j) r before s behind (upload_of i j s.application.objects) result peer_later
-    later
+    → IsTransferred RingTrips r peer (uploading i j) limit result peer_later later
+    → (result ≡ upload_of i j s.application.objects)
+    × IsAnswered peer (Upload i j) r before s behind peer_later later
 uploaded peer peer_later i j limit r before s behind result later has fits some transfer =
     let comes = upload_comes peer i j s.application.objects has.peer_is fits.0 fits.1
     (own_slave peer r before s behind has).values in
     let done = transferred peer peer_later (Upload i j) limit r before s behind uploaded_by
     (upload_of i j s.application.objects) s.application.objects result later has fits comes some transfer in
-    record { result_is = done.result_is; counter = done.moves; ring = done.ring }
+    (done.result_is, record { counter = done.moves; ring = done.ring })
 
 pub downloaded : (peer peer_later : Peer) (i j : ℕ) (v : Value) (limit : ℕ) (r : RingState)
     (before : List SlaveState) (s : SlaveState) (behind : List SlaveState)
     (result : Result (Unit {0}) MasterFault) (later : RingState)
     → HasPeer peer r before s behind → IsRequest (Download i j v) → 1 ≤ limit
-    → IsTransferred RingTrips r peer (Download i j v) limit downloaded_by result peer_later later
-    → IsAnswered peer (Download i j v) r before s behind (download_of i j v s.application.objects) result
-    peer_later later
+    → IsTransferred RingTrips r peer (downloading i j v) limit result peer_later later
+    → (result ≡ download_of i j v s.application.objects)
+    × IsAnswered peer (Download i j v) r before s behind peer_later later
 downloaded peer peer_later i j v limit r before s behind result later has fits some transfer =
     let comes = download_comes peer i j v s.application.objects has.peer_is fits.0 fits.1 in
     let done = transferred peer peer_later (Download i j v) limit r before s behind downloaded_by
     (download_of i j v s.application.objects) (objects_after (Download i j v) s.application.objects) result
     later has fits comes some transfer in
-    record { result_is = done.result_is; counter = done.moves; ring = done.ring }
+    (done.result_is, record { counter = done.moves; ring = done.ring })
 
 -- the slave behind one
 pub slave_done : (peer : Peer) (asked : Sdo) (r : RingState) (before : List SlaveState) (s : SlaveState)

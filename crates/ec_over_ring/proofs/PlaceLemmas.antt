@@ -11,14 +11,14 @@ use Rattle.ec_over_ring.specs.Stations.{restationed}
 use Rattle.ec_over_ring.proofs.StationWriteLemmas.{meant_pass, passed_by, write_at}
 
 -- a line behind one pass
-abbrev behind_pass : List ControllerState → Passed → PassedLine
+abbrev pub behind_pass : List ControllerState → Passed → PassedLine
 behind_pass xs p = record {
   frame = (line_pass xs (p.datagram ∷ [])).frame;
   line = p.state ∷ (line_pass xs (p.datagram ∷ [])).line;
 }
 
 -- slaves behind the one that was meant let the write pass
-passed_line : (xs : List ControllerState) (adp station : ℕ) → AllByRecursion IsController xs
+pub passed_line : (xs : List ControllerState) (adp station : ℕ) → AllByRecursion IsController xs
     → 1 ≤ adp → adp + length xs < 65536
     → line_pass xs (write_at adp station 1 ∷ [])
     ≡ record { frame = write_at (adp + length xs) station 1 ∷ []; line = xs }

@@ -27,7 +27,8 @@ use Rattle.ec_services.specs.Mailbox.{IsPeer, mail_read}
 use Rattle.ec_services.specs.Progress.{Known, any_known, reads}
 use Rattle.ec_services.specs.Surely.{IsSure, answered, asking, begun, next_decides}
 use Rattle.ec_services.specs.Surely.{next_sent}
-use Rattle.ec_services.specs.Transfer.{answer_in, answers, downloaded_by, understood, uploaded_by}
+use Rattle.ec_services.specs.Transfer.{answer_in, answers, downloaded_by, downloading, understood}
+use Rattle.ec_services.specs.Transfer.{uploaded_by, uploading}
 use Rattle.ec_services.specs.declared.fault.MasterFault.{MasterFault}
 use Rattle.ec_services.specs.declared.fault.MasterFault.TheVariants.{BadAnswer, NoAnswer, Port, Stranger}
 use Rattle.ec_services.specs.declared.mailbox.Peer.{Peer}
@@ -391,7 +392,7 @@ upload_says i j last h (Ok mail) fits ends = inr (upload_ok i j last h mail fits
 pub upload_recovers : (peer peer_later : Peer) (i j limit : ℕ) (s : SlaveState)
     (result : Result Value MasterFault) (later : History) → IsPeer peer → IsOfPeer peer s
     → IsRequest (Upload i j)
-    → IsSure SlaveTrips (begun_at s) peer (Upload i j) limit uploaded_by result peer_later later
+    → IsSure SlaveTrips (begun_at s) peer (uploading i j) limit result peer_later later
     → HasNoAnswer result ⊎ (result ≡ upload_of i j later.now.application.objects)
 upload_recovers peer peer_later i j limit s result later peer_is is fits sure =
     subst (λ (r : Result Value MasterFault).
@@ -431,7 +432,7 @@ download_says i j v last h (Ok mail) fits ends = inr (download_ok i j v last h m
 pub download_recovers : (peer peer_later : Peer) (i j : ℕ) (v : Value) (limit : ℕ) (s : SlaveState)
     (result : Result (Unit {0}) MasterFault) (later : History) → IsPeer peer → IsOfPeer peer s
     → IsRequest (Download i j v)
-    → IsSure SlaveTrips (begun_at s) peer (Download i j v) limit downloaded_by result peer_later later
+    → IsSure SlaveTrips (begun_at s) peer (downloading i j v) limit result peer_later later
     → HasNoAnswer result ⊎ OneIs (IsStored i j v result later.now) (times_of later)
 download_recovers peer peer_later i j v limit s result later peer_is is fits sure =
     subst (λ (r : Result (Unit {0}) MasterFault). HasNoAnswer r

@@ -18,6 +18,7 @@ use Rattle.ec_services.specs.Course.{IsStep, Runs}
 use Rattle.ec_services.specs.Mailbox.{IsPeer}
 use Rattle.ec_services.specs.Progress.{Known, any_known}
 use Rattle.ec_services.specs.Surely.{IsSure, asking, begun, next_known, next_sent}
+use Rattle.ec_services.specs.Transfer.{service_of}
 use Rattle.ec_services.specs.declared.fault.MasterFault.{MasterFault}
 use Rattle.ec_services.specs.declared.mailbox.Peer.{Peer}
 use Rattle.ec_over_ring.specs.Question.{IsByStation}
@@ -332,8 +333,8 @@ pub call_over_ring : {A : Type 0} (peer peer_later : Peer) (asked : Sdo) (limit 
     (comes_to : Mail → Result A MasterFault) (r : RingState) (before behind : List SlaveState)
     (s : SlaveState) (result : Result A MasterFault) (later : RingHistory)
     → IsPeer peer → HasSlave peer r before s behind → IsRequest asked
-    → IsSure WeatherSteps (begun_ring r) peer asked limit comes_to result peer_later later
-    → IsSure SlaveTrips (begun_at s) peer asked limit comes_to result peer_later
+    → IsSure WeatherSteps (begun_ring r) peer (service_of asked comes_to) limit result peer_later later
+    → IsSure SlaveTrips (begun_at s) peer (service_of asked comes_to) limit result peer_later
     (history_at (length before) s later)
 call_over_ring peer peer_later asked limit comes_to r before behind s result later peer_is has fits sure =
     record {

@@ -7,7 +7,7 @@ use Rattle.ec_app.specs.declared.value.Value.{Value}
 use Rattle.ec_ring.specs.Ring.{RingState}
 use Rattle.ec_services.specs.Mailbox.{IsPeer}
 use Rattle.ec_services.specs.Surely.{IsSure}
-use Rattle.ec_services.specs.Transfer.{downloaded_by, uploaded_by}
+use Rattle.ec_services.specs.Transfer.{downloaded_by, uploaded_by, uploading, downloading}
 use Rattle.ec_services.specs.declared.fault.MasterFault.TheVariants.{Abort}
 use Rattle.ec_services.specs.declared.mailbox.Peer.{Peer}
 use Rattle.ec_over_ring.specs.Recovery.{HasSlave, RingHistory, WeatherSteps, begun_ring, history_at, slave_at}
@@ -21,7 +21,7 @@ use Rattle.ec_over_ring.proofs.ValueLemmas.{download_held, upload_held}
 pub ring_uploaded : (peer peer_later : Peer) (i j limit : ℕ) (r : RingState)
     (before behind : List SlaveState) (s : SlaveState) (value : Value) (later : RingHistory)
     → IsPeer peer → HasSlave peer r before s behind → IsRequest (Upload i j)
-    → IsSure WeatherSteps (begun_ring r) peer (Upload i j) limit uploaded_by (Ok value) peer_later later
+    → IsSure WeatherSteps (begun_ring r) peer (uploading i j) limit (Ok value) peer_later later
     → value_at i j (slave_at (length before) s later.now).application.objects ≡ Some value
 ring_uploaded peer peer_later i j limit r before behind s value later peer_is has fits sure =
     upload_held peer peer_later i j limit s value (history_at (length before) s later) peer_is has.own fits
@@ -33,7 +33,7 @@ ring_uploaded peer peer_later i j limit r before behind s value later peer_is ha
 pub ring_downloaded : (peer peer_later : Peer) (i j : ℕ) (value : Value) (limit : ℕ) (r : RingState)
     (before behind : List SlaveState) (s : SlaveState) (later : RingHistory)
     → IsPeer peer → HasSlave peer r before s behind → IsRequest (Download i j value)
-    → IsSure WeatherSteps (begun_ring r) peer (Download i j value) limit downloaded_by (Ok tt) peer_later
+    → IsSure WeatherSteps (begun_ring r) peer (downloading i j value) limit (Ok tt) peer_later
     later
     → value_at i j (slave_at (length before) s later.now).application.objects ≡ Some value
 ring_downloaded peer peer_later i j value limit r before behind s later peer_is has fits sure =
@@ -45,7 +45,7 @@ ring_downloaded peer peer_later i j value limit r before behind s later peer_is 
 pub ring_refused : (peer peer_later : Peer) (i j : ℕ) (value : Value) (limit code : ℕ) (r : RingState)
     (before behind : List SlaveState) (s : SlaveState) (later : RingHistory)
     → IsPeer peer → HasSlave peer r before s behind → IsRequest (Download i j value)
-    → IsSure WeatherSteps (begun_ring r) peer (Download i j value) limit downloaded_by (Err (Abort code))
+    → IsSure WeatherSteps (begun_ring r) peer (downloading i j value) limit (Err (Abort code))
     peer_later later
     → AllByRecursion (λ (t : SlaveState). Err (Abort code) ≡ download_of i j value t.application.objects)
     (times_of (history_at (length before) s later))

@@ -36,7 +36,7 @@ use Rattle.ec_services.specs.Course.{Runs}
 use Rattle.ec_services.specs.Mailbox.{IsPeer}
 use Rattle.ec_services.specs.Progress.{Known}
 use Rattle.ec_services.specs.Surely.{IsSure, asking, begun, next_sent}
-use Rattle.ec_services.specs.Transfer.{downloaded_by}
+use Rattle.ec_services.specs.Transfer.{downloading}
 use Rattle.ec_services.specs.declared.fault.MasterFault.{MasterFault}
 use Rattle.ec_services.specs.declared.fault.MasterFault.TheVariants.{Abort as Aborted}
 use Rattle.ec_services.specs.declared.mailbox.Peer.{Peer}
@@ -370,7 +370,7 @@ sum_map A B C f (inr b) = inr (f b)
 pub said_throughout : (peer peer_later : Peer) (i j : ℕ) (v : Value) (limit : ℕ) (s : SlaveState)
     (result : Result (Unit {0}) MasterFault) (later : History) → IsPeer peer → IsOfPeer peer s
     → IsRequest (Download i j v)
-    → IsSure SlaveTrips (begun_at s) peer (Download i j v) limit downloaded_by result peer_later later
+    → IsSure SlaveTrips (begun_at s) peer (downloading i j v) limit result peer_later later
     → HasNoAnswer result
     ⊎ AllByRecursion (λ (u : SlaveState). result ≡ download_of i j v u.application.objects) (times_of later)
 said_throughout peer peer_later i j v limit s result later peer_is is fits sure =

@@ -68,13 +68,13 @@ pub record IsSpared (from n a : ℕ) : Type 0 where
   pub beside : IsBeside from n a
   pub no_status : (i : ℕ) → a ≢ status_address i
 
-filled_byte : (mail : Option ℕ) (m : List ℕ) (a : ℕ) → ((i : ℕ) → a ≢ status_address i)
+pub filled_byte : (mail : Option ℕ) (m : List ℕ) (a : ℕ) → ((i : ℕ) → a ≢ status_address i)
     → get_or (with_filled mail m) a 0 ≡ get_or m a 0
 filled_byte None m a none = refl
 filled_byte (Some i) m a none =
     get_or-set_other m (status_address i) a (bit_or (get_or m (status_address i) 0) 8) 0 (none i)
 
-emptied_byte : (mail : Option ℕ) (m : List ℕ) (a : ℕ) → ((i : ℕ) → a ≢ status_address i)
+pub emptied_byte : (mail : Option ℕ) (m : List ℕ) (a : ℕ) → ((i : ℕ) → a ≢ status_address i)
     → get_or (with_emptied mail m) a 0 ≡ get_or m a 0
 emptied_byte None m a none = refl
 emptied_byte (Some i) m a none =
@@ -110,7 +110,7 @@ and_false : (b : Bool) → (b && false) ≡ false
 and_false true = refl
 and_false false = refl
 
-outside : (from n a : ℕ) → IsBeside from n a → within from n a ≡ false
+pub outside : (from n a : ℕ) → IsBeside from n a → within from n a ≡ false
 outside from n a (inl before) =
     let less : leb from a ≡ false = grind (arith, nat_tests) in
     ap (λ (b : Bool). b && ltb a (from + n)) less
@@ -118,7 +118,7 @@ outside from n a (inr behind) =
     let past : ltb a (from + n) ≡ false = grind (arith, nat_tests) in
     ap (λ (b : Bool). leb from a && b) past ∙ and_false (leb from a)
 
-served_none : (w b : Bool) (h : Half) (p : ℕ) → h.places p ≡ None
+pub served_none : (w b : Bool) (h : Half) (p : ℕ) → h.places p ≡ None
     → (where_served w (where_served b h)).places p ≡ None
 served_none true true h p none = none
 served_none true false h p none = refl
@@ -137,7 +137,7 @@ places_none x c address n p station out =
     (ap (λ (t : Bool). cond (t && takes_writes c.memory (p / 8)) (Some (p - 8 * from)) None) out)
 
 -- a command that does not write
-silent_places : (x : Command) (c : ControllerState) (address n p : ℕ) → writes x ≡ false
+pub silent_places : (x : Command) (c : ControllerState) (address n p : ℕ) → writes x ≡ false
     → (effect x c address n).writing.places p ≡ None
 silent_places x c address n p silent =
     ap (λ (w : Bool). (where_served w (write_half (addressing x) (cond (reads x) 2 1) c address n)).places p)

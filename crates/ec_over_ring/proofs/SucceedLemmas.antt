@@ -37,17 +37,17 @@ use Rattle.ec_over_ring.proofs.TripKeepsLemmas.{within_keeps}
 -- ---- the phases
 
 -- the records that the phases set, before they ask for a state
-mailbox_records : List Step
+unfoldable pub mailbox_records : List Step
 mailbox_records = SyncManager 0 ∷ SyncManager 1 ∷ []
 
-process_records : List Step
+unfoldable pub process_records : List Step
 process_records =
     SyncManager 2 ∷ SyncManager 3 ∷ SyncManager 4 ∷ SyncManager 5 ∷ SyncManager 6 ∷ SyncManager 7
     ∷ FmmuRecord 0 ∷ FmmuRecord 1 ∷ FmmuRecord 2 ∷ FmmuRecord 3 ∷ FmmuRecord 4 ∷ FmmuRecord 5
     ∷ FmmuRecord 6 ∷ FmmuRecord 7
     ∷ []
 
-to_init : IsPhase IsAny [] state.Init
+pub to_init : IsPhase IsAny [] state.Init
 unfolding AreAllRecords each_clear Accepts
 to_init = record { lasts = any_lasts; are = tt; clear = refl; accepts = λ wanted s has. tt }
 
@@ -59,7 +59,7 @@ mailbox_records_clear : each_clear mailbox_records ≡ true
 unfolding mailbox_records each_clear all_clear is_clear is_setting held_to begins ends
 mailbox_records_clear = refl
 
-to_pre_op : IsPhase (IsThere state.Init) mailbox_records state.PreOp
+pub to_pre_op : IsPhase (IsThere state.Init) mailbox_records state.PreOp
 unfolding mailbox_records Accepts
 to_pre_op = record {
   lasts = there_lasts state.Init;
@@ -94,7 +94,7 @@ process_records_clear : each_clear process_records ≡ true
 unfolding process_records each_clear all_clear is_clear is_setting held_to begins ends
 process_records_clear = refl
 
-to_safe_op : IsPhase (IsThere state.PreOp) process_records state.SafeOp
+pub to_safe_op : IsPhase (IsThere state.PreOp) process_records state.SafeOp
 unfolding process_records Accepts
 to_safe_op = record {
   lasts = there_lasts state.PreOp;
@@ -103,7 +103,7 @@ to_safe_op = record {
   accepts = λ wanted s has. (has.such.fits, has.such.is, has.all.0, has.all.1.0);
 }
 
-to_op : IsPhase (IsThere state.SafeOp) [] state.Op
+pub to_op : IsPhase (IsThere state.SafeOp) [] state.Op
 unfolding AreAllRecords each_clear Accepts
 to_op = record {
   lasts = there_lasts state.SafeOp;
@@ -163,22 +163,22 @@ safe_op_sets : AllByRecursion (λ (y : Step). is_setting y ≡ true) (steps_of S
 unfolding each_clear all_clear is_clear is_setting held_to begins ends
 safe_op_sets = all_setting (steps_of SafeOp) refl
 
-pre_op_clear : each_clear (steps_of PreOp) ≡ true
+pub pre_op_clear : each_clear (steps_of PreOp) ≡ true
 unfolding each_clear all_clear is_clear is_setting held_to begins ends
 pre_op_clear = refl
 
-mailboxes_clear : op_clear mailbox_records ≡ true
+pub mailboxes_clear : op_clear mailbox_records ≡ true
 unfolding op_clear is_clear held_to begins ends mailbox_records
 mailboxes_clear = refl
 
 -- behind Pre-Op, and while the records of process data are set
-boxes_of : (line : List Wanted) (r : RingState) → LineStands (steps_of PreOp) line r
+pub boxes_of : (line : List Wanted) (r : RingState) → LineStands (steps_of PreOp) line r
     → LineStands mailbox_records line r
 unfolding mailbox_records
 boxes_of [] r stand = tt
 boxes_of (wanted ∷ rest) r stand = ((stand.0.0, (stand.0.1.0, tt)), boxes_of rest r stand.1)
 
-boxes_stay : (some line : List Wanted) (result : Result (Unit {0}) StepFault) (r later : RingState)
+pub boxes_stay : (some line : List Wanted) (result : Result (Unit {0}) StepFault) (r later : RingState)
     → ReachesAll r → AreWanted line → AreWanted some
     → Brings RingTrips r 0 line (steps_of SafeOp) result later → LineStands mailbox_records some r
     → LineStands mailbox_records some later
@@ -192,7 +192,7 @@ boxes_stay (wanted ∷ rest) line result r later ring are wants brings stand = (
   boxes_stay rest line result r later ring are wants.2 brings stand.1,
 )
 
-have_mailboxes : (line : List Wanted) (r : RingState) → ReachesAll r → AreWanted line
+pub have_mailboxes : (line : List Wanted) (r : RingState) → ReachesAll r → AreWanted line
     → LineStands mailbox_records line r → AllByRecursion (HasMailboxes r) line
 unfolding mailbox_records
 have_mailboxes [] r ring are stand = tt
@@ -217,15 +217,15 @@ have_mailboxes (wanted ∷ rest) r ring are stand =
 
 -- ---- the startup objects
 
-objects_are : objects_from 0 16 ≡ steps_of StartupPhase
+pub objects_are : objects_from 0 16 ≡ steps_of StartupPhase
 unfolding objects_from
 objects_are = refl
 
-init_low : each_low (steps_of Init) ≡ true
+pub init_low : each_low (steps_of Init) ≡ true
 unfolding each_low is_setting ends
 init_low = refl
 
-pre_op_low : each_low (steps_of PreOp) ≡ true
+pub pre_op_low : each_low (steps_of PreOp) ≡ true
 unfolding each_low is_setting ends
 pre_op_low = refl
 
@@ -238,7 +238,7 @@ unfolding each_aside is_aside is_setting begins ends
 op_aside = refl
 
 -- behind Pre-Op each slave is ready for them
-now_ready : (line : List Wanted) (r : RingState) → AreSoFar (IsThere state.PreOp) line r
+pub now_ready : (line : List Wanted) (r : RingState) → AreSoFar (IsThere state.PreOp) line r
     → LineStands mailbox_records line r → AreWilling line r → AreReady line r
 unfolding mailbox_records
 now_ready [] r so_far stand stores = tt
@@ -262,7 +262,7 @@ now_ready (wanted ∷ rest) r so_far stand stores =
     )
 
 -- and behind them as it was
-still_so_far : (line : List Wanted) (r : RingState) → AreReady line r → AreSoFar (IsThere state.PreOp) line r
+pub still_so_far : (line : List Wanted) (r : RingState) → AreReady line r → AreSoFar (IsThere state.PreOp) line r
 still_so_far [] r ready = tt
 still_so_far (wanted ∷ rest) r ready = (
   such_as (IsReady wanted) (Stage (IsThere state.PreOp) wanted) wanted.station r.slaves (λ s so. so.stage)
@@ -270,7 +270,7 @@ still_so_far (wanted ∷ rest) r ready = (
   still_so_far rest r ready.1,
 )
 
-boxes_still : (line : List Wanted) (r : RingState) → AreReady line r → LineStands mailbox_records line r
+pub boxes_still : (line : List Wanted) (r : RingState) → AreReady line r → LineStands mailbox_records line r
 unfolding mailbox_records
 boxes_still [] r ready = tt
 boxes_still (wanted ∷ rest) r ready = (

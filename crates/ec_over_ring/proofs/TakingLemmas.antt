@@ -25,7 +25,7 @@ use Rattle.ec_ring.specs.Ring.{RingState}
 use Rattle.ec_master.specs.RingTrips.{RingTrips}
 use Rattle.ec_services.specs.Mailbox.{IsPeer}
 use Rattle.ec_services.specs.Surely.{IsSure, begun}
-use Rattle.ec_services.specs.Transfer.{downloaded_by}
+use Rattle.ec_services.specs.Transfer.{downloading}
 use Rattle.ec_services.specs.declared.fault.MasterFault.{MasterFault}
 use Rattle.ec_services.specs.declared.mailbox.Peer.{Peer}
 use Rattle.ec_run.specs.Phase.{AreDone, Brings}
@@ -102,7 +102,7 @@ each_stored objects (Some o ∷ startup) take = (
   each_stored objects startup take.1,
 )
 
-willing : (wanted : Wanted) (s : SlaveState) → AreNone wanted.startup ⊎ TakesAll wanted s
+pub willing : (wanted : Wanted) (s : SlaveState) → AreNone wanted.startup ⊎ TakesAll wanted s
     → IsWilling wanted s
 willing wanted s (inl none) = inl none
 willing wanted s (inr takes) = inr (record {
@@ -115,7 +115,7 @@ willing wanted s (inr takes) = inr (record {
 -- ---- it stays so
 
 -- the areas of the sync managers for process data are those of another memory
-SameAreas : List ℕ → List ℕ → Type 0
+unfoldable pub SameAreas : List ℕ → List ℕ → Type 0
 SameAreas x y =
     (n : ℕ) → 2 ≤ n → n < 8
     → ((k : ℕ) → k < 5 → get_or y (2048 + 8 * n + k) 0 ≡ get_or x (2048 + 8 * n + k) 0)
@@ -158,7 +158,7 @@ stored_still es fs (Some o ∷ startup) same stores = (
   stored_still es fs startup same stores.1,
 )
 
-willing_still : (wanted : Wanted) (s t : SlaveState) → needs t ≡ needs s
+pub willing_still : (wanted : Wanted) (s t : SlaveState) → needs t ≡ needs s
     → ((i j : ℕ) → shape_of i j t.application.objects ≡ shape_of i j s.application.objects)
     → SameAreas s.controller.memory t.controller.memory → IsWilling wanted s → IsWilling wanted t
 willing_still wanted s t same shapes areas (inl none) = inl none
@@ -427,7 +427,7 @@ sure_written : (done : List (Option StartupObject)) (station counter : ℕ) (a b
     (behind : List SlaveState) (peer_later : Peer) → ReachesAll r → 1 ≤ counter → counter ≤ 7
     → IsBox a → IsBox b → HasStation station r before s behind → IsThere state.PreOp s
     → IsOfPeer (peer_with station a b counter) s → Stores s.application.objects (Some o)
-    → IsSure RingTrips r (peer_with station a b counter) (Download o.index o.sub o.value) 64 downloaded_by
+    → IsSure RingTrips r (peer_with station a b counter) (downloading o.index o.sub o.value) 64
     result peer_later later
     → AreWritten station done (done ++ Some o ∷ []) result r later
 sure_written done station counter a b o result r later before s behind peer_later ring least most a_box b_box

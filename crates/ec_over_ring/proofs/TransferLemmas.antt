@@ -25,7 +25,8 @@ use Rattle.ec_master.specs.RingTrips.{RingTrips}
 use Rattle.ec_services.specs.Ask.{Answer, Asks, Question, write_decides}
 use Rattle.ec_services.specs.Mailbox.{mail_decides, mail_question, mail_read, mail_write, next_counter}
 use Rattle.ec_services.specs.Mailbox.{request_mail, skipped, with_counted}
-use Rattle.ec_services.specs.Transfer.{IsTransferred, ThenFetches, answer_in, answer_of, answers, understood}
+use Rattle.ec_services.specs.Transfer.{IsTransferred, ThenFetches, answer_in, answer_of, answers}
+use Rattle.ec_services.specs.Transfer.{service_of, understood}
 use Rattle.ec_services.specs.declared.fault.MasterFault.{MasterFault}
 use Rattle.ec_services.specs.declared.fault.MasterFault.TheVariants.{BadAnswer, NoAnswer, NoSlave}
 use Rattle.ec_services.specs.declared.mailbox.Peer.{Peer}
@@ -350,7 +351,7 @@ pub transferred : {A : Type 0} (peer peer_later : Peer) (asked : Sdo) (limit : �
     → HasPeer peer r before s behind → IsRequest asked
     → Comes peer (index asked) (sub asked) comes_to expected after
     (outcome_of (request_mail peer asked) s.application.objects)
-    → 1 ≤ limit → IsTransferred RingTrips r peer asked limit comes_to result peer_later later
+    → 1 ≤ limit → IsTransferred RingTrips r peer (service_of asked comes_to) limit result peer_later later
     → ComesTo peer asked r before s behind expected result peer_later later
 transferred peer peer_later asked limit r before s behind comes_to expected after result later has fits comes
     some transfer =

@@ -14,7 +14,7 @@ use Rattle.ec_app.specs.declared.value.Rights.{Rights}
 use Rattle.ec_app.specs.declared.value.Value.{Value}
 use Rattle.ec_services.specs.Mailbox.{IsPeer}
 use Rattle.ec_services.specs.Surely.{IsSure}
-use Rattle.ec_services.specs.Transfer.{downloaded_by, uploaded_by}
+use Rattle.ec_services.specs.Transfer.{uploading, downloading}
 use Rattle.ec_services.specs.declared.fault.MasterFault.{MasterFault}
 use Rattle.ec_services.specs.declared.mailbox.Peer.{Peer}
 use Rattle.ec_over_ring.specs.Recovery.{History, IsOfPeer, IsStored, OneIs, SlaveTrips, begun_at}
@@ -47,7 +47,7 @@ held_value i j es v is = told_value (has_index i es) (object_at i j es) v is
 -- the object holds it at the end of the call
 pub upload_held : (peer peer_later : Peer) (i j limit : ℕ) (s : SlaveState) (value : Value) (later : History)
     → IsPeer peer → IsOfPeer peer s → IsRequest (Upload i j)
-    → IsSure SlaveTrips (begun_at s) peer (Upload i j) limit uploaded_by (Ok value) peer_later later
+    → IsSure SlaveTrips (begun_at s) peer (uploading i j) limit (Ok value) peer_later later
     → value_at i j later.now.application.objects ≡ Some value
 upload_held peer peer_later i j limit s value later peer_is is fits sure =
     elim (upload_recovers peer peer_later i j limit s (Ok value) later peer_is is fits sure) [
@@ -116,7 +116,7 @@ one_stored i j v s (t ∷ ss) (inr there) = one_stored i j v s ss there
 -- the object holds the value at the end of the call
 pub download_held : (peer peer_later : Peer) (i j : ℕ) (v : Value) (limit : ℕ) (s : SlaveState)
     (later : History) → IsPeer peer → IsOfPeer peer s → IsRequest (Download i j v)
-    → IsSure SlaveTrips (begun_at s) peer (Download i j v) limit downloaded_by (Ok tt) peer_later later
+    → IsSure SlaveTrips (begun_at s) peer (downloading i j v) limit (Ok tt) peer_later later
     → value_at i j later.now.application.objects ≡ Some v
 download_held peer peer_later i j v limit s later peer_is is fits sure =
     elim (download_recovers peer peer_later i j v limit s (Ok tt) later peer_is is fits sure) [

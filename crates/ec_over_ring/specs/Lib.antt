@@ -4,6 +4,7 @@ pub mod Transfers
 pub mod Stations
 pub mod Recovery
 pub mod InOp
+pub mod InOpMoving
 pub mod Brought
 pub mod Started
 pub mod Heard

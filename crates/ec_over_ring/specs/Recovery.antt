@@ -68,8 +68,8 @@ abbrev pub copy_b : Fate → List DatagramRecord → List DatagramRecord
 copy_b f frame = if f.turned then circulated frame else frame
 
 -- what comes back of both copies
-abbrev pub came_of : Fate → List DatagramRecord → List DatagramRecord → Came
-came_of f a b = record {
+abbrev pub came_under : Fate → List DatagramRecord → List DatagramRecord → Came
+came_under f a b = record {
   a = if f.lost_a then None else Some a;
   b = if f.lost_b then None else Some b;
 }
@@ -83,13 +83,13 @@ abbrev pub a_then_b : Fate → ControllerState → List DatagramRecord → Fared
 a_then_b f c frame =
     let a = passed_if f.passes_a c frame in
     let b = passed_if f.passes_b a.state (copy_b f frame)
-    in record { came = came_of f a.frame b.frame; state = b.state }
+    in record { came = came_under f a.frame b.frame; state = b.state }
 
 abbrev pub b_then_a : Fate → ControllerState → List DatagramRecord → Fared
 b_then_a f c frame =
     let b = passed_if f.passes_b c (copy_b f frame) in
     let a = passed_if f.passes_a b.state frame
-    in record { came = came_of f a.frame b.frame; state = a.state }
+    in record { came = came_under f a.frame b.frame; state = a.state }
 
 abbrev pub fared : Fate → ControllerState → List DatagramRecord → Fared
 fared f c frame = if f.b_first then b_then_a f c frame else a_then_b f c frame

@@ -149,11 +149,9 @@ answered_ring peer asked r before s behind =
     ring_after (mail_read peer) (posted_ring peer asked r before s behind) (map step before)
     (answering peer asked s) (map step behind)
 
--- a transfer's result is this; its request was counted once, so that the peer's counter moved on; and the
--- slave took it, answered, and its answer was read, in two trips
-pub record IsAnswered {A : Type 0} (peer : Peer) (asked : Sdo) (r : RingState) (before : List SlaveState)
-    (s : SlaveState) (behind : List SlaveState) (expected result : Result A MasterFault) (peer_later : Peer)
-    (later : RingState) : Type 0 where
-  pub result_is : result ≡ expected
+-- a transfer's request was counted once, so that the peer's counter moved on; and the slave took it,
+-- answered, and its answer was read, in two trips
+pub record IsAnswered (peer : Peer) (asked : Sdo) (r : RingState) (before : List SlaveState)
+    (s : SlaveState) (behind : List SlaveState) (peer_later : Peer) (later : RingState) : Type 0 where
   pub counter : peer_later ≡ skipped peer
   pub ring : later ≡ answered_ring peer asked r before s behind

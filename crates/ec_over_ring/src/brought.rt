@@ -15,7 +15,7 @@ ghost use Rattle.ec_app.specs.declared.roles.TheConstants.{OUTPUTS};
 ghost use Rattle.ec_ring.specs.Ring.{RingState, stepped};
 ghost use Rattle.ec_master.specs.RingTrips.{RingTrips};
 ghost use Rattle.ec_services.specs.Surely.{IsSure};
-ghost use Rattle.ec_services.specs.Transfer.{downloaded_by, uploaded_by};
+ghost use Rattle.ec_services.specs.Transfer.{uploading, downloading};
 ghost use Rattle.ec_services.specs.declared.fault.MasterFault.{MasterFault};
 ghost use Rattle.ec_services.specs.declared.mailbox.Peer.{Peer};
 ghost use Rattle.ec_run.specs.Phase.{Brings, steps_of};
@@ -129,12 +129,12 @@ pub fn start_succeeds()
 pub fn calls_leave_line()
     ensures upload { (peer peer_later : Peer) (index sub limit : ℕ) (result : Result Value MasterFault)
         (wanted : Wanted) (r later : RingState) → ReachesAll r → IsWanted wanted → HasAreas peer
-        → IsSure RingTrips r peer (Upload index sub) limit uploaded_by result peer_later later
+        → IsSure RingTrips r peer (uploading index sub) limit result peer_later later
         → IsSetUp r wanted → IsSetUp later wanted }
     ensures download { (peer peer_later : Peer) (index sub : ℕ) (value : Value) (limit : ℕ)
         (result : Result (Unit {0}) MasterFault) (wanted : Wanted) (r later : RingState)
         → ReachesAll r → IsWanted wanted → HasAreas peer
-        → IsSure RingTrips r peer (Download index sub value) limit downloaded_by result peer_later later
+        → IsSure RingTrips r peer (downloading index sub value) limit result peer_later later
         → IsSetUp r wanted → IsSetUp later wanted }
 {}
 

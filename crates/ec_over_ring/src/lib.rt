@@ -28,7 +28,9 @@
 //!
 //! In [`states`], `all_in_op`: where a cycle's verdict is good, in whatever weather, and its last item tells
 //! that all slaves are in Op ([`ec_run::tells_all_in_op`]), each one whose AL status names a state is in Op
-//! and has no error.
+//! and has no error; where slaves move, each was so as the one copy met it that passed it with the last frame
+//! and came back (`moving`, `told_moving`). `all_in_op_over_ports` says the same of a cycle of a running
+//! master over whatever ports.
 //!
 //! In [`brought`], what a slave is at last that is brought up step by step ([`ec_run::recover`]), over a ring
 //! with at most one link down, of which nothing is lost:
@@ -67,10 +69,11 @@
 //! that one slave has, and what a state request comes to; `Transfers`, a slave that takes a peer's next
 //! request, and what a transfer comes to; `Stations`, what each slave of a line went through; `Recovery`, how
 //! both copies of a frame fare at a slave, what stands in its mailboxes, and what a call that recovers comes
-//! to; `InOp`, a cycle that tells that all slaves are in Op; `Brought`, a slave in a state that has its
-//! station alone, and a line of such slaves; `Started`, which records stand in their registers; `Fit`, what
-//! slaves need so that no phase of a start-up fails, which startup objects they take, and which are stored in
-//! the end; `Heard`, a ring that says where copies arrived.
+//! to; `InOp`, a cycle that tells that all slaves are in Op, and `InOpMoving`, as it met them where they
+//! move; `Brought`, a slave in a state that has its station alone, and a line of such slaves; `Started`,
+//! which records stand in their registers; `Fit`, what slaves need so that no phase of a start-up fails,
+//! which startup objects they take, and which are stored in the end; `Heard`, a ring that says where copies
+//! arrived.
 
 pub mod brought;
 pub mod promises;

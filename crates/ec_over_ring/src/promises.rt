@@ -23,7 +23,7 @@ ghost use Rattle.ec_services.specs.Ask.{Answer, Asks};
 ghost use Rattle.ec_services.specs.Mailbox.{skipped};
 ghost use Rattle.ec_services.specs.Settling.{IsSettled};
 ghost use Rattle.ec_services.specs.States.{IsRequested};
-ghost use Rattle.ec_services.specs.Transfer.{IsTransferred, uploaded_by, downloaded_by};
+ghost use Rattle.ec_services.specs.Transfer.{IsTransferred, uploading, downloading};
 ghost use Rattle.ec_services.specs.declared.fault.MasterFault.{MasterFault};
 ghost use Rattle.ec_services.specs.declared.mailbox.Peer.{Peer};
 ghost use Rattle.ec_over_ring.specs.Question.{IsByStation, IsOther, ReachesOne, Tells, ring_after};
@@ -127,17 +127,17 @@ pub fn transfers_over_ring()
         (before behind : List SlaveState) (s : SlaveState) (result : Result Value MasterFault)
         (later : RingState)
         → HasPeer peer r before s behind → IsRequest (Upload index sub) → 1 ≤ limit
-        → IsTransferred RingTrips r peer (Upload index sub) limit uploaded_by result peer_later later
-        → IsAnswered peer (Upload index sub) r before s behind (upload_of index sub s.application.objects)
-        result peer_later later }
+        → IsTransferred RingTrips r peer (uploading index sub) limit result peer_later later
+        → (result ≡ upload_of index sub s.application.objects)
+        × IsAnswered peer (Upload index sub) r before s behind peer_later later }
     ensures download { (peer peer_later : Peer) (index sub : ℕ) (value : Value) (limit : ℕ) (r : RingState)
         (before behind : List SlaveState) (s : SlaveState) (result : Result (Unit {0}) MasterFault)
         (later : RingState)
         → HasPeer peer r before s behind → IsRequest (Download index sub value) → 1 ≤ limit
-        → IsTransferred RingTrips r peer (Download index sub value) limit downloaded_by result peer_later
+        → IsTransferred RingTrips r peer (downloading index sub value) limit result peer_later
         later
-        → IsAnswered peer (Download index sub value) r before s behind
-        (download_of index sub value s.application.objects) result peer_later later }
+        → (result ≡ download_of index sub value s.application.objects)
+        × IsAnswered peer (Download index sub value) r before s behind peer_later later }
     ensures objects { (peer : Peer) (asked : Sdo) (r : RingState) (before behind : List SlaveState)
         (s : SlaveState) → HasPeer peer r before s behind → IsRequest asked
         → (answered peer asked s).application.objects ≡ objects_after asked s.application.objects }
@@ -163,14 +163,14 @@ pub fn objects_over_ring()
         (before behind : List SlaveState) (s : SlaveState) (result : Result Value MasterFault)
         (later : RingState) (rights : Rights) (value : Value)
         → HasPeer peer r before s behind → IsRequest (Upload index sub) → 1 ≤ limit
-        → IsTransferred RingTrips r peer (Upload index sub) limit uploaded_by result peer_later later
+        → IsTransferred RingTrips r peer (uploading index sub) limit result peer_later later
         → object_at index sub s.application.objects ≡ Some (rights, value) → may_read rights ≡ true
         → result ≡ Ok value }
     ensures written { (peer peer_later : Peer) (index sub : ℕ) (value : Value) (limit : ℕ) (r : RingState)
         (before behind : List SlaveState) (s : SlaveState) (result : Result (Unit {0}) MasterFault)
         (later : RingState) (rights : Rights) (old : Value)
         → HasPeer peer r before s behind → IsRequest (Download index sub value) → 1 ≤ limit
-        → IsTransferred RingTrips r peer (Download index sub value) limit downloaded_by result peer_later
+        → IsTransferred RingTrips r peer (downloading index sub value) limit result peer_later
         later
         → object_at index sub s.application.objects ≡ Some (rights, old) → may_write rights ≡ true
         → size_of value ≡ size_of old

@@ -17,7 +17,7 @@ ghost use Rattle.ec_services.specs.Ask.{Answer, Asks};
 ghost use Rattle.ec_services.specs.Mailbox.{IsPeer};
 ghost use Rattle.ec_services.specs.Progress.{Known};
 ghost use Rattle.ec_services.specs.Surely.{IsSure, begun, next_decides, next_known, next_sent};
-ghost use Rattle.ec_services.specs.Transfer.{uploaded_by, downloaded_by};
+ghost use Rattle.ec_services.specs.Transfer.{uploading, downloading};
 ghost use Rattle.ec_services.specs.declared.fault.MasterFault.{MasterFault};
 ghost use Rattle.ec_services.specs.declared.fault.MasterFault.TheVariants.{Abort};
 ghost use Rattle.ec_services.specs.declared.mailbox.Peer.{Peer};
@@ -54,12 +54,12 @@ pub fn uploads_recover()
     ensures result { (peer peer_later : Peer) (index sub limit : ℕ) (s : SlaveState)
         (result : Result Value MasterFault) (later : History)
         → IsPeer peer → IsOfPeer peer s → IsRequest (Upload index sub)
-        → IsSure SlaveTrips (begun_at s) peer (Upload index sub) limit uploaded_by result peer_later later
+        → IsSure SlaveTrips (begun_at s) peer (uploading index sub) limit result peer_later later
         → HasNoAnswer result ⊎ (result ≡ upload_of index sub later.now.application.objects) }
     ensures held { (peer peer_later : Peer) (index sub limit : ℕ) (s : SlaveState) (value : Value)
         (later : History)
         → IsPeer peer → IsOfPeer peer s → IsRequest (Upload index sub)
-        → IsSure SlaveTrips (begun_at s) peer (Upload index sub) limit uploaded_by (Ok value) peer_later later
+        → IsSure SlaveTrips (begun_at s) peer (uploading index sub) limit (Ok value) peer_later later
         → value_at index sub later.now.application.objects ≡ Some value }
 {}
 
@@ -73,19 +73,19 @@ pub fn downloads_recover()
     ensures result { (peer peer_later : Peer) (index sub : ℕ) (value : Value) (limit : ℕ) (s : SlaveState)
         (result : Result (Unit {0}) MasterFault) (later : History)
         → IsPeer peer → IsOfPeer peer s → IsRequest (Download index sub value)
-        → IsSure SlaveTrips (begun_at s) peer (Download index sub value) limit downloaded_by result
+        → IsSure SlaveTrips (begun_at s) peer (downloading index sub value) limit result
         peer_later later
         → HasNoAnswer result ⊎ OneIs (IsStored index sub value result later.now) (times_of later) }
     ensures held { (peer peer_later : Peer) (index sub : ℕ) (value : Value) (limit : ℕ) (s : SlaveState)
         (later : History)
         → IsPeer peer → IsOfPeer peer s → IsRequest (Download index sub value)
-        → IsSure SlaveTrips (begun_at s) peer (Download index sub value) limit downloaded_by (Ok tt)
+        → IsSure SlaveTrips (begun_at s) peer (downloading index sub value) limit (Ok tt)
         peer_later later
         → value_at index sub later.now.application.objects ≡ Some value }
     ensures throughout { (peer peer_later : Peer) (index sub : ℕ) (value : Value) (limit : ℕ)
         (s : SlaveState) (result : Result (Unit {0}) MasterFault) (later : History)
         → IsPeer peer → IsOfPeer peer s → IsRequest (Download index sub value)
-        → IsSure SlaveTrips (begun_at s) peer (Download index sub value) limit downloaded_by result
+        → IsSure SlaveTrips (begun_at s) peer (downloading index sub value) limit result
         peer_later later
         → HasNoAnswer result
         ⊎ AllByRecursion (λ (t : SlaveState). result ≡ download_of index sub value t.application.objects)
@@ -99,12 +99,12 @@ pub fn ten_trips_are_enough()
     ensures upload { (peer peer_later : Peer) (index sub limit : ℕ) (s : SlaveState)
         (result : Result Value MasterFault) (later : History)
         → IsPeer peer → IsOfPeer peer s → IsRequest (Upload index sub) → TakesMail s → 10 ≤ limit
-        → IsSure CalmTrips (begun_at s) peer (Upload index sub) limit uploaded_by result peer_later later
+        → IsSure CalmTrips (begun_at s) peer (uploading index sub) limit result peer_later later
         → result ≡ upload_of index sub later.now.application.objects }
     ensures download { (peer peer_later : Peer) (index sub : ℕ) (value : Value) (limit : ℕ) (s : SlaveState)
         (result : Result (Unit {0}) MasterFault) (later : History)
         → IsPeer peer → IsOfPeer peer s → IsRequest (Download index sub value) → TakesMail s → 10 ≤ limit
-        → IsSure CalmTrips (begun_at s) peer (Download index sub value) limit downloaded_by result peer_later
+        → IsSure CalmTrips (begun_at s) peer (downloading index sub value) limit result peer_later
         later
         → OneIs (IsStored index sub value result later.now) (times_of later) }
 {}
@@ -127,16 +127,16 @@ pub fn calls_over_a_ring()
         (before behind : List SlaveState) (s : SlaveState) (result : Result Value MasterFault)
         (later : RingHistory)
         → IsPeer peer → HasSlave peer r before s behind → IsRequest (Upload index sub)
-        → IsSure WeatherSteps (begun_ring r) peer (Upload index sub) limit uploaded_by result peer_later later
-        → IsSure SlaveTrips (begun_at s) peer (Upload index sub) limit uploaded_by result peer_later
+        → IsSure WeatherSteps (begun_ring r) peer (uploading index sub) limit result peer_later later
+        → IsSure SlaveTrips (begun_at s) peer (uploading index sub) limit result peer_later
         (history_at (length before) s later) }
     ensures download { (peer peer_later : Peer) (index sub : ℕ) (value : Value) (limit : ℕ) (r : RingState)
         (before behind : List SlaveState) (s : SlaveState) (result : Result (Unit {0}) MasterFault)
         (later : RingHistory)
         → IsPeer peer → HasSlave peer r before s behind → IsRequest (Download index sub value)
-        → IsSure WeatherSteps (begun_ring r) peer (Download index sub value) limit downloaded_by result
+        → IsSure WeatherSteps (begun_ring r) peer (downloading index sub value) limit result
         peer_later later
-        → IsSure SlaveTrips (begun_at s) peer (Download index sub value) limit downloaded_by result peer_later
+        → IsSure SlaveTrips (begun_at s) peer (downloading index sub value) limit result peer_later
         (history_at (length before) s later) }
     ensures ready { (peer : Peer) (r : RingState) (before behind : List SlaveState) (s : SlaveState)
         → HasPeer peer r before s behind → HasSlave peer r before s behind }
@@ -150,19 +150,19 @@ pub fn recovery_over_a_ring()
     ensures uploaded { (peer peer_later : Peer) (index sub limit : ℕ) (r : RingState)
         (before behind : List SlaveState) (s : SlaveState) (value : Value) (later : RingHistory)
         → IsPeer peer → HasSlave peer r before s behind → IsRequest (Upload index sub)
-        → IsSure WeatherSteps (begun_ring r) peer (Upload index sub) limit uploaded_by (Ok value) peer_later
+        → IsSure WeatherSteps (begun_ring r) peer (uploading index sub) limit (Ok value) peer_later
         later
         → value_at index sub (slave_at (length before) s later.now).application.objects ≡ Some value }
     ensures downloaded { (peer peer_later : Peer) (index sub : ℕ) (value : Value) (limit : ℕ)
         (r : RingState) (before behind : List SlaveState) (s : SlaveState) (later : RingHistory)
         → IsPeer peer → HasSlave peer r before s behind → IsRequest (Download index sub value)
-        → IsSure WeatherSteps (begun_ring r) peer (Download index sub value) limit downloaded_by (Ok tt)
+        → IsSure WeatherSteps (begun_ring r) peer (downloading index sub value) limit (Ok tt)
         peer_later later
         → value_at index sub (slave_at (length before) s later.now).application.objects ≡ Some value }
     ensures refused { (peer peer_later : Peer) (index sub : ℕ) (value : Value) (limit code : ℕ)
         (r : RingState) (before behind : List SlaveState) (s : SlaveState) (later : RingHistory)
         → IsPeer peer → HasSlave peer r before s behind → IsRequest (Download index sub value)
-        → IsSure WeatherSteps (begun_ring r) peer (Download index sub value) limit downloaded_by
+        → IsSure WeatherSteps (begun_ring r) peer (downloading index sub value) limit
         (Err (Abort code)) peer_later later
         → AllByRecursion (λ (t : SlaveState). Err (Abort code) ≡ download_of index sub value
         t.application.objects) (times_of (history_at (length before) s later)) }
@@ -177,14 +177,14 @@ pub fn ten_trips_over_a_ring()
         (later : RingState)
         → IsPeer peer → HasSlave peer r before s behind → AtMostOneDown r → TakesMail s
         → IsRequest (Upload index sub) → 10 ≤ limit
-        → IsSure RingTrips r peer (Upload index sub) limit uploaded_by result peer_later later
+        → IsSure RingTrips r peer (uploading index sub) limit result peer_later later
         → result ≡ upload_of index sub (slave_at (length before) s later).application.objects }
     ensures download { (peer peer_later : Peer) (index sub : ℕ) (value : Value) (limit : ℕ) (r : RingState)
         (before behind : List SlaveState) (s : SlaveState) (result : Result (Unit {0}) MasterFault)
         (later : RingState)
         → IsPeer peer → HasSlave peer r before s behind → AtMostOneDown r → TakesMail s
         → IsRequest (Download index sub value) → 10 ≤ limit
-        → IsSure RingTrips r peer (Download index sub value) limit downloaded_by result peer_later later
+        → IsSure RingTrips r peer (downloading index sub value) limit result peer_later later
         → HoldsStored index sub value result s (slave_at (length before) s later) }
 {}
 
@@ -195,11 +195,11 @@ pub fn recovery_over_ring_ports()
     ensures uploaded { (peer peer_later : Peer) (index sub limit : ℕ) (r : RingState)
         (before behind : List SlaveState) (s : SlaveState) (value : Value) (later : RingState)
         → IsPeer peer → HasSlave peer r before s behind → IsRequest (Upload index sub)
-        → IsSure RingTrips r peer (Upload index sub) limit uploaded_by (Ok value) peer_later later
+        → IsSure RingTrips r peer (uploading index sub) limit (Ok value) peer_later later
         → value_at index sub (slave_at (length before) s later).application.objects ≡ Some value }
     ensures downloaded { (peer peer_later : Peer) (index sub : ℕ) (value : Value) (limit : ℕ)
         (r : RingState) (before behind : List SlaveState) (s : SlaveState) (later : RingState)
         → IsPeer peer → HasSlave peer r before s behind → IsRequest (Download index sub value)
-        → IsSure RingTrips r peer (Download index sub value) limit downloaded_by (Ok tt) peer_later later
+        → IsSure RingTrips r peer (downloading index sub value) limit (Ok tt) peer_later later
         → value_at index sub (slave_at (length before) s later).application.objects ≡ Some value }
 {}

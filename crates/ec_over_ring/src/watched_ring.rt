@@ -3,12 +3,13 @@
 
 ghost use Rattle.std.specs.Prelude.{List, Result};
 ghost use Rattle.ec_wire.specs.Datagram.{DatagramRecord};
+ghost use Rattle.ec_ring.specs.Arrivals.{copies_came};
 ghost use Rattle.ec_ring.specs.Ring.{RingState};
 ghost use Rattle.ec_ring.specs.declared.arrivals.Arrivals.{Arrivals};
 ghost use Rattle.ec_ring.specs.declared.port.PortFault.{PortFault};
 ghost use Rattle.ec_master.specs.RingTrips.{RingTrips};
 ghost use Rattle.ec_run.specs.Alike.{AreTripsOf};
-ghost use Rattle.ec_run.specs.Watched.{WatchedState, WatchedTrips, came_of};
+ghost use Rattle.ec_run.specs.Watched.{WatchedState, WatchedTrips};
 ghost use Rattle.ec_over_ring.specs.Heard.{HeardRing};
 
 /// A ring that says where copies arrived, and whose slaves take their step with each trip, makes the trips of
@@ -18,7 +19,7 @@ ghost use Rattle.ec_over_ring.specs.Heard.{HeardRing};
 pub fn watched_ring()
     ensures heard { (before : RingState) (sent : List DatagramRecord) (arrivals : Result Arrivals PortFault)
         (later : RingState) → HeardRing before sent arrivals later
-        → RingTrips before sent (came_of arrivals) later }
+        → RingTrips before sent (copies_came arrivals) later }
     ensures watched { AreTripsOf (λ (w : WatchedState RingState). w.ports) (WatchedTrips HeardRing)
         RingTrips }
 {}

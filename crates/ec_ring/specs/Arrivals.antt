@@ -1,5 +1,5 @@
 -- A frame's trip, with the port where each copy arrived.
-use Rattle.std.specs.Prelude.{◌≡◌, Bool, if◌then◌else◌, Option, None, Some, List, Result, Ok}
+use Rattle.std.specs.Prelude.{◌≡◌, Bool, if◌then◌else◌, Option, None, Some, List, Result, Ok, Err}
 use Rattle.std.specs.Option.{option_map}
 use Rattle.ec_wire.specs.Datagram.{DatagramRecord}
 use Rattle.ec_esc.specs.State.{ControllerState}
@@ -46,6 +46,11 @@ copies_of x = record {
   a = option_map (λ (y : Arrival). y.frame) x.a;
   b = option_map (λ (y : Arrival). y.frame) x.b;
 }
+
+-- the same of a trip in which a port may have failed
+abbrev pub copies_came : Result Arrivals PortFault → Result Came PortFault
+copies_came (Err failed) = Err failed
+copies_came (Ok arrivals) = Ok (copies_of arrivals)
 
 -- a ring as ports that say where copies arrived: a frame travels over it under its own links, copy A first
 abbrev pub RingArrivals : RingState → List DatagramRecord → Result Arrivals PortFault → RingState → Type 0

@@ -12,6 +12,7 @@ use Rattle.ec_master.specs.Ports.{Trips}
 use Rattle.ec_services.specs.Ask.{Answer, Asks, IsAsked, Question, Talks}
 use Rattle.ec_services.specs.Course.{Course, IsStep, Runs}
 use Rattle.ec_services.specs.Surely.{IsSure}
+use Rattle.ec_services.specs.Transfer.{service_of}
 use Rattle.ec_services.specs.declared.fault.MasterFault.{MasterFault}
 use Rattle.ec_services.specs.declared.mailbox.Peer.{Peer}
 use Rattle.ec_run.specs.Alike.{AreTripsOf}
@@ -95,7 +96,7 @@ talks_of f S T are before later (q ∷ rest) undecided result (Ok None, between,
 
 -- ---- a course of questions
 
-step_of : {P Q K A : Type 0} (f : P → Q) (S : Trips P) (T : Trips Q) → AreTripsOf f S T → (before later : P)
+pub step_of : {P Q K A : Type 0} (f : P → Q) (S : Trips P) (T : Trips Q) → AreTripsOf f S T → (before later : P)
     (course : Course K A) (known : K) (decided : Result (Option A) MasterFault) (learned : K)
     → IsStep S before course known decided learned later
     → IsStep T (f before) course known decided learned (f later)
@@ -138,8 +139,8 @@ runs_of f S T are before later course known (suc n) result last (Ok None, learne
 pub sure_of : {P Q A : Type 0} (f : P → Q) (S : Trips P) (T : Trips Q) → AreTripsOf f S T
     → (before later : P) (peer peer_later : Peer) (asked : Sdo) (limit : ℕ)
     (comes_to : Mail → Result A MasterFault) (result : Result A MasterFault)
-    → IsSure S before peer asked limit comes_to result peer_later later
-    → IsSure T (f before) peer asked limit comes_to result peer_later (f later)
+    → IsSure S before peer (service_of asked comes_to) limit result peer_later later
+    → IsSure T (f before) peer (service_of asked comes_to) limit result peer_later (f later)
 sure_of f S T are before later peer peer_later asked limit comes_to result sure = record {
   answer = sure.answer;
   last = sure.last;

@@ -1,5 +1,5 @@
 -- Steps, one question after the other and one step after the other.
-use Rattle.std.proofs.Common.{◌≡◌, ℕ, suc, ◌+◌, ◌<◌, arith, sym, ap, refl, ◌∙◌, subst}
+use Rattle.std.proofs.Common.{◌≡◌, ℕ, zero, suc, ◌+◌, ◌<◌, arith, sym, ap, refl, ◌∙◌, subst}
 use Rattle.std.proofs.Common.{List, [], ◌∷◌, length, drop, drop-cons, get_or, ◌≤◌, Option, None, Some}
 use Rattle.std.proofs.Common.{Result, Ok, Err}
 use Rattle.std.proofs.Common.{true, false}
@@ -14,6 +14,8 @@ use Rattle.ec_services.specs.Ask.{Question, IsAsked, Talks, done}
 use Rattle.ec_services.specs.declared.fault.MasterFault.{MasterFault}
 use Rattle.ec_run.specs.Phase.{AreDone, Brings}
 use Rattle.ec_run.specs.Step.{manager_talk, fmmu_talk, SetsManager, SetsFmmu, IsDone, IsTried}
+use Rattle.ec_run.specs.Step.{IsPart, SetsFmmuOn, SetsManagerOn, fmmu_question, is_last_of_fmmu}
+use Rattle.ec_run.specs.Step.{is_last_of_manager, manager_question}
 use Rattle.ec_run.specs.Step.{is_answered}
 use Rattle.ec_run.specs.declared.phase.StepFault.{StepFault}
 use Rattle.ec_run.specs.declared.step.Step.{Step}
@@ -54,6 +56,29 @@ sets_manager trips before later station n k managers s bytes r here there spelt 
     subst (λ (j : ℕ). SetsManager trips before station j (slice_get managers j) r later) here
     (subst (λ (m : Option SyncMan). SetsManager trips before station k m r later) (sym there)
     (subst (λ (bs : List ℕ). Talks trips before (manager_talk station k bs) (Ok tt) r later) spelt talk))
+
+pub sets_manager_on : {P : Type 0} (trips : Trips P) (before later : P) (station n k : ℕ)
+    (managers : List SyncMan) (s : SyncMan) (bytes : List ℕ) (asked : ℕ)
+    (told : Result (Option (Unit {0})) MasterFault) → k ≡ n → slice_get managers k ≡ Some s
+    → bytes ≡ sync_man_bytes s
+    → IsPart trips before (manager_question station k bytes asked) (is_last_of_manager asked) told later
+    → SetsManagerOn trips before station n (slice_get managers n) asked told later
+sets_manager_on trips before later station n k managers s bytes asked told here there spelt part =
+    subst (λ (j : ℕ). SetsManagerOn trips before station j (slice_get managers j) asked told later) here
+    (subst (λ (m : Option SyncMan). SetsManagerOn trips before station k m asked told later) (sym there)
+    (subst (λ (bs : List ℕ). IsPart trips before (manager_question station k bs asked) (is_last_of_manager asked)
+    told later) spelt part))
+
+pub sets_fmmu_on : {P : Type 0} (trips : Trips P) (before later : P) (station n k : ℕ) (fmmus : List Fmmu)
+    (m : Fmmu) (bytes : List ℕ) (asked : ℕ) (told : Result (Option (Unit {0})) MasterFault) → k ≡ n
+    → slice_get fmmus k ≡ Some m → bytes ≡ fmmu_bytes m
+    → IsPart trips before (fmmu_question station k bytes asked) (is_last_of_fmmu asked) told later
+    → SetsFmmuOn trips before station n (slice_get fmmus n) asked told later
+sets_fmmu_on trips before later station n k fmmus m bytes asked told here there spelt part =
+    subst (λ (j : ℕ). SetsFmmuOn trips before station j (slice_get fmmus j) asked told later) here
+    (subst (λ (f : Option Fmmu). SetsFmmuOn trips before station k f asked told later) (sym there)
+    (subst (λ (bs : List ℕ). IsPart trips before (fmmu_question station k bs asked) (is_last_of_fmmu asked)
+    told later) spelt part))
 
 -- ---- a step that is tried again
 

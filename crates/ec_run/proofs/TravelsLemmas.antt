@@ -1,7 +1,7 @@
 -- How many trips steps, looks and recoveries make at the most, and where the last one of them begins.
 use Rattle.std.proofs.Common.{◌≡◌, ◌≤◌, ℕ, zero, suc, ◌+◌, ◌*◌, Bool, true, false, List, [], ◌∷◌}
 use Rattle.std.proofs.Common.{length, refl, sym, ap, ◌∙◌, subst, arith, Option, None, Some, Result, Ok, Err}
-use Rattle.std.proofs.Common.{replicate}
+use Rattle.std.proofs.Common.{replicate, slice_get}
 use Rattle.std.proofs.Math.Nat.{suc-mul}
 use Rattle.std.proofs.lemmas.List.{length-replicate}
 use Rattle.ec_regs.specs.declared.al.AlState.{AlState}
@@ -17,18 +17,21 @@ use Rattle.ec_services.specs.States.{IsRequested, control_write, status_question
 use Rattle.ec_services.specs.declared.fault.MasterFault.{MasterFault}
 use Rattle.ec_services.specs.declared.fault.MasterFault.TheVariants.{NoAnswer}
 use Rattle.ec_services.specs.declared.mailbox.Peer.{Peer}
+use Rattle.ec_services.specs.declared.surely.Progress.{Progress}
 use Rattle.ec_run.specs.Phase.{AreDone, Brings, steps_from}
 use Rattle.ec_run.specs.Recovering.{RecoveryState}
 use Rattle.ec_run.specs.Recovery.{IsDealtWith, IsLookedAt, IsLookedFor, IsLookedUp, IsRecovered, IsSeenTo}
 use Rattle.ec_run.specs.Recovery.{is_nobody}
 use Rattle.ec_run.specs.Recovery.{remedy_of, steps_for}
-use Rattle.ec_run.specs.StartupObjects.{WritesObject, WritesStartup, startup_peer}
-use Rattle.ec_run.specs.Step.{IsDone, IsTried, SetsFmmu, SetsManager, fmmu_number, is_answered}
+use Rattle.ec_run.specs.StartupObjects.{WritesObject, WritesObjectOn, WritesStartup, WritesStartupOn}
+use Rattle.ec_run.specs.StartupObjects.{startup_peer}
+use Rattle.ec_run.specs.Step.{IsDone, IsPart, IsTried, SetsFmmu, SetsFmmuOn, SetsManager, SetsManagerOn}
+use Rattle.ec_run.specs.Step.{fmmu_number, is_answered}
 use Rattle.ec_run.specs.Step.{manager_number, startup_number}
 use Rattle.ec_run.specs.Along.{IsAlong}
 use Rattle.ec_run.specs.Travels.{IsWithin, Travels, look_trips, recovery_trips, trips_of, trips_of_all}
 use Rattle.ec_run.specs.Travels.{turn_trips}
-use Rattle.ec_run.specs.Turns.{IsDoneAtOnce, IsTaken, IsTurn, IsTurnWith, Told, due}
+use Rattle.ec_run.specs.Turns.{IsDoneAtOnce, IsStateTurn, IsTaken, IsTurn, IsTurnWith, Told, due}
 use Rattle.ec_run.specs.declared.along.Along.{Along}
 use Rattle.ec_run.specs.declared.phase.Phase.{Phase}
 use Rattle.ec_run.specs.declared.phase.Phase.TheVariants as phase
@@ -402,33 +405,84 @@ asked_within trips before later q decided asked =
     within_less trips 1 turn_trips before later less
     (asks_within trips before later q.sent asked.answer asked.asks)
 
-taken_within : {P : Type 0} (trips : Trips P) (before later : P) (place : ℕ) (wanted : Wanted) (step : Step)
-    (asked : ℕ) (told : Told) → IsTaken trips before place wanted step asked told later
+state_turn_within : {P : Type 0} (trips : Trips P) (before later : P) (station : ℕ) (state : AlState)
+    (asked : ℕ) (told : Told) → IsStateTurn trips before station state asked told later
     → IsWithin trips turn_trips before later
-taken_within trips before later place wanted Station asked told taken =
-    done_at_once_within trips before later place wanted Station told (omega arith) taken
-taken_within trips before later place wanted (StationBehind first) asked told taken =
-    done_at_once_within trips before later place wanted (StationBehind first) told (omega arith) taken
-taken_within trips before later place wanted StationBefore asked told taken =
-    done_at_once_within trips before later place wanted StationBefore told (omega arith) taken
-taken_within trips before later place wanted (SyncManager n) asked told taken =
-    done_at_once_within trips before later place wanted (SyncManager n) told (omega arith) taken
-taken_within trips before later place wanted (FmmuRecord n) asked told taken =
-    done_at_once_within trips before later place wanted (FmmuRecord n) told (omega arith) taken
-taken_within trips before later place wanted (Startup n) asked told taken =
-    done_at_once_within trips before later place wanted (Startup n) told (omega arith) taken
-taken_within trips before later place wanted (State state) zero told taken =
-    asked_within trips before later (write (control_write wanted.station state)) told taken
-taken_within trips before later place wanted (State state) (suc asked) told taken =
-    asked_within trips before later (status_question wanted.station state) told taken
+state_turn_within trips before later station state zero told turn =
+    asked_within trips before later (write (control_write station state)) told turn
+state_turn_within trips before later station state (suc asked) told turn =
+    asked_within trips before later (status_question station state) told turn
+
+part_within : {P : Type 0} (trips : Trips P) (before later : P) (q : Question (Unit {0})) (last : Bool)
+    (told : Told) → IsPart trips before q last told later → IsWithin trips turn_trips before later
+part_within trips before later q last told part =
+    asked_within trips before later q part.decided part.asked
+
+manager_on_within : {P : Type 0} (trips : Trips P) (before later : P) (station n : ℕ) (s : Option SyncMan)
+    (asked : ℕ) (told : Told) → SetsManagerOn trips before station n s asked told later
+    → IsWithin trips turn_trips before later
+manager_on_within trips before later station n None asked told sets = absurd sets
+manager_on_within trips before later station n (Some s) asked told sets =
+    part_within trips before later _ _ told sets
+
+fmmu_on_within : {P : Type 0} (trips : Trips P) (before later : P) (station n : ℕ) (m : Option Fmmu)
+    (asked : ℕ) (told : Told) → SetsFmmuOn trips before station n m asked told later
+    → IsWithin trips turn_trips before later
+fmmu_on_within trips before later station n None asked told sets = absurd sets
+fmmu_on_within trips before later station n (Some m) asked told sets =
+    part_within trips before later _ _ told sets
+
+-- a startup object takes one trip in a turn
+object_on_within : {P : Type 0} (trips : Trips P) (before later : P) (peer : Option Peer)
+    (object : StartupObject) (written : Option Progress) (told : Told) (written_later : Option Progress)
+    → WritesObjectOn trips before peer object written told written_later later
+    → IsWithin trips turn_trips before later
+object_on_within trips before later None object written told written_later (is, kept, same) =
+    within_none trips turn_trips before later same
+object_on_within trips before later (Some peer) object written told written_later (progress, is, goes) =
+    let less : 1 ≤ turn_trips = omega arith in
+    within_less trips 1 turn_trips before later less
+    (asks_within trips before later _ goes.step.answer goes.step.asks)
+
+startup_on_within : {P : Type 0} (trips : Trips P) (before later : P) (peer : Option Peer)
+    (object : Option (Option StartupObject)) (written : Option Progress) (told : Told)
+    (written_later : Option Progress)
+    → WritesStartupOn trips before peer object written told written_later later
+    → IsWithin trips turn_trips before later
+startup_on_within trips before later peer None written told written_later writes = absurd writes
+startup_on_within trips before later peer (Some None) written told written_later (is, kept, same) =
+    within_none trips turn_trips before later same
+startup_on_within trips before later peer (Some (Some object)) written told written_later writes =
+    object_on_within trips before later peer object written told written_later writes
+
+taken_within : {P : Type 0} (trips : Trips P) (before later : P) (wanted : Wanted) (r : RecoveryState)
+    (step : Step) (told : Told) (r_later : RecoveryState)
+    → IsTaken trips before wanted r step told r_later later → IsWithin trips turn_trips before later
+taken_within trips before later wanted r Station told r_later (done, is) =
+    done_at_once_within trips before later r.place wanted Station told (omega arith) done
+taken_within trips before later wanted r (StationBehind first) told r_later (done, is) =
+    done_at_once_within trips before later r.place wanted (StationBehind first) told (omega arith) done
+taken_within trips before later wanted r StationBefore told r_later (done, is) =
+    done_at_once_within trips before later r.place wanted StationBefore told (omega arith) done
+taken_within trips before later wanted r (SyncManager n) told r_later (sets, is) =
+    manager_on_within trips before later wanted.station (manager_number n)
+    (slice_get wanted.managers (manager_number n)) r.asked told sets
+taken_within trips before later wanted r (FmmuRecord n) told r_later (sets, is) =
+    fmmu_on_within trips before later wanted.station (fmmu_number n)
+    (slice_get wanted.fmmus (fmmu_number n)) r.asked told sets
+taken_within trips before later wanted r (Startup n) told r_later (written, writes, is) =
+    startup_on_within trips before later (startup_peer wanted (startup_number n))
+    (slice_get wanted.startup (startup_number n)) r.written told written writes
+taken_within trips before later wanted r (State state) told r_later (turn, is) =
+    state_turn_within trips before later wanted.station state r.asked told turn
 
 turn_with_within : {P : Type 0} (trips : Trips P) (before later : P) (wanted : Wanted) (r : RecoveryState)
     (steps : List Step) (turn : Turn) → IsTurnWith trips before wanted r steps turn later
     → IsWithin trips turn_trips before later
 turn_with_within trips before later wanted r [] turn (is, same) =
     within_none trips turn_trips before later same
-turn_with_within trips before later wanted r (step ∷ rest) turn (told, taken, is) =
-    taken_within trips before later r.place wanted step r.asked told taken
+turn_with_within trips before later wanted r (step ∷ rest) turn (told, r_later, taken, is) =
+    taken_within trips before later wanted r step told r_later taken
 
 pub turn_within : {P : Type 0} (trips : Trips P) (before later : P) (wanted : Wanted) (r : RecoveryState)
     (turn : Turn) → IsTurn trips before wanted r turn later → IsWithin trips turn_trips before later

@@ -2,17 +2,19 @@
 -- by mail, surely, where both mailboxes are there.
 use Rattle.std.specs.Prelude.{◌≡◌, ℕ, ◌+◌, ◌%◌, ◌&&◌, if◌then◌else◌, Option, None, Some, Result, Ok, Err}
 use Rattle.std.specs.Prelude.{slice_get}
+use Rattle.std.specs.Option.{unwrap_or}
 use Rattle.ec_regs.specs.declared.sync_man.SyncMan.{SyncMan}
 use Rattle.ec_app.specs.Roles.{is_request_mailbox, is_answer_mailbox}
 use Rattle.ec_app.specs.declared.roles.TheConstants.{REQUEST_MAILBOX, ANSWER_MAILBOX}
 use Rattle.ec_app.specs.declared.sdo.Sdo.TheVariants.{Download}
 use Rattle.ec_master.specs.Ports.{Trips}
-use Rattle.ec_services.specs.Surely.{IsSure}
-use Rattle.ec_services.specs.Transfer.{downloaded_by}
+use Rattle.ec_services.specs.Surely.{GoesOn, IsSure, begun}
+use Rattle.ec_services.specs.Transfer.{downloading}
 use Rattle.ec_services.specs.declared.fault.MasterFault.{MasterFault}
 use Rattle.ec_services.specs.declared.fault.MasterFault.TheVariants.{NoSlave}
 use Rattle.ec_services.specs.declared.mailbox.Area.{Area}
 use Rattle.ec_services.specs.declared.mailbox.Peer.{Peer}
+use Rattle.ec_services.specs.declared.surely.Progress.{Progress}
 use Rattle.ec_run.specs.declared.objects.TheConstants.{STARTUP_TRIPS}
 use Rattle.ec_run.specs.declared.wanted.StartupObject.{StartupObject}
 use Rattle.ec_run.specs.declared.wanted.Wanted.{Wanted}
@@ -51,7 +53,7 @@ abbrev pub WritesObject : {P : Type 0} → Trips P → P → Option Peer → Sta
 WritesObject trips before None object result later = (result ≡ Err NoSlave) × (later ≡ before)
 WritesObject trips before (Some peer) object result later =
     (peer_later : Peer)
-    × IsSure trips before peer (Download object.index object.sub object.value) STARTUP_TRIPS downloaded_by
+    × IsSure trips before peer (downloading object.index object.sub object.value) STARTUP_TRIPS
     result peer_later later
 
 -- the startup object that has a place in the list is written, if one stands there
@@ -62,3 +64,24 @@ WritesStartup trips before peer None result later = ⊥
 WritesStartup trips before peer (Some None) result later = (result ≡ Ok tt) × (later ≡ before)
 WritesStartup trips before peer (Some (Some object)) result later =
     WritesObject trips before peer object result later
+
+-- ---- the write, a trip at a time
+
+-- one trip more by which an object is written to a slave; the first one begins it
+abbrev pub WritesObjectOn : {P : Type 0} → Trips P → P → Option Peer → StartupObject → Option Progress
+    → Result (Option (Unit {0})) MasterFault → Option Progress → P → Type 0
+WritesObjectOn trips before None object written told written_later later =
+    (told ≡ Err NoSlave) × (written_later ≡ written) × (later ≡ before)
+WritesObjectOn trips before (Some peer) object written told written_later later =
+    (progress : Progress) × (written_later ≡ Some progress)
+    × GoesOn trips before (downloading object.index object.sub object.value)
+    (unwrap_or written (begun peer)) told progress later
+
+-- one by which the startup object is written that has a place in the list, if one stands there
+abbrev pub WritesStartupOn : {P : Type 0} → Trips P → P → Option Peer → Option (Option StartupObject)
+    → Option Progress → Result (Option (Unit {0})) MasterFault → Option Progress → P → Type 0
+WritesStartupOn trips before peer None written told written_later later = ⊥
+WritesStartupOn trips before peer (Some None) written told written_later later =
+    (told ≡ Ok (Some tt)) × (written_later ≡ written) × (later ≡ before)
+WritesStartupOn trips before peer (Some (Some object)) written told written_later later =
+    WritesObjectOn trips before peer object written told written_later later

@@ -1,9 +1,9 @@
 -- A slave is brought up step by step (IEC 61158-6-12, AL management; IEC 61158-4-12, sync manager and FMMU
 -- entities): it gets its station address, its records are written and read back, its startup objects are
 -- written, it is asked for a state.
-use Rattle.std.specs.Prelude.{◌≡◌, ℕ, zero, suc, ◌+◌, ◌-◌, ◌*◌, ◌%◌, ◌==◌, nat_lt, Bool, true, false, Option}
+use Rattle.std.specs.Prelude.{◌≡◌, ℕ, zero, suc, ◌+◌, ◌-◌, ◌*◌, ◌%◌, ◌==◌, ◌&&◌, nat_lt, Bool, true, false}
 use Rattle.std.specs.Prelude.{None, Some, List, [], ◌∷◌, length, take, replicate, Result, Ok, Err, not}
-use Rattle.std.specs.Prelude.{nat_eq, slice_get, slice_index}
+use Rattle.std.specs.Prelude.{Option, if◌then◌else◌, nat_eq, slice_get, slice_index}
 use Rattle.std.specs.Cmp.Lexicographic.{pointwise}
 use Rattle.ec_wire.specs.Datagram.{DatagramRecord, address_of}
 use Rattle.ec_wire.specs.declared.command.Command.TheVariants.{Fprd, Fpwr}
@@ -16,7 +16,7 @@ use Rattle.ec_regs.specs.declared.registers.TheConstants.{SYNC_MANAGER_COUNT, SY
 use Rattle.ec_regs.specs.declared.sync_man.SyncMan.{SyncMan}
 use Rattle.ec_app.specs.Table.{first_fitting}
 use Rattle.ec_master.specs.Ports.{Trips}
-use Rattle.ec_services.specs.Ask.{request, Answer, told_by, Question, Talks, write}
+use Rattle.ec_services.specs.Ask.{request, Answer, told_by, IsAsked, Question, Talks, write}
 use Rattle.ec_services.specs.States.{IsRequested}
 use Rattle.ec_services.specs.Stations.{station_write}
 use Rattle.ec_services.specs.declared.fault.MasterFault.{MasterFault}
@@ -115,6 +115,58 @@ abbrev pub SetsFmmu : {P : Type 0} → Trips P → P → ℕ → ℕ → Option 
 SetsFmmu trips before station n None result later = ⊥
 SetsFmmu trips before station n (Some f) result later =
     Talks trips before (fmmu_talk station n (fmmu_bytes f)) (Ok tt) result later
+
+-- ---- records, a question at a time
+
+-- what an answer to a question of a step tells, behind the last one that it is done
+abbrev pub told_behind :
+    Bool → Result (Option (Unit {0})) MasterFault → Result (Option (Unit {0})) MasterFault
+told_behind last (Err fault) = Err fault
+told_behind last (Ok decided) = if last then Ok (Some tt) else Ok None
+
+-- a question of a step is asked, the last one or another
+pub record IsPart {P : Type 0} (trips : Trips P) (before : P) (q : Question (Unit {0})) (last : Bool)
+    (told : Result (Option (Unit {0})) MasterFault) (later : P) : Type 0 where
+  pub decided : Result (Option (Unit {0})) MasterFault
+  pub asked : IsAsked trips before q decided later
+  pub tells : told ≡ told_behind last decided
+
+-- those by which a sync manager is set, by how many were asked, and whether it is the last one
+abbrev pub manager_question : ℕ → ℕ → List ℕ → ℕ → Question (Unit {0})
+manager_question station n bytes asked =
+    let at = SYNC_MANAGER_BASE + SYNC_MANAGER_SIZE * n in
+    if asked == 0 then write (register_write station (at + SYNC_MANAGER_ACTIVATE) (0 ∷ []))
+    else if asked == 1 then write (register_write station at bytes)
+    else if asked == 2 then holds station at (take AREA_BYTES bytes)
+    else holds station (at + SYNC_MANAGER_ACTIVATE) (slice_index bytes SWITCH_AT ∷ [])
+
+abbrev pub is_last_of_manager : ℕ → Bool
+is_last_of_manager asked = not (asked == 0) && (not (asked == 1) && not (asked == 2))
+
+-- those by which an FMMU is set
+abbrev pub fmmu_question : ℕ → ℕ → List ℕ → ℕ → Question (Unit {0})
+fmmu_question station n bytes asked =
+    let at = FMMU_BASE + FMMU_SIZE * n in
+    if asked == 0 then write (register_write station at bytes) else holds station at bytes
+
+abbrev pub is_last_of_fmmu : ℕ → Bool
+is_last_of_fmmu asked = not (asked == 0)
+
+-- the next of them is asked, of a record that is there
+abbrev pub SetsManagerOn : {P : Type 0} → Trips P → P → ℕ → ℕ → Option SyncMan → ℕ
+    → Result (Option (Unit {0})) MasterFault → P → Type 0
+SetsManagerOn trips before station n None asked told later = ⊥
+SetsManagerOn trips before station n (Some s) asked told later =
+    IsPart trips before (manager_question station n (sync_man_bytes s) asked) (is_last_of_manager asked) told
+    later
+
+abbrev pub SetsFmmuOn : {P : Type 0} → Trips P → P → ℕ → ℕ → Option Fmmu → ℕ
+    → Result (Option (Unit {0})) MasterFault → P → Type 0
+SetsFmmuOn trips before station n None asked told later = ⊥
+SetsFmmuOn trips before station n (Some f) asked told later =
+    IsPart trips before (fmmu_question station n (fmmu_bytes f) asked) (is_last_of_fmmu asked) told later
+
+-- ---- steps as a whole
 
 -- a step with the slave at a place is done once
 abbrev pub IsDone : {P : Type 0} → Trips P → P → ℕ → Wanted → Step → Result (Unit {0}) MasterFault → P

@@ -47,9 +47,9 @@ trips_of_all (step ∷ rest) = (MORE_TRIES + 1) * trips_of step + trips_of_all r
 abbrev pub look_trips : ℕ
 look_trips = MORE_LOOKS + 1
 
--- of a turn of a recovery: those of a startup object, which has more than any other step
+-- of a turn of a recovery
 abbrev pub turn_trips : ℕ
-turn_trips = STARTUP_TRIPS
+turn_trips = 1
 
 -- of a recovery: the looks, and all the steps that there are
 abbrev pub recovery_trips : ℕ

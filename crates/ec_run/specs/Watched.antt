@@ -1,16 +1,11 @@
 -- Ports that say where copies arrive, as ports of a master that keep what the copies told.
 use Rattle.std.specs.Prelude.{◌≡◌, List, Result, Ok, Err}
 use Rattle.ec_wire.specs.Datagram.{DatagramRecord}
-use Rattle.ec_ring.specs.Arrivals.{copies_of}
+use Rattle.ec_ring.specs.Arrivals.{copies_came}
 use Rattle.ec_ring.specs.declared.arrivals.Arrivals.{Arrivals}
 use Rattle.ec_ring.specs.declared.port.PortFault.{PortFault}
 use Rattle.ec_ring.specs.declared.weather.Came.{Came}
 use Rattle.ec_run.specs.Tally.{TallyRecord, nothing_told, with_frame}
-
--- the copies, wherever they arrived
-abbrev pub came_of : Result Arrivals PortFault → Result Came PortFault
-came_of (Err failed) = Err failed
-came_of (Ok arrivals) = Ok (copies_of arrivals)
 
 -- a trip of ports that say where copies arrive: which of them came counts, and where does not
 pub record PortsTrip {P : Type 0} (trips : P → List DatagramRecord → Result Arrivals PortFault → P
@@ -18,7 +13,7 @@ pub record PortsTrip {P : Type 0} (trips : P → List DatagramRecord → Result 
     (before : P) (sent : List DatagramRecord) (came : Result Came PortFault) (later : P) : Type 0 where
   pub arrivals : Result Arrivals PortFault
   pub made : trips before sent arrivals later
-  pub copies : came ≡ came_of arrivals
+  pub copies : came ≡ copies_came arrivals
 
 -- ---- what the copies told
 
@@ -43,5 +38,5 @@ pub record WatchedTrips {P : Type 0} (trips : P → List DatagramRecord → Resu
     (later : WatchedState P) : Type 0 where
   pub arrivals : Result Arrivals PortFault
   pub made : trips before.ports sent arrivals later.ports
-  pub copies : came ≡ came_of arrivals
+  pub copies : came ≡ copies_came arrivals
   pub told : later.tally ≡ tally_behind before.tally sent arrivals

@@ -20,8 +20,8 @@
 //! - [`Cycles`] is a work that is done again and again: [`Cycles::cycle`] makes one. Its [`Outputs`] may be
 //!   images of a text, a line for each cycle ([`read_images`]).
 //! - [`recover`] looks at a slave and brings it up again; [`Seen::remedy`] is the table of what is done.
-//!   Beside cycles a [`Recovery`] does it in turns, one step behind each; [`look_along`] asks many slaves by
-//!   one frame whether they are in Op.
+//!   Beside cycles a [`Recovery`] does it in turns, by one frame behind each; [`look_along`] asks many slaves
+//!   by one frame whether they are in Op.
 //! - [`states_item`] reads the states of all slaves in each cycle; [`leave`] asks all of them for a state.
 //! - [`Watched`] are ports that keep what the copies of their frames told ([`Tally`]).
 //!
@@ -36,9 +36,9 @@
 //!   that the table has for what is seen are done with it in their order, until one fails. So one that is
 //!   said to be brought to Op has answered that it is there; that it is there then is a law over rings
 //!   (`ec_over_ring`, `recovered`). So many trips as `specs/Travels` says are the most.
-//! - [`Recovery::turn`] (`turn`): the steps that the same table has are done one behind the other, one in
-//!   each turn; a state is asked for in one turn, and AL status is read once in each turn behind it. So a
-//!   slave of which the last turn says that it was brought to Op has said so in that turn.
+//! - [`Recovery::turn`] (`turn`): the steps that the same table has are done one behind the other, by one
+//!   frame in each turn; a state is asked for in one turn, and AL status is read once in each turn behind it.
+//!   So a slave of which the last turn says that it was brought to Op has said so in that turn.
 //! - [`look_along`] (`along`): one frame reads the AL status of slaves of a line in their order, and which is
 //!   the first that does not say Op is exact.
 //! - [`Tally::take`]: of one frame more is kept how its copies came back, at which ports, and how far each
@@ -89,7 +89,7 @@ pub use phase::{PHASES, Phase, StepFault, bring, bring_line};
 pub use recovering::Recovery;
 pub use recovery::{Outcome, Remedy, Seen, look_at, look_for, recover, tells_places};
 pub use states::{LEAVE_ASKS, add_states, leave, states_item, tells_all_in_op};
-pub use step::{Step, startup_number};
+pub use step::{MOST_READS, Step, startup_number};
 pub use tally::{Signs, Tally, Ways};
 pub use turns::Turn;
 pub use wanted::{MAX_STARTUP, StartupObject, Wanted, wanted_of};

@@ -4,13 +4,14 @@ ghost use Rattle.std.specs.Prelude.{◌≡◌, ◌≤◌, ◌<◌, Err, IfSome, 
 ghost use Rattle.ec_services.specs.Mailbox.{IsPeer};
 ghost use Rattle.ec_services.specs.declared.fault.MasterFault.TheVariants.{Port};
 ghost use Rattle.ec_run.specs.StartupObjects.{area_of, peer_between, startup_peer, WritesObject};
-ghost use Rattle.ec_run.specs.StartupObjects.{WritesStartup};
+ghost use Rattle.ec_run.specs.StartupObjects.{WritesObjectOn, WritesStartup, WritesStartupOn};
+ghost use Rattle.ec_services.specs.declared.surely.Progress.{Progress as ProgressState};
 
 use crate::wanted::{MAX_STARTUP, StartupObject, Wanted};
 use ec_app::roles::{ANSWER_MAILBOX, REQUEST_MAILBOX, is_answer_mailbox, is_request_mailbox};
 use ec_master::Ports;
 use ec_regs::SyncMan;
-use ec_services::{Area, MasterFault, Peer, download_surely};
+use ec_services::{Area, MasterFault, Peer, Progress, download_on, download_surely};
 
 /// The most trips by which a startup object is written.
 pub(crate) const STARTUP_TRIPS: u32 = 64;
@@ -103,5 +104,53 @@ pub(crate) fn write_startup<P: Ports>(
     match wanted.startup_object(number) {
         None => Ok(()),
         Some(object) => write_object(ports, startup_peer(wanted, number), &object),
+    }
+}
+
+/// Makes one trip more by which an object of a slave is written, if it has mailboxes; the first one begins
+/// it.
+fn write_object_on<P: Ports>(
+    ports: &mut P,
+    peer: Option<Peer>,
+    object: &StartupObject,
+    written: &mut Option<Progress>,
+) -> Result<Option<()>, MasterFault>
+    requires peer { IfSome peer IsPeer }
+    requires written { IfSome written.old (λ (p : ProgressState). IsPeer p.peer) }
+    ensures writes { WritesObjectOn P.trips ports.old peer object.now written.old result written.new
+        ports.new }
+    ensures still_peer { IfSome written.new (λ (p : ProgressState). IsPeer p.peer) }
+    ensures never_lower { P.failed ports.old ≤ P.failed ports.new }
+{
+    let Some(peer) = peer else {
+        return Err(MasterFault::NoSlave);
+    };
+    let mut progress = match *written {
+        Some(progress) => progress,
+        None => Progress::begun(&peer),
+    };
+    let told = download_on(ports, &mut progress, object.index, object.sub, object.value);
+    *written = Some(progress);
+    told
+}
+
+/// Makes one trip more by which the startup object of a slave is written that has a place in its list, if one
+/// stands there.
+pub(crate) fn write_startup_on<P: Ports>(
+    ports: &mut P,
+    wanted: &Wanted,
+    number: usize,
+    written: &mut Option<Progress>,
+) -> Result<Option<()>, MasterFault>
+    requires number { number < MAX_STARTUP }
+    requires written { IfSome written.old (λ (p : ProgressState). IsPeer p.peer) }
+    ensures writes { WritesStartupOn P.trips ports.old (startup_peer wanted.now number)
+        (slice_get wanted.now.startup number) written.old result written.new ports.new }
+    ensures still_peer { IfSome written.new (λ (p : ProgressState). IsPeer p.peer) }
+    ensures never_lower { P.failed ports.old ≤ P.failed ports.new }
+{
+    match wanted.startup_object(number) {
+        None => Ok(Some(())),
+        Some(object) => write_object_on(ports, startup_peer(wanted, number), &object, written),
     }
 }

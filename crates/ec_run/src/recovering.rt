@@ -4,10 +4,12 @@ ghost use Rattle.std.specs.Prelude.{◌≡◌};
 
 use crate::recovery::Seen;
 use crate::step::Step;
+use ec_services::Progress;
 use std::marker::Model;
 
-/// A slave that is being brought to Op again, turn by turn. In a turn one step is done; a state is asked for
-/// in one turn, and in each one behind it AL status is read once, until the slave is there.
+/// A slave that is being brought to Op again, turn by turn. In a turn one frame goes out: a state is asked
+/// for in one turn, and in each one behind it AL status is read once, until the slave is there; a record is
+/// written in one and read back in the next; and a startup object is written a trip at a time.
 #[derive(Drop)]
 pub struct Recovery {
     /// Its place on the line, the first one's being 0.
@@ -20,9 +22,16 @@ pub struct Recovery {
     pub(crate) asked: u32,
     /// How often no slave answered in that one.
     pub(crate) unanswered: u32,
+    /// How far the startup object is that is being written, if one is.
+    pub(crate) written: Option<Progress>,
+    /// How often AL status is read at the most for a state that the slave is asked for.
+    pub(crate) reads: u32,
 }
 
 impl Model for Recovery {
+    ghost use Rattle.std.specs.Prelude.{IfSome};
+    ghost use Rattle.ec_services.specs.Mailbox.{IsPeer};
+    ghost use Rattle.ec_services.specs.declared.surely.Progress.{Progress as ProgressState};
     ghost use Rattle.ec_run.specs.Recovering.{RecoveryState};
 
     ghost Value = { RecoveryState };
@@ -33,7 +42,11 @@ impl Model for Recovery {
       steps = r.steps.now;
       asked = r.asked;
       unanswered = r.unanswered;
+      written = r.written;
+      reads = r.reads;
     } };
+
+    ghost invariant = { λ r. IfSome r.written (λ (p : ProgressState). IsPeer p.peer) };
 }
 
 impl Recovery {

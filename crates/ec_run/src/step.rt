@@ -1,11 +1,12 @@
 //! The steps by which a slave is brought up.
 
-ghost use Rattle.std.specs.Prelude.{◌≡◌, ◌≤◌, ◌<◌, Ok, Err, length};
+ghost use Rattle.std.specs.Prelude.{◌≡◌, ◌≤◌, ◌<◌, true, false, Ok, Err, length, slice_get};
 ghost use Rattle.ec_services.specs.Ask.{IsAsked, Talks, done, write};
 ghost use Rattle.ec_services.specs.declared.fault.MasterFault.TheVariants.{Port};
 ghost use Rattle.ec_run.specs.Step.{manager_number, fmmu_number, startup_number, register_write, holds};
 ghost use Rattle.ec_run.specs.Step.{manager_talk, fmmu_talk, address_write, behind_question, is_answered};
-ghost use Rattle.ec_run.specs.Step.{IsDone, IsTried};
+ghost use Rattle.ec_run.specs.Step.{IsDone, IsPart, IsTried, SetsFmmuOn, SetsManagerOn, fmmu_question};
+ghost use Rattle.ec_run.specs.Step.{is_last_of_fmmu, is_last_of_manager, manager_question, told_behind};
 
 use crate::ask::{held_by, one_counted, one_or_two, put};
 use crate::objects::write_startup;
@@ -28,8 +29,12 @@ const SWITCH_AT: usize = 6;
 /// The most bytes of a record.
 const MOST_BYTES: usize = 16;
 
-/// The most reads of AL status until a slave is in a state.
-pub(crate) const MOST_READS: u32 = 1000;
+/// How often AL status is read at the most until a slave is in a state that it was asked for (IEC 61158-6-12,
+/// AL management), where nothing else is said.
+pub const MOST_READS: u32 = 1000;
+
+/// How many questions a step has behind its first one, at the most: a sync manager is set by four.
+pub(crate) const MORE_QUESTIONS: u32 = 3;
 
 /// How often a step is tried again that no slave answered: a frame may have been lost.
 pub(crate) const MORE_TRIES: u32 = 19;
@@ -155,6 +160,108 @@ fn set_fmmu<P: Ports>(
     let record = FMMU_BASE + FMMU_SIZE * number as u16;
     write_at(ports, station, record, bytes)?;
     check_at(ports, station, record, bytes)
+}
+
+/// What a question tells behind which there is another one.
+fn more(asked: Result<(), MasterFault>) -> Result<Option<()>, MasterFault>
+    ensures { result ≡ told_behind false (done asked) }
+{
+    match asked {
+        Ok(()) => Ok(None),
+        Err(fault) => Err(fault),
+    }
+}
+
+/// What the last question of a step tells.
+fn last(asked: Result<(), MasterFault>) -> Result<Option<()>, MasterFault>
+    ensures { result ≡ told_behind true (done asked) }
+{
+    match asked {
+        Ok(()) => Ok(Some(())),
+        Err(fault) => Err(fault),
+    }
+}
+
+/// Asks the next of the questions by which a sync manager is set (`set_manager`), of which so many were
+/// asked.
+fn manager_part<P: Ports>(
+    ports: &mut P,
+    station: u16,
+    number: usize,
+    bytes: &[u8; 8],
+    asked: u32,
+) -> Result<Option<()>, MasterFault>
+    requires { number < SYNC_MANAGER_COUNT }
+    ensures part { IsPart P.trips ports.old (manager_question station number bytes.now asked)
+        (is_last_of_manager asked) result ports.new }
+    ensures never_lower { P.failed ports.old ≤ P.failed ports.new }
+{
+    let record = SYNC_MANAGER_BASE + SYNC_MANAGER_SIZE * number as u16;
+    let switch = record + SYNC_MANAGER_ACTIVATE;
+    if asked == 0 {
+        more(write_at(ports, station, switch, &[0]))
+    } else if asked == 1 {
+        more(write_at(ports, station, record, bytes))
+    } else if asked == 2 {
+        more(check_at(ports, station, record, &bytes[..AREA_BYTES]))
+    } else {
+        last(check_at(ports, station, switch, &[bytes[SWITCH_AT]]))
+    }
+}
+
+/// Asks the next of the questions by which an FMMU is set (`set_fmmu`), of which so many were asked.
+fn fmmu_part<P: Ports>(
+    ports: &mut P,
+    station: u16,
+    number: usize,
+    bytes: &[u8; 16],
+    asked: u32,
+) -> Result<Option<()>, MasterFault>
+    requires { number < FMMU_COUNT }
+    ensures part { IsPart P.trips ports.old (fmmu_question station number bytes.now asked)
+        (is_last_of_fmmu asked) result ports.new }
+    ensures never_lower { P.failed ports.old ≤ P.failed ports.new }
+{
+    let record = FMMU_BASE + FMMU_SIZE * number as u16;
+    if asked == 0 {
+        more(write_at(ports, station, record, bytes))
+    } else {
+        last(check_at(ports, station, record, bytes))
+    }
+}
+
+/// Asks the next of the questions by which the sync manager with this number is set, of which so many were
+/// asked. `None` where there are more of them.
+pub(crate) fn set_manager_on<P: Ports>(
+    ports: &mut P,
+    wanted: &Wanted,
+    number: u8,
+    asked: u32,
+) -> Result<Option<()>, MasterFault>
+    ensures sets { SetsManagerOn P.trips ports.old wanted.now.station (manager_number number)
+        (slice_get wanted.now.managers (manager_number number)) asked result ports.new }
+    ensures never_lower { P.failed ports.old ≤ P.failed ports.new }
+{
+    let number = manager_number(number);
+    let record = wanted.manager(number).write();
+    manager_part(ports, wanted.station, number, &record, asked)
+}
+
+/// Asks the next of the questions by which the FMMU with this number is set, of which so many were asked.
+/// `None` where there is one more.
+pub(crate) fn set_fmmu_on<P: Ports>(
+    ports: &mut P,
+    wanted: &Wanted,
+    number: u8,
+    asked: u32,
+) -> Result<Option<()>, MasterFault>
+    ensures sets { SetsFmmuOn P.trips ports.old wanted.now.station (fmmu_number number)
+        (slice_get wanted.now.fmmus (fmmu_number number)) asked result ports.new }
+    ensures never_lower { P.failed ports.old ≤ P.failed ports.new }
+{
+    let number = fmmu_number(number);
+    let record = wanted.fmmu(number).write();
+    fmmu_part(ports, wanted.station, number, &record, asked)
 }
 
 /// Gives a station address by place, by a frame that circulates or does not.

@@ -1,15 +1,20 @@
-//! A slave that is brought to Op again beside cycles: one step of it behind each cycle.
+//! A slave that is brought to Op again beside cycles: one frame to it behind each cycle.
 
 ghost use Rattle.std.specs.Prelude.{◌≡◌, ◌≤◌, ◌<◌, ◌≢◌, IfSome, List, [], ◌∷◌, None, Some};
 ghost use Rattle.ec_run.specs.Recovery.{remedy_of, steps_for};
-ghost use Rattle.ec_run.specs.Turns.{IsTaken, IsTurn, begun, due, failed_in, is_idle, turn_of};
+ghost use Rattle.ec_run.specs.Turns.{IsStateTurn, IsTaken, IsTurn, begun, due, failed_in, is_idle};
+ghost use Rattle.ec_run.specs.Turns.{more_turns, turn_of};
 
+use crate::objects::{STARTUP_TRIPS, write_startup_on};
 use crate::phase::StepFault;
 use crate::recovering::Recovery;
 use crate::recovery::{Outcome, Seen, steps_for};
-use crate::step::{MORE_TRIES, MOST_READS, Step, startup_number, take};
+use crate::step::{
+    MORE_QUESTIONS, MORE_TRIES, Step, set_fmmu_on, set_manager_on, startup_number, take,
+};
 use crate::wanted::Wanted;
 use ec_master::Ports;
+use ec_regs::AlState;
 use ec_services::{MasterFault, read_status, write_control};
 
 /// How far a turn has come.
@@ -46,36 +51,41 @@ fn due<'a>(steps: &'a [Step], wanted: &Wanted) -> &'a [Step]
     left
 }
 
-/// Does a step with the slave at a place in one turn: a state is asked for, or, once it was, read. `None`
-/// where the slave has not come to it yet.
-fn take_turn<P: Ports>(
+/// Asks for a state in the first turn of that step, and reads AL status in each one behind it. `None` where
+/// the slave has not come to it yet.
+fn ask_or_read<P: Ports>(
     ports: &mut P,
-    place: u16,
-    wanted: &Wanted,
-    step: Step,
+    station: u16,
+    state: AlState,
     asked: u32,
 ) -> Result<Option<()>, MasterFault>
-    ensures taken { IsTaken P.trips ports.old place wanted.now step asked result ports.new }
+    ensures asks { IsStateTurn P.trips ports.old station state asked result ports.new }
     ensures never_lower { P.failed ports.old ≤ P.failed ports.new }
 {
+    if asked == 0 {
+        write_control(ports, station, state)?;
+        return Ok(None);
+    }
+    read_status(ports, station, state)
+}
+
+/// How many turns a step may take behind its first one, while the slave has not come to it yet.
+fn more_turns(reads: u32, step: Step) -> u32
+    ensures { result ≡ more_turns reads step }
+{
     match step {
-        Step::State(state) if asked == 0 => match write_control(ports, wanted.station, state) {
-            Ok(()) => Ok(None),
-            Err(fault) => Err(fault),
-        },
-        Step::State(state) => read_status(ports, wanted.station, state),
-        _ => match take(ports, place, wanted, step) {
-            Ok(()) => Ok(Some(())),
-            Err(fault) => Err(fault),
-        },
+        Step::State(_) => reads,
+        Step::Startup(_) => STARTUP_TRIPS - 1,
+        _ => MORE_QUESTIONS,
     }
 }
 
 impl Recovery {
     /// A recovery of the slave at a place of which this was seen, where its place tells it from the others or
-    /// does not; `None` where nothing is done with it ([`Seen::remedy`]).
-    pub fn of(place: u16, seen: Seen, tells_places: bool) -> Option<Recovery>
-        ensures { result ≡ begun place seen (steps_for tells_places (remedy_of seen)) }
+    /// does not; `None` where nothing is done with it ([`Seen::remedy`]). For a state that it is asked for AL
+    /// status is read so often at the most, once in each turn, and it counts as not reached then.
+    pub fn of(place: u16, seen: Seen, tells_places: bool, reads: u32) -> Option<Recovery>
+        ensures { result ≡ begun place seen reads (steps_for tells_places (remedy_of seen)) }
     {
         let steps = steps_for(seen.remedy(), tells_places);
         if steps.is_empty() {
@@ -87,10 +97,13 @@ impl Recovery {
             steps,
             asked: 0,
             unanswered: 0,
+            written: None,
+            reads,
         })
     }
 
-    /// Takes the next turn with the slave, which is to be told this: one step, and of a state one question.
+    /// Takes the next turn with the slave, which is to be told this: one frame goes out, a question of the
+    /// first step that is due.
     pub fn turn<P: Ports>(self, ports: &mut P, wanted: &Wanted) -> Turn
         ensures turn { IsTurn P.trips ports.old wanted.now self result ports.new }
         ensures never_lower { P.failed ports.old ≤ P.failed ports.new }
@@ -98,8 +111,34 @@ impl Recovery {
         let Some((step, rest)) = due(self.steps, wanted).split_first() else {
             return Turn::Ended(Outcome::Left);
         };
-        let told = take_turn(ports, self.place, wanted, *step, self.asked);
-        self.behind(wanted.station, *step, rest, told)
+        let mut now = self;
+        let told = now.take(ports, wanted, *step);
+        now.behind(wanted.station, *step, rest, told)
+    }
+
+    /// Asks the next question of a step: a state is asked for, or, once it was, read; a record is written or
+    /// read back; a startup object takes one trip more. `None` where the step is not done yet.
+    fn take<P: Ports>(
+        &mut self,
+        ports: &mut P,
+        wanted: &Wanted,
+        step: Step,
+    ) -> Result<Option<()>, MasterFault>
+        ensures taken { IsTaken P.trips ports.old wanted.now self.old step result self.new ports.new }
+        ensures never_lower { P.failed ports.old ≤ P.failed ports.new }
+    {
+        match step {
+            Step::State(state) => ask_or_read(ports, wanted.station, state, self.asked),
+            Step::Startup(number) => {
+                write_startup_on(ports, wanted, startup_number(number), &mut self.written)
+            }
+            Step::SyncManager(number) => set_manager_on(ports, wanted, number, self.asked),
+            Step::Fmmu(number) => set_fmmu_on(ports, wanted, number, self.asked),
+            _ => match take(ports, self.place, wanted, step) {
+                Ok(()) => Ok(Some(())),
+                Err(fault) => Err(fault),
+            },
+        }
     }
 
     /// How far it is behind a turn that told this.
@@ -118,9 +157,10 @@ impl Recovery {
                 steps: rest,
                 asked: 0,
                 unanswered: 0,
+                written: None,
                 ..self
             }),
-            Ok(None) if self.asked <= MOST_READS => Turn::Goes(Recovery {
+            Ok(None) if self.asked < more_turns(self.reads, step) => Turn::Goes(Recovery {
                 asked: self.asked + 1,
                 ..self
             }),

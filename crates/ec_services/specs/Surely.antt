@@ -7,10 +7,10 @@ use Rattle.ec_app.specs.declared.mail.Mail.{Mail}
 use Rattle.ec_app.specs.declared.sdo.Sdo.{Sdo}
 use Rattle.ec_master.specs.Ports.{Trips}
 use Rattle.ec_services.specs.Ask.{Answer, told_by}
-use Rattle.ec_services.specs.Course.{Course, Runs, goes_on}
+use Rattle.ec_services.specs.Course.{Course, IsStep, Runs, goes_on}
 use Rattle.ec_services.specs.Mailbox.{mail_read, mail_write, skipped}
 use Rattle.ec_services.specs.Settling.{records_read, mailboxes_by}
-use Rattle.ec_services.specs.Transfer.{answer_in, understood}
+use Rattle.ec_services.specs.Transfer.{Service, answer_in, understood}
 use Rattle.ec_services.specs.declared.fault.MasterFault.{MasterFault}
 use Rattle.ec_services.specs.declared.mailbox.Peer.{Peer}
 use Rattle.ec_services.specs.declared.settling.Mailboxes.TheVariants.{Unknown, AnswerWaits, Empty}
@@ -70,11 +70,29 @@ asking asked = record {
 -- ---- the services
 
 -- at most so many trips, and what the mail that answers comes to
-pub record IsSure {P A : Type 0} (trips : Trips P) (before : P) (peer : Peer) (asked : Sdo) (limit : ℕ)
-    (comes_to : Mail → Result A MasterFault) (result : Result A MasterFault) (peer_later : Peer) (later : P)
-    : Type 0 where
+pub record IsSure {P A : Type 0} (trips : Trips P) (before : P) (peer : Peer) (service : Service A)
+    (limit : ℕ) (result : Result A MasterFault) (peer_later : Peer) (later : P) : Type 0 where
   pub answer : Result Mail MasterFault
   pub last : Progress
-  pub runs : Runs trips before (asking asked) (begun peer) limit answer last later
+  pub runs : Runs trips before (asking service.asked) (begun peer) limit answer last later
   pub peer_is : peer_later ≡ last.peer
-  pub understands : result ≡ understood comes_to answer
+  pub understands : result ≡ understood service.comes_to answer
+
+-- ---- a trip of one
+
+-- what the mail that answers comes to, once it is there
+abbrev pub told_of : {A : Type 0} → (Mail → Result A MasterFault) → Result (Option Mail) MasterFault
+    → Result (Option A) MasterFault
+told_of comes_to (Err fault) = Err fault
+told_of comes_to (Ok None) = Ok None
+told_of comes_to (Ok (Some mail)) = elim (comes_to mail) [
+  | Err fault ↦ Err fault
+  | Ok value ↦ Ok (Some value)
+]
+
+-- one trip of a service, what it tells, and how far the service is then
+pub record GoesOn {P A : Type 0} (trips : Trips P) (before : P) (service : Service A) (known : Progress)
+    (told : Result (Option A) MasterFault) (known_later : Progress) (later : P) : Type 0 where
+  pub decided : Result (Option Mail) MasterFault
+  pub step : IsStep trips before (asking service.asked) known decided known_later later
+  pub tells : told ≡ told_of service.comes_to decided

@@ -8,7 +8,7 @@ use Rattle.ec_app.specs.Sdo.{index, sub}
 use Rattle.ec_app.specs.declared.mail.Mail.{Mail}
 use Rattle.ec_app.specs.declared.mail.TheConstants.{RESPONSE}
 use Rattle.ec_app.specs.declared.sdo.Sdo.{Sdo}
-use Rattle.ec_app.specs.declared.sdo.Sdo.TheVariants.{UploadAnswer, DownloadAnswer, Abort}
+use Rattle.ec_app.specs.declared.sdo.Sdo.TheVariants.{Upload, Download, UploadAnswer, DownloadAnswer, Abort}
 use Rattle.ec_app.specs.declared.value.Value.{Value}
 use Rattle.ec_master.specs.Ports.{Trips}
 use Rattle.ec_services.specs.Mailbox.{IsPosted, Fetches}
@@ -73,10 +73,25 @@ abbrev pub understood : {A : Type 0} → (Mail → Result A MasterFault) → Res
 understood comes_to (Err fault) = Err fault
 understood comes_to (Ok mail) = comes_to mail
 
+-- an SDO service: what is asked, and what the mail that answers it comes to
+pub record Service (A : Type 0) : Type 0 where
+  pub asked : Sdo
+  pub comes_to : Mail → Result A MasterFault
+
+abbrev pub service_of : {A : Type 0} → Sdo → (Mail → Result A MasterFault) → Service A
+service_of asked comes_to = record { asked = asked; comes_to = comes_to }
+
+-- an object is read
+abbrev pub uploading : ℕ → ℕ → Service Value
+uploading index sub = service_of (Upload index sub) uploaded_by
+
+-- an object is written
+abbrev pub downloading : ℕ → ℕ → Value → Service (Unit {0})
+downloading index sub value = service_of (Download index sub value) downloaded_by
+
 -- an exchange, and what its answer comes to
-pub record IsTransferred {P A : Type 0} (trips : Trips P) (before : P) (peer : Peer) (asked : Sdo) (limit : ℕ)
-    (comes_to : Mail → Result A MasterFault) (result : Result A MasterFault) (peer_later : Peer) (later : P)
-    : Type 0 where
+pub record IsTransferred {P A : Type 0} (trips : Trips P) (before : P) (peer : Peer) (service : Service A)
+    (limit : ℕ) (result : Result A MasterFault) (peer_later : Peer) (later : P) : Type 0 where
   pub answer : Result Mail MasterFault
-  pub exchange : IsExchanged trips before peer asked limit answer peer_later later
-  pub understands : result ≡ understood comes_to answer
+  pub exchange : IsExchanged trips before peer service.asked limit answer peer_later later
+  pub understands : result ≡ understood service.comes_to answer

@@ -27,6 +27,8 @@
 //! - [`sdo_upload`] and [`sdo_download`] read and write an object of a [`Peer`] by one mail and its answer.
 //! - [`upload_surely`] and [`download_surely`] do so whatever is lost on the way or was left behind before:
 //!   they post where one answer shows both mailboxes empty, until a mail answers the last post.
+//! - [`download_on`] makes one trip of such a writing, and says how far it is ([`Progress`]), so that a
+//!   master writes an object beside its cycles.
 //! - [`settle`] waits until one answer shows both mailboxes empty; [`Peer::skip`] moves the counter on.
 //! - [`locate`] says where the cable is broken, by one broadcast read over ports that tell where copies
 //!   arrive ([`ec_ring::HeardPorts`]), and [`CutOff`] who is cut off: the calls of `ec_diag`.
@@ -58,5 +60,5 @@ pub use mailbox::{Area, Peer};
 pub use settling::settle;
 pub use states::{read_status, request_state, write_control};
 pub use stations::assign_stations;
-pub use surely::{download_surely, upload_surely};
+pub use surely::{Progress, download_on, download_surely, upload_surely};
 pub use transfer::{sdo_download, sdo_upload};

@@ -4,8 +4,8 @@ ghost use Rattle.std.specs.Prelude.{◌≡◌, ◌≤◌, ◌<◌, Ok, Err, leng
 ghost use Rattle.ec_app.specs.declared.sdo.Sdo.TheVariants.{Upload, Download};
 ghost use Rattle.ec_services.specs.Course.{IsStep, Runs};
 ghost use Rattle.ec_services.specs.Mailbox.{IsPeer};
-ghost use Rattle.ec_services.specs.Surely.{answer_to, answered, begun, asking, IsSure};
-ghost use Rattle.ec_services.specs.Transfer.{uploaded_by, downloaded_by};
+ghost use Rattle.ec_services.specs.Surely.{answer_to, answered, begun, asking, GoesOn, IsSure};
+ghost use Rattle.ec_services.specs.Transfer.{uploaded_by, downloaded_by, uploading, downloading};
 ghost use Rattle.ec_services.specs.declared.fault.MasterFault.TheVariants.{Port};
 
 use crate::asking::{Back, ask};
@@ -16,9 +16,9 @@ use crate::transfer::{answer_in, downloaded_by, uploaded_by};
 use ec_app::{Mail, Sdo, Value};
 use ec_master::Ports;
 
-/// How far a transfer is.
+/// How far a transfer is that is made a trip at a time ([`download_on`]).
 #[derive(Clone, Copy)]
-struct Progress {
+pub struct Progress {
     /// What is known of the peer's mailboxes.
     known: Mailboxes,
     /// The counter of the request that was posted last, where one was.
@@ -51,7 +51,7 @@ fn answered(back: &Back, posted: Option<u8>, asked: &Sdo) -> Option<Mail>
 
 impl Progress {
     /// A transfer that has made no trip.
-    fn begun(peer: &Peer) -> Progress
+    pub fn begun(peer: &Peer) -> Progress
         ensures { result ≡ begun peer.now }
     {
         Progress {
@@ -182,7 +182,7 @@ pub fn upload_surely<P: Ports>(
     trips: u32,
 ) -> Result<Value, MasterFault>
     requires { IsPeer peer.old }
-    ensures service { IsSure P.trips ports.old peer.old (Upload index sub) trips uploaded_by result peer.new
+    ensures service { IsSure P.trips ports.old peer.old (uploading index sub) trips result peer.new
         ports.new }
     ensures still_peer { IsPeer peer.new }
     ensures counted { result ≡ Err Port → P.failed ports.old < P.failed ports.new }
@@ -210,7 +210,7 @@ pub fn download_surely<P: Ports>(
     trips: u32,
 ) -> Result<(), MasterFault>
     requires { IsPeer peer.old }
-    ensures service { IsSure P.trips ports.old peer.old (Download index sub value) trips downloaded_by result
+    ensures service { IsSure P.trips ports.old peer.old (downloading index sub value) trips result
         peer.new ports.new }
     ensures still_peer { IsPeer peer.new }
     ensures counted { result ≡ Err Port → P.failed ports.old < P.failed ports.new }
@@ -221,4 +221,33 @@ pub fn download_surely<P: Ports>(
     let answer = run(ports, &mut progress, &asked, trips);
     *peer = progress.peer;
     downloaded_by(&answer?)
+}
+
+/// Makes one trip more of a transfer by which an object of a slave is written (`download_surely`): `Some`
+/// once the slave has stored the value, `None` where no mail has answered yet, say since nothing but the
+/// records of the mailboxes was read. So a master may write an object beside its cycles, a trip behind each.
+/// It takes no memory.
+///
+/// The faults are those of `download_surely`, but for `NoAnswer`: how many trips are made is the caller's. A
+/// transfer that is given up may still be stored later, as there.
+pub fn download_on<P: Ports>(
+    ports: &mut P,
+    progress: &mut Progress,
+    index: u16,
+    sub: u8,
+    value: Value,
+) -> Result<Option<()>, MasterFault>
+    requires { IsPeer progress.old.peer }
+    ensures goes_on { GoesOn P.trips ports.old (downloading index sub value) progress.old result progress.new
+        ports.new }
+    ensures still_peer { IsPeer progress.new.peer }
+    ensures counted { result ≡ Err Port → P.failed ports.old < P.failed ports.new }
+    ensures never_lower { P.failed ports.old ≤ P.failed ports.new }
+{
+    let asked = Sdo::Download { index, sub, value };
+    let Some(mail) = trip(ports, progress, &asked)? else {
+        return Ok(None);
+    };
+    downloaded_by(&mail)?;
+    Ok(Some(()))
 }

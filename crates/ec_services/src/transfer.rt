@@ -2,7 +2,8 @@
 
 ghost use Rattle.std.specs.Prelude.{◌≡◌, ◌≤◌, ◌<◌, Err, length};
 ghost use Rattle.ec_app.specs.declared.sdo.Sdo.TheVariants.{Upload, Download};
-ghost use Rattle.ec_services.specs.Transfer.{answers, answer_in, uploaded_by, downloaded_by};
+ghost use Rattle.ec_services.specs.Transfer.{answers, answer_in, uploaded_by, downloaded_by, uploading};
+ghost use Rattle.ec_services.specs.Transfer.{downloading};
 ghost use Rattle.ec_services.specs.Transfer.{IsExchanged, IsTransferred};
 ghost use Rattle.ec_services.specs.declared.fault.MasterFault.TheVariants.{Port};
 ghost use Rattle.ec_services.specs.Mailbox.{IsPeer};
@@ -93,7 +94,7 @@ pub fn sdo_upload<P: Ports>(
     limit: u32,
 ) -> Result<Value, MasterFault>
     requires { IsPeer peer.old }
-    ensures service { IsTransferred P.trips ports.old peer.old (Upload index sub) limit uploaded_by
+    ensures service { IsTransferred P.trips ports.old peer.old (uploading index sub) limit
         result peer.new ports.new }
     ensures counted { result ≡ Err Port → P.failed ports.old < P.failed ports.new }
     ensures never_lower { P.failed ports.old ≤ P.failed ports.new }
@@ -117,7 +118,7 @@ pub fn sdo_download<P: Ports>(
     limit: u32,
 ) -> Result<(), MasterFault>
     requires { IsPeer peer.old }
-    ensures service { IsTransferred P.trips ports.old peer.old (Download index sub value) limit downloaded_by
+    ensures service { IsTransferred P.trips ports.old peer.old (downloading index sub value) limit
         result peer.new ports.new }
     ensures counted { result ≡ Err Port → P.failed ports.old < P.failed ports.new }
     ensures never_lower { P.failed ports.old ≤ P.failed ports.new }

@@ -218,10 +218,10 @@ where
     let mut piped = Piped::new(out);
     let mut ports = Watched::new(ports);
     let done = scanned(&mut ports, finder, &mut piped);
-    tell_failing(ports.health(Port::A), ports.health(Port::B), err);
     if piped.is_closed() {
         return GOOD;
     }
+    tell_failing(ports.health(Port::A), ports.health(Port::B), err);
     status_of(done, out, err)
 }
 

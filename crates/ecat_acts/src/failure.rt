@@ -84,6 +84,8 @@ pub enum Failure {
     TwoOutputs,
     /// Something is said of a master's program, and there is none.
     IoAlone,
+    /// It is said how often a master tries, and it brings no slave up again.
+    TriesAlone,
 }
 
 impl From<LineFailure> for Failure {
@@ -171,6 +173,7 @@ pub fn report<W: Write, V: Write>(failure: &Failure, out: &mut W, err: &mut V) -
             err,
             b"argument: --io-open, --io-stale and --io-rest are of --io\n",
         ),
+        Failure::TriesAlone => bad_argument(err, b"argument: --tries is of --recover\n"),
         Failure::Task(fault) => report_task(fault, err),
         Failure::Raw(fault) => report_raw(*fault, err),
         Failure::Remote(fault) => {

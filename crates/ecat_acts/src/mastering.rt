@@ -1,7 +1,9 @@
 //! `ecat master`: what its words say, and what it opens.
 
 ghost use Rattle.std.specs.Prelude.{◌≡◌, ◌||◌, IfOk, None, Some, is_none, is_some};
+ghost use Rattle.std.specs.Option.{unwrap_or};
 ghost use Rattle.ec_regs.specs.declared.al.AlState.TheVariants.{Init};
+ghost use Rattle.ec_run.specs.declared.step.TheConstants.{MOST_READS};
 
 use crate::console::Console;
 use crate::course::course_of;
@@ -11,7 +13,7 @@ use crate::patience::{Impatient, tell_left_out};
 use crate::remote::{left_in, patience, reach_of, tell_late};
 use crate::tape::{Pcap, end_unawaited, unawaited_at};
 use ec_regs::AlState;
-use ec_run::{Image, Outputs};
+use ec_run::{Image, MOST_READS, Outputs};
 use ecat_args::MasterWords;
 use ecat_course::{Course, act_master};
 use ecat_master::{Plan, Writers};
@@ -61,6 +63,8 @@ struct Running<'a> {
     stop: bool,
     /// Whether slaves are brought up again.
     recover: bool,
+    /// How often a state that they are asked for is read at the most.
+    tries: u32,
     /// Whether a line of progress is written each second.
     progress: bool,
     /// The state in which the slaves are left.
@@ -83,6 +87,7 @@ impl<'w> Running<'w> {
         ensures log_or_stop { IfOk result (λ running. running.log_or_stop ≡ words.now.log_or_stop) }
         ensures stop { IfOk result (λ running. running.stop ≡ words.now.stop) }
         ensures recover { IfOk result (λ running. running.recover ≡ words.now.recover) }
+        ensures tries { IfOk result (λ running. running.tries ≡ unwrap_or words.now.tries MOST_READS) }
         ensures progress { IfOk result (λ running. running.progress ≡ console.now.is_watched) }
         ensures leave { words.now.leave ≡ None → IfOk result (λ running. running.leave ≡ Some Init) }
         ensures pcap { IfOk result (λ running. is_some running.pcap ≡ is_some words.now.pcap) }
@@ -90,6 +95,7 @@ impl<'w> Running<'w> {
         let reach = reach_of(words.at, words.raw)?;
         let leave = left_in(words.leave)?;
         let program = program_of(words)?;
+        let tries = tries_of(words)?;
         Ok(Running {
             reach,
             cycles: words.cycles,
@@ -104,6 +110,7 @@ impl<'w> Running<'w> {
             program,
             stop: words.stop,
             recover: words.recover,
+            tries,
             progress: console.is_watched,
             leave,
             pcap: Pcap::of(words.pcap, words.force),
@@ -124,6 +131,7 @@ impl<'w> Running<'w> {
         ensures outputs { result.outputs ≡ outputs.entry }
         ensures stop { result.stop ≡ self.now.stop }
         ensures recover { result.recover ≡ self.now.recover }
+        ensures tries { result.tries ≡ self.now.tries }
         ensures progress { result.progress ≡ self.now.progress }
         ensures log { result.log ≡ is_some self.now.log }
         ensures log_images { result.log_images ≡ self.now.log_images }
@@ -134,6 +142,7 @@ impl<'w> Running<'w> {
             outputs,
             stop: self.stop,
             recover: self.recover,
+            tries: self.tries,
             progress: self.progress,
             log: self.log.is_some(),
             log_images: self.log_images,
@@ -189,6 +198,17 @@ fn program_of<'w>(words: &MasterWords<'w>) -> Result<Option<Program<'w>>, Failur
             Err(Failure::IoAlone)
         }
         None => Ok(None),
+    }
+}
+
+/// How often a state of a slave that is brought up again is read at the most, as the words say.
+fn tries_of(words: &MasterWords<'_>) -> Result<u32, Failure>
+    ensures { IfOk result (λ tries. tries ≡ unwrap_or words.now.tries MOST_READS) }
+{
+    match words.tries {
+        Some(_) if !words.recover => Err(Failure::TriesAlone),
+        Some(tries) => Ok(tries),
+        None => Ok(MOST_READS),
     }
 }
 

@@ -6,7 +6,7 @@ use Rattle.clap.specs.declared.error.kind.ErrorKind.TheVariants.{OutOfMemory}
 use Rattle.ecat_args.specs.Given.{Given, IsComplete, IsNoAddress, LiesAt, control_in, force_in, forever_in}
 use Rattle.ecat_args.specs.Given.{by_index_in, index_in, io_open_in, io_stale_in, lines_in}
 use Rattle.ecat_args.specs.Given.{judge_in, log_in, many_in, plain_in, port_in, set_up_in, station_in, sub_in}
-use Rattle.ecat_args.specs.Given.{surely_in}
+use Rattle.ecat_args.specs.Given.{surely_in, tries_in}
 use Rattle.ecat_args.specs.Given.{csv_in, every_in, faults_in, images_in, late_in, limit_in, once_in}
 use Rattle.ecat_args.specs.Given.{asked_in, data_in, packet_in, recover_in, stats_in, stop_in, value_in}
 use Rattle.ecat_args.specs.Given.{busy_in, or_stop_in, until_end_in, word_in}
@@ -84,7 +84,7 @@ SaysOfScene (Master words) given =
     × (io_stale_in given ≡ Some words.io_stale)
     × (word_in given (codes "REST") ≡ option_map (λ w. w.now) words.io_rest)
     × (stop_in given ≡ words.stop)
-    × (recover_in given ≡ words.recover)
+    × (recover_in given ≡ words.recover) × (tries_in given ≡ Some words.tries)
     × (word_in given (codes "STATE") ≡ option_map (λ w. w.now) words.leave)
     × (word_in given (codes "PCAP") ≡ option_map (λ w. w.now) words.pcap) × (force_in given ≡ words.force)
 
@@ -112,7 +112,8 @@ HasBadNumber given =
     ⊎ ((given.0 ≡ codes "serve") × ((port_in given ≡ None) ⊎ (many_in given ≡ None)
     ⊎ IsNoAddress (word_in given (codes "ADDRESS"))))
     ⊎ ((given.0 ≡ codes "master") × ((many_in given ≡ None) ⊎ (every_in given ≡ None)
-    ⊎ (limit_in given ≡ None) ⊎ (late_in given ≡ None) ⊎ (io_stale_in given ≡ None)))
+    ⊎ (limit_in given ≡ None) ⊎ (late_in given ≡ None) ⊎ (io_stale_in given ≡ None)
+    ⊎ (tries_in given ≡ None)))
     ⊎ ((given.0 ≡ codes "scan") × ((limit_in given ≡ None) ⊎ (late_in given ≡ None)))
 
 -- clap's definition of the line takes the words, and what it gives of them is complete and

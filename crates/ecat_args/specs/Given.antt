@@ -84,6 +84,10 @@ late_in given = count_by (word_in given (codes "LATE"))
 abbrev pub io_stale_in : Given → Option (Option ℕ)
 io_stale_in given = count_by (word_in given (codes "CYCLES"))
 
+-- how often a state is read at the most that a slave is asked for
+abbrev pub tries_in : Given → Option (Option ℕ)
+tries_in given = count_by (word_in given (codes "TRIES"))
+
 -- whether a flag was given: clap writes down `true` for it, and `false` where it was not
 abbrev pub flag_by : Option Text → Bool
 flag_by None = false

@@ -347,6 +347,7 @@ fn master<'a>(given: &ArgMatches<'a>) -> Option<Args<'a>>
     let limit = count_given(given, "LIMIT")?;
     let late = count_given(given, "LATE")?;
     let io_stale = count_given(given, "CYCLES")?;
+    let tries = count_given(given, "TRIES")?;
     Some(Args::Scene {
         path: text(given, "SCENE"),
         command: SceneCommand::Master(MasterWords {
@@ -368,6 +369,7 @@ fn master<'a>(given: &ArgMatches<'a>) -> Option<Args<'a>>
             io_rest: word(given, "REST"),
             stop: flag(given, "stop"),
             recover: flag(given, "recover"),
+            tries,
             leave: word(given, "STATE"),
             pcap: word(given, "PCAP"),
             force: flag(given, "force"),

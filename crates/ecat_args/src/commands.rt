@@ -137,8 +137,8 @@ pub enum SceneCommand<'a> {
     },
     /// `master SCENE [--at AT] [--raw RAW] [--cycles N] [--until-end] [--every MICROSECONDS] [--busy]
     /// [--limit LIMIT] [--late LATE] [--outputs OUTPUTS] [--log LOG] [--log-images] [--log-or-stop] [--io IO]
-    /// [--io-open] [--io-stale CYCLES] [--io-rest REST] [--stop] [--recover] [--leave STATE] [--pcap PCAP]
-    /// [--force]`: brings a line somewhere else to Op, cycles on it, and leaves it in a state.
+    /// [--io-open] [--io-stale CYCLES] [--io-rest REST] [--stop] [--recover] [--tries TRIES] [--leave STATE]
+    /// [--pcap PCAP] [--force]`: brings a line somewhere else to Op, cycles on it, and leaves it in a state.
     Master(MasterWords<'a>),
 }
 
@@ -181,6 +181,8 @@ pub struct MasterWords<'a> {
     pub stop: bool,
     /// Whether slaves are brought up again.
     pub recover: bool,
+    /// How often a state that they are asked for is read, behind a cycle each, one at least.
+    pub tries: Option<u32>,
     /// The name of the state in which the slaves are left at the end.
     pub leave: Option<&'a str>,
     /// The path of a capture that gets each copy, as it leaves and as it arrives.

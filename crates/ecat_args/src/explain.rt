@@ -59,7 +59,7 @@ impl fmt::Display for BadWord<'_> {
 }
 
 /// The options whose values have a form, with their names as they are printed.
-const OPTIONS: [(&str, Form); 7] = [
+const OPTIONS: [(&str, Form); 9] = [
     ("--port", Form::Number(LEAST_PORT, GREATEST_PORT)),
     ("--packets", Form::Number(LEAST_COUNT, u32::MAX)),
     ("--bind", Form::Address),
@@ -67,6 +67,8 @@ const OPTIONS: [(&str, Form); 7] = [
     ("--every", Form::Number(LEAST_COUNT, u32::MAX)),
     ("--limit", Form::Number(LEAST_COUNT, u32::MAX)),
     ("--late", Form::Number(LEAST_COUNT, u32::MAX)),
+    ("--io-stale", Form::Number(LEAST_COUNT, u32::MAX)),
+    ("--tries", Form::Number(LEAST_COUNT, u32::MAX)),
 ];
 
 /// The words of `sdo` behind its scene, in their order.

@@ -174,8 +174,8 @@ serve_line = with_rules (with_rules (new_app (codes "serve")) serve_words) devic
 
 -- `master SCENE [--at AT] [--raw RAW] [--cycles N] [--until-end] [--every MICROSECONDS] [--busy]
 -- [--limit LIMIT] [--late LATE] [--outputs OUTPUTS] [--log LOG] [--log-images] [--log-or-stop] [--io IO]
--- [--io-open] [--io-stale CYCLES] [--io-rest REST] [--stop] [--recover] [--leave STATE] [--pcap PCAP]
--- [--force]`
+-- [--io-open] [--io-stale CYCLES] [--io-rest REST] [--stop] [--recover] [--tries TRIES] [--leave STATE]
+-- [--pcap PCAP] [--force]`
 abbrev pub master_words : List Rule
 master_words = scene_rule ∷ at_rule ∷ raw_rule
     ∷ option_rule (codes "N") (codes "cycles") ∷ flag_rule (codes "until-end") ∷ []
@@ -199,7 +199,8 @@ io_words = option_rule (codes "IO") (codes "io") ∷ flag_rule (codes "io-open")
 -- how it ends, and its other words
 abbrev pub end_words : List Rule
 end_words = flag_rule (codes "stop") ∷ flag_rule (codes "recover")
-    ∷ option_rule (codes "STATE") (codes "leave") ∷ pcap_rule ∷ force_rule ∷ []
+    ∷ option_rule (codes "TRIES") (codes "tries") ∷ option_rule (codes "STATE") (codes "leave")
+    ∷ pcap_rule ∷ force_rule ∷ []
 
 abbrev pub master_line : App
 master_line =

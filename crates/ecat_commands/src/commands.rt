@@ -373,8 +373,8 @@ fn devices_of_serve<'a>(alloc: Global) -> Result<Vec<Arg<'a>>, AllocError>
 
 // `master SCENE [--at AT] [--raw RAW] [--cycles N] [--until-end] [--every MICROSECONDS] [--busy]
 // [--limit LIMIT] [--late LATE] [--outputs OUTPUTS] [--log LOG] [--log-images] [--log-or-stop] [--io IO]
-// [--io-open] [--io-stale CYCLES] [--io-rest REST] [--stop] [--recover] [--leave STATE] [--pcap PCAP]
-// [--force]`
+// [--io-open] [--io-stale CYCLES] [--io-rest REST] [--stop] [--recover] [--tries TRIES] [--leave STATE]
+// [--pcap PCAP] [--force]`
 fn master<'a>(alloc: Global) -> Result<Command<'a>, AllocError>
     ensures { IfOk result (Builds master_line) }
 {
@@ -460,16 +460,19 @@ fn io_of_master<'a>(alloc: Global) -> Result<Vec<Arg<'a>>, AllocError>
     ]?)
 }
 
-// `[--stop] [--recover] [--leave STATE] [--pcap PCAP] [--force]`
+// `[--stop] [--recover] [--tries TRIES] [--leave STATE] [--pcap PCAP] [--force]`
 #[inline(never)]
 fn end_of_master<'a>(alloc: Global) -> Result<Vec<Arg<'a>>, AllocError>
     ensures { IfOk result (λ words. AreWords end_words words.items) }
 {
     let recover = "Brings slaves up again that show an error or came back in Init";
+    let tries =
+        "How often their state is read, behind a cycle each, until it counts as not reached; 1000";
     let leave = "Where slaves are left at the end: init, pre-op, safe-op, op; init if not given";
     Ok(vec![in alloc;
         flag(alloc, "stop", "Ends at the first cycle that is not good"),
         flag(alloc, "recover", recover),
+        option(alloc, "TRIES", "tries", tries),
         option(alloc, "STATE", "leave", leave),
         pcap(alloc),
         force(alloc),

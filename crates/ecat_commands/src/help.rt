@@ -265,7 +265,9 @@ one of this machine alone, unless --io-open is said. With --io-stale N outputs o
 which no packet came for N cycles are stale: the program is told, and with
 --io-rest zeros they become 0.
 With --stop it ends at the first cycle that is not good. With --recover slaves
-that show an error, or came back in Init, are brought up again.
+that show an error, or came back in Init, are brought up again, by one frame
+behind each cycle. A state that one is asked for is read behind so many cycles
+as --tries says; one that is not there then is told, and tried again later.
 With --log FILE each cycle has a line there; with --log-images beside it that
 line has what the cycle sent in its items, and what the items hold behind it.
 No cycle waits for a reader: lines that nobody takes, of the log as of all that

@@ -11,7 +11,7 @@ use Rattle.std.proofs.lemmas.List.{append-nil, map-append}
 use Rattle.std.proofs.lemmas.List.Elements.{filter-append}
 use Rattle.std.proofs.lemmas.Map.Made.{lookup_key_passes}
 use Rattle.indexmap.specs.IndexMap.{get_key_by, index_map_len}
-use Rattle.ecat_list.specs.Stats.{IsAt, IsGroup, IsTold, came_of, datagrams_of, group_of, is_left_out}
+use Rattle.ecat_list.specs.Stats.{IsAt, IsGroup, IsStatsOf, counted_at, datagrams_of, group_of, is_left_out}
 use Rattle.ecat_list.specs.Stats.{same_key, with_passed}
 use Rattle.ecat_list.specs.declared.group.Group.{Group}
 use Rattle.ecat_list.specs.declared.passed.Key.{Key}
@@ -78,9 +78,9 @@ module _ (all : List Passed) (p : Passed) (key : Key) where
   of_key is x = same_key x.key key && is x.seen.what
 
   split : (is : What → Bool) → datagrams_of key (all ++ p ∷ []) is
-      ≡ datagrams_of key all is ++ map came_of (filter (of_key is) (p ∷ []))
-  split is = ap (map came_of) (filter-append (of_key is) all (p ∷ []))
-      ∙ map-append came_of (filter (of_key is) all) (filter (of_key is) (p ∷ []))
+      ≡ datagrams_of key all is ++ map counted_at (filter (of_key is) (p ∷ []))
+  split is = ap (map counted_at) (filter-append (of_key is) all (p ∷ []))
+      ∙ map-append counted_at (filter (of_key is) all) (filter (of_key is) (p ∷ []))
 
   -- one more of them
   datagrams_more : same_key p.key key ≡ true
@@ -88,14 +88,14 @@ module _ (all : List Passed) (p : Passed) (key : Key) where
   datagrams_more same = λ i is. more is i
     where
       by : (xs : List Came) (b : Bool)
-          → xs ++ map came_of (cond b (p ∷ []) []) ≡ cond b (xs ++ came_of p ∷ []) xs
+          → xs ++ map counted_at (cond b (p ∷ []) []) ≡ cond b (xs ++ counted_at p ∷ []) xs
       by xs true = refl
       by xs false = append-nil xs
 
       more : (is : What → Bool)
           → datagrams_of key (all ++ p ∷ []) is ≡ with_passed p (datagrams_of key all) is
       more is = split is
-          ∙ ap (λ b. datagrams_of key all is ++ map came_of (cond (b && is p.seen.what) (p ∷ []) [])) same
+          ∙ ap (λ b. datagrams_of key all is ++ map counted_at (cond (b && is p.seen.what) (p ∷ []) [])) same
           ∙ by (datagrams_of key all is) (is p.seen.what)
 
   -- one more of another key
@@ -104,7 +104,7 @@ module _ (all : List Passed) (p : Passed) (key : Key) where
     where
       same : (is : What → Bool) → datagrams_of key (all ++ p ∷ []) is ≡ datagrams_of key all is
       same is = split is
-          ∙ ap (λ b. datagrams_of key all is ++ map came_of (cond (b && is p.seen.what) (p ∷ []) [])) other
+          ∙ ap (λ b. datagrams_of key all is ++ map counted_at (cond (b && is p.seen.what) (p ∷ []) [])) other
           ∙ append-nil (datagrams_of key all is)
 
 -- ---- what has no group
@@ -120,7 +120,7 @@ nobody_has s key (x ∷ xs) none absent is =
     parted = sym (tallies.count_cons (is_left_out s) x xs) ∙ none
 
     by : (b : Bool) → (same_key x.key key && is x.seen.what) ≡ b → datagrams_of key xs is ≡ []
-        → map came_of (cond b (x ∷ filter (λ y. same_key y.key key && is y.seen.what) xs)
+        → map counted_at (cond b (x ∷ filter (λ y. same_key y.key key && is y.seen.what) xs)
         (filter (λ y. same_key y.key key && is y.seen.what) xs)) ≡ []
     by true e more =
         let same = (and_parts (same_key x.key key) (is x.seen.what) e).0 in
@@ -146,7 +146,7 @@ fewer_left_out s later keeps (x ∷ xs) none =
 
 -- ---- one more is taken
 
-module _ (all : List Passed) (p : Passed) (s later : Stats) (h : IsTold all s) (w : Group)
+module _ (all : List Passed) (p : Passed) (s later : Stats) (h : IsStatsOf all s) (w : Group)
     (at : (key : Key) → group_of later key ≡ cond (same_key p.key key) (Some w) (group_of s key)) where
   -- the groups of all, where the datagram's own group has its tally
   groups_told : IsGroup (with_passed p (datagrams_of p.key all)) w → (key : Key) (g : Group)
@@ -188,7 +188,7 @@ module _ (all : List Passed) (p : Passed) (s later : Stats) (h : IsTold all s) (
   pub told_again : (g : Group) → group_of s p.key ≡ Some g → later.left_out ≡ s.left_out
       → index_map_len later.groups ≡ index_map_len s.groups
       → ((xs : (What → Bool) → List Came) → IsGroup xs g → IsGroup (with_passed p xs) w)
-      → IsTold (all ++ p ∷ []) later
+      → IsStatsOf (all ++ p ∷ []) later
   told_again g is left len counted =
       record {
         groups = groups_told (counted (datagrams_of p.key all) (h.groups p.key g is));
@@ -210,7 +210,7 @@ module _ (all : List Passed) (p : Passed) (s later : Stats) (h : IsTold all s) (
 
   -- the first of a group
   pub told_first : group_of s p.key ≡ None → later.left_out ≡ s.left_out → index_map_len s.groups < MAX_GROUPS
-      → IsGroup (with_passed p (λ (is : What → Bool). [])) w → IsTold (all ++ p ∷ []) later
+      → IsGroup (with_passed p (λ (is : What → Bool). [])) w → IsStatsOf (all ++ p ∷ []) later
   told_first absent left room first =
       record {
         groups = groups_told (subst (λ xs. IsGroup (with_passed p xs) w) nobody first);
@@ -228,9 +228,9 @@ module _ (all : List Passed) (p : Passed) (s later : Stats) (h : IsTold all s) (
       still = left_out_push ∙ fewer_left_out s later keeps_one all none
 
 -- one more that has no group, and there is no room for one
-pub told_left_out : (all : List Passed) (p : Passed) (s : Stats) → IsTold all s → group_of s p.key ≡ None
+pub told_left_out : (all : List Passed) (p : Passed) (s : Stats) → IsStatsOf all s → group_of s p.key ≡ None
     → MAX_GROUPS ≤ index_map_len s.groups
-    → IsTold (all ++ p ∷ []) (record s { left_out = u64_saturate (s.left_out + 1) })
+    → IsStatsOf (all ++ p ∷ []) (record s { left_out = u64_saturate (s.left_out + 1) })
 told_left_out all p s h absent full =
     record {
       groups = λ key g is. by key g is (same_key p.key key) refl;

@@ -17,12 +17,12 @@ use Rattle.ecat_list.specs.declared.counters.Came.{Came}
 -- ---- a group
 
 -- how a datagram came
-abbrev pub came_of : Passed → Came
-came_of p = record { counter = p.counter; at = p.seen.at }
+abbrev pub counted_at : Passed → Came
+counted_at p = record { counter = p.counter; at = p.seen.at }
 
 -- of a group's datagrams those of each kind, and what they are once there is one more
 abbrev pub with_passed : Passed → ((What → Bool) → List Came) → (What → Bool) → List Came
-with_passed p all is = if is p.seen.what then all is ++ came_of p ∷ [] else all is
+with_passed p all is = if is p.seen.what then all is ++ counted_at p ∷ [] else all is
 
 -- a group has the tallies of its datagrams: apart what was sent, what came back, what was lost, what came
 -- late, and what came of nothing that was sent
@@ -51,7 +51,7 @@ group_of s key = get same_key s.groups key
 -- how the datagrams of a key came of which something became
 abbrev pub datagrams_of : Key → List Passed → (What → Bool) → List Came
 datagrams_of key all is =
-    map came_of (filter (λ (p : Passed). same_key p.key key && is p.seen.what) all)
+    map counted_at (filter (λ (p : Passed). same_key p.key key && is p.seen.what) all)
 
 -- is there no group of this datagram
 abbrev pub is_left_out : Stats → Passed → Bool
@@ -59,7 +59,7 @@ is_left_out s p = is_none (group_of s p.key)
 
 -- each group that is told apart has the tallies of its datagrams; the others are counted together, and there
 -- are none before 4,096 groups are told apart
-pub record IsTold (all : List Passed) (s : Stats) : Type 0 where
+pub record IsStatsOf (all : List Passed) (s : Stats) : Type 0 where
   pub groups : (key : Key) (g : Group) → group_of s key ≡ Some g → IsGroup (datagrams_of key all) g
   pub left_out : s.left_out ≡ u64_saturate (count_by (is_left_out s) all)
   pub all_told : index_map_len s.groups < MAX_GROUPS → count_by (is_left_out s) all ≡ 0

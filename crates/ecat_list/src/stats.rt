@@ -5,7 +5,7 @@ ghost use Rattle.indexmap.specs.IndexMap.{index_map_len};
 ghost use Rattle.ecat_list.specs.declared.passed.Passed.{Passed};
 ghost use Rattle.ecat_list.specs.declared.stats.TheConstants.{MAX_GROUPS};
 ghost use Rattle.ecat_list.specs.Passed.{all_of, ended, fated, happened, seen_in};
-ghost use Rattle.ecat_list.specs.Stats.{IsAt, IsTold, group_of};
+ghost use Rattle.ecat_list.specs.Stats.{IsAt, IsStatsOf, group_of};
 
 use crate::group::Group;
 use crate::passed::{Key, Passed, Seen, What, came_in, passed_of, place_of, seen_in};
@@ -49,7 +49,7 @@ fn short(place: usize) -> u16 {
 impl Stats {
     /// No datagram went by yet.
     pub(crate) fn new(alloc: Global) -> Stats
-        ensures { IsTold [] result }
+        ensures { IsStatsOf [] result }
     {
         Stats {
             groups: IndexMap::new(alloc),
@@ -62,8 +62,8 @@ impl Stats {
     /// come again and again: so its group is looked for by its key only where it does not stand where one
     /// with such a number was found last.
     pub(crate) fn take(&mut self, passed: &Passed) -> Result<(), AllocError>
-        ensures { OnOk result ((all : List Passed) → IsTold all self.old
-            → IsTold (all ++ passed.now ∷ []) self.new) }
+        ensures { OnOk result ((all : List Passed) → IsStatsOf all self.old
+            → IsStatsOf (all ++ passed.now ∷ []) self.new) }
     {
         match self.likely_place(&passed.key) {
             Some(place) => {
@@ -99,8 +99,8 @@ impl Stats {
     /// Takes a datagram of the group at a place.
     fn take_at(&mut self, place: usize, passed: &Passed)
         requires { IsAt self.old place passed.now.key }
-        ensures { (all : List Passed) → IsTold all self.old
-            → IsTold (all ++ passed.now ∷ []) self.new }
+        ensures { (all : List Passed) → IsStatsOf all self.old
+            → IsStatsOf (all ++ passed.now ∷ []) self.new }
     {
         let (_, known) = self.groups.pair_mut(place);
         known.take(passed);
@@ -108,8 +108,8 @@ impl Stats {
 
     /// Takes a datagram whose group is looked for by its key.
     fn take_by_key(&mut self, passed: &Passed) -> Result<(), AllocError>
-        ensures { OnOk result ((all : List Passed) → IsTold all self.old
-            → IsTold (all ++ passed.now ∷ []) self.new) }
+        ensures { OnOk result ((all : List Passed) → IsStatsOf all self.old
+            → IsStatsOf (all ++ passed.now ∷ []) self.new) }
     {
         match self.groups.get_full(&passed.key) {
             Some((place, _, _)) => {
@@ -124,8 +124,8 @@ impl Stats {
     /// Takes a datagram that is of no group yet.
     fn take_new(&mut self, passed: &Passed) -> Result<(), AllocError>
         requires { group_of self.old passed.now.key ≡ None }
-        ensures { OnOk result ((all : List Passed) → IsTold all self.old
-            → IsTold (all ++ passed.now ∷ []) self.new) }
+        ensures { OnOk result ((all : List Passed) → IsStatsOf all self.old
+            → IsStatsOf (all ++ passed.now ∷ []) self.new) }
     {
         if self.groups.len() < MAX_GROUPS {
             return self.add(passed);
@@ -138,8 +138,8 @@ impl Stats {
     fn add(&mut self, passed: &Passed) -> Result<(), AllocError>
         requires absent { group_of self.old passed.now.key ≡ None }
         requires room { index_map_len self.old.groups < MAX_GROUPS }
-        ensures { OnOk result ((all : List Passed) → IsTold all self.old
-            → IsTold (all ++ passed.now ∷ []) self.new) }
+        ensures { OnOk result ((all : List Passed) → IsStatsOf all self.old
+            → IsStatsOf (all ++ passed.now ∷ []) self.new) }
     {
         let mut group = Group::new(passed.command);
         group.take(passed);
@@ -173,8 +173,8 @@ impl Stats {
         sent: &FrameBuf,
         came: &FrameBuf,
     ) -> Result<(), AllocError>
-        ensures { OnOk result ((all : List Passed) → IsTold all self.old
-            → IsTold (all ++ all_of by_index seen.now sent.now came.now) self.new) }
+        ensures { OnOk result ((all : List Passed) → IsStatsOf all self.old
+            → IsStatsOf (all ++ all_of by_index seen.now sent.now came.now) self.new) }
     {
         let shared = sent.count().min(came.count());
         for k in 0..shared {
@@ -185,8 +185,8 @@ impl Stats {
 
     /// Takes a trip that ended.
     pub(crate) fn take_trip(&mut self, by_index: bool, trip: &Trip) -> Result<(), AllocError>
-        ensures { OnOk result ((all : List Passed) → IsTold all self.old
-            → IsTold (all ++ ended by_index trip.now) self.new) }
+        ensures { OnOk result ((all : List Passed) → IsStatsOf all self.old
+            → IsStatsOf (all ++ ended by_index trip.now) self.new) }
     {
         match &trip.came {
             Some(came) => {
@@ -212,8 +212,8 @@ impl Stats {
         packet: &Outline,
         frame: &FrameBuf,
     ) -> Result<(), AllocError>
-        ensures { OnOk result ((all : List Passed) → IsTold all self.old
-            → IsTold (all ++ all_of by_index (seen_in what packet.now) frame.now frame.now) self.new) }
+        ensures { OnOk result ((all : List Passed) → IsStatsOf all self.old
+            → IsStatsOf (all ++ all_of by_index (seen_in what packet.now) frame.now frame.now) self.new) }
     {
         let seen = seen_in(what, packet);
         self.take_frame(by_index, &seen, frame, frame)
@@ -227,8 +227,8 @@ impl Stats {
         frame: &FrameBuf,
         fate: &Fate,
     ) -> Result<(), AllocError>
-        ensures { OnOk result ((all : List Passed) → IsTold all self.old
-            → IsTold (all ++ fated by_index packet.now frame.now fate.now) self.new) }
+        ensures { OnOk result ((all : List Passed) → IsStatsOf all self.old
+            → IsStatsOf (all ++ fated by_index packet.now frame.now fate.now) self.new) }
     {
         match fate {
             Fate::Begins => self.take_packet(by_index, What::Sent, packet, frame),
@@ -251,8 +251,8 @@ impl Stats {
         frame: &FrameBuf,
         step: &Step,
     ) -> Result<(), AllocError>
-        ensures { OnOk result ((all : List Passed) → IsTold all self.old
-            → IsTold (all ++ happened by_index packet.now frame.now step.now) self.new) }
+        ensures { OnOk result ((all : List Passed) → IsStatsOf all self.old
+            → IsStatsOf (all ++ happened by_index packet.now frame.now step.now) self.new) }
     {
         match step {
             Step::Ended(kept) => self.take_trip(by_index, kept.trip()),

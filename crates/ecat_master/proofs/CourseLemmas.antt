@@ -8,15 +8,16 @@ use Rattle.ec_master.specs.declared.verdict.Verdict.TheVariants.{Good, Short, Ov
 use Rattle.ec_run.specs.Cycles.{End, counted}
 use Rattle.ec_run.specs.declared.counts.Counts.{Counts}
 use Rattle.ec_run.specs.Travels.{IsWithin, Travels, turn_trips}
-use Rattle.ec_run.specs.Watched.{PortsTrip, WatchedState, WatchedTrips, came_of, untold}
+use Rattle.ec_run.specs.Watched.{PortsTrip, WatchedState, WatchedTrips, untold}
+use Rattle.ec_ring.specs.Arrivals.{copies_came}
 use Rattle.ec_run.specs.declared.cycles.Cycles.{Cycles}
 use Rattle.ec_run.specs.declared.wanted.Wanted.{Wanted}
 use Rattle.ec_run.proofs.Laws.{along_within, cycle_within, filled_length, looked_at_within, turn_within}
 use Rattle.ec_run.proofs.Laws.{within_less}
 use Rattle.ec_run.proofs.Laws.{within_none, within_one, within_then}
 use Rattle.ecat_master.specs.Course.{AreLooks, HeardTrips, IsCourse, IsFollowed, IsLook, IsRound, Sides}
-use Rattle.ecat_master.specs.Course.{IsSeenTo, MayBeLooked, MayBeLookedAt, Rounds, is_last_look}
-use Rattle.ecat_master.specs.Course.{round_trips}
+use Rattle.ecat_master.specs.Course.{IsCaredFor, MayBeLooked, MayBeLookedAt, Rounds, is_last_look}
+use Rattle.ecat_master.specs.Course.{care_trips, round_trips}
 use Rattle.ecat_master.specs.Task.{Listens, TakesOutputs, items_with}
 use Rattle.ecat_master.specs.declared.run.LinePlan.{LinePlan}
 
@@ -88,12 +89,12 @@ looks_end heard start now later slaves all left found so_far is look =
 pub not_followed : {P : Type 0} (heard : HeardTrips P) (line : List Wanted) (before : WatchedState P)
     → IsFollowed heard line before before
 not_followed heard line before =
-    record { between = before; looks = inl refl; seen_to = IsSeenTo.looked_at (MayBeLookedAt.none refl) }
+    record { between = before; looks = inl refl; seen_to = IsCaredFor.looked_at (MayBeLookedAt.none refl) }
 
 pub only_looks : {P : Type 0} (heard : HeardTrips P) (line : List Wanted) (before later : WatchedState P)
     → MayBeLooked heard before (length line) later → IsFollowed heard line before later
 only_looks heard line before later looks =
-    record { between = later; looks = looks; seen_to = IsSeenTo.looked_at (MayBeLookedAt.none refl) }
+    record { between = later; looks = looks; seen_to = IsCaredFor.looked_at (MayBeLookedAt.none refl) }
 
 -- ---- rounds
 
@@ -170,7 +171,7 @@ look_within : {P : Type 0} (heard : HeardTrips P) (before later : P) (slaves : �
     → IsLook heard before slaves found later → IsWithin (PortsTrip heard) 1 before later
 look_within heard before later slaves found look =
     let located = look.located in
-    within_one (PortsTrip heard) before later _ (came_of located.came)
+    within_one (PortsTrip heard) before later _ (copies_came located.came)
     (record { arrivals = located.came; made = located.made; copies = refl })
 
 look_then_within : {P : Type 0} (heard : HeardTrips P) (more slaves : ℕ) (before between later : P)
@@ -213,19 +214,20 @@ looked_at_once heard line before later (MayBeLookedAt.looked_at place wanted see
     looked_at_within (WatchedTrips heard) before later wanted.station seen looked
 
 seen_to_within : {P : Type 0} (heard : HeardTrips P) (line : List Wanted) (before later : WatchedState P)
-    → IsSeenTo heard line before later → IsWithin (WatchedTrips heard) turn_trips before later
-seen_to_within heard line before later (IsSeenTo.looked_at looked) =
-    let less : 1 ≤ turn_trips = omega arith in
-    within_less (WatchedTrips heard) 1 turn_trips before later less
+    → IsCaredFor heard line before later → IsWithin (WatchedTrips heard) care_trips before later
+seen_to_within heard line before later (IsCaredFor.looked_at looked) =
+    let less : 1 ≤ care_trips = omega arith in
+    within_less (WatchedTrips heard) 1 care_trips before later less
     (looked_at_once heard line before later looked)
-seen_to_within heard line before later (IsSeenTo.looked_along first result between along looked) =
-    let less : 1 + 1 ≤ turn_trips = omega arith in
-    within_less (WatchedTrips heard) (1 + 1) turn_trips before later less
+seen_to_within heard line before later (IsCaredFor.looked_along first result between along looked) =
+    within_less (WatchedTrips heard) (1 + 1) care_trips before later (omega arith)
     (within_then (WatchedTrips heard) 1 1 before between later
     (along_within (WatchedTrips heard) before between line first result along)
     (looked_at_once heard line between later looked))
-seen_to_within heard line before later (IsSeenTo.turned wanted recovery turn there taken) =
-    turn_within (WatchedTrips heard) before later wanted recovery turn taken
+seen_to_within heard line before later (IsCaredFor.turned wanted recovery turn there taken) =
+    let less : turn_trips ≤ care_trips = omega arith in
+    within_less (WatchedTrips heard) turn_trips care_trips before later less
+    (turn_within (WatchedTrips heard) before later wanted recovery turn taken)
 
 round_within : {P D T : Type 0} (sides : Sides P D T) (planned : LinePlan) (s after : Cycles)
     (before later : WatchedState P) (end : End)
@@ -235,13 +237,13 @@ round_within sides planned s after before later end round =
     let trips = PortsTrip sides.heard in
     let looked = round.followed.between in
     subst (λ (n : ℕ). IsWithin trips (round_trips n) before.ports later.ports) (supplied_length sides.listens sides.held s round.supplied round.takes)
-    (within_then trips (length round.supplied.asked + 1) turn_trips before.ports looked.ports later.ports
+    (within_then trips (length round.supplied.asked + 1) care_trips before.ports looked.ports later.ports
     (within_then trips (length round.supplied.asked) 1 before.ports round.behind.ports looked.ports
     (within_aside sides.heard (length round.supplied.asked) (untold before.ports) round.behind
     (cycle_within (WatchedTrips sides.heard) (untold before.ports) round.behind planned.plan.now.outputs planned.expected.now round.supplied
     after end round.cycle))
     (looked_within sides.heard (length planned.line.now) round.behind looked round.followed.looks))
-    (within_aside sides.heard turn_trips looked later
+    (within_aside sides.heard care_trips looked later
     (seen_to_within sides.heard planned.line.now looked later round.followed.seen_to)))
 
 -- each asks as many items as the first one

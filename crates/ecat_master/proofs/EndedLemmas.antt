@@ -5,7 +5,7 @@ use Rattle.ec_run.specs.Cycles.{End}
 use Rattle.ec_run.specs.Watched.{WatchedState, untold}
 use Rattle.ec_run.specs.declared.cycles.Cycles.{Cycles}
 use Rattle.ecat_master.specs.Course.{Sides}
-use Rattle.ecat_master.specs.Ended.{IsEnded, IsTold, is_well}
+use Rattle.ecat_master.specs.Ended.{IsEnded, HasStatus, is_well}
 use Rattle.ecat_master.specs.Exits.{start_status}
 use Rattle.ecat_master.specs.GoodRun.{IsMade}
 use Rattle.ecat_master.specs.Last.{in_op}
@@ -33,7 +33,7 @@ pub ended_behind : {P D T : Type 0} (sides : Sides P D T) (given : P) (work : Li
     (ran : Result (Option End) Unwritten)
     → IfOk ran (λ last. IsMade sides given work planned last cycles behind)
     → IsLeft sides.heard planned.plan.now.leave (length planned.line.now) behind left later
-    → IsTold ran (is_well left && in_op planned.plan.now.states cycles.image) status
+    → HasStatus ran (is_well left && in_op planned.plan.now.states cycles.image) status
     → IsEnded sides given work planned status
 ended_behind sides given work planned cycles behind later left status (Err unwritten) made is_left failed =
     IsEnded.unwritten failed

@@ -18,7 +18,7 @@ use Rattle.ec_diag.specs.declared.heard.Heard.{Heard}
 use Rattle.ec_diag.specs.declared.located.Located.{Located}
 use Rattle.ec_diag.specs.declared.located.Located.TheVariants.{Unknown}
 use Rattle.ec_line.specs.Trip.{back_pass, circulated, front_pass}
-use Rattle.ec_ring.specs.Arrivals.{arrivals_of, copies_of}
+use Rattle.ec_ring.specs.Arrivals.{arrivals_of, copies_came, copies_of}
 use Rattle.ec_ring.specs.Links.{IsOnlyDown, first_down}
 use Rattle.ec_ring.specs.Reach.{arrival_a, arrival_b, back, front, turns}
 use Rattle.ec_ring.specs.Ring.{RingState, line_of, with_controllers}
@@ -44,7 +44,7 @@ use Rattle.ec_services.specs.declared.fault.MasterFault.{MasterFault}
 use Rattle.ec_run.specs.Ask.{joined_by}
 use Rattle.ec_run.specs.Counting.{IsCounted, count_of}
 use Rattle.ec_run.specs.Travels.{IsWithin, Travels}
-use Rattle.ec_run.specs.Watched.{WatchedState, WatchedTrips, came_of}
+use Rattle.ec_run.specs.Watched.{WatchedState, WatchedTrips}
 use Rattle.ec_run.specs.declared.wanted.Wanted.{Wanted}
 use Rattle.ec_run.proofs.Laws.{within_of}
 use Rattle.ec_over_ring.specs.Brought.{ReachesAll}
@@ -53,6 +53,7 @@ use Rattle.ec_over_ring.proofs.Laws.{heard_is_ring, watched_ring}
 use Rattle.ecat_master.specs.Course.{AreLooks, IsLook, is_last_look}
 use Rattle.ecat_master.specs.Start.{IsFound}
 use Rattle.ecat_master.specs.declared.startup.TheConstants.{MORE_CABLE_LOOKS, MORE_COUNTS}
+use Rattle.ecat_master.proofs.CountsLemmas.{counts_within}
 
 -- ---- what the copies of a broadcast read are heard as, by the laws of diagnosis
 
@@ -304,7 +305,7 @@ slaves_counted laws r n reached is =
 watched_came : (before later : WatchedState RingState) (sent : List DatagramRecord)
     (came : Result Came PortFault) → WatchedTrips HeardRing before sent came later
     → came ≡ Ok (copies_of (arrivals_of (calm before.ports.links) sent (line_of before.ports)))
-watched_came before later sent came trip = trip.copies ∙ ap came_of trip.made.0
+watched_came before later sent came trip = trip.copies ∙ ap copies_came trip.made.0
 
 -- a count tells how many slaves the ring has
 count_is : AreHeard → (before later : WatchedState RingState) (n : ℕ) → IsReached before.ports
@@ -349,7 +350,7 @@ look_so laws before later n cable size limit look =
 look_same : (before later : RingState) (n : ℕ) (found : Option Located)
     → IsLook HeardRing before n found later → IsSameRing before later
 look_same before later n found look =
-    trip_same before later (probe ∷ []) (came_of look.located.came)
+    trip_same before later (probe ∷ []) (copies_came look.located.came)
     (heard_is_ring before (probe ∷ []) look.located.came later look.located.made)
 
 -- so is what the looks find, one after the other
@@ -394,7 +395,7 @@ found_is laws before later line cable ring found =
     let kept : IsSameRing before.ports last.ports =
     within_same MORE_COUNTS before.ports last.ports
     (within_of (λ (w : WatchedState RingState). w.ports) (WatchedTrips HeardRing) RingTrips watched_ring
-    MORE_COUNTS before last found.counting.earlier) in
+    MORE_COUNTS before last (counts_within _ MORE_COUNTS before last found.counting.earlier)) in
     let counts : n ≡ length last.ports.slaves =
     count_is laws last counted n (same_reached before.ports last.ports kept at_first) found.counting.last in
     let asks = found.counting.last.puts.asks in

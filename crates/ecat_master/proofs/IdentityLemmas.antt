@@ -7,7 +7,7 @@ use Rattle.ec_app.specs.declared.value.Value.{Value}
 use Rattle.ec_run.specs.declared.wanted.Wanted.{Wanted}
 use Rattle.ec_services.specs.declared.mailbox.Peer.{Peer}
 use Rattle.ecat_master.specs.Identities.{AreEntriesCompared, AreIdentitiesCompared, IsEntryCompared}
-use Rattle.ecat_master.specs.Identities.{IsIdentityCompared, WantedIdentity}
+use Rattle.ecat_master.specs.Identities.{IdentityEntry, IsIdentityCompared, WantedIdentity, next_entry}
 use Rattle.ecat_master.specs.declared.identity.OtherSlave.{OtherSlave}
 
 -- ---- lists that are gone through
@@ -26,71 +26,67 @@ left_none xs k past = drop_all k xs past
 -- ---- entries
 
 -- what the entries that are left come to, from the ports and the peer as they are now, is what all come to
-abbrev pub EntriesOn : {P : Type 0} → Trips P → P → P → ℕ → ℕ → Peer → Peer → ℕ → ℕ → WantedIdentity
-    → WantedIdentity → Type 0
-EntriesOn {P} trips start now place station peer peer_now first entry all left =
+abbrev pub EntriesOn : {P : Type 0} → Trips P → P → P → Peer → Peer → IdentityEntry → IdentityEntry
+    → WantedIdentity → WantedIdentity → Type 0
+EntriesOn {P} trips start now peer peer_now first entry all left =
     (result : Result (Unit {0}) OtherSlave) (later : P)
-    → AreEntriesCompared trips now place station peer_now entry left result later
-    → AreEntriesCompared trips start place station peer first all result later
+    → AreEntriesCompared trips now entry peer_now left result later
+    → AreEntriesCompared trips start first peer all result later
 
-entry_then : {P : Type 0} (trips : Trips P) (now between later : P) (place station : ℕ) (peer next : Peer)
-    (entry : ℕ) (wanted : Option Value) (rest : WantedIdentity) (result : Result (Unit {0}) OtherSlave)
-    → IsEntryCompared trips now place station peer entry wanted (Ok tt) next between
-    → AreEntriesCompared trips between place station next (entry + 1) rest result later
-    → AreEntriesCompared trips now place station peer entry (wanted ∷ rest) result later
+entry_then : {P : Type 0} (trips : Trips P) (now between later : P) (entry : IdentityEntry) (peer next : Peer)
+    (wanted : Option Value) (rest : WantedIdentity) (result : Result (Unit {0}) OtherSlave)
+    → IsEntryCompared trips now entry peer wanted (Ok tt) next between
+    → AreEntriesCompared trips between (next_entry entry) next rest result later
+    → AreEntriesCompared trips now entry peer (wanted ∷ rest) result later
 unfolding AreEntriesCompared
-entry_then trips now between later place station peer next entry wanted rest result one more =
+entry_then trips now between later entry peer next wanted rest result one more =
     (Ok tt, next, between, one, more)
 
-entry_ends : {P : Type 0} (trips : Trips P) (now between : P) (place station : ℕ) (peer next : Peer)
-    (entry : ℕ) (wanted : Option Value) (rest : WantedIdentity) (other : OtherSlave)
-    → IsEntryCompared trips now place station peer entry wanted (Err other) next between
-    → AreEntriesCompared trips now place station peer entry (wanted ∷ rest) (Err other) between
+entry_ends : {P : Type 0} (trips : Trips P) (now between : P) (entry : IdentityEntry) (peer next : Peer)
+    (wanted : Option Value) (rest : WantedIdentity) (other : OtherSlave)
+    → IsEntryCompared trips now entry peer wanted (Err other) next between
+    → AreEntriesCompared trips now entry peer (wanted ∷ rest) (Err other) between
 unfolding AreEntriesCompared
-entry_ends trips now between place station peer next entry wanted rest other one =
+entry_ends trips now between entry peer next wanted rest other one =
     (Err other, next, between, one, (refl, refl))
 
-no_entry : {P : Type 0} (trips : Trips P) (now : P) (place station : ℕ) (peer : Peer) (entry : ℕ)
-    → AreEntriesCompared trips now place station peer entry [] (Ok tt) now
+no_entry : {P : Type 0} (trips : Trips P) (now : P) (entry : IdentityEntry) (peer : Peer)
+    → AreEntriesCompared trips now entry peer [] (Ok tt) now
 unfolding AreEntriesCompared
-no_entry trips now place station peer entry = (refl, refl)
+no_entry trips now entry peer = (refl, refl)
 
 -- an entry is as wanted, and what is left goes on behind it
-pub entries_on : {P : Type 0} (trips : Trips P) (start now between : P) (place station : ℕ)
-    (peer peer_now next : Peer) (first entry : ℕ) (wanted : Option Value) (all left rest : WantedIdentity)
-    → EntriesOn trips start now place station peer peer_now first entry all left → left ≡ wanted ∷ rest
-    → IsEntryCompared trips now place station peer_now entry wanted (Ok tt) next between
-    → EntriesOn trips start between place station peer next first (entry + 1) all rest
-entries_on trips start now between place station peer peer_now next first entry wanted all left rest so_far is
-    one result later more =
+pub entries_on : {P : Type 0} (trips : Trips P) (start now between : P) (peer peer_now next : Peer)
+    (first entry : IdentityEntry) (wanted : Option Value) (all left rest : WantedIdentity)
+    → EntriesOn trips start now peer peer_now first entry all left → left ≡ wanted ∷ rest
+    → IsEntryCompared trips now entry peer_now wanted (Ok tt) next between
+    → EntriesOn trips start between peer next first (next_entry entry) all rest
+entries_on trips start now between peer peer_now next first entry wanted all left rest so_far is one result
+    later more =
     so_far result later
-    (subst (λ (ws : WantedIdentity).
-    AreEntriesCompared trips now place station peer_now entry ws result later) (sym is)
-    (entry_then trips now between later place station peer_now next entry wanted rest result one more))
+    (subst (λ (ws : WantedIdentity). AreEntriesCompared trips now entry peer_now ws result later) (sym is)
+    (entry_then trips now between later entry peer_now next wanted rest result one more))
 
 -- an entry is another one, and that is the answer
-pub entries_end : {P : Type 0} (trips : Trips P) (start now between : P) (place station : ℕ)
-    (peer peer_now next : Peer) (first entry : ℕ) (wanted : Option Value) (all left rest : WantedIdentity)
-    (other : OtherSlave)
-    → EntriesOn trips start now place station peer peer_now first entry all left → left ≡ wanted ∷ rest
-    → IsEntryCompared trips now place station peer_now entry wanted (Err other) next between
-    → AreEntriesCompared trips start place station peer first all (Err other) between
-entries_end trips start now between place station peer peer_now next first entry wanted all left rest other
-    so_far is one =
+pub entries_end : {P : Type 0} (trips : Trips P) (start now between : P) (peer peer_now next : Peer)
+    (first entry : IdentityEntry) (wanted : Option Value) (all left rest : WantedIdentity)
+    (other : OtherSlave) → EntriesOn trips start now peer peer_now first entry all left → left ≡ wanted ∷ rest
+    → IsEntryCompared trips now entry peer_now wanted (Err other) next between
+    → AreEntriesCompared trips start first peer all (Err other) between
+entries_end trips start now between peer peer_now next first entry wanted all left rest other so_far is one =
     so_far (Err other) between
-    (subst (λ (ws : WantedIdentity).
-    AreEntriesCompared trips now place station peer_now entry ws (Err other) between) (sym is)
-    (entry_ends trips now between place station peer_now next entry wanted rest other one))
+    (subst (λ (ws : WantedIdentity). AreEntriesCompared trips now entry peer_now ws (Err other) between)
+    (sym is) (entry_ends trips now between entry peer_now next wanted rest other one))
 
 -- no entry is left
-pub entries_all : {P : Type 0} (trips : Trips P) (start now : P) (place station : ℕ) (peer peer_now : Peer)
-    (first entry : ℕ) (all left : WantedIdentity)
-    → EntriesOn trips start now place station peer peer_now first entry all left → left ≡ []
-    → AreEntriesCompared trips start place station peer first all (Ok tt) now
-entries_all trips start now place station peer peer_now first entry all left so_far is =
+pub entries_all : {P : Type 0} (trips : Trips P) (start now : P) (peer peer_now : Peer)
+    (first entry : IdentityEntry) (all left : WantedIdentity)
+    → EntriesOn trips start now peer peer_now first entry all left → left ≡ []
+    → AreEntriesCompared trips start first peer all (Ok tt) now
+entries_all trips start now peer peer_now first entry all left so_far is =
     so_far (Ok tt) now
-    (subst (λ (ws : WantedIdentity). AreEntriesCompared trips now place station peer_now entry ws (Ok tt) now)
-    (sym is) (no_entry trips now place station peer_now entry))
+    (subst (λ (ws : WantedIdentity). AreEntriesCompared trips now entry peer_now ws (Ok tt) now) (sym is)
+    (no_entry trips now entry peer_now))
 
 -- ---- slaves
 

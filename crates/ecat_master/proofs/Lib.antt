@@ -1,4 +1,5 @@
 mod CourseLemmas
+mod CountsLemmas
 mod StartLemmas
 mod LeavingLemmas
 mod OverLemmas

@@ -21,16 +21,19 @@ use Rattle.ec_run.proofs.Laws.{brings_within, within_less, within_none, within_o
 use Rattle.ec_services.specs.Ask.{Answer, Asks}
 use Rattle.ec_services.specs.Course.{Course, Runs}
 use Rattle.ec_services.specs.Surely.{IsSure}
+use Rattle.ec_services.specs.Transfer.{service_of}
 use Rattle.ec_services.specs.declared.fault.MasterFault.{MasterFault}
 use Rattle.ec_services.specs.declared.mailbox.Peer.{Peer}
 use Rattle.ecat_master.specs.Course.{HeardTrips}
-use Rattle.ecat_master.specs.Identities.{AreEntriesCompared, AreIdentitiesCompared, IsEntryCompared}
-use Rattle.ecat_master.specs.Identities.{IsPeerCompared, WantedIdentity, identities_trips}
+use Rattle.ecat_master.specs.Identities.{AreEntriesCompared, AreIdentitiesCompared, IdentityEntry}
+use Rattle.ecat_master.specs.Identities.{IsEntryCompared, IsPeerCompared, WantedIdentity, entry_at}
+use Rattle.ecat_master.specs.Identities.{identities_trips, next_entry}
 use Rattle.ecat_master.specs.Start.{AreCounted, BringsThrough, GivesStations, IsRecognized, IsStarted}
 use Rattle.ecat_master.specs.Start.{start_trips}
 use Rattle.ecat_master.specs.declared.identity.OtherSlave.{OtherSlave}
 use Rattle.ecat_master.specs.declared.identity.TheConstants.{ENTRY_TRIPS}
 use Rattle.ecat_master.specs.declared.startup.TheConstants.{MORE_CABLE_LOOKS, MORE_COUNTS}
+use Rattle.ecat_master.proofs.CountsLemmas.{counts_within}
 use Rattle.ecat_master.proofs.CourseLemmas.{looks_within, within_aside}
 
 -- ---- a course of questions
@@ -72,20 +75,20 @@ runs_within trips before later course known (suc n) result known_later
 
 sure_within : {P A : Type 0} (trips : Trips P) (before later : P) (peer peer_later : Peer) (asked : Sdo)
     (limit : ℕ) (comes_to : Mail → Result A MasterFault) (result : Result A MasterFault)
-    → IsSure trips before peer asked limit comes_to result peer_later later
+    → IsSure trips before peer (service_of asked comes_to) limit result peer_later later
     → IsWithin trips limit before later
 sure_within trips before later peer peer_later asked limit comes_to result sure =
     runs_within trips before later _ _ limit sure.answer sure.last sure.runs
 
 -- ---- identities
 
-entry_within : {P : Type 0} (trips : Trips P) (before later : P) (place station : ℕ) (peer peer_later : Peer)
-    (entry : ℕ) (wanted : Option Value) (result : Result (Unit {0}) OtherSlave)
-    → IsEntryCompared trips before place station peer entry wanted result peer_later later
+entry_within : {P : Type 0} (trips : Trips P) (before later : P) (entry : IdentityEntry)
+    (peer peer_later : Peer) (wanted : Option Value) (result : Result (Unit {0}) OtherSlave)
+    → IsEntryCompared trips before entry peer wanted result peer_later later
     → IsWithin trips ENTRY_TRIPS before later
-entry_within trips before later place station peer peer_later entry None result (is, kept, same) =
+entry_within trips before later entry peer peer_later None result (is, kept, same) =
     within_none trips ENTRY_TRIPS before later same
-entry_within trips before later place station peer peer_later entry (Some wanted) result read =
+entry_within trips before later entry peer peer_later (Some wanted) result read =
     sure_within trips before later peer peer_later _ ENTRY_TRIPS _ read.found read.reads
 
 -- one entry more
@@ -101,23 +104,21 @@ more_within trips before between later wanted rest first others =
     within_less trips _ _ before later less
     (within_then trips ENTRY_TRIPS (length rest * ENTRY_TRIPS) before between later first others)
 
-entries_within : {P : Type 0} (trips : Trips P) (before later : P) (place station : ℕ) (peer : Peer)
-    (entry : ℕ) (identity : WantedIdentity) (result : Result (Unit {0}) OtherSlave)
-    → AreEntriesCompared trips before place station peer entry identity result later
+entries_within : {P : Type 0} (trips : Trips P) (before later : P) (entry : IdentityEntry) (peer : Peer)
+    (identity : WantedIdentity) (result : Result (Unit {0}) OtherSlave)
+    → AreEntriesCompared trips before entry peer identity result later
     → IsWithin trips (length identity * ENTRY_TRIPS) before later
 unfolding AreEntriesCompared
-entries_within trips before later place station peer entry [] result (is, same) =
-    within_none trips _ before later same
-entries_within trips before later place station peer entry (wanted ∷ rest) result
+entries_within trips before later entry peer [] result (is, same) = within_none trips _ before later same
+entries_within trips before later entry peer (wanted ∷ rest) result
     (Err other, next, between, compared, (is, same)) =
     more_within trips before between later wanted rest
-    (entry_within trips before between place station peer next entry wanted (Err other) compared)
+    (entry_within trips before between entry peer next wanted (Err other) compared)
     (within_none trips (length rest * ENTRY_TRIPS) between later same)
-entries_within trips before later place station peer entry (wanted ∷ rest) result
-    (Ok did, next, between, compared, left) =
+entries_within trips before later entry peer (wanted ∷ rest) result (Ok did, next, between, compared, left) =
     more_within trips before between later wanted rest
-    (entry_within trips before between place station peer next entry wanted (Ok did) compared)
-    (entries_within trips between later place station next (entry + 1) rest result left)
+    (entry_within trips before between entry peer next wanted (Ok did) compared)
+    (entries_within trips between later (next_entry entry) next rest result left)
 
 peer_within : {P : Type 0} (trips : Trips P) (before later : P) (place station : ℕ) (peer : Option Peer)
     (identity : WantedIdentity) (result : Result (Unit {0}) OtherSlave)
@@ -126,7 +127,7 @@ peer_within : {P : Type 0} (trips : Trips P) (before later : P) (place station :
 peer_within trips before later place station None identity result (is, same) =
     within_none trips (length identity * ENTRY_TRIPS) before later same
 peer_within trips before later place station (Some peer) identity result compared =
-    entries_within trips before later place station peer 1 identity result compared
+    entries_within trips before later (entry_at place station 1) peer identity result compared
 
 -- the reads of identities are as many as their definition says
 pub identities_within : {P : Type 0} (trips : Trips P) (before later : P) (place : ℕ) (line : List Wanted)
@@ -154,7 +155,8 @@ identities_within trips before later place (wanted ∷ rest) (identity ∷ other
 counted_within : {P : Type 0} (trips : Trips P) (before later : P) (count : Result ℕ MasterFault)
     → AreCounted trips before count later → IsWithin trips (MORE_COUNTS + 1) before later
 counted_within trips before later count counted =
-    within_then trips MORE_COUNTS 1 before counted.between later counted.earlier
+    within_then trips MORE_COUNTS 1 before counted.between later
+    (counts_within trips MORE_COUNTS before counted.between counted.earlier)
     (asks_within trips counted.between later _ counted.last.puts.answer counted.last.puts.asks)
 
 -- one step for each slave, wherever the cable is broken

@@ -15,7 +15,6 @@ use Rattle.ec_run.specs.Cycles.{End, IsCycle}
 use Rattle.ec_run.specs.Along.{IsAlong}
 use Rattle.ec_run.specs.Recovering.{RecoveryState}
 use Rattle.ec_run.specs.Recovery.{IsLookedAt}
-use Rattle.ec_run.specs.Travels.{turn_trips}
 use Rattle.ec_run.specs.Turns.{IsTurn}
 use Rattle.ec_run.specs.Watched.{WatchedState, WatchedTrips, untold}
 use Rattle.ec_run.specs.declared.cycles.Cycles.{Cycles}
@@ -104,23 +103,23 @@ pub data MayBeLookedAt {P : Type 0} (heard : HeardTrips P) (line : List Wanted)
 
 -- a slave is looked at, or none is; or slaves of the line are asked by one frame, and then one may be looked
 -- at; or a turn is taken with one that is being brought to Op again
-pub data IsSeenTo {P : Type 0} (heard : HeardTrips P) (line : List Wanted) (before later : WatchedState P)
+pub data IsCaredFor {P : Type 0} (heard : HeardTrips P) (line : List Wanted) (before later : WatchedState P)
     : Type 0 where
-  looked_at : MayBeLookedAt heard line before later → IsSeenTo heard line before later
+  looked_at : MayBeLookedAt heard line before later → IsCaredFor heard line before later
   looked_along : (first : ℕ) (result : Result Along MasterFault) (between : WatchedState P)
       → IsAlong (WatchedTrips heard) before line first result between
-      → MayBeLookedAt heard line between later → IsSeenTo heard line before later
+      → MayBeLookedAt heard line between later → IsCaredFor heard line before later
   turned : (wanted : Wanted) (recovery : RecoveryState) (turn : Turn)
       → slice_get line recovery.place ≡ Some wanted
       → IsTurn (WatchedTrips heard) before wanted recovery turn later
-      → IsSeenTo heard line before later
+      → IsCaredFor heard line before later
 
 -- behind a cycle: a look at the cable, and then a slave is seen to
 pub record IsFollowed {P : Type 0} (heard : HeardTrips P) (line : List Wanted) (before later : WatchedState P)
     : Type 0 where
   pub between : WatchedState P
   pub looks : MayBeLooked heard before (length line) between
-  pub seen_to : IsSeenTo heard line between later
+  pub seen_to : IsCaredFor heard line between later
 
 -- ---- end to end
 
@@ -152,6 +151,11 @@ pub record IsCourse {P D T : Type 0} (sides : Sides P D T) (planned : LinePlan) 
   pub rounds : Rounds sides planned number s before last after later
   pub counts : after.counts.cycles ≡ s.counts.cycles + number
 
--- the most trips of a round: a frame for each item, a look at the cable, and a turn with a slave
+-- the most trips by which a slave is seen to: a look along the line and one at a slave
+abbrev pub care_trips : ℕ
+care_trips = 2
+
+-- the most trips of a round: a frame for each item, a look at the cable, and those by which a slave is seen
+-- to
 abbrev pub round_trips : ℕ → ℕ
-round_trips items = items + 1 + turn_trips
+round_trips items = items + 1 + care_trips

@@ -24,9 +24,9 @@ is_well (All state) = true
 is_well (NotAll state) = false
 
 -- behind cycles: that of the last one, or 3 where not all could be written
-abbrev pub IsTold : Result (Option End) Unwritten → Bool → ℕ → Type 0
-IsTold (Err unwritten) all_well status = status ≡ FAILED
-IsTold (Ok last) all_well status = (status ≡ FAILED) ⊎ (status ≡ status_told last all_well)
+abbrev pub HasStatus : Result (Option End) Unwritten → Bool → ℕ → Type 0
+HasStatus (Err unwritten) all_well status = status ≡ FAILED
+HasStatus (Ok last) all_well status = (status ≡ FAILED) ⊎ (status ≡ status_told last all_well)
 
 -- it is 3 where output or log could not be written; that of the fault where the line could not be started,
 -- and the fault has its cause; and else, behind a start and a course of cycles, that of the last cycle, if

@@ -3,13 +3,12 @@
 use Rattle.std.specs.Prelude.{◌≡◌, ◌≢◌, ℕ, ◌+◌, ◌*◌, Option, None, Some, List, [], ◌∷◌, length, Result, Ok}
 use Rattle.std.specs.Prelude.{Err, slice_get}
 use Rattle.ec_app.specs.declared.roles.TheConstants.{ANSWER_MAILBOX, REQUEST_MAILBOX}
-use Rattle.ec_app.specs.declared.sdo.Sdo.TheVariants.{Upload}
 use Rattle.ec_app.specs.declared.value.Value.{Value}
 use Rattle.ec_master.specs.Ports.{Trips}
 use Rattle.ec_run.specs.StartupObjects.{peer_by}
 use Rattle.ec_run.specs.declared.wanted.Wanted.{Wanted}
 use Rattle.ec_services.specs.Surely.{IsSure}
-use Rattle.ec_services.specs.Transfer.{uploaded_by}
+use Rattle.ec_services.specs.Transfer.{uploading}
 use Rattle.ec_services.specs.declared.fault.MasterFault.{MasterFault}
 use Rattle.ec_services.specs.declared.mailbox.Peer.{Peer}
 use Rattle.ecat_master.specs.declared.identity.OtherSlave.{OtherSlave}
@@ -21,43 +20,61 @@ WantedIdentity = List (Option Value)
 
 -- ---- an entry
 
+-- an entry of a slave's identity, with the place and the station address of the slave
+pub record IdentityEntry : Type 0 where
+  pub place : ℕ
+  pub station : ℕ
+  pub number : ℕ
+
+abbrev pub entry_at : ℕ → ℕ → ℕ → IdentityEntry
+entry_at place station number = record { place = place; station = station; number = number }
+
+-- the next one of the same slave
+abbrev pub next_entry : IdentityEntry → IdentityEntry
+next_entry entry = record entry { number = entry.number + 1 }
+
 -- what was found of an entry is what is wanted; or it is not, and the slave is told as another one, by its
 -- place, its station address, that entry and both
-abbrev pub EntryComesTo : ℕ → ℕ → ℕ → Value → Result Value MasterFault → Result (Unit {0}) OtherSlave → Type 0
-EntryComesTo place station entry wanted found (Ok _) = found ≡ Ok wanted
-EntryComesTo place station entry wanted found (Err other) =
+abbrev pub EntryComesTo : IdentityEntry → Value → Result Value MasterFault → Result (Unit {0}) OtherSlave
+    → Type 0
+EntryComesTo entry wanted found (Ok _) = found ≡ Ok wanted
+EntryComesTo entry wanted found (Err other) =
     (found ≢ Ok wanted)
-    × (other ≡ record { place = place; station = station; entry = entry; wanted = wanted; found = found })
+    × (other ≡ record {
+      place = entry.place;
+      station = entry.station;
+      entry = entry.number;
+      wanted = wanted;
+      found = found;
+    })
 
 -- an entry is read surely, and compared
-pub record IsEntryRead {P : Type 0} (trips : Trips P) (before : P) (place station : ℕ) (peer : Peer)
-    (entry : ℕ) (wanted : Value) (result : Result (Unit {0}) OtherSlave) (peer_later : Peer) (later : P)
-    : Type 0 where
+pub record IsEntryRead {P : Type 0} (trips : Trips P) (before : P) (entry : IdentityEntry) (peer : Peer)
+    (wanted : Value) (result : Result (Unit {0}) OtherSlave) (peer_later : Peer) (later : P) : Type 0 where
   pub found : Result Value MasterFault
-  pub reads : IsSure trips before peer (Upload IDENTITY entry) ENTRY_TRIPS uploaded_by found peer_later later
-  pub comes_to : EntryComesTo place station entry wanted found result
+  pub reads : IsSure trips before peer (uploading IDENTITY entry.number) ENTRY_TRIPS found peer_later later
+  pub comes_to : EntryComesTo entry wanted found result
 
 -- unless any value will do
-abbrev pub IsEntryCompared : {P : Type 0} → Trips P → P → ℕ → ℕ → Peer → ℕ → Option Value
+abbrev pub IsEntryCompared : {P : Type 0} → Trips P → P → IdentityEntry → Peer → Option Value
     → Result (Unit {0}) OtherSlave → Peer → P → Type 0
-IsEntryCompared trips before place station peer entry None result peer_later later =
+IsEntryCompared trips before entry peer None result peer_later later =
     (result ≡ Ok tt) × (peer_later ≡ peer) × (later ≡ before)
-IsEntryCompared trips before place station peer entry (Some wanted) result peer_later later =
-    IsEntryRead trips before place station peer entry wanted result peer_later later
+IsEntryCompared trips before entry peer (Some wanted) result peer_later later =
+    IsEntryRead trips before entry peer wanted result peer_later later
 
 -- ---- a slave
 
--- its entries are compared one after the other, the first of them with this number, until one is another
-unfoldable pub AreEntriesCompared : {P : Type 0} → Trips P → P → ℕ → ℕ → Peer → ℕ → WantedIdentity
+-- its entries are compared one after the other, from this one on, until one is another
+unfoldable pub AreEntriesCompared : {P : Type 0} → Trips P → P → IdentityEntry → Peer → WantedIdentity
     → Result (Unit {0}) OtherSlave → P → Type 0
-AreEntriesCompared trips before place station peer entry [] result later =
-    (result ≡ Ok tt) × (later ≡ before)
-AreEntriesCompared {P} trips before place station peer entry (wanted ∷ rest) result later =
+AreEntriesCompared trips before entry peer [] result later = (result ≡ Ok tt) × (later ≡ before)
+AreEntriesCompared {P} trips before entry peer (wanted ∷ rest) result later =
     (did : Result (Unit {0}) OtherSlave) × (peer_later : Peer) × (between : P)
-    × IsEntryCompared trips before place station peer entry wanted did peer_later between
+    × IsEntryCompared trips before entry peer wanted did peer_later between
     × (elim did [
       | Err other ↦ (result ≡ Err other) × (later ≡ between)
-      | Ok _ ↦ AreEntriesCompared trips between place station peer_later (entry + 1) rest result later
+      | Ok _ ↦ AreEntriesCompared trips between (next_entry entry) peer_later rest result later
     ])
 
 -- from entry 1 on, of a slave to which mails go; of one without both mailboxes nothing is read
@@ -65,7 +82,7 @@ abbrev pub IsPeerCompared : {P : Type 0} → Trips P → P → ℕ → ℕ → O
     → Result (Unit {0}) OtherSlave → P → Type 0
 IsPeerCompared trips before place station None identity result later = (result ≡ Ok tt) × (later ≡ before)
 IsPeerCompared trips before place station (Some peer) identity result later =
-    AreEntriesCompared trips before place station peer 1 identity result later
+    AreEntriesCompared trips before (entry_at place station 1) peer identity result later
 
 -- the slave at a place, if two of its records are its mailboxes; the first mail to it has the counter 1
 abbrev pub IsIdentityCompared : {P : Type 0} → Trips P → P → ℕ → Wanted → WantedIdentity

@@ -1,7 +1,7 @@
 -- The state in which a running master leaves the slaves of its line: how often all of them are asked for it,
 -- and what is answered (IEC 61158-6-12, AL control and AL status).
-use Rattle.std.specs.Prelude.{◌≡◌, ◌≤◌, ◌<◌, ◌⊎◌, ◌*◌, ◌||◌, ℕ, zero, suc, Bool, true, false, Option, None, Some}
-use Rattle.std.specs.Prelude.{Result, is_ok, nat_lt, if◌then◌else◌}
+use Rattle.std.specs.Prelude.{◌≡◌, ◌≤◌, ◌<◌, ◌⊎◌, ◌*◌, ◌||◌, ℕ, zero, suc, Bool, true, false, Option, None}
+use Rattle.std.specs.Prelude.{Some, Result, is_ok, nat_lt, if◌then◌else◌}
 use Rattle.ec_regs.specs.declared.al.AlState.{AlState}
 use Rattle.ec_ring.specs.declared.port.Port.TheVariants.{A, B}
 use Rattle.ec_run.specs.States.{Leaves}

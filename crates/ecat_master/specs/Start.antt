@@ -1,7 +1,8 @@
 -- A line is started (IEC 61158-6-12, AL management): its slaves are counted and its cable is looked at, each
 -- slave gets its station address, and all are brought through one phase after the other up to Op; in Pre-Op
 -- they are asked who they are. Where one of these parts fails, the fault that is told has its cause in it.
-use Rattle.std.specs.Prelude.{◌≡◌, ◌≢◌, ◌<◌, ℕ, ◌+◌, ◌*◌, ◌&&◌, nat_lt, if◌then◌else◌, Option, None, Some}
+use Rattle.std.specs.Prelude.{◌≡◌, ◌≢◌, ◌≤◌, ◌<◌, ℕ, zero, suc, ◌+◌, ◌*◌, ◌&&◌, nat_lt, if◌then◌else◌}
+use Rattle.std.specs.Prelude.{Option, None, Some}
 use Rattle.std.specs.Prelude.{List, [], ◌∷◌, Result, Ok, Err, drop, length, take}
 use Rattle.ec_diag.specs.declared.located.Located.{Located}
 use Rattle.ec_diag.specs.declared.located.Located.TheVariants.{Whole, One}
@@ -9,7 +10,7 @@ use Rattle.ec_master.specs.Ports.{Trips}
 use Rattle.ec_ring.specs.declared.links.TheConstants.{MAX_SLAVES}
 use Rattle.ec_run.specs.Counting.{IsCounted}
 use Rattle.ec_run.specs.Phase.{Brings, steps_from, steps_of}
-use Rattle.ec_run.specs.Travels.{IsWithin, trips_of_all}
+use Rattle.ec_run.specs.Travels.{trips_of_all}
 use Rattle.ec_run.specs.Watched.{WatchedState, WatchedTrips}
 use Rattle.ec_run.specs.declared.phase.Phase.{Phase}
 use Rattle.ec_run.specs.declared.phase.Phase.TheVariants.{Init, PreOp, Startup, SafeOp, Op}
@@ -29,11 +30,24 @@ use Rattle.ecat_master.specs.declared.startup.StartFault.TheVariants.{Ask, Count
 
 -- ---- counts
 
+-- so many counts, one behind the other, whatever each told
+unfoldable pub AreCounts : {P : Type 0} → Trips P → ℕ → P → P → Type 0
+AreCounts trips zero before later = later ≡ before
+AreCounts {P} trips (suc n) before later =
+    (between : P) × AreCounts trips n before between
+    × (told : Result ℕ MasterFault) × IsCounted trips between told later
+
+-- so many at the most
+pub record EarlierCounts {P : Type 0} (trips : Trips P) (most : ℕ) (before later : P) : Type 0 where
+  pub number : ℕ
+  pub bound : number ≤ most
+  pub counts : AreCounts trips number before later
+
 -- the slaves are counted, so often at the most; the last count told this
 pub record AreCounted {P : Type 0} (trips : Trips P) (before : P) (count : Result ℕ MasterFault) (later : P)
     : Type 0 where
   pub between : P
-  pub earlier : IsWithin trips MORE_COUNTS before between
+  pub earlier : EarlierCounts trips MORE_COUNTS before between
   pub last : IsCounted trips between count later
 
 -- ---- station addresses

@@ -3,7 +3,7 @@
 ghost use Rattle.std.specs.Prelude.{◌≡◌, ◌≤◌, ◌↔◌, IsTrue, Ok, length};
 ghost use Rattle.ec_services.specs.Mailbox.{IsPeer};
 ghost use Rattle.ecat_master.specs.Identities.{AreEntriesCompared, AreIdentitiesCompared};
-ghost use Rattle.ecat_master.specs.Identities.{IsEntryCompared, IsIdentityCompared};
+ghost use Rattle.ecat_master.specs.Identities.{IsEntryCompared, IsIdentityCompared, entry_at};
 
 use crate::words::put_fault;
 use ec_app::Value;
@@ -91,7 +91,8 @@ fn compare_entries<P: Ports>(
     identity: &Identity,
 ) -> Result<(), OtherSlave>
     requires { IsPeer peer }
-    ensures { AreEntriesCompared P.trips ports.old place station peer 1 identity.now result ports.new }
+    ensures { AreEntriesCompared P.trips ports.old (entry_at place station 1) peer identity.now result
+        ports.new }
 {
     for number in 0..ENTRIES {
         let entry = number as u8 + 1;
@@ -120,8 +121,8 @@ fn compare_entry<P: Ports>(
     wanted: Option<Value>,
 ) -> Result<(), OtherSlave>
     requires { IsPeer peer.old }
-    ensures compared { IsEntryCompared P.trips ports.old place station peer.old entry wanted result peer.new
-        ports.new }
+    ensures compared { IsEntryCompared P.trips ports.old (entry_at place station entry) peer.old wanted result
+        peer.new ports.new }
     ensures still_peer { IsPeer peer.new }
 {
     let wanted = match wanted {

@@ -4,8 +4,8 @@
 //!
 //! What it does is that of `ec_run`: steps, cycles, recovery. Here is in which order a program does them,
 //! what it tells of them, and its exit status, with no socket and no clock of its own: the ports are any that
-//! tell where copies arrive ([`ec_ring::HeardPorts`]), the time is a [`Pace`], outputs are those of a [`Task`]
-//! that is told what each cycle came to, and what else is told goes to writers.
+//! tell where copies arrive ([`ec_ring::HeardPorts`]), the time is a [`Pace`], outputs are those of a
+//! [`Task`] that is told what each cycle came to, and what else is told goes to writers.
 //!
 //! One use, which `master/door.rt` of `ecat_master_tests` tries; `wanted`, `ring` and `work` of
 //! `master/line.rt` make three slaves as a scene has them, a ring of slaves that were told nothing, and an
@@ -20,6 +20,7 @@
 //!     outputs: Outputs::Count,
 //!     stop: false,
 //!     recover: true,
+//!     tries: MOST_READS,
 //!     progress: false,
 //!     log: false,
 //!     log_images: false,

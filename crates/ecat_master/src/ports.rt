@@ -2,7 +2,7 @@
 
 use crate::telling::put_cycle;
 use ec_ring::{HeardPorts, Port, PortHealth};
-use ec_run::Watched;
+use ec_run::{Watched, Ways};
 use ecat_text::{Lines, PortText, SystemError};
 use std::io::{self, Write};
 
@@ -183,6 +183,99 @@ pub(crate) fn put_failing<W: Write>(
     let port = PortText(port);
     let error = SystemError(error);
     lines.text(format_args!("port {port} failed ({error})"))
+}
+
+/// At which ports of a master no copy came.
+#[derive(Clone, Copy, PartialEq, Eq)]
+pub(crate) enum Silent {
+    /// At neither: copies came at both.
+    Neither,
+    /// At this one alone.
+    At(Port),
+    /// At both.
+    Both,
+}
+
+impl Silent {
+    /// Puts at which ports nothing came, if it is one, behind where the cable is broken.
+    pub(crate) fn put<W: Write>(self, lines: &mut Lines<'_, W>) -> io::Result<()> {
+        match self {
+            Silent::Neither => Ok(()),
+            Silent::At(port) => {
+                let port = PortText(port);
+                lines.text(format_args!(", nothing came at port {port}"))
+            }
+            Silent::Both => lines.text(", nothing came at ports A and B"),
+        }
+    }
+}
+
+/// At which ports no copy came of the frames that these ports tell of.
+pub(crate) fn silent_of<P: HeardPorts>(ports: &Watched<P>) -> Silent {
+    match (ports.has_heard_at(Port::A), ports.has_heard_at(Port::B)) {
+        (true, true) => Silent::Neither,
+        (false, true) => Silent::At(Port::A),
+        (true, false) => Silent::At(Port::B),
+        (false, false) => Silent::Both,
+    }
+}
+
+/// Are the copies of the frames that these ports tell of those of a whole ring whose ports are swapped?
+/// Slaves count in the copy from end A alone: it came at port A then, and nobody counted in the other one.
+/// Ports that know where a copy started tell it as the one from there, and others by where it came.
+pub(crate) fn are_swapped<P: HeardPorts>(ports: &Watched<P>) -> bool {
+    let signs = ports.signs();
+    let total = total_of(ports.counts());
+    match signs.ways {
+        Ways::Crossed => total != 0 && signs.by_a == 0,
+        Ways::Turned => total != 0 && signs.by_a == total,
+        Ways::Lost => false,
+    }
+}
+
+/// How far counters moved, all together modulo 65,536.
+fn total_of(counts: &[u16]) -> u16 {
+    let mut total = 0u16;
+    for count in counts {
+        total = total.wrapping_add(*count);
+    }
+    total
+}
+
+/// With which errors of the system the ports of a master fail, as far as they fail by one.
+#[derive(Clone, Copy, PartialEq, Eq)]
+pub(crate) struct PortErrors {
+    a: Option<i32>,
+    b: Option<i32>,
+}
+
+impl PortErrors {
+    /// Of ports of which none is known to fail.
+    pub(crate) fn none() -> PortErrors {
+        PortErrors { a: None, b: None }
+    }
+}
+
+/// With which errors both ports fail now.
+pub(crate) fn errors_of<P: HeardPorts>(ports: &Watched<P>) -> PortErrors {
+    PortErrors {
+        a: ports.health(Port::A).error,
+        b: ports.health(Port::B).error,
+    }
+}
+
+/// Puts which ports failed that ended a cycle, and with which errors, as far as that is known.
+pub(crate) fn put_failed<W: Write>(errors: PortErrors, lines: &mut Lines<'_, W>) -> io::Result<()> {
+    match (errors.a, errors.b) {
+        (None, None) => lines.text("a port failed"),
+        (Some(a), None) => put_failing(Port::A, a, lines),
+        (None, Some(b)) => put_failing(Port::B, b, lines),
+        (Some(a), Some(b)) => {
+            put_failing(Port::A, a, lines)?;
+            lines.text(", ")?;
+            put_failing(Port::B, b, lines)
+        }
+    }
 }
 
 /// Writes how many sends and receives failed at each port, where one did.

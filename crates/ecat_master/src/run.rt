@@ -7,7 +7,7 @@ ghost use Rattle.ec_run.specs.Cycles.{AddUp, End};
 ghost use Rattle.ec_run.specs.Travels.{IsWithin};
 ghost use Rattle.ec_run.specs.Watched.{PortsTrip};
 ghost use Rattle.ecat_master.specs.Course.{IsCourse, IsRound, sides_of, round_trips};
-ghost use Rattle.ecat_master.specs.Ended.{IsEnded, IsTold, is_well};
+ghost use Rattle.ecat_master.specs.Ended.{IsEnded, HasStatus, is_well};
 ghost use Rattle.ecat_master.specs.Exits.{asked_status, start_status};
 ghost use Rattle.ecat_master.specs.GoodRun.{EndsGood, IsGoodRun};
 ghost use Rattle.ecat_master.specs.Last.{in_op, status_told};
@@ -54,6 +54,9 @@ pub struct Plan<'a> {
     pub stop: bool,
     /// Whether slaves that have left Op are brought up again.
     pub recover: bool,
+    /// How often AL status of such a slave is read at the most for a state that it is asked for, once behind
+    /// each cycle; then it counts as one that cannot be brought up.
+    pub tries: u32,
     /// Whether a line of progress is written every second.
     pub progress: bool,
     /// Whether a line is written into the log for every cycle.
@@ -351,8 +354,8 @@ pub struct Writers<'a, W, V, L> {
 }
 
 /// Brings up a line over two ports and makes cycle after cycle, leaves the slaves in the state of the plan,
-/// and answers the exit status (`GOOD`, `REFUSED`, `FAILED`). `work` is what each cycle asks. Its cycles serve
-/// `task`: they send the outputs that it holds, and it is told what each of them came to.
+/// and answers the exit status (`GOOD`, `REFUSED`, `FAILED`). `work` is what each cycle asks. Its cycles
+/// serve `task`: they send the outputs that it holds, and it is told what each of them came to.
 ///
 /// `GOOD` says that the line was started, that cycles were made from there on, and that the last one was good
 /// with all slaves in Op (`good`). Each status has its cause (`ended`): what could not be written, the fault
@@ -437,7 +440,7 @@ fn put_failed_start<P: HeardPorts, W: Write>(
             lines.end()?;
         }
     }
-    put_start_fault(fault, line, lines)
+    put_start_fault(ports, fault, line, lines)
 }
 
 /// Tells that the output cannot be written, and answers the exit status.
@@ -461,7 +464,7 @@ fn conclude<P: HeardPorts, W: Write, V: Write, L: Write>(
     ensures good { result ≡ GOOD
         → IfOk ran (λ last. EndsGood last line_plan.now.plan.now cycles.now) }
     ensures ran { result ≡ GOOD → IsOk ran }
-    ensures told { IsTold ran (is_well left && in_op line_plan.now.plan.now.states cycles.now.image)
+    ensures told { HasStatus ran (is_well left && in_op line_plan.now.plan.now.states cycles.now.image)
         result }
 {
     let plan = line_plan.plan;

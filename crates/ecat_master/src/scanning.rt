@@ -13,8 +13,9 @@ ghost use Rattle.ecat_master.specs.Scan.{register_read, way_to, with_count};
 ghost use Rattle.ecat_master.specs.declared.scanning.ScanEnd.TheVariants.{Ask, Output};
 
 use crate::identity::{IDENTITY, put_value};
+use crate::ports::are_swapped;
 use crate::startup::look_surely;
-use crate::words::{put_cable, put_code, put_fault, state_name};
+use crate::words::{put_code, put_fault, put_look, state_name};
 use arrayvec::ArrayVec;
 use ec_app::Value;
 use ec_app::roles::{ANSWER_MAILBOX, REQUEST_MAILBOX};
@@ -125,7 +126,7 @@ pub fn scan<P: HeardPorts, W: Write, F: Finder>(
         Some(located) => located,
         None => return Err(ScanEnd::Ask(MasterFault::Port)),
     };
-    put_links(located, lines)?;
+    put_links(located, are_swapped(ports), lines)?;
     lines.end()?;
     let read = scan_slaves(ports, count, located, lines, finder)?;
     Ok(is_all(located, &counted, read))
@@ -295,10 +296,14 @@ fn put_counted<W: Write>(
 }
 
 /// Puts where the cable is broken, with no name of a slave.
-fn put_links<W: Write>(located: Located, lines: &mut Lines<'_, W>) -> io::Result<()> {
+fn put_links<W: Write>(
+    located: Located,
+    swapped: bool,
+    lines: &mut Lines<'_, W>,
+) -> io::Result<()> {
     match located {
         Located::One(link) => lines.text(format_args!("link {link} down")),
-        _ => put_cable(located, &[], lines),
+        _ => put_look(located, swapped, &[], lines),
     }
 }
 

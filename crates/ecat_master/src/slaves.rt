@@ -1,7 +1,7 @@
 //! Which slaves are in Op while cycles run, and what is told of it.
 
 use crate::telling::put_cycle;
-use crate::words::{put_code, state_name};
+use crate::words::{put_code, put_cycles, state_name};
 use ec_regs::AlState;
 use ec_ring::MAX_SLAVES;
 use ec_run::Seen;
@@ -65,7 +65,8 @@ impl SlaveStates {
         if in_op {
             self.told = [Seen::In(AlState::Op); MAX_SLAVES];
             self.failed = [false; MAX_SLAVES];
-            lines.text(format_args!("all in Op again after {lasted} cycles"))?;
+            lines.text("all in Op again after ")?;
+            put_cycles(lasted, lines)?;
         } else {
             lines.text("not all in Op")?;
         }

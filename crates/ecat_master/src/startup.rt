@@ -17,7 +17,8 @@ ghost use Rattle.ecat_master.specs.declared.startup.StartFault.TheVariants.{Iden
 ghost use Rattle.ecat_master.specs.declared.startup.StartFault.TheVariants.{Step as StepFailed};
 
 use crate::identity::{Identity, OtherSlave, compare_identities, put_other_slave};
-use crate::words::{put_cable, put_fault, put_step_fault, state_name};
+use crate::ports::are_swapped;
+use crate::words::{put_cable, put_fault, put_look, put_step_fault, state_name};
 use ec_diag::{CutOff, Located};
 use ec_master::Ports;
 use ec_ring::{HeardPorts, MAX_SLAVES};
@@ -254,7 +255,7 @@ fn look<P: HeardPorts, W: Write>(
         Some(located) => located,
         None => return Err(StartEnd::Fault(StartFault::Ask(MasterFault::Port))),
     };
-    put_cable(located, line, lines)?;
+    put_look(located, are_swapped(ports), line, lines)?;
     lines.end()?;
     match located {
         Located::Whole | Located::One(_) => Ok(located),
@@ -375,8 +376,9 @@ fn give_around<P: HeardPorts>(
     }
 }
 
-/// Puts why a line could not be started.
-pub fn put_start_fault<W: Write>(
+/// Puts why a line could not be started over these ports.
+pub fn put_start_fault<P: HeardPorts, W: Write>(
+    ports: &Watched<P>,
     fault: &StartFault,
     line: &[Wanted],
     lines: &mut Lines<'_, W>,
@@ -385,7 +387,9 @@ pub fn put_start_fault<W: Write>(
     match fault {
         StartFault::Ask(fault) => put_fault(*fault, lines)?,
         StartFault::Count(_) => lines.text("another number of slaves")?,
-        StartFault::Cable(located) => put_cable(*located, line, lines)?,
+        StartFault::Cable(located) => {
+            put_cable_fault(*located, are_swapped(ports), line, lines)?;
+        }
         StartFault::Identity(other) => put_other_slave(other, lines)?,
         StartFault::Step(fault) => match line.get(usize::from(fault.place)) {
             Some(wanted) => put_step_fault(fault, wanted, lines)?,
@@ -393,4 +397,18 @@ pub fn put_start_fault<W: Write>(
         },
     }
     lines.end()
+}
+
+/// Puts that the cable keeps a line from being started; where that is for swapped ports, what is to be done.
+fn put_cable_fault<W: Write>(
+    located: Located,
+    swapped: bool,
+    line: &[Wanted],
+    lines: &mut Lines<'_, W>,
+) -> io::Result<()> {
+    put_look(located, swapped, line, lines)?;
+    match located {
+        Located::Changed if swapped => lines.text(": name them in the other order"),
+        _ => Ok(()),
+    }
 }

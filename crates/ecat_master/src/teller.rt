@@ -3,7 +3,7 @@
 ghost use Rattle.std.specs.Prelude.{◌≡◌, Ok, false, true};
 ghost use Rattle.std.specs.Option.{option_map};
 ghost use Rattle.ecat_master.specs.Allowance.{time_left};
-ghost use Rattle.ecat_master.specs.Course.{IsFollowed, IsSeenTo, MayBeLookedAt};
+ghost use Rattle.ecat_master.specs.Course.{IsFollowed, IsCaredFor, MayBeLookedAt};
 ghost use Rattle.ecat_master.specs.Over.{ends_well};
 
 use crate::allowance::Allowance;
@@ -334,7 +334,7 @@ impl<'a, W: Write, V: Write, L: Write> Teller<'a, W, V, L> {
         line: &[Wanted],
         plan: &Plan<'_>,
     ) -> io::Result<()>
-        ensures seen_to { IsSeenTo P.trips line.now ports.old ports.new }
+        ensures seen_to { IsCaredFor P.trips line.now ports.old ports.new }
     {
         if !ports.has_heard() {
             return Ok(());
@@ -371,7 +371,7 @@ impl<'a, W: Write, V: Write, L: Write> Teller<'a, W, V, L> {
         line: &[Wanted],
         plan: &Plan<'_>,
     ) -> io::Result<()>
-        ensures seen_to { IsSeenTo P.trips line.now ports.old ports.new }
+        ensures seen_to { IsCaredFor P.trips line.now ports.old ports.new }
     {
         let Some(first) = self.next.on(line.len()) else {
             return Ok(());
@@ -409,7 +409,7 @@ impl<'a, W: Write, V: Write, L: Write> Teller<'a, W, V, L> {
             Ok(Seen::Nobody) if nobody < MORE_LOOKS => {
                 self.care = Care::LooksAt(place, nobody + 1);
             }
-            Ok(seen) if plan.recover => self.care_for(place, seen, line.len()),
+            Ok(seen) if plan.recover => self.care_for(place, seen, line.len(), plan.tries),
             _ => {}
         }
         self.tell_seen(cycle, place, wanted.station, seen, plan)
@@ -433,10 +433,11 @@ impl<'a, W: Write, V: Write, L: Write> Teller<'a, W, V, L> {
         }
     }
 
-    /// Begins to bring a slave to Op again of which this was seen, where something is to be done.
-    fn care_for(&mut self, place: u16, seen: Seen, slaves: usize) {
+    /// Begins to bring a slave to Op again of which this was seen, where something is to be done, by so many
+    /// reads of a state at the most.
+    fn care_for(&mut self, place: u16, seen: Seen, slaves: usize, tries: u32) {
         let tells_places = tells_places(self.told.cable(), slaves);
-        match Recovery::of(place, seen, tells_places) {
+        match Recovery::of(place, seen, tells_places, tries) {
             Some(recovery) => self.care = Care::Brings(recovery),
             None => self.states.is_well(place),
         }
@@ -450,7 +451,7 @@ impl<'a, W: Write, V: Write, L: Write> Teller<'a, W, V, L> {
         ports: &mut Watched<P>,
         line: &[Wanted],
     ) -> io::Result<()>
-        ensures seen_to { IsSeenTo P.trips line.now ports.old ports.new }
+        ensures seen_to { IsCaredFor P.trips line.now ports.old ports.new }
     {
         let place = recovery.place();
         let Some(wanted) = wanted_at(line, place) else {

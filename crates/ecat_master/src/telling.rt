@@ -5,8 +5,9 @@ ghost use Rattle.ecat_master.specs.Course.{MayBeLooked};
 ghost use Rattle.ecat_master.specs.Over.{ends_well};
 
 use crate::late::Unsure;
+use crate::ports::{PortErrors, Silent, are_swapped, errors_of, put_failed, silent_of};
 use crate::startup::{MORE_CABLE_LOOKS, is_known, look_once};
-use crate::words::put_cable;
+use crate::words::{put_cycles, put_look};
 use ec_diag::Located;
 use ec_master::{CycleFault, Verdict, Work};
 use ec_ring::HeardPorts;
@@ -48,6 +49,63 @@ struct Showing {
     came: u16,
     /// What its copies told.
     signs: Signs,
+    /// Whether they are those of a ring whose ports are swapped.
+    swapped: bool,
+    /// At which ports none of them came.
+    silent: Silent,
+    /// With which errors the ports failed, where it ended by that.
+    errors: PortErrors,
+}
+
+impl Showing {
+    /// What cycles show with which all is well.
+    fn well() -> Showing {
+        Showing {
+            ended: Ok(Verdict::Good),
+            came: 0,
+            signs: Signs {
+                ways: Ways::Crossed,
+                by_a: 0,
+            },
+            swapped: false,
+            silent: Silent::Neither,
+            errors: PortErrors::none(),
+        }
+    }
+
+    /// What a cycle showed that ended so, and whose copies are those that these ports tell of.
+    fn of<P: HeardPorts>(ended: Result<Verdict, CycleFault>, ports: &Watched<P>) -> Showing {
+        Showing {
+            ended,
+            came: came_of(ended, ports.counts()),
+            signs: ports.signs(),
+            swapped: are_swapped(ports),
+            silent: silent_of(ports),
+            errors: match ended {
+                Err(CycleFault::Port) => errors_of(ports),
+                _ => PortErrors::none(),
+            },
+        }
+    }
+
+    /// Was the cycle good?
+    fn is_good(&self) -> bool {
+        self.ended == Ok(Verdict::Good)
+    }
+
+    /// Did its copies, and those of a look that found the cable so, show that the ports are swapped?
+    fn is_swapped(&self, cable: Located) -> bool {
+        self.swapped && cable == Located::Changed
+    }
+
+    /// At which ports nothing came, as far as it is told: of a cycle with an item that was not counted as it
+    /// was to be, where the ring is whole.
+    fn told_silent(&self, cable: Located) -> Silent {
+        match self.ended {
+            Ok(Verdict::Short(_)) | Ok(Verdict::Over(_)) if cable == Located::Whole => self.silent,
+            _ => Silent::Neither,
+        }
+    }
 }
 
 /// What a look at the cable found.
@@ -95,7 +153,9 @@ pub struct Told {
     /// Whether the last look at the cable found what the look before had found. One that found something new
     /// may have come behind a change that its cycle had not seen.
     settled: bool,
-    /// The number of the cycle that began what goes on.
+    /// Whether the ring was whole, at the start or since: redundancy that never was is not lost.
+    was_whole: bool,
+    /// The first cycle of those that are not good, where the last one that is told was not.
     since: u64,
     /// What is told once it is known where the cable is broken, if there is something.
     open: Option<Open>,
@@ -105,16 +165,10 @@ impl Told {
     /// Nothing is told but where the cable is broken.
     pub fn new(cable: Located) -> Told {
         Told {
-            last: Showing {
-                ended: Ok(Verdict::Good),
-                came: 0,
-                signs: Signs {
-                    ways: Ways::Crossed,
-                    by_a: 0,
-                },
-            },
+            last: Showing::well(),
             cable,
             settled: true,
+            was_whole: cable == Located::Whole,
             since: 0,
             open: None,
         }
@@ -139,11 +193,7 @@ impl Told {
     ) -> io::Result<()>
         ensures looks { MayBeLooked P.trips ports.old (length setting.entry.line.now) ports.new }
     {
-        let now = Showing {
-            ended,
-            came: came_of(ended, ports.counts()),
-            signs: ports.signs(),
-        };
+        let now = Showing::of(ended, ports);
         if now == self.last && self.settled && self.open.is_none() {
             return Ok(());
         }
@@ -161,7 +211,7 @@ impl Told {
         ensures looks { MayBeLooked P.trips ports.old slaves ports.new }
     {
         let known = Look {
-            cable: self.cable,
+            cable: self.known_cable(),
             is_last: true,
         };
         if ended == Err(CycleFault::Port) {
@@ -173,6 +223,14 @@ impl Told {
                 is_last: is_known(cable),
             },
             None => known,
+        }
+    }
+
+    /// Where the cable was broken by the last look, if there was one behind what is not told yet.
+    fn known_cable(&self) -> Located {
+        match self.open {
+            Some(open) => open.cable,
+            None => self.cable,
         }
     }
 
@@ -193,10 +251,11 @@ impl Told {
                 looks = open.looks;
                 began = open.cycle;
             } else {
-                self.settle(open.cycle, &open.showing, look.cable, setting, lines)?;
+                let cable = known_then(open.cable, look.cable);
+                self.settle(open.cycle, &open.showing, cable, setting, lines)?;
             }
         }
-        if look.is_last || looks == MORE_CABLE_LOOKS {
+        if look.is_last || showing.is_swapped(look.cable) || looks == MORE_CABLE_LOOKS {
             return self.settle(began, &showing, look.cable, setting, lines);
         }
         self.open = Some(Open {
@@ -230,27 +289,85 @@ impl Told {
         lines: &mut Lines<'_, W>,
     ) -> io::Result<()> {
         let before = *self;
-        let ended = now.ended;
         self.open = None;
         self.last = *now;
         self.cable = cable;
         self.settled = cable == before.cable;
+        self.was_whole = before.was_whole || cable == Located::Whole;
         if before.is_as(now, cable) {
             return Ok(());
         }
-        if before.last.ended != Ok(Verdict::Good) {
-            tell_end(cycle, cycle.saturating_sub(before.since), ended, lines)?;
+        if before.last.is_good() {
+            self.since = cycle;
         }
-        self.since = cycle;
-        if setting.port_fails && ended == Ok(Verdict::Good) && cable != Located::Whole {
+        if !now.is_good() {
+            return before.tell_bad(cycle, now, cable, setting, lines);
+        }
+        if !before.last.is_good() {
+            tell_end(cycle, cycle.saturating_sub(before.since), lines)?;
+        }
+        if cable == before.cable || setting.port_fails && cable != Located::Whole {
             return Ok(());
         }
-        tell_showing(cycle, now, cable, before.cable, setting, lines)
+        before.tell_cable(cycle, now, cable, setting.line, lines)
     }
 
     /// Is what a cycle showed what was told already?
     fn is_as(&self, now: &Showing, cable: Located) -> bool {
-        self.last.ended == now.ended && self.last.came == now.came && self.cable == cable
+        self.last.ended == now.ended
+            && self.last.came == now.came
+            && self.cable == cable
+            && self.last.told_silent(cable) == now.told_silent(cable)
+    }
+
+    /// Tells of a cycle that was not good what it showed, where the cable is broken, and since when none was
+    /// good, where the one that was told before it was not good either.
+    fn tell_bad<W: Write>(
+        &self,
+        cycle: u64,
+        now: &Showing,
+        cable: Located,
+        setting: Setting<'_>,
+        lines: &mut Lines<'_, W>,
+    ) -> io::Result<()> {
+        put_cycle(cycle, lines)?;
+        put_bad(now, cable, setting, lines)?;
+        if !self.last.is_good() {
+            let since = self.since;
+            lines.text(format_args!("; not good since cycle {since}"))?;
+        }
+        lines.end()
+    }
+
+    /// Tells of a good cycle where the cable is broken now, or that it is whole again. A ring that was never
+    /// whole has lost no redundancy: at one port of a master alone there is none.
+    fn tell_cable<W: Write>(
+        &self,
+        cycle: u64,
+        now: &Showing,
+        cable: Located,
+        line: &[Wanted],
+        lines: &mut Lines<'_, W>,
+    ) -> io::Result<()> {
+        put_cycle(cycle, lines)?;
+        if cable == Located::Whole {
+            lines.text("ring whole again")?;
+            return lines.end();
+        }
+        if self.was_whole && !now.is_swapped(cable) {
+            lines.text("redundancy lost: ")?;
+        }
+        put_look(cable, now.swapped, line, lines)?;
+        lines.end()
+    }
+}
+
+/// Where the cable is told to be broken behind a cycle, of which the looks behind it knew this, and a later
+/// one that: what was known then, unless it was nothing.
+fn known_then(then: Located, later: Located) -> Located {
+    match then {
+        Located::Unknown | Located::Changed => later,
+        _ => then,
     }
 }
 
@@ -270,72 +387,33 @@ pub fn put_cycle<W: Write>(cycle: u64, lines: &mut Lines<'_, W>) -> io::Result<(
     lines.text(format_args!("cycle {cycle}: "))
 }
 
-/// Tells that what was not good has ended, after so many cycles.
-fn tell_end<W: Write>(
-    cycle: u64,
-    lasted: u64,
-    ended: Result<Verdict, CycleFault>,
-    lines: &mut Lines<'_, W>,
-) -> io::Result<()> {
+/// Tells that cycles are good again, after so many that were not.
+fn tell_end<W: Write>(cycle: u64, lasted: u64, lines: &mut Lines<'_, W>) -> io::Result<()> {
     put_cycle(cycle, lines)?;
-    if ended == Ok(Verdict::Good) {
-        lines.text(format_args!("good again after {lasted} cycles"))?;
-    } else {
-        lines.text(format_args!("other than before, which lasted {lasted} cycles"))?;
-    }
+    lines.text("good again after ")?;
+    put_cycles(lasted, lines)?;
     lines.end()
 }
 
-/// Tells what a cycle showed: where it was not good, what and where the cable is broken; where it was, what
-/// is new of the cable.
-fn tell_showing<W: Write>(
-    cycle: u64,
+/// Puts what a cycle showed that was not good, and where the cable is broken; where it is not, at which ports
+/// nothing came.
+fn put_bad<W: Write>(
     now: &Showing,
     cable: Located,
-    cable_before: Located,
     setting: Setting<'_>,
     lines: &mut Lines<'_, W>,
 ) -> io::Result<()> {
-    let line = setting.line;
     match now.ended {
-        Ok(Verdict::Good) if cable == cable_before => Ok(()),
-        Ok(Verdict::Good) => tell_cable(cycle, cable, line, lines),
         Ok(Verdict::Short(item)) | Ok(Verdict::Over(item)) => {
-            put_cycle(cycle, lines)?;
             put_count(item, now.came, setting.expected, setting.states, lines)?;
-            lines.text("; ")?;
-            put_cable(cable, line, lines)?;
-            lines.end()
         }
-        Err(CycleFault::Port) => {
-            put_cycle(cycle, lines)?;
-            lines.text("a port failed")?;
-            lines.end()
-        }
-        Err(CycleFault::Stranger) => {
-            put_cycle(cycle, lines)?;
-            lines.text("a copy came that is none of the frame; ")?;
-            put_cable(cable, line, lines)?;
-            lines.end()
-        }
+        Err(CycleFault::Port) => return put_failed(now.errors, lines),
+        Err(CycleFault::Stranger) => lines.text("a copy came that is none of the frame")?,
+        Ok(Verdict::Good) => {}
     }
-}
-
-/// Tells of a good cycle that a link is down, or that none is any more.
-fn tell_cable<W: Write>(
-    cycle: u64,
-    cable: Located,
-    line: &[Wanted],
-    lines: &mut Lines<'_, W>,
-) -> io::Result<()> {
-    put_cycle(cycle, lines)?;
-    if cable == Located::Whole {
-        lines.text("ring whole again")?;
-    } else {
-        lines.text("redundancy lost: ")?;
-        put_cable(cable, line, lines)?;
-    }
-    lines.end()
+    lines.text("; ")?;
+    put_look(cable, now.swapped, setting.line, lines)?;
+    now.told_silent(cable).put(lines)
 }
 
 /// Puts how often an item was counted, and how often it was to be; of the read of the states, which is behind

@@ -5,7 +5,7 @@ use ec_diag::Located;
 use ec_regs::{AlState, AlStatusCode};
 use ec_run::{StartupObject, Step, StepFault, Wanted, startup_number};
 use ec_services::MasterFault;
-use ecat_text::{End, Lines, put_break};
+use ecat_text::{End, Lines, put_break, put_swapped};
 use std::io::{self, Write};
 
 /// How many microseconds a second has, and a millisecond.
@@ -18,6 +18,12 @@ pub(crate) fn put_seconds<W: Write>(micros: u64, lines: &mut Lines<'_, W>) -> io
     let seconds = micros / SECOND;
     let milliseconds = micros % SECOND / MILLISECOND;
     lines.text(format_args!("{seconds}.{milliseconds:03} s"))
+}
+
+/// Puts so many cycles.
+pub(crate) fn put_cycles<W: Write>(count: u64, lines: &mut Lines<'_, W>) -> io::Result<()> {
+    let cycles = if count == 1 { "cycle" } else { "cycles" };
+    lines.text(format_args!("{count} {cycles}"))
 }
 
 /// The name of a state (IEC 61158-6-12, AL state machine).
@@ -117,5 +123,19 @@ pub fn put_cable<W: Write>(
     match located {
         Located::Whole => lines.text("ring whole"),
         _ => put_break(located, line, lines),
+    }
+}
+
+/// Puts what a look at the cable of a line found: where it is broken; or that the ports are swapped, where no
+/// one set of links gives its copies and those of the frames before it were such.
+pub(crate) fn put_look<W: Write>(
+    located: Located,
+    swapped: bool,
+    line: &[Wanted],
+    lines: &mut Lines<'_, W>,
+) -> io::Result<()> {
+    match located {
+        Located::Changed if swapped => put_swapped(lines),
+        _ => put_cable(located, line, lines),
     }
 }

@@ -24,4 +24,5 @@ mod recovered;
 mod scanned;
 mod stage;
 mod states;
+mod swapped;
 mod times;

@@ -7,7 +7,7 @@ use Rattle.ec_wire.specs.declared.fault.Form.TheVariants.{Udp}
 use Rattle.ec_ring.specs.declared.port.Port.{Port}
 use Rattle.ec_ring.specs.declared.port.Port.TheVariants.{A, B}
 use Rattle.ec_number.specs.Number.{CameBack, numbered}
-use Rattle.ecat_remote.specs.Taken.{AreNumbered, IsCopyOfTrip, number_from, out_from}
+use Rattle.ecat_remote.specs.Taken.{AreNumbered, IsCopyOfTrip, number_from, out_from, sought}
 use Rattle.ecat_remote.specs.declared.copies.NumberedCopy.{NumberedCopy}
 use Rattle.ecat_remote.specs.declared.copies.Outgoing.{Outgoing}
 use Rattle.std.proofs.Common.{arith, ◌≡◌, ◌≤◌, ◌++◌, ◌∙◌, ℕ, List, length, take, min, ap}
@@ -41,7 +41,7 @@ pub copy_told : (trip : ℕ) (sent frame : List DatagramRecord) (out : Outgoing)
     (packet : List ℕ) (copy : Option NumberedCopy) → AreNumbered trip sent out → IsSpelt Udp packet frame
     → ((rs : List DatagramRecord) → IsSpelt Udp packet rs → frame ≡ rs) → IfSome copy (IsSent out already frame)
     → (copy ≡ None → (from : Port) → already ≢ Some from → CameBack (out_from from out) frame → ⊥)
-    → IsCopyOfTrip trip sent already (Some packet) copy
+    → IsCopyOfTrip (sought trip sent already) (Some packet) copy
 copy_told trip sent frame out already packet (Some copy) are spelt only found every = record {
   another = found.1;
   is = record {
@@ -60,5 +60,5 @@ copy_told trip sent frame out already packet None are spelt only found every =
 -- one that spells none is none
 pub none_told : (trip : ℕ) (sent : List DatagramRecord) (already : Option Port) (packet : List ℕ)
     → ((rs : List DatagramRecord) → IsSpelt Udp packet rs → ⊥)
-    → IsCopyOfTrip trip sent already (Some packet) None
+    → IsCopyOfTrip (sought trip sent already) (Some packet) None
 none_told trip sent already packet none = λ from copy is. none copy is.is.spelt

@@ -16,7 +16,7 @@ use Rattle.ec_seal.specs.Taken.{Made, IsMade, GoesBack, BearsOneOf, Meets}
 use Rattle.ec_seal.proofs.Laws.{frame_counters}
 use Rattle.ecat_remote.specs.History.{PastTrip, IsPast, Went}
 use Rattle.ecat_remote.specs.Network.{frame_from, frame_if, first_of, by_number, Gave}
-use Rattle.ecat_remote.specs.Taken.{Gives, Heard, AreBoth, IsCopyOfTrip, number_from, sent_from}
+use Rattle.ecat_remote.specs.Taken.{Gives, Heard, AreBoth, IsCopyOfTrip, number_from, sent_from, sought}
 use Rattle.ecat_remote.specs.Trips.{RemoteState, RemoteTrips, IsTurn}
 use Rattle.ecat_remote.specs.declared.copies.NumberedCopy.{NumberedCopy}
 use Rattle.ecat_remote.specs.declared.enough.Both.{Both}
@@ -88,7 +88,7 @@ frame_came n sent B A frame came = tt
 frame_came n sent B B frame came = came
 
 came_if : (n : ℕ) (sent : List DatagramRecord) (already : Option Port) (packet : Option (List ℕ))
-    (from : Port) (copy : Option NumberedCopy) → IsCopyOfTrip n sent already packet copy
+    (from : Port) (copy : Option NumberedCopy) → IsCopyOfTrip (sought n sent already) packet copy
     → IfSome (frame_if from copy) (CameUnder (number_from n from) sent)
 came_if n sent already packet from None is = tt
 came_if n sent already None from (Some copy) is = absurd (let no : Some copy ≡ None = is in cc)

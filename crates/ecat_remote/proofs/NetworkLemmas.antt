@@ -18,7 +18,7 @@ use Rattle.ec_ring.specs.declared.links.Links.{Links}
 use Rattle.ec_ring.specs.declared.links.TheConstants.{MAX_SLAVES}
 use Rattle.ec_ring.specs.declared.port.Port.{Port}
 use Rattle.ec_ring.specs.declared.port.Port.TheVariants.{A, B}
-use Rattle.ec_ring.specs.Arrivals.{copies_of}
+use Rattle.ec_ring.specs.Arrivals.{copies_came, copies_of}
 use Rattle.ec_ring.specs.declared.arrivals.Arrivals.{Arrivals}
 use Rattle.ec_ring.specs.declared.port.PortFault.{PortFault}
 use Rattle.ec_ring.specs.declared.weather.Came.{Came}
@@ -39,9 +39,9 @@ use Rattle.ec_master.specs.declared.verdict.Verdict.{Verdict}
 use Rattle.ecat_remote.specs.History.{Went}
 use Rattle.ecat_remote.specs.Network.{by_number, Takes, NoneFailed, TakesAll, Gave, NetworkGaveAll}
 use Rattle.ecat_remote.specs.Network.{AreAllTaken, IsGivenBy, IsOfCycle, pasts_of}
-use Rattle.ecat_remote.specs.Taken.{Gives, Heard, AreBoth, IsCopyOfTrip, sent_from, opened_came}
+use Rattle.ecat_remote.specs.Taken.{Gives, Heard, AreBoth, IsCopyOfTrip, sent_from, opened_came, sought}
 use Rattle.ecat_remote.specs.Trips.{RemoteState, RemoteTrip, RemoteTrips, HeardCopies, HeardTrips, IsTurn}
-use Rattle.ecat_remote.specs.Trips.{HasRoom, arrivals_of, came_of}
+use Rattle.ecat_remote.specs.Trips.{HasRoom, arrivals_of}
 use Rattle.ecat_remote.specs.declared.copies.NumberedCopy.{NumberedCopy}
 use Rattle.ecat_remote.specs.declared.enough.Both.{Both}
 use Rattle.ecat_remote.proofs.HistoryLemmas.{meets, made_now}
@@ -91,9 +91,8 @@ pub both_in_either : {C : Type 0} (gives : Gives C) (heard : Heard C) (since tri
 both_in_either gives heard since trip sent both later are =
     in_either both.a both.b
     (λ copy is.
-    another trip sent (sent_from both.a) are.b.packet copy
-    (subst (λ (b : Option NumberedCopy). IsCopyOfTrip trip sent (sent_from both.a) are.b.packet b)
-    is are.b.is))
+    another (sought trip sent (sent_from both.a)) are.b.packet copy
+    (subst (IsCopyOfTrip (sought trip sent (sent_from both.a)) are.b.packet) is are.b.is))
 
 -- ---- one trip
 
@@ -207,7 +206,7 @@ copies_arrived came = both_arrived came.a came.b
 pub heard_trip : {C : Type 0} (gives : Gives C) (heard : Heard C)
     (before later : RemoteState C) (sent : List DatagramRecord) (arrivals : Result Arrivals PortFault)
     → HeardTrips gives heard before sent arrivals later
-    → RemoteTrips gives heard before sent (came_of arrivals) later
+    → RemoteTrips gives heard before sent (copies_came arrivals) later
 heard_trip gives heard before later sent (Ok arrivals) trip =
     subst (λ (came : Came). RemoteTrips gives heard before sent (Ok came) later)
     (sym (copies_arrived trip.copies) ∙ sym (ap copies_of trip.arrived)) trip.trip

@@ -4,16 +4,15 @@ use Rattle.std.proofs.Common.{arith, ap, sym, subst, ◌∙◌}
 use Rattle.ec_wire.specs.Datagram.{DatagramRecord}
 use Rattle.ec_ring.specs.declared.port.Port.{Port}
 use Rattle.ec_ring.specs.declared.port.Port.TheVariants.{A, B}
-use Rattle.ecat_remote.specs.Taken.{Gives, Heard, IsTaken, IsCopyOfTrip, AreBoth, AreSoFar, sent_from}
+use Rattle.ecat_remote.specs.Taken.{Gives, Heard, IsTaken, IsCopyOfTrip, AreBoth, AreSoFar, Sought}
+use Rattle.ecat_remote.specs.Taken.{sent_from, sought}
 use Rattle.ecat_remote.specs.declared.copies.NumberedCopy.{NumberedCopy}
 
 -- what was taken was taken still when more was received
-pub later_on : {C : Type 0} (gives : Gives C) (heard : Heard C) (first since : ℕ) (at : Port) (trip : ℕ)
-    (sent : List DatagramRecord) (already : Option Port) (copy : Option NumberedCopy) (later last : C)
-    → first ≤ since → heard later ≤ heard last
-    → IsTaken gives heard since at trip sent already copy later
-    → IsTaken gives heard first at trip sent already copy last
-later_on gives heard first since at trip sent already copy later last sooner on is = record {
+pub later_on : {C : Type 0} (gives : Gives C) (heard : Heard C) (first since : ℕ) (at : Port) (what : Sought)
+    (copy : Option NumberedCopy) (later last : C) → first ≤ since → heard later ≤ heard last
+    → IsTaken gives heard since at what copy later → IsTaken gives heard first at what copy last
+later_on gives heard first since at what copy later last sooner on is = record {
   before = is.before;
   behind = is.behind;
   packet = is.packet;
@@ -24,15 +23,15 @@ later_on gives heard first since at trip sent already copy later last sooner on 
 }
 
 -- a copy that is taken is another one than that which was taken already
-pub another : (trip : ℕ) (sent : List DatagramRecord) (already : Option Port) (packet : Option (List ℕ))
-    (copy : NumberedCopy) → IsCopyOfTrip trip sent already packet (Some copy) → already ≢ Some copy.from
-another trip sent already None copy is = absurd (let no : Some copy ≡ None = is in cc)
-another trip sent already (Some packet) copy is = is.another
+pub another : (what : Sought) (packet : Option (List ℕ)) (copy : NumberedCopy)
+    → IsCopyOfTrip what packet (Some copy) → what.already ≢ Some copy.from
+another what None copy is = absurd (let no : Some copy ≡ None = is in cc)
+another what (Some packet) copy is = is.another
 
 -- a copy that was taken when none was is one beside another that is taken behind it
 copy_beside : (trip : ℕ) (sent : List DatagramRecord) (packet : Option (List ℕ)) (copy : Option NumberedCopy)
     (other : Option Port) → ((c : NumberedCopy) → copy ≡ Some c → other ≢ Some c.from)
-    → IsCopyOfTrip trip sent None packet copy → IsCopyOfTrip trip sent other packet copy
+    → IsCopyOfTrip (sought trip sent None) packet copy → IsCopyOfTrip (sought trip sent other) packet copy
 copy_beside trip sent None copy other apart is = is
 copy_beside trip sent (Some packet) (Some copy) other apart is =
     record { another = apart copy refl; is = is.is }
@@ -42,8 +41,8 @@ copy_beside trip sent (Some packet) None other apart is =
 beside : {C : Type 0} (gives : Gives C) (heard : Heard C) (since : ℕ) (at : Port) (trip : ℕ)
     (sent : List DatagramRecord) (copy : Option NumberedCopy) (other : Option Port) (later : C)
     → ((c : NumberedCopy) → copy ≡ Some c → other ≢ Some c.from)
-    → IsTaken gives heard since at trip sent None copy later
-    → IsTaken gives heard since at trip sent other copy later
+    → IsTaken gives heard since at (sought trip sent None) copy later
+    → IsTaken gives heard since at (sought trip sent other) copy later
 beside gives heard since at trip sent copy other later apart is = record {
   before = is.before;
   behind = is.behind;
@@ -57,11 +56,12 @@ beside gives heard since at trip sent copy other later apart is = record {
 -- the one that was taken behind a copy came of another port
 apart_from : {C : Type 0} (gives : Gives C) (heard : Heard C) (since : ℕ) (at : Port) (trip : ℕ)
     (sent : List DatagramRecord) (copy : Option NumberedCopy) (other : NumberedCopy) (later : C)
-    → IsTaken gives heard since at trip sent (sent_from copy) (Some other) later
+    → IsTaken gives heard since at (sought trip sent (sent_from copy)) (Some other) later
     → (c : NumberedCopy) → copy ≡ Some c → Some other.from ≢ Some c.from
 apart_from gives heard since at trip sent None other later is c same = absurd cc
 apart_from gives heard since at trip sent (Some copy) other later is c same =
-    let no : Some copy.from ≢ Some other.from = another trip sent (Some copy.from) is.packet other is.is in
+    let no : Some copy.from ≢ Some other.from =
+    another (sought trip sent (Some copy.from)) is.packet other is.is in
     λ e. no (let one : copy ≡ c = cc in ap (λ (x : NumberedCopy). Some x.from) one ∙ sym e)
 
 -- ---- what was taken at both ports
@@ -74,26 +74,28 @@ Stays copy later = IfSome copy (λ (came : NumberedCopy). later ≡ Some came)
 abbrev OneTaken : {C : Type 0} → Gives C → Heard C → ℕ → Port → ℕ → List DatagramRecord → Option NumberedCopy
     → Option NumberedCopy → C → Type 0
 OneTaken gives heard since at trip sent other copy later =
-    IfSome copy
-    (λ (came : NumberedCopy). IsTaken gives heard since at trip sent (sent_from other) (Some came) later)
+    IfSome copy (λ (came : NumberedCopy).
+    IsTaken gives heard since at (sought trip sent (sent_from other)) (Some came) later)
 
 -- what was taken at a port was taken beside what came at the other one behind it
 beside_later : {C : Type 0} (gives : Gives C) (heard : Heard C) (since : ℕ) (at to : Port) (trip : ℕ)
     (sent : List DatagramRecord) (copy other later : Option NumberedCopy) (behind last : C)
     → heard behind ≤ heard last → Stays other later
     → (other ≡ None → OneTaken gives heard since to trip sent copy later last)
-    → IsTaken gives heard since at trip sent (sent_from other) copy behind
-    → IsTaken gives heard since at trip sent (sent_from later) copy last
+    → IsTaken gives heard since at (sought trip sent (sent_from other)) copy behind
+    → IsTaken gives heard since at (sought trip sent (sent_from later)) copy last
 beside_later gives heard since at to trip sent copy None None behind last on kept came is =
-    later_on gives heard since since at trip sent None copy behind last (omega arith) on is
+    later_on gives heard since since at (sought trip sent None) copy behind last (omega arith) on is
 beside_later gives heard since at to trip sent copy None (Some found) behind last on kept came is =
     beside gives heard since at trip sent copy (Some found.from) last
     (apart_from gives heard since to trip sent copy found last (came refl))
-    (later_on gives heard since since at trip sent None copy behind last (omega arith) on is)
+    (later_on gives heard since since at (sought trip sent None) copy behind last (omega arith) on is)
 beside_later gives heard since at to trip sent copy (Some other) later behind last on kept came is =
-    subst (λ (o : Option NumberedCopy). IsTaken gives heard since at trip sent (sent_from o) copy last)
+    subst
+    (λ (o : Option NumberedCopy). IsTaken gives heard since at (sought trip sent (sent_from o)) copy last)
     (sym kept)
-    (later_on gives heard since since at trip sent (Some other.from) copy behind last (omega arith) on is)
+    (later_on gives heard since since at (sought trip sent (Some other.from)) copy behind last (omega arith)
+    on is)
 
 -- what is at the port that was received at
 mine : {C : Type 0} (gives : Gives C) (heard : Heard C) (first since : ℕ) (at : Port) (trip : ℕ)
@@ -104,13 +106,13 @@ mine : {C : Type 0} (gives : Gives C) (heard : Heard C) (first since : ℕ) (at 
     → OneTaken gives heard first at trip sent other later last
 mine gives heard first since at trip sent None None other behind last sooner on kept came is = tt
 mine gives heard first since at trip sent None (Some found) other behind last sooner on kept came is =
-    later_on gives heard first since at trip sent (sent_from other) (Some found) last last sooner
+    later_on gives heard first since at (sought trip sent (sent_from other)) (Some found) last last sooner
     (omega arith)
     (came refl)
 mine gives heard first since at trip sent (Some copy) later other behind last sooner on kept came is =
     subst (λ (o : Option NumberedCopy). OneTaken gives heard first at trip sent other o last) (sym kept)
-    (later_on gives heard first first at trip sent (sent_from other) (Some copy) behind last (omega arith) on
-    is)
+    (later_on gives heard first first at (sought trip sent (sent_from other)) (Some copy) behind last
+    (omega arith) on is)
 
 -- and what is at the other one
 theirs : {C : Type 0} (gives : Gives C) (heard : Heard C) (first : ℕ) (at to : Port) (trip : ℕ)
@@ -130,7 +132,7 @@ sooner_taken : {C : Type 0} (gives : Gives C) (heard : Heard C) (first since : �
     → OneTaken gives heard first at trip sent other copy later
 sooner_taken gives heard first since at trip sent other None later sooner is = tt
 sooner_taken gives heard first since at trip sent other (Some copy) later sooner is =
-    later_on gives heard first since at trip sent (sent_from other) (Some copy) later later sooner
+    later_on gives heard first since at (sought trip sent (sent_from other)) (Some copy) later later sooner
     (omega arith) is
 
 -- what a port was looked at for is another copy than the one at the other port
@@ -138,7 +140,7 @@ abbrev Came : {C : Type 0} → Gives C → Heard C → ℕ → Port → ℕ → 
     → Option NumberedCopy → C → Type 0
 Came gives heard since at trip sent other later last =
     IfSome later
-    (λ (found : NumberedCopy). IsTaken gives heard since at trip sent other (Some found) last)
+    (λ (found : NumberedCopy). IsTaken gives heard since at (sought trip sent other) (Some found) last)
 
 came_beside : {C : Type 0} (gives : Gives C) (heard : Heard C) (since : ℕ) (at : Port) (trip : ℕ)
     (sent : List DatagramRecord) (copy : Option NumberedCopy) (other : Option Port)
@@ -190,21 +192,22 @@ turn gives heard first trip sent a b a_later b_later from_a from_b behind betwee
 looked : {C : Type 0} (gives : Gives C) (heard : Heard C) (first since : ℕ) (at : Port) (trip : ℕ)
     (sent : List DatagramRecord) (copy later other : Option NumberedCopy) (behind last : C)
     → first ≤ since → heard behind ≤ heard last → Stays copy later
-    → (copy ≡ None → IsTaken gives heard since at trip sent (sent_from other) later last)
+    → (copy ≡ None → IsTaken gives heard since at (sought trip sent (sent_from other)) later last)
     → OneTaken gives heard first at trip sent other copy behind
-    → IsTaken gives heard first at trip sent (sent_from other) later last
+    → IsTaken gives heard first at (sought trip sent (sent_from other)) later last
 looked gives heard first since at trip sent None later other behind last sooner on kept came is =
-    later_on gives heard first since at trip sent (sent_from other) later last last sooner (omega arith)
-    (came refl)
+    later_on gives heard first since at (sought trip sent (sent_from other)) later last last sooner
+    (omega arith) (came refl)
 looked gives heard first since at trip sent (Some copy) later other behind last sooner on kept came is =
-    subst (λ (o : Option NumberedCopy). IsTaken gives heard first at trip sent (sent_from other) o last)
+    subst
+    (λ (o : Option NumberedCopy). IsTaken gives heard first at (sought trip sent (sent_from other)) o last)
     (sym kept)
-    (later_on gives heard first first at trip sent (sent_from other) (Some copy) behind last (omega arith) on
-    is)
+    (later_on gives heard first first at (sought trip sent (sent_from other)) (Some copy) behind last
+    (omega arith) on is)
 
 if_taken : {C : Type 0} (gives : Gives C) (heard : Heard C) (since : ℕ) (at : Port) (trip : ℕ)
     (sent : List DatagramRecord) (other copy : Option NumberedCopy) (later : C)
-    → IsTaken gives heard since at trip sent (sent_from other) copy later
+    → IsTaken gives heard since at (sought trip sent (sent_from other)) copy later
     → OneTaken gives heard since at trip sent other copy later
 if_taken gives heard since at trip sent other None later is = tt
 if_taken gives heard since at trip sent other (Some copy) later is = is
@@ -215,27 +218,29 @@ pub both_taken : {C : Type 0} (gives : Gives C) (heard : Heard C) (first trip : 
     (a b a_later b_later : Option NumberedCopy) (from_a from_b : Option Port) (behind between last : C)
     → first ≤ heard behind → heard behind ≤ heard between → heard between ≤ heard last
     → from_b ≡ sent_from b → from_a ≡ sent_from a_later → Stays a a_later → Stays b b_later
-    → (a ≡ None → IsTaken gives heard (heard behind) A trip sent from_b a_later between)
-    → (b ≡ None → IsTaken gives heard (heard between) B trip sent from_a b_later last)
+    → (a ≡ None → IsTaken gives heard (heard behind) A (sought trip sent from_b) a_later between)
+    → (b ≡ None → IsTaken gives heard (heard between) B (sought trip sent from_a) b_later last)
     → OneTaken gives heard first A trip sent b a behind → OneTaken gives heard first B trip sent a b behind
     → AreBoth gives heard first trip sent (record { a = a_later; b = b_later }) last
 both_taken gives heard first trip sent a b a_later b_later from_a from_b behind between last sooner on more
     same_b
     same_a kept_a kept_b came_a came_b is_a is_b =
     let soon : first ≤ heard between = omega (arith, sooner, on) in
-    let new_a : a ≡ None → IsTaken gives heard (heard behind) A trip sent (sent_from b) a_later between =
+    let new_a : a ≡ None
+    → IsTaken gives heard (heard behind) A (sought trip sent (sent_from b)) a_later between =
     λ none.
-    subst (λ (o : Option Port). IsTaken gives heard (heard behind) A trip sent o a_later between) same_b
-    (came_a none) in
-    let new_b : b ≡ None → IsTaken gives heard (heard between) B trip sent (sent_from a_later) b_later last =
+    subst (λ (o : Option Port). IsTaken gives heard (heard behind) A (sought trip sent o) a_later between)
+    same_b (came_a none) in
+    let new_b : b ≡ None
+    → IsTaken gives heard (heard between) B (sought trip sent (sent_from a_later)) b_later last =
     λ none.
-    subst (λ (o : Option Port). IsTaken gives heard (heard between) B trip sent o b_later last) same_a
-    (came_b none) in record {
+    subst (λ (o : Option Port). IsTaken gives heard (heard between) B (sought trip sent o) b_later last)
+    same_a (came_b none) in record {
       a = beside_later gives heard first A B trip sent a_later b b_later between last more kept_b
           (λ none.
           if_taken gives heard first B trip sent a_later b_later last
-          (later_on gives heard first (heard between) B trip sent (sent_from a_later) b_later last last soon
-          (omega arith) (new_b none)))
+          (later_on gives heard first (heard between) B (sought trip sent (sent_from a_later)) b_later last
+          last soon (omega arith) (new_b none)))
           (looked gives heard first (heard behind) A trip sent a a_later b behind between sooner on kept_a
           new_a
           is_a);

@@ -42,47 +42,54 @@ out_from B out = out.b
 abbrev pub sent_from : Option NumberedCopy → Option Port
 sent_from copy = option_map (λ (c : NumberedCopy). c.from) copy
 
--- a packet is a copy of the frame that was sent from a port, but not of the one that was taken already
-pub record IsCopyFrom (trip : ℕ) (sent : List DatagramRecord) (already : Option Port) (packet : List ℕ)
-    (from : Port) (copy : List DatagramRecord) : Type 0 where
-  pub another : already ≢ Some from
-  pub is : IsCopy (numbered (number_from trip from) sent) packet copy
+-- what is looked for: a copy of this frame, which went out on the trip with this number, but not the copy
+-- from the port of one that was taken already
+pub record Sought : Type 0 where
+  pub trip : ℕ
+  pub sent : List DatagramRecord
+  pub already : Option Port
+
+abbrev pub sought : ℕ → List DatagramRecord → Option Port → Sought
+sought trip sent already = record { trip = trip; sent = sent; already = already }
+
+-- a packet is such a copy, from this port
+pub record IsCopyFrom (what : Sought) (packet : List ℕ) (from : Port) (copy : List DatagramRecord) : Type 0
+  where
+    pub another : what.already ≢ Some from
+    pub is : IsCopy (numbered (number_from what.trip from) what.sent) packet copy
 
 -- the copy that a packet is, if it is one
-abbrev pub IsCopyOfTrip : ℕ → List DatagramRecord → Option Port → Option (List ℕ) → Option NumberedCopy
-    → Type 0
-IsCopyOfTrip trip sent already None copy = copy ≡ None
-IsCopyOfTrip trip sent already (Some packet) (Some copy) =
-    IsCopyFrom trip sent already packet copy.from copy.frame
-IsCopyOfTrip trip sent already (Some packet) None =
-    (from : Port) (copy : List DatagramRecord) → IsCopyFrom trip sent already packet from copy → ⊥
+abbrev pub IsCopyOfTrip : Sought → Option (List ℕ) → Option NumberedCopy → Type 0
+IsCopyOfTrip what None copy = copy ≡ None
+IsCopyOfTrip what (Some packet) (Some copy) = IsCopyFrom what packet copy.from copy.frame
+IsCopyOfTrip what (Some packet) None =
+    (from : Port) (copy : List DatagramRecord) → IsCopyFrom what packet from copy → ⊥
 
 -- a receive at a port gave a packet or none, no sooner than behind so many receives and no later than the
 -- last one, and this is the copy
-pub record IsTaken {C : Type 0} (gives : Gives C) (heard : Heard C) (since : ℕ) (at : Port) (trip : ℕ)
-    (sent : List DatagramRecord) (already : Option Port) (copy : Option NumberedCopy) (later : C)
-    : Type 0 where
+pub record IsTaken {C : Type 0} (gives : Gives C) (heard : Heard C) (since : ℕ) (at : Port) (what : Sought)
+    (copy : Option NumberedCopy) (later : C) : Type 0 where
   pub before : C
   pub behind : C
   pub packet : Option (List ℕ)
   pub gave : gives before at packet behind
   pub in_time : since ≤ heard before
   pub by_then : heard behind ≤ heard later
-  pub is : IsCopyOfTrip trip sent already packet copy
+  pub is : IsCopyOfTrip what packet copy
 
 -- what was taken at port A and at port B, in either order, each of another copy than at the other port
 pub record AreBoth {C : Type 0} (gives : Gives C) (heard : Heard C) (since : ℕ) (trip : ℕ)
     (sent : List DatagramRecord) (both : Both) (later : C) : Type 0 where
-  pub a : IsTaken gives heard since A trip sent (sent_from both.b) both.a later
-  pub b : IsTaken gives heard since B trip sent (sent_from both.a) both.b later
+  pub a : IsTaken gives heard since A (sought trip sent (sent_from both.b)) both.a later
+  pub b : IsTaken gives heard since B (sought trip sent (sent_from both.a)) both.b later
 
 -- the copies that were taken so far: nothing is said of one that has not come yet
 pub record AreSoFar {C : Type 0} (gives : Gives C) (heard : Heard C) (since : ℕ) (trip : ℕ)
     (sent : List DatagramRecord) (both : Both) (later : C) : Type 0 where
-  pub a : IfSome both.a
-      (λ (copy : NumberedCopy). IsTaken gives heard since A trip sent (sent_from both.b) (Some copy) later)
-  pub b : IfSome both.b
-      (λ (copy : NumberedCopy). IsTaken gives heard since B trip sent (sent_from both.a) (Some copy) later)
+  pub a : IfSome both.a (λ (copy : NumberedCopy).
+      IsTaken gives heard since A (sought trip sent (sent_from both.b)) (Some copy) later)
+  pub b : IfSome both.b (λ (copy : NumberedCopy).
+      IsTaken gives heard since B (sought trip sent (sent_from both.a)) (Some copy) later)
 
 -- the copies of a trip, with their numbers taken off
 abbrev pub opened_copy : NumberedCopy → List DatagramRecord

@@ -6,7 +6,7 @@ use Rattle.ec_wire.specs.Datagram.{DatagramRecord}
 use Rattle.ec_wire.specs.Spelling.{IsFrameValue, body_length}
 use Rattle.ec_wire.specs.declared.layout.TheConstants.{MAX_LENGTH}
 use Rattle.ec_number.specs.declared.number.TheConstants.{NUMBER_LENGTH}
-use Rattle.ec_ring.specs.Arrivals.{arrived_at, copies_of}
+use Rattle.ec_ring.specs.Arrivals.{arrived_at, copies_came}
 use Rattle.ec_ring.specs.declared.arrivals.Arrivals.{Arrivals}
 use Rattle.ec_ring.specs.declared.port.Port.{Port}
 use Rattle.ec_ring.specs.declared.port.Port.TheVariants.{A, B}
@@ -76,14 +76,9 @@ abbrev pub HeardTrips : {C : Type 0} → Gives C → Heard C → RemoteState C �
 HeardTrips gives heard before sent (Ok came) later = HeardTrip gives heard before sent came later
 HeardTrips gives heard before sent (Err failed) later = IsTurn before sent later
 
--- the copies, wherever they arrived
-abbrev pub came_of : Result Arrivals PortFault → Result Came PortFault
-came_of (Ok arrivals) = Ok (copies_of arrivals)
-came_of (Err failed) = Err failed
-
 -- the copies of such a trip, as a master takes them that keeps where each arrived
 pub record HeardCopies {C : Type 0} (gives : Gives C) (heard : Heard C) (before : RemoteState C)
     (sent : List DatagramRecord) (came : Result Came PortFault) (later : RemoteState C) : Type 0 where
   pub arrivals : Result Arrivals PortFault
   pub made : HeardTrips gives heard before sent arrivals later
-  pub copies : came ≡ came_of arrivals
+  pub copies : came ≡ copies_came arrivals

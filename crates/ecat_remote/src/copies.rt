@@ -7,7 +7,7 @@ ghost use Rattle.ec_wire.specs.declared.layout.TheConstants.{MAX_LENGTH};
 ghost use Rattle.ec_ring.specs.declared.port.Port.{Port};
 ghost use Rattle.ec_number.specs.Number.{CameBack, numbered};
 ghost use Rattle.ec_number.specs.declared.number.TheConstants.{NUMBER_LENGTH};
-ghost use Rattle.ecat_remote.specs.Taken.{AreNumbered, IsCopyOfTrip, opened_copy, out_from};
+ghost use Rattle.ecat_remote.specs.Taken.{AreNumbered, IsCopyOfTrip, opened_copy, out_from, sought};
 ghost use Rattle.ecat_remote.specs.Trips.{HasRoom};
 
 use ec_number::{Trip, came_of, number_frame, number_of, open_frame};
@@ -75,7 +75,7 @@ fn numbered(sent: &FrameBuf, number: u64) -> Option<FrameBuf>
 /// which number it bears.
 pub(crate) fn told_by(sent: &Outgoing, already: Option<Port>, packet: &[u8]) -> Told
     ensures { (trip : ℕ) (frame : List DatagramRecord) → AreNumbered trip frame sent.now
-        → IsCopyOfTrip trip frame already (Some packet.now) result.copy }
+        → IsCopyOfTrip (sought trip frame already) (Some packet.now) result.copy }
 {
     match FrameBuf::read(packet, Form::Udp) {
         Ok(frame) => {

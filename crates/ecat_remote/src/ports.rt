@@ -10,6 +10,7 @@ ghost use Rattle.ec_wire.specs.Spelling.{IsFrameValue};
 ghost use Rattle.ecat_remote.specs.Enough.{IsEnough, Keeps, have_come, have_come_at, next_counters};
 ghost use Rattle.ecat_remote.specs.Enough.{awaits};
 ghost use Rattle.ecat_remote.specs.Taken.{AreBoth, AreNumbered, AreSoFar, IsTaken, opened_came, opened_copy};
+ghost use Rattle.ecat_remote.specs.Taken.{sought};
 ghost use Rattle.ecat_remote.specs.Taken.{sent_from};
 ghost use Rattle.ecat_remote.specs.Trips.{RemoteState, RemoteTrips, HeardTrips, arrivals_of};
 
@@ -456,7 +457,7 @@ impl<C: Carrier, T: Timer> RemotePorts<C, T> {
     ) -> Result<Option<NumberedCopy>, PortFault>
         ensures taken { copy ≡ None → IfOk result (λ later. (trip : ℕ) (sent : List DatagramRecord)
             → AreNumbered trip sent out.now → IfSome later (λ found.
-            IsTaken C.gives C.heard (C.heard self.old.carrier) at trip sent other (Some found)
+            IsTaken C.gives C.heard (C.heard self.old.carrier) at (sought trip sent other) (Some found)
             self.new.carrier)) }
         ensures kept { IfSome copy (λ came. IfOk result (λ later. later ≡ Some came)) }
         ensures counted { IsErr result → C.failed self.old.carrier < C.failed self.new.carrier }
@@ -503,7 +504,8 @@ impl<C: Carrier, T: Timer> RemotePorts<C, T> {
     ) -> Result<Option<NumberedCopy>, PortFault>
         ensures taken { copy ≡ None → IfOk result (λ later. (trip : ℕ) (sent : List DatagramRecord)
             → AreNumbered trip sent out.now
-            → IsTaken C.gives C.heard (C.heard self.old.carrier) at trip sent other later self.new.carrier) }
+            → IsTaken C.gives C.heard (C.heard self.old.carrier) at (sought trip sent other) later
+            self.new.carrier) }
         ensures kept { IfSome copy (λ came. IfOk result (λ later. later ≡ Some came)) }
         ensures counted { IsErr result → C.failed self.old.carrier < C.failed self.new.carrier }
         ensures never_lower { C.failed self.old.carrier ≤ C.failed self.new.carrier }
@@ -526,7 +528,7 @@ impl<C: Carrier, T: Timer> RemotePorts<C, T> {
     ) -> Result<Option<NumberedCopy>, PortFault>
         ensures taken { IfOk result (λ copy. (trip : ℕ) (sent : List DatagramRecord)
             → AreNumbered trip sent out.now
-            → IsTaken C.gives C.heard (C.heard self.old.carrier) at trip sent already copy
+            → IsTaken C.gives C.heard (C.heard self.old.carrier) at (sought trip sent already) copy
             self.new.carrier) }
         ensures counted { IsErr result → C.failed self.old.carrier < C.failed self.new.carrier }
         ensures never_lower { C.failed self.old.carrier ≤ C.failed self.new.carrier }
@@ -552,7 +554,7 @@ impl<C: Carrier, T: Timer> RemotePorts<C, T> {
     ) -> Result<Given, PortFault>
         ensures taken { IfOk result (λ given. (trip : ℕ) (sent : List DatagramRecord)
             → AreNumbered trip sent out.now
-            → IsTaken C.gives C.heard (C.heard self.old.carrier) at trip sent already given.copy
+            → IsTaken C.gives C.heard (C.heard self.old.carrier) at (sought trip sent already) given.copy
             self.new.carrier) }
         ensures counted { IsErr result → C.failed self.old.carrier < C.failed self.new.carrier }
         ensures never_lower { C.failed self.old.carrier ≤ C.failed self.new.carrier }

@@ -28,8 +28,9 @@ pub struct OpenFault {
 /// A UDP socket at each port of the master, which speaks with the line's end there and with nobody else; with
 /// one end alone port B sends and receives nothing.
 ///
-/// That no packet came in time is no failure, nor is that nobody listens at the line's end. Of a packet of
-/// more than 1,501 bytes the first 1,501 are received. Each other error of the system counts as a failure.
+/// That no packet came in time is no failure, nor is that nobody listens at the line's end; that is told of
+/// the port ([`Carrier::health`]) until something comes there. Of a packet of more than 1,501 bytes the first
+/// 1,501 are received. Each other error of the system counts as a failure.
 #[derive(Drop)]
 pub struct UdpCarrier {
     a: UdpSocket,
@@ -102,6 +103,10 @@ impl Carrier for UdpCarrier {
                 self.health.fails(from, &fault);
                 count_failure(&mut self.failures)
             }
+            Err(fault) if is_refusal(&fault) => {
+                self.health.is_refused(from, &fault);
+                Ok(())
+            }
             _ => {
                 self.health.works(from);
                 Ok(())
@@ -120,7 +125,14 @@ impl Carrier for UdpCarrier {
         within: u64,
     ) -> Result<Option<usize>, PortFault> {
         match self.receive_at(at, into, within) {
-            Ok(count) => Ok(Some(count)),
+            Ok(count) => {
+                self.health.hears(at);
+                Ok(Some(count))
+            }
+            Err(fault) if is_refusal(&fault) => {
+                self.health.is_refused(at, &fault);
+                Ok(None)
+            }
             Err(fault) if is_silence(&fault) => Ok(None),
             Err(fault) => {
                 self.health.fails(at, &fault);
@@ -164,6 +176,11 @@ fn connected(net: &impl Net, name: &str) -> io::Result<UdpSocket> {
             _ => Err(fault),
         },
     }
+}
+
+/// Does the error say that nobody listens there?
+fn is_refusal(fault: &io::Error) -> bool {
+    fault.kind() == ErrorKind::ConnectionRefused
 }
 
 /// Does the error say that nothing came, or that nobody listens there?

@@ -1,21 +1,12 @@
 -- What ports bring that keep what copies told, the ports themselves bring.
-use Rattle.std.proofs.Common.{◌≡◌, List, [], ◌∷◌, Result, Ok, Err, refl, ap, ◌∙◌}
+use Rattle.std.proofs.Common.{◌≡◌, List, [], ◌∷◌, ap}
 use Rattle.ec_wire.specs.Datagram.{DatagramRecord}
-use Rattle.ec_ring.specs.declared.arrivals.Arrivals.{Arrivals}
-use Rattle.ec_ring.specs.declared.port.PortFault.{PortFault}
-use Rattle.ec_ring.specs.declared.weather.Came.{Came}
 use Rattle.ec_master.specs.Given.{AllThatCame}
 use Rattle.ec_master.specs.Suffice.{Brings}
 use Rattle.ec_run.specs.Alike.{AreTripsOf}
 use Rattle.ec_run.specs.Watched.{WatchedState, WatchedTrips}
-use Rattle.ec_run.specs.Watched.{came_of as heard_of}
 use Rattle.ecat_remote.specs.Taken.{Gives, Heard}
-use Rattle.ecat_remote.specs.Trips.{HeardCopies, HeardTrips, RemoteState, came_of}
-
--- the copies, wherever they arrived
-same_came : (arrivals : Result Arrivals PortFault) → heard_of arrivals ≡ came_of arrivals
-same_came (Ok arrivals) = refl
-same_came (Err failed) = refl
+use Rattle.ecat_remote.specs.Trips.{HeardCopies, HeardTrips, RemoteState}
 
 watched_copies : {C : Type 0} (gives : Gives C) (heard : Heard C)
     → AreTripsOf (λ (w : WatchedState (RemoteState C)). w.ports) (WatchedTrips (HeardTrips gives heard))
@@ -23,7 +14,7 @@ watched_copies : {C : Type 0} (gives : Gives C) (heard : Heard C)
 watched_copies gives heard before sent came later trip = record {
   arrivals = trip.arrivals;
   made = trip.made;
-  copies = trip.copies ∙ same_came trip.arrivals;
+  copies = trip.copies;
 }
 
 pub brought_by_ports : {C : Type 0} (gives : Gives C) (heard : Heard C)

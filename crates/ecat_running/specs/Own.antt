@@ -1,6 +1,7 @@
 -- What the end of a cycle of a running master says, whatever the network gave.
 use Rattle.std.specs.Prelude.{◌≡◌, ◌≤◌, ℕ, List, length, map}
 use Rattle.std.specs.List.{AllByRecursion}
+use Rattle.ec_wire.specs.Datagram.{DatagramRecord}
 use Rattle.ec_esc.specs.State.{ControllerState}
 use Rattle.ec_line.specs.Answered.{sent_of}
 use Rattle.ec_line.specs.Moving.{Visit}
@@ -34,29 +35,38 @@ pub record Expects (r : RingState) (items : List ItemRecord) (expected : List �
   pub accepted : IsAccepted r.slaves items
   pub expects : expected ≡ map (expected_of (line_of r)) items
 
--- over whatever ring that accepts the items, where what bears a number of a trip of this cycle is one of that
--- trip's two copies, the end says of the ring all that a cycle over it says: over one that stands still while
+-- a cycle that was made: its items, what each of them is expected to count, how it ended, and the items that
+-- it brought
+pub record MadeCycle : Type 0 where
+  pub items : List ItemRecord
+  pub expected : List ℕ
+  pub end : End
+  pub brought : List ItemRecord
+
+-- what its trips send
+abbrev pub sent_in : MadeCycle → List (List DatagramRecord)
+sent_in cycle = map sent_of (frames_of cycle.items)
+
+-- over whatever ring that accepts its items, where what bears a number of a trip of this cycle is one of that
+-- trip's two copies, its end says of the ring all that a cycle over it says: over one that stands still while
 -- the frames travel, and over one that moves
 pub record SaysOfTheRing {C : Type 0} (gives : Gives C) (heard : Heard C) (before : RemoteState C)
-    (items : List ItemRecord) (expected : List ℕ) (came : AllThatCame) (end : End)
-    (items_later : List ItemRecord) (later : RemoteState C) : Type 0 where
+    (cycle : MadeCycle) (came : AllThatCame) (later : RemoteState C) : Type 0 where
   pub still : (r : RingState) (taken : List BothTaken) (behind : List ControllerState)
-      → Expects r items expected
-      → TakesAll gives heard before (map sent_of (frames_of items)) taken came later
-      → NetworkGaveAll before.next (line_of r) (map sent_of (frames_of items)) taken behind
-      → IsOfCycle r items came behind end items_later
+      → Expects r cycle.items cycle.expected → TakesAll gives heard before (sent_in cycle) taken came later
+      → NetworkGaveAll before.next (line_of r) (sent_in cycle) taken behind
+      → IsOfCycle r cycle.items came behind cycle.end cycle.brought
   pub moving : (r : RingState) (ws : List Weather) (runs : List (List Visit)) (taken : List BothTaken)
-      → Expects r items expected → IsMovingCycle ws r items runs
-      → TakesAll gives heard before (map sent_of (frames_of items)) taken came later
-      → NetworkGaveMoving before.next (length r.slaves) (frames_of items) ws runs taken
-      → SaysOfMoving (losing_each taken ws) r items runs end items_later
+      → Expects r cycle.items cycle.expected → IsMovingCycle ws r cycle.items runs
+      → TakesAll gives heard before (sent_in cycle) taken came later
+      → NetworkGaveMoving before.next (length r.slaves) (frames_of cycle.items) ws runs taken
+      → SaysOfMoving (losing_each taken ws) r cycle.items runs cycle.end cycle.brought
 
--- a cycle with these items: of each of its trips, where none failed and each frame had room for a number, it
--- is known which copies were taken; and so its end says of the ring what a cycle over it says
+-- such a cycle: of each of its trips, where none failed and each frame had room for a number, it is known
+-- which copies were taken; and so its end says of the ring what a cycle over it says
 pub record IsOwn {C : Type 0} (gives : Gives C) (heard : Heard C) (before : RemoteState C)
-    (items : List ItemRecord) (expected : List ℕ) (end : End) (items_later : List ItemRecord)
-    (later : RemoteState C) : Type 0 where
+    (cycle : MadeCycle) (later : RemoteState C) : Type 0 where
   pub came : AllThatCame
-  pub taken : NoneFailed came → AllByRecursion HasRoom (map sent_of (frames_of items))
-      → AreAllTaken gives heard before (map sent_of (frames_of items)) came later
-  pub says : SaysOfTheRing gives heard before items expected came end items_later later
+  pub taken : NoneFailed came → AllByRecursion HasRoom (sent_in cycle)
+      → AreAllTaken gives heard before (sent_in cycle) came later
+  pub says : SaysOfTheRing gives heard before cycle came later

@@ -54,8 +54,12 @@ pub fn cycles_of_a_run<C: Carrier, D: Task, T: Pace>()
         (end : End)
         → (round : IsRound (sides_of (HeardTrips C.gives C.heard) D.listens D.held T.over) planned s before
         end after later)
-        → IsOwn C.gives C.heard before.ports (items_sent planned.plan.now.outputs round.supplied)
-        planned.expected.now end round.cycle.brought round.behind.ports }
+        → IsOwn C.gives C.heard before.ports (record {
+          items = items_sent planned.plan.now.outputs round.supplied;
+          expected = planned.expected.now;
+          end = end;
+          brought = round.cycle.brought;
+        }) round.behind.ports }
 {
     a_good_is_of_its_cycle::<C>();
 }

@@ -3,9 +3,8 @@ use Rattle.std.proofs.Common.{◌≡◌, inl, inr, ℕ, suc, ◌+◌, ◌-◌, �
 use Rattle.std.proofs.Common.{Result, Ok, Err}
 use Rattle.ec_ring.specs.declared.port.PortFault.{PortFault}
 use Rattle.ecat_serve.specs.Commands.{IsCommanded, ServesCommanded, packets}
-use Rattle.ecat_serve.specs.Ends.{Receives, Sends}
-use Rattle.ecat_serve.specs.Rounds.{Serves}
-use Rattle.ecat_serve.specs.State.{ServedState}
+use Rattle.ecat_serve.specs.Ends.{Calls}
+use Rattle.ecat_serve.specs.Rounds.{Serves, Serving}
 use Rattle.ecat_serve.specs.declared.served.Counts.{Counts}
 
 -- nothing has come in yet
@@ -13,108 +12,81 @@ abbrev pub no_packets : Counts
 no_packets = record { frames = 0; dropped = 0 }
 
 -- what the commands that are left come to, from the line and the ends as they are now, is what all come to
-abbrev pub LeadsOn : {E : Type 0} → Receives E → Sends E → ℕ → ℕ → ServedState → E → ℕ → Counts → ServedState
-    → E → Type 0
-LeadsOn {E} receives sends most all start ends_start left counts now ends_now =
-    (result : Result Counts PortFault) (later : ServedState) (ends_later : E)
-    → ServesCommanded receives sends most left counts now ends_now result later ends_later
-    → ServesCommanded receives sends most all no_packets start ends_start result later ends_later
+abbrev pub LeadsOn : {E : Type 0} → Calls E → ℕ → ℕ → Serving E → ℕ → Counts → Serving E → Type 0
+LeadsOn {E} calls most all start left counts now =
+    (result : Result Counts PortFault) (later : Serving E)
+    → ServesCommanded calls most left counts now result later
+    → ServesCommanded calls most all no_packets start result later
 
 -- one command fewer is left
 fewer : (all k : ℕ) → k < all → all - k ≡ suc (all - (k + 1))
 fewer all k inside = omega arith
 
 -- before the first one all are left
-pub leads_first : {E : Type 0} (receives : Receives E) (sends : Sends E) (most all left : ℕ)
-    (start : ServedState) (ends_start : E) → left ≡ all
-    → LeadsOn receives sends most all start ends_start left no_packets start ends_start
-leads_first receives sends most all left start ends_start is result later ends_later rest =
-    subst (λ (n : ℕ). ServesCommanded receives sends most n no_packets start ends_start result later
-    ends_later) is rest
+pub leads_first : {E : Type 0} (calls : Calls E) (most all left : ℕ) (start : Serving E) → left ≡ all
+    → LeadsOn calls most all start left no_packets start
+leads_first calls most all left start is result later rest =
+    subst (λ (n : ℕ). ServesCommanded calls most n no_packets start result later) is rest
 
 -- packets were served, and a command came behind which the service goes on
-pub leads_on : {E : Type 0} (receives : Receives E) (sends : Sends E) (most all : ℕ) (start : ServedState)
-    (ends_start : E) (k : ℕ) (counts told : Counts) (now between commanded : ServedState)
-    (ends_now ends_between ends_commanded : E)
-    → k < all
-    → Serves receives sends (most - packets counts) counts now ends_now (Ok told) between ends_between
-    → packets told < most → IsCommanded between commanded
-    → LeadsOn receives sends most all start ends_start (all - k) counts now ends_now
-    → LeadsOn receives sends most all start ends_start (all - (k + 1)) told commanded ends_commanded
+pub leads_on : {E : Type 0} (calls : Calls E) (most all : ℕ) (start : Serving E) (k : ℕ)
+    (counts told : Counts) (now between commanded : Serving E) → k < all
+    → Serves calls (most - packets counts) counts now (Ok told) between
+    → packets told < most → IsCommanded between.line commanded.line
+    → LeadsOn calls most all start (all - k) counts now
+    → LeadsOn calls most all start (all - (k + 1)) told commanded
 unfolding ServesCommanded
-leads_on receives sends most all start ends_start k counts told now between commanded ends_now ends_between
-    ends_commanded inside serves few does leads result later ends_later rest =
-    leads result later ends_later
-    (subst (λ (n : ℕ). ServesCommanded receives sends most n counts now ends_now result later ends_later)
-    (sym (fewer all k inside))
-    (Ok told, between, ends_between, serves, inr (few, commanded, ends_commanded, does, inr rest)))
+leads_on calls most all start k counts told now between commanded inside serves few does leads result later
+    rest =
+    leads result later
+    (subst (λ (n : ℕ). ServesCommanded calls most n counts now result later) (sym (fewer all k inside))
+    (Ok told, between, serves, inr (few, commanded, does, inr rest)))
 
 -- or behind which it ends
-pub leads_end : {E : Type 0} (receives : Receives E) (sends : Sends E) (most all : ℕ) (start : ServedState)
-    (ends_start : E) (k : ℕ) (counts told : Counts) (now between commanded : ServedState)
-    (ends_now ends_between ends_commanded : E)
-    → k < all
-    → Serves receives sends (most - packets counts) counts now ends_now (Ok told) between ends_between
-    → packets told < most → IsCommanded between commanded
-    → LeadsOn receives sends most all start ends_start (all - k) counts now ends_now
-    → ServesCommanded receives sends most all no_packets start ends_start (Ok told) commanded ends_commanded
+pub leads_end : {E : Type 0} (calls : Calls E) (most all : ℕ) (start : Serving E) (k : ℕ)
+    (counts told : Counts) (now between commanded : Serving E) → k < all
+    → Serves calls (most - packets counts) counts now (Ok told) between
+    → packets told < most → IsCommanded between.line commanded.line
+    → LeadsOn calls most all start (all - k) counts now
+    → ServesCommanded calls most all no_packets start (Ok told) commanded
 unfolding ServesCommanded
-leads_end receives sends most all start ends_start k counts told now between commanded ends_now ends_between
-    ends_commanded inside serves few does leads =
-    leads (Ok told) commanded ends_commanded
-    (subst (λ (n : ℕ). ServesCommanded receives sends most n counts now ends_now (Ok told) commanded
-    ends_commanded)
-    (sym (fewer all k inside)) (
-      Ok told,
-      between,
-      ends_between,
-      serves,
-      inr (few, commanded, ends_commanded, does, inl (refl, refl, refl)),
-    ))
+leads_end calls most all start k counts told now between commanded inside serves few does leads =
+    leads (Ok told) commanded
+    (subst (λ (n : ℕ). ServesCommanded calls most n counts now (Ok told) commanded) (sym (fewer all k inside))
+    (Ok told, between, serves, inr (few, commanded, does, inl (refl, refl))))
 
 -- so many packets have come
-pub leads_all : {E : Type 0} (receives : Receives E) (sends : Sends E) (most all : ℕ) (start : ServedState)
-    (ends_start : E) (k : ℕ) (counts told : Counts) (now between : ServedState) (ends_now ends_between : E)
-    → k < all
-    → Serves receives sends (most - packets counts) counts now ends_now (Ok told) between ends_between
-    → most ≤ packets told
-    → LeadsOn receives sends most all start ends_start (all - k) counts now ends_now
-    → ServesCommanded receives sends most all no_packets start ends_start (Ok told) between ends_between
+pub leads_all : {E : Type 0} (calls : Calls E) (most all : ℕ) (start : Serving E) (k : ℕ)
+    (counts told : Counts) (now between : Serving E) → k < all
+    → Serves calls (most - packets counts) counts now (Ok told) between → most ≤ packets told
+    → LeadsOn calls most all start (all - k) counts now
+    → ServesCommanded calls most all no_packets start (Ok told) between
 unfolding ServesCommanded
-leads_all receives sends most all start ends_start k counts told now between ends_now ends_between inside
-    serves many leads =
-    leads (Ok told) between ends_between
-    (subst (λ (n : ℕ). ServesCommanded receives sends most n counts now ends_now (Ok told) between
-    ends_between)
-    (sym (fewer all k inside)) (Ok told, between, ends_between, serves, inl (many, refl, refl, refl)))
+leads_all calls most all start k counts told now between inside serves many leads =
+    leads (Ok told) between
+    (subst (λ (n : ℕ). ServesCommanded calls most n counts now (Ok told) between) (sym (fewer all k inside))
+    (Ok told, between, serves, inl (many, refl, refl)))
 
 -- a call failed
-pub leads_fault : {E : Type 0} (receives : Receives E) (sends : Sends E) (most all : ℕ) (start : ServedState)
-    (ends_start : E) (k : ℕ) (counts : Counts) (now between : ServedState) (ends_now ends_between : E)
-    (fault : PortFault)
-    → k < all
-    → Serves receives sends (most - packets counts) counts now ends_now (Err fault) between ends_between
-    → LeadsOn receives sends most all start ends_start (all - k) counts now ends_now
-    → ServesCommanded receives sends most all no_packets start ends_start (Err fault) between ends_between
+pub leads_fault : {E : Type 0} (calls : Calls E) (most all : ℕ) (start : Serving E) (k : ℕ) (counts : Counts)
+    (now between : Serving E) (fault : PortFault) → k < all
+    → Serves calls (most - packets counts) counts now (Err fault) between
+    → LeadsOn calls most all start (all - k) counts now
+    → ServesCommanded calls most all no_packets start (Err fault) between
 unfolding ServesCommanded
-leads_fault receives sends most all start ends_start k counts now between ends_now ends_between fault inside
-    serves leads =
-    leads (Err fault) between ends_between
-    (subst (λ (n : ℕ). ServesCommanded receives sends most n counts now ends_now (Err fault) between
-    ends_between)
-    (sym (fewer all k inside)) (Err fault, between, ends_between, serves, (refl, refl, refl)))
+leads_fault calls most all start k counts now between fault inside serves leads =
+    leads (Err fault) between
+    (subst (λ (n : ℕ). ServesCommanded calls most n counts now (Err fault) between) (sym (fewer all k inside))
+    (Err fault, between, serves, (refl, refl)))
 
 -- no command is left
-pub leads_nowhere : {E : Type 0} (receives : Receives E) (sends : Sends E) (most all : ℕ)
-    (start : ServedState) (ends_start : E) (left : ℕ) (counts : Counts) (now : ServedState) (ends_now : E)
-    → left ≡ 0
-    → LeadsOn receives sends most all start ends_start left counts now ends_now
-    → ServesCommanded receives sends most all no_packets start ends_start (Ok counts) now ends_now
+pub leads_nowhere : {E : Type 0} (calls : Calls E) (most all : ℕ) (start : Serving E) (left : ℕ)
+    (counts : Counts) (now : Serving E) → left ≡ 0 → LeadsOn calls most all start left counts now
+    → ServesCommanded calls most all no_packets start (Ok counts) now
 unfolding ServesCommanded
-leads_nowhere receives sends most all start ends_start left counts now ends_now none leads =
-    leads (Ok counts) now ends_now
-    (subst (λ (n : ℕ). ServesCommanded receives sends most n counts now ends_now (Ok counts) now ends_now)
-    (sym none) (refl, refl, refl))
+leads_nowhere calls most all start left counts now none leads =
+    leads (Ok counts) now
+    (subst (λ (n : ℕ). ServesCommanded calls most n counts now (Ok counts) now) (sym none) (refl, refl))
 
 -- ---- numbers of packets, as they are counted
 

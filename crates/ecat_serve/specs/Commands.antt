@@ -10,8 +10,8 @@ use Rattle.ec_ring.specs.Links.{is_up}
 use Rattle.ec_ring.specs.declared.port.Port.{Port}
 use Rattle.ec_ring.specs.declared.port.PortFault.{PortFault}
 use Rattle.ecat_serve.specs.Bench.{Changes, loaded, put_in, with_error, with_links}
-use Rattle.ecat_serve.specs.Ends.{Receives, Sends}
-use Rattle.ecat_serve.specs.Rounds.{Serves}
+use Rattle.ecat_serve.specs.Ends.{Calls}
+use Rattle.ecat_serve.specs.Rounds.{Serves, Serving}
 use Rattle.ecat_serve.specs.State.{ServedState, linked, losing, to_lose_at, unplugged}
 use Rattle.ecat_serve.specs.declared.served.Counts.{Counts}
 
@@ -76,20 +76,17 @@ packets counts = counts.frames + counts.dropped
 -- packets are served until there were so many, no more are to come at once, or a call fails; then, if there
 -- were not so many yet, a command comes, behind which the service ends or goes on; so many commands at the
 -- most. Packets are counted on from `counts`, and nothing is stated of the ends behind a command
-unfoldable pub ServesCommanded : {E : Type 0} → Receives E → Sends E → ℕ → ℕ → Counts → ServedState → E
-    → Result Counts PortFault → ServedState → E → Type 0
-ServesCommanded receives sends most zero counts before ends result later ends_later =
-    (result ≡ Ok counts) × (later ≡ before) × (ends_later ≡ ends)
-ServesCommanded {E} receives sends most (suc commands) counts before ends result later ends_later =
-    (came : Result Counts PortFault) × (between : ServedState) × (ends_between : E)
-    × Serves receives sends (most - packets counts) counts before ends came between ends_between
+unfoldable pub ServesCommanded : {E : Type 0} → Calls E → ℕ → ℕ → Counts → Serving E
+    → Result Counts PortFault → Serving E → Type 0
+ServesCommanded calls most zero counts before result later = (result ≡ Ok counts) × (later ≡ before)
+ServesCommanded {E} calls most (suc commands) counts before result later =
+    (came : Result Counts PortFault) × (between : Serving E)
+    × Serves calls (most - packets counts) counts before came between
     × (elim came [
-      | Err fault ↦ (result ≡ Err fault) × (later ≡ between) × (ends_later ≡ ends_between)
+      | Err fault ↦ (result ≡ Err fault) × (later ≡ between)
       | Ok told ↦
-          ((most ≤ packets told) × (result ≡ Ok told) × (later ≡ between) × (ends_later ≡ ends_between))
-          ⊎ ((packets told < most) × (commanded : ServedState) × (ends_commanded : E)
-          × IsCommanded between commanded
-          × (((result ≡ Ok told) × (later ≡ commanded) × (ends_later ≡ ends_commanded))
-          ⊎ ServesCommanded receives sends most commands told commanded ends_commanded result later
-          ends_later))
+          ((most ≤ packets told) × (result ≡ Ok told) × (later ≡ between))
+          ⊎ ((packets told < most) × (commanded : Serving E) × IsCommanded between.line commanded.line
+          × (((result ≡ Ok told) × (later ≡ commanded))
+          ⊎ ServesCommanded calls most commands told commanded result later))
     ])

@@ -1,6 +1,6 @@
 -- What befalls the copies that leave an end of a served line, so that a master is tried on it: late, twice or
 -- damaged (IEC 61158-4-12, the EtherCAT frame header, whose length a damaged copy has wrong).
-use Rattle.std.specs.Prelude.{ℕ, ◌+◌, ◌-◌, ◌^◌, ◌==◌, not, min, if◌then◌else◌, Option, None, Some}
+use Rattle.std.specs.Prelude.{ℕ, ◌+◌, ◌-◌, ◌^◌, ◌==◌, not, min, if◌then◌else◌, None, Some}
 use Rattle.std.specs.Prelude.{List, [], ◌∷◌, length, drop, slice_index}
 use Rattle.std.specs.Int.Bits.{bit_xor}
 use Rattle.ecat_serve.specs.declared.disturbed.Disturbance.{Disturbance}

@@ -27,6 +27,14 @@ Receives E = E → Result (Option Arrived) PortFault → List ℕ → E → Type
 abbrev pub Sends : Type 0 → Type 1
 Sends E = E → Port → SocketAddr → List ℕ → Result (Unit {0}) PortFault → E → Type 0
 
+-- the calls of a line's ends: what their receives come to, and what their sends do
+pub record Calls (E : Type 0) : Type 1 where
+  pub receives : Receives E
+  pub sends : Sends E
+
+abbrev pub calls_of : {E : Type 0} → Receives E → Sends E → Calls E
+calls_of receives sends = record { receives = receives; sends = sends }
+
 -- of what comes at a socket nothing is stated, nor of what becomes of a packet that is sent: both are up to
 -- the system
 abbrev pub any_receive : {E : Type 0} → Receives E

@@ -5,12 +5,20 @@ use Rattle.ec_wire.specs.Fault.{IsSpelt}
 use Rattle.ec_wire.specs.declared.fault.Form.TheVariants.{Udp}
 use Rattle.ec_ring.specs.declared.port.PortFault.{PortFault}
 use Rattle.ecat_serve.specs.Answering.{Arrival, Replies, Walks, once_lost, spared}
-use Rattle.ecat_serve.specs.Ends.{Receives, Sends}
+use Rattle.ecat_serve.specs.Ends.{Calls, Sends}
 use Rattle.ecat_serve.specs.State.{ServedState, moved_on, spoken}
 use Rattle.ecat_serve.specs.declared.ends.Arrived.{Arrived}
 use Rattle.ecat_serve.specs.declared.served.Counts.{Counts}
 use Rattle.ecat_serve.specs.declared.served.Round.{Round}
 use Rattle.ecat_serve.specs.declared.served.Round.TheVariants.{Frame, Dropped, Ended}
+
+-- a line, and the ends that it is served at
+pub record Serving (E : Type 0) : Type 0 where
+  pub line : ServedState
+  pub ends : E
+
+abbrev pub serving : {E : Type 0} → ServedState → E → Serving E
+serving line ends = record { line = line; ends = ends }
 
 -- ---- one packet
 
@@ -22,46 +30,43 @@ round_of (Err fault) = Err fault
 -- a packet that is a frame in the UDP form: who sent it has spoken, the frame walks, and what arrives is sent
 -- unless it is to be lost where it arrives
 pub record IsAnswered {E : Type 0} (sends : Sends E) (arrived : Arrived) (packet : List ℕ)
-    (before : ServedState) (ends : E) (result : Result Round PortFault) (later : ServedState) (ends_later : E)
-    : Type 0 where
+    (before : Serving E) (result : Result Round PortFault) (later : Serving E) : Type 0 where
   pub frame : List DatagramRecord
   pub spelt : IsSpelt Udp packet frame
   pub walked : ServedState
   pub arrival : Arrival
-  pub walks : Walks (spoken before arrived.at arrived.from) arrived.at frame arrival walked
-  pub loses : later ≡ once_lost walked arrival
+  pub walks : Walks (spoken before.line arrived.at arrived.from) arrived.at frame arrival walked
+  pub loses : later.line ≡ once_lost walked arrival
   pub sent : Result (Unit {0}) PortFault
-  pub replies : Replies sends later (spared walked arrival) ends sent ends_later
+  pub replies : Replies sends later.line (spared walked arrival) before.ends sent later.ends
   pub ends_as : result ≡ round_of sent
 
 -- a packet that is none: it is dropped, and each slave takes its step and each application acts all the same
-pub record IsDropped {E : Type 0} (packet : List ℕ) (before : ServedState) (ends : E)
-    (result : Result Round PortFault) (later : ServedState) (ends_later : E) : Type 0 where
+pub record IsDropped {E : Type 0} (packet : List ℕ) (before : Serving E) (result : Result Round PortFault)
+    (later : Serving E) : Type 0 where
   pub no_frame : (frame : List DatagramRecord) → IsSpelt Udp packet frame → ⊥
   pub ends_as : result ≡ Ok Dropped
-  pub leaves : later ≡ moved_on before before.ring
-  pub stays : ends_later ≡ ends
+  pub leaves : later.line ≡ moved_on before.line before.line.ring
+  pub stays : later.ends ≡ before.ends
 
 -- ---- one round
 
 -- what is done once the ends have answered a receive: nothing more where it failed, or where none is to come
-abbrev pub GoesOn : {E : Type 0} → Sends E → Result (Option Arrived) PortFault → List ℕ → ServedState → E
-    → Result Round PortFault → ServedState → E → Type 0
-GoesOn sends (Err fault) room before ends result later ends_later =
-    (result ≡ Err fault) × (later ≡ before) × (ends_later ≡ ends)
-GoesOn sends (Ok None) room before ends result later ends_later =
-    (result ≡ Ok Ended) × (later ≡ before) × (ends_later ≡ ends)
-GoesOn sends (Ok (Some arrived)) room before ends result later ends_later =
-    IsAnswered sends arrived (take arrived.count room) before ends result later ends_later
-    ⊎ IsDropped (take arrived.count room) before ends result later ends_later
+abbrev pub GoesOn : {E : Type 0} → Sends E → Result (Option Arrived) PortFault → List ℕ → Serving E
+    → Result Round PortFault → Serving E → Type 0
+GoesOn sends (Err fault) room before result later = (result ≡ Err fault) × (later ≡ before)
+GoesOn sends (Ok None) room before result later = (result ≡ Ok Ended) × (later ≡ before)
+GoesOn sends (Ok (Some arrived)) room before result later =
+    IsAnswered sends arrived (take arrived.count room) before result later
+    ⊎ IsDropped (take arrived.count room) before result later
 
-pub record IsRound {E : Type 0} (receives : Receives E) (sends : Sends E) (before : ServedState) (ends : E)
-    (result : Result Round PortFault) (later : ServedState) (ends_later : E) : Type 0 where
+pub record IsRound {E : Type 0} (calls : Calls E) (before : Serving E) (result : Result Round PortFault)
+    (later : Serving E) : Type 0 where
   pub found : Result (Option Arrived) PortFault
   pub room : List ℕ
   pub between : E
-  pub received : receives ends found room between
-  pub goes_on : GoesOn sends found room before between result later ends_later
+  pub received : calls.receives before.ends found room between
+  pub goes_on : GoesOn calls.sends found room (serving before.line between) result later
 
 -- ---- the service
 
@@ -73,18 +78,14 @@ one_dropped_more counts = record counts { dropped = counts.dropped + 1 }
 
 -- rounds follow one another, so many at the most, until a call fails or no packet is to come; packets are
 -- counted on from `counts`
-unfoldable pub Serves : {E : Type 0} → Receives E → Sends E → ℕ → Counts → ServedState → E
-    → Result Counts PortFault → ServedState → E → Type 0
-Serves receives sends zero counts before ends result later ends_later =
-    (result ≡ Ok counts) × (later ≡ before) × (ends_later ≡ ends)
-Serves {E} receives sends (suc most) counts before ends result later ends_later =
-    (round : Result Round PortFault) × (between : ServedState) × (ends_between : E)
-    × IsRound receives sends before ends round between ends_between
+unfoldable pub Serves : {E : Type 0} → Calls E → ℕ → Counts → Serving E → Result Counts PortFault → Serving E
+    → Type 0
+Serves calls zero counts before result later = (result ≡ Ok counts) × (later ≡ before)
+Serves {E} calls (suc most) counts before result later =
+    (round : Result Round PortFault) × (between : Serving E) × IsRound calls before round between
     × (elim round [
-      | Err fault ↦ (result ≡ Err fault) × (later ≡ between) × (ends_later ≡ ends_between)
-      | Ok Ended ↦ (result ≡ Ok counts) × (later ≡ between) × (ends_later ≡ ends_between)
-      | Ok Frame ↦ Serves receives sends most (one_frame_more counts) between ends_between result later
-          ends_later
-      | Ok Dropped ↦ Serves receives sends most (one_dropped_more counts) between ends_between result later
-          ends_later
+      | Err fault ↦ (result ≡ Err fault) × (later ≡ between)
+      | Ok Ended ↦ (result ≡ Ok counts) × (later ≡ between)
+      | Ok Frame ↦ Serves calls most (one_frame_more counts) between result later
+      | Ok Dropped ↦ Serves calls most (one_dropped_more counts) between result later
     ])

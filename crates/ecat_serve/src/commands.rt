@@ -2,6 +2,8 @@
 
 ghost use Rattle.std.specs.Prelude.{◌≡◌, ◌+◌, ◌-◌, ◌^◌, ◌<◌, ◌≤◌, IfOk};
 ghost use Rattle.ecat_serve.specs.Commands.{IsCommanded, ServesCommanded};
+ghost use Rattle.ecat_serve.specs.Ends.{calls_of};
+ghost use Rattle.ecat_serve.specs.Rounds.{serving};
 
 use crate::disturbed::{Disturb, Disturbance};
 use crate::ends::{Console, Ends};
@@ -41,8 +43,9 @@ impl Served {
         watch: &mut V,
         desk: &mut D,
     ) -> Result<Counts, PortFault>
-        ensures serves { ServesCommanded E.Ends.receives E.Ends.sends most (2 ^ 64 - 1)
-            (record { frames = 0; dropped = 0 }) self.old ends.old result self.new ends.new }
+        ensures serves { ServesCommanded (calls_of E.Ends.receives E.Ends.sends) most (2 ^ 64 - 1)
+            (record { frames = 0; dropped = 0 }) (serving self.old ends.old) result
+            (serving self.new ends.new) }
         ensures counted { IfOk result (λ counts. counts.frames + counts.dropped ≤ most) }
     {
         let mut counts = Counts::none();

@@ -6,7 +6,8 @@ ghost use Rattle.ec_wire.specs.Fault.{IsSpelt};
 ghost use Rattle.ec_wire.specs.declared.fault.Form.TheVariants.{Udp};
 ghost use Rattle.ec_ring.specs.declared.port.Port.TheVariants.{B};
 ghost use Rattle.ecat_serve.specs.Answering.{AreServed, Replies, Walks, once_lost, spared};
-ghost use Rattle.ecat_serve.specs.Rounds.{IsAnswered, IsDropped, IsRound, Serves, round_of};
+ghost use Rattle.ecat_serve.specs.Ends.{calls_of};
+ghost use Rattle.ecat_serve.specs.Rounds.{IsAnswered, IsDropped, IsRound, Serves, round_of, serving};
 ghost use Rattle.ecat_serve.specs.State.{linked, losing, moved_on, peer_at, spoken, to_lose_at};
 ghost use Rattle.ecat_serve.specs.Watching.{IsFrame, leaving};
 
@@ -128,8 +129,8 @@ impl Served {
     /// at the first call of the ends that fails. The answer is how many packets have come in. It takes no
     /// memory.
     pub fn serve<E: Ends>(&mut self, ends: &mut E, most: u64) -> Result<Counts, PortFault>
-        ensures serves { Serves E.receives E.sends most (record { frames = 0; dropped = 0 }) self.old ends.old
-            result self.new ends.new }
+        ensures serves { Serves (calls_of E.receives E.sends) most (record { frames = 0; dropped = 0 })
+            (serving self.old ends.old) result (serving self.new ends.new) }
         ensures counted { IfOk result (λ counts. counts.frames + counts.dropped ≤ most) }
     {
         self.serve_watched(ends, most, &mut Unwatched)
@@ -142,8 +143,8 @@ impl Served {
         most: u64,
         watch: &mut V,
     ) -> Result<Counts, PortFault>
-        ensures serves { Serves E.receives E.sends most (record { frames = 0; dropped = 0 }) self.old ends.old
-            result self.new ends.new }
+        ensures serves { Serves (calls_of E.receives E.sends) most (record { frames = 0; dropped = 0 })
+            (serving self.old ends.old) result (serving self.new ends.new) }
         ensures counted { IfOk result (λ counts. counts.frames + counts.dropped ≤ most) }
     {
         self.serve_on(ends, most, Counts::none(), watch)
@@ -158,7 +159,8 @@ impl Served {
         watch: &mut V,
     ) -> Result<Counts, PortFault>
         requires { before.frames + before.dropped + most < 2 ^ 64 }
-        ensures serves { Serves E.receives E.sends most before self.old ends.old result self.new ends.new }
+        ensures serves { Serves (calls_of E.receives E.sends) most before (serving self.old ends.old) result
+            (serving self.new ends.new) }
         ensures counted { IfOk result (λ counts. counts.frames + counts.dropped
             ≤ before.frames + before.dropped + most) }
     {
@@ -180,7 +182,8 @@ impl Served {
     /// did, unless a copy is still to be lost there: then it is that one. A packet that is no frame is
     /// dropped; the slaves take their step, and the applications act, all the same. It takes no memory.
     pub fn serve_one<E: Ends>(&mut self, ends: &mut E) -> Result<Round, PortFault>
-        ensures { IsRound E.receives E.sends self.old ends.old result self.new ends.new }
+        ensures { IsRound (calls_of E.receives E.sends) (serving self.old ends.old) result
+            (serving self.new ends.new) }
     {
         self.watch_one(ends, &mut Unwatched)
     }
@@ -191,7 +194,8 @@ impl Served {
         ends: &mut E,
         watch: &mut V,
     ) -> Result<Round, PortFault>
-        ensures { IsRound E.receives E.sends self.old ends.old result self.new ends.new }
+        ensures { IsRound (calls_of E.receives E.sends) (serving self.old ends.old) result
+            (serving self.new ends.new) }
     {
         let mut room = [0; PACKET_ROOM];
         match ends.receive(&mut room)? {
@@ -208,8 +212,9 @@ impl Served {
         arrived: &Arrived,
         packet: &[u8],
     ) -> Result<Round, PortFault>
-        ensures { IsAnswered E.sends arrived.now packet.now self.old ends.old result self.new ends.new
-            ⊎ IsDropped packet.now self.old ends.old result self.new ends.new }
+        ensures { IsAnswered E.sends arrived.now packet.now (serving self.old ends.old) result
+            (serving self.new ends.new)
+            ⊎ IsDropped packet.now (serving self.old ends.old) result (serving self.new ends.new) }
     {
         match FrameBuf::read(packet, Form::Udp) {
             Ok(frame) => {

@@ -24,7 +24,7 @@ use Rattle.ec_applications.specs.State.{ApplicationsState}
 use Rattle.ec_applications.specs.declared.eeproms.PlacedEeprom.{PlacedEeprom}
 use Rattle.ecat_serve.specs.Answering.{Arrival, Walks, once_lost, spared}
 use Rattle.ecat_serve.specs.Ends.{Sends}
-use Rattle.ecat_serve.specs.Rounds.{IsAnswered}
+use Rattle.ecat_serve.specs.Rounds.{IsAnswered, Serving}
 use Rattle.ecat_serve.specs.State.{ServedState, linked, losing, moved_on, serves_link, spoken, spoken_at_b}
 use Rattle.ecat_serve.specs.State.{to_lose_at}
 use Rattle.ecat_serve.specs.declared.ends.Arrived.{Arrived}
@@ -164,15 +164,16 @@ walked_history known before later from frame arrival walks sound =
     )
 
 pub answered_history : {E : Type 0} (sends : Sends E) → Known → TellingMoves → (arrived : Arrived)
-    (packet : List ℕ) (before later : ServedState) (ends ends_later : E) (result : Result Round PortFault)
-    (answered : IsAnswered sends arrived packet before ends result later ends_later)
-    → let heard = spoken before arrived.at arrived.from in
+    (packet : List ℕ) (before later : Serving E) (result : Result Round PortFault)
+    (answered : IsAnswered sends arrived packet before result later)
+    → let heard = spoken before.line arrived.at arrived.from in
     let p = packet_at heard arrived.at answered.frame answered.walks.links
-    in IsSound before (ring_walked heard p) → IsHistory (line_of before.ring) (p ∷ []) (line_of later.ring)
-answered_history sends known telling arrived packet before later ends ends_later result answered sound =
-    let heard : ServedState = spoken before arrived.at arrived.from in
+    in IsSound before.line (ring_walked heard p)
+    → IsHistory (line_of before.line.ring) (p ∷ []) (line_of later.line.ring)
+answered_history sends known telling arrived packet before later result answered sound =
+    let heard : ServedState = spoken before.line arrived.at arrived.from in
     let p : Packet = packet_at heard arrived.at answered.frame answered.walks.links in
-    let stays : StaysHeard before heard = heard_stays before arrived.at arrived.from in
+    let stays : StaysHeard before.line heard = heard_stays before.line arrived.at arrived.from in
     let sound_then : IsSound heard (ring_walked heard p) = record {
       line = stays.line sound.line;
       stepped_is = sound.stepped_is;
@@ -183,10 +184,10 @@ answered_history sends known telling arrived packet before later ends ends_later
     let walked_on : IsHistory (line_of heard.ring) (p ∷ []) (line_of answered.walked.ring) =
     walked_history known heard answered.walked arrived.at answered.frame answered.arrival answered.walks
     sound_then in
-    let same : later.ring ≡ answered.walked.ring =
+    let same : later.line.ring ≡ answered.walked.ring =
     ap (λ (x : ServedState). x.ring) answered.loses ∙ lost_ring answered.walked answered.arrival in
-    moved_before (line_of before.ring) (line_of heard.ring) (line_of later.ring) (p ∷ [])
-    (spoken_moved telling before arrived.at arrived.from sound.line)
+    moved_before (line_of before.line.ring) (line_of heard.ring) (line_of later.line.ring) (p ∷ [])
+    (spoken_moved telling before.line arrived.at arrived.from sound.line)
     (subst (λ (r : RingState). IsHistory (line_of heard.ring) (p ∷ []) (line_of r)) (sym same) walked_on)
 
 -- ---- what is sent

@@ -28,8 +28,8 @@ ghost use Rattle.ec_master.specs.declared.verdict.Verdict.{Verdict};
 ghost use Rattle.ecat_remote.specs.Network.{TakesAll};
 ghost use Rattle.ecat_remote.specs.Trips.{RemoteState};
 ghost use Rattle.ecat_serve.specs.Answering.{spared};
-ghost use Rattle.ecat_serve.specs.Rounds.{IsAnswered, IsDropped};
-ghost use Rattle.ecat_serve.specs.State.{ServedState, spoken};
+ghost use Rattle.ecat_serve.specs.Rounds.{IsAnswered, IsDropped, Serving};
+ghost use Rattle.ecat_serve.specs.State.{spoken};
 ghost use Rattle.ecat_serve.specs.declared.ends.Arrived.{Arrived};
 ghost use Rattle.ecat_serve.specs.declared.served.Round.{Round};
 ghost use Rattle.ecat_served.specs.Acting.{StaysSound, once_acted};
@@ -75,24 +75,22 @@ pub fn histories_go_on()
 /// leaves an end is what its walk gave, unless it was lost there (`sent`). One that is dropped is none of it,
 /// and the slaves act all the same (`dropped`).
 pub fn serving_makes_a_history<E: Ends>()
-    ensures answered { (arrived : Arrived) (packet : List ℕ) (before later : ServedState)
-        (ends ends_later : E) (result : Result Round PortFault)
-        (answered : IsAnswered E.sends arrived packet before ends result later ends_later)
-        → let heard = spoken before arrived.at arrived.from in
+    ensures answered { (arrived : Arrived) (packet : List ℕ) (before later : Serving E)
+        (result : Result Round PortFault) (answered : IsAnswered E.sends arrived packet before result later)
+        → let heard = spoken before.line arrived.at arrived.from in
         let p = packet_at heard arrived.at answered.frame answered.walks.links
-        in IsSound before (ring_walked heard p)
-        → IsHistory (line_of before.ring) (p ∷ []) (line_of later.ring) }
-    ensures sent { (arrived : Arrived) (packet : List ℕ) (before later : ServedState)
-        (ends ends_later : E) (result : Result Round PortFault)
-        (answered : IsAnswered E.sends arrived packet before ends result later ends_later)
-        → let heard = spoken before arrived.at arrived.from in
+        in IsSound before.line (ring_walked heard p)
+        → IsHistory (line_of before.line.ring) (p ∷ []) (line_of later.line.ring) }
+    ensures sent { (arrived : Arrived) (packet : List ℕ) (before later : Serving E)
+        (result : Result Round PortFault) (answered : IsAnswered E.sends arrived packet before result later)
+        → let heard = spoken before.line arrived.at arrived.from in
         let p = packet_at heard arrived.at answered.frame answered.walks.links
         in (lost : Bool)
         × (option_map (λ (x : List DatagramRecord × Port). x.0) (spared answered.walked answered.arrival)
         ≡ came_from lost (Some p)) }
-    ensures dropped { (packet : List ℕ) (before later : ServedState) (ends ends_later : E)
-        (result : Result Round PortFault) → IsDropped packet before ends result later ends_later
-        → IsSound before before.ring → IsHistory (line_of before.ring) [] (line_of later.ring) }
+    ensures dropped { (packet : List ℕ) (before later : Serving E) (result : Result Round PortFault)
+        → IsDropped packet before result later → IsSound before.line before.line.ring
+        → IsHistory (line_of before.line.ring) [] (line_of later.line.ring) }
 {
     acting_leaves();
     behind_leaves();

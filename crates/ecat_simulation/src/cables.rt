@@ -6,7 +6,7 @@ use ec_ring::{Arrivals, HeardPorts, Ring, Travel, Weather};
 use ec_wire::FrameBuf;
 use ecat_scene::Scene;
 use ecat_setup::{LineFailure, ring_of, slaves_of, weathers_of};
-use ecat_text::{Lines, print_arrived, print_break, print_copies};
+use ecat_text::{Lines, are_swapped, print_arrived, print_break, print_copies, print_swapped};
 use std::alloc::Global;
 use std::io::{self, Write};
 
@@ -37,7 +37,7 @@ fn print_probe<W: Write>(
 }
 
 /// Sends one frame over ports to a line somewhere else, whose slaves are those of the scene, and prints where
-/// the copies came back and where the cable is broken.
+/// the copies came back and where the cable is broken; or that the ports are swapped, where it is whole.
 pub fn where_far<P: HeardPorts, W: Write>(
     alloc: Global,
     ports: &mut P,
@@ -51,6 +51,9 @@ pub fn where_far<P: HeardPorts, W: Write>(
     };
     let mut lines = Lines::new(out);
     print_arrived(&sent, &came, &mut lines)?;
+    if are_swapped(line.len(), &sent, &came) {
+        return Ok(print_swapped(&mut lines)?);
+    }
     Ok(print_told(line.as_slice(), &sent, &came, &mut lines)?)
 }
 

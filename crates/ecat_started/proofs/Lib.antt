@@ -3,4 +3,8 @@ mod SlaveLemmas
 mod CertifiedLemmas
 mod SetUpLemmas
 mod StartedLemmas
+mod ThereLemmas
 mod PhaseLemmas
+mod MailboxLemmas
+mod CableLemmas
+mod SucceedLemmas

@@ -20,7 +20,6 @@ use Rattle.ec_run.specs.declared.phase.Phase.TheVariants.{SafeOp}
 use Rattle.ec_run.specs.declared.step.Step.TheVariants.{SyncManager}
 use Rattle.ec_run.specs.declared.wanted.Wanted.{Wanted}
 use Rattle.ec_over_ring.specs.Started.{HoldsFmmu, HoldsManager, HoldsSet}
-use Rattle.ecat_started.specs.Certified.{pdi_bytes}
 
 -- ---- FMMUs
 
@@ -114,9 +113,8 @@ unfolding sync_manager_at
 switch_is m i = get_or-run m (2048 + 8 * i) 8 6 (omega arith)
 
 manager_same : (t s : List ℕ) (i : ℕ) → AreBytes s → HoldsManager t i (Some (sync_manager_at s i))
-    → (sync_manager_at t i).pdi ≡ (sync_manager_at s i).pdi
     → without_status (sync_manager_at t i) ≡ without_status (sync_manager_at s i)
-manager_same t s i are holds pdi =
+manager_same t s i are holds =
     let m : SyncMan = sync_manager_at s i in
     let at : ℕ = 2048 + 8 * i in
     let a : get_or s (at + 0) 0 < 256 = are (at + 0) in
@@ -143,7 +141,7 @@ manager_same t s i are holds pdi =
       control = control j;
       status = 0;
       activate = active j;
-      pdi = pdi j;
+      pdi = 0;
     }
 
 -- ---- a controller
@@ -157,7 +155,6 @@ pub record StandsFor (wanted : Wanted) (t s : ControllerState) : Type 0 where
   pub requests : HoldsSet wanted t.memory (SyncManager 0)
   pub answers : HoldsSet wanted t.memory (SyncManager 1)
   pub records : AllByRecursion (HoldsSet wanted t.memory) (steps_of SafeOp)
-  pub pdi : pdi_bytes (sync_managers_of t.memory) ≡ pdi_bytes wanted.managers
 
 -- the registers of each sync manager
 unfoldable HoldManagers : List ℕ → List SyncMan → Type 0
@@ -168,18 +165,17 @@ HoldManagers t managers =
     × HoldsManager t 6 (slice_get managers 6) × HoldsManager t 7 (slice_get managers 7)
 
 managers_mapped : (t s : List ℕ) → AreBytes s → HoldManagers t (sync_managers_of s)
-    → pdi_bytes (sync_managers_of t) ≡ pdi_bytes (sync_managers_of s)
     → map without_status (sync_managers_of t) ≡ map without_status (sync_managers_of s)
 unfolding HoldManagers sync_managers_of
-managers_mapped t s are holds pdi =
-    let a = manager_same t s 0 are holds.0 (ap (λ (ns : List ℕ). get_or ns 0 0) pdi) in
-    let b = manager_same t s 1 are holds.1 (ap (λ (ns : List ℕ). get_or ns 1 0) pdi) in
-    let c = manager_same t s 2 are holds.2 (ap (λ (ns : List ℕ). get_or ns 2 0) pdi) in
-    let d = manager_same t s 3 are holds.3 (ap (λ (ns : List ℕ). get_or ns 3 0) pdi) in
-    let f = manager_same t s 4 are holds.4 (ap (λ (ns : List ℕ). get_or ns 4 0) pdi) in
-    let g = manager_same t s 5 are holds.5 (ap (λ (ns : List ℕ). get_or ns 5 0) pdi) in
-    let h = manager_same t s 6 are holds.6 (ap (λ (ns : List ℕ). get_or ns 6 0) pdi) in
-    let k = manager_same t s 7 are holds.7 (ap (λ (ns : List ℕ). get_or ns 7 0) pdi) in
+managers_mapped t s are holds =
+    let a = manager_same t s 0 are holds.0 in
+    let b = manager_same t s 1 are holds.1 in
+    let c = manager_same t s 2 are holds.2 in
+    let d = manager_same t s 3 are holds.3 in
+    let f = manager_same t s 4 are holds.4 in
+    let g = manager_same t s 5 are holds.5 in
+    let h = manager_same t s 6 are holds.6 in
+    let k = manager_same t s 7 are holds.7 in
     λ j. a j ∷ b j ∷ c j ∷ d j ∷ f j ∷ g j ∷ h j ∷ k j ∷ []
 
 -- and of each FMMU
@@ -239,8 +235,7 @@ mapped wanted t s controller read_off stands =
     ≡ map without_status (sync_managers_of s.memory) =
     managers_mapped t.memory s.memory read_off.memory
     (subst (λ (ms : List SyncMan). HoldManagers t.memory ms) stands.managers
-    (all_managers wanted t s stands))
-    (stands.pdi ∙ ap pdi_bytes stands.managers) in
+    (all_managers wanted t s stands)) in
     let fmmus : fmmus_of t.memory ≡ fmmus_of s.memory =
     fmmus_mapped t.memory s.memory controller.memory_size read_off.memory_size read_off.memory
     (subst (λ (fs : List Fmmu). HoldFmmus t.memory fs) stands.fmmus (all_fmmus wanted t s stands)) in

@@ -12,7 +12,7 @@ use Rattle.ec_ring.specs.declared.links.TheConstants.{MAX_SLAVES}
 use Rattle.ec_run.specs.declared.wanted.Wanted.{Wanted}
 use Rattle.ec_over_ring.specs.Fit.{HasMailboxes}
 use Rattle.ec_over_ring.specs.Started.{AreWanted, IsSetUp}
-use Rattle.ecat_started.specs.Certified.{HasPdiBytes, IsCertified, IsToldOf}
+use Rattle.ecat_started.specs.Certified.{IsCertified, IsToldOf}
 use Rattle.ecat_started.proofs.CertifiedLemmas.{HangsOnMapping, picked_accepted, picked_expected}
 use Rattle.ecat_started.proofs.SlaveLemmas.{ArePicked, all_picked}
 
@@ -28,10 +28,10 @@ pub set_up_certified : HangsOnMapping → (slaves : List SlaveState) (line : Lis
     (work : List ItemRecord) (expected : List ℕ) (r : RingState) → IsToldOf slaves line work expected
     → AllByRecursion IsItem work → AreWanted line → length r.slaves ≡ length line
     → length r.slaves ≤ MAX_SLAVES → AllByRecursion (IsSetUp r) line → AllByRecursion (HasMailboxes r) line
-    → AllByRecursion (HasPdiBytes r) line → IsCertified r work expected
-set_up_certified laws slaves line work expected r told each wanted size limit set boxes pdi =
+    → IsCertified r work expected
+set_up_certified laws slaves line work expected r told each wanted size limit set boxes =
     let picks : ArePicked (mapping (controllers slaves)) r.slaves =
-    all_picked line slaves r told.told told.accepted.are wanted size set boxes pdi in
+    all_picked line slaves r told.told told.accepted.are wanted size set boxes in
     record {
       limit = limit;
       accepted =

@@ -9,7 +9,6 @@ use Rattle.std.proofs.lemmas.List.Sorted.{IsPermutation-cons, IsPermutation-midd
 use Rattle.std.proofs.lemmas.List.Sorted.{IsPermutation-trans}
 use Rattle.std.proofs.lemmas.List.{length-map}
 use Rattle.ec_regs.specs.declared.registers.TheConstants.{STATION_ADDRESS}
-use Rattle.ec_areas.specs.Records.{sync_managers_of}
 use Rattle.ec_esc.specs.State.{IsController, word_at}
 use Rattle.ec_app.specs.State.{SlaveState}
 use Rattle.ec_line.specs.Mapping.{Mapping, mapping, mapping_of}
@@ -21,7 +20,7 @@ use Rattle.ec_run.specs.declared.wanted.Wanted.{Wanted}
 use Rattle.ec_over_ring.specs.Fit.{HasMailboxes}
 use Rattle.ec_over_ring.specs.Started.{AreWanted, HoldsSet, IsSetUp}
 use Rattle.ec_over_ring.specs.States.{HasStation, IsElsewhere}
-use Rattle.ecat_started.specs.Certified.{HasPdiBytes, pdi_bytes, records_of}
+use Rattle.ecat_started.specs.Certified.{records_of}
 use Rattle.ecat_started.proofs.RecordLemmas.{mapped}
 
 -- ---- one slave of a station
@@ -210,15 +209,13 @@ apart_all (w ∷ ws) (s ∷ ss) told wanted = (
 
 -- the slave of the ring that is set up as one is wanted is mapped as the one that this was read off
 one_mapped : (wanted : Wanted) (s : SlaveState) (r : RingState) → records_of wanted ≡ wanted_by s
-    → IsController s.controller → IsSetUp r wanted → HasMailboxes r wanted → HasPdiBytes r wanted
+    → IsController s.controller → IsSetUp r wanted → HasMailboxes r wanted
     → IsMapped (mapping_of s.controller) r.slaves
-one_mapped wanted s r is controller set boxes pdi =
+one_mapped wanted s r is controller set boxes =
     let t : SlaveState = set.slave in
     let box : boxes.slave ≡ t =
-    same_slave wanted.station r boxes.before boxes.behind set.before set.behind boxes.slave t boxes.has set.has
-    in
-    let byte : pdi.slave ≡ t =
-    same_slave wanted.station r pdi.before pdi.behind set.before set.behind pdi.slave t pdi.has set.has in
+    same_slave wanted.station r boxes.before boxes.behind set.before set.behind boxes.slave t boxes.has
+    set.has in
     let all : AllByRecursion IsController (controllers (set.before ++ t ∷ set.behind)) =
     subst (λ (ss : List SlaveState). AllByRecursion IsController (controllers ss)) set.has.slaves
     set.has.controllers in
@@ -234,10 +231,6 @@ one_mapped wanted s r is controller set boxes pdi =
       answers =
           subst (λ (x : SlaveState). HoldsSet wanted x.controller.memory (SyncManager 1)) box boxes.answers;
       records = set.records;
-      pdi =
-          subst
-          (λ (x : SlaveState). pdi_bytes (sync_managers_of x.controller.memory) ≡ pdi_bytes wanted.managers)
-          byte pdi.bytes;
     }) in
     subst (λ (ss : List SlaveState). IsMapped (mapping_of s.controller) ss) (sym set.has.slaves)
     (mapped_there (mapping_of s.controller) set.before set.behind t same)
@@ -245,26 +238,24 @@ one_mapped wanted s r is controller set boxes pdi =
 all_mapped : (line : List Wanted) (slaves : List SlaveState) (r : RingState)
     → map records_of line ≡ map wanted_by slaves → AllByRecursion IsController (controllers slaves)
     → AllByRecursion (IsSetUp r) line → AllByRecursion (HasMailboxes r) line
-    → AllByRecursion (HasPdiBytes r) line
     → AllByRecursion (λ (m : Mapping). IsMapped m r.slaves) (mapping (controllers slaves))
-all_mapped [] [] r told are set boxes pdi = tt
-all_mapped [] (s ∷ ss) r told are set boxes pdi = absurd (nobody_there s ss told)
-all_mapped (w ∷ ws) [] r told are set boxes pdi = absurd (nobody_told w ws told)
-all_mapped (w ∷ ws) (s ∷ ss) r told are set boxes pdi = (
-  one_mapped w s r (told_first w ws s ss told) are.0 set.0 boxes.0 pdi.0,
-  all_mapped ws ss r (told_rest w ws s ss told) are.1 set.1 boxes.1 pdi.1,
+all_mapped [] [] r told are set boxes = tt
+all_mapped [] (s ∷ ss) r told are set boxes = absurd (nobody_there s ss told)
+all_mapped (w ∷ ws) [] r told are set boxes = absurd (nobody_told w ws told)
+all_mapped (w ∷ ws) (s ∷ ss) r told are set boxes = (
+  one_mapped w s r (told_first w ws s ss told) are.0 set.0 boxes.0,
+  all_mapped ws ss r (told_rest w ws s ss told) are.1 set.1 boxes.1,
 )
 
 -- so the ring's slaves are in some order mapped as those that the line was read off
 pub all_picked : (line : List Wanted) (slaves : List SlaveState) (r : RingState)
     → map records_of line ≡ map wanted_by slaves → AllByRecursion IsController (controllers slaves)
     → AreWanted line → length r.slaves ≡ length line → AllByRecursion (IsSetUp r) line
-    → AllByRecursion (HasMailboxes r) line → AllByRecursion (HasPdiBytes r) line
-    → ArePicked (mapping (controllers slaves)) r.slaves
-all_picked line slaves r told are wanted size set boxes pdi =
+    → AllByRecursion (HasMailboxes r) line → ArePicked (mapping (controllers slaves)) r.slaves
+all_picked line slaves r told are wanted size set boxes =
     picks (mapping (controllers slaves)) r.slaves
     (size ∙ sym (length-map line records_of) ∙ ap (λ (ws : List Wanted). length ws) told
     ∙ length-map slaves wanted_by
     ∙ sym (length-map slaves (λ (s : SlaveState). s.controller))
     ∙ sym (length-map (controllers slaves) mapping_of))
-    (apart_all line slaves told wanted) (all_mapped line slaves r told are set boxes pdi)
+    (apart_all line slaves told wanted) (all_mapped line slaves r told are set boxes)

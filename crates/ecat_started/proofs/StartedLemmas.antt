@@ -25,7 +25,7 @@ use Rattle.ec_over_ring.specs.Started.{AreWanted, IsSetUp}
 use Rattle.ecat_master.specs.Identities.{WantedIdentity}
 use Rattle.ecat_master.specs.Start.{IsStarted, start_trips}
 use Rattle.ecat_master.proofs.Laws.{started_within}
-use Rattle.ecat_started.specs.Certified.{HasPdiBytes, IsCertified, IsToldOf}
+use Rattle.ecat_started.specs.Certified.{IsCertified, IsToldOf}
 
 -- a trip leaves as many slaves
 trip_size : (before later : RingState) (sent : List DatagramRecord) (came : Result Came PortFault)
@@ -49,7 +49,8 @@ within_size most before later within = travels_size within.number before later w
 
 -- ---- what was started
 
--- a line that was started is set up, and its ring has as many slaves, by the laws of a running master
+-- a line that was started is set up, and its ring has as many slaves, by the laws of a running master; and
+-- its mailboxes stand, by the law of this crate
 pub record StartsRing : Type 0 where
   pub set_up : (line : List Wanted) (identities : List WantedIdentity) (cable : Located)
       (before later : WatchedState RingState) → ReachesAll before.ports → AreWanted line
@@ -57,6 +58,10 @@ pub record StartsRing : Type 0 where
   pub slaves : (line : List Wanted) (identities : List WantedIdentity) (cable : Located)
       (before later : WatchedState RingState) → ReachesAll before.ports
       → IsStarted HeardRing before line identities cable later → length before.ports.slaves ≡ length line
+  pub mailboxes : (line : List Wanted) (identities : List WantedIdentity) (cable : Located)
+      (before later : WatchedState RingState) → ReachesAll before.ports → AreWanted line
+      → IsStarted HeardRing before line identities cable later
+      → AllByRecursion (HasMailboxes later.ports) line
 
 -- a ring whose slaves are set up meets the certificate, by the law of this crate
 abbrev pub SetUpMeets : Type 0
@@ -64,22 +69,21 @@ SetUpMeets =
     (slaves : List SlaveState) (line : List Wanted) (work : List ItemRecord) (expected : List ℕ)
     (r : RingState) → IsToldOf slaves line work expected → AllByRecursion IsItem work → AreWanted line
     → length r.slaves ≡ length line → length r.slaves ≤ MAX_SLAVES → AllByRecursion (IsSetUp r) line
-    → AllByRecursion (HasMailboxes r) line → AllByRecursion (HasPdiBytes r) line
+    → AllByRecursion (HasMailboxes r) line
     → IsCertified r work expected
 
 pub started_certified : StartsRing → SetUpMeets → (slaves : List SlaveState) (line : List Wanted)
     (work : List ItemRecord) (expected : List ℕ) (identities : List WantedIdentity) (cable : Located)
     (before later : WatchedState RingState) → IsToldOf slaves line work expected
     → AllByRecursion IsItem work → ReachesAll before.ports → AreWanted line
-    → IsStarted HeardRing before line identities cable later
-    → AllByRecursion (HasMailboxes later.ports) line → AllByRecursion (HasPdiBytes later.ports) line
-    → IsCertified later.ports work expected
+    → IsStarted HeardRing before line identities cable later → IsCertified later.ports work expected
 started_certified starts meets slaves line work expected identities cable before later told each ring wanted
-    started boxes pdi =
+    started =
     let size : length later.ports.slaves ≡ length before.ports.slaves =
     within_size (start_trips (length line) identities) before.ports later.ports
     (started_within HeardRing before later line identities cable started) in
     meets slaves line work expected later.ports told each wanted
     (size ∙ starts.slaves line identities cable before later ring started)
     (subst (λ (n : ℕ). n ≤ MAX_SLAVES) (sym size) ring.slaves.limit)
-    (starts.set_up line identities cable before later ring wanted started) boxes pdi
+    (starts.set_up line identities cable before later ring wanted started)
+    (starts.mailboxes line identities cable before later ring wanted started)

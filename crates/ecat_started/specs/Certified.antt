@@ -1,24 +1,16 @@
 -- A line that was started over a ring meets the certificate of its work (IEC 61158-4-12, sync manager and
 -- FMMU entities; IEC 61158-6-12, AL management).
 use Rattle.std.specs.Prelude.{◌≡◌, ◌≤◌, ℕ, None, List, length, map, replicate}
-use Rattle.ec_regs.specs.declared.sync_man.SyncMan.{SyncMan}
-use Rattle.ec_areas.specs.Records.{sync_managers_of}
 use Rattle.ec_app.specs.State.{SlaveState}
 use Rattle.ec_check.specs.Line.{controllers}
-use Rattle.ec_diag.specs.declared.located.Located.{Located}
 use Rattle.ec_map.specs.Item.{ItemRecord}
 use Rattle.ec_map.specs.Share.{expected_of}
 use Rattle.ec_ring.specs.Ring.{RingState, line_of}
 use Rattle.ec_ring.specs.declared.links.TheConstants.{MAX_SLAVES}
 use Rattle.ec_master.specs.Unordered.{IsAccepted}
 use Rattle.ec_run.specs.Wanted.{wanted_by}
-use Rattle.ec_run.specs.Watched.{WatchedState}
 use Rattle.ec_run.specs.declared.wanted.TheConstants.{MAX_STARTUP}
 use Rattle.ec_run.specs.declared.wanted.Wanted.{Wanted}
-use Rattle.ec_over_ring.specs.Heard.{HeardRing}
-use Rattle.ec_over_ring.specs.States.{HasStation}
-use Rattle.ecat_master.specs.Identities.{WantedIdentity}
-use Rattle.ecat_master.specs.Start.{IsStarted}
 
 -- ---- what a line is started from
 
@@ -33,28 +25,6 @@ pub record IsToldOf (slaves : List SlaveState) (line : List Wanted) (work : List
   pub accepted : IsAccepted slaves work
   pub expects : expected ≡ map (expected_of (controllers slaves)) work
   pub told : map records_of line ≡ map wanted_by slaves
-
--- ---- what no start sets
-
--- the PDI bytes of sync managers, which a slave alone writes
-abbrev pub pdi_bytes : List SyncMan → List ℕ
-pdi_bytes managers = map (λ (s : SyncMan). s.pdi) managers
-
--- the slave of a ring that alone has a wanted station address has the wanted PDI bytes
-pub record HasPdiBytes (r : RingState) (wanted : Wanted) : Type 0 where
-  pub before : List SlaveState
-  pub slave : SlaveState
-  pub behind : List SlaveState
-  pub has : HasStation wanted.station r before slave behind
-  pub bytes : pdi_bytes (sync_managers_of slave.controller.memory) ≡ pdi_bytes wanted.managers
-
--- ---- a start on the way
-
--- the ring once each slave has been given its station address, before the phases
-abbrev pub addressed_ring : {line : List Wanted} {identities : List WantedIdentity} {cable : Located}
-    {before later : WatchedState RingState} → IsStarted HeardRing before line identities cable later
-    → RingState
-addressed_ring started = started.below.below.given.ports
 
 -- ---- what a ring is then
 

@@ -13,21 +13,23 @@
 //!   counters is what its slaves add; whatever stood in it before, and in whatever order its slaves stand.
 //! - [`set_up_line`]: so is each ring of which that is known which a start gives: as many slaves as the line,
 //!   one for each station address, and their records as they are wanted.
-//! - [`mailboxes_stand`]: so do sync managers 0 and 1 behind a start whose slaves fit what is wanted of them.
+//! - [`mailboxes_stand`]: sync managers 0 and 1 of each slave stand as they were wanted behind such a start,
+//!   as its other records do ([`ecat_master::started_line`]).
 //! - [`certified_cycle`]: what a cycle over a network comes to is of such a ring.
+//! - [`never_fails`]: a start over such a ring has no cause of a fault where its slaves fit what is wanted of
+//!   them. Its parts are laws of their own: [`counted_right`], [`cable_told`] and [`stations_given`].
 //!
-//! Two things have to be known of that ring besides, since no law of a start says them: sync managers 0 and 1
-//! stand as they were wanted, and so do the PDI bytes of the sync managers, which a slave alone writes.
-//!
-//! The definitions are in specs/: `Certified`, a line that is told what stands in accepted slaves, what has
-//! to be known besides, and what a ring is then.
+//! The definitions are in specs/: `Certified`, a line that is told what stands in accepted slaves, and what a
+//! ring is then; `Startable`, a ring of whose slaves a line can be started.
 
 mod cycle;
-mod fitting;
+mod mailboxes;
 mod set_up;
 mod started;
+mod succeeds;
 
 pub use cycle::certified_cycle;
-pub use fitting::mailboxes_stand;
+pub use mailboxes::mailboxes_stand;
 pub use set_up::set_up_line;
 pub use started::certified_line;
+pub use succeeds::{cable_told, counted_right, never_fails, stations_given};

@@ -9,7 +9,6 @@ ghost use Rattle.ec_ring.specs.Ring.{RingState};
 ghost use Rattle.ec_run.specs.Watched.{WatchedState};
 ghost use Rattle.ec_run.specs.declared.wanted.Wanted.{Wanted};
 ghost use Rattle.ec_over_ring.specs.Brought.{ReachesAll};
-ghost use Rattle.ec_over_ring.specs.Fit.{HasMailboxes};
 ghost use Rattle.ec_over_ring.specs.Heard.{HeardRing};
 ghost use Rattle.ec_over_ring.specs.Started.{AreWanted};
 ghost use Rattle.ecat_master.specs.Course.{sides_of};
@@ -17,9 +16,9 @@ ghost use Rattle.ecat_master.specs.GoodRun.{IsGoodRun};
 ghost use Rattle.ecat_master.specs.Identities.{WantedIdentity};
 ghost use Rattle.ecat_master.specs.Start.{IsStarted};
 ghost use Rattle.ecat_master.specs.declared.run.LinePlan.{LinePlan};
-ghost use Rattle.ecat_started.specs.Certified.{HasPdiBytes, IsCertified, IsToldOf};
+ghost use Rattle.ecat_started.specs.Certified.{IsCertified, IsToldOf};
 
-use crate::set_up_line;
+use crate::{mailboxes_stand, set_up_line};
 use ecat_master::{Pace, Task, found_line, started_line};
 
 /// The start meets the certificate. A line is told what stands in slaves that the mapping checker accepts
@@ -30,25 +29,22 @@ use ecat_master::{Pace, Task, found_line, started_line};
 /// exit status 0 ([`ecat_master::master`]), before its first cycle, whichever task it serves and whatever its
 /// pace (`good`).
 ///
-/// It has to be known of that ring that sync managers 0 and 1 stand as they were wanted, and that so do the
-/// PDI bytes, which no start sets; that its items are such is known of each work ([`ec_master::Work`]).
+/// Nothing has to be known of that ring; that its items are such is known of each work ([`ec_master::Work`]).
 pub fn certified_line<D: Task, T: Pace>()
     ensures started { (slaves : List SlaveState) (line : List Wanted) (work : List ItemRecord)
         (expected : List ℕ) (identities : List WantedIdentity) (cable : Located)
         (before later : WatchedState RingState) → IsToldOf slaves line work expected
         → AllByRecursion IsItem work → ReachesAll before.ports → AreWanted line
         → IsStarted HeardRing before line identities cable later
-        → AllByRecursion (HasMailboxes later.ports) line → AllByRecursion (HasPdiBytes later.ports) line
         → IsCertified later.ports work expected }
     ensures good { (slaves : List SlaveState) (work : List ItemRecord) (planned : LinePlan) (r : RingState)
         → IsToldOf slaves planned.line.now work planned.expected.now → AllByRecursion IsItem work
         → ReachesAll r → AreWanted planned.line.now
         → (run : IsGoodRun (sides_of HeardRing D.listens D.held T.over) r work planned)
-        → AllByRecursion (HasMailboxes run.made.begun.ports) planned.line.now
-        → AllByRecursion (HasPdiBytes run.made.begun.ports) planned.line.now
         → IsCertified run.made.begun.ports work planned.expected.now }
 {
     set_up_line();
+    mailboxes_stand();
     found_line();
     started_line::<D, T>();
 }

@@ -18,7 +18,7 @@ use Rattle.ecat_text.specs.declared.cable.End.{End}
 use Rattle.ecat_text.specs.declared.cable.End.TheVariants.{AtPort, AtSlave}
 use Rattle.ecat_text.specs.declared.cable.BreakText.{BreakText}
 use Rattle.ecat_text.specs.declared.cable.BreakText.TheVariants.{Whole, One, Two, First, Last, Unknown}
-use Rattle.ecat_text.specs.declared.cable.BreakText.TheVariants.{Changed}
+use Rattle.ecat_text.specs.declared.cable.BreakText.TheVariants.{Changed, Swapped}
 use Rattle.ecat_text.specs.declared.cable.Missing.{Missing}
 use Rattle.ecat_text.specs.declared.cable.Missing.TheVariants.{Nobody, CutOff as IsCutOff, NotTold}
 use Rattle.ecat_text.specs.declared.cable.Places.{Places}
@@ -80,6 +80,7 @@ break_words (Last link) = link_words link (codes " is the last down, before it u
 break_words Unknown = codes "no copy came back: nothing known"
 break_words Changed =
     codes "no one set of links gives these copies: the links changed between them"
+break_words Swapped = codes "ports A and B are swapped"
 
 -- the end of a link where the slave at a place is, or a port where the line has no such slave
 abbrev pub end_at : {S : Type 0} → (S → ℕ) → Port → List S → ℕ → End

@@ -178,6 +178,7 @@ enum BreakText {
     Last(usize),
     Unknown,
     Changed,
+    Swapped,
 }
 
 impl fmt::Display for BreakText {
@@ -203,6 +204,7 @@ impl fmt::Display for BreakText {
                 f,
                 "no one set of links gives these copies: the links changed between them"
             ),
+            BreakText::Swapped => write!(f, "ports A and B are swapped"),
         }
     }
 }
@@ -289,6 +291,39 @@ pub fn print_arrived<W: Write>(
         heard: heard(sent, &came.b),
     })?;
     lines.end()
+}
+
+/// Puts that the ports of a master are swapped.
+pub fn put_swapped<W: Write>(lines: &mut Lines<'_, W>) -> io::Result<()> {
+    lines.text(BreakText::Swapped)
+}
+
+/// Prints a line that says that the ports of a master are swapped, and answers the status.
+pub fn print_swapped<W: Write>(lines: &mut Lines<'_, W>) -> io::Result<u8> {
+    put_swapped(lines)?;
+    lines.end()?;
+    Ok(REFUSED)
+}
+
+/// Are these the copies of a frame over a whole ring of so many slaves whose ports are swapped? What arrived
+/// at port A was counted by all slaves, and what arrived at port B by none.
+pub fn are_swapped(slaves: usize, sent: &FrameBuf, came: &Arrivals) -> bool {
+    match (heard(sent, &came.a), heard(sent, &came.b)) {
+        (Some(one), Some(other)) => {
+            slaves != 0 && (is_swapped(slaves, one, other) || is_swapped(slaves, other, one))
+        }
+        _ => false,
+    }
+}
+
+/// Did one copy arrive at port A that so many slaves counted, and another one at port B that none did?
+fn is_swapped(slaves: usize, at_a: Heard, at_b: Heard) -> bool {
+    has_come(at_a, Port::A, slaves) && has_come(at_b, Port::B, 0)
+}
+
+/// Did a copy arrive at this port that so many slaves counted, and turn round at none of them?
+fn has_come(copy: Heard, at: Port, slaves: usize) -> bool {
+    copy.at == at && !copy.turned && usize::from(copy.count) == slaves
 }
 
 /// What is heard of a copy of a frame, unless it was lost.

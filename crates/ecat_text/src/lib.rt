@@ -24,8 +24,8 @@ mod system;
 
 pub use areas::print_areas;
 pub use cable::{
-    End, Missing, Places, PortText, Stationed, missing_of, print_arrived, print_break,
-    print_copies, put_break,
+    End, Missing, Places, PortText, Stationed, are_swapped, missing_of, print_arrived, print_break,
+    print_copies, print_swapped, put_break, put_swapped,
 };
 pub use cycle::{VerdictText, print_item, print_items, print_verdict, status_of};
 pub use judgement::{CountText, print_counts, print_losses};

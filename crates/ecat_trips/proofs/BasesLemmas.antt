@@ -13,7 +13,7 @@ use Rattle.std.proofs.lemmas.List.Folds.{list_any-append, list_any_at}
 use Rattle.ecat_trips.specs.declared.packet.Source.{Source}
 use Rattle.ecat_trips.specs.declared.bases.Base.{Base}
 use Rattle.ecat_trips.specs.declared.bases.TheConstants.{MAX_BASES}
-use Rattle.ecat_trips.specs.Bases.{IsTold, is_source, occurs, is_of, noted}
+use Rattle.ecat_trips.specs.Bases.{AreBasesOf, is_source, occurs, is_of, noted}
 
 -- ---- going through a list
 
@@ -120,12 +120,12 @@ splits base marked all s P there before own = by (eqb base s.base) refl
     by true e = own (grind (arith, nat_tests, e))
     by false e = before (sym (occurs-other base marked all s e) ∙ there)
 
-module _ (all : List Source) (s : Source) (bases : List Base) (h : IsTold all bases) where
+module _ (all : List Source) (s : Source) (bases : List Base) (h : AreBasesOf all bases) where
   abbrev later : List Source
   later = all ++ s ∷ []
 
   -- of a base that is told
-  pub told_again : list_any (is_of s.base) bases ≡ true → IsTold later (map (noted s) bases)
+  pub told_again : list_any (is_of s.base) bases ≡ true → AreBasesOf later (map (noted s) bases)
   told_again has = record {
     plain = All-map (λ (e : Base). e.plain ≡ occurs e.base false later) (noted s) bases
         (λ k d inside. noted_plain all s (get_or bases k d) (h.plain k d inside));
@@ -154,7 +154,7 @@ module _ (all : List Source) (s : Source) (bases : List Base) (h : IsTold all ba
       (occurs-other (get_or bases k d).base true all s (none_passes (is_of s.base) bases none k d inside))
 
   -- of a base that is not told, and there is no room for it
-  pub told_full : list_any (is_of s.base) bases ≡ false → MAX_BASES ≤ length bases → IsTold later bases
+  pub told_full : list_any (is_of s.base) bases ≡ false → MAX_BASES ≤ length bases → AreBasesOf later bases
   told_full none full = record {
     plain = others_plain none;
     marked = others_marked none;
@@ -177,7 +177,7 @@ module _ (all : List Source) (s : Source) (bases : List Base) (h : IsTold all ba
   own n = grind (arith, nat_tests)
 
   pub told_new : list_any (is_of s.base) bases ≡ false → length bases < MAX_BASES
-      → IsTold later (bases ++ entry ∷ [])
+      → AreBasesOf later (bases ++ entry ∷ [])
   told_new none less = record {
     plain = All-push (λ (e : Base). e.plain ≡ occurs e.base false later) bases entry (others_plain none)
         (sym (occurs-own s.base false all s (own s.base)
@@ -198,7 +198,7 @@ module _ (all : List Source) (s : Source) (bases : List Base) (h : IsTold all ba
       or-true false = refl
 
 -- of no packet nothing is told
-pub told_nothing : IsTold [] []
+pub told_nothing : AreBasesOf [] []
 unfolding occurs
 told_nothing = record {
   plain = All-nil (λ (e : Base). e.plain ≡ occurs e.base false []);

@@ -26,7 +26,7 @@ noted s e =
     else e
 
 -- what is told of sources: of up to 64 bases, whether they occur without the mark and with it
-pub record IsTold (all : List Source) (bases : List Base) : Type 0 where
+pub record AreBasesOf (all : List Source) (bases : List Base) : Type 0 where
   pub plain : All (λ (e : Base). e.plain ≡ occurs e.base false all) bases
   pub marked : All (λ (e : Base). e.marked ≡ occurs e.base true all) bases
   pub each : length bases < MAX_BASES → (base : ℕ) (marked : Bool) → occurs base marked all ≡ true

@@ -3,7 +3,7 @@
 ghost use Rattle.std.specs.Prelude.{◌≡◌, ◌<◌, ◌++◌, ◌∷◌, [], List, length, map, count_by};
 ghost use Rattle.std.specs.List.{list_any};
 ghost use Rattle.ecat_trips.specs.declared.packet.Source.{Source};
-ghost use Rattle.ecat_trips.specs.Bases.{IsTold, is_both, is_of, is_plain, noted, two_ports};
+ghost use Rattle.ecat_trips.specs.Bases.{AreBasesOf, is_both, is_of, is_plain, noted, two_ports};
 
 use crate::packet::Source;
 use arrayvec::ArrayVec;
@@ -58,7 +58,7 @@ pub struct Bases {
 impl Bases {
     /// Of no packet.
     pub fn new() -> Bases
-        ensures { IsTold [] result.told.items }
+        ensures { AreBasesOf [] result.told.items }
     {
         Bases {
             told: ArrayVec::new(),
@@ -67,8 +67,8 @@ impl Bases {
 
     /// Takes the source of one packet more.
     pub fn take(&mut self, source: Source)
-        ensures { (all : List Source) → IsTold all self.old.told.items
-            → IsTold (all ++ source ∷ []) self.new.told.items }
+        ensures { (all : List Source) → AreBasesOf all self.old.told.items
+            → AreBasesOf (all ++ source ∷ []) self.new.told.items }
     {
         if self.tells(source.base) {
             note_each(self.told.as_mut_slice(), source);

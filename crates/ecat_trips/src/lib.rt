@@ -37,7 +37,7 @@
 //!
 //! What is promised:
 //!
-//! - [`Bases`] tells of up to 64 addresses whether they occur with the mark and without (`IsTold`), and
+//! - [`Bases`] tells of up to 64 addresses whether they occur with the mark and without (`AreBasesOf`), and
 //!   whether the master has two ports;
 //! - [`Marks::told`]: the way of a packet is that of the first rule that fits, of five (`specs/Ways.antt`);
 //! - [`Trips::take`] does what the definition of a step says (`specs/Steps.antt`): of which trip a packet is,

@@ -7,7 +7,7 @@ use crate::digest::Digest;
 use crate::line::Line;
 use ec_master::{PortFault, Work};
 use ec_ring::{Arrivals, HeardPorts, Ring, Travel, Weather};
-use ec_run::{Outputs, Wanted, wanted_of};
+use ec_run::{MOST_READS, Outputs, Wanted, wanted_of};
 use ec_wire::{Command, FrameBuf};
 use ecat_master::{LinePlan, NoTask, Pace, Plan, Writers, master};
 use ecat_scene::Scene;
@@ -147,6 +147,7 @@ fn run(ports: Machine, course: Course, cycles: u32) -> Option<u64> {
         outputs: Outputs::Count,
         stop: false,
         recover: true,
+        tries: MOST_READS,
         progress: false,
         log: true,
         log_images: false,

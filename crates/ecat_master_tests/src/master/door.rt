@@ -4,7 +4,7 @@ use super::line::{EXPECTED, ring, wanted, work};
 use super::stage::{Count, Event, ROOM, Stage, written};
 use crate::asserts::assert_found;
 use ec_regs::AlState;
-use ec_run::Outputs;
+use ec_run::{MOST_READS, Outputs};
 use ecat_master::{LinePlan, NoTask, Plan, Writers, master};
 use std::io::Cursor;
 
@@ -26,6 +26,7 @@ fn a_line_is_brought_up_and_a_link_breaks_while_it_cycles(rt: HostRuntime) {
         outputs: Outputs::Count,
         stop: false,
         recover: true,
+        tries: MOST_READS,
         progress: true,
         log: true,
         log_images: true,

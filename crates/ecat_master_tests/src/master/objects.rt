@@ -62,7 +62,9 @@ fn startup_objects_are_written_in_their_order(rt: HostRuntime) {
     assert_found(&rt, row, shown(ports.ring(), 1), in_op);
 }
 
-/// Objects that cannot be written, and those of slaves that leave Op.
+/// Objects that cannot be written, and those of slaves that leave Op. An object takes six turns there: a look
+/// at the mailboxes, the request, which has the counter of the mail before and is dropped, another look, the
+/// request with the next counter, a look, and the answer.
 static ROWS: [Row; 2] = [
     Row {
         name: "an abort is told with its object and its name",
@@ -91,11 +93,11 @@ static ROWS: [Row; 2] = [
         status: 0,
         text: "slaves 3\nring whole\nstations given\nall in Init\nall in Pre-Op\n\
             startup objects written\nall in Safe-Op\nall in Op\n\
-            cycle 3: not all in Op\ncycle 26: all in Op again after 23 cycles\n\
-            cycle 26: slave 0 (0x1001) was in Init, brought to Op\ncycle 80: not all in Op\n\
-            cycle 99: all in Op again after 19 cycles\n\
-            cycle 99: slave 1 (0x1002) was in Pre-Op, brought to Op\nleft in Init\n\
-            cycles 160 good 160 short 0 over 0 fault 0 not-in-op 42\n\
+            cycle 3: not all in Op\ncycle 63: all in Op again after 60 cycles\n\
+            cycle 63: slave 0 (0x1001) was in Init, brought to Op\ncycle 80: not all in Op\n\
+            cycle 125: all in Op again after 45 cycles\n\
+            cycle 125: slave 1 (0x1002) was in Pre-Op, brought to Op\nleft in Init\n\
+            cycles 160 good 160 short 0 over 0 fault 0 not-in-op 105\n\
             cycle time least 0 mean 0 greatest 0 microseconds, 50% within 0, 90% 0, 99% 0, 99.9% 0\n\
             item 0 LRW data a0a1a2 wkc 9 of 9\n",
     },

@@ -8,7 +8,7 @@ use arrayvec::ArrayVec;
 use ec_master::PortFault;
 use ec_regs::{AlState, AlStatus};
 use ec_ring::{Arrival, Arrivals, HeardPorts, LateCopies, Port, PortHealth, Ring, Travel, Weather};
-use ec_run::{Outputs, StartupObject, Wanted};
+use ec_run::{MOST_READS, Outputs, StartupObject, Wanted};
 use ec_wire::{Command, Datagram, FrameBuf, address_of};
 use ecat_master::{LinePlan, NoTask, Pace, Plan, Writers, master};
 use std::io::{Cursor, Write};
@@ -21,6 +21,10 @@ pub enum Event {
     Link(usize, bool),
     /// The copy from port A is lost, of this frame alone.
     LoseA,
+    /// Both copies are lost, of this frame alone.
+    LoseBoth,
+    /// The cables at both ports are swapped, for these frames from now on.
+    Swap(Swapped),
     /// The slave at this place falls into this state with an error.
     Error(usize, AlState),
     /// The slave at this place falls into this state without one.
@@ -37,10 +41,24 @@ pub enum Event {
     Fails(Port, Option<i32>),
 }
 
+/// Which frames go out over cables that are swapped at the ports.
+#[derive(Clone, Copy, PartialEq, Eq)]
+pub enum Swapped {
+    /// None.
+    Nothing,
+    /// Those of looks at the cable alone.
+    Looks,
+    /// All of them.
+    All,
+    /// All of them, and each copy is told by the port where it came, as ports over a network do.
+    AllByPort,
+}
+
 /// What befalls a frame.
 #[derive(Clone, Copy)]
 struct Fate {
     loses_a: bool,
+    loses_b: bool,
     fails: bool,
     is_strange: bool,
 }
@@ -48,6 +66,7 @@ struct Fate {
 /// Nothing befalls it.
 const CALM: Fate = Fate {
     loses_a: false,
+    loses_b: false,
     fails: false,
     is_strange: false,
 };
@@ -62,6 +81,7 @@ pub struct Stage<'a> {
     trips: u64,
     health_a: PortHealth,
     health_b: PortHealth,
+    swapped: Swapped,
 }
 
 impl<'a> Stage<'a> {
@@ -75,7 +95,15 @@ impl<'a> Stage<'a> {
             trips: 0,
             health_a: PortHealth::sound(),
             health_b: PortHealth::sound(),
+            swapped: Swapped::Nothing,
         }
+    }
+
+    /// With cables that are swapped for these frames from the start on.
+    pub fn with_swapped(self, swapped: Swapped) -> Stage<'a> {
+        let mut stage = self;
+        stage.swapped = swapped;
+        stage
     }
 
     /// The ring.
@@ -88,6 +116,11 @@ impl<'a> Stage<'a> {
         match event {
             Event::Link(number, up) => self.sets_link(number, up),
             Event::LoseA => fate.loses_a = true,
+            Event::LoseBoth => {
+                fate.loses_a = true;
+                fate.loses_b = true;
+            }
+            Event::Swap(swapped) => self.swapped = swapped,
             Event::Error(place, state) => self.falls(place, state, true),
             Event::Falls(place, state) => self.falls(place, state, false),
             Event::Forgets(place) => self.forgets(place),
@@ -189,6 +222,40 @@ impl<'a> Stage<'a> {
     }
 }
 
+impl<'a> Stage<'a> {
+    /// Does a frame go out over swapped cables? A look at the cable reads one byte of AL status of all
+    /// slaves.
+    fn is_swapped_for(&self, sent: &FrameBuf) -> bool {
+        match self.swapped {
+            Swapped::Nothing => false,
+            Swapped::All | Swapped::AllByPort => true,
+            Swapped::Looks => {
+                sent.count() > 0 && sent.command(0) == Command::Brd && sent.data(0).len() == 1
+            }
+        }
+    }
+}
+
+/// What comes over swapped cables of a whole ring: each copy is of the other port, and comes at the other
+/// one.
+fn exchanged(came: Arrivals, by_port: bool) -> Arrivals {
+    let (a, b) = (at_other_port(came.a), at_other_port(came.b));
+    if by_port {
+        Arrivals { a, b }
+    } else {
+        Arrivals { a: b, b: a }
+    }
+}
+
+/// A copy that arrived at the other port.
+fn at_other_port(copy: Option<Arrival>) -> Option<Arrival> {
+    match copy {
+        Some(Arrival { frame, at: Port::A }) => Some(Arrival { frame, at: Port::B }),
+        Some(Arrival { frame, at: Port::B }) => Some(Arrival { frame, at: Port::A }),
+        None => None,
+    }
+}
+
 /// A copy of no frame of the master, at port B.
 fn stranger(sent: &FrameBuf) -> Arrivals {
     let mut payload = ArrayVec::new();
@@ -228,9 +295,13 @@ impl<'a> HeardPorts for Stage<'a> {
         }
         let mut weather = Weather::calm(self.ring.links());
         weather.lost_a = fate.loses_a;
+        weather.lost_b = fate.loses_b;
         let came = self.ring.arrivals(sent, &weather);
         self.ring.step_all();
-        Ok(came)
+        if !self.is_swapped_for(sent) {
+            return Ok(came);
+        }
+        Ok(exchanged(came, self.swapped == Swapped::AllByPort))
     }
 
     fn failures(&self) -> u64 {
@@ -294,6 +365,7 @@ pub const PLAN: Plan<'static> = Plan {
     outputs: Outputs::Kept,
     stop: false,
     recover: true,
+    tries: MOST_READS,
     progress: false,
     log: false,
     log_images: false,

@@ -1,10 +1,7 @@
 -- What the frames come to is certified by the counters.
 use Rattle.std.proofs.Common.{◌≡◌, ◌+◌, ◌∙◌, ap, sym, subst}
-use Rattle.std.specs.List.{slice_get}
-use Rattle.std.specs.Option.{option_map}
-use Rattle.ec_app.specs.State.{SlaveState}
 use Rattle.ec_ring.specs.Ring.{RingState}
-use Rattle.ec_master.specs.Certificate.{memory_at, application_at, shown_at, verdict_under}
+use Rattle.ec_master.specs.Certificate.{memory_at, memory_in, application_at, shown_at, verdict_under}
 use Rattle.ec_regs.specs.declared.registers.TheConstants.{PROCESS_MEMORY}
 use Rattle.ec_master.specs.Covered.{InputsStand, OutputsAreShown}
 use Rattle.ec_master.specs.Cut.{frames_of}
@@ -49,50 +46,35 @@ returns-clause-verdict g c accepted =
     ∙ verdict-counts c.args.weather.now (g.T.Travel.ring c.args.ring.now) c.args.work.now
     c.weather_cycle_in.ensures.limit accepted c.are_items.ensures.items
 
-pub returns-clause-good_image : goal.returns-clause-good_image
-returns-clause-good_image g c accepted good =
+pub returns-clause-good : goal.returns-clause-good
+returns-clause-good g c accepted good =
     let r : RingState = g.T.Travel.ring c.args.ring.now in
     let items = c.args.work.now in
-    subst (AreAnswers (by_station r.slaves) items)
-    (sym (taken_is g c ∙ taken-good c.weather_cycle_in.result items (answers_under c.args.weather.now r items) good))
-    (certificate.good_answers c.args.weather.now r items c.weather_cycle_in.ensures.limit accepted
-    c.are_items.ensures.items (sym (verdict_is g c) ∙ good))
-
-pub returns-clause-good_memories : goal.returns-clause-good_memories
-returns-clause-good_memories g c n accepted good =
-    ap (λ (x : RingState). memory_at (by_station x.slaves) n) (ring g c)
-    ∙ certificate.good_memories c.args.weather.now (g.T.Travel.ring c.args.ring.now) c.args.work.now n
-    c.weather_cycle_in.ensures.limit accepted c.are_items.ensures.items (sym (verdict_is g c) ∙ good)
-
-pub returns-clause-good_outputs : goal.returns-clause-good_outputs
-returns-clause-good_outputs g c n k s accepted good below there shows =
-    ap (λ (x : RingState). shown_at (by_station x.slaves) k n) (ring g c)
-    ∙ certificate.good_shows c.args.weather.now (g.T.Travel.ring c.args.ring.now) c.args.work.now n k s
-    c.weather_cycle_in.ensures.limit accepted c.are_items.ensures.items (sym (verdict_is g c) ∙ good) below there shows
-
-pub returns-clause-good_outputs_alone : goal.returns-clause-good_outputs_alone
-returns-clause-good_outputs_alone g c n k s accepted good below there alone =
-    let items = c.args.work.now in
-    ap (λ (x : RingState). shown_at (by_station x.slaves) k n) (ring g c)
-    ∙ certificate.good_shows c.args.weather.now (g.T.Travel.ring c.args.ring.now) items n k s
-    c.weather_cycle_in.ensures.limit accepted c.are_items.ensures.items (sym (verdict_is g c) ∙ good) below there
-    (certificate.shows-last-apart s.controller (PROCESS_MEMORY + k) (frames_of items) alone)
-
-pub returns-clause-inputs_stand : goal.returns-clause-inputs_stand
-returns-clause-inputs_stand g c accepted good =
-    let r : RingState = g.T.Travel.ring c.args.ring.now in
-    let items = c.args.work.now in
-    subst (InputsStand r.slaves items)
-    (sym (taken_is g c ∙ taken-good c.weather_cycle_in.result items (answers_under c.args.weather.now r items) good))
-    (covered.good_inputs c.args.weather.now r items c.weather_cycle_in.ensures.limit accepted
-    c.are_items.ensures.items (sym (verdict_is g c) ∙ good))
-
-pub returns-clause-outputs_are_shown : goal.returns-clause-outputs_are_shown
-returns-clause-outputs_are_shown g c accepted covers shown good =
-    let r : RingState = g.T.Travel.ring c.args.ring.now in
-    subst (λ (later : RingState). OutputsAreShown r.slaves c.args.work.now later.slaves) (sym (ring g c))
-    (covered.good_outputs c.fit_line.ensures.placed c.args.weather.now r c.args.work.now c.weather_cycle_in.ensures.limit
-    accepted c.are_items.ensures.items covers shown (sym (verdict_is g c) ∙ good))
+    let limit = c.weather_cycle_in.ensures.limit in
+    let are = c.are_items.ensures.items in
+    let judged = sym (verdict_is g c) ∙ good in
+    let answered = sym (taken_is g c
+    ∙ taken-good c.weather_cycle_in.result items (answers_under c.args.weather.now r items) good) in
+    record {
+      image = subst (AreAnswers (by_station r.slaves) items) answered
+          (certificate.good_answers c.args.weather.now r items limit accepted are judged);
+      memories = λ n. ap (λ (x : RingState). memory_at (by_station x.slaves) n) (ring g c)
+          ∙ certificate.good_memories c.args.weather.now r items n limit accepted are judged;
+      outputs = λ n k s below there shows.
+          ap (λ (x : RingState). shown_at (by_station x.slaves) k n) (ring g c)
+          ∙ certificate.good_shows c.args.weather.now r items n k s limit accepted are judged below there
+          shows;
+      outputs_alone = λ n k s below there alone.
+          ap (λ (x : RingState). shown_at (by_station x.slaves) k n) (ring g c)
+          ∙ certificate.good_shows c.args.weather.now r items n k s limit accepted are judged below there
+          (certificate.shows-last-apart s.controller (PROCESS_MEMORY + k) (frames_of items) alone);
+      inputs_stand = subst (InputsStand r.slaves items) answered
+          (covered.good_inputs c.args.weather.now r items limit accepted are judged);
+      outputs_are_shown = λ covers shown.
+          subst (λ (later : RingState). OutputsAreShown r.slaves items later.slaves) (sym (ring g c))
+          (covered.good_outputs c.fit_line.ensures.placed c.args.weather.now r items limit accepted are covers
+          shown judged);
+    }
 
 pub returns-clause-untouched_work : goal.returns-clause-untouched_work
 returns-clause-untouched_work g c other =
@@ -100,8 +82,7 @@ returns-clause-untouched_work g c other =
 
 pub returns-clause-memory_on_every_verdict : goal.returns-clause-memory_on_every_verdict
 returns-clause-memory_on_every_verdict g c k s accepted there =
-    ap (λ (x : RingState). option_map (λ (t : SlaveState). t.controller.memory) (slice_get x.slaves k))
-    (ring g c)
+    ap (λ (x : RingState). memory_in x.slaves k) (ring g c)
     ∙ certificate.reached_memory c.args.weather.now (g.T.Travel.ring c.args.ring.now) c.args.work.now k s
     accepted c.are_items.ensures.items there
 

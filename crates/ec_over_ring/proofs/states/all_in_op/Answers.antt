@@ -3,9 +3,13 @@ use Rattle.std.specs.List.{AllByRecursion}
 use Rattle.ec_app.specs.State.{SlaveState}
 use Rattle.ec_map.specs.Item.{ItemRecord, IsItem}
 use Rattle.ec_master.specs.Again.{AskTheSame}
+use Rattle.ec_master.specs.Cut.{entries_from}
+use Rattle.ec_master.specs.Moments.{answers_moving}
 use Rattle.ec_master.specs.Unordered.{IsAccepted}
+use Rattle.ec_master.specs.Work.{with_answers}
 use Rattle.ec_run.specs.Cycles.{items_sent}
 use Rattle.ec_over_ring.proofs.InOpLemmas as lemmas
+use Rattle.ec_over_ring.proofs.InOpMovingLemmas as moving
 use Rattle.ec_over_ring.proofs.SentLemmas.{sent_asks, sent_items}
 use Rattle.ec_over_ring.proofs.states.all_in_op.Goals as goal
 
@@ -40,3 +44,20 @@ returns-clause-by_cycles c before later outputs expected cycles after n s told i
 pub returns-clause-told : goal.returns-clause-told
 returns-clause-told c ws r items sent image n s told is names =
     lemmas.in_op_told ws r items sent image n s told is names
+
+pub returns-clause-moving : goal.returns-clause-moving
+returns-clause-moving c ws r items sent runs told =
+    let is_cut =
+    c.the_cut.ensures.is_cut (entries_from 0 sent) (c.the_cut.ensures.items_fit 0 sent told.each) in
+    moving.work_in_op ws r items sent (with_answers sent (answers_moving ws r sent runs)) runs told.asks
+    told.accepted told.each is_cut
+    (c.good_at_one_moment.ensures.image ws r sent runs told.limit told.accepted told.each told.moves
+    told.good)
+    told.tells
+
+pub returns-clause-told_moving : goal.returns-clause-told_moving
+returns-clause-told_moving c ws r items sent image runs told =
+    let is_cut =
+    c.the_cut.ensures.is_cut (entries_from 0 sent) (c.the_cut.ensures.items_fit 0 sent told.each) in
+    moving.work_in_op ws r items sent image runs told.asks told.accepted told.each is_cut
+    (told.says.image refl) told.tells

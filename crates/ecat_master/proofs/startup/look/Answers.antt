@@ -2,8 +2,8 @@ use Rattle.std.proofs.Common.{length}
 use Rattle.ecat_master.proofs.StartLemmas.{unwritten_look}
 use Rattle.ecat_master.proofs.startup.look.Goals as goal
 
-pub returns-in_err-put_cable : goal.returns-in_err-put_cable
-returns-in_err-put_cable g c =
+pub returns-in_err-put_look : goal.returns-in_err-put_look
+returns-in_err-put_look g c =
     unwritten_look g.P.HeardPorts.trips c.args.ports.now c.look_surely.new.ports (length c.args.line.now)
     c.from_residual.result c.from_residual.ensures.1
 

@@ -15,12 +15,12 @@ returns-clause-answered g c =
     c.telling_moves_slaves.ensures.moved
 
 pub returns-clause-sent : goal.returns-clause-sent
-returns-clause-sent g c arrived packet before later ends ends_later result answered =
-    sent_as (spoken before arrived.at arrived.from) answered.walked arrived.at answered.frame answered.arrival
-    answered.walks
+returns-clause-sent g c arrived packet before later result answered =
+    sent_as (spoken before.line arrived.at arrived.from) answered.walked arrived.at answered.frame
+    answered.arrival answered.walks
 
 pub returns-clause-dropped : goal.returns-clause-dropped
-returns-clause-dropped g c packet before later ends ends_later result dropped sound =
+returns-clause-dropped g c packet before later result dropped sound =
     dropped_history
     (record {
       steps = c.moves_between_passages.ensures.step;
@@ -29,4 +29,4 @@ returns-clause-dropped g c packet before later ends ends_later result dropped so
       size_acted = c.acting_leaves.ensures.size;
       size_behind = c.behind_leaves.ensures.size;
     })
-    before later sound dropped.leaves
+    before.line later.line sound dropped.leaves

@@ -11,7 +11,7 @@ returns-clause-told c =
     λ before behind s has.
     (c.transfers_over_ring.ensures.upload c.args.peer.now c.sdo_upload.new.peer c.args.index c.args.sub 1
     c.args.ports.now before behind s c.sdo_upload.result c.sdo_upload.new.ports has (omega arith, omega arith)
-    (omega arith) c.sdo_upload.ensures.service).result_is
+    (omega arith) c.sdo_upload.ensures.service).0
 
 pub returns-clause-again : goal.returns-clause-again
 returns-clause-again c =
@@ -23,9 +23,9 @@ returns-clause-again c =
     let asked = Upload c.args.index c.args.sub in
     let later = answered c.args.peer.now asked s in
     subst (λ (p : Peer). HasPeer p c.sdo_upload.new.ports (two_steps before) later (two_steps behind))
-    (sym done.counter)
+    (sym done.1.counter)
     (subst (λ (r : RingState).
     HasPeer (skipped c.args.peer.now) r (two_steps before) later (two_steps behind))
-    (sym done.ring)
+    (sym done.1.ring)
     (c.transfers_over_ring.ensures.again c.args.peer.now asked c.args.ports.now before behind s has
     (omega arith, omega arith)))

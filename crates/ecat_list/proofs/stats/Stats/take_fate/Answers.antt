@@ -2,7 +2,7 @@ use Rattle.std.proofs.Common.{◌++◌, ap, sym, subst, ◌∙◌}
 use Rattle.std.proofs.lemmas.List.{append_assoc}
 use Rattle.std.proofs.lemmas.Result.{on_ok_weaker}
 use Rattle.ecat_list.specs.Passed.{all_of, ended, fated, seen_in}
-use Rattle.ecat_list.specs.Stats.{IsTold}
+use Rattle.ecat_list.specs.Stats.{IsStatsOf}
 use Rattle.ecat_list.specs.declared.passed.What.TheVariants.{Sent}
 use Rattle.ecat_list.proofs.stats.Stats.take_fate.Goals as goal
 
@@ -14,7 +14,7 @@ returns-in_ok-take_trip-in-Replaces c =
     let second = all_of c.args.by_index (seen_in Sent c.args.packet.now) frame frame in
     on_ok_weaker c.take_packet-in-Replaces.result
     (λ more all told.
-    subst (λ xs. IsTold xs c.take_packet-in-Replaces.new.self)
+    subst (λ xs. IsStatsOf xs c.take_packet-in-Replaces.new.self)
     (append_assoc all first second
     ∙ ap (λ xs. all ++ xs) (ap (λ t. ended c.args.by_index t ++ second) c.trip.ensures
     ∙ sym (ap (fated c.args.by_index c.args.packet.now frame) c.in-Replaces.is)))
