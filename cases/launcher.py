@@ -576,6 +576,25 @@ def signals_end_a_command_on_a_packed_capture(clone):
         process.stdout.close()
 
 
+# A program that signals who runs it, before that one need know which process it is, and then waits.
+SIGNALS_FIRST = """#!/bin/bash
+kill -{} $PPID
+exec sleep 60
+"""
+
+
+@case
+def a_signal_is_not_lost_while_a_packed_capture_is_opened(clone):
+    with open(os.path.join(clone.folder, "c.gz"), "wb") as file:
+        file.write(gzip.compress(os.urandom(1 << 20)))
+    for number in (signal.SIGINT, signal.SIGTERM, signal.SIGHUP, signal.SIGQUIT):
+        clone.release(SIGNALS_FIRST.format(number.value).encode(), clone.sum())
+        clone.forget()
+        clone.ecat("--path")
+        for _ in range(5):
+            yield number.name, f"{128 + number}\n", clone.ecat("list", "c.gz")
+
+
 @case
 def what_is_missing_or_damaged_is_named(clone):
     clone.ecat()
