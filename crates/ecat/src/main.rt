@@ -154,7 +154,7 @@ where
             hint_files(rt, command, status, err);
             status
         }
-        Args::Scene { path, command } => match fs::open(rt, path) {
+        Args::Scene { path, command } => match fs::open(rt, path_of(path)) {
             Ok(file) => {
                 let mut source = Counted::new(file);
                 let status = over_scene(rt, command, path, console, &mut source, out, err);
@@ -260,7 +260,7 @@ where
     W: io::Write,
     V: io::Write,
 {
-    match fs::open(rt, path) {
+    match fs::open(rt, path_of(path)) {
         Ok(file) => {
             let is_followed = console.follows(is_plain(&file));
             let mut source = Fronted::new(Counted::new(file));
@@ -270,6 +270,11 @@ where
         }
         Err(error) => report_file(&Failure::Open, path, &error, out, err),
     }
+}
+
+/// The path of the file that a word names: `-` is standard input.
+fn path_of(word: &str) -> &str {
+    if word == "-" { "/dev/stdin" } else { word }
 }
 
 /// Is an open file a plain one, whose end stands? One of which the system does not say so is none.
@@ -332,7 +337,7 @@ where
     W: io::Write,
     V: io::Write,
 {
-    let text = match fs::open(rt, path) {
+    let text = match fs::open(rt, path_of(path)) {
         Ok(scene) => text_of(rt.alloc(), &mut Counted::new(scene)),
         Err(error) => return report_file(&Failure::Open, path, &error, out, err),
     };

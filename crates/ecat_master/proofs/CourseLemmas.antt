@@ -1,6 +1,6 @@
 -- Looks and rounds, one after the other, and how many trips they make.
 use Rattle.std.proofs.Common.{◌≡◌, ◌≤◌, ℕ, zero, suc, ◌+◌, ◌*◌, ◌-◌, Bool, true, false, List, length, refl}
-use Rattle.std.proofs.Common.{sym, ap, ◌∙◌, subst, arith, inl, inr, Option, None, Some, Ok, Err}
+use Rattle.std.proofs.Common.{sym, ap, ◌∙◌, ◌&&◌, not, subst, arith, inl, inr, Option, None, Some, Ok, Err}
 use Rattle.std.proofs.Math.Nat.{suc-mul}
 use Rattle.ec_diag.specs.declared.located.Located.{Located}
 use Rattle.ec_map.specs.Item.{ItemRecord}
@@ -17,7 +17,9 @@ use Rattle.ec_run.proofs.Laws.{within_less}
 use Rattle.ec_run.proofs.Laws.{within_none, within_one, within_then}
 use Rattle.ecat_master.specs.Course.{AreLooks, HeardTrips, IsCourse, IsFollowed, IsLook, IsRound, Sides}
 use Rattle.ecat_master.specs.Course.{IsCaredFor, MayBeLooked, MayBeLookedAt, Rounds, is_last_look}
-use Rattle.ecat_master.specs.Course.{care_trips, round_trips}
+use Rattle.ecat_master.specs.Course.{beside_trips, round_trips}
+use Rattle.ecat_master.specs.Last.{in_op}
+use Rattle.ecat_master.specs.Over.{ends_well, stops_behind}
 use Rattle.ecat_master.specs.Task.{Listens, TakesOutputs, items_with}
 use Rattle.ecat_master.specs.declared.run.LinePlan.{LinePlan}
 
@@ -86,15 +88,9 @@ looks_end heard start now later slaves all left found so_far is look =
 
 -- ---- behind a cycle
 
-pub not_followed : {P : Type 0} (heard : HeardTrips P) (line : List Wanted) (before : WatchedState P)
-    → IsFollowed heard line before before
-not_followed heard line before =
-    record { between = before; looks = inl refl; seen_to = IsCaredFor.looked_at (MayBeLookedAt.none refl) }
-
-pub only_looks : {P : Type 0} (heard : HeardTrips P) (line : List Wanted) (before later : WatchedState P)
-    → MayBeLooked heard before (length line) later → IsFollowed heard line before later
-only_looks heard line before later looks =
-    record { between = later; looks = looks; seen_to = IsCaredFor.looked_at (MayBeLookedAt.none refl) }
+pub not_followed : {P : Type 0} (heard : HeardTrips P) (line : List Wanted) (is_last : Bool)
+    (before : WatchedState P) → IsFollowed heard line is_last before before
+not_followed heard line is_last before = IsFollowed.looked (inl refl)
 
 -- ---- rounds
 
@@ -213,38 +209,71 @@ looked_at_once heard line before later (MayBeLookedAt.none same) =
 looked_at_once heard line before later (MayBeLookedAt.looked_at place wanted seen there looked) =
     looked_at_within (WatchedTrips heard) before later wanted.station seen looked
 
-seen_to_within : {P : Type 0} (heard : HeardTrips P) (line : List Wanted) (before later : WatchedState P)
-    → IsCaredFor heard line before later → IsWithin (WatchedTrips heard) care_trips before later
-seen_to_within heard line before later (IsCaredFor.looked_at looked) =
-    let less : 1 ≤ care_trips = omega arith in
-    within_less (WatchedTrips heard) 1 care_trips before later less
-    (looked_at_once heard line before later looked)
-seen_to_within heard line before later (IsCaredFor.looked_along first result between along looked) =
-    within_less (WatchedTrips heard) (1 + 1) care_trips before later (omega arith)
-    (within_then (WatchedTrips heard) 1 1 before between later
-    (along_within (WatchedTrips heard) before between line first result along)
-    (looked_at_once heard line between later looked))
-seen_to_within heard line before later (IsCaredFor.turned wanted recovery turn there taken) =
-    let less : turn_trips ≤ care_trips = omega arith in
-    within_less (WatchedTrips heard) turn_trips care_trips before later less
+seen_to_once : {P : Type 0} (heard : HeardTrips P) (line : List Wanted) (before later : WatchedState P)
+    → IsCaredFor heard line before later → IsWithin (WatchedTrips heard) 1 before later
+seen_to_once heard line before later (IsCaredFor.looked_at looked) =
+    looked_at_once heard line before later looked
+seen_to_once heard line before later (IsCaredFor.looked_along first result along) =
+    along_within (WatchedTrips heard) before later line first result along
+seen_to_once heard line before later (IsCaredFor.turned wanted recovery turn there taken) =
+    let less : turn_trips ≤ 1 = omega arith in
+    within_less (WatchedTrips heard) turn_trips 1 before later less
     (turn_within (WatchedTrips heard) before later wanted recovery turn taken)
+
+some_beside : (stop : Bool) → 1 ≤ beside_trips stop
+some_beside false = omega arith
+some_beside true = omega arith
+
+three_beside : (stop : Bool) → stop ≡ true → 1 + (1 + 1) ≤ beside_trips stop
+three_beside true is = omega arith
+three_beside false is = absurd (cc (is))
+
+stops_by : (stop other : Bool) → stop && other ≡ true → stop ≡ true
+stops_by true other is = refl
+stops_by false other is = absurd (cc (is))
+
+may_stop : (planned : LinePlan) (end : End) (all_in_op : Bool)
+    → stops_behind planned.plan.now end all_in_op ≡ true → planned.plan.now.stop ≡ true
+may_stop planned end all_in_op stops = stops_by planned.plan.now.stop (not (ends_well end all_in_op)) stops
+
+followed_within : {P : Type 0} (heard : HeardTrips P) (line : List Wanted) (is_last stop : Bool)
+    (before later : WatchedState P) → (is_last ≡ true → stop ≡ true)
+    → IsFollowed heard line is_last before later
+    → IsWithin (PortsTrip heard) (beside_trips stop) before.ports later.ports
+followed_within heard line is_last stop before later stops (IsFollowed.looked looks) =
+    within_less (PortsTrip heard) 1 (beside_trips stop) before.ports later.ports (some_beside stop)
+    (looked_within heard (length line) before later looks)
+followed_within heard line is_last stop before later stops (IsFollowed.seen_to cared) =
+    within_less (PortsTrip heard) 1 (beside_trips stop) before.ports later.ports (some_beside stop)
+    (within_aside heard 1 before later (seen_to_once heard line before later cared))
+followed_within heard line is_last stop before later stops
+    (IsFollowed.ended last cable between looks cared looked) =
+    within_less (PortsTrip heard) (1 + (1 + 1)) (beside_trips stop) before.ports later.ports
+    (three_beside stop (stops last))
+    (within_then (PortsTrip heard) 1 (1 + 1) before.ports cable.ports later.ports
+    (looked_within heard (length line) before cable looks)
+    (within_aside heard (1 + 1) cable later
+    (within_then (WatchedTrips heard) 1 1 cable between later (seen_to_once heard line cable between cared)
+    (looked_at_once heard line between later looked))))
 
 round_within : {P D T : Type 0} (sides : Sides P D T) (planned : LinePlan) (s after : Cycles)
     (before later : WatchedState P) (end : End)
     → IsRound sides planned s before end after later
-    → IsWithin (PortsTrip sides.heard) (round_trips (length s.asked)) before.ports later.ports
+    → IsWithin (PortsTrip sides.heard) (round_trips (length s.asked) planned.plan.now.stop) before.ports
+    later.ports
 round_within sides planned s after before later end round =
     let trips = PortsTrip sides.heard in
-    let looked = round.followed.between in
-    subst (λ (n : ℕ). IsWithin trips (round_trips n) before.ports later.ports) (supplied_length sides.listens sides.held s round.supplied round.takes)
-    (within_then trips (length round.supplied.asked + 1) care_trips before.ports looked.ports later.ports
-    (within_then trips (length round.supplied.asked) 1 before.ports round.behind.ports looked.ports
+    let stop = planned.plan.now.stop in
+    let all_in_op = in_op planned.plan.now.states after.image in
+    subst (λ (n : ℕ). IsWithin trips (round_trips n stop) before.ports later.ports)
+    (supplied_length sides.listens sides.held s round.supplied round.takes)
+    (within_then trips (length round.supplied.asked) (beside_trips stop) before.ports round.behind.ports
+    later.ports
     (within_aside sides.heard (length round.supplied.asked) (untold before.ports) round.behind
-    (cycle_within (WatchedTrips sides.heard) (untold before.ports) round.behind planned.plan.now.outputs planned.expected.now round.supplied
-    after end round.cycle))
-    (looked_within sides.heard (length planned.line.now) round.behind looked round.followed.looks))
-    (within_aside sides.heard care_trips looked later
-    (seen_to_within sides.heard planned.line.now looked later round.followed.seen_to)))
+    (cycle_within (WatchedTrips sides.heard) (untold before.ports) round.behind planned.plan.now.outputs
+    planned.expected.now round.supplied after end round.cycle))
+    (followed_within sides.heard planned.line.now (stops_behind planned.plan.now end all_in_op) stop
+    round.behind later (may_stop planned end all_in_op) round.followed))
 
 -- each asks as many items as the first one
 rounds_ask : {P D T : Type 0} (sides : Sides P D T) (planned : LinePlan) (n : ℕ) (s after : Cycles)
@@ -263,14 +292,15 @@ rounds_ask sides planned (suc n) s after before later last
 pub rounds_within : {P D T : Type 0} (sides : Sides P D T) (planned : LinePlan) (n : ℕ) (s after : Cycles)
     (before later : WatchedState P) (last : Option End)
     → Rounds sides planned n s before last after later
-    → IsWithin (PortsTrip sides.heard) (n * round_trips (length s.asked)) before.ports later.ports
+    → IsWithin (PortsTrip sides.heard) (n * round_trips (length s.asked) planned.plan.now.stop) before.ports
+    later.ports
 unfolding Rounds
 rounds_within sides planned zero s after before later last (is, same, none) =
     within_none (PortsTrip sides.heard) _ before.ports later.ports (ap (λ x. x.ports) same)
 rounds_within sides planned (suc n) s after before later last
     (now, ports, end_before, end, rounds, round, some) =
     let trips = PortsTrip sides.heard in
-    let t : ℕ = round_trips (length s.asked) in
+    let t : ℕ = round_trips (length s.asked) planned.plan.now.stop in
     let asked : length now.asked ≡ length s.asked =
     rounds_ask sides planned n s now before ports end_before rounds in
     let size : suc n * t ≡ n * t + t = suc-mul n t in
@@ -278,7 +308,7 @@ rounds_within sides planned (suc n) s after before later last
     within_less trips (n * t + t) (suc n * t) before.ports later.ports less
     (within_then trips (n * t) t before.ports ports.ports later.ports
     (rounds_within sides planned n s now before ports end_before rounds)
-    (subst (λ (k : ℕ). IsWithin trips (round_trips k) ports.ports later.ports) asked
+    (subst (λ (k : ℕ). IsWithin trips (round_trips k planned.plan.now.stop) ports.ports later.ports) asked
     (round_within sides planned now after ports later end round)))
 
 -- a course makes so many trips at the most for each of its cycles
@@ -286,14 +316,14 @@ pub course_within : {P D T : Type 0} (sides : Sides P D T) (planned : LinePlan) 
     (before later : WatchedState P) (last : Option End)
     → IsCourse sides planned s before last after later
     → IsWithin (PortsTrip sides.heard)
-    ((after.counts.cycles - s.counts.cycles) * round_trips (length s.asked)) before.ports later.ports
+    ((after.counts.cycles - s.counts.cycles) * round_trips (length s.asked) planned.plan.now.stop)
+    before.ports later.ports
 course_within sides planned s after before later last course =
     let counts : after.counts.cycles ≡ s.counts.cycles + course.number = course.counts in
     let same : course.number ≡ after.counts.cycles - s.counts.cycles = omega (arith, counts) in
-    subst (λ (n : ℕ). IsWithin (PortsTrip sides.heard) (n * round_trips (length s.asked)) before.ports later.ports)
-    same
-    (rounds_within sides planned course.number s after before later last
-    course.rounds)
+    let most : ℕ = round_trips (length s.asked) planned.plan.now.stop in
+    subst (λ (n : ℕ). IsWithin (PortsTrip sides.heard) (n * most) before.ports later.ports) same
+    (rounds_within sides planned course.number s after before later last course.rounds)
 
 -- and asks as many items as before
 pub course_asks : {P D T : Type 0} (sides : Sides P D T) (planned : LinePlan) (s after : Cycles)

@@ -22,6 +22,8 @@ use Rattle.ec_run.specs.declared.along.Along.{Along}
 use Rattle.ec_run.specs.declared.recovery.Seen.{Seen}
 use Rattle.ec_run.specs.declared.turns.Turn.{Turn}
 use Rattle.ec_run.specs.declared.wanted.Wanted.{Wanted}
+use Rattle.ecat_master.specs.Last.{in_op}
+use Rattle.ecat_master.specs.Over.{stops_behind}
 use Rattle.ecat_master.specs.Task.{Listens, TakesOutputs}
 use Rattle.ecat_master.specs.declared.run.LinePlan.{LinePlan}
 use Rattle.ecat_master.specs.declared.startup.TheConstants.{MORE_CABLE_LOOKS}
@@ -101,25 +103,27 @@ pub data MayBeLookedAt {P : Type 0} (heard : HeardTrips P) (line : List Wanted)
       → IsLookedAt (WatchedTrips heard) before wanted.station seen later
       → MayBeLookedAt heard line before later
 
--- a slave is looked at, or none is; or slaves of the line are asked by one frame, and then one may be looked
--- at; or a turn is taken with one that is being brought to Op again
+-- a slave is looked at, or none is; or slaves of the line are asked by one frame; or a turn is taken with one
+-- that is being brought to Op again
 pub data IsCaredFor {P : Type 0} (heard : HeardTrips P) (line : List Wanted) (before later : WatchedState P)
     : Type 0 where
   looked_at : MayBeLookedAt heard line before later → IsCaredFor heard line before later
-  looked_along : (first : ℕ) (result : Result Along MasterFault) (between : WatchedState P)
-      → IsAlong (WatchedTrips heard) before line first result between
-      → MayBeLookedAt heard line between later → IsCaredFor heard line before later
+  looked_along : (first : ℕ) (result : Result Along MasterFault)
+      → IsAlong (WatchedTrips heard) before line first result later → IsCaredFor heard line before later
   turned : (wanted : Wanted) (recovery : RecoveryState) (turn : Turn)
       → slice_get line recovery.place ≡ Some wanted
       → IsTurn (WatchedTrips heard) before wanted recovery turn later
       → IsCaredFor heard line before later
 
--- behind a cycle: a look at the cable, and then a slave is seen to
-pub record IsFollowed {P : Type 0} (heard : HeardTrips P) (line : List Wanted) (before later : WatchedState P)
-    : Type 0 where
-  pub between : WatchedState P
-  pub looks : MayBeLooked heard before (length line) between
-  pub seen_to : IsCaredFor heard line between later
+-- behind a cycle one frame goes out beside the cycles: the cable is looked at, or a slave is seen to. Behind
+-- the last one both may be done, and then a slave be looked at, since no cycle waits for it
+pub data IsFollowed {P : Type 0} (heard : HeardTrips P) (line : List Wanted) (is_last : Bool)
+    (before later : WatchedState P) : Type 0 where
+  looked : MayBeLooked heard before (length line) later → IsFollowed heard line is_last before later
+  seen_to : IsCaredFor heard line before later → IsFollowed heard line is_last before later
+  ended : is_last ≡ true → (cable between : WatchedState P) → MayBeLooked heard before (length line) cable
+      → IsCaredFor heard line cable between → MayBeLookedAt heard line between later
+      → IsFollowed heard line is_last before later
 
 -- ---- end to end
 
@@ -132,7 +136,8 @@ pub record IsRound {P D T : Type 0} (sides : Sides P D T) (planned : LinePlan) (
   pub behind : WatchedState P
   pub cycle : IsCycle (WatchedTrips sides.heard) (untold before.ports) planned.plan.now.outputs
       planned.expected.now supplied end after behind
-  pub followed : IsFollowed sides.heard planned.line.now behind later
+  pub followed : IsFollowed sides.heard planned.line.now
+      (stops_behind planned.plan.now end (in_op planned.plan.now.states after.image)) behind later
 
 -- so many of them, each from the ports that the one before it left, and how the last one ended, if there was
 -- one
@@ -151,11 +156,11 @@ pub record IsCourse {P D T : Type 0} (sides : Sides P D T) (planned : LinePlan) 
   pub rounds : Rounds sides planned number s before last after later
   pub counts : after.counts.cycles ≡ s.counts.cycles + number
 
--- the most trips by which a slave is seen to: a look along the line and one at a slave
-abbrev pub care_trips : ℕ
-care_trips = 2
+-- the most trips behind a cycle: one, and three behind one that may be the last since it did not end well
+abbrev pub beside_trips : Bool → ℕ
+beside_trips false = 1
+beside_trips true = 3
 
--- the most trips of a round: a frame for each item, a look at the cable, and those by which a slave is seen
--- to
-abbrev pub round_trips : ℕ → ℕ
-round_trips items = items + 1 + care_trips
+-- the most trips of a round: a frame for each item, and those behind its cycle
+abbrev pub round_trips : ℕ → Bool → ℕ
+round_trips items may_stop = items + beside_trips may_stop

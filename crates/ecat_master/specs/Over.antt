@@ -1,5 +1,5 @@
 -- Why a course of cycles has ended.
-use Rattle.std.specs.Prelude.{◌≡◌, Bool, true, false, Option, Some, Result, Ok, Err}
+use Rattle.std.specs.Prelude.{◌≡◌, ◌&&◌, Bool, true, false, not, Option, Some, Result, Ok, Err}
 use Rattle.ec_master.specs.declared.verdict.Verdict.TheVariants.{Good}
 use Rattle.ec_run.specs.Cycles.{End}
 use Rattle.ec_run.specs.declared.cycles.Cycles.{Cycles}
@@ -12,6 +12,10 @@ use Rattle.ecat_master.specs.declared.teller.Unwritten.{Unwritten}
 abbrev pub ends_well : End → Bool → Bool
 ends_well (Ok Good) all_in_op = all_in_op
 ends_well _ all_in_op = false
+
+-- one that was not is the last one, where the plan wants that
+abbrev pub stops_behind : Plan → End → Bool → Bool
+stops_behind plan end all_in_op = plan.stop && not (ends_well end all_in_op)
 
 -- no other cycle was due, by the pace; as many were counted as can be; the last one did not end well, and the
 -- plan wants such a one to be the last; or it could not be written what cycles came to

@@ -18,6 +18,16 @@ pub(crate) enum Care {
     Brings(Recovery),
 }
 
+impl Care {
+    /// Who is seen to behind the last cycle: nobody is brought to Op any more, but told.
+    pub(crate) fn at_the_end(self) -> Care {
+        match self {
+            Care::Brings(recovery) => Care::LooksAt(recovery.place(), 0),
+            care => care,
+        }
+    }
+}
+
 /// From which place on the line is looked along next.
 #[derive(Clone, Copy)]
 pub(crate) struct Next {

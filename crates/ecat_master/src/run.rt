@@ -208,7 +208,7 @@ where
         cycles.old ports.old last cycles.new ports.new) }
     ensures over { IsOver T.over line_plan.now.plan.now pace.new result cycles.new }
     ensures trips { IsWithin (PortsTrip P.trips) ((cycles.new.counts.cycles - cycles.old.counts.cycles)
-        * round_trips (length cycles.old.asked)) ports.old.ports ports.new.ports }
+        * round_trips (length cycles.old.asked) line_plan.now.plan.now.stop) ports.old.ports ports.new.ports }
 {
     let made = make_rounds(cycles, ports, line_plan, pace, task, teller);
     pace.end();

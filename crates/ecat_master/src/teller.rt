@@ -4,7 +4,7 @@ ghost use Rattle.std.specs.Prelude.{◌≡◌, Ok, false, true};
 ghost use Rattle.std.specs.Option.{option_map};
 ghost use Rattle.ecat_master.specs.Allowance.{time_left};
 ghost use Rattle.ecat_master.specs.Course.{IsFollowed, IsCaredFor, MayBeLookedAt};
-ghost use Rattle.ecat_master.specs.Over.{ends_well};
+ghost use Rattle.ecat_master.specs.Over.{ends_well, stops_behind};
 
 use crate::allowance::Allowance;
 use crate::care::{Care, Next, most_asked, wanted_at};
@@ -122,6 +122,8 @@ pub struct Teller<'a, W, V, L> {
     /// Who is seen to behind the next cycle.
     care: Care,
     next: Next,
+    /// Whether the frame behind the last cycle was a look at the cable.
+    has_looked: bool,
 }
 
 impl<'a, W: Write, V: Write, L: Write> Teller<'a, W, V, L> {
@@ -149,6 +151,7 @@ impl<'a, W: Write, V: Write, L: Write> Teller<'a, W, V, L> {
             due: SECOND,
             care: Care::Nobody,
             next: Next::first(),
+            has_looked: false,
         }
     }
 
@@ -215,7 +218,8 @@ impl<'a, W: Write, V: Write, L: Write> Teller<'a, W, V, L> {
         line_plan: &LinePlan<'_>,
         images: Images<'_>,
     ) -> Result<bool, Unwritten>
-        ensures followed { IsFollowed P.trips line_plan.now.line.now ports.old ports.new }
+        ensures followed { IsFollowed P.trips line_plan.now.line.now
+            (stops_behind line_plan.now.plan.now end.ended end.in_op) ports.old ports.new }
         ensures stops { result ≡ Ok true → (line_plan.now.plan.now.stop ≡ true)
             × (ends_well end.ended end.in_op ≡ false) }
     {
@@ -229,7 +233,7 @@ impl<'a, W: Write, V: Write, L: Write> Teller<'a, W, V, L> {
             return Err(Unwritten::Log);
         }
         match self.tell(cycle, end, ports, line_plan) {
-            Ok(()) => Ok(plan.stop && !end.is_well()),
+            Ok(()) => Ok(stops_behind(end, plan)),
             Err(_) => Err(Unwritten::Output),
         }
     }
@@ -268,7 +272,8 @@ impl<'a, W: Write, V: Write, L: Write> Teller<'a, W, V, L> {
         !self.log_has_failed
     }
 
-    /// Tells the output of a cycle that was made, and sees to a slave.
+    /// Tells the output of a cycle that was made, and looks at the cable or sees to a slave, by turns where
+    /// both are due; behind the last cycle it does both.
     fn tell<P: HeardPorts>(
         &mut self,
         cycle: u64,
@@ -276,20 +281,34 @@ impl<'a, W: Write, V: Write, L: Write> Teller<'a, W, V, L> {
         ports: &mut Watched<P>,
         line_plan: &LinePlan<'_>,
     ) -> io::Result<()>
-        ensures followed { IsFollowed P.trips line_plan.now.line.now ports.old ports.new }
+        ensures followed { IsFollowed P.trips line_plan.now.line.now
+            (stops_behind line_plan.now.plan.now end.ended end.in_op) ports.old ports.new }
     {
         self.tell_times(cycle, end, ports)?;
-        let setting = self.setting(line_plan);
-        self.told
+        let plan = line_plan.plan;
+        let is_last = stops_behind(end, plan);
+        let may_look = is_last || !self.has_looked || !self.is_care_due(cycle, end, plan);
+        let setting = self.setting(line_plan, may_look);
+        let has_looked = self
+            .told
             .tell(cycle, end.ended, ports, setting, &mut self.out)?;
+        self.has_looked = has_looked;
         if end.ended == Ok(Verdict::Good) {
             self.states.take(cycle, end.in_op, &mut self.out)?;
         }
-        self.see_to(cycle, end, ports, line_plan.line, line_plan.plan)
+        if is_last {
+            self.care = mem::replace(&mut self.care, Care::Nobody).at_the_end();
+            self.see_to(cycle, end, ports, line_plan.line, plan)?;
+            return self.look_at_found(cycle, ports, line_plan.line, plan);
+        }
+        if has_looked {
+            return Ok(());
+        }
+        self.see_to(cycle, end, ports, line_plan.line, plan)
     }
 
-    /// What cycles are told by.
-    fn setting<'s>(&self, line_plan: &LinePlan<'s>) -> Setting<'s>
+    /// What cycles are told by, and whether the cable may be looked at.
+    fn setting<'s>(&self, line_plan: &LinePlan<'s>, may_look: bool) -> Setting<'s>
         ensures { result.line.now ≡ line_plan.now.line.now }
     {
         Setting {
@@ -297,12 +316,13 @@ impl<'a, W: Write, V: Write, L: Write> Teller<'a, W, V, L> {
             expected: line_plan.expected,
             states: line_plan.plan.states,
             port_fails: self.ports.some_fails(),
+            may_look,
         }
     }
 
     /// Tells, behind the last cycle, what is not told yet.
     pub(crate) fn close(&mut self, line_plan: &LinePlan<'_>) -> Result<(), Unwritten> {
-        let setting = self.setting(line_plan);
+        let setting = self.setting(line_plan, false);
         match self.told.close(setting, &mut self.out) {
             Ok(()) => Ok(()),
             Err(_) => Err(Unwritten::Output),
@@ -322,8 +342,8 @@ impl<'a, W: Write, V: Write, L: Write> Teller<'a, W, V, L> {
         self.ports.tell(cycle, is_good, ports, &mut self.out)
     }
 
-    /// Sees to a slave behind a cycle, by a frame or two, or one step: one that is being brought to Op goes
-    /// on, one that may have left it is looked at, and else, where that is due, the line is looked along.
+    /// Sees to a slave behind a cycle, by one frame: one that is being brought to Op goes on, one that may
+    /// have left it is looked at, and else, where that is due, the line is looked along.
     /// Behind a cycle of which no copy came nobody is seen to: it has waited for all its time, and who it was
     /// to be goes on behind the next one.
     fn see_to<P: HeardPorts>(
@@ -345,10 +365,16 @@ impl<'a, W: Write, V: Write, L: Write> Teller<'a, W, V, L> {
                 self.look_at_one(cycle, place, nobody, ports, line, plan)
             }
             Care::Nobody if self.is_look_due(cycle, end, plan) => {
-                self.look_along(cycle, end, ports, line, plan)
+                self.look_along(end, ports, line);
+                Ok(())
             }
             Care::Nobody => Ok(()),
         }
+    }
+
+    /// Is a slave to be seen to behind a cycle that ended so, or the line to be looked along?
+    fn is_care_due(&self, cycle: u64, end: CycleEnd, plan: &Plan<'_>) -> bool {
+        !matches!(self.care, Care::Nobody) || self.is_look_due(cycle, end, plan)
     }
 
     /// Is the line to be looked along behind a cycle that ended so? Where slaves are brought up again also
@@ -362,31 +388,41 @@ impl<'a, W: Write, V: Write, L: Write> Teller<'a, W, V, L> {
         }
     }
 
-    /// Looks along the line for a slave that may have left Op, and at that one.
-    fn look_along<P: HeardPorts>(
+    /// Looks along the line for a slave that may have left Op; it is looked at behind the next cycle.
+    fn look_along<P: HeardPorts>(&mut self, end: CycleEnd, ports: &mut Watched<P>, line: &[Wanted])
+        ensures seen_to { IsCaredFor P.trips line.now ports.old ports.new }
+    {
+        let Some(first) = self.next.on(line.len()) else {
+            return;
+        };
+        let Ok(along) = look_along(ports, line, first, most_asked(end.is_well())) else {
+            return;
+        };
+        let Some(out) = along.out else {
+            self.next = Next::behind(first, along.asked);
+            return;
+        };
+        let place = first.saturating_add(out);
+        self.next = Next::behind(place, 1);
+        self.care = Care::LooksAt(u16::try_from(place).unwrap_or(u16::MAX), 0);
+    }
+
+    /// Behind the last cycle, looks at the slave that may have left Op, if there is one.
+    fn look_at_found<P: HeardPorts>(
         &mut self,
         cycle: u64,
-        end: CycleEnd,
         ports: &mut Watched<P>,
         line: &[Wanted],
         plan: &Plan<'_>,
     ) -> io::Result<()>
-        ensures seen_to { IsCaredFor P.trips line.now ports.old ports.new }
+        ensures looked_at { MayBeLookedAt P.trips line.now ports.old ports.new }
     {
-        let Some(first) = self.next.on(line.len()) else {
-            return Ok(());
-        };
-        let Ok(along) = look_along(ports, line, first, most_asked(end.is_well())) else {
-            return Ok(());
-        };
-        let Some(out) = along.out else {
-            self.next = Next::behind(first, along.asked);
-            return Ok(());
-        };
-        let place = first.saturating_add(out);
-        self.next = Next::behind(place, 1);
-        let place = u16::try_from(place).unwrap_or(u16::MAX);
-        self.look_at_one(cycle, place, 0, ports, line, plan)
+        match mem::replace(&mut self.care, Care::Nobody) {
+            Care::LooksAt(place, nobody) => {
+                self.look_at_one(cycle, place, nobody, ports, line, plan)
+            }
+            _ => Ok(()),
+        }
     }
 
     /// Looks at a slave that may have left Op, once; what is done with it begins behind the next cycle.
@@ -415,7 +451,7 @@ impl<'a, W: Write, V: Write, L: Write> Teller<'a, W, V, L> {
         self.tell_seen(cycle, place, wanted.station, seen, plan)
     }
 
-    /// Tells what was seen of a slave, where nobody is brought up again.
+    /// Tells what was seen of a slave, where nobody is brought up again, or no cycle follows.
     fn tell_seen(
         &mut self,
         cycle: u64,
@@ -426,7 +462,7 @@ impl<'a, W: Write, V: Write, L: Write> Teller<'a, W, V, L> {
     ) -> io::Result<()> {
         let is_asked_again = matches!(self.care, Care::LooksAt(_, _));
         match seen {
-            Ok(seen) if !plan.recover && !is_asked_again => {
+            Ok(seen) if (!plan.recover || plan.stop) && !is_asked_again => {
                 self.states.tell(cycle, place, station, seen, &mut self.out)
             }
             _ => Ok(()),
@@ -498,6 +534,13 @@ impl<'a, W: Write, V: Write, L: Write> Teller<'a, W, V, L> {
             }
         }
     }
+}
+
+/// Is a cycle the last one that ended so, since that is not well and the plan wants it?
+fn stops_behind(end: CycleEnd, plan: &Plan<'_>) -> bool
+    ensures { result ≡ stops_behind plan.now end.ended end.in_op }
+{
+    plan.stop && !end.is_well()
 }
 
 /// Writes why the log cannot be written.

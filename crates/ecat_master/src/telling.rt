@@ -1,6 +1,6 @@
 //! What is told of cycles while they run.
 
-ghost use Rattle.std.specs.Prelude.{◌≡◌, ◌≤◌, length};
+ghost use Rattle.std.specs.Prelude.{◌≡◌, ◌≤◌, Ok, false, length};
 ghost use Rattle.ecat_master.specs.Course.{MayBeLooked};
 ghost use Rattle.ecat_master.specs.Over.{ends_well};
 
@@ -115,6 +115,8 @@ struct Look {
     cable: Located,
     /// Whether no other look is needed, or of use.
     is_last: bool,
+    /// Whether a frame went out for it.
+    is_made: bool,
 }
 
 /// What a cycle showed of which nothing is told yet: the looks at the cable behind it brought too little.
@@ -141,6 +143,8 @@ pub(crate) struct Setting<'a> {
     pub(crate) states: bool,
     /// Whether a port fails, of which it is told already that redundancy is lost by it.
     pub(crate) port_fails: bool,
+    /// Whether the cable may be looked at now; else that is for a later cycle.
+    pub(crate) may_look: bool,
 }
 
 /// What was told of the cycles so far.
@@ -182,7 +186,8 @@ impl Told {
     /// Tells what a cycle showed that the last one did not: that it was not good, that it is good again, that
     /// a link is down though it was good, or that none is any more. Only then another frame goes out, which
     /// looks where the cable is broken; one more behind the next cycle where that found something new, and
-    /// some more, one behind each cycle, until enough copies of one have come.
+    /// some more, one behind each cycle, until enough copies of one have come. It answers whether one went
+    /// out.
     pub(crate) fn tell<P: HeardPorts, W: Write>(
         &mut self,
         cycle: u64,
@@ -190,15 +195,21 @@ impl Told {
         ports: &mut Watched<P>,
         setting: Setting<'_>,
         lines: &mut Lines<'_, W>,
-    ) -> io::Result<()>
+    ) -> io::Result<bool>
         ensures looks { MayBeLooked P.trips ports.old (length setting.entry.line.now) ports.new }
+        ensures kept { result ≡ Ok false → ports.new ≡ ports.old }
     {
         let now = Showing::of(ended, ports);
         if now == self.last && self.settled && self.open.is_none() {
-            return Ok(());
+            return Ok(false);
         }
-        let look = self.look(ended, ports, setting.line.len());
-        self.take_look(cycle, now, look, setting, lines)
+        let look = if setting.may_look {
+            self.look(ended, ports, setting.line.len())
+        } else {
+            self.no_look()
+        };
+        self.take_look(cycle, now, look, setting, lines)?;
+        Ok(look.is_made)
     }
 
     /// Looks once where the cable is broken now. Nothing new is known where the ports have failed.
@@ -209,10 +220,12 @@ impl Told {
         slaves: usize,
     ) -> Look
         ensures looks { MayBeLooked P.trips ports.old slaves ports.new }
+        ensures kept { result.is_made ≡ false → ports.new ≡ ports.old }
     {
         let known = Look {
             cable: self.known_cable(),
             is_last: true,
+            is_made: false,
         };
         if ended == Err(CycleFault::Port) {
             return known;
@@ -221,8 +234,26 @@ impl Told {
             Some(cable) => Look {
                 cable,
                 is_last: is_known(cable),
+                is_made: true,
             },
-            None => known,
+            None => Look {
+                is_made: true,
+                ..known
+            },
+        }
+    }
+
+    /// No look: what is not told yet stays as well known as it is.
+    fn no_look(&self) -> Look
+        ensures { result.is_made ≡ false }
+    {
+        Look {
+            cable: match self.open {
+                Some(open) => open.cable,
+                None => Located::Unknown,
+            },
+            is_last: false,
+            is_made: false,
         }
     }
 
@@ -255,14 +286,15 @@ impl Told {
                 self.settle(open.cycle, &open.showing, cable, setting, lines)?;
             }
         }
-        if look.is_last || showing.is_swapped(look.cable) || looks == MORE_CABLE_LOOKS {
+        let is_enough = look.is_made && looks == MORE_CABLE_LOOKS;
+        if look.is_last || showing.is_swapped(look.cable) || is_enough {
             return self.settle(began, &showing, look.cable, setting, lines);
         }
         self.open = Some(Open {
             cycle: began,
             showing,
             cable: look.cable,
-            looks: looks.saturating_add(1),
+            looks: looks.saturating_add(usize::from(look.is_made)),
         });
         Ok(())
     }

@@ -34,7 +34,7 @@ pub fn trips_of_a_run<C: Carrier, D: Task, T: Pace>()
         (before later : WatchedState (RemoteState C)) (last : Option End)
         → Rounds (sides_of (HeardTrips C.gives C.heard) D.listens D.held T.over) planned n s before last after
         later
-        → IsHistory before.ports (n * round_trips (length s.asked)) later.ports }
+        → IsHistory before.ports (n * round_trips (length s.asked) planned.plan.now.stop) later.ports }
     ensures left { (state : Option AlState) (slaves : ℕ) (before later : WatchedState (RemoteState C))
         (left : WayLeft) → IsLeft (HeardTrips C.gives C.heard) state slaves before left later
         → IsHistory before.ports leaving_trips later.ports }

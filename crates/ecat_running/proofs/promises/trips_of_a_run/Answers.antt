@@ -16,7 +16,7 @@ returns-clause-started g c before later line identities cable started =
 pub returns-clause-rounds : goal.returns-clause-rounds
 returns-clause-rounds g c planned n s after before later last rounds =
     history_of g.C.Carrier.gives g.C.Carrier.heard c.no_number_is_given_twice.ensures.is
-    (n * round_trips (length s.asked)) before.ports later.ports
+    (n * round_trips (length s.asked) planned.plan.now.stop) before.ports later.ports
     (rounds_within (sides_of (HeardTrips g.C.Carrier.gives g.C.Carrier.heard) g.D.Task.listens g.D.Task.held
     g.T.Pace.over) planned n s after before later last rounds)
 

@@ -1,8 +1,10 @@
-use Rattle.std.proofs.Common.{◌∙◌, ◌<◌, ◌-◌, ◌^◌, subst, sym}
+use Rattle.std.proofs.Common.{◌∙◌, ◌<◌, ◌-◌, ◌^◌, Bool, subst, sym}
 use Rattle.ec_run.specs.Cycles.{AddUp, IsCycle}
 use Rattle.ec_run.specs.Watched.{WatchedTrips}
 use Rattle.ec_run.specs.declared.cycles.Cycles.{Cycles}
 use Rattle.ecat_master.specs.Course.{IsFollowed}
+use Rattle.ecat_master.specs.Last.{in_op}
+use Rattle.ecat_master.specs.Over.{stops_behind}
 use Rattle.ecat_master.proofs.CourseLemmas.{supplied_length}
 use Rattle.ecat_master.proofs.run.LinePlan.round.Goals as goal
 
@@ -25,8 +27,13 @@ returns-clause-round g c = record {
       c.args.self.now.expected.now c.take_outputs.new.cycles c.cycle_in-ended.result
       c.cycle_in-ended.new.self c.cycle_in-ended.new.ports) c.begin_cycle.ensures
       c.cycle_in-ended.ensures.cycle;
-  followed = subst (λ p. IsFollowed g.P.HeardPorts.trips c.args.self.now.line.now p
-      c.follow-told.new.ports) c.end_cycle-late_copies.ensures c.follow-told.ensures.followed;
+  followed = subst (λ p. IsFollowed g.P.HeardPorts.trips c.args.self.now.line.now
+      (stops_behind c.args.self.now.plan.now c.cycle_in-ended.result
+      (in_op c.args.self.now.plan.now.states c.cycle_in-ended.new.self.image)) p c.follow-told.new.ports)
+      c.end_cycle-late_copies.ensures
+      (subst (λ (b : Bool). IsFollowed g.P.HeardPorts.trips c.args.self.now.line.now
+      (stops_behind c.args.self.now.plan.now c.cycle_in-ended.result b) c.end_cycle-late_copies.new.ports
+      c.follow-told.new.ports) c.in_op.ensures c.follow-told.ensures.followed);
 }
 
 pub returns-clause-adds_up : goal.returns-clause-adds_up
