@@ -1,7 +1,7 @@
 -- An error is acknowledged over a ring: AL status is read, the state that it tells is asked for, and the next
 -- read of AL status decides where it finds no error.
 use Rattle.std.proofs.Common.{◌≡◌, ℕ, zero, suc, ◌+◌, ◌≤◌, false, Bool, cond, eqb, ltb, List, [], ◌∷◌, ◌++◌}
-use Rattle.std.proofs.Common.{map, get_or, Option, None, Some, Result, Ok, Err, replicate, refl, sym, ap, ◌∙◌}
+use Rattle.std.proofs.Common.{map, get_or, None, Some, Result, Ok, Err, replicate, refl, sym, ap, ◌∙◌}
 use Rattle.std.proofs.Common.{arith, subst}
 use Rattle.std.specs.List.{AllByRecursion}
 use Rattle.ec_regs.specs.Al.{code_of, status_of}
@@ -18,7 +18,7 @@ use Rattle.ec_app.specs.Lending.{with_controller}
 use Rattle.ec_app.specs.Slave.{step}
 use Rattle.ec_app.specs.State.{SlaveState}
 use Rattle.ec_app.specs.Table.{first_fitting}
-use Rattle.ec_ring.specs.Ring.{RingState, line_of, stepped}
+use Rattle.ec_ring.specs.Ring.{RingState, stepped}
 use Rattle.ec_master.specs.RingTrips.{RingTrips}
 use Rattle.ec_services.specs.Acknowledgement.{IsAcknowledged, ThenAcknowledges, error_question, status_by}
 use Rattle.ec_services.specs.Acknowledgement.{unless_error}

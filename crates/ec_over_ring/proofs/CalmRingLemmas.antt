@@ -358,6 +358,46 @@ ring_answers_download peer peer_later i j v limit r before behind s result later
     (calm_runs limit (Download i j v) (begun peer) calm.sure.last (begun_at s) h calm.sure.answer
     calm.sure.runs))
 
+-- ---- the slave behind a call
+
+-- it is its peer's still, from whatever counter on
+pub record IsStillOfPeer (peer peer_later : Peer) (place : ℕ) (s : SlaveState) (later : RingState)
+    : Type 0 where
+  pub peer_is : IsPeer peer_later
+  pub station : peer_later.station ≡ peer.station
+  pub before : List SlaveState
+  pub behind : List SlaveState
+  pub has : HasSlave peer_later later before (slave_at place s later) behind
+
+pub still_of_peer : {A : Type 0} (peer peer_later : Peer) (asked : Sdo) (limit : ℕ)
+    (comes_to : Mail → Result A MasterFault) (r : RingState) (before behind : List SlaveState)
+    (s : SlaveState) (result : Result A MasterFault) (later : RingState) → IsPeer peer
+    → HasSlave peer r before s behind → AtMostOneDown r → IsRequest asked
+    → IsSure RingTrips r peer (service_of asked comes_to) limit result peer_later later
+    → IsStillOfPeer peer peer_later (length before) s later
+still_of_peer {A} peer peer_later asked limit comes_to r before behind s result later peer_is has down fits
+    sure =
+    let place : ℕ = length before in
+    let calm = calm_call peer peer_later asked limit comes_to r before behind s result later peer_is has down
+    fits sure in
+    let over = calm.end.calling.over in
+    let call = calm.end.calling.call in
+    let is : peer_later ≡ calm.sure.last.peer = calm.sure.peer_is in
+    record {
+      peer_is = subst (λ (p : Peer). IsPeer p) (sym is) call.peer_is;
+      station = ap (λ (p : Peer). p.station) is ∙ calm.station;
+      before = over.before;
+      behind = over.behind;
+      has = subst (λ (p : Peer). HasSlave p later over.before (slave_at place s later) over.behind) (sym is)
+          (record {
+            slaves = over.slaves;
+            all = over.all;
+            others_before = over.others_before;
+            others_behind = over.others_behind;
+            own = call.slaves.0;
+          });
+    }
+
 -- ---- the slave behind a download
 
 -- no request stands in it, it holds the value, and where none stood at first the other objects are as they

@@ -25,6 +25,7 @@ use Rattle.ec_app.specs.Left.{IsLeft, SameLeft}
 use Rattle.ec_app.specs.Lending.{with_controller}
 use Rattle.ec_app.specs.Slave.{step}
 use Rattle.ec_app.specs.State.{SlaveState}
+use Rattle.ec_app.specs.declared.value.Value.{Value}
 use Rattle.ec_app.proofs.Laws.{step_leaves}
 use Rattle.ec_ring.specs.Reach.{back, front, turns}
 use Rattle.ec_ring.specs.Ring.{RingState, controllers, line_of, with_controllers}
@@ -37,6 +38,7 @@ use Rattle.ec_ring.specs.declared.weather.Came.{Came}
 use Rattle.ec_master.specs.RingTrips.{RingTrips}
 use Rattle.ec_run.specs.Travels.{IsWithin, Travels}
 use Rattle.ec_over_ring.specs.Brought.{ReachesAll}
+use Rattle.ec_over_ring.proofs.FixedLemmas.{HoldsFixed, step_fixed}
 use Rattle.ec_over_ring.proofs.NeedsLemmas.{needs, step_needs}
 use Rattle.ec_over_ring.proofs.ShapeLemmas.{shape_of, step_shape}
 use Rattle.ec_over_ring.proofs.SparedLemmas.{emptied_byte, filled_byte, outside, served_none, settled_kept}
@@ -194,10 +196,12 @@ travel_mild links cs d mild are =
 
 -- ---- the slaves of a ring
 
--- what its application needs, its objects but for their values, and its records are as they were found
+-- what its application needs, its objects but for values that may be written, and its records are as they
+-- were found
 pub record IsAsFound (s t : SlaveState) : Type 0 where
   pub needs_are : needs t ≡ needs s
   pub shapes : (i j : ℕ) → shape_of i j t.application.objects ≡ shape_of i j s.application.objects
+  pub fixed : (i j : ℕ) (v : Value) → HoldsFixed i j v s → HoldsFixed i j v t
   pub bytes : (a : ℕ) → 18 ≤ a → IsLeft a → ((i : ℕ) → a ≢ status_address i)
       → get_or t.controller.memory a 0 ≡ get_or s.controller.memory a 0
 
@@ -211,7 +215,12 @@ pub found_same : (ss : List SlaveState) → AreAsFound ss ss
 unfolding AreAsFound
 found_same [] = tt
 found_same (s ∷ ss) = (
-  record { needs_are = refl; shapes = λ i j. refl; bytes = λ a high left none. refl },
+  record {
+    needs_are = refl;
+    shapes = λ i j. refl;
+    fixed = λ i j v at. at;
+    bytes = λ a high left none. refl;
+  },
   found_same ss,
 )
 
@@ -222,6 +231,7 @@ found_then (s ∷ ss) (t ∷ ts) (u ∷ us) first second = (
   record {
     needs_are = second.0.needs_are ∙ first.0.needs_are;
     shapes = λ i j. second.0.shapes i j ∙ first.0.shapes i j;
+    fixed = λ i j v at. second.0.fixed i j v (first.0.fixed i j v at);
     bytes = λ a high left none. second.0.bytes a high left none ∙ first.0.bytes a high left none;
   },
   found_then ss ts us first.1 second.1,
@@ -240,6 +250,7 @@ slave_found s c controller same =
     record {
       needs_are = step_needs t;
       shapes = λ i j. step_shape i j t;
+      fixed = λ i j v at. step_fixed i j v t at;
       bytes = λ a high is none. left.bytes a is ∙ same a high is.register none;
     }
 

@@ -56,9 +56,16 @@ pub use Rattle.ec_over_ring.proofs.CountedLemmas.{IsCountedSo, ring_counted}
 unfoldable pub use Rattle.ec_over_ring.proofs.StagesLemmas.{Paired}
 pub use Rattle.ec_over_ring.proofs.StagesLemmas.{AtFirst, InInit, InPreOp, InSafeOp, MayTake}
 pub use Rattle.ec_over_ring.proofs.StagesLemmas.{first_stage, init_done, init_willing, objects_done, op_done}
-pub use Rattle.ec_over_ring.proofs.StagesLemmas.{pre_op_done, pre_op_willing, safe_op_done, willing_first}
+pub use Rattle.ec_over_ring.proofs.StagesLemmas.{found_so, init_keeps, others_apart, pre_op_done}
+pub use Rattle.ec_over_ring.proofs.StagesLemmas.{pre_op_keeps, pre_op_willing, safe_op_done, willing_first}
+pub use Rattle.ec_over_ring.proofs.ReadingLemmas.{AreFree, IsRead, IsReadyFor, IsServed, first_served}
+pub use Rattle.ec_over_ring.proofs.ReadingLemmas.{fixed_read, read_keeps, read_leaves, ready_line}
 pub use Rattle.ec_over_ring.proofs.BoxesLemmas.{AreRead, boxes_last, boxes_read, boxes_set, peer_high}
-pub use Rattle.ec_over_ring.proofs.TakingLemmas.{AreWilling, none_taken, off_free}
+unfoldable pub use Rattle.ec_over_ring.proofs.SparedLemmas.{HasSuch}
+pub use Rattle.ec_over_ring.proofs.SparedLemmas.{IsSuch, such_as, such_one}
+unfoldable pub use Rattle.ec_over_ring.proofs.TakingLemmas.{Endures}
+pub use Rattle.ec_over_ring.proofs.TakingLemmas.{AreWilling, free_still, none_taken, off_free}
+pub use Rattle.ec_over_ring.proofs.FixedLemmas.{HoldsFixed}
 pub use Rattle.ec_over_ring.proofs.LeftLemmas.{left_in_op}
 pub use Rattle.ec_over_ring.proofs.HeardLemmas.{heard_is_ring, watched_ring}
 pub use Rattle.ec_over_ring.proofs.RecoveryLemmas.{begins, decides}

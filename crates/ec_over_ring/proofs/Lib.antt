@@ -38,6 +38,7 @@ pub mod AskedLemmas
 pub mod CallLemmas
 pub mod RecoveryLemmas
 pub mod ShapeLemmas
+pub mod FixedLemmas
 pub mod ValueLemmas
 pub mod WeatherLemmas
 pub mod RingCallLemmas
@@ -81,5 +82,6 @@ pub mod PlacedLemmas
 pub mod AddressedLemmas
 pub mod CountedLemmas
 pub mod StagesLemmas
+pub mod ReadingLemmas
 pub mod BoxesLemmas
 pub mod Laws

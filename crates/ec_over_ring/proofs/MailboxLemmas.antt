@@ -17,7 +17,6 @@ use Rattle.std.proofs.lemmas.Nat.{and_le_l, or_lt}
 use Rattle.std.proofs.lemmas.Nat.Bits.{same_from_bits_below, bit_at_set_same, bit_at_clear_same}
 use Rattle.ec_regs.specs.Bits.{AreBytes, with_bits}
 use Rattle.ec_regs.specs.SyncMan.{is_active, is_mailbox, is_full, master_reads, master_writes}
-use Rattle.ec_regs.specs.AddressRange.{within}
 use Rattle.ec_regs.specs.declared.registers.TheConstants.{STATION_ADDRESS, MEMORY_SIZE, PROCESS_MEMORY}
 use Rattle.ec_regs.specs.declared.sync_man.SyncMan.{SyncMan}
 use Rattle.ec_regs.proofs.Laws.{AreBytes-with_bits, length-with_bits, bit_of_byte, bit-with_bits_taken}

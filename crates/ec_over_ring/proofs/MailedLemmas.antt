@@ -44,6 +44,7 @@ use Rattle.ec_over_ring.specs.Brought.{HasAreas, ReachesAll}
 use Rattle.ec_over_ring.specs.Recovery.{request_stands}
 use Rattle.ec_over_ring.specs.Started.{HoldsFmmu, HoldsManager, HoldsSet, IsSetUp, IsWanted}
 use Rattle.ec_over_ring.proofs.BroughtLemmas.{has_one}
+use Rattle.ec_over_ring.proofs.FixedLemmas.{HoldsFixed}
 use Rattle.ec_over_ring.proofs.LineBroughtLemmas.{IsThere}
 use Rattle.ec_over_ring.proofs.NeedsLemmas.{needs}
 use Rattle.ec_over_ring.proofs.QuietLemmas.{IsQuiet}
@@ -66,6 +67,7 @@ pub record IsMailed (to : ℕ) (s t : SlaveState) : Type 0 where
       → get_or t.controller.memory a 0 ≡ get_or s.controller.memory a 0
   pub needs_are : needs t ≡ needs s
   pub shapes : (i j : ℕ) → shape_of i j t.application.objects ≡ shape_of i j s.application.objects
+  pub fixed : (i j : ℕ) (v : Value) → HoldsFixed i j v s → HoldsFixed i j v t
   pub unasked : t.controller.written ≡ false
   pub status : s.controller.written ≡ false
       → get_or t.controller.memory 304 0 ≡ get_or s.controller.memory 304 0
@@ -96,6 +98,7 @@ is_mailed to d none s t follow = record {
   bytes = λ a left no_status. follow.bytes a left (inr (spares_all to d none a left.register no_status));
   needs_are = follow.needs_are;
   shapes = follow.shapes;
+  fixed = follow.fixed;
   unasked = follow.unasked;
   status = λ idle. follow.status idle (inr none.above);
   quiet = λ other. follow.quiet (inl (λ same. other (sym none.named ∙ same)));

@@ -214,7 +214,7 @@ stored_shape i j k l v es size =
 -- ---- a mail
 
 -- what holds of each row, and of the last where no test held, holds of what a table says
-table_or_last : {R : Type 0} (P : R → Type 0) (rows : List (Bool × R)) (other : R)
+pub table_or_last : {R : Type 0} (P : R → Type 0) (rows : List (Bool × R)) (other : R)
     → AllByRecursion (λ (row : Bool × R). P row.1) rows
     → (AllByRecursion (λ (row : Bool × R). row.0 ≡ false) rows → P other) → P (first_fitting rows other)
 table_or_last P [] other each last = last tt

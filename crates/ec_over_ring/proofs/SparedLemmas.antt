@@ -35,6 +35,7 @@ use Rattle.ec_app.specs.Left.{IsBeside, IsLeft, SameLeft}
 use Rattle.ec_app.specs.Lending.{with_controller}
 use Rattle.ec_app.specs.Slave.{step}
 use Rattle.ec_app.specs.State.{SlaveState}
+use Rattle.ec_app.specs.declared.value.Value.{Value}
 use Rattle.ec_app.proofs.Laws.{step_leaves}
 use Rattle.ec_ring.specs.Reach.{back, front, turns}
 use Rattle.ec_ring.specs.Ring.{RingState, controllers, line_of, with_controllers}
@@ -50,6 +51,7 @@ use Rattle.ec_over_ring.specs.Recovery.{request_stands}
 use Rattle.ec_over_ring.specs.States.{IsElsewhere}
 use Rattle.ec_over_ring.specs.Transfers.{IsSlave}
 use Rattle.ec_over_ring.proofs.BroughtLemmas.{status_stays, step_taken}
+use Rattle.ec_over_ring.proofs.FixedLemmas.{HoldsFixed, step_fixed}
 use Rattle.ec_over_ring.proofs.HoldersLemmas.{HasOne, one_more}
 use Rattle.ec_over_ring.proofs.NeedsLemmas.{needs, step_needs}
 use Rattle.ec_over_ring.proofs.PassLemmas.{address_stays, unaddressed}
@@ -411,14 +413,15 @@ travel_spares links cs d n station are few spares =
 -- ---- the slaves of a ring
 
 -- what a trip and the step behind it leave of a slave: its station and registers, what its application needs,
--- its objects but for their values, and its AL status, where no state was asked of it; and all objects, where
--- no request is in its mailbox and none is written there
+-- its objects but for values that may be written, and its AL status, where no state was asked of it; and all
+-- objects, where no request is in its mailbox and none is written there
 pub record IsFollowed (address n : ℕ) (s t : SlaveState) : Type 0 where
   pub station : station_of t ≡ station_of s
   pub bytes : (a : ℕ) → IsLeft a → (adp_of address ≢ station_of s) ⊎ IsSpared (ado_of address) n a
       → get_or t.controller.memory a 0 ≡ get_or s.controller.memory a 0
   pub needs_are : needs t ≡ needs s
   pub shapes : (i j : ℕ) → shape_of i j t.application.objects ≡ shape_of i j s.application.objects
+  pub fixed : (i j : ℕ) (v : Value) → HoldsFixed i j v s → HoldsFixed i j v t
   pub unasked : t.controller.written ≡ false
   pub status : s.controller.written ≡ false
       → (adp_of address ≢ station_of s) ⊎ (AL_STATUS_CODE + 2 ≤ ado_of address)
@@ -442,6 +445,7 @@ slave_followed address n s c controller sparing =
       bytes = λ a left spared. same.bytes a left ∙ sparing.bytes a spared;
       needs_are = step_needs t;
       shapes = λ i j. step_shape i j t;
+      fixed = λ i j v at. step_fixed i j v t at;
       unasked = step_taken t;
       status = λ idle spared.
           status_stays t (sparing.written (behind spared) ∙ idle) controller.memory_size

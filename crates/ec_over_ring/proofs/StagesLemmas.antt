@@ -31,8 +31,9 @@ use Rattle.ec_over_ring.proofs.SucceedLemmas.{boxes_of, boxes_still, init_low, m
 use Rattle.ec_over_ring.proofs.SucceedLemmas.{objects_are}
 use Rattle.ec_over_ring.proofs.SucceedLemmas.{pre_op_clear, pre_op_low, process_records, still_so_far}
 use Rattle.ec_over_ring.proofs.SucceedLemmas.{to_init, to_op, to_pre_op, to_safe_op}
-use Rattle.ec_over_ring.proofs.TakingLemmas.{AreReady, AreWilling, IsWilling, LineWritten, SameAreas}
-use Rattle.ec_over_ring.proofs.TakingLemmas.{line_written, stay_ready, stay_willing, willing, willing_still}
+use Rattle.ec_over_ring.proofs.TakingLemmas.{AreReady, AreWilling, Endures, IsLeftSo, IsWilling, LineWritten}
+use Rattle.ec_over_ring.proofs.TakingLemmas.{SameAreas, line_written, low_keeps, stay_ready, stay_willing}
+use Rattle.ec_over_ring.proofs.TakingLemmas.{willing, willing_still}
 use Rattle.ec_over_ring.proofs.TripKeepsLemmas.{within_keeps}
 
 -- ---- slaves by their places
@@ -45,7 +46,7 @@ Paired P [] (s ∷ ss) = ⊥
 Paired P (w ∷ ws) [] = ⊥
 
 -- each of them is so by its station address, where those are the wanted ones, of which no two are the same
-others_apart : (station : ℕ) (line : List Wanted) (ss : List SlaveState)
+pub others_apart : (station : ℕ) (line : List Wanted) (ss : List SlaveState)
     → map station_of ss ≡ map (λ (w : Wanted). w.station) line
     → AllByRecursion (λ (other : Wanted). other.station ≢ station) line
     → AllByRecursion (IsElsewhere station) ss
@@ -134,6 +135,14 @@ areas_found s t found n from few = (
       ((switch_registers n few).no_status 0 (omega arith)))),
 )
 
+pub found_so : (s t : SlaveState) → IsAsFound s t → IsLeftSo s t
+found_so s t found = record {
+  needs_are = found.needs_are;
+  shapes = found.shapes;
+  fixed = found.fixed;
+  areas = areas_found s t found;
+}
+
 abbrev pub MayTake : Wanted → SlaveState → Type 0
 MayTake wanted s = AreNone wanted.startup ⊎ TakesAll wanted s
 
@@ -181,6 +190,14 @@ pub init_willing : (line : List Wanted) (result : Result (Unit {0}) StepFault) (
 init_willing line result r later are ring brings willing =
     stay_willing (steps_of Init) line line result r later ring are init_low brings willing
 
+-- so it is of whatever holds of a slave until it is asked for Safe-Op
+pub init_keeps : (P : SlaveState → Type 0) (station : ℕ) (line : List Wanted)
+    (result : Result (Unit {0}) StepFault) (r later : RingState) → Endures P → AreWanted line → ReachesAll r
+    → Brings RingTrips r 0 line (steps_of Init) result later → HasSuch P station r.slaves
+    → HasSuch P station later.slaves
+init_keeps P station line result r later endures are ring brings has =
+    low_keeps P station (steps_of Init) line result r later endures ring are init_low brings has
+
 pub pre_op_done : (line : List Wanted) (result : Result (Unit {0}) StepFault) (r later : RingState)
     → AreWanted line → InInit line r → Brings RingTrips r 0 line (steps_of PreOp) result later
     → Goes (InPreOp line) result later
@@ -207,6 +224,13 @@ pub pre_op_willing : (line : List Wanted) (result : Result (Unit {0}) StepFault)
     → AreWilling line r → AreWilling line later
 pre_op_willing line result r later are ring brings willing =
     stay_willing (steps_of PreOp) line line result r later ring are pre_op_low brings willing
+
+pub pre_op_keeps : (P : SlaveState → Type 0) (station : ℕ) (line : List Wanted)
+    (result : Result (Unit {0}) StepFault) (r later : RingState) → Endures P → AreWanted line → ReachesAll r
+    → Brings RingTrips r 0 line (steps_of PreOp) result later → HasSuch P station r.slaves
+    → HasSuch P station later.slaves
+pre_op_keeps P station line result r later endures are ring brings has =
+    low_keeps P station (steps_of PreOp) line result r later endures ring are pre_op_low brings has
 
 pub objects_done : (line : List Wanted) (result : Result (Unit {0}) StepFault) (r later : RingState)
     → AreWanted line → InPreOp line r → AreWilling line r

@@ -21,6 +21,7 @@ use Rattle.ec_app.specs.Roles.{is_answer_mailbox, is_request_mailbox}
 use Rattle.ec_app.specs.State.{SlaveState}
 use Rattle.ec_app.specs.declared.objects.Entry.{Entry}
 use Rattle.ec_app.specs.declared.sdo.Sdo.TheVariants.{Download}
+use Rattle.ec_app.specs.declared.value.Value.{Value}
 use Rattle.ec_ring.specs.Ring.{RingState}
 use Rattle.ec_master.specs.RingTrips.{RingTrips}
 use Rattle.ec_services.specs.Mailbox.{IsPeer}
@@ -47,6 +48,7 @@ use Rattle.ec_over_ring.specs.Transfers.{IsRequest, IsSlave, download_of}
 use Rattle.ec_over_ring.proofs.AcceptedLemmas.{stands_as}
 use Rattle.ec_over_ring.proofs.BroughtLemmas.{has_one}
 use Rattle.ec_over_ring.proofs.CalmRingLemmas.{IsBehind, ring_answers_download, slave_behind}
+use Rattle.ec_over_ring.proofs.FixedLemmas.{HoldsFixed}
 use Rattle.ec_over_ring.proofs.LineBroughtLemmas.{IsThere}
 use Rattle.ec_over_ring.proofs.MailedLemmas.{IsMailed, LiesHigh, Outlasts, mailed_manager, mailed_there}
 use Rattle.ec_over_ring.proofs.MailedLemmas.{runs_outlasted}
@@ -139,7 +141,7 @@ same_meets x y n from size area switch =
       switch,
     ) refl
 
-free_still : (x y : List ℕ) (o : Option SyncMan) → SameAreas x y → IsFree x o → IsFree y o
+pub free_still : (x y : List ℕ) (o : Option SyncMan) → SameAreas x y → IsFree x o → IsFree y o
 unfolding SameAreas
 free_still x y None same free = tt
 free_still x y (Some m) same free = λ n from few.
@@ -203,15 +205,38 @@ lower_range other low high d less range = record {
   to = let to : ado_of d.address + length d.payload ≤ high = range.to in omega (arith, to, less);
 }
 
-willing_left : (wanted : Wanted) (y : Step) (other : ℕ) → is_setting y ≡ true → ends y ≤ 2064
-    → StepLeaves (IsWilling wanted) wanted.station other y
-unfolding StepLeaves
-willing_left wanted y other sets low d range = record {
+-- ---- what stays of each slave
+
+-- what stays of a slave until it is asked for Safe-Op: what its application needs, its objects but for values
+-- that may be written, and the areas of its sync managers for process data
+pub record IsLeftSo (s t : SlaveState) : Type 0 where
+  pub needs_are : needs t ≡ needs s
+  pub shapes : (i j : ℕ) → shape_of i j t.application.objects ≡ shape_of i j s.application.objects
+  pub fixed : (i j : ℕ) (v : Value) → HoldsFixed i j v s → HoldsFixed i j v t
+  pub areas : SameAreas s.controller.memory t.controller.memory
+
+-- this holds of a slave as long as that stays
+unfoldable pub Endures : (SlaveState → Type 0) → Type 0
+Endures P = (s t : SlaveState) → IsLeftSo s t → P s → P t
+
+willing_endures : (wanted : Wanted) → Endures (IsWilling wanted)
+unfolding Endures
+willing_endures wanted s t left so = willing_still wanted s t left.needs_are left.shapes left.areas so
+
+endures_left : (P : SlaveState → Type 0) (station : ℕ) (y : Step) (other : ℕ) → Endures P
+    → is_setting y ≡ true → ends y ≤ 2064 → StepLeaves P station other y
+unfolding StepLeaves Endures
+endures_left P station y other endures sets low d range = record {
   by_station = range.by_station;
   address = spares_station other (begins y) (ends y) d (begins_high y sets) range;
   keeps = λ s t is follow so.
-      willing_still wanted s t follow.needs_are follow.shapes
-      (areas_followed other (begins y) d s t (lower_range other (begins y) (ends y) d low range) follow) so;
+      endures s t (record {
+        needs_are = follow.needs_are;
+        shapes = follow.shapes;
+        fixed = follow.fixed;
+        areas = areas_followed other (begins y) d s t
+            (lower_range other (begins y) (ends y) d low range) follow;
+      }) so;
 }
 
 -- so it is of all steps of the first two phases
@@ -219,23 +244,34 @@ unfoldable pub each_low : List Step → Bool
 each_low [] = true
 each_low (y ∷ ys) = (is_setting y && leb (ends y) 2064) && each_low ys
 
-low_left : (wanted : Wanted) (other : ℕ) (ys : List Step) → each_low ys ≡ true
-    → AllLeave (IsWilling wanted) wanted.station other ys
+low_left : (P : SlaveState → Type 0) (station other : ℕ) (ys : List Step) → Endures P → each_low ys ≡ true
+    → AllLeave P station other ys
 unfolding each_low AllLeave
-low_left wanted other [] low = tt
-low_left wanted other (y ∷ ys) low =
+low_left P station other [] endures low = tt
+low_left P station other (y ∷ ys) endures low =
     let parts = and_parts (is_setting y && leb (ends y) 2064) (each_low ys) low in
     let one = and_parts (is_setting y) (leb (ends y) 2064) parts.0 in
     let test : leb (ends y) 2064 ≡ true = one.1 in
-    let less : ends y ≤ 2064 = grind (arith, nat_tests) in
-    ((one.0, willing_left wanted y other one.0 less), low_left wanted other ys parts.1)
+    let less : ends y ≤ 2064 = grind (arith, nat_tests) in (
+      (one.0, endures_left P station y other endures one.0 less),
+      low_left P station other ys endures parts.1,
+    )
 
-line_low : (wanted : Wanted) (ys : List Step) (line : List Wanted) → AreWanted line → each_low ys ≡ true
-    → LineLeaves (IsWilling wanted) wanted.station ys line
+line_low : (P : SlaveState → Type 0) (station : ℕ) (ys : List Step) (line : List Wanted) → Endures P
+    → AreWanted line → each_low ys ≡ true → LineLeaves P station ys line
 unfolding LineLeaves
-line_low wanted ys [] are low = tt
-line_low wanted ys (other ∷ rest) are low =
-    ((are.0, low_left wanted other.station ys low), line_low wanted ys rest are.2 low)
+line_low P station ys [] endures are low = tt
+line_low P station ys (other ∷ rest) endures are low = (
+  (are.0, low_left P station other.station ys endures low),
+  line_low P station ys rest endures are.2 low,
+)
+
+pub low_keeps : (P : SlaveState → Type 0) (station : ℕ) (ys : List Step) (line : List Wanted)
+    (result : Result (Unit {0}) StepFault) (r later : RingState) → Endures P → ReachesAll r → AreWanted line
+    → each_low ys ≡ true → Brings RingTrips r 0 line ys result later → HasSuch P station r.slaves
+    → HasSuch P station later.slaves
+low_keeps P station ys line result r later endures ring are low brings has =
+    line_keeps P station 0 line ys result r later ring (line_low P station ys line endures are low) brings has
 
 abbrev pub AreWilling : List Wanted → RingState → Type 0
 AreWilling line r =
@@ -246,7 +282,7 @@ pub stay_willing : (ys : List Step) (some line : List Wanted) (result : Result (
     → Brings RingTrips r 0 line ys result later → AreWilling some r → AreWilling some later
 stay_willing ys [] line result r later ring are low brings so = tt
 stay_willing ys (wanted ∷ some) line result r later ring are low brings so = (
-  line_keeps (IsWilling wanted) wanted.station 0 line ys result r later ring (line_low wanted ys line are low)
+  low_keeps (IsWilling wanted) wanted.station ys line result r later (willing_endures wanted) ring are low
       brings so.0,
   stay_willing ys some line result r later ring are low brings so.1,
 )
@@ -304,8 +340,19 @@ areas_mailed to s t mailed n from few = (
       ((switch_registers n few).no_status 0 (omega arith)))),
 )
 
--- the trips of a call leave it so
-ready_outlasts : (wanted : Wanted) (to : ℕ) → Outlasts (IsReady wanted) wanted.station to
+-- the trips of a call leave a slave so
+pub endures_outlasts : (P : SlaveState → Type 0) (station to : ℕ) → Endures P → Outlasts P station to
+unfolding Outlasts Endures
+endures_outlasts P station to endures s t is mailed so =
+    endures s t (record {
+      needs_are = mailed.needs_are;
+      shapes = mailed.shapes;
+      fixed = mailed.fixed;
+      areas = areas_mailed to s t mailed;
+    }) so
+
+-- and it is ready still
+pub ready_outlasts : (wanted : Wanted) (to : ℕ) → Outlasts (IsReady wanted) wanted.station to
 unfolding Outlasts
 ready_outlasts wanted to s t is mailed ready = record {
   stage = record {
@@ -323,7 +370,7 @@ HasReady wanted r = HasSuch (IsReady wanted) wanted.station r.slaves
 -- ---- an object is written
 
 -- what holds of the one slave with a station holds of this one
-such_at : (P : SlaveState → Type 0) (station : ℕ) (ss before : List SlaveState) (s : SlaveState)
+pub such_at : (P : SlaveState → Type 0) (station : ℕ) (ss before : List SlaveState) (s : SlaveState)
     (behind : List SlaveState) → ss ≡ before ++ s ∷ behind → station_of s ≡ station
     → AllByRecursion (IsElsewhere station) before → HasSuch P station ss → P s
 unfolding HasSuch
@@ -352,11 +399,11 @@ most_room : (s : SyncMan) → is_active s ≡ true → is_mailbox s ≡ true →
 unfolding is_active
 most_room s active mailbox = grind (arith, nat_tests)
 
-record IsBox (m : SyncMan) : Type 0 where
-  active : is_active m ≡ true
-  low : 4096 ≤ m.start
-  least : 16 ≤ m.length
-  most : m.length ≤ 1486
+pub record IsBox (m : SyncMan) : Type 0 where
+  pub active : is_active m ≡ true
+  pub low : 4096 ≤ m.start
+  pub least : 16 ≤ m.length
+  pub most : m.length ≤ 1486
 
 is_box : (m : SyncMan) → is_active m ≡ true → is_mailbox m ≡ true → IsBox m
 is_box m active mailbox = record {
@@ -366,24 +413,24 @@ is_box m active mailbox = record {
   most = most_room m active mailbox;
 }
 
-request_box : (m : SyncMan) → is_request_mailbox m ≡ true → IsBox m
+pub request_box : (m : SyncMan) → is_request_mailbox m ≡ true → IsBox m
 request_box m is =
     let kind = and_parts (is_active m && is_mailbox m) (master_writes m) is in
     let active = and_parts (is_active m) (is_mailbox m) kind.0 in
     is_box m active.0 active.1
 
-answer_box : (m : SyncMan) → is_answer_mailbox m ≡ true → IsBox m
+pub answer_box : (m : SyncMan) → is_answer_mailbox m ≡ true → IsBox m
 answer_box m is =
     let kind = and_parts (is_active m && is_mailbox m) (master_reads m) is in
     let active = and_parts (is_active m) (is_mailbox m) kind.0 in
     is_box m active.0 active.1
 
-abbrev peer_with : ℕ → SyncMan → SyncMan → ℕ → Peer
+abbrev pub peer_with : ℕ → SyncMan → SyncMan → ℕ → Peer
 peer_with station a b counter =
     record { station = station; to = area_of a; from = area_of b; counter = counter }
 
 -- the slave is that peer's
-of_peer : (station counter : ℕ) (a b : SyncMan) (s : SlaveState) → IsSlave s → station < 65536
+pub of_peer : (station counter : ℕ) (a b : SyncMan) (s : SlaveState) → IsSlave s → station < 65536
     → s.controller.written ≡ false → IsBox a → IsBox b → Fits (Some a) → Fits (Some b)
     → ArePaired (Some a) (Some b) → HoldsManager s.controller.memory 0 (Some a)
     → HoldsManager s.controller.memory 1 (Some b) → IsFree s.controller.memory (Some a)
@@ -691,7 +738,7 @@ pub record LineWritten (line : List Wanted) (result : Result (Unit {0}) StepFaul
       → HasKept some station later
   pub kept : AllKept line later
 
-still_ready : (line : List Wanted) (r later : RingState)
+pub still_ready : (line : List Wanted) (r later : RingState)
     → ((wanted : Wanted) → HasReady wanted r → HasReady wanted later) → AreReady line r → AreReady line later
 still_ready [] r later stay ready = tt
 still_ready (wanted ∷ line) r later stay ready =
