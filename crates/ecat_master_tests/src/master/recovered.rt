@@ -22,12 +22,12 @@ static ROWS: [Row; 5] = [
         cycles: 200,
         status: 0,
         text: brought!(
-            "cycle 3: not all in Op\ncycle 47: slave 0 (0x1001) was in Pre-Op, brought to Op\n\
-            cycle 104: slave 1 (0x1002) had an error in Safe-Op: 0x001b sync manager watchdog, \
+            "cycle 3: not all in Op\ncycle 48: slave 0 (0x1001) was in Pre-Op, brought to Op\n\
+            cycle 106: slave 1 (0x1002) had an error in Safe-Op: 0x001b sync manager watchdog, \
             brought to Op\n\
-            cycle 159: all in Op again after 156 cycles\n\
-            cycle 159: slave 2 (0x1003) was in Init, brought to Op\nleft in Init\n\
-            cycles 200 good 200 short 0 over 0 fault 0 not-in-op 156\n\
+            cycle 162: all in Op again after 159 cycles\n\
+            cycle 162: slave 2 (0x1003) was in Init, brought to Op\nleft in Init\n\
+            cycles 200 good 200 short 0 over 0 fault 0 not-in-op 159\n\
             cycle time least 0 mean 0 greatest 0 microseconds, 50% within 0, 90% 0, 99% 0, 99.9% 0\n\
             item 0 LRW data a0a1a2 wkc 9 of 9\n"
         ),
@@ -42,8 +42,8 @@ static ROWS: [Row; 5] = [
         cycles: 120,
         status: 0,
         text: brought!(
-            "cycle 27: not all in Op\ncycle 81: all in Op again after 54 cycles\n\
-            cycle 81: slave 0 (0x1001) had lost its station, brought to Op\n\
+            "cycle 28: not all in Op\ncycle 82: all in Op again after 54 cycles\n\
+            cycle 82: slave 0 (0x1001) had lost its station, brought to Op\n\
             left in Init\ncycles 120 good 120 short 0 over 0 fault 0 not-in-op 54\n\
             cycle time least 0 mean 0 greatest 0 microseconds, 50% within 0, 90% 0, 99% 0, 99.9% 0\n\
             item 0 LRW data a0a1a2 wkc 9 of 9\n"
@@ -59,8 +59,8 @@ static ROWS: [Row; 5] = [
         cycles: 120,
         status: 0,
         text: brought!(
-            "cycle 43: not all in Op\ncycle 97: all in Op again after 54 cycles\n\
-            cycle 97: slave 1 (0x1002) had lost its station, brought to Op\n\
+            "cycle 44: not all in Op\ncycle 98: all in Op again after 54 cycles\n\
+            cycle 98: slave 1 (0x1002) had lost its station, brought to Op\n\
             left in Init\ncycles 120 good 120 short 0 over 0 fault 0 not-in-op 54\n\
             cycle time least 0 mean 0 greatest 0 microseconds, 50% within 0, 90% 0, 99% 0, 99.9% 0\n\
             item 0 LRW data a0a1a2 wkc 9 of 9\n"

@@ -32,8 +32,8 @@ static ROWS: [Row; 5] = [
         leave: Some(AlState::Init),
         status: 1,
         text: brought!(
-            "cycle 3: not all in Op\ncycle 3: slave 1 (0x1002) is in Safe-Op\n\
-            cycle 4: slave 2 (0x1003) is in Pre-Op with error 0x001b sync manager watchdog\n\
+            "cycle 3: not all in Op\ncycle 4: slave 1 (0x1002) is in Safe-Op\n\
+            cycle 6: slave 2 (0x1003) is in Pre-Op with error 0x001b sync manager watchdog\n\
             left in Init\ncycles 8 good 8 short 0 over 0 fault 0 not-in-op 5\n\
             cycle time least 0 mean 0 greatest 0 microseconds, 50% within 0, 90% 0, 99% 0, 99.9% 0\n\
             item 0 LRW data a0a1a2 wkc 9 of 9\n"
@@ -50,7 +50,7 @@ static ROWS: [Row; 5] = [
         leave: Some(AlState::SafeOp),
         status: 0,
         text: brought!(
-            "cycle 3: not all in Op\ncycle 3: slave 1 (0x1002) is in Safe-Op\n\
+            "cycle 3: not all in Op\ncycle 4: slave 1 (0x1002) is in Safe-Op\n\
             cycle 6: all in Op again after 3 cycles\n\
             left in Safe-Op\ncycles 8 good 8 short 0 over 0 fault 0 not-in-op 3\n\
             cycle time least 0 mean 0 greatest 0 microseconds, 50% within 0, 90% 0, 99% 0, 99.9% 0\n\
