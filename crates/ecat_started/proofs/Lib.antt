@@ -7,4 +7,5 @@ mod ThereLemmas
 mod PhaseLemmas
 mod MailboxLemmas
 mod CableLemmas
+mod IdentityLemmas
 mod SucceedLemmas

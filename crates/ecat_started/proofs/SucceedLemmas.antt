@@ -22,21 +22,25 @@ use Rattle.ec_over_ring.specs.Brought.{HaveAddresses, ReachesAll}
 use Rattle.ec_over_ring.specs.Fit.{HaveNoObjects, IsFitFor}
 use Rattle.ec_over_ring.specs.Heard.{HeardRing}
 use Rattle.ec_over_ring.specs.Started.{AreWanted}
-use Rattle.ec_over_ring.proofs.Laws.{AreAddressed, AreAlike, AreWilling, AtFirst, Goes, InInit, InPreOp}
-use Rattle.ec_over_ring.proofs.Laws.{InSafeOp, IsOnItsWay, IsStillThere, MayTake, Paired, all_addressed}
-use Rattle.ec_over_ring.proofs.Laws.{before_addressed, behind_addressed, first_stage, fits_still}
-use Rattle.ec_over_ring.proofs.Laws.{init_done, init_willing, objects_done, op_done, pre_op_done}
-use Rattle.ec_over_ring.proofs.Laws.{pre_op_willing, safe_op_done, there_then, way_then, willing_first}
+use Rattle.ec_over_ring.proofs.Laws.{AreAddressed, AreAlike, AreAsFound, AreWilling, AtFirst, Goes, InInit}
+use Rattle.ec_over_ring.proofs.Laws.{InPreOp, InSafeOp, IsOnItsWay, IsReadyFor, IsStillThere, MayTake, Paired}
+use Rattle.ec_over_ring.proofs.Laws.{all_addressed, before_addressed, behind_addressed, first_stage}
+use Rattle.ec_over_ring.proofs.Laws.{fits_still, init_done, init_keeps, init_willing, objects_done, op_done}
+use Rattle.ec_over_ring.proofs.Laws.{pre_op_done, pre_op_keeps, pre_op_willing, safe_op_done, there_then}
+use Rattle.ec_over_ring.proofs.Laws.{way_then, willing_first}
 use Rattle.ecat_master.specs.Course.{IsLookedOver}
-use Rattle.ecat_master.specs.Identities.{AreIdentitiesCompared}
+use Rattle.ecat_master.specs.Identities.{AreIdentitiesCompared, WantedIdentity}
 use Rattle.ecat_master.specs.Start.{AreCounted, BringsThrough, GivesStations, HasFailed, IsAddressed, IsCable}
 use Rattle.ecat_master.specs.Start.{IsCaused, IsFound, IsInPreOp, IsMiscounted, IsUnanswered, gap_of}
 use Rattle.ecat_master.specs.declared.identity.OtherSlave.{OtherSlave}
 use Rattle.ecat_master.specs.declared.startup.StartFault.{StartFault}
 use Rattle.ecat_master.specs.declared.startup.StartFault.TheVariants.{Ask, Count, Cable, Step, Identity}
-use Rattle.ecat_started.specs.Startable.{AreFit, AreGiven, AreTaking, CanBeStarted, IsToldRight}
+use Rattle.ecat_started.specs.Startable.{AreFit, AreGiven, AreTaking, CanBeStarted, HaveIdentities}
+use Rattle.ecat_started.specs.Startable.{IsToldRight}
 use Rattle.ecat_started.proofs.CableLemmas.{AreHeard, HasBreak, HasSome, IsParted, break_of, cable_of}
 use Rattle.ecat_started.proofs.CableLemmas.{has_gap, looks_tell, no_gap}
+use Rattle.ecat_started.proofs.IdentityLemmas.{AreTelling, first_telling, identities_so, never_err}
+use Rattle.ecat_started.proofs.IdentityLemmas.{still_telling}
 use Rattle.ecat_started.proofs.ThereLemmas.{all_counted, looks_way, on_its_way, ring_brings}
 
 -- ---- by places
@@ -216,15 +220,17 @@ given_so laws line before looked later cut cable result can broken found gives =
     ∙ ap (λ (x : Located). gap_of x (length line)) (sym so.told)) gives
 
 -- a ring before its phases
-record IsGiven (line : List Wanted) (r : RingState) : Type 0 where
+record IsGiven (line : List Wanted) (identities : List WantedIdentity) (r : RingState) : Type 0 where
   stage : AtFirst line r
   willing : AreWilling line r
+  tell : AreTelling identities line r.slaves
 
-ready_at_first : AreHeard → (line : List Wanted) (before given : WatchedState RingState) (cut : Option ℕ)
-    (cable : Located) → CanBeStarted before.ports line → AreTaking line before.ports.slaves
-    → HasBreak before.ports.links (length line) cut → IsAddressed HeardRing before line cable given
-    → IsGiven line given.ports
-ready_at_first laws line before given cut cable can take broken addressed =
+ready_at_first : AreHeard → (line : List Wanted) (identities : List WantedIdentity)
+    (before given : WatchedState RingState) (cut : Option ℕ) (cable : Located)
+    → CanBeStarted before.ports line → AreTaking line before.ports.slaves
+    → HaveIdentities identities line before.ports.slaves → HasBreak before.ports.links (length line) cut
+    → IsAddressed HeardRing before line cable given → IsGiven line identities given.ports
+ready_at_first laws line identities before given cut cable can take have broken addressed =
     let looked : WatchedState RingState = addressed.looked in
     let so : IsFoundSo line before.ports looked.ports cut cable =
     found_so laws line before looked cut cable can broken addressed.found in
@@ -233,12 +239,15 @@ ready_at_first laws line before given cut cable can take broken addressed =
     let there : IsStillThere before.ports given.ports =
     there_then before.ports looked.ports given.ports so.seen.there
     (on_its_way looked.ports given.ports gave.way) in
+    let found : AreAsFound before.ports.slaves given.ports.slaves =
+    (way_then before.ports looked.ports given.ports so.seen.way gave.way).found in
     record {
       stage = first_stage line given.ports gave.way.ring can.wanted gave.stations_are
           (fit_still line before.ports.slaves given.ports.slaves can.fit there.alike);
       willing = willing_first line before.ports given.ports can.wanted gave.stations_are
-          (taking_pairs line before.ports.slaves take)
-          (way_then before.ports looked.ports given.ports so.seen.way gave.way).found;
+          (taking_pairs line before.ports.slaves take) found;
+      tell = first_telling identities line before.ports.slaves given.ports.slaves gave.stations_are
+          can.wanted found have;
     }
 
 -- ---- phases
@@ -278,65 +287,74 @@ nothing_left : (line : List Wanted) (result : Result (Unit {0}) StepFault)
 unfolding BringsThrough
 nothing_left line result before later ends = ends
 
--- the slaves are in Pre-Op, and take their startup objects
-record IsPreOp (line : List Wanted) (r : RingState) : Type 0 where
-  stage : InPreOp line r
-  willing : AreWilling line r
+-- the slaves are in Pre-Op, and those that are wanted
+record IsPreOp (line : List Wanted) (identities : List WantedIdentity) (r : RingState) : Type 0 where
+  ready : IsReadyFor line r
+  tell : AreTelling identities line r.slaves
 
-record IsInit (line : List Wanted) (r : RingState) : Type 0 where
+record IsInit (line : List Wanted) (identities : List WantedIdentity) (r : RingState) : Type 0 where
   stage : InInit line r
   willing : AreWilling line r
+  tell : AreTelling identities line r.slaves
 
-come_to_init : (line : List Wanted) → AreWanted line → (did : Result (Unit {0}) StepFault)
-    (r between : RingState) → IsGiven line r → Brings RingTrips r 0 line (steps_of Init) did between
-    → Goes (IsInit line) did between
-come_to_init line are did r between so brings =
+come_to_init : (line : List Wanted) (identities : List WantedIdentity) → AreWanted line
+    → (did : Result (Unit {0}) StepFault) (r between : RingState) → IsGiven line identities r
+    → Brings RingTrips r 0 line (steps_of Init) did between → Goes (IsInit line identities) did between
+come_to_init line identities are did r between so brings =
     let done : Goes (InInit line) did between = init_done line did r between are so.stage brings in
     record {
       came = done.came;
       so = record {
         stage = done.so;
         willing = init_willing line did r between are so.stage.ring brings so.willing;
+        tell = still_telling identities line r.slaves between.slaves
+            (λ P station endures has.
+            init_keeps P station line did r between endures are so.stage.ring brings has) so.tell;
       };
     }
 
-come_to_pre_op : (line : List Wanted) → AreWanted line → (did : Result (Unit {0}) StepFault)
-    (r between : RingState) → IsInit line r → Brings RingTrips r 0 line (steps_of PreOp) did between
-    → Goes (IsPreOp line) did between
-come_to_pre_op line are did r between so brings =
+come_to_pre_op : (line : List Wanted) (identities : List WantedIdentity) → AreWanted line
+    → (did : Result (Unit {0}) StepFault) (r between : RingState) → IsInit line identities r
+    → Brings RingTrips r 0 line (steps_of PreOp) did between → Goes (IsPreOp line identities) did between
+come_to_pre_op line identities are did r between so brings =
     let done : Goes (InPreOp line) did between = pre_op_done line did r between are so.stage brings in
     record {
       came = done.came;
       so = record {
-        stage = done.so;
-        willing = pre_op_willing line did r between are so.stage.ring brings so.willing;
+        ready = record {
+          stage = done.so;
+          willing = pre_op_willing line did r between are so.stage.ring brings so.willing;
+        };
+        tell = still_telling identities line r.slaves between.slaves
+            (λ P station endures has.
+            pre_op_keeps P station line did r between endures are so.stage.ring brings has) so.tell;
       };
     }
 
-to_pre_op : (line : List Wanted) (result : Result (Unit {0}) StepFault)
-    (given later : WatchedState RingState) → AreWanted line → IsGiven line given.ports
+to_pre_op : (line : List Wanted) (identities : List WantedIdentity) (result : Result (Unit {0}) StepFault)
+    (given later : WatchedState RingState) → AreWanted line → IsGiven line identities given.ports
     → BringsThrough (WatchedTrips HeardRing) given line (Init ∷ PreOp ∷ []) result later
-    → Goes (λ (w : WatchedState RingState). IsPreOp line w.ports) result later
-to_pre_op line result given later are so brings =
-    let first : ThenGoes line (IsInit line) (PreOp ∷ []) result later =
-    then_goes line (IsGiven line) (IsInit line) Init (PreOp ∷ []) result given later (come_to_init line are)
-    so brings in
-    let second : ThenGoes line (IsPreOp line) [] result later =
-    then_goes line (IsInit line) (IsPreOp line) PreOp [] result first.between later (come_to_pre_op line are)
-    first.so first.left in
+    → Goes (λ (w : WatchedState RingState). IsPreOp line identities w.ports) result later
+to_pre_op line identities result given later are so brings =
+    let first : ThenGoes line (IsInit line identities) (PreOp ∷ []) result later =
+    then_goes line (IsGiven line identities) (IsInit line identities) Init (PreOp ∷ []) result given later
+    (come_to_init line identities are) so brings in
+    let second : ThenGoes line (IsPreOp line identities) [] result later =
+    then_goes line (IsInit line identities) (IsPreOp line identities) PreOp [] result first.between later
+    (come_to_pre_op line identities are) first.so first.left in
     let ends = nothing_left line result second.between later second.left in
     record {
       came = ends.0;
-      so = subst (λ (w : WatchedState RingState). IsPreOp line w.ports) (sym ends.1) second.so;
+      so = subst (λ (w : WatchedState RingState). IsPreOp line identities w.ports) (sym ends.1) second.so;
     }
 
 to_op : (line : List Wanted) (result : Result (Unit {0}) StepFault)
-    (recognized later : WatchedState RingState) → AreWanted line → IsPreOp line recognized.ports
+    (recognized later : WatchedState RingState) → AreWanted line → IsReadyFor line recognized.ports
     → BringsThrough (WatchedTrips HeardRing) recognized line (Startup ∷ SafeOp ∷ Op ∷ []) result later
     → result ≡ Ok tt
 to_op line result recognized later are so brings =
     let first : ThenGoes line (InPreOp line) (SafeOp ∷ Op ∷ []) result later =
-    then_goes line (IsPreOp line) (InPreOp line) Startup (SafeOp ∷ Op ∷ []) result recognized later
+    then_goes line (IsReadyFor line) (InPreOp line) Startup (SafeOp ∷ Op ∷ []) result recognized later
     (λ did r between at does. objects_done line did r between are at.stage at.willing does) so brings in
     let second : ThenGoes line (InSafeOp line) (Op ∷ []) result later =
     then_goes line (InPreOp line) (InSafeOp line) SafeOp (Op ∷ []) result first.between later
@@ -349,50 +367,54 @@ to_op line result recognized later are so brings =
 
 -- ---- no cause of a fault
 
--- of a line of which no identity is wanted none is compared
-none_compared : (before later : WatchedState RingState) (line : List Wanted)
-    (result : Result (Unit {0}) OtherSlave)
-    → AreIdentitiesCompared (WatchedTrips HeardRing) before 0 line [] result later
-    → (result ≡ Ok tt) × (later ≡ before)
-unfolding AreIdentitiesCompared
-none_compared before later [] result compared = compared
-none_compared before later (w ∷ ws) result compared = compared
-
 is_cable : (cut : Option ℕ) → IsCable (cable_of cut)
 is_cable None = tt
 is_cable (Some k) = tt
 
-never_err : {A E : Type 0} (x : A) (e : E) → Err e ≡ (let fine : Result A E = Ok x in fine) → ⊥
-never_err {A} {E} x e is = absurd (cc (is))
+in_pre_op_so : AreHeard → (line : List Wanted) (identities : List WantedIdentity)
+    (before in_pre_op : WatchedState RingState) (cut : Option ℕ) (cable : Located)
+    → CanBeStarted before.ports line → AreTaking line before.ports.slaves
+    → HaveIdentities identities line before.ports.slaves → HasBreak before.ports.links (length line) cut
+    → IsInPreOp HeardRing before line cable in_pre_op → IsPreOp line identities in_pre_op.ports
+in_pre_op_so laws line identities before in_pre_op cut cable can take have broken below =
+    (to_pre_op line identities (Ok tt) below.given in_pre_op can.wanted
+    (ready_at_first laws line identities before below.given cut cable can take have broken below.addressed)
+    below.brought).so
 
-in_pre_op_so : AreHeard → (line : List Wanted) (before in_pre_op : WatchedState RingState) (cut : Option ℕ)
-    (cable : Located) → CanBeStarted before.ports line → AreTaking line before.ports.slaves
+-- and each of them is the one that is wanted
+all_recognized : AreHeard → (line : List Wanted) (identities : List WantedIdentity)
+    (before in_pre_op later : WatchedState RingState) (cut : Option ℕ) (cable : Located)
+    (result : Result (Unit {0}) OtherSlave) → CanBeStarted before.ports line
+    → AreTaking line before.ports.slaves → HaveIdentities identities line before.ports.slaves
     → HasBreak before.ports.links (length line) cut → IsInPreOp HeardRing before line cable in_pre_op
-    → IsPreOp line in_pre_op.ports
-in_pre_op_so laws line before in_pre_op cut cable can take broken below =
-    (to_pre_op line (Ok tt) below.given in_pre_op can.wanted
-    (ready_at_first laws line before below.given cut cable can take broken below.addressed) below.brought).so
+    → AreIdentitiesCompared (WatchedTrips HeardRing) in_pre_op 0 line identities result later
+    → Goes (λ (w : WatchedState RingState). IsReadyFor line w.ports) result later
+all_recognized laws line identities before in_pre_op later cut cable result can take have broken below
+    compared =
+    let so : IsPreOp line identities in_pre_op.ports =
+    in_pre_op_so laws line identities before in_pre_op cut cable can take have broken below in
+    identities_so line line identities 0 result in_pre_op later can.wanted
+    (record { ready = so.ready; left = so.ready; tell = so.tell }) compared
 
-never_failed : AreHeard → (line : List Wanted) (before : WatchedState RingState) (cut : Option ℕ)
-    (failed : StepFault) → CanBeStarted before.ports line → AreTaking line before.ports.slaves
-    → HasBreak before.ports.links (length line) cut → HasFailed HeardRing before line [] failed → ⊥
-never_failed laws line before cut failed can take broken
+never_failed : AreHeard → (line : List Wanted) (identities : List WantedIdentity)
+    (before : WatchedState RingState) (cut : Option ℕ) (failed : StepFault) → CanBeStarted before.ports line
+    → AreTaking line before.ports.slaves → HaveIdentities identities line before.ports.slaves
+    → HasBreak before.ports.links (length line) cut → HasFailed HeardRing before line identities failed → ⊥
+never_failed laws line identities before cut failed can take have broken
     (HasFailed.station cable looked later found cable_is gives) =
     never_err tt failed
     (given_so laws line before looked later cut cable (Err failed) can broken found gives).came
-never_failed laws line before cut failed can take broken
+never_failed laws line identities before cut failed can take have broken
     (HasFailed.to_pre_op cable given later addressed brings) =
     never_err tt failed
-    (to_pre_op line (Err failed) given later can.wanted
-    (ready_at_first laws line before given cut cable can take broken addressed) brings).came
-never_failed laws line before cut failed can take broken
+    (to_pre_op line identities (Err failed) given later can.wanted
+    (ready_at_first laws line identities before given cut cable can take have broken addressed) brings).came
+never_failed laws line identities before cut failed can take have broken
     (HasFailed.to_op cable recognized later below brings) =
-    let same : recognized ≡ below.in_pre_op =
-    (none_compared below.in_pre_op recognized line (Ok tt) below.compared).1 in
     never_err tt failed
     (to_op line (Err failed) recognized later can.wanted
-    (subst (λ (w : WatchedState RingState). IsPreOp line w.ports) (sym same)
-    (in_pre_op_so laws line before below.in_pre_op cut cable can take broken below.below)) brings)
+    (all_recognized laws line identities before below.in_pre_op recognized cut cable (Ok tt) can take have
+    broken below.below below.compared).so brings)
 
 -- the slaves are counted, and nobody is missing
 never_unanswered : AreHeard → (line : List Wanted) (before : WatchedState RingState) (cut : Option ℕ)
@@ -430,29 +452,33 @@ never_miscounted line before count can (IsMiscounted.nobody later counts none) =
     let some : 0 < length line = can.some in
     absurd (omega (arith, same, size, none, some))
 
-no_cause : AreHeard → (line : List Wanted) (before : WatchedState RingState) (cut : Option ℕ)
-    (fault : StartFault) → CanBeStarted before.ports line → AreTaking line before.ports.slaves
-    → HasBreak before.ports.links (length line) cut → IsCaused HeardRing before line [] fault → ⊥
-no_cause laws line before cut (Ask fault) can take broken cause =
+no_cause : AreHeard → (line : List Wanted) (identities : List WantedIdentity)
+    (before : WatchedState RingState) (cut : Option ℕ) (fault : StartFault) → CanBeStarted before.ports line
+    → AreTaking line before.ports.slaves → HaveIdentities identities line before.ports.slaves
+    → HasBreak before.ports.links (length line) cut → IsCaused HeardRing before line identities fault → ⊥
+no_cause laws line identities before cut (Ask fault) can take have broken cause =
     never_unanswered laws line before cut fault can broken cause
-no_cause laws line before cut (Count count) can take broken cause =
+no_cause laws line identities before cut (Count count) can take have broken cause =
     never_miscounted line before count can cause
-no_cause laws line before cut (Cable located) can take broken (later, found, other) =
+no_cause laws line identities before cut (Cable located) can take have broken (later, found, other) =
     let so : IsFoundSo line before.ports later.ports cut located =
     found_so laws line before later cut located can broken found in
     other (subst IsCable (sym so.told) (is_cable cut))
-no_cause laws line before cut (Step failed) can take broken cause =
-    never_failed laws line before cut failed can take broken cause
-no_cause laws line before cut (Identity other) can take broken cause =
-    never_err tt other (none_compared cause.in_pre_op cause.later line (Err other) cause.compared).0
+no_cause laws line identities before cut (Step failed) can take have broken cause =
+    never_failed laws line identities before cut failed can take have broken cause
+no_cause laws line identities before cut (Identity other) can take have broken cause =
+    never_err tt other
+    (all_recognized laws line identities before cause.in_pre_op cause.later cut cause.cable (Err other) can
+    take have broken cause.below cause.compared).came
 
-pub never_caused : AreHeard → (line : List Wanted) (before : WatchedState RingState) (fault : StartFault)
-    → CanBeStarted before.ports line → AreTaking line before.ports.slaves
-    → IsCaused HeardRing before line [] fault → ⊥
-never_caused laws line before fault can take cause =
+pub never_caused : AreHeard → (line : List Wanted) (identities : List WantedIdentity)
+    (before : WatchedState RingState) (fault : StartFault) → CanBeStarted before.ports line
+    → AreTaking line before.ports.slaves → HaveIdentities identities line before.ports.slaves
+    → IsCaused HeardRing before line identities fault → ⊥
+never_caused laws line identities before fault can take have cause =
     let size : length before.ports.slaves ≡ length line = fit_size line before.ports.slaves can.fit in
     let some : HasSome before.ports.links (length before.ports.slaves) = break_of before.ports can.ring in
-    no_cause laws line before some.gap fault can take
+    no_cause laws line identities before some.gap fault can take have
     (subst (λ (n : ℕ). HasBreak before.ports.links n some.gap) size some.broken) cause
 
 -- ---- the parts as laws

@@ -17,7 +17,8 @@
 //!   as its other records do ([`ecat_master::started_line`]).
 //! - [`certified_cycle`]: what a cycle over a network comes to is of such a ring.
 //! - [`never_fails`]: a start over such a ring has no cause of a fault where its slaves fit what is wanted of
-//!   them. Its parts are laws of their own: [`counted_right`], [`cable_told`] and [`stations_given`].
+//!   them, and are those that are wanted. Its parts are laws of their own: [`counted_right`], [`cable_told`]
+//!   and [`stations_given`].
 //!
 //! The definitions are in specs/: `Certified`, a line that is told what stands in accepted slaves, and what a
 //! ring is then; `Startable`, a ring of whose slaves a line can be started.

@@ -1,6 +1,7 @@
 //! The laws of a start that succeeds, each the contract of a function that does nothing.
 
 ghost use Rattle.std.specs.Prelude.{◌≡◌, ◌≤◌, ℕ, List, [], Option, Result, Ok, length};
+ghost use Rattle.ec_app.specs.State.{SlaveState};
 ghost use Rattle.ec_diag.specs.declared.located.Located.{Located};
 ghost use Rattle.ec_ring.specs.Ring.{RingState};
 ghost use Rattle.ec_run.specs.Watched.{WatchedState, WatchedTrips};
@@ -11,9 +12,11 @@ ghost use Rattle.ec_over_ring.specs.Brought.{ReachesAll};
 ghost use Rattle.ec_over_ring.specs.Fit.{HaveNoObjects};
 ghost use Rattle.ec_over_ring.specs.Heard.{HeardRing};
 ghost use Rattle.ecat_master.specs.Course.{IsLookedOver};
+ghost use Rattle.ecat_master.specs.Identities.{WantedIdentity};
 ghost use Rattle.ecat_master.specs.Start.{AreCounted, GivesStations, IsCaused, IsFound, gap_of};
 ghost use Rattle.ecat_master.specs.declared.startup.StartFault.{StartFault};
-ghost use Rattle.ecat_started.specs.Startable.{AreGiven, AreTaking, CanBeStarted, IsToldRight};
+ghost use Rattle.ecat_started.specs.Startable.{AreGiven, AreTaking, CanBeStarted, HaveIdentities};
+ghost use Rattle.ecat_started.specs.Startable.{IsToldRight};
 
 use ec_diag::promises::trips_are_heard;
 
@@ -51,17 +54,22 @@ pub fn stations_given()
 
 /// A start ([`ecat_master::start`]) over such a ring whose slaves are those of the line: as many, in their
 /// order, each of which what is wanted fits; whoever has which station address, and in whatever states and
-/// with whatever records and mails they are found. No fault has a cause (`never`) where no identity is wanted
-/// and the slaves take their startup objects, as they do where none is wanted (`no_objects`): the slaves are
-/// counted right ([`counted_right`]), the cable is told as it is ([`cable_told`]), each gets its station
-/// address ([`stations_given`]), and no step of any phase fails. So the start is answered with Ok, within so
-/// many trips as its contract says, unless a line of text can not be written.
+/// with whatever records and mails they are found. No fault has a cause (`never`) where each slave has the
+/// identity that is wanted at its place, in objects that may only be read, and takes its startup objects: the
+/// slaves are counted right ([`counted_right`]), the cable is told as it is ([`cable_told`]), each gets its
+/// station address ([`stations_given`]), none is another than is wanted, and no step of any phase fails. Where
+/// no startup object is wanted the slaves take them all (`no_objects`), and where no identity is wanted they
+/// have it (`no_identities`). So the start is answered with Ok, within so many trips as its contract says,
+/// unless a line of text can not be written.
 pub fn never_fails()
-    ensures never { (line : List Wanted) (before : WatchedState RingState) (fault : StartFault)
-        → CanBeStarted before.ports line → AreTaking line before.ports.slaves
-        → IsCaused HeardRing before line [] fault → ⊥ }
+    ensures never { (line : List Wanted) (identities : List WantedIdentity) (before : WatchedState RingState)
+        (fault : StartFault) → CanBeStarted before.ports line → AreTaking line before.ports.slaves
+        → HaveIdentities identities line before.ports.slaves
+        → IsCaused HeardRing before line identities fault → ⊥ }
     ensures no_objects { (line : List Wanted) (before : WatchedState RingState)
         → CanBeStarted before.ports line → HaveNoObjects line → AreTaking line before.ports.slaves }
+    ensures no_identities { (line : List Wanted) (slaves : List SlaveState)
+        → HaveIdentities [] line slaves }
 {
     trips_are_heard();
 }

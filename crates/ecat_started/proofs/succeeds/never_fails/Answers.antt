@@ -12,3 +12,6 @@ returns-clause-never c =
 
 pub returns-clause-no_objects : goal.returns-clause-no_objects
 returns-clause-no_objects c = objects_of_none
+
+pub returns-clause-no_identities : goal.returns-clause-no_identities
+returns-clause-no_identities c line slaves = tt
