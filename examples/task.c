@@ -1,6 +1,6 @@
 /* A control task: counts in the first byte of the outputs, one up in each cycle, and prints the inputs.
  *
- *     ecat master SCENE --at 127.0.0.1:34980,127.0.0.1:34981 --every 1000 --io 127.0.0.1:34990 &
+ *     ecat master SCENE --at 127.0.0.1:34980,127.0.0.1:34981 --every 1000 --io 127.0.0.1:34990
  *     cc -std=c11 -o task examples/task.c && ./task 34990 OUTPUTS CYCLES
  *
  * OUTPUTS is how many bytes of outputs a cycle has, as `ecat master` tells at its start. docs/IO.md says what

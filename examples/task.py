@@ -1,7 +1,7 @@
 #!/usr/bin/env python3
 """A control task: counts in the first byte of the outputs, one up in each cycle, and prints the inputs.
 
-    ecat master SCENE --at 127.0.0.1:34980,127.0.0.1:34981 --every 1000 --io 127.0.0.1:34990 &
+    ecat master SCENE --at 127.0.0.1:34980,127.0.0.1:34981 --every 1000 --io 127.0.0.1:34990
     examples/task.py HOST PORT OUTPUTS CYCLES
 
 OUTPUTS is how many bytes of outputs a cycle has, as `ecat master` tells at its start. docs/IO.md says what

@@ -1,7 +1,7 @@
 #!/usr/bin/env bash
 # A control task in the shell: gives outputs, as hexadecimal digits, and prints what the next cycle came to.
 #
-#     ecat master SCENE --at 127.0.0.1:34980,127.0.0.1:34981 --every 1000 --io 127.0.0.1:34990 &
+#     ecat master SCENE --at 127.0.0.1:34980,127.0.0.1:34981 --every 1000 --io 127.0.0.1:34990
 #     examples/task.sh 34990 2a0000
 #
 # docs/IO.md says what stands in the packets.
