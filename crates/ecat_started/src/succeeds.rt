@@ -55,12 +55,12 @@ pub fn stations_given()
 /// A start ([`ecat_master::start`]) over such a ring whose slaves are those of the line: as many, in their
 /// order, each of which what is wanted fits; whoever has which station address, and in whatever states and
 /// with whatever records and mails they are found. No fault has a cause (`never`) where each slave has the
-/// identity that is wanted at its place, in objects that may only be read, and takes its startup objects: the
-/// slaves are counted right ([`counted_right`]), the cable is told as it is ([`cable_told`]), each gets its
-/// station address ([`stations_given`]), none is another than is wanted, and no step of any phase fails. Where
-/// no startup object is wanted the slaves take them all (`no_objects`), and where no identity is wanted they
-/// have it (`no_identities`). So the start is answered with Ok, within so many trips as its contract says,
-/// unless a line of text can not be written.
+/// identity that is wanted at its place, in objects that may only be read, and takes its startup objects:
+/// the slaves are counted right ([`counted_right`]), the cable is told as it is ([`cable_told`]), each gets
+/// its station address ([`stations_given`]), none is another than is wanted, and no step of any phase
+/// fails. Where no startup object is wanted the slaves take them all (`no_objects`), and where no identity
+/// is wanted they have it (`no_identities`). So the start is answered with Ok, within so many trips as its
+/// contract says, unless a line of text can not be written.
 pub fn never_fails()
     ensures never { (line : List Wanted) (identities : List WantedIdentity) (before : WatchedState RingState)
         (fault : StartFault) → CanBeStarted before.ports line → AreTaking line before.ports.slaves
