@@ -20,8 +20,15 @@ lib/ecat/until_signal
 lib/librummymaple.a
 lib/pkgconfig/rummymaple.pc
 include/rummymaple.h
+include/rummymaple_help.h
+include/rummymaple_net.h
 share/man/man1/ecat.1
 share/bash-completion/completions/ecat
+share/rummymaple/examples/master.c
+share/rummymaple/examples/cycle.c
+share/rummymaple/examples/cycle.cpp
+share/rummymaple/examples/loop.c
+share/rummymaple/examples/bench.scene
 """
 
 PROGRAM = """#include <rummymaple.h>
@@ -111,6 +118,8 @@ def what_is_installed_works_and_goes(ecat, folder, _limit):
     yield "what pkg-config says", f"Version: {version}\n", said
     if has("cc", "nothing is compiled with the installed library"):
         yield "a program in C", f"{version} 0\n0\n", compiled(to, folder)
+        for name in ("cycle", "loop"):
+            yield f"an example in C: {name}", "0\n", compiled_example(to, folder, name)
     page = os.path.join(to, "share/man/man1/ecat.1")
     if has("groff", "the man page is not formatted"):
         yield "man page: warnings", "0\n", left("groff", "-man", "-Tutf8", "-ww", "-z", page)
@@ -122,7 +131,8 @@ def what_is_installed_works_and_goes(ecat, folder, _limit):
     told = "".join(f"removed {to}/{name}\n" for name in FILES.split())
     yield "uninstall", told + "0\n", install(ecat, folder, "uninstall", f"PREFIX={to}")
     yield "nothing is left", "", files_below(to)
-    yield "nor a folder of its own", "False", str(os.path.exists(os.path.join(to, "lib/ecat")))
+    for name in ("lib/ecat", "share/rummymaple"):
+        yield f"nor a folder of its own: {name}", "False", str(os.path.exists(os.path.join(to, name)))
 
 
 def lines_of(folder, name, begin):
@@ -135,6 +145,18 @@ def compiled(to, folder):
     source, program = os.path.join(folder, "program.c"), os.path.join(folder, "program")
     with open(source, "w", encoding="ascii") as file:
         file.write(PROGRAM)
+    subprocess.run(compiling(to, source, program), check=True, timeout=60)
+    return left(program)
+
+
+def compiled_example(to, folder, name):
+    """What the compiler says of an installed example."""
+    source = os.path.join(to, f"share/rummymaple/examples/{name}.c")
+    return left(*compiling(to, source, os.path.join(folder, name)), limit=60)
+
+
+def compiling(to, source, program):
+    """How a program is compiled with what is installed."""
     place = os.path.join(to, "lib/pkgconfig")
     if shutil.which("pkg-config"):
         env = os.environ | {"PKG_CONFIG_PATH": place}
@@ -145,9 +167,7 @@ def compiled(to, folder):
             text = file.read().replace("${libdir}", f"{to}/lib").replace("${includedir}", f"{to}/include")
         said = dict(line.split(": ", 1) for line in text.splitlines() if ": " in line)
         flags = f"{said['Cflags']} {said['Libs']}".split()
-    begin = ["cc", "-std=c11", "-Wall", "-Wextra", "-Werror", "-o", program, source]
-    subprocess.run([*begin, *flags], check=True, timeout=60)
-    return left(program)
+    return ["cc", "-std=c11", "-Wall", "-Wextra", "-Werror", "-o", program, source, *flags]
 
 
 @case

@@ -36,9 +36,17 @@
 //! assert_eq!(read(Form::Udp, &a[..9], &mut found), Err(Fault::NoFrame(Wrong::Short, 9)));
 //! # Ok::<(), rummymaple::Fault>(())
 //! ```
+//!
+//! The feature `net` adds the module of that name: what travels. It is for Linux, takes `std`, and no prover
+//! has looked at it.
 #![no_std]
 
+#[cfg(feature = "net")]
+extern crate std;
+
 mod mapping;
+#[cfg(feature = "net")]
+pub mod net;
 mod numbers;
 
 pub use mapping::{check, check_item, covered, expected, shown};
