@@ -2,7 +2,7 @@
  * Cycles of a millisecond over a redundant line of five slaves, until Ctrl-C (C11):
  *
  *     ./ecat serve scenes/serve/bench.scene --control --set-up
- *     cycle 127.0.0.1:34980 127.0.0.1:34981
+ *     ./cycle 127.0.0.1:34980 127.0.0.1:34981
  *
  * Ends without a colon are network interfaces. It prints each change: the verdict, and where the cable is
  * broken; `link 2 down` and `link 2 up`, told to `ecat serve`, break it and mend it. At the end it counts.

@@ -1,7 +1,7 @@
 // Cycles of a millisecond over a redundant line of five slaves, until Ctrl-C (C++17):
 //
 //     ./ecat serve scenes/serve/bench.scene --control --set-up
-//     cycle 127.0.0.1:34980 127.0.0.1:34981
+//     ./cycle 127.0.0.1:34980 127.0.0.1:34981
 //
 // It prints what is known of the cable, which `link 2 down` and `link 2 up`, told to `serve`, break and mend.
 // What is not here: a start-up. The slaves are in Op and mapped already (`--set-up`).
