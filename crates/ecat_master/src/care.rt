@@ -1,6 +1,6 @@
 //! The slave that is seen to between two cycles.
 
-ghost use Rattle.std.specs.Prelude.{◌≡◌, ◌<◌, IfSome, Some, length, slice_get};
+ghost use Rattle.std.specs.Prelude.{◌≡◌, ◌<◌, IfSome, Some, length, slice_get, false, true};
 
 use ec_run::{Recovery, Wanted};
 
@@ -32,12 +32,32 @@ impl Care {
 #[derive(Clone, Copy)]
 pub(crate) struct Next {
     place: usize,
+    /// Whether the last cycle ended well.
+    was_well: bool,
 }
 
 impl Next {
     /// From the first slave on.
     pub(crate) fn first() -> Next {
-        Next { place: 0 }
+        Next {
+            place: 0,
+            was_well: true,
+        }
+    }
+
+    /// Behind a cycle that ended well, or not. Behind the first one that did not, the line is looked along
+    /// from its first slave on, so that who has left Op is found by as few frames as can ask all slaves.
+    pub(crate) fn behind_cycle(self, is_well: bool) -> Next
+        ensures begins { self.was_well ≡ true → is_well ≡ false → result.place ≡ 0 }
+        ensures goes_on { self.was_well ≡ false → result.place ≡ self.place }
+        ensures waits { is_well ≡ true → result.place ≡ self.place }
+        ensures was_well { result.was_well ≡ is_well }
+    {
+        let begins = self.was_well && !is_well;
+        Next {
+            place: if begins { 0 } else { self.place },
+            was_well: is_well,
+        }
     }
 
     /// The place, on a line of so many slaves, if it has any.
@@ -51,9 +71,12 @@ impl Next {
     }
 
     /// From behind so many slaves from a place on.
-    pub(crate) fn behind(place: usize, asked: usize) -> Next {
+    pub(crate) fn behind(self, place: usize, asked: usize) -> Next
+        ensures { result.was_well ≡ self.was_well }
+    {
         Next {
             place: place.saturating_add(asked),
+            was_well: self.was_well,
         }
     }
 }

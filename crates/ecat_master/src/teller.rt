@@ -285,6 +285,7 @@ impl<'a, W: Write, V: Write, L: Write> Teller<'a, W, V, L> {
             (stops_behind line_plan.now.plan.now end.ended end.in_op) ports.old ports.new }
     {
         self.tell_times(cycle, end, ports)?;
+        self.next = self.next.behind_cycle(end.is_well());
         let plan = line_plan.plan;
         let is_last = stops_behind(end, plan);
         let may_look = is_last || !self.has_looked || !self.is_care_due(cycle, end, plan);
@@ -399,11 +400,11 @@ impl<'a, W: Write, V: Write, L: Write> Teller<'a, W, V, L> {
             return;
         };
         let Some(out) = along.out else {
-            self.next = Next::behind(first, along.asked);
+            self.next = self.next.behind(first, along.asked);
             return;
         };
         let place = first.saturating_add(out);
-        self.next = Next::behind(place, 1);
+        self.next = self.next.behind(place, 1);
         self.care = Care::LooksAt(u16::try_from(place).unwrap_or(u16::MAX), 0);
     }
 

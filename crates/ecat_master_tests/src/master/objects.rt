@@ -95,9 +95,9 @@ static ROWS: [Row; 2] = [
             startup objects written\nall in Safe-Op\nall in Op\n\
             cycle 3: not all in Op\ncycle 64: all in Op again after 61 cycles\n\
             cycle 64: slave 0 (0x1001) was in Init, brought to Op\ncycle 80: not all in Op\n\
-            cycle 126: all in Op again after 46 cycles\n\
-            cycle 126: slave 1 (0x1002) was in Pre-Op, brought to Op\nleft in Init\n\
-            cycles 160 good 160 short 0 over 0 fault 0 not-in-op 107\n\
+            cycle 125: all in Op again after 45 cycles\n\
+            cycle 125: slave 1 (0x1002) was in Pre-Op, brought to Op\nleft in Init\n\
+            cycles 160 good 160 short 0 over 0 fault 0 not-in-op 106\n\
             cycle time least 0 mean 0 greatest 0 microseconds, 50% within 0, 90% 0, 99% 0, 99.9% 0\n\
             item 0 LRW data a0a1a2 wkc 9 of 9\n",
     },

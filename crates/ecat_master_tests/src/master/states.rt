@@ -20,7 +20,7 @@ struct Row {
 }
 
 /// What is told of slaves that leave Op or are not those that are wanted.
-static ROWS: [Row; 5] = [
+static ROWS: [Row; 6] = [
     Row {
         name: "slaves that leave Op are told, with their errors, and the status says it",
         events: &[
@@ -53,6 +53,26 @@ static ROWS: [Row; 5] = [
             "cycle 3: not all in Op\ncycle 4: slave 1 (0x1002) is in Safe-Op\n\
             cycle 6: all in Op again after 3 cycles\n\
             left in Safe-Op\ncycles 8 good 8 short 0 over 0 fault 0 not-in-op 3\n\
+            cycle time least 0 mean 0 greatest 0 microseconds, 50% within 0, 90% 0, 99% 0, 99.9% 0\n\
+            item 0 LRW data a0a1a2 wkc 9 of 9\n"
+        ),
+    },
+    Row {
+        name: "who leaves Op where all were in Op again is looked for from the first slave on",
+        events: &[
+            (2, Event::Falls(1, AlState::SafeOp)),
+            (4, Event::Falls(1, AlState::Op)),
+            (5, Event::Falls(0, AlState::SafeOp)),
+        ],
+        stop: false,
+        identities: &[],
+        leave: Some(AlState::SafeOp),
+        status: 1,
+        text: brought!(
+            "cycle 2: not all in Op\ncycle 3: slave 1 (0x1002) is in Safe-Op\n\
+            cycle 4: all in Op again after 2 cycles\n\
+            cycle 5: not all in Op\ncycle 6: slave 0 (0x1001) is in Safe-Op\n\
+            left in Safe-Op\ncycles 8 good 8 short 0 over 0 fault 0 not-in-op 5\n\
             cycle time least 0 mean 0 greatest 0 microseconds, 50% within 0, 90% 0, 99% 0, 99.9% 0\n\
             item 0 LRW data a0a1a2 wkc 9 of 9\n"
         ),
