@@ -61,7 +61,7 @@ impl fmt::Display for Explanation<'_> {
             Reason::Byte(byte) => write_byte(byte, f),
             Reason::Comment => write!(
                 f,
-                "a comment begins with # in column 1, on a line of its own"
+                "a comment begins with # in column 1, on a line of its own{UNLESS}"
             ),
             Reason::Unknown => write!(f, "\"{word}\" is no word of a scene"),
             Reason::Count(usage) => write!(f, "the line wants to be {usage}"),
@@ -76,11 +76,19 @@ impl fmt::Display for Explanation<'_> {
 /// Writes of a byte that it is no text.
 fn write_byte<W: fmt::Write>(byte: u8, f: &mut fmt::Formatter<W>) -> fmt::Result {
     let name = name_of(byte);
+    let unless = if matches!(byte, b'\t' | b'\r') {
+        UNLESS
+    } else {
+        ""
+    };
     write!(
         f,
-        "byte 0x{byte:02x}{name}; a scene is ASCII text, its lines end with LF"
+        "byte 0x{byte:02x}{name}; a scene is ASCII text, its lines end with LF{unless}"
     )
 }
+
+/// Where a person may write so.
+const UNLESS: &str = ", unless its first line is: scene 2";
 
 /// Writes what a word is, and what the first word of its line wants in its place.
 fn write_wanted<W: fmt::Write>(

@@ -9,6 +9,7 @@ use std::process::Abort;
 
 mod bench;
 mod door;
+mod edition;
 mod limits;
 mod shown;
 mod takes;

@@ -30,6 +30,7 @@
 //! - `reader`: the lines in their order; `slave_lines`, `device_lines`, `work_lines`: what each of them says;
 //!   `last_slave`: what the lines of a slave do to it.
 //! - `bench`: the commands by which a line is worked on while it is served, a line of text each.
+//! - `edition`: texts of the second edition as texts of the first.
 //! - `words`, `numbers`: the words of a line, and the numbers and rows of bytes among them.
 //! - `written`: lines that are written. [`put_line`] and its like put exactly the words of a line behind a
 //!   text (`specs/Lines.antt`).
@@ -38,6 +39,7 @@
 
 mod bench;
 mod device_lines;
+mod edition;
 mod fault;
 mod last_slave;
 mod numbers;
@@ -49,6 +51,7 @@ mod work_lines;
 mod written;
 
 pub use bench::{BenchCommand, CommandFault, SlaveName};
+pub use edition::to_first_edition;
 pub use fault::{LineFault, SceneFault, Stop};
 pub use numbers::{number, numbers_read_back, test_bytes};
 pub use scene::{

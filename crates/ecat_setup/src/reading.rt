@@ -5,14 +5,17 @@ ghost use Rattle.ecat_setup.specs.Failures.{unread};
 ghost use Rattle.ecat_setup.specs.Packets.{for_packets, is_for_run_alone};
 
 use crate::failure::LineFailure;
-use ecat_scene::{MAX_TEXT, Scene, SceneFault};
+use ecat_scene::{MAX_TEXT, Scene, SceneFault, to_first_edition};
 use ecat_source::{ReadAllFault, Source, read_all};
 use std::alloc::Global;
 
-/// Reads the text of a scene, which the source holds whole.
+/// Reads the text of a scene, which the source holds whole, as one of the first edition.
 pub fn text_of<S: Source>(alloc: Global, source: &mut S) -> Result<Vec<u8>, LineFailure> {
     match read_all(alloc, source, MAX_TEXT) {
-        Ok(text) => Ok(text),
+        Ok(mut text) => {
+            to_first_edition(text.as_mut_slice());
+            Ok(text)
+        }
         Err(fault) => Err(unread(fault)),
     }
 }
