@@ -9,11 +9,12 @@ use ecat_acts::asking::scan_by;
 use ecat_acts::console::Console;
 use ecat_acts::failure::{Failure, report, report_file};
 use ecat_acts::hints::{Fronted, Noted, hint_capture, hint_fault, hint_odd_lines, hint_scene};
-use ecat_acts::judging::{asked_of_judge, end_of_judging, frames_of, judge_by, judge_by_itself};
+use ecat_acts::judging::{asked_of_judge, end_of_judging, frames_of, judge_by_itself};
 use ecat_acts::kinds::{FileWanted, hint_file, hint_files};
 use ecat_acts::learning::{asked_of, end_of_learning};
 use ecat_acts::listing::{Wanted, act_list, act_list_file};
 use ecat_acts::on_scene::on_scene;
+use ecat_acts::replaying::{ByScene, Twin};
 use ecat_acts::show::act_show;
 use ecat_args::{Args, ArgsFault, CaptureCommand, SceneCommand, bad_word};
 use ecat_frames::Frames;
@@ -210,9 +211,24 @@ where
         } => {
             let asked = asked_of_judge(*csv, *lines);
             match *scene {
-                Some(path) => judge_by_scene(rt, file, path, asked, console.input, out, err),
+                Some(path) => {
+                    let by = ByScene::Judge(asked);
+                    compare_with_scene(rt, file, path, by, console.input, out, err)
+                }
                 None => judge_alone(rt, file, asked, out, err),
             }
+        }
+        CaptureCommand::Replay {
+            file,
+            scene,
+            plain,
+            set_up,
+        } => {
+            let by = ByScene::Replay(Twin {
+                plain: *plain,
+                set_up: *set_up,
+            });
+            compare_with_scene(rt, file, scene, by, console.input, out, err)
         }
     }
 }
@@ -321,13 +337,14 @@ where
     end_of_learning(learned, out, err)
 }
 
-/// Opens a scene, and the capture that is to be judged by it, twice where it is a file, and judges it.
+/// Opens a scene, and the capture with which something is to be done by it, twice where that is a file, and
+/// does it.
 #[inline(never)]
-fn judge_by_scene<R, W, V>(
+fn compare_with_scene<R, W, V>(
     rt: &R,
     file: &str,
     path: &str,
-    asked: AskedOfJudge,
+    by: ByScene,
     input: Stdin,
     out: &mut W,
     err: &mut V,
@@ -350,12 +367,12 @@ where
     let fault = fault_of(&scene);
     let status = if file == "-" {
         match Frames::of_stream(rt.alloc(), Counted::new(input), None) {
-            Ok(mut frames) => judge_by(rt.alloc(), scene, &mut frames, &asked, out, err),
+            Ok(mut frames) => by.act(rt.alloc(), scene, &mut frames, out, err),
             Err(_) => end_of_judging(Judged::NoMemory, out, err),
         }
     } else {
         match frames_at(rt, file, out, err) {
-            Ok(mut frames) => judge_by(rt.alloc(), scene, &mut frames, &asked, out, err),
+            Ok(mut frames) => by.act(rt.alloc(), scene, &mut frames, out, err),
             Err(status) => return status,
         }
     };

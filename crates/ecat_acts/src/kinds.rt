@@ -39,6 +39,10 @@ pub fn hint_files<R: Files, V: Write>(
                 hint_file(rt, path, FileWanted::Scene, status, err);
             }
         }
+        CaptureCommand::Replay { file, scene, .. } => {
+            hint_file(rt, file, FileWanted::Capture, status, err);
+            hint_file(rt, scene, FileWanted::Scene, status, err);
+        }
     }
 }
 

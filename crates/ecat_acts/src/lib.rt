@@ -7,7 +7,8 @@
 //!   `asking`, a service by `serving`. `remote` says how a line elsewhere is reached, `udp` opens sockets for
 //!   a cycle, `images` and `eeproms` read files, and `tape` makes those that are written;
 //! - [`act_list`](listing::act_list) and [`act_show`](show::act_show) go through a capture, `learning` tells
-//!   how `learn` ended, and `judging` judges a capture by a scene or by the line that it shows;
+//!   how `learn` ended, `judging` judges a capture by a scene or by the line that it shows, and `replaying`
+//!   sends what its master sent to the line of a scene;
 //! - `piped` is an output that its reader may close, and `patience` says when a master waits for who reads
 //!   what it writes: not while its cycles run;
 //! - [`report`](failure::report) tells a [`Failure`](failure::Failure) by its fixed line, and `hints` what
@@ -37,6 +38,7 @@ mod patience;
 mod piped;
 mod raw;
 mod remote;
+pub mod replaying;
 mod serving;
 pub mod show;
 mod tape;

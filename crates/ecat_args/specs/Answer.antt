@@ -17,6 +17,7 @@ use Rattle.ecat_args.specs.declared.args.ArgsFault.{ArgsFault}
 use Rattle.ecat_args.specs.declared.args.ArgsFault.TheVariants.{Line, BadNumber, NoMemory}
 use Rattle.ecat_args.specs.declared.commands.CaptureCommand.{CaptureCommand}
 use Rattle.ecat_args.specs.declared.commands.CaptureCommand.TheVariants.{Show, List as Lists, Learn, Judge}
+use Rattle.ecat_args.specs.declared.commands.CaptureCommand.TheVariants.{Replay}
 use Rattle.ecat_args.specs.declared.commands.SceneCommand.{SceneCommand}
 use Rattle.ecat_args.specs.declared.commands.SceneCommand.TheVariants.{Check, Cover, Lint, Where, Run, Sweep}
 use Rattle.ecat_args.specs.declared.commands.SceneCommand.TheVariants.{Sdo, Udp, Serve, Master}
@@ -36,6 +37,10 @@ SaysOfCapture (Judge file scene csv lines) given =
     (given.0 ≡ codes "judge") × (word_in given (codes "FILE") ≡ Some file.now)
     × (word_in given (codes "SCENE") ≡ option_map (λ w. w.now) scene)
     × (csv_in given ≡ csv) × (lines_in given ≡ Some lines)
+SaysOfCapture (Replay file scene plain set_up) given =
+    (given.0 ≡ codes "replay") × (word_in given (codes "FILE") ≡ Some file.now)
+    × (word_in given (codes "SCENE") ≡ Some scene.now)
+    × (plain_in given ≡ plain) × (set_up_in given ≡ set_up)
 
 -- the command on a scene is this one; where the scene lies is said beside it
 abbrev pub SaysOfScene : SceneCommand → Given → Type 0

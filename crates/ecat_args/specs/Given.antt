@@ -172,9 +172,9 @@ IsNoAddress (Some word) = (address : Ipv4Addr) → IsIpv4Text word address → �
 
 -- the names of the commands
 abbrev pub command_names : List Text
-command_names = codes "show" ∷ codes "list" ∷ codes "learn" ∷ codes "judge" ∷ codes "check" ∷ codes "cover"
-    ∷ codes "lint" ∷ codes "where" ∷ codes "run" ∷ codes "sweep" ∷ codes "sdo" ∷ codes "udp" ∷ codes "serve"
-    ∷ codes "master" ∷ codes "scan" ∷ codes "vectors" ∷ []
+command_names = codes "show" ∷ codes "list" ∷ codes "learn" ∷ codes "judge" ∷ codes "replay" ∷ codes "check"
+    ∷ codes "cover" ∷ codes "lint" ∷ codes "where" ∷ codes "run" ∷ codes "sweep" ∷ codes "sdo" ∷ codes "udp"
+    ∷ codes "serve" ∷ codes "master" ∷ codes "scan" ∷ codes "vectors" ∷ []
 
 -- the names of the words that a command needs
 abbrev pub needed_words : Text → List Text
@@ -183,6 +183,7 @@ needed_words command =
     else if bytes_eq command (codes "list") then codes "FILE" ∷ []
     else if bytes_eq command (codes "learn") then codes "FILE" ∷ []
     else if bytes_eq command (codes "judge") then codes "FILE" ∷ []
+    else if bytes_eq command (codes "replay") then codes "FILE" ∷ codes "SCENE" ∷ []
     else if bytes_eq command (codes "check") then codes "SCENE" ∷ []
     else if bytes_eq command (codes "cover") then codes "SCENE" ∷ []
     else if bytes_eq command (codes "lint") then codes "SCENE" ∷ []
@@ -196,7 +197,7 @@ needed_words command =
     else if bytes_eq command (codes "master") then codes "SCENE" ∷ []
     else []
 
--- the command is one of the sixteen, and the words that it needs were given
+-- the command is one of the seventeen, and the words that it needs were given
 abbrev pub IsComplete : Given → Type 0
 IsComplete given = (list_any (bytes_eq given.0) command_names ≡ true)
     × (list_all (λ name. is_some (word_in given name)) (needed_words given.0) ≡ true)

@@ -126,6 +126,7 @@ fn command<'a>(name: &str, given: &ArgMatches<'a>) -> Option<Args<'a>>
         "list" => Some(list(given)),
         "learn" => learn(given),
         "judge" => judge(given),
+        "replay" => Some(replay(given)),
         "check" => Some(Args::Scene {
             path: text(given, "SCENE"),
             command: SceneCommand::Check,
@@ -224,6 +225,19 @@ fn judge<'a>(given: &ArgMatches<'a>) -> Option<Args<'a>>
         csv: flag(given, "csv"),
         lines,
     }))
+}
+
+// What `replay` says.
+fn replay<'a>(given: &ArgMatches<'a>) -> Args<'a>
+    requires { IsComplete (codes "replay", rows_of (found_of given.now)) }
+    ensures { Says result (codes "replay", rows_of (found_of given.now)) }
+{
+    Args::Capture(CaptureCommand::Replay {
+        file: text(given, "FILE"),
+        scene: text(given, "SCENE"),
+        plain: flag(given, "plain"),
+        set_up: flag(given, "set-up"),
+    })
 }
 
 // What `where` says.

@@ -46,6 +46,18 @@ pub enum CaptureCommand<'a> {
         /// How many lines of runs are printed, one at least.
         lines: Option<u32>,
     },
+    /// `replay FILE SCENE [--plain] [--set-up]`: sends what the master of a capture sent to the line of a
+    /// scene.
+    Replay {
+        /// The path of the capture; `-` stands for standard input.
+        file: &'a str,
+        /// The path of the scene.
+        scene: &'a str,
+        /// Whether slaves that the scene does not call device are no devices.
+        plain: bool,
+        /// Whether devices begin as the scene sets them up, and not as just switched on.
+        set_up: bool,
+    },
 }
 
 /// A command on the line of a scene.

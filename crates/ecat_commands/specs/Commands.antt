@@ -1,4 +1,4 @@
--- The command line of `ecat`, in clap's own words: sixteen commands, of which one has to be given.
+-- The command line of `ecat`, in clap's own words: seventeen commands, of which one has to be given.
 use Rattle.std.specs.Prelude.{◌≡◌, ◌∷◌, List, [], Some, codes, false, fold, true}
 use Rattle.clap.specs.Words.{App, Rule, Text, app_of, new_app, new_rule, rule_of, with_rule, with_subcommand}
 use Rattle.clap.specs.declared.builder.action.ArgAction.TheVariants.{SetTrue}
@@ -110,6 +110,14 @@ judge_words = needed_rule (codes "FILE") ∷ new_rule (codes "SCENE")
 
 abbrev pub judge_line : App
 judge_line = with_rules (new_app (codes "judge")) judge_words
+
+-- `replay FILE SCENE [--plain] [--set-up]`
+abbrev pub replay_words : List Rule
+replay_words = needed_rule (codes "FILE") ∷ needed_rule (codes "SCENE")
+    ∷ flag_rule (codes "plain") ∷ flag_rule (codes "set-up") ∷ []
+
+abbrev pub replay_line : App
+replay_line = with_rules (new_app (codes "replay")) replay_words
 
 -- `check SCENE`
 abbrev pub check_line : App
@@ -235,7 +243,7 @@ with_commands = fold (λ above below. with_subcommand above below.top)
 
 -- the commands on captures
 abbrev pub capture_lines : List App
-capture_lines = show_line ∷ list_line ∷ learn_line ∷ judge_line ∷ []
+capture_lines = show_line ∷ list_line ∷ learn_line ∷ judge_line ∷ replay_line ∷ []
 
 -- the commands on the line of a scene
 abbrev pub scene_lines : List App

@@ -4,7 +4,8 @@ ghost use Rattle.clap.specs.Words.{App, Rule, new_app, new_rule, with_subcommand
 ghost use Rattle.ecat_commands.specs.Commands.{AreWords, Builds, IsWord, flag_rule, line};
 ghost use Rattle.ecat_commands.specs.Commands.{capture_lines, course_words, end_words, io_words};
 ghost use Rattle.ecat_commands.specs.Commands.{master_words};
-ghost use Rattle.ecat_commands.specs.Commands.{judge_line, pace_words, scene_lines, socket_lines};
+ghost use Rattle.ecat_commands.specs.Commands.{judge_line, pace_words, replay_line, scene_lines};
+ghost use Rattle.ecat_commands.specs.Commands.{socket_lines};
 ghost use Rattle.ecat_commands.specs.Commands.{with_commands};
 ghost use Rattle.ecat_commands.specs.Commands.{needed_rule, option_rule, at_rule, force_rule};
 ghost use Rattle.ecat_commands.specs.Commands.{judge_rule, late_rule, limit_rule, pcap_rule, port_rule};
@@ -224,6 +225,24 @@ fn judge_capture<'a>(alloc: Global) -> Result<Command<'a>, AllocError>
         option(alloc, "LINES", "limit", lines),
     ]?;
     command(alloc, "judge", about, help::JUDGE, words)
+}
+
+// `replay FILE SCENE [--plain] [--set-up]`
+fn replay<'a>(alloc: Global) -> Result<Command<'a>, AllocError>
+    ensures { IfOk result (Builds replay_line) }
+{
+    let about = "Says how like the line of a scene is to the one that a capture shows";
+    let file = "The capture, a pcap or pcapng file; - for standard input";
+    let scene = "A file with the slaves that what the master sent is sent to";
+    let plain = "Leaves slaves that the scene does not call device without what devices tell";
+    let set_up = "Has devices begin as the scene sets them up, and not as just switched on";
+    let words = vec![in alloc;
+        needed(alloc, "FILE", file),
+        needed(alloc, "SCENE", scene),
+        flag(alloc, "plain", plain),
+        flag(alloc, "set-up", set_up),
+    ]?;
+    command(alloc, "replay", about, help::REPLAY, words)
 }
 
 // `check SCENE`
@@ -536,7 +555,8 @@ fn add_on_captures<'a>(
     let line = add(line, show(alloc));
     let line = add(line, list(alloc));
     let line = add(line, learn(alloc));
-    add(line, judge_capture(alloc))
+    let line = add(line, judge_capture(alloc));
+    add(line, replay(alloc))
 }
 
 // The line with the commands on the line of a scene.
@@ -573,7 +593,7 @@ fn add_over_sockets<'a>(
     add(line, Ok(vectors(alloc)))
 }
 
-/// The definition of the whole command line: sixteen commands, of which one has to be given, each with its
+/// The definition of the whole command line: seventeen commands, of which one has to be given, each with its
 /// words, and the texts of their help.
 pub fn line<'a>(alloc: Global) -> Result<Command<'a>, AllocError>
     ensures { IfOk result (Builds line) }

@@ -19,6 +19,7 @@ Examples:
   ecat list scenes/startup.pcap
   ecat learn scenes/startup.pcap
   ecat judge scenes/startup.pcap
+  ecat replay scenes/startup.pcap scenes/serve/line.scene
   ecat check scenes/check/accepted.scene
   ecat cover scenes/check/accepted.scene
   ecat lint scenes/check/accepted.scene
@@ -93,6 +94,21 @@ is 0 where each cycle was good and none was lost.
 
 Example:
   ecat judge scenes/startup.pcap";
+
+/// Of `replay`.
+pub(crate) const REPLAY: &str = "\
+Sends what the master of a capture sent to the line of a scene, in its order,
+and compares each answer with that of the capture: how far working counters
+moved, how many slaves were passed, and the data of registers and mailboxes. Of
+process data the counters alone are compared. Prints each kind of difference
+once, with its packet and how often there was one, and then sums. Differences of
+the registers of distributed clocks are counted alone. The line is as serve has
+it: its slaves are devices that were just switched on, but for those that are
+called plain; --plain and --set-up are those of serve. The status is 0 where all
+but clocks was alike.
+
+Example:
+  ecat replay scenes/startup.pcap scenes/serve/line.scene";
 
 /// Of `check`.
 pub(crate) const CHECK: &str = "\

@@ -23,6 +23,11 @@ learn --asked - --at 0x10 --data | Ok(Capture(Learn { file: \"-\", at: Some(16),
 judge a.pcap | Ok(Capture(Judge { file: \"a.pcap\", scene: None, csv: false, lines: None }))
 judge a.pcap --csv a.scene --limit 7 | \
     Ok(Capture(Judge { file: \"a.pcap\", scene: Some(\"a.scene\"), csv: true, lines: Some(7) }))
+replay a.pcap a.scene | \
+    Ok(Capture(Replay { file: \"a.pcap\", scene: \"a.scene\", plain: false, set_up: false }))
+replay --set-up a.pcap --plain - | \
+    Ok(Capture(Replay { file: \"a.pcap\", scene: \"-\", plain: true, set_up: true }))
+replay a.pcap | Err(Line(MissingRequiredArgument))
 where a.scene --at a:1,b:2 | Ok(Scene { path: \"a.scene\", command: Where { at: Some(\"a:1,b:2\"), \
     raw: None } })
 where --raw=10 a.scene | Ok(Scene { path: \"a.scene\", command: Where { at: None, raw: Some(\"10\") } })
