@@ -3094,3 +3094,23 @@ def serve_applications_a_counter_counts_each_packet_also_one_that_is_dropped(sta
         for name, (station, data) in rows.items():
             read = bytes.fromhex(inputs(station, "0000", "0000"))
             yield name, f"A 1 {inputs(station, '0100', data)}", peers.step("A", 1, read)
+
+
+@case
+def captures_of_a_served_line_are_answered_alike_by_it(stage):
+    """What a master sent in its start and its cycles, kept at the line and at the master, is sent once more."""
+    with stage.serve(MACHINE, "--forever", "--pcap", "of_line") as line:
+        stage.file("m", MACHINE)
+        words = ("master", "m", "--at", both_ends(stage), "--cycles", "20", "--pcap", "of_master", *PATIENCE)
+        yield "master", "0", stage.ends(*words).splitlines()[-1]
+        line.process.terminate()
+        line.process.wait(stage.limit)
+    stage.file("other", MACHINE.replace("areas 1 1", "areas 1 1\nalias 7"))
+    for kept in ("of_line", "of_master"):
+        *found, sums, status = stage.ends("replay", kept, "m").splitlines()
+        yield f"{kept}: found", "1", str(len(found))
+        alike = re.fullmatch(r"datagrams (\d+) alike \1 of clocks 0 not alike 0", sums)
+        yield f"{kept}: alike", "True", str(alike is not None)
+        yield f"{kept}: status", "0", status
+        told = stage.ends("replay", kept, "other").splitlines()
+        yield f"{kept}: other status", "1", told[-1]
