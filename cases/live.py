@@ -123,6 +123,12 @@ class Live:
         yield from self.function(Stage(ecat, folder, port, self.limit))
 
 
+def stop(process):
+    """Stops a program, and waits until it stands still: what comes to it from here on comes at once."""
+    process.send_signal(signal.SIGSTOP)
+    os.waitid(os.P_PID, process.pid, os.WSTOPPED | os.WEXITED | os.WNOWAIT)
+
+
 def cases(limit):
     return [Live(function, limit) for function in CASES]
 
@@ -245,7 +251,9 @@ def log_tells_what_commands_do(stage):
         for text in ("unplug A", "link 0 down"):
             yield text, "ok\n", command(line, text)
         master.sendto(ASKED, ("127.0.0.1", stage.port))
-        time.sleep(0.2)
+        # A packet is taken before a command that is said behind it.
+        yield "counts", "packets 3 frames 3 dropped 0\n", command(line, "counts")
+        yield "ok", "ok\n", line.line()
         yield "quit", "ok\n", command(line, "quit")
         speaker = f"speaker A 127.0.0.1:{master.getsockname()[1]}"
         told = ["packets 3 frames 3 dropped 0", speaker, f"packet 0 A size 16 {frame}1 lost at A"]
@@ -271,13 +279,13 @@ def copies_leave_late(stage):
     """A copy is late by what is said, and leaves behind one that was asked for later."""
     again = ASKED.replace(b"\x07\x07", b"\x07\x08")
     with controlled(stage, "slave 1\n") as line, stage.master() as master:
-        yield "late", "ok\n", command(line, "late A 300 1")
+        yield "late", "ok\n", command(line, "late A 1500 1")
         began = time.monotonic()
         master.sendto(ASKED, ("127.0.0.1", stage.port))
         yield "the next one", ONE.replace("0707", "0708"), asked(master, stage.port, again)
-        yield "before it is due", "True", str(time.monotonic() - began < 0.3)
+        yield "before it is due", "True", str(time.monotonic() - began < 1.5)
         yield "the late one", ONE, master.recv(2000).hex()
-        yield "when it is due", "True", str(0.3 <= time.monotonic() - began)
+        yield "when it is due", "True", str(1.5 <= time.monotonic() - began)
         yield "no count", "refused: WrongCount, wanted late A|B MILLISECONDS N\n", command(line, "late A 1")
         yield "too many", "refused: OutOfRange, wanted late A|B MILLISECONDS N\n", command(line, "late A 1 4294967296")
         yield "quit", "ok\n", command(line, "quit")
@@ -777,6 +785,18 @@ def told(line):
     return re.sub(r"after \d+ cycles?", "after M cycles", line)
 
 
+# A line of a master of what a machine that is busy has: a cycle that began late, or a copy that came late.
+LATE = r"cycle N: (began .* s late, \d+ cycles? left out|a copy of .*)\n"
+
+
+def next_told(master):
+    """The next line of a master, as `told` has it, behind those that a busy machine adds."""
+    line = told(master.line())
+    while re.fullmatch(LATE, line):
+        line = told(master.line())
+    return line
+
+
 @case
 def a_master_brings_a_line_to_op_and_cycles(stage):
     with stage.serve(MACHINE, "--forever") as _line:
@@ -929,7 +949,11 @@ def cycles_without_copies_cost_no_other_one_its_time(stage):
     good = re.search(r"cycles 60 good (\d+)", end)
     yield "good", "True", "True" if good and 54 <= int(good[1]) < 60 else end
     missed = re.search(r"^lateness .*, missed (\d+)$", end, re.M)
-    yield "missed", "True", "True" if missed and int(missed[1]) <= 6 else end
+    lost = re.search(r"^cycle (\d+): item 0: came", end, re.M)
+    # What is left out long behind the loss is left out by a machine that stood still.
+    left_out = re.findall(r"^cycle (\d+): began .* late\b.*, (\d+) cycles? left out$", end, re.M)
+    others = sum(int(count) for cycle, count in left_out if lost and int(cycle) > int(lost[1]) + 12)
+    yield "missed", "True", "True" if missed and int(missed[1]) - others <= 6 else end
 
 
 @case
@@ -957,11 +981,15 @@ LONG_LATE = r"cycle \d+: began (0\.[4-9]|\d*[1-9]\.)\d+ s late, \d+ cycles left 
 def a_master_that_stood_still_tells_what_it_left_out(stage):
     with stage.serve(MACHINE, "--forever"):
         stage.file("m", MACHINE)
-        words = ("master", "m", "--at", both_ends(stage), "--every", "10000", *PATIENCE)
+        words = ("master", "m", "--at", both_ends(stage), "--every", "10000", "--log", "log", *PATIENCE)
         with stage.start(*words, stdin=subprocess.PIPE) as master:
             for wanted in STARTED.splitlines(True):
                 yield "start", wanted, master.line()
-            master.process.send_signal(signal.SIGSTOP)
+            # The time of each cycle is told by the first one, which has to be over.
+            log, until = os.path.join(stage.folder, "log"), time.monotonic() + stage.limit
+            while os.path.getsize(log) == 0 and time.monotonic() < until:
+                time.sleep(0.01)
+            stop(master.process)
             time.sleep(0.5)
             master.process.send_signal(signal.SIGCONT)
             row, until = master.line(), time.monotonic() + stage.limit
@@ -1478,13 +1506,13 @@ def slaves_that_leave_op_are_told(stage):
         for wanted in STARTED.splitlines(True):
             yield "start", wanted, master.line()
         command(line, "state 1 2")
-        yield "out of Op", "cycle N: not all in Op\n", told(master.line())
-        yield "who", "cycle N: slave 1 (0x1002) is in Pre-Op\n", told(master.line())
+        yield "out of Op", "cycle N: not all in Op\n", next_told(master)
+        yield "who", "cycle N: slave 1 (0x1002) is in Pre-Op\n", next_told(master)
         command(line, "state 1 8")
-        yield "in Op", "cycle N: all in Op again after M cycles\n", told(master.line())
+        yield "in Op", "cycle N: all in Op again after M cycles\n", next_told(master)
         command(line, "state 2 4")
-        yield "out of Op again", "cycle N: not all in Op\n", told(master.line())
-        yield "who else", "cycle N: slave 2 (0x1003) is in Safe-Op\n", told(master.line())
+        yield "out of Op again", "cycle N: not all in Op\n", next_told(master)
+        yield "who else", "cycle N: slave 2 (0x1003) is in Safe-Op\n", next_told(master)
         master.process.stdin.close()
         master.process.stdin = None
         end = timed(master.end())
@@ -2025,8 +2053,8 @@ def a_master_stops_though_it_recovers(stage):
             for wanted in STARTED.splitlines(True):
                 yield "start", wanted, master.line()
             yield "state", "ok\n", command(line, "state 1 4")
-            yield "out of Op", "cycle N: not all in Op\n", told(master.line())
-            yield "who", "cycle N: slave 1 (0x1002) is in Safe-Op\n", told(master.line())
+            yield "out of Op", "cycle N: not all in Op\n", next_told(master)
+            yield "who", "cycle N: slave 1 (0x1002) is in Safe-Op\n", next_told(master)
             yield "left", LEFT, master.line()
             yield "not in Op", "not-in-op 1\n", master.line()[-12:]
             yield "status", "1", str(master.process.wait(stage.limit))
@@ -2377,7 +2405,8 @@ def a_slave_is_brought_up_by_one_frame_behind_each_cycle(stage):
         if place == (3, 0):
             command(line, "state 1 1")
 
-    words = ("--recover", "--leave", "op", *PATIENCE)
+    # Each of the twenty cycles that lose a copy waits for it.
+    words = ("--recover", "--leave", "op", "--limit", "300000")
     with master_behind(stage, 200, *words, gives=gives, begins=begins) as (line, between, master):
         end = between.until_the_end_of(master)
         yield "brought", "1", str(end.count("slave 1 (0x1002) was in Init, brought to Op"))
@@ -2661,7 +2690,7 @@ def a_master_that_sets_up_no_mailbox_is_refused(stage):
 def a_command_comes_behind_32_packets_in_a_row(stage):
     """A hundred packets and a command wait when the service goes on."""
     with controlled(stage, "slave 1\n") as line, stage.master() as master:
-        line.process.send_signal(signal.SIGSTOP)
+        stop(line.process)
         for _ in range(100):
             master.sendto(b"no frame", ("127.0.0.1", stage.port))
         line.process.stdin.write(b"counts\n")
@@ -2716,7 +2745,7 @@ def copies_of_a_run_are_kept_as_the_weather_has_them_come(stage):
 def capture_of_a_service_has_what_comes_while_a_copy_waits(stage):
     again = ASKED.replace(b"\x07\x07", b"\x07\x08")
     with controlled(stage, "slave 1\n", "--pcap", "c") as line, stage.master() as master:
-        yield "late", "ok\n", command(line, "late A 300 1")
+        yield "late", "ok\n", command(line, "late A 1500 1")
         master.sendto(ASKED, ("127.0.0.1", stage.port))
         yield "the next one", ONE.replace("0707", "0708"), asked(master, stage.port, again)
         yield "the late one", ONE, master.recv(2000).hex()
@@ -2885,7 +2914,7 @@ class Peers:
     @contextlib.contextmanager
     def at_once(self):
         """What is sent in this block comes while the service stands still."""
-        self.line.process.send_signal(signal.SIGSTOP)
+        stop(self.line.process)
         yield
         self.line.process.send_signal(signal.SIGCONT)
 
@@ -3016,7 +3045,7 @@ def serve_waiting_the_ends_wait_and_tell_what_came_in_turn_before_the_input_ends
     with stage.serve(TWO_SLAVES, "--set-up", stdin=subprocess.PIPE) as line, stage.master() as master:
         line.process.stdin.write(b"\n" * 1000)
         yield "answer", BY_BOTH, asked(master, stage.port, STATIONS)
-        line.process.send_signal(signal.SIGSTOP)
+        stop(line.process)
         line.process.stdin.close()
         line.process.stdin = None
         for port in (stage.port, stage.port + 1):

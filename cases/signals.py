@@ -192,7 +192,7 @@ def a_master_ends_by_a_signal_as_by_its_end_of_input(stage):
             with stage.start(*stage.master) as master:
                 yield "start", STARTED, stage.brought_to_op(master)
                 master.process.send_signal(number)
-                yield number.name, sums(ITEMS + "0\n"), without_counts(master.end())
+                yield number.name, sums(ITEMS + "0\n"), without_counts(without_late(master.end()))
                 yield f"{number.name}: left", "[]", master.left()
 
 
@@ -250,7 +250,7 @@ def a_terminal_ends_them_too(stage):
         with master, terminal:
             yield "start", STARTED, stage.brought_to_op(master)
             terminal.write(b"\x03")
-            yield "master", sums(ITEMS + "0\n"), without_counts(master.end())
+            yield "master", sums(ITEMS + "0\n"), without_counts(without_late(master.end()))
             yield "master: left", "[]", master.left()
 
 

@@ -20,6 +20,7 @@ struct orders {
     volatile int to_all;    /* an answer goes to each who has spoken, not to the last one alone */
     volatile int no_inputs; /* frames that begin with an LRD are lost */
     volatile int lost, held, doubled, damaged, rubbish; /* in a thousand copies */
+    volatile int turns[2];  /* how far each of two masters is that keep abreast */
     volatile int frames;    /* how many frames came, */
     volatile int twice;     /* and how many with a number that is not above that of its speaker's last one */
 };
