@@ -317,7 +317,7 @@ where
     V: io::Write,
 {
     if file == "-" {
-        let learned = learn_stream(rt.alloc(), Counted::new(input), &asked, out);
+        let learned = learn_stream(rt.alloc(), Counted::new(input), &asked, out, err);
         return end_of_learning(learned, out, err);
     }
     let first = match fs::open(rt, file) {
@@ -328,11 +328,11 @@ where
     let first = Counted::new(first);
     let learned = if is_plain {
         match fs::open(rt, file) {
-            Ok(again) => learn(rt.alloc(), first, Counted::new(again), &asked, out),
+            Ok(again) => learn(rt.alloc(), first, Counted::new(again), &asked, out, err),
             Err(error) => return report_file(&Failure::Open, file, &error, out, err),
         }
     } else {
-        learn_stream(rt.alloc(), first, &asked, out)
+        learn_stream(rt.alloc(), first, &asked, out, err)
     };
     end_of_learning(learned, out, err)
 }

@@ -3,12 +3,12 @@
 use crate::failure::{Failure, refuse, report};
 use crate::learning::end_of_learning;
 use ecat_frames::{End, Frames, Looked, look};
-use ecat_judge::{Asked, Judged, judge};
+use ecat_judge::{Asked, Judged, judge, judge_usual};
 use ecat_scene::{Scene, SceneFault};
 use ecat_setup::{LineFailure, records_of};
 use ecat_source::Source;
 use ecat_text::{FAILED, GOOD, REFUSED};
-use ecat_told::{Asked as AskedOfLine, Learned, learn_frames};
+use ecat_told::{Asked as AskedOfLine, Learned, Usual, learn_by};
 use std::alloc::Global;
 use std::io::Write;
 
@@ -30,12 +30,33 @@ pub fn frames_of<S: Source + Drop>(alloc: Global, first: S, again: S) -> Result<
     match look(alloc, first, &mut looked) {
         End::SourceFailed => Err(Judged::SourceFailed),
         End::NoMemory => Err(Judged::NoMemory),
-        End::Whole | End::Damaged(_) => Ok(Frames::of_file(alloc, again, looked.marks(), None)),
+        End::Whole | End::Damaged(_) => Ok(Frames::of_file(alloc, again, looked, None)),
     }
 }
 
-/// Judges a capture by the scene that was read, and answers the exit status.
+/// Judges a capture by the scene that was read, and answers the exit status. What else is to be known of its
+/// packets, `err` is told, of a file first.
 pub fn judge_by<S, W, V>(
+    alloc: Global,
+    scene: Result<Scene, SceneFault>,
+    frames: &mut Frames<S>,
+    asked: &Asked,
+    out: &mut W,
+    err: &mut V,
+) -> u8
+where
+    S: Source + Drop,
+    W: Write,
+    V: Write,
+{
+    frames.tell_notes(false, err);
+    let status = judge_by_scene(alloc, scene, frames, asked, out, err);
+    frames.tell_notes(true, err);
+    status
+}
+
+/// Judges a capture by the scene that was read, and answers the exit status.
+fn judge_by_scene<S, W, V>(
     alloc: Global,
     scene: Result<Scene, SceneFault>,
     frames: &mut Frames<S>,
@@ -63,7 +84,8 @@ where
 }
 
 /// Judges a capture, which `again` has once more, by the line that it shows itself, and answers the exit
-/// status. Where the capture does not tell the whole line, `err` is told so.
+/// status. Where it has no start-up, the counters that came most often are expected. Of that, and where the
+/// capture does not tell the whole line, `err` is told.
 pub fn judge_by_itself<S, W, V>(
     alloc: Global,
     frames: &mut Frames<S>,
@@ -77,14 +99,19 @@ where
     W: Write,
     V: Write,
 {
+    frames.tell_notes(false, err);
     let line = AskedOfLine {
         at: None,
         asked: false,
         values: false,
     };
     let mut text = Vec::new(alloc);
-    let learned = learn_frames(alloc, frames, &line, &mut text);
+    let mut usual = Usual::new(alloc);
+    let learned = learn_by(alloc, frames, &line, &mut usual, &mut text);
     match learned {
+        Learned::Holes | Learned::Damaged(_) if !usual.is_empty() => {
+            return judge_by_usual(alloc, frames, again, &usual, asked, out, err);
+        }
         Learned::Whole | Learned::Damaged(_) => {}
         Learned::Holes => {
             let _ = err.write_all(HOLES);
@@ -96,8 +123,35 @@ where
     }
     frames.begin_again(alloc, again);
     let scene = Scene::read(alloc, text.as_slice());
-    judge_by(alloc, scene, frames, asked, out, err)
+    judge_by_scene(alloc, scene, frames, asked, out, err)
 }
+
+/// Judges a capture that has no start-up, and that `again` has once more, by the counters that came most
+/// often, and answers the exit status.
+fn judge_by_usual<S, W, V>(
+    alloc: Global,
+    frames: &mut Frames<S>,
+    again: S,
+    usual: &Usual,
+    asked: &Asked,
+    out: &mut W,
+    err: &mut V,
+) -> u8
+where
+    S: Source + Drop,
+    W: Write,
+    V: Write,
+{
+    let _ = err.write_all(USUAL);
+    frames.begin_again(alloc, again);
+    let items = usual.items.as_slice();
+    let counters = usual.counters.as_slice();
+    let judged = judge_usual(alloc, frames, items, counters, asked, out);
+    end_of_judging(judged, out, err)
+}
+
+/// What is said first where a capture has no start-up.
+const USUAL: &[u8] = b"no start-up in this capture: expected counters are the most frequent\n";
 
 /// What helps where a line is not told whole.
 const HOLES: &[u8] =

@@ -13,9 +13,9 @@ use ecat_text::{FAILED, GOOD, REFUSED};
 use std::alloc::Global;
 use std::io::Write;
 
-/// What helps where a capture is not of Ethernet, as one of all interfaces at once.
+/// What helps where a capture is neither of Ethernet nor of Linux's `any`, as one of Wi-Fi or of USB.
 const NOT_ETHERNET: &[u8] =
-    b"not of Ethernet: capture at one interface, as tcpdump -i eth0 -w FILE; \"any\" has other headers\n";
+    b"not of Ethernet: capture at the bus, as tcpdump -i eth0 -w FILE, or at all interfaces, as -i any\n";
 
 /// What the words of `list` say but for its file.
 #[derive(Clone, Copy)]

@@ -4,7 +4,7 @@ use Rattle.std.proofs.Common.{refl, arith, sym, ap, ◌∙◌, subst}
 use Rattle.std.proofs.lemmas.Bool.Decides.{nat_tests}
 use Rattle.std.proofs.lemmas.List.{take_at, drop_at, length-append}
 use Rattle.ecat_capture.specs.Numbers.{word}
-use Rattle.ecat_capture.specs.Classic.{IsHeader, IsRecord, format_of, record_of}
+use Rattle.ecat_capture.specs.Classic.{IsHeader, IsRecord, format_of, linked, record_of}
 use Rattle.ecat_capture.specs.Blocks.{IsBlock, block_order, length_fault, body_of, section_header}
 use Rattle.ecat_capture.specs.Progress.{IsPiece, IsBody, stage_behind, interfaces_behind}
 use Rattle.ecat_capture.specs.File.{Stored, packets_of, Holds}
@@ -91,16 +91,19 @@ apart : (format : Format) (x y r s : List ℕ) → IsHeader format x → word Li
 apart format x y r s header section there same =
     let first : word Little 0 x ≡ section_header =
     same_word Little 0 x y r s (omega (arith, header.whole)) (omega arith) same ∙ section in
-    no_format format (ap format_of (sym first) ∙ header.magic)
+    no_format header.unlinked (ap format_of (sym first) ∙ header.magic)
 
 -- the headers of the same bytes are one
 same_header : (format other : Format) (x y r s : List ℕ) → IsHeader format x → IsHeader other y
     → x ++ r ≡ y ++ s → (x ≡ y) × (r ≡ s) × (format ≡ other)
 same_header format other x y r s one two same =
     let fronts = append_inj x y r s (one.whole ∙ sym two.whole) same in
-    let formats : Some format ≡ Some other =
+    let kinds : Some one.unlinked ≡ Some two.unlinked =
     sym one.magic ∙ ap (λ b. format_of (word Little 0 b)) fronts.0 ∙ two.magic in
-    (fronts.0, fronts.1, cc formats)
+    let kind : one.unlinked ≡ two.unlinked = cc kinds in
+    let formats : format ≡ other =
+    one.format_is ∙ ap (λ k. linked k x) kind ∙ ap (linked two.unlinked) fronts.0 ∙ sym two.format_is in
+    (fronts.0, fronts.1, formats)
 
 -- the first pieces of the same bytes are one
 same_piece : (stage : Stage) (interfaces : List Interface) (a b : Piece) (x y r s : List ℕ)

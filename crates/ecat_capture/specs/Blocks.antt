@@ -10,6 +10,7 @@ use Rattle.ecat_capture.specs.Input.{run}
 use Rattle.ecat_capture.specs.Times.{time_of, per_second_of}
 use Rattle.ecat_capture.specs.Pieces.{first_of, padded, greatest_packet, greatest_block}
 use Rattle.ecat_capture.specs.Pieces.{most_interfaces}
+use Rattle.ecat_capture.specs.Links.{link_of}
 use Rattle.ecat_capture.specs.declared.order.Order.{Order}
 use Rattle.ecat_capture.specs.declared.order.Order.TheVariants.{Little, Big}
 use Rattle.ecat_capture.specs.declared.blocks.Interface.{Interface}
@@ -19,6 +20,7 @@ use Rattle.ecat_capture.specs.declared.blocks.Body.TheVariants as body
 use Rattle.ecat_capture.specs.declared.blocks.NextOption.{NextOption}
 use Rattle.ecat_capture.specs.declared.blocks.NextOption.TheVariants as next
 use Rattle.ecat_capture.specs.declared.packet.Found.{Found}
+use Rattle.ecat_capture.specs.declared.link.Link.{Link}
 use Rattle.ecat_capture.specs.declared.packet.Time.{Time}
 use Rattle.ecat_capture.specs.declared.fault.CaptureFaultKind.{CaptureFaultKind}
 use Rattle.ecat_capture.specs.declared.fault.CaptureFaultKind.TheVariants as fault
@@ -152,26 +154,26 @@ timed None per_second = Ok None
 timed (Some ticks) per_second =
     if per_second == 0 then Err fault.TimeResolution else Ok (Some (time_of per_second ticks))
 
--- what is wrong with a packet of an interface in a block of this length
-unfoldable pub packet_fault : Interface → ℕ → Fields → Option CaptureFaultKind
-packet_fault interface size fields =
+-- what is wrong with a packet in a block of this length
+unfoldable pub packet_fault : ℕ → Fields → Option CaptureFaultKind
+packet_fault size fields =
     first_of (
-    (not (interface.link_type == 1), fault.LinkType)
-    ∷ (nat_lt greatest_packet fields.captured, fault.TooLong)
+    (nat_lt greatest_packet fields.captured, fault.TooLong)
     ∷ (nat_lt size (fields.from + padded fields.captured + 4), fault.Overrun)
     ∷ []
     )
 
--- the packet that has these fields and a time, or what is wrong with its time
-abbrev pub packet_of : Fields → Result (Option Time) CaptureFaultKind → Result Found CaptureFaultKind
-packet_of fields (Ok time) = Ok (record {
+-- the packet of a link type that has these fields and a time, or what is wrong with its time
+abbrev pub packet_of : Link → Fields → Result (Option Time) CaptureFaultKind → Result Found CaptureFaultKind
+packet_of link fields (Ok time) = Ok (record {
   time = time;
   captured = fields.captured;
   original = fields.original;
   from = fields.from;
   interface = fields.interface;
+  link = link;
 })
-packet_of fields (Err kind) = Err kind
+packet_of link fields (Err kind) = Err kind
 
 -- the same, unless something else is wrong
 abbrev pub unless_packet : Option CaptureFaultKind → Result Found CaptureFaultKind
@@ -179,12 +181,18 @@ abbrev pub unless_packet : Option CaptureFaultKind → Result Found CaptureFault
 unless_packet None found = found
 unless_packet (Some kind) found = Err kind
 
+-- the packet with these fields in a block of this length, of an interface whose link type is read
+abbrev pub linked_packet : Option Link → Interface → ℕ → Fields → Result Found CaptureFaultKind
+linked_packet None interface size fields = Err fault.LinkType
+linked_packet (Some link) interface size fields =
+    unless_packet (packet_fault size fields)
+    (packet_of link fields (timed fields.ticks (per_second_of interface.resolution)))
+
 -- the packet with these fields in a block of this length, if its interface is described
 abbrev pub packet_from : Option Interface → ℕ → Fields → Result Found CaptureFaultKind
 packet_from None size fields = Err fault.Interface
 packet_from (Some interface) size fields =
-    unless_packet (packet_fault interface size fields)
-    (packet_of fields (timed fields.ticks (per_second_of interface.resolution)))
+    linked_packet (link_of interface.link_type) interface size fields
 
 -- a packet as what a block says
 abbrev pub as_packet : Result Found CaptureFaultKind → Result Body CaptureFaultKind

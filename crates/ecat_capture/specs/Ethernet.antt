@@ -1,35 +1,43 @@
 -- What of a packet is EtherCAT (IEC 61158-4-12: the EtherCAT frame in an Ethernet frame and in UDP): the
--- bytes behind type 0x88A4, or in a UDP packet to or from port 34980.
+-- bytes behind type 0x88A4, or in a UDP packet, to or from port 34980 or any other; behind each kind of
+-- header.
 use Rattle.std.specs.Prelude.{ℕ, ◌+◌, ◌*◌, ◌/◌, ◌%◌, ◌≤◌, Bool, not, ◌==◌, ◌&&◌, ◌||◌, nat_lt, Option, Some}
 use Rattle.std.specs.Prelude.{None}
 use Rattle.std.specs.Prelude.{List, length, min, slice_index, if◌then◌else◌}
 use Rattle.ecat_capture.specs.Numbers.{half}
+use Rattle.ecat_capture.specs.Links.{behind_type, payload_place, type_place}
+use Rattle.ecat_capture.specs.declared.link.Link.{Link}
 use Rattle.ecat_capture.specs.declared.order.Order.TheVariants.{Big}
 use Rattle.ecat_capture.specs.declared.ethernet.Payload.{Payload}
 use Rattle.ecat_capture.specs.declared.ethernet.Payload.TheVariants.{Ethernet, Udp, Fragment, Short}
 use Rattle.ecat_capture.specs.declared.ethernet.Payload.TheVariants.{BadLength}
-use Rattle.ecat_capture.specs.declared.ethernet.Payload.TheVariants.{Other}
+use Rattle.ecat_capture.specs.declared.ethernet.Payload.TheVariants.{Other, OtherUdp}
 
 -- a VLAN tag stands at a place (IEEE 802.1Q: the types of a customer's tag and of a service's)
 unfoldable pub is_tag : ℕ → List ℕ → Bool
 is_tag at bytes =
     not (nat_lt (length bytes) (at + 2)) && ((half Big at bytes == 0x8100) || (half Big at bytes == 0x88a8))
 
--- the place of the type of what an Ethernet frame carries, behind at most two tags
-unfoldable pub type_at : List ℕ → ℕ
-type_at bytes = if not (is_tag 12 bytes) then 12 else if not (is_tag 16 bytes) then 16 else 20
+-- the place of the type of what a packet carries, behind at most two tags: a tag stands where else the type
+-- does, two bytes of it follow the header, and the next type follows these
+unfoldable pub type_at : Link → List ℕ → ℕ
+type_at link bytes =
+    if not (is_tag (type_place link) bytes) then type_place link
+    else if not (is_tag (payload_place link + 2) bytes) then payload_place link + 2
+    else payload_place link + 6
 
 -- a UDP header is to or from EtherCAT's port
 unfoldable pub is_ours : ℕ → List ℕ → Bool
 is_ours at bytes = (half Big at bytes == 34980) || (half Big (at + 2) bytes == 34980)
 
--- a whole UDP packet (RFC 768): its payload, as far as it was captured
+-- a whole UDP packet (RFC 768): its payload, as far as it was captured; one at other ports than EtherCAT's
+-- may have a frame or not
 unfoldable pub udp_payload : ℕ → List ℕ → Payload
 udp_payload at bytes =
     if nat_lt (length bytes) (at + 8) then Short
-    else if not (is_ours at bytes) then Other
-    else if nat_lt (half Big (at + 4) bytes) 8 then BadLength
-    else Udp (at + 8) (min (at + half Big (at + 4) bytes) (length bytes))
+    else if nat_lt (half Big (at + 4) bytes) 8 then (if is_ours at bytes then BadLength else Other)
+    else if is_ours at bytes then Udp (at + 8) (min (at + half Big (at + 4) bytes) (length bytes))
+    else OtherUdp (at + 8) (min (at + half Big (at + 4) bytes) (length bytes))
 
 -- a piece of a UDP packet: the first piece shows its ports, of a later one they are not known
 unfoldable pub udp_fragment : Bool → ℕ → List ℕ → Payload
@@ -68,23 +76,24 @@ ipv6_payload at bytes =
     else if slice_index bytes (at + 6) == 44 then ipv6_fragment (at + 40) bytes
     else Other
 
--- what of an Ethernet frame is EtherCAT, by the type at a place
-unfoldable pub payload_behind : ℕ → List ℕ → Payload
-payload_behind at bytes =
-    if nat_lt (length bytes) (at + 2) then Short
-    else if half Big at bytes == 0x88a4 then Ethernet (at + 2) (length bytes)
-    else if half Big at bytes == 0x0800 then ipv4_payload (at + 2) bytes
-    else if half Big at bytes == 0x86dd then ipv6_payload (at + 2) bytes
+-- what of a packet is EtherCAT, by the type at a place, and where what it carries begins
+unfoldable pub payload_behind : ℕ → ℕ → List ℕ → Payload
+payload_behind at from bytes =
+    if nat_lt (length bytes) from then Short
+    else if half Big at bytes == 0x88a4 then Ethernet from (length bytes)
+    else if half Big at bytes == 0x0800 then ipv4_payload from bytes
+    else if half Big at bytes == 0x86dd then ipv6_payload from bytes
     else Other
 
--- what of an Ethernet frame is EtherCAT
-abbrev pub payload_of : List ℕ → Payload
-payload_of bytes = payload_behind (type_at bytes) bytes
+-- what of a packet is EtherCAT
+abbrev pub payload_of : Link → List ℕ → Payload
+payload_of link bytes = payload_behind (type_at link bytes) (behind_type link (type_at link bytes)) bytes
 
 -- a payload lies within so many bytes
 abbrev pub LiesWithin : ℕ → Payload → Type 0
 LiesWithin size (Ethernet from to) = (from ≤ to) × (to ≤ size)
 LiesWithin size (Udp from to) = (from ≤ to) × (to ≤ size)
+LiesWithin size (OtherUdp from to) = (from ≤ to) × (to ≤ size)
 LiesWithin size _ = Unit {0}
 
 -- the type that an EtherCAT header tells, in the upper half of its second byte

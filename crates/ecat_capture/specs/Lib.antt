@@ -2,6 +2,7 @@ pub mod Numbers
 pub mod Input
 pub mod Times
 pub mod Pieces
+pub mod Links
 pub mod Classic
 pub mod Blocks
 pub mod Progress

@@ -206,6 +206,7 @@ packet_told number found = record {
   captured = found.captured;
   original = found.original;
   interface = found.interface;
+  link = found.link;
 }
 
 -- what is told of a piece behind so many packets

@@ -13,6 +13,7 @@ ghost use Rattle.ecat_capture.specs.Progress.{IsRefusal};
 ghost use Rattle.ecat_capture.specs.Blocks.{section_body, simple_fields, timed};
 
 use crate::fault::CaptureFaultKind;
+use crate::link::Link;
 use crate::order::Order;
 use crate::packet::{Found, Time, per_second_of};
 
@@ -43,16 +44,13 @@ pub(crate) const MAX_PACKET: u32 = 1 << 18;
 /// How many interfaces a section may describe.
 const MAX_INTERFACES: usize = 64;
 
-/// The link type of Ethernet.
-const ETHERNET: u16 = 1;
-
 /// The major version of the format.
 const VERSION: u16 = 1;
 
 /// An interface, as a block describes it.
 #[derive(Clone, Copy)]
 pub(crate) struct Interface {
-    /// What its packets are: 1 for Ethernet frames.
+    /// What its packets begin with, by the number of the link type: 1 for Ethernet.
     pub link_type: u16,
     /// How many bytes of a packet it captures at most, or 0 for any number.
     pub snap_length: u32,
@@ -309,19 +307,16 @@ fn interface_at(interfaces: &[Interface], number: u32) -> Option<Interface>
     interfaces.get(number as usize).copied()
 }
 
-/// Says whether a packet of this interface may have these fields in a block of this length.
+/// Says whether a packet may have these fields in a block of this length.
 #[tactic(auto, unfolding(crate::specs::Blocks::packet_fault))]
-fn check_packet(interface: Interface, size: usize, fields: Fields) -> Result<(), CaptureFaultKind>
+fn check_packet(size: usize, fields: Fields) -> Result<(), CaptureFaultKind>
     requires { fields.from ≤ 28 }
-    ensures ok { OnOk result (packet_fault interface size fields ≡ None) }
-    ensures err { IfErr result (λ kind. packet_fault interface size fields ≡ Some kind) }
+    ensures ok { OnOk result (packet_fault size fields ≡ None) }
+    ensures err { IfErr result (λ kind. packet_fault size fields ≡ Some kind) }
     ensures refusal { IfErr result IsRefusal }
     ensures fits { OnOk result (fields.from + fields.captured + 4 ≤ size) }
     ensures few { OnOk result (fields.captured ≤ MAX_PACKET) }
 {
-    if interface.link_type != ETHERNET {
-        return Err(CaptureFaultKind::LinkType);
-    }
     if MAX_PACKET < fields.captured {
         return Err(CaptureFaultKind::TooLong);
     }
@@ -360,7 +355,10 @@ fn packet_from(
     let Some(interface) = interface else {
         return Err(CaptureFaultKind::Interface);
     };
-    check_packet(interface, size, fields)?;
+    let Some(link) = Link::of(u32::from(interface.link_type)) else {
+        return Err(CaptureFaultKind::LinkType);
+    };
+    check_packet(size, fields)?;
     let time = timed(fields.ticks, per_second_of(interface.resolution))?;
     Ok(Found {
         time,
@@ -368,6 +366,7 @@ fn packet_from(
         original: fields.original,
         from: fields.from,
         interface: fields.interface,
+        link,
     })
 }
 

@@ -218,6 +218,7 @@ impl<S: Source> Capture<S> {
             captured: found.captured,
             original: found.original,
             interface: found.interface,
+            link: found.link,
         }
     }
 }

@@ -1,9 +1,10 @@
 //! The header and the records of a classic capture (the savefile format of libpcap).
 ghost use Rattle.std.specs.Prelude.{◌≡◌, ◌≤◌, IfErr, None, OnOk, Some, length};
-ghost use Rattle.ecat_capture.specs.Classic.{format_of, header_fault, record_of};
+ghost use Rattle.ecat_capture.specs.Classic.{format_of, header_fault, linked, record_of};
 ghost use Rattle.ecat_capture.specs.Progress.{IsRefusal};
 
 use crate::fault::CaptureFaultKind;
+use crate::link::Link;
 use crate::order::Order;
 use crate::packet::{Found, Time};
 
@@ -16,9 +17,6 @@ pub(crate) const HEAD_LEN: usize = 16;
 /// The version of the format.
 const VERSION: (u16, u16) = (2, 4);
 
-/// The link type of Ethernet.
-const ETHERNET: u32 = 1;
-
 /// A kind of classic capture.
 #[derive(Clone, Copy)]
 pub(crate) struct Format {
@@ -26,9 +24,12 @@ pub(crate) struct Format {
     pub order: Order,
     /// Does it count nanoseconds, or microseconds?
     pub nanoseconds: bool,
+    /// What its packets begin with.
+    pub link: Link,
 }
 
-/// The kind of classic capture that begins with these four bytes, lowest first.
+/// The kind of classic capture that begins with these four bytes, lowest first: of Ethernet, as long as its
+/// header does not say it.
 #[tactic(auto, unfolding(crate::specs::Classic::format_of))]
 pub(crate) fn format_of(magic: u32) -> Option<Format>
     ensures { result ≡ format_of magic }
@@ -40,7 +41,24 @@ pub(crate) fn format_of(magic: u32) -> Option<Format>
         0x4d3c_b2a1 => (Order::Big, true),
         _ => return None,
     };
-    Some(Format { order, nanoseconds })
+    Some(Format {
+        order,
+        nanoseconds,
+        link: Link::Ethernet,
+    })
+}
+
+impl Format {
+    /// This kind of capture with the link type that its header tells, if it is known.
+    pub(crate) fn linked(self, header: &[u8]) -> Format
+        requires { length header.now ≡ HEADER_LEN }
+        ensures { result ≡ linked self header.now }
+    {
+        match Link::of(self.order.word(header, 20)) {
+            Some(link) => Format { link, ..self },
+            None => self,
+        }
+    }
 }
 
 /// Says whether 24 bytes are a header of this kind.
@@ -55,7 +73,7 @@ pub(crate) fn check_header(format: Format, header: &[u8]) -> Result<(), CaptureF
     if order.half(header, 4) != VERSION.0 || order.half(header, 6) != VERSION.1 {
         return Err(CaptureFaultKind::Version);
     }
-    if order.word(header, 20) != ETHERNET {
+    if Link::of(order.word(header, 20)).is_none() {
         return Err(CaptureFaultKind::LinkType);
     }
     Ok(())
@@ -80,5 +98,6 @@ pub(crate) fn record_of(format: Format, bytes: &[u8]) -> Found
         original: order.word(bytes, 12),
         from: HEAD_LEN,
         interface: 0,
+        link: format.link,
     }
 }

@@ -3,7 +3,9 @@ ghost use Rattle.std.specs.Prelude.{◌≡◌, ◌+◌, ◌≤◌, ◌<◌, ◌^
 ghost use Rattle.ecat_capture.specs.Ethernet.{LiesWithin, frame_type, ipv4_payload, ipv6_fragment};
 ghost use Rattle.ecat_capture.specs.Ethernet.{ipv6_payload, is_ours, is_tag, payload_behind, payload_of};
 ghost use Rattle.ecat_capture.specs.Ethernet.{type_at, udp_fragment, udp_payload};
+ghost use Rattle.ecat_capture.specs.Links.{behind_type};
 
+use crate::link::Link;
 use crate::order::Order;
 
 /// The type of EtherCAT in an Ethernet frame, and its port in UDP.
@@ -44,6 +46,14 @@ pub enum Payload {
         /// The place behind the last byte.
         to: usize,
     },
+    /// The payload of a UDP packet at other ports, as far as it was captured: whether it is a frame, its
+    /// bytes tell alone.
+    OtherUdp {
+        /// The place of the first byte in the packet.
+        from: usize,
+        /// The place behind the last byte.
+        to: usize,
+    },
     /// A piece of a UDP packet that is to or from port 34980, or whose ports are not in this piece.
     Fragment,
     /// The packet was cut short where its type, its addresses or its ports are to stand.
@@ -54,14 +64,15 @@ pub enum Payload {
     Other,
 }
 
-/// What of an Ethernet frame is EtherCAT: the bytes behind type 0x88A4, also behind one or two VLAN tags, or
-/// the payload of a whole UDP packet to or from port 34980, over IPv4, or over IPv6 with no extension header
-/// but one of fragments.
-pub fn payload_of(bytes: &[u8]) -> Payload
-    ensures value { result ≡ payload_of bytes.now }
+/// What of a packet with this header is EtherCAT: the bytes behind type 0x88A4, also behind one or two VLAN
+/// tags, or the payload of a whole UDP packet over IPv4, or over IPv6 with no extension header but one of
+/// fragments: it is one to or from port 34980, and may be one at other ports.
+pub fn payload_of(link: Link, bytes: &[u8]) -> Payload
+    ensures value { result ≡ payload_of link bytes.now }
     ensures within { LiesWithin (length bytes.now) result }
 {
-    payload_behind(type_at(bytes), bytes)
+    let at = type_at(link, bytes);
+    payload_behind(at, behind_type(link, at), bytes)
 }
 
 /// The type that an EtherCAT header tells: 1 for datagrams, 4 for network variables, 5 for the mailbox
@@ -79,7 +90,7 @@ pub fn frame_type(payload: &[u8]) -> Option<u8>
 /// Does a VLAN tag stand at this place?
 #[tactic(auto, unfolding(crate::specs::Ethernet::is_tag))]
 fn is_tag(at: usize, bytes: &[u8]) -> bool
-    requires { at ≤ 16 }
+    requires { at ≤ 22 }
     ensures { result ≡ is_tag at bytes.now }
 {
     if bytes.len() < at + 2 {
@@ -89,38 +100,52 @@ fn is_tag(at: usize, bytes: &[u8]) -> bool
     tag == TAG || tag == SERVICE_TAG
 }
 
-/// The place of the type of what the frame carries.
+/// The place of the type of what the packet carries.
 #[tactic(auto, unfolding(crate::specs::Ethernet::type_at))]
-fn type_at(bytes: &[u8]) -> usize
-    ensures value { result ≡ type_at bytes.now }
-    ensures near { result ≤ 20 }
+fn type_at(link: Link, bytes: &[u8]) -> usize
+    ensures value { result ≡ type_at link bytes.now }
+    ensures near { result ≤ 26 }
 {
-    if !is_tag(12, bytes) {
-        12
-    } else if !is_tag(16, bytes) {
-        16
+    let at = link.type_place();
+    if !is_tag(at, bytes) {
+        return at;
+    }
+    let next = link.payload_place() + 2;
+    if is_tag(next, bytes) { next + 4 } else { next }
+}
+
+/// The place behind the type at this place, where what the packet carries begins.
+fn behind_type(link: Link, at: usize) -> usize
+    requires { at ≤ 26 }
+    ensures value { result ≡ behind_type link at }
+    ensures behind { at + 2 ≤ result }
+    ensures near { result ≤ 28 }
+{
+    if at == link.type_place() {
+        link.payload_place()
     } else {
-        20
+        at + 2
     }
 }
 
-/// What is EtherCAT, by the type at this place.
+/// What is EtherCAT, by the type at this place, and where what it carries begins.
 #[tactic(auto, unfolding(crate::specs::Ethernet::payload_behind))]
-fn payload_behind(at: usize, bytes: &[u8]) -> Payload
-    requires { at ≤ 20 }
-    ensures value { result ≡ payload_behind at bytes.now }
+fn payload_behind(at: usize, from: usize, bytes: &[u8]) -> Payload
+    requires behind { at + 2 ≤ from }
+    requires near { from ≤ 28 }
+    ensures value { result ≡ payload_behind at from bytes.now }
     ensures within { LiesWithin (length bytes.now) result }
 {
-    if bytes.len() < at + 2 {
+    if bytes.len() < from {
         return Payload::Short;
     }
     match Order::Big.half(bytes, at) {
         ETHERCAT => Payload::Ethernet {
-            from: at + 2,
+            from,
             to: bytes.len(),
         },
-        IPV4 => ipv4_payload(at + 2, bytes),
-        IPV6 => ipv6_payload(at + 2, bytes),
+        IPV4 => ipv4_payload(from, bytes),
+        IPV6 => ipv6_payload(from, bytes),
         _ => Payload::Other,
     }
 }
@@ -128,7 +153,7 @@ fn payload_behind(at: usize, bytes: &[u8]) -> Payload
 /// What of an IPv4 packet is EtherCAT.
 #[tactic(auto, unfolding(crate::specs::Ethernet::ipv4_payload))]
 fn ipv4_payload(at: usize, bytes: &[u8]) -> Payload
-    requires { at ≤ 22 }
+    requires { at ≤ 28 }
     ensures value { result ≡ ipv4_payload at bytes.now }
     ensures within { LiesWithin (length bytes.now) result }
 {
@@ -157,7 +182,7 @@ fn ipv4_payload(at: usize, bytes: &[u8]) -> Payload
 /// What of an IPv6 packet is EtherCAT.
 #[tactic(auto, unfolding(crate::specs::Ethernet::ipv6_payload))]
 fn ipv6_payload(at: usize, bytes: &[u8]) -> Payload
-    requires { at ≤ 22 }
+    requires { at ≤ 28 }
     ensures value { result ≡ ipv6_payload at bytes.now }
     ensures within { LiesWithin (length bytes.now) result }
 {
@@ -177,7 +202,7 @@ fn ipv6_payload(at: usize, bytes: &[u8]) -> Payload
 /// What is EtherCAT behind the fragment header of an IPv6 packet.
 #[tactic(auto, unfolding(crate::specs::Ethernet::ipv6_fragment))]
 fn ipv6_fragment(at: usize, bytes: &[u8]) -> Payload
-    requires { at ≤ 62 }
+    requires { at ≤ 68 }
     ensures value { result ≡ ipv6_fragment at bytes.now }
     ensures within { LiesWithin (length bytes.now) result }
 {
@@ -215,16 +240,21 @@ fn udp_payload(at: usize, bytes: &[u8]) -> Payload
     if bytes.len() < at + 8 {
         return Payload::Short;
     }
-    if !is_ours(at, bytes) {
-        return Payload::Other;
-    }
     let size = usize::from(Order::Big.half(bytes, at + 4));
+    let is_ours = is_ours(at, bytes);
     if size < 8 {
-        return Payload::BadLength;
+        return if is_ours {
+            Payload::BadLength
+        } else {
+            Payload::Other
+        };
     }
-    Payload::Udp {
-        from: at + 8,
-        to: (at + size).min(bytes.len()),
+    let from = at + 8;
+    let to = (at + size).min(bytes.len());
+    if is_ours {
+        Payload::Udp { from, to }
+    } else {
+        Payload::OtherUdp { from, to }
     }
 }
 

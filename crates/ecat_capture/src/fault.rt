@@ -14,7 +14,8 @@ pub enum CaptureFaultKind {
     /// The version is not 2.4 of classic pcap, or not 1 of pcapng.
     #[error("Version")]
     Version,
-    /// The packets are no Ethernet frames: those of the file, or of the interface that a packet came from.
+    /// The packets, those of the file or of the interface that a packet came from, are neither of Ethernet
+    /// nor of Linux's `any`.
     #[error("LinkType")]
     LinkType,
     /// A packet of more than 262,144 stored bytes, or a block of more than 1 MiB.

@@ -2,12 +2,13 @@
 //! The packets of captures as users have them, and what of a packet is EtherCAT.
 //!
 //! A user has whatever his tool saved: classic pcap in either byte order, with micro- or nanoseconds, or
-//! pcapng, which Wireshark saves by default. One use, which `capture/door.rt` of `ecat_capture_tests` tries:
+//! pcapng, which Wireshark saves by default; of an Ethernet interface, or of Linux's `any`. One use, which
+//! `capture/door.rt` of `ecat_capture_tests` tries:
 //!
 //! ```text
 //! let mut capture = Capture::new(rt.alloc(), Bytes::new(&FILE));
 //! while let Some(packet) = capture.next()? {
-//!     match payload_of(capture.bytes()) {
+//!     match payload_of(packet.link, capture.bytes()) {
 //!         Payload::Ethernet { from, to } => println!(rt; "{} {}", packet.number, to - from)?,
 //!         _ => {}
 //!     }
@@ -25,8 +26,10 @@
 //! - [`Capture::next`] passes over pieces that are no packets, and answers with the packet of such a step;
 //! - what its calls give up to the end are all packets of the file in their order (`whole_file`), by the
 //!   definition of a whole capture (`IsCapture`); and no bytes are a capture in two ways (`one_reading`);
+//! - [`Link`]: where the type and the payload of a packet lie, by the link type of its capture
+//!   (`specs/Links.antt`);
 //! - [`payload_of`] finds a packet's EtherCAT frame by the table `payload_of`: behind up to two VLAN tags, or
-//!   in a whole UDP packet over IPv4 or IPv6 to or from port 34980.
+//!   in a whole UDP packet over IPv4 or IPv6 to or from port 34980; at other ports it finds what may be one.
 //!
 //! A capture of any length takes the same memory: a window of what was read and not taken yet, which is at
 //! most the longest piece (1 MiB) and one read (64 KiB), and 64 interfaces.
@@ -36,6 +39,7 @@ mod capture;
 mod classic;
 mod ethernet;
 mod fault;
+mod link;
 mod order;
 mod packet;
 mod pieces;
@@ -45,5 +49,6 @@ mod window;
 pub use capture::{Capture, Step};
 pub use ethernet::{Payload, frame_type, payload_of};
 pub use fault::{CaptureFault, CaptureFaultKind};
+pub use link::Link;
 pub use packet::{Packet, Time};
 pub use promises::{one_reading, whole_file};

@@ -2,6 +2,8 @@
 ghost use Rattle.std.specs.Prelude.{◌≡◌, ◌<◌, ◌≤◌, ◌^◌};
 ghost use Rattle.ecat_capture.specs.Times.{per_second_of, time_of};
 
+use crate::link::Link;
+
 /// How many nanoseconds a second has.
 const NANOSECONDS: u64 = 1_000_000_000;
 
@@ -103,6 +105,8 @@ pub struct Packet {
     pub original: u32,
     /// The number of the interface that captured it, in its section of a pcapng file, from 0; of pcap 0.
     pub interface: u32,
+    /// What its bytes begin with.
+    pub link: Link,
 }
 
 /// A packet in its record or block.
@@ -118,4 +122,6 @@ pub(crate) struct Found {
     pub from: usize,
     /// The number of its interface; of a record 0.
     pub interface: u32,
+    /// What its bytes begin with.
+    pub link: Link,
 }

@@ -87,9 +87,11 @@ fn take_header<S: Source>(format: Format, window: &mut Window<S>) -> Result<Piec
     if !window.fill(HEADER_LEN)? {
         return Err(CaptureFaultKind::Short);
     }
-    check_header(format, window.front(HEADER_LEN))?;
+    let header = window.front(HEADER_LEN);
+    check_header(format, header)?;
+    let linked = format.linked(header);
     window.take(HEADER_LEN, 0, 0);
-    Ok(Piece::Header(format))
+    Ok(Piece::Header(linked))
 }
 
 // Takes a record of a classic capture, if the bytes don't end in front of it.

@@ -2,7 +2,7 @@
 
 use crate::asserts::assert_same;
 use ec_ring::Port;
-use ecat_capture::{Capture, Packet, Time};
+use ecat_capture::{Capture, Link, Packet, Time};
 use ecat_record::{Counter, Moments, Recorder, Tape, TapeFault, Unit, Way};
 use ecat_source::Bytes;
 use std::io::{self, Cursor, ErrorKind, Write};
@@ -119,6 +119,7 @@ fn a_reader_reads_what_was_written(rt: HostRuntime) {
         captured: 3,
         original: 3,
         interface: 0,
+        link: Link::Ethernet,
     };
     assert_same(&rt, capture.next(), Ok(Some(wanted)));
     assert_bytes(&rt, capture.bytes(), &[9, 8, 7]);

@@ -2,13 +2,16 @@
 
 ghost use Rattle.std.specs.Prelude.{◌<◌, ◌≤◌, length};
 
+use crate::ends::{Ends, Peers};
 use crate::looking::Looked;
+use crate::notes::Notes;
 use crate::packet::{any_frame, read_packet, time_of};
 use ec_wire::FrameBuf;
 use ecat_capture::{Capture, CaptureFault, CaptureFaultKind, Packet};
 use ecat_source::Source;
 use ecat_trips::{Marks, Outline};
 use std::alloc::{AllocError, Global};
+use std::io::Write;
 
 /// How many frames of a stream decide which addresses bear the mark.
 pub const HELD: usize = 4096;
@@ -39,6 +42,7 @@ pub(crate) fn end_of(fault: CaptureFault) -> End {
 #[derive(Drop)]
 struct HeldFrame {
     outline: Outline,
+    peers: Option<Peers>,
     frame: FrameBuf,
 }
 
@@ -70,12 +74,28 @@ impl Packets {
     }
 }
 
+/// The peers of a packet with this outline, if it came by UDP.
+fn peers_of(packet: &Packet, bytes: &[u8], outline: &Outline) -> Option<Peers> {
+    match outline.ports {
+        Some(ports) => Some(Peers::of(packet, bytes, ports)),
+        None => None,
+    }
+}
+
 /// The frames that a capture has ahead, each with its packet.
 #[derive(Drop)]
 pub struct Frames<S: Source> {
     capture: Capture<S>,
-    before: Option<u64>,
+    /// The number of the packet at which the reading ends, if it does in front of the end.
+    before: u64,
+    /// Is it a stream? Of a file the packets were noted before.
+    is_stream: bool,
+    notes: Notes,
     marks: Marks,
+    /// The ends of lines that are reached by UDP.
+    ends: Ends,
+    /// The peers of the packet that was read last, if it came by UDP.
+    peers: Option<Peers>,
     /// Frames of a stream that were read to tell the ways, and how many of them were given.
     held: Vec<HeldFrame>,
     given: usize,
@@ -89,13 +109,19 @@ pub struct Frames<S: Source> {
 }
 
 impl<S: Source + Drop> Frames<S> {
-    /// The frames of a file, whose first reading told this of the ways; of those in front of a packet, where
-    /// one is named.
-    pub fn of_file(alloc: Global, source: S, marks: Marks, before: Option<u64>) -> Frames<S> {
+    /// The frames of a file, whose first reading was looked at; of those in front of a packet, where one is
+    /// named.
+    pub fn of_file(alloc: Global, source: S, looked: Looked, before: Option<u64>) -> Frames<S> {
+        let notes = *looked.notes();
+        let (marks, ends) = looked.end();
         Frames {
             capture: Capture::new(alloc, source),
-            before,
+            before: before.unwrap_or(u64::MAX),
+            is_stream: false,
+            notes,
             marks,
+            ends,
+            peers: None,
             held: Vec::new(alloc),
             given: 0,
             frame: any_frame(),
@@ -112,11 +138,13 @@ impl<S: Source + Drop> Frames<S> {
         source: S,
         before: Option<u64>,
     ) -> Result<Frames<S>, AllocError> {
-        let marks = Looked::new().marks();
-        let mut frames = Frames::of_file(alloc, source, marks, before);
+        let mut frames = Frames::of_file(alloc, source, Looked::new(), before);
+        frames.is_stream = true;
         let mut looked = Looked::new();
         frames.hold(&mut looked)?;
-        frames.marks = looked.marks();
+        let (marks, ends) = looked.end();
+        frames.marks = marks;
+        frames.ends = ends;
         Ok(frames)
     }
 
@@ -135,22 +163,19 @@ impl<S: Source + Drop> Frames<S> {
         for _ in 0..HELD {
             match self.read() {
                 Some(outline) => {
-                    looked.take(&outline);
+                    let peers = self.peers;
+                    looked.take(&outline, peers, &self.frame);
                     let frame = self.frame.copy();
-                    self.held.push(HeldFrame { outline, frame })?;
+                    self.held.push(HeldFrame {
+                        outline,
+                        peers,
+                        frame,
+                    })?;
                 }
                 None => break,
             }
         }
         Ok(())
-    }
-
-    /// Is a packet in front of the one at which the reading ends?
-    fn is_asked(&self, packet: &Packet) -> bool {
-        match self.before {
-            None => true,
-            Some(before) => packet.number < before,
-        }
     }
 
     /// Reads the next packet with a frame.
@@ -161,12 +186,19 @@ impl<S: Source + Drop> Frames<S> {
         for _ in 0..u64::MAX {
             match self.capture.next() {
                 Ok(Some(packet)) => {
-                    if !self.is_asked(&packet) {
+                    if self.before <= packet.number {
                         break;
                     }
                     self.packets.take(&packet);
+                    if self.is_stream {
+                        self.notes
+                            .take(&packet, self.capture.bytes(), &mut self.frame);
+                    }
                     match read_packet(&packet, self.capture.bytes(), &mut self.frame) {
-                        Some(outline) => return Some(outline),
+                        Some(outline) => {
+                            self.peers = peers_of(&packet, self.capture.bytes(), &outline);
+                            return Some(outline);
+                        }
                         None => {}
                     }
                 }
@@ -187,11 +219,18 @@ impl<S: Source + Drop> Frames<S> {
             Some(held) => {
                 self.given = self.given.saturating_add(1);
                 self.is_read = false;
-                Some(held.outline)
+                match held.peers {
+                    Some(peers) => Some(self.ends.told(&held.outline, peers)),
+                    None => Some(held.outline),
+                }
             }
             None => {
                 self.is_read = true;
-                self.read()
+                let outline = self.read()?;
+                match self.peers {
+                    Some(peers) => Some(self.ends.told(&outline, peers)),
+                    None => Some(outline),
+                }
             }
         }
     }
@@ -225,6 +264,19 @@ impl<S: Source + Drop> Frames<S> {
     /// Does some packet that was read have a time in nanoseconds?
     pub fn is_fine(&self) -> bool {
         self.packets.is_fine
+    }
+
+    /// Tells a person what was noted of the packets: of a file in front of its frames, of a stream at its
+    /// end, since only then all is known. A write that fails is passed over.
+    pub fn tell_notes<V: Write>(&self, at_end: bool, err: &mut V) {
+        if at_end == self.is_stream {
+            self.notes.tell(err);
+        }
+    }
+
+    /// What was noted of the packets; of a stream of those that were read.
+    pub fn notes(&self) -> &Notes {
+        &self.notes
     }
 
     /// How the reading ended; before it has, [`End::Whole`].

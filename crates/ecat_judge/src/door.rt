@@ -107,18 +107,20 @@ fn take_all<S: Source + Drop, W: Write>(
     Ok(u64::MAX)
 }
 
-/// Judges a capture.
-fn judge_frames<S: Source + Drop, M: Mapped, W: Write>(
-    alloc: Global,
-    frames: &mut Frames<S>,
-    line: &[M],
-    items: &[Item],
-    asked: &Asked,
-    out: &mut W,
-) -> Result<Judged, Stop> {
+/// What is written of a capture, with the head of its columns.
+fn page_of(alloc: Global, asked: &Asked) -> Result<Page, AllocError> {
     let mut page = Page::new(alloc, asked.csv, asked.limit);
     page.put_head()?;
-    let mut trial = Trial::new(alloc, line, items, frames.marks().two, page)?;
+    Ok(page)
+}
+
+/// Judges a capture by a trial that begins.
+fn judge_frames<S: Source + Drop, W: Write>(
+    frames: &mut Frames<S>,
+    trial: Result<Trial, AllocError>,
+    out: &mut W,
+) -> Result<Judged, Stop> {
+    let mut trial = trial?;
     let taken = take_all(frames, &mut trial, out)?;
     let fault = match frames.end() {
         End::Whole => None,
@@ -158,7 +160,34 @@ pub fn judge<S: Source + Drop, M: Mapped, W: Write>(
     asked: &Asked,
     out: &mut W,
 ) -> Judged {
-    match judge_frames(alloc, frames, line, items, asked, out) {
+    let two = frames.marks().two;
+    let trial = match page_of(alloc, asked) {
+        Ok(page) => Trial::new(alloc, line, items, two, page),
+        Err(failed) => Err(failed),
+    };
+    judged_of(judge_frames(frames, trial, out))
+}
+
+/// Judges the frames of a capture by the counters that its items, each with one, came back with most often,
+/// where no line is known. The lines go to `out`.
+pub fn judge_usual<S: Source + Drop, W: Write>(
+    alloc: Global,
+    frames: &mut Frames<S>,
+    items: &[Item],
+    counters: &[u16],
+    asked: &Asked,
+    out: &mut W,
+) -> Judged {
+    let trial = match page_of(alloc, asked) {
+        Ok(page) => Trial::usual(alloc, items, counters, page),
+        Err(failed) => Err(failed),
+    };
+    judged_of(judge_frames(frames, trial, out))
+}
+
+/// How judging ended that may have been stopped.
+fn judged_of(judged: Result<Judged, Stop>) -> Judged {
+    match judged {
         Ok(judged) => judged,
         Err(Stop::Closed) => Judged::Closed,
         Err(Stop::OutputFailed) => Judged::OutputFailed,

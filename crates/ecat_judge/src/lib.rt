@@ -8,7 +8,7 @@
 //! ```text
 //! let mut looked = Looked::new();
 //! let _ = look(rt.alloc(), first, &mut looked);
-//! let mut frames = Frames::of_file(rt.alloc(), again, looked.marks(), None);
+//! let mut frames = Frames::of_file(rt.alloc(), again, looked, None);
 //! let asked = Asked { csv: false, limit: 1000 };
 //! match judge(rt.alloc(), &mut frames, line, items, &asked, &mut out) {
 //!     Judged::Good => {}       // all items came back, with the counters that the line gives
@@ -40,6 +40,9 @@
 //! Where several items were short, and none of them counted at all, a line says `no item counted`; columns
 //! name them all. As long as nothing was captured that was sent by a master with one port, a frame that came
 //! back is judged as one that was sent with the counters 0; where nothing was in the end, a line says so.
+//!
+//! Where no line is known, [`judge_usual`] expects of each item the counter that it had most often, and a run
+//! is `less than usual` or `more than usual`: which slave was missing, no one can tell then.
 //!
 //! With [`Asked::csv`] each run, and each row of losses, is a row of columns, and nothing else is written:
 //!
@@ -99,7 +102,7 @@ mod verdict;
 
 pub use answer::Answer;
 pub use candidates::Candidates;
-pub use door::{Asked, Judged, judge};
+pub use door::{Asked, Judged, judge, judge_usual};
 pub use evidence::{Evidence, Row};
 pub use promises::{missing_fits, missing_lacks, one_name_alone};
 pub use share::{Missing, Share, lacks};

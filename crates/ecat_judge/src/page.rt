@@ -225,8 +225,12 @@ impl Page {
         self.text.push_str(if self.csv { ",\"" } else { ": " })?;
         match run.kind {
             Kind::Alone => self.text.push_str("one copy alone")?,
-            Kind::More => self.text.push_str("more than the slaves of the scene")?,
-            Kind::Missing => self.put_missing(table, evidence)?,
+            Kind::More if table.is_known => {
+                self.text.push_str("more than the slaves of the scene")?;
+            }
+            Kind::Missing if table.is_known => self.put_missing(table, evidence)?,
+            Kind::More => self.text.push_str("more than usual")?,
+            Kind::Missing => self.text.push_str("less than usual")?,
         }
         self.text.push_str(if self.csv { "\"\n" } else { "\n" })
     }
@@ -494,8 +498,13 @@ impl Page {
         Ok(())
     }
 
-    /// Puts what no item of the scene asks for.
-    pub(crate) fn put_strangers(&mut self, strangers: &Strangers) -> Result<(), AllocError> {
+    /// Puts what no item of the scene asks for; where there is none, no item of the cycle.
+    pub(crate) fn put_strangers(
+        &mut self,
+        strangers: &Strangers,
+        is_known: bool,
+    ) -> Result<(), AllocError> {
+        let whose = if is_known { "scene" } else { "cycle" };
         let groups = strangers.groups();
         let datagrams = strangers.datagrams;
         if datagrams == 0 {
@@ -503,12 +512,12 @@ impl Page {
         } else if strangers.more {
             write!(
                 self.text,
-                "not in the scene: more than {MAX_GROUPS} groups, {datagrams} datagrams\n"
+                "not in the {whose}: more than {MAX_GROUPS} groups, {datagrams} datagrams\n"
             )
         } else {
             write!(
                 self.text,
-                "not in the scene: {groups} groups, {datagrams} datagrams\n"
+                "not in the {whose}: {groups} groups, {datagrams} datagrams\n"
             )
         }
     }

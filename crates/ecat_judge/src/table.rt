@@ -70,6 +70,8 @@ pub(crate) struct Table {
     pub candidates: Candidates,
     /// Is some item a logical one?
     pub logical: bool,
+    /// Is the line known? Else the counters that are expected are those that came most often.
+    pub is_known: bool,
 }
 
 /// Is it the command of a logical item?
@@ -208,19 +210,23 @@ fn stations_of<M: Mapped>(alloc: Global, line: &[M]) -> Result<Vec<u16>, AllocEr
     Ok(stations)
 }
 
+/// By what the datagrams of an item are known.
+fn item_key(item: &Item) -> Key {
+    Key {
+        command: item.kind().command(),
+        address: item.address(),
+        length: item.len(),
+    }
+}
+
 /// An item as it is judged.
 fn entry_of<M: Mapped>(alloc: Global, line: &[M], item: &Item) -> Result<Entry, AllocError>
     ensures { IfOk result (λ entry.
         entry.expected ≡ expected_of (controllers_by M.controller line.now) item.now) }
 {
-    let key = Key {
-        command: item.kind().command(),
-        address: item.address(),
-        length: item.len(),
-    };
     let windows = windows_of(alloc, line, item)?;
     Ok(Entry {
-        key,
+        key: item_key(item),
         expected: expected(line, item),
         windows,
     })
@@ -237,6 +243,18 @@ pub(crate) fn rows_of<M: Mapped>(
         let shares = shares_of(alloc, line, item)?;
         rows.push(Row {
             shares,
+            short: None,
+        })?;
+    }
+    Ok(rows)
+}
+
+/// The rows of so many items of a line of which nothing is known.
+pub(crate) fn empty_rows(alloc: Global, items: usize) -> Result<Vec<Row>, AllocError> {
+    let mut rows = Vec::new(alloc);
+    for _ in 0..items {
+        rows.push(Row {
+            shares: Vec::new(alloc),
             short: None,
         })?;
     }
@@ -263,6 +281,33 @@ impl Table {
             stations: stations_of(alloc, line)?,
             entries,
             logical,
+            is_known: true,
+        })
+    }
+
+    /// The table of a line of which nothing is known but the counters that its items have most often.
+    pub(crate) fn usual(
+        alloc: Global,
+        items: &[Item],
+        counters: &[u16],
+    ) -> Result<Table, AllocError> {
+        let mut entries = Vec::new(alloc);
+        let mut logical = false;
+        for (item, counter) in items.iter().zip(counters.iter()) {
+            let key = item_key(item);
+            logical = logical || is_logical(key.command);
+            entries.push(Entry {
+                key,
+                expected: *counter,
+                windows: Vec::new(alloc),
+            })?;
+        }
+        Ok(Table {
+            candidates: Candidates::new(alloc, 0, false)?,
+            stations: Vec::new(alloc),
+            entries,
+            logical,
+            is_known: false,
         })
     }
 

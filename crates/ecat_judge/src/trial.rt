@@ -2,12 +2,12 @@
 
 ghost use Rattle.std.specs.Prelude.{◌<◌, length};
 
-use crate::evidence::Evidence;
+use crate::evidence::{Evidence, Row};
 use crate::page::Page;
 use crate::run::{Kind, Run};
 use crate::strangers::Strangers;
 use crate::sums::{Outcome, Sums};
-use crate::table::{Table, is_logical, key_of, rows_of};
+use crate::table::{Table, empty_rows, is_logical, key_of, rows_of};
 use crate::times::{At, Times};
 use crate::verdict::{Counted, Standing, is_good};
 use ec_map::{Item, Mapped};
@@ -194,13 +194,32 @@ impl Trial {
         page: Page,
     ) -> Result<Trial, AllocError> {
         let table = Table::new(alloc, line, items, two)?;
+        Trial::of(alloc, table, rows_of(alloc, line, items)?, page)
+    }
+
+    /// Nothing is counted of items of which nothing is known but the counters that they have most often.
+    pub(crate) fn usual(
+        alloc: Global,
+        items: &[Item],
+        counters: &[u16],
+        page: Page,
+    ) -> Result<Trial, AllocError> {
+        let table = Table::usual(alloc, items, counters)?;
+        let rows = empty_rows(alloc, table.entries.len())?;
+        Trial::of(alloc, table, rows, page)
+    }
+
+    /// Nothing is counted of the items of a table, whose rows these are.
+    fn of(alloc: Global, table: Table, rows: Vec<Row>, page: Page) -> Result<Trial, AllocError> {
+        let items = table.entries.len();
+        let slaves = table.stations.len();
         Ok(Trial {
-            accounts: accounts_of(alloc, items.len())?,
+            accounts: accounts_of(alloc, items)?,
             trips: Trips::new(alloc)?,
-            run: Run::new(alloc, items.len())?,
+            run: Run::new(alloc, items)?,
             evidence: Evidence {
-                rows: rows_of(alloc, line, items)?,
-                passed: flags(alloc, line.len())?,
+                rows,
+                passed: flags(alloc, slaves)?,
                 gone: None,
             },
             losses: NO_LOSSES,
@@ -209,7 +228,7 @@ impl Trial {
             is_sent: false,
             is_guessed: false,
             found: Vec::new(alloc),
-            seen: flags(alloc, line.len())?,
+            seen: flags(alloc, slaves)?,
             added: Vec::new(alloc),
             added_rows: Vec::new(alloc),
             page,
@@ -476,7 +495,7 @@ impl Trial {
         came: &FrameBuf,
     ) -> Result<(), AllocError> {
         let slaves = self.table.stations.len();
-        let passage = if back.is_whole && back.is_sent {
+        let passage = if back.is_whole && back.is_sent && self.table.is_known {
             passage_of(sent, came, slaves)
         } else {
             Passage::Untold
@@ -680,7 +699,8 @@ impl Trial {
         if !self.page.csv {
             self.put_sums()?;
             self.page.put_guess(self.is_guessed && !self.is_sent)?;
-            self.page.put_strangers(&self.strangers)?;
+            self.page
+                .put_strangers(&self.strangers, self.table.is_known)?;
         }
         self.page.put_rest()
     }

@@ -1,4 +1,3 @@
-mod CutLemmas
 mod FrontLemmas
 mod HexLemmas
 mod HistogramLemmas

@@ -1,7 +1,7 @@
 -- What is told of spans of time: how many, the least, the greatest, and in which time a share of them is.
 use Rattle.std.specs.Prelude.{◌≡◌, ℕ, ◌-◌, ◌/◌, min, ltb, if◌then◌else◌, List, length}
 use Rattle.std.specs.Io.Iter.{u64_saturate}
-use Rattle.ecat_list.specs.Cut.{greatest_of, least_of}
+use Rattle.ecat_frames.specs.Notes.{greatest_of, least_of}
 use Rattle.ecat_list.specs.Histogram.{IsHistogram, last_of, upper_of}
 use Rattle.ecat_list.specs.declared.group.Spans.{Spans}
 use Rattle.ecat_list.specs.declared.group.TheConstants.{LONGEST}

@@ -5,14 +5,15 @@ ghost use Rattle.ecat_list.specs.Listing.{noted_words, told_words};
 ghost use Rattle.ecat_list.specs.Note.{note_line_words};
 
 use crate::cut::{CutDatagram, refill_front};
-use crate::cut_packets::CutPackets;
+use crate::cut_packets::lead_cut;
 use crate::line::{CSV_HEAD, Head, Note, Since, Style, any_frame, put_datagrams, put_note};
 use crate::output::{Output, Stop};
 use crate::row::Row;
 use ec_wire::{FaultKind, Form as Carrier, FrameBuf, WireFault};
 use ecat_capture::{
-    Capture, CaptureFault, CaptureFaultKind, Packet, Payload, Time, frame_type, payload_of,
+    Capture, CaptureFault, CaptureFaultKind, Link, Packet, Payload, Time, frame_type, payload_of,
 };
+use ecat_frames::{CutPackets, is_cut_frame};
 use ecat_source::Source;
 use std::alloc::Global;
 use std::io::Write;
@@ -185,12 +186,16 @@ impl<'a, W: Write> Listing<'a, W> {
     /// Takes a packet.
     fn take(&mut self, packet: &Packet, bytes: &[u8]) -> Result<(), Stop> {
         let head = self.head_of(packet, bytes);
-        match payload_of(bytes) {
+        match payload_of(packet.link, bytes) {
             Payload::Ethernet { from, to } => {
                 self.frame(&head, packet, &bytes[from..to], Carrier::Ethernet)?
             }
             Payload::Udp { from, to } => {
                 self.frame(&head, packet, &bytes[from..to], Carrier::Udp)?
+            }
+            Payload::OtherUdp { from, to } => {
+                let is_cut = is_cut_frame(packet, bytes, from, to);
+                self.other_udp(&head, packet, &bytes[from..to], is_cut)?;
             }
             Payload::Fragment => self.note(&head, Note::Fragment)?,
             Payload::Short => self.short(&head, packet)?,
@@ -209,7 +214,7 @@ impl<'a, W: Write> Listing<'a, W> {
         Head {
             number: packet.number,
             since,
-            source: source_of(bytes),
+            source: source_of(packet.link, bytes),
         }
     }
 
@@ -245,6 +250,24 @@ impl<'a, W: Write> Listing<'a, W> {
                 self.cut_frame(head, packet, payload, fault)
             }
             Err(fault) => self.note(head, Note::Fault(fault)),
+        }
+    }
+
+    /// Takes the payload of a UDP packet at other ports than EtherCAT's, of which nothing is told but where
+    /// it is a frame, or was cut in one.
+    fn other_udp(
+        &mut self,
+        head: &Head,
+        packet: &Packet,
+        payload: &[u8],
+        is_cut: bool,
+    ) -> Result<(), Stop> {
+        match self.frame.refill(payload, Carrier::Udp) {
+            Ok(()) => self.datagrams(head),
+            Err(fault) if is_cut && fault.kind == FaultKind::Short => {
+                self.cut_frame(head, packet, payload, fault)
+            }
+            Err(_) => Ok(()),
         }
     }
 
@@ -331,7 +354,7 @@ impl<'a, W: Write> Listing<'a, W> {
     fn tell_cut<V: Write>(&mut self, err: &mut V) {
         if self.cut.are_there() {
             self.row.clear();
-            self.cut.lead(&mut self.row);
+            lead_cut(&self.cut, &mut self.row);
             let _ = err.write_all(self.row.as_slice());
         }
     }
@@ -358,12 +381,12 @@ fn other_type(payload: &[u8]) -> Option<u8> {
     }
 }
 
-/// The source address of a packet, if it was captured.
-fn source_of(bytes: &[u8]) -> Option<[u8; 6]> {
-    if bytes.len() < 12 {
-        return None;
+/// The source address of a packet with this header, if it was captured.
+fn source_of(link: Link, bytes: &[u8]) -> Option<[u8; 6]> {
+    match bytes.get(link.sender_place()..) {
+        Some([a, b, c, d, e, f, ..]) => Some([*a, *b, *c, *d, *e, *f]),
+        _ => None,
     }
-    Some([bytes[6], bytes[7], bytes[8], bytes[9], bytes[10], bytes[11]])
 }
 
 /// A time in nanoseconds since the epoch, at most the greatest number.

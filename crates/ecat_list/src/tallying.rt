@@ -10,7 +10,7 @@ use crate::stats::Stats;
 use crate::text::put_decimal;
 use crate::ways::Ways;
 use ec_wire::FrameBuf;
-use ecat_frames::{End, Frames, Looked, look};
+use ecat_frames::{End, Frames, Looked, UNJOINED, look};
 use ecat_source::Source;
 use ecat_trips::{Marks, Outline, Step, Trips};
 use std::alloc::{AllocError, Global};
@@ -26,8 +26,9 @@ pub struct Sums {
 }
 
 /// Sums up the trips of a capture that is read twice: `first` and `again` have the same bytes ahead. The
-/// texts go to `out`, and where progress is asked for to `err` how many packets were read again. A write to
-/// `err` that fails is passed over.
+/// texts go to `out`; to `err` goes where progress is asked for how many packets were read again, and at the
+/// end what else is to be known: how many packets were cut, how many are older than the one before, and that
+/// one way alone was captured. A write to `err` that fails is passed over.
 pub fn tally<S: Source + Drop, T: Source + Drop, W: Write, V: Write>(
     alloc: Global,
     first: S,
@@ -41,7 +42,7 @@ pub fn tally<S: Source + Drop, T: Source + Drop, W: Write, V: Write>(
     if end == End::NoMemory {
         return Listed::NoMemory;
     }
-    let mut frames = Frames::of_file(alloc, again, looked.marks(), None);
+    let mut frames = Frames::of_file(alloc, again, looked, None);
     match tally_frames(alloc, &mut frames, asked, out, err) {
         Listed::Whole if end == End::SourceFailed => Listed::SourceFailed,
         listed => listed,
@@ -80,7 +81,12 @@ fn tally_frames<S: Source + Drop, W: Write, V: Write>(
     };
     let mut output = Output::new(alloc, out, false);
     match tallying.put(frames, &mut output) {
-        Ok(()) => read,
+        Ok(()) => {
+            if matches!(read, Listed::Whole | Listed::Damaged(_)) {
+                tallying.tell(frames, err);
+            }
+            read
+        }
         Err(stop) => match read {
             Listed::Closed | Listed::OutputFailed | Listed::NoMemory => read,
             Listed::Whole | Listed::Damaged(_) | Listed::SourceFailed => listed_of(stop),
@@ -167,6 +173,14 @@ impl Tallying {
                 self.ways.take(*told);
                 true
             }
+        }
+    }
+
+    /// Tells what else is to be known of the capture.
+    fn tell<S: Source + Drop, V: Write>(&self, frames: &Frames<S>, err: &mut V) {
+        frames.notes().tell(err);
+        if self.ways.are_one() {
+            let _ = err.write_all(UNJOINED);
         }
     }
 

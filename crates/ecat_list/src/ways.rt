@@ -42,6 +42,11 @@ impl Ways {
         }
     }
 
+    /// Did frames go one way alone?
+    pub(crate) fn are_one(&self) -> bool {
+        (self.sent == 0) != (self.returned == 0)
+    }
+
     /// Puts the line of the ways.
     pub(crate) fn put(&self, text: &mut Vec<u8>) -> Result<(), AllocError> {
         text.extend_from_slice(b"sent ")?;

@@ -10,6 +10,7 @@ use Rattle.ecat_capture.specs.Times.{time_of}
 use Rattle.ecat_capture.specs.declared.packet.Time.{Time}
 use Rattle.ecat_capture.specs.Classic as classic
 use Rattle.ecat_capture.specs.Classic.{IsHeader, IsRecord, header_fault}
+use Rattle.ecat_capture.specs.Links.{link_of}
 use Rattle.ecat_capture.specs.File.{Stored, stored, AreRecords, IsCapture}
 use Rattle.ecat_capture.proofs.Laws.{records-none, records-more, capture-of_records}
 use Rattle.ecat_capture.specs.declared.order.Order.TheVariants.{Little}
@@ -22,9 +23,21 @@ use Rattle.ecat_record.specs.declared.format.Unit.TheVariants.{Microseconds, Nan
 
 -- the header is one
 header_is : (unit : Unit) → IsHeader (format_of unit) (header_of unit)
-unfolding header_of classic.format_of header_fault half word
-header_is Microseconds = record { whole = refl; magic = refl; good = refl }
-header_is Nanoseconds = record { whole = refl; magic = refl; good = refl }
+unfolding header_of classic.format_of header_fault half word link_of
+header_is Microseconds = record {
+  unlinked = format_of Microseconds;
+  whole = refl;
+  magic = refl;
+  good = refl;
+  format_is = refl;
+}
+header_is Nanoseconds = record {
+  unlinked = format_of Nanoseconds;
+  whole = refl;
+  magic = refl;
+  good = refl;
+  format_is = refl;
+}
 
 -- a time is its seconds and what is behind them, and they have room
 seconds_fit : (unit : Unit) (at : ℕ) → told_time unit at / per_second unit < 2 ^ 32

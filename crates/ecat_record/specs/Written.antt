@@ -5,6 +5,7 @@ use Rattle.std.specs.Prelude.{Bool, true, false, ⊤, Some, map, take}
 use Rattle.std.specs.Int.{w16, w32, to_le_bytes}
 use Rattle.ecat_capture.specs.declared.order.Order.TheVariants.{Little}
 use Rattle.ecat_capture.specs.declared.classic.Format.{Format}
+use Rattle.ecat_capture.specs.declared.link.Link.TheVariants.{Ethernet}
 use Rattle.ecat_capture.specs.Pieces.{greatest_packet, kept_packet}
 use Rattle.ecat_capture.specs.Times.{time_of}
 use Rattle.ecat_capture.specs.File.{Stored}
@@ -19,7 +20,7 @@ is_fine Nanoseconds = true
 
 -- the kind of classic capture that counts this unit of time
 abbrev pub format_of : Unit → Format
-format_of unit = record { order = Little; nanoseconds = is_fine unit }
+format_of unit = record { order = Little; nanoseconds = is_fine unit; link = Ethernet }
 
 -- the first four bytes, as a number
 abbrev pub magic_of : Unit → ℕ

@@ -7,7 +7,7 @@
 //!
 //! ```text
 //! let asked = Asked { at: None, asked: false, values: false };
-//! match learn(rt.alloc(), first, again, &asked, &mut out) {
+//! match learn(rt.alloc(), first, again, &asked, &mut out, &mut err) {
 //!     Learned::Whole => {}      // the scene was written
 //!     Learned::Holes => {}      // it was, with lines that no command reads: not all is told
 //!     ended => {}
@@ -52,6 +52,7 @@
 //! - `groups`, `mails`, `left_out`: how often datagrams came, objects by mail, and what a scene cannot say.
 //! - `learner`, `reading`: packet after packet, and the whole capture.
 //! - `page`, `slave_page`: the text; `found`: that of a line whose slaves were asked.
+//! - `usual`: the items of a capture without a start-up, with the counters that came most often.
 //! - `promises`: the laws of what is told.
 //!
 //! It cannot tell the places of slaves that are given their stations while the ring is open: a slave that
@@ -75,6 +76,7 @@ mod reading;
 mod registers;
 mod slave;
 mod slave_page;
+mod usual;
 mod whom;
 
 pub use byte::{Byte, Gate, How};
@@ -84,7 +86,8 @@ pub use promises::{
     one_state_heard, one_told_run, rings_are_passed, steps_leave_it, still_copies_add_nothing,
     told_is_so,
 };
-pub use reading::{Asked, Learned, learn, learn_frames, learn_stream};
+pub use reading::{Asked, Learned, learn, learn_by, learn_stream};
 pub use registers::{FMMU_PLACE, KEPT, STATION_PLACE, STATUS_PLACE, SYNC_MANAGER_PLACE};
 pub use slave::Slave;
+pub use usual::Usual;
 pub use whom::Whom;

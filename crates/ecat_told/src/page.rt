@@ -281,12 +281,12 @@ fn put_stranger(page: &mut Page, slaves: &[Slave], stranger: &Stranger) -> Resul
 // ---- items
 
 /// Which datagrams are counted: those of the line, or all of the capture.
-fn count_of(group: &Group, all: bool) -> &Count {
+pub(crate) fn count_of(group: &Group, all: bool) -> &Count {
     if all { &group.all } else { &group.line }
 }
 
 /// The kind of an item of a command.
-fn kind_of(command: Command) -> Option<Kind> {
+pub(crate) fn kind_of(command: Command) -> Option<Kind> {
     match command {
         Command::Lrd => Some(Kind::Lrd),
         Command::Lwr => Some(Kind::Lwr),
@@ -304,7 +304,7 @@ fn is_logical(kind: Kind) -> bool {
 }
 
 /// How often the most frequent logical datagram came back.
-fn most(groups: &[Group], all: bool) -> u64 {
+pub(crate) fn most(groups: &[Group], all: bool) -> u64 {
     let mut most = 0;
     for group in groups {
         if kind_of(group.command).is_some_and(is_logical) {
@@ -331,7 +331,7 @@ fn is_item(group: &Group, all: bool, most: u64) -> bool {
 }
 
 /// The item behind another one in the order in which they came first.
-fn next_item<'a>(
+pub(crate) fn next_item<'a>(
     groups: &'a [Group],
     all: bool,
     most: u64,
@@ -375,7 +375,7 @@ fn put_items(page: &mut Page, learner: &Learner) -> Result<(), AllocError> {
 }
 
 /// The address of an item of a group.
-fn item_address(kind: Kind, address: u32) -> u32 {
+pub(crate) fn item_address(kind: Kind, address: u32) -> u32 {
     match kind {
         Kind::Brd => u32::from(ado_of(address)),
         _ => address,
@@ -383,7 +383,7 @@ fn item_address(kind: Kind, address: u32) -> u32 {
 }
 
 /// The most data of a datagram.
-const MOST_DATA: usize = 1486;
+pub(crate) const MOST_DATA: usize = 1486;
 
 /// Puts an item, and how often it came back.
 fn put_group(page: &mut Page, group: &Group, count: &Count) -> Result<(), AllocError> {

@@ -5,6 +5,7 @@ ghost use Rattle.std.specs.Prelude.{◌<◌, ◌≤◌, length};
 use crate::known::KnownFault;
 use crate::learner::Learner;
 use crate::page::write_page;
+use crate::usual::Usual;
 use ecat_capture::CaptureFault;
 use ecat_frames::{End, Frames, Looked, look};
 use ecat_source::Source;
@@ -69,13 +70,14 @@ fn stopped(fault: KnownFault) -> Learned {
 }
 
 /// Learns of a file, which is read twice: `first` and `again` have the same bytes ahead. The scene goes to
-/// `out`.
-pub fn learn<S: Source + Drop, T: Source + Drop, W: Write>(
+/// `out`, and to `err` first what else is to be known of the packets.
+pub fn learn<S: Source + Drop, T: Source + Drop, W: Write, V: Write>(
     alloc: Global,
     first: S,
     again: T,
     asked: &Asked,
     out: &mut W,
+    err: &mut V,
 ) -> Learned {
     let mut looked = Looked::new();
     match look(alloc, first, &mut looked) {
@@ -83,32 +85,51 @@ pub fn learn<S: Source + Drop, T: Source + Drop, W: Write>(
         End::NoMemory => return Learned::NoMemory,
         End::Whole | End::Damaged(_) => {}
     }
-    let mut frames = Frames::of_file(alloc, again, looked.marks(), asked.at);
-    learn_frames(alloc, &mut frames, asked, out)
+    let mut frames = Frames::of_file(alloc, again, looked, asked.at);
+    learn_frames(alloc, &mut frames, asked, out, err)
 }
 
 /// Learns of a stream, of which the first 4,096 frames are held, and decide which addresses bear the mark.
-/// The scene goes to `out`.
-pub fn learn_stream<S: Source + Drop, W: Write>(
+/// The scene goes to `out`, and to `err` at the end what else is to be known of the packets.
+pub fn learn_stream<S: Source + Drop, W: Write, V: Write>(
     alloc: Global,
     source: S,
     asked: &Asked,
     out: &mut W,
+    err: &mut V,
 ) -> Learned {
     match Frames::of_stream(alloc, source, asked.at) {
-        Ok(mut frames) => learn_frames(alloc, &mut frames, asked, out),
+        Ok(mut frames) => learn_frames(alloc, &mut frames, asked, out, err),
         Err(_) => Learned::NoMemory,
     }
 }
 
-/// Learns of the frames that a capture has ahead. The scene goes to `out`.
-pub fn learn_frames<S: Source + Drop, W: Write>(
+/// Learns of the frames that a capture has ahead. The scene goes to `out`, and to `err` what else is to be
+/// known of the packets.
+fn learn_frames<S: Source + Drop, W: Write, V: Write>(
     alloc: Global,
     frames: &mut Frames<S>,
     asked: &Asked,
     out: &mut W,
+    err: &mut V,
 ) -> Learned {
-    match learn_all(alloc, frames, asked, out) {
+    frames.tell_notes(false, err);
+    let mut usual = Usual::new(alloc);
+    let learned = learn_by(alloc, frames, asked, &mut usual, out);
+    frames.tell_notes(true, err);
+    learned
+}
+
+/// Learns of the frames that a capture has ahead. The scene goes to `out`; where they tell no line, since no
+/// start-up is among them, the items and the counters that came most often go to `usual`.
+pub fn learn_by<S: Source + Drop, W: Write>(
+    alloc: Global,
+    frames: &mut Frames<S>,
+    asked: &Asked,
+    usual: &mut Usual,
+    out: &mut W,
+) -> Learned {
+    match learn_all(alloc, frames, asked, usual, out) {
         Ok(learned) => learned,
         Err(fault) => stopped(fault),
     }
@@ -119,6 +140,7 @@ fn learn_all<S: Source + Drop, W: Write>(
     alloc: Global,
     frames: &mut Frames<S>,
     asked: &Asked,
+    usual: &mut Usual,
     out: &mut W,
 ) -> Result<Learned, KnownFault> {
     let mut learner = Learner::new(alloc, asked.asked, asked.values)?;
@@ -134,6 +156,9 @@ fn learn_all<S: Source + Drop, W: Write>(
         return Ok(damage.unwrap_or(Learned::NoFrames));
     }
     let written = write_page(alloc, &learner, asked.at.is_some(), asked.values)?;
+    if written.has_hole && learner.started == 0 {
+        usual.take_all(&learner)?;
+    }
     match write_all(out, written.text.as_str().as_bytes()) {
         Ok(()) if written.has_hole => Ok(damage.unwrap_or(Learned::Holes)),
         Ok(()) => Ok(damage.unwrap_or(Learned::Whole)),

@@ -1,6 +1,6 @@
 //! pcapng block by block (the PCAP Next Generation file format).
 use crate::asserts::assert_same;
-use ecat_capture::{Capture, Packet, Step};
+use ecat_capture::{Capture, Link, Packet, Step};
 use ecat_source::Bytes;
 
 /// A section of unknown length, an interface, a block of a type that nobody knows, and a packet with five
@@ -26,6 +26,7 @@ fn each_block_is_a_step(rt: HostRuntime) {
         captured: 5,
         original: 5,
         interface: 0,
+        link: Link::Ethernet,
     };
     assert_same(&rt, capture.step(), Ok(Step::Packet(packet)));
     assert_same(&rt, capture.bytes(), [1, 2, 3, 4, 5].as_slice());

@@ -1,6 +1,6 @@
 //! Classic captures (the savefile format of libpcap): the longest packet, and reads that fail.
 use crate::asserts::assert_same;
-use ecat_capture::{Capture, CaptureFault, CaptureFaultKind, Packet, Time};
+use ecat_capture::{Capture, CaptureFault, CaptureFaultKind, Link, Packet, Time};
 use ecat_source::{Bytes, FailsAt, Pieces, Source};
 use std::process::Abort;
 use std::test::Fail;
@@ -48,6 +48,7 @@ fn longest_packet_is_cut_and_one_byte_more_refused(rt: HostRuntime) -> Result<()
         captured: 262_144,
         original: 262_144,
         interface: 0,
+        link: Link::Ethernet,
     };
     assert_same(&rt, capture.next(), Ok(Some(long)));
     assert_same(&rt, capture.bytes().len(), 65_536);
@@ -62,6 +63,7 @@ fn longest_packet_is_cut_and_one_byte_more_refused(rt: HostRuntime) -> Result<()
         captured: 3,
         original: 3,
         interface: 0,
+        link: Link::Ethernet,
     };
     assert_same(&rt, capture.next(), Ok(Some(short)));
     assert_same(&rt, capture.bytes(), [0xaa, 0xbb, 0xcc].as_slice());

@@ -17,7 +17,7 @@ fn frames_of_a_file_are_found(rt: HostRuntime) {
     match capture.next() {
         Ok(Some(packet)) => {
             assert_same(&rt, packet.number, 1);
-            let payload = payload_of(capture.bytes());
+            let payload = payload_of(packet.link, capture.bytes());
             assert_same(&rt, payload, Payload::Ethernet { from: 14, to: 30 });
         }
         Ok(None) => panic!(rt; "the capture ended"),

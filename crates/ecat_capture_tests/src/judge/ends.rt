@@ -40,7 +40,7 @@ fn judged<W: Write>(alloc: Global, out: &mut W) -> Option<Judged> {
     let item = Item::new(Kind::Lrw, 0x0001_0000, &[0, 0]).ok()?;
     let mut looked = Looked::new();
     let _ = look(alloc, Bytes::new(bytes.as_slice()), &mut looked);
-    let mut frames = Frames::of_file(alloc, Bytes::new(bytes.as_slice()), looked.marks(), None);
+    let mut frames = Frames::of_file(alloc, Bytes::new(bytes.as_slice()), looked, None);
     let asked = Asked {
         csv: false,
         limit: 1000,

@@ -80,7 +80,8 @@ fn a_start_is_learned(rt: HostRuntime) {
         values: false,
     };
     let mut out = Vec::new(rt.alloc());
-    let found = learn(rt.alloc(), first, again, &asked, &mut out);
+    let mut err = Vec::new(rt.alloc());
+    let found = learn(rt.alloc(), first, again, &asked, &mut out, &mut err);
     if found != Learned::NoMemory && found != Learned::OutputFailed {
         assert_eq!(rt; found, Learned::Whole);
         assert!(rt; out.as_slice() == SCENE.as_bytes(), "{out:?}");

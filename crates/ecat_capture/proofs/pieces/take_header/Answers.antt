@@ -24,15 +24,15 @@ returns-in_err-check_header-clause-err g c =
     let p = err_from_is_err_and c.from_residual-in_err-check_header.result
     c.from_residual-in_err-check_header.ensures.1 in
     let magic = ap format_of (
-    ap (word Little 0) c.front.ensures.value
+    ap (word Little 0) c.front-header.ensures.value
     ∙ word-first c.args.window.now c.fill.new.self f.same f.front f.more Little 0 4 24 (omega arith)
     (omega arith) c.requires.loaded
     ) ∙ c.requires.magic in
     rw (p.1, p.2)
-    (Explains-refused IsCutStart StartIsRefused c.args.window.now c.fill.new.self _ c.front.result.now
+    (Explains-refused IsCutStart StartIsRefused c.args.window.now c.fill.new.self _ c.front-header.result.now
     c.in_err-check_header.ensures.refusal
     (inr (inl (c.args.format, magic, c.in_err-check_header.ensures.err)))
-    (begins-first c.args.window.now c.fill.new.self f.same f.front f.more _ c.front.ensures.begins))
+    (begins-first c.args.window.now c.fill.new.self f.same f.front f.more _ c.front-header.ensures.begins))
 
 pub returns-clause-piece : goal.returns-clause-piece
 returns-clause-piece g c =
@@ -43,8 +43,16 @@ returns-clause-piece g c =
     word-first c.args.window.now c.fill.new.self f.same f.front f.more Little 0 4 24 (omega arith)
     (omega arith) c.requires.loaded
     ) ∙ c.requires.magic in
-    let good = rw c.front.ensures.value at c.in_ok-check_header.ensures.ok in
+    let good = rw c.front-header.ensures.value at c.in_ok-check_header.ensures.ok in
+    let is = rw c.front-header.ensures.value at c.linked-linked.ensures in
     takes-front c.args.window.now c.fill.new.self f.same f.front f.more
-    (IsPiece Start [] (piece.Header c.args.format)) (piece.Header c.args.format) c.take.new.self 24 many
-    (record { whole = simp length-take (omega arith); magic = magic; good = good }) tt
+    (IsPiece Start [] (piece.Header c.linked-linked.result)) (piece.Header c.linked-linked.result)
+    c.take.new.self 24 many
+    (record {
+      unlinked = c.args.format;
+      whole = simp length-take (omega arith);
+      magic = magic;
+      good = good;
+      format_is = is;
+    }) tt
     c.take.ensures.taken f.place c.take.ensures.place

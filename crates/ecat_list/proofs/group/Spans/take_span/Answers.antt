@@ -1,5 +1,5 @@
 use Rattle.std.proofs.Common.{max, min, ap, sym, ◌∙◌}
-use Rattle.ecat_list.proofs.CutLemmas.{count_more, greatest_push, least_push}
+use Rattle.ecat_frames.proofs.Laws.{count_more, greatest_push, least_push}
 use Rattle.ecat_list.proofs.group.Spans.take_span.Goals as goal
 
 pub returns : goal.returns

@@ -1,9 +1,12 @@
--- Packets that are cut, and one more.
-use Rattle.std.proofs.Common.{◌≡◌, ℕ, ◌+◌, min, max, List, [], ◌∷◌, ◌++◌, length, refl, ap, sym, ◌∙◌}
+-- What crates above cite of packets that are counted: the least, the greatest and the count with one more.
+use Rattle.std.proofs.Common.{◌≡◌, ℕ, ◌+◌, min, max, List, [], ◌∷◌, ◌++◌, length, refl, arith, ap, sym, ◌∙◌}
 use Rattle.std.specs.Io.Iter.{u64_saturate}
 use Rattle.std.proofs.lemmas.List.{length_push}
-use Rattle.ecat_list.specs.Cut.{greatest_of, least_of}
-use Rattle.ecat_list.proofs.TallyLemmas.{saturated_more}
+use Rattle.ecat_frames.specs.Notes.{greatest_of, least_of}
+
+-- a count that has stopped stays
+saturated_more : (n : ℕ) → u64_saturate (u64_saturate n + 1) ≡ u64_saturate (n + 1)
+saturated_more n = grind arith
 
 -- the least of one number more
 pub least_push : (n : ℕ) (ms : List ℕ) (m : ℕ) → least_of n (ms ++ m ∷ []) ≡ min (least_of n ms) m

@@ -1,6 +1,6 @@
 use Rattle.std.proofs.Common.{max, min, ap, sym, ◌∙◌}
-use Rattle.ecat_list.proofs.CutLemmas.{count_more, greatest_push, least_push}
-use Rattle.ecat_list.proofs.cut_packets.CutPackets.take.Goals as goal
+use Rattle.ecat_frames.proofs.Laws.{count_more, greatest_push, least_push}
+use Rattle.ecat_frames.proofs.notes.CutPackets.take.Goals as goal
 
 pub returns : goal.returns
 returns c = λ all h.
