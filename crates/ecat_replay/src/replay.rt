@@ -106,10 +106,11 @@ fn play_trip(
     let Some(came) = &trip.came else {
         return Ok(());
     };
+    let heard = here.as_ref();
     let answer = Answer {
         sent: &trip.sent.frame,
         there: came.frame(),
-        here: here.as_ref(),
+        here: heard,
     };
     for k in 0..own_count(&trip.sent.frame) {
         let part = Part::of(answer.sent, k);
