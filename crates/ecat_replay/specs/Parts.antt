@@ -1,5 +1,5 @@
 -- Whom a datagram asks, and for what.
-use Rattle.std.specs.Prelude.{ℕ, ◌&&◌, Bool, false, true, nat_le, nat_lt}
+use Rattle.std.specs.Prelude.{◌&&◌, Bool, false, true, nat_le, nat_lt}
 use Rattle.ecat_replay.specs.declared.part.Part.{Part}
 use Rattle.ecat_replay.specs.declared.part.Whom.{Whom}
 use Rattle.ecat_replay.specs.declared.part.Whom.TheVariants.{Mapped}

@@ -37,48 +37,52 @@ pub struct Answer<'a> {
     pub sent: &'a FrameBuf,
     /// The one that came back in the capture.
     pub there: &'a FrameBuf,
-    /// The one that the line gave, if it gave one.
-    pub here: Option<&'a FrameBuf>,
+    /// The one that the line gave.
+    pub here: &'a FrameBuf,
 }
 
 impl Answer<'_> {
     /// How the answers to the datagram at `k` differ, if they do. `mailbox` is the register from which on the
     /// slave that is asked has what it mails, if it is known.
     pub fn difference(&self, k: usize, part: &Part, mailbox: Option<u16>) -> Option<Difference> {
-        if self.sent.count() <= k || self.there.count() <= k {
+        if self.sent.count() <= k || self.there.count() <= k || self.here.count() <= k {
             return None;
         }
-        let Some(here) = self.here else {
-            return Some(unanswered(moved(self.sent, self.there, k)));
-        };
-        if here.count() <= k {
-            return Some(unanswered(moved(self.sent, self.there, k)));
-        }
-        let counters = (moved(self.sent, self.there, k), moved(self.sent, here, k));
+        let counters = (
+            moved(self.sent, self.there, k),
+            moved(self.sent, self.here, k),
+        );
         if let Some(found) = differing(Kind::Counter, counters) {
             return Some(found);
         }
         if part.command.counts_adp() {
-            let passed = (grown(self.sent, self.there, k), grown(self.sent, here, k));
+            let passed = (
+                grown(self.sent, self.there, k),
+                grown(self.sent, self.here, k),
+            );
             if let Some(found) = differing(Kind::Passed, passed) {
                 return Some(found);
             }
         }
         if has_data(part, mailbox) {
-            other_byte(self.there.data(k), here.data(k))
+            other_byte(self.there.data(k), self.here.data(k))
         } else {
             None
         }
     }
 }
 
-/// What is told of a datagram that the line does not answer, and whose counter moved so far in the capture.
-fn unanswered(there: u16) -> Difference {
-    Difference {
-        kind: Kind::Unanswered,
-        there,
-        here: 0,
+/// What is told of the datagram at `k` of a frame that the line does not answer: how far its counter moved in
+/// the capture.
+pub fn unanswered(sent: &FrameBuf, there: &FrameBuf, k: usize) -> Option<Difference> {
+    if sent.count() <= k || there.count() <= k {
+        return None;
     }
+    Some(Difference {
+        kind: Kind::Unanswered,
+        there: moved(sent, there, k),
+        here: 0,
+    })
 }
 
 /// A difference of this kind between two values, if they differ.

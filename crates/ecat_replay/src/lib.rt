@@ -43,7 +43,7 @@ mod replay;
 mod tally;
 mod text;
 
-pub use difference::{Answer, Difference, Kind};
+pub use difference::{Answer, Difference, Kind, unanswered};
 pub use part::{Part, Whom};
 pub use player::Player;
 pub use replay::Replay;

@@ -1,6 +1,8 @@
 //! The packets of a capture, one after the other.
 
-use crate::difference::Answer;
+ghost use Rattle.std.specs.Prelude.{◌<◌, length};
+
+use crate::difference::{Answer, Difference, unanswered};
 use crate::findings::Findings;
 use crate::part::Part;
 use crate::player::Player;
@@ -94,6 +96,24 @@ impl Replay {
     }
 }
 
+/// How a line answered the datagram at `k` of a frame otherwise than the capture has it, if it did.
+fn difference_of(
+    player: &Player,
+    sent: &FrameBuf,
+    there: &FrameBuf,
+    here: Option<&FrameBuf>,
+    k: usize,
+) -> Option<Difference>
+    requires { k < length sent.now }
+{
+    let Some(here) = here else {
+        return unanswered(sent, there, k);
+    };
+    let part = Part::of(sent, k);
+    let mailbox = player.mailbox_of(&part);
+    Answer { sent, there, here }.difference(k, &part, mailbox)
+}
+
 /// Sends what a trip sent to a line once more, and compares what comes back with what came back of the trip.
 fn play_trip(
     player: &mut Player,
@@ -106,16 +126,10 @@ fn play_trip(
     let Some(came) = &trip.came else {
         return Ok(());
     };
-    let heard = here.as_ref();
-    let answer = Answer {
-        sent: &trip.sent.frame,
-        there: came.frame(),
-        here: heard,
-    };
-    for k in 0..own_count(&trip.sent.frame) {
-        let part = Part::of(answer.sent, k);
-        let mailbox = player.mailbox_of(&part);
-        match answer.difference(k, &part, mailbox) {
+    let sent = &trip.sent.frame;
+    for k in 0..own_count(sent) {
+        let part = Part::of(sent, k);
+        match difference_of(player, sent, came.frame(), here.as_ref(), k) {
             None => tally.count(Outcome::Alike),
             Some(_) if part.is_clock() => tally.count(Outcome::OfClocks),
             Some(difference) => {
