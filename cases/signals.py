@@ -362,6 +362,7 @@ def what_no_end_of_input_ends_is_the_process_itself(stage):
         ("master s --at x --cycles 5", "master --until-end s --at x --cycles 5"),
         ("master s --at x --cycles=5", "master --until-end s --at x --cycles=5"),
         ("master s --cycles 5 --until-end", "master s --cycles 5 --until-end"),
+        ("master s --cycles 5 --control", "master s --cycles 5 --control"),
         (
             "master --raw 10,11 s --cycles 5 --every=9 --busy --log l --log-images --log-or-stop --stop",
             "master --until-end --raw 10,11 s --cycles 5 --every=9 --busy --log l --log-images --log-or-stop"

@@ -9,7 +9,7 @@ use Rattle.ecat_acts.specs.declared.failure.Failure.{Failure}
 use Rattle.ecat_acts.specs.declared.failure.Failure.TheVariants.{Asked, At, Capture, Descriptors, Forms}
 use Rattle.ecat_acts.specs.declared.failure.Failure.TheVariants.{Images, IndexAlone, IoAlone, NeedsScene}
 use Rattle.ecat_acts.specs.declared.failure.Failure.TheVariants.{Reach, Rest, State, Task, TriesAlone}
-use Rattle.ecat_acts.specs.declared.failure.Failure.TheVariants.{TwoOutputs}
+use Rattle.ecat_acts.specs.declared.failure.Failure.TheVariants.{ControlOutputs, TwoOutputs}
 use Rattle.ecat_acts.specs.declared.failure.Failure.TheVariants.{Line as OfLine}
 use Rattle.ecat_setup.specs.declared.failure.LineFailure.{LineFailure}
 use Rattle.ecat_setup.specs.declared.failure.LineFailure.TheVariants.{NoMemory, Output, Port, Read}
@@ -65,6 +65,7 @@ IsExit Descriptors status = status ≡ BAD_ARGUMENTS
 IsExit State status = status ≡ BAD_ARGUMENTS
 IsExit Rest status = status ≡ BAD_ARGUMENTS
 IsExit TwoOutputs status = status ≡ BAD_ARGUMENTS
+IsExit ControlOutputs status = status ≡ BAD_ARGUMENTS
 IsExit IoAlone status = status ≡ BAD_ARGUMENTS
 IsExit TriesAlone status = status ≡ BAD_ARGUMENTS
 IsExit (Task fault) status = IsTaskExit fault status

@@ -82,6 +82,8 @@ pub enum Failure {
     Rest,
     /// Both a file and a program are to give the outputs of a master.
     TwoOutputs,
+    /// Lines of the input are to set the outputs of a master, and something else is to give them.
+    ControlOutputs,
     /// Something is said of a master's program, and there is none.
     IoAlone,
     /// It is said how often a master tries, and it brings no slave up again.
@@ -168,6 +170,10 @@ pub fn report<W: Write, V: Write>(failure: &Failure, out: &mut W, err: &mut V) -
         Failure::TwoOutputs => bad_argument(
             err,
             b"argument: --io gives the outputs, and so does --outputs\n",
+        ),
+        Failure::ControlOutputs => bad_argument(
+            err,
+            b"argument: --control sets the outputs, and --io or --outputs gives them\n",
         ),
         Failure::IoAlone => bad_argument(
             err,

@@ -3,9 +3,10 @@
 //! interfaces, an input and a clock; and why a command ended, on standard error and as its exit status.
 //!
 //! - [`on_scene`](on_scene::on_scene) does a command on a scene: by [`act`](act::act) where it needs nothing
-//!   else; else a master by `mastering` on the `course` of its scene, what a line somewhere else is asked by
-//!   `asking`, a service by `serving`. `remote` says how a line elsewhere is reached, `udp` opens sockets for
-//!   a cycle, `images` and `eeproms` read files, and `tape` makes those that are written;
+//!   else; else a master by `mastering` on the `course` of its scene, and by `controlling` where lines of its
+//!   input speak to it, what a line somewhere else is asked by `asking`, a service by `serving`. `remote`
+//!   says how a line elsewhere is reached, `udp` opens sockets for a cycle, `images` and `eeproms` read
+//!   files, and `tape` makes those that are written;
 //! - [`act_list`](listing::act_list) and [`act_show`](show::act_show) go through a capture, `learning` tells
 //!   how `learn` ended, `judging` judges a capture by a scene or by the line that it shows, and `replaying`
 //!   sends what its master sent to the line of a scene;
@@ -22,6 +23,7 @@ pub mod act;
 mod asked;
 pub mod asking;
 pub mod console;
+mod controlling;
 mod course;
 mod eeproms;
 pub mod failure;

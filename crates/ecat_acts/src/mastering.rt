@@ -6,6 +6,7 @@ ghost use Rattle.ec_regs.specs.declared.al.AlState.TheVariants.{Init};
 ghost use Rattle.ec_run.specs.declared.step.TheConstants.{MOST_READS};
 
 use crate::console::Console;
+use crate::controlling::run_controlled;
 use crate::course::course_of;
 use crate::failure::{Failure, report, report_file};
 use crate::images::images_at;
@@ -16,7 +17,7 @@ use ec_regs::AlState;
 use ec_run::{Image, MOST_READS, Outputs};
 use ecat_args::MasterWords;
 use ecat_course::{Course, act_master};
-use ecat_master::{Plan, Writers};
+use ecat_master::{Pace, Plan, Task, Writers};
 use ecat_pace::{Beat, Ending};
 use ecat_reach::{Reach, open_ports};
 use ecat_record::{Moments, Recorder};
@@ -36,7 +37,7 @@ use std::{fs, io};
 
 /// What the words of `master` say but for its scene.
 #[derive(Clone, Copy)]
-struct Running<'a> {
+pub(crate) struct Running<'a> {
     /// How the line is reached.
     reach: Reach<'a>,
     /// After how many cycles it ends; with the input where there is none.
@@ -69,6 +70,8 @@ struct Running<'a> {
     progress: bool,
     /// The state in which the slaves are left.
     leave: Option<AlState>,
+    /// Whether lines of the input are done between its cycles.
+    pub(crate) control: bool,
     /// Where each copy is kept.
     pcap: Option<Pcap<'a>>,
 }
@@ -90,6 +93,7 @@ impl<'w> Running<'w> {
         ensures tries { IfOk result (λ running. running.tries ≡ unwrap_or words.now.tries MOST_READS) }
         ensures progress { IfOk result (λ running. running.progress ≡ console.now.is_watched) }
         ensures leave { words.now.leave ≡ None → IfOk result (λ running. running.leave ≡ Some Init) }
+        ensures control { IfOk result (λ running. running.control ≡ words.now.control) }
         ensures pcap { IfOk result (λ running. is_some running.pcap ≡ is_some words.now.pcap) }
     {
         let reach = reach_of(words.at, words.raw)?;
@@ -113,12 +117,13 @@ impl<'w> Running<'w> {
             tries,
             progress: console.is_watched,
             leave,
+            control: words.control,
             pcap: Pcap::of(words.pcap, words.force),
         })
     }
 
     /// Does it end with the input? It does where it is not to end after so many cycles, or where it is to end
-    /// with both.
+    /// with both. Who is spoken to by the input ends with it in any case: its task sees that.
     fn ends_with_input(&self) -> bool
         ensures { result ≡ (is_none self.now.cycles || self.now.until_end) }
     {
@@ -137,6 +142,7 @@ impl<'w> Running<'w> {
         ensures log_images { result.log_images ≡ self.now.log_images }
         ensures log_or_stop { result.log_or_stop ≡ self.now.log_or_stop }
         ensures leave { result.leave ≡ self.now.leave }
+        ensures leave_by_task { result.leave_by_task ≡ self.now.control }
     {
         Plan {
             outputs,
@@ -150,6 +156,7 @@ impl<'w> Running<'w> {
             states: false,
             identities: &[],
             leave: self.leave,
+            leave_by_task: self.control,
         }
     }
 }
@@ -188,6 +195,9 @@ fn program_of<'w>(words: &MasterWords<'w>) -> Result<Option<Program<'w>>, Failur
     };
     match words.io {
         Some(_) if words.outputs.is_some() => Err(Failure::TwoOutputs),
+        _ if words.control && (words.io.is_some() || words.outputs.is_some()) => {
+            Err(Failure::ControlOutputs)
+        }
         Some(address) => Ok(Some(Program {
             address,
             is_open: words.io_open,
@@ -243,9 +253,9 @@ where
 
 /// What a master has of its console while it runs: the input, and how patient its writers are.
 #[derive(Drop)]
-struct Attended<'a> {
-    input: Stdin,
-    is_patient: &'a Cell<bool>,
+pub(crate) struct Attended<'a> {
+    pub(crate) input: Stdin,
+    pub(crate) is_patient: &'a Cell<bool>,
 }
 
 /// Brings the line of a scene to Op, as the words of `master` say, and answers the exit status. No cycle
@@ -384,7 +394,7 @@ where
     status
 }
 
-/// Opens the ports and the clock of a master, and has it run.
+/// Opens the clock of a master, and has it run for the task that its words name.
 fn run_master<R, T, M, W, V, L>(
     rt: &R,
     course: Box<Course>,
@@ -407,32 +417,95 @@ where
         plan,
         attended,
     } = prepared;
-    let Ok(beat) = beat_of(rt, running, attended.input) else {
+    let writers = Writers { out, err, log };
+    let cycling = Cycling { running, plan };
+    if running.control {
+        run_controlled(rt, course, cycling, attended, recorder, writers)
+    } else {
+        run_by_program(rt, course, cycling, attended, recorder, writers)
+    }
+}
+
+/// How a master cycles: by which words, and to which plan.
+#[derive(Clone, Copy)]
+pub(crate) struct Cycling<'a> {
+    pub(crate) running: Running<'a>,
+    plan: Plan<'a>,
+}
+
+/// Has a master run whose outputs are those of a program, if there is one, until its input has ended or so
+/// many cycles were made.
+fn run_by_program<R, T, M, W, V, L>(
+    rt: &R,
+    course: Box<Course>,
+    cycling: Cycling<'_>,
+    attended: Attended<'_>,
+    recorder: &mut Recorder<T, M>,
+    writers: Writers<'_, W, V, L>,
+) -> u8
+where
+    R: Clock + Net + RandomSource + AllocGlobal,
+    T: io::Write,
+    M: Moments,
+    W: io::Write,
+    V: io::Write,
+    L: io::Write,
+{
+    let Writers { out, err, log } = writers;
+    let Ok(beat) = beat_of(rt, cycling.running, Some(attended.input)) else {
         return report(&Failure::Clock, out, err);
     };
     let mut pace = Impatient::new(beat, attended.is_patient);
-    let Ok(counters) = course.counters(rt.alloc()) else {
-        return report(&Failure::Line(LineFailure::NoMemory), out, err);
-    };
-    let mut task = match task_of(rt, running.program, course.image_length()) {
+    let count = course.image_length();
+    let mut task = match task_of(rt, cycling.running.program, count) {
         Ok(task) => task,
         Err(fault) => return report(&Failure::Task(fault), out, err),
     };
-    tell_task(&task, course.image_length(), err);
+    tell_task(&task, count, err);
+    let writers = Writers {
+        out,
+        err: &mut *err,
+        log,
+    };
+    let status = cycle_for(rt, course, cycling, recorder, &mut pace, &mut task, writers);
+    let _ = task.put_sum(&mut Lines::new(err));
+    status
+}
+
+/// Opens the ports of a master, and has it cycle for a task.
+pub(crate) fn cycle_for<R, T, M, P, D, W, V, L>(
+    rt: &R,
+    course: Box<Course>,
+    cycling: Cycling<'_>,
+    recorder: &mut Recorder<T, M>,
+    pace: &mut P,
+    task: &mut D,
+    writers: Writers<'_, W, V, L>,
+) -> u8
+where
+    R: Clock + Net + RandomSource + AllocGlobal,
+    T: io::Write,
+    M: Moments,
+    P: Pace,
+    D: Task,
+    W: io::Write,
+    V: io::Write,
+    L: io::Write,
+{
+    let Cycling { running, plan } = cycling;
+    let Ok(counters) = course.counters(rt.alloc()) else {
+        return report(
+            &Failure::Line(LineFailure::NoMemory),
+            writers.out,
+            writers.err,
+        );
+    };
     match open_ports(rt, running.reach, patience(running.limit), recorder) {
         Ok(ports) => {
             let ports = ready(ports, counters, running.busy);
-            let course = Box::into_inner(course);
-            let writers = Writers {
-                out,
-                err: &mut *err,
-                log,
-            };
-            let status = act_master(course, ports, &plan, &mut pace, &mut task, writers);
-            let _ = task.put_sum(&mut Lines::new(err));
-            status
+            act_master(Box::into_inner(course), ports, &plan, pace, task, writers)
         }
-        Err(fault) => report(&Failure::from(fault), out, err),
+        Err(fault) => report(&Failure::from(fault), writers.out, writers.err),
     }
 }
 
@@ -465,16 +538,19 @@ fn ready<C: Carrier, T: Timer>(
     if busy { ports.busily() } else { ports }
 }
 
-/// The beat of a master's cycles, which end after as many as the words say, or with the input. Where no limit
-/// is given, each cycle ends a fifth of the time before the next one is due.
-fn beat_of<'a, R>(rt: &'a R, running: Running<'_>, input: Stdin) -> io::Result<Beat<'a, R, Stdin>>
+/// The beat of a master's cycles, which end after as many as the words say, or with the input, if it is this
+/// beat that has it. Where no limit is given, each cycle ends a fifth of the time before the next one is due.
+pub(crate) fn beat_of<'a, R>(
+    rt: &'a R,
+    running: Running<'_>,
+    input: Option<Stdin>,
+) -> io::Result<Beat<'a, R, Stdin>>
 where
     R: Clock + Net + AllocGlobal,
 {
-    let ending = if running.ends_with_input() {
-        Some(Ending::of(rt, rt.alloc(), input)?)
-    } else {
-        None
+    let ending = match input {
+        Some(input) if running.ends_with_input() => Some(Ending::of(rt, rt.alloc(), input)?),
+        _ => None,
     };
     let every = match running.every {
         Some(micros) => Some(Duration::from_micros(u64::from(micros))),

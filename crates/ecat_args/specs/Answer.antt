@@ -88,7 +88,7 @@ SaysOfScene (Master words) given =
     × (word_in given (codes "IO") ≡ option_map (λ w. w.now) words.io) × (io_open_in given ≡ words.io_open)
     × (io_stale_in given ≡ Some words.io_stale)
     × (word_in given (codes "REST") ≡ option_map (λ w. w.now) words.io_rest)
-    × (stop_in given ≡ words.stop)
+    × (control_in given ≡ words.control) × (stop_in given ≡ words.stop)
     × (recover_in given ≡ words.recover) × (tries_in given ≡ Some words.tries)
     × (word_in given (codes "STATE") ≡ option_map (λ w. w.now) words.leave)
     × (word_in given (codes "PCAP") ≡ option_map (λ w. w.now) words.pcap) × (force_in given ≡ words.force)

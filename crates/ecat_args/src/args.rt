@@ -381,6 +381,7 @@ fn master<'a>(given: &ArgMatches<'a>) -> Option<Args<'a>>
             io_open: flag(given, "io-open"),
             io_stale,
             io_rest: word(given, "REST"),
+            control: flag(given, "control"),
             stop: flag(given, "stop"),
             recover: flag(given, "recover"),
             tries,

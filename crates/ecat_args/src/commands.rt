@@ -149,8 +149,9 @@ pub enum SceneCommand<'a> {
     },
     /// `master SCENE [--at AT] [--raw RAW] [--cycles N] [--until-end] [--every MICROSECONDS] [--busy]
     /// [--limit LIMIT] [--late LATE] [--outputs OUTPUTS] [--log LOG] [--log-images] [--log-or-stop] [--io IO]
-    /// [--io-open] [--io-stale CYCLES] [--io-rest REST] [--stop] [--recover] [--tries TRIES] [--leave STATE]
-    /// [--pcap PCAP] [--force]`: brings a line somewhere else to Op, cycles on it, and leaves it in a state.
+    /// [--io-open] [--io-stale CYCLES] [--io-rest REST] [--control] [--stop] [--recover] [--tries TRIES]
+    /// [--leave STATE] [--pcap PCAP] [--force]`: brings a line somewhere else to Op, cycles on it, and leaves
+    /// it in a state.
     Master(MasterWords<'a>),
 }
 
@@ -189,6 +190,8 @@ pub struct MasterWords<'a> {
     pub io_stale: Option<u32>,
     /// What stale outputs become: `kept` or `zeros`.
     pub io_rest: Option<&'a str>,
+    /// Whether the lines of the input are done between its cycles.
+    pub control: bool,
     /// Whether it ends at the first cycle that is not good.
     pub stop: bool,
     /// Whether slaves are brought up again.

@@ -182,8 +182,8 @@ serve_line = with_rules (with_rules (new_app (codes "serve")) serve_words) devic
 
 -- `master SCENE [--at AT] [--raw RAW] [--cycles N] [--until-end] [--every MICROSECONDS] [--busy]
 -- [--limit LIMIT] [--late LATE] [--outputs OUTPUTS] [--log LOG] [--log-images] [--log-or-stop] [--io IO]
--- [--io-open] [--io-stale CYCLES] [--io-rest REST] [--stop] [--recover] [--tries TRIES] [--leave STATE]
--- [--pcap PCAP] [--force]`
+-- [--io-open] [--io-stale CYCLES] [--io-rest REST] [--control] [--stop] [--recover] [--tries TRIES]
+-- [--leave STATE] [--pcap PCAP] [--force]`
 abbrev pub master_words : List Rule
 master_words = scene_rule ∷ at_rule ∷ raw_rule
     ∷ option_rule (codes "N") (codes "cycles") ∷ flag_rule (codes "until-end") ∷ []
@@ -199,10 +199,11 @@ course_words = option_rule (codes "OUTPUTS") (codes "outputs")
     ∷ option_rule (codes "LOG") (codes "log") ∷ flag_rule (codes "log-images")
     ∷ flag_rule (codes "log-or-stop") ∷ []
 
--- where a program gives the outputs and gets the inputs
+-- where a program gives the outputs and gets the inputs, and whether lines of the input set and tell them
 abbrev pub io_words : List Rule
 io_words = option_rule (codes "IO") (codes "io") ∷ flag_rule (codes "io-open")
-    ∷ option_rule (codes "CYCLES") (codes "io-stale") ∷ option_rule (codes "REST") (codes "io-rest") ∷ []
+    ∷ option_rule (codes "CYCLES") (codes "io-stale") ∷ option_rule (codes "REST") (codes "io-rest")
+    ∷ flag_rule (codes "control") ∷ []
 
 -- how it ends, and its other words
 abbrev pub end_words : List Rule

@@ -392,8 +392,8 @@ fn devices_of_serve<'a>(alloc: Global) -> Result<Vec<Arg<'a>>, AllocError>
 
 // `master SCENE [--at AT] [--raw RAW] [--cycles N] [--until-end] [--every MICROSECONDS] [--busy]
 // [--limit LIMIT] [--late LATE] [--outputs OUTPUTS] [--log LOG] [--log-images] [--log-or-stop] [--io IO]
-// [--io-open] [--io-stale CYCLES] [--io-rest REST] [--stop] [--recover] [--tries TRIES] [--leave STATE]
-// [--pcap PCAP] [--force]`
+// [--io-open] [--io-stale CYCLES] [--io-rest REST] [--control] [--stop] [--recover] [--tries TRIES]
+// [--leave STATE] [--pcap PCAP] [--force]`
 fn master<'a>(alloc: Global) -> Result<Command<'a>, AllocError>
     ensures { IfOk result (Builds master_line) }
 {
@@ -462,7 +462,7 @@ fn course_of_master<'a>(alloc: Global) -> Result<Vec<Arg<'a>>, AllocError>
     ]?)
 }
 
-// `[--io IO] [--io-open] [--io-stale CYCLES] [--io-rest REST]`
+// `[--io IO] [--io-open] [--io-stale CYCLES] [--io-rest REST] [--control]`
 #[inline(never)]
 fn io_of_master<'a>(alloc: Global) -> Result<Vec<Arg<'a>>, AllocError>
     ensures { IfOk result (λ words. AreWords io_words words.items) }
@@ -471,11 +471,13 @@ fn io_of_master<'a>(alloc: Global) -> Result<Vec<Arg<'a>>, AllocError>
     let open = "Lets other machines reach that address";
     let stale = "After how many cycles without a packet of the program its outputs are stale";
     let rest = "What stale outputs become: kept, zeros; kept if not given";
+    let control = "Takes commands from standard input while it cycles, a line each";
     Ok(vec![in alloc;
         option(alloc, "IO", "io", io),
         flag(alloc, "io-open", open),
         option(alloc, "CYCLES", "io-stale", stale),
         option(alloc, "REST", "io-rest", rest),
+        flag(alloc, "control", control),
     ]?)
 }
 

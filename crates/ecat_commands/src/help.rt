@@ -280,6 +280,16 @@ in it, and it is told each cycle's number, end and inputs. The address has to be
 one of this machine alone, unless --io-open is said. With --io-stale N outputs of
 which no packet came for N cycles are stale: the program is told, and with
 --io-rest zeros they become 0.
+With --control each line of standard input is a command, 32 at the most between
+two cycles. It is answered behind the next one, by what it asks for and ok, or
+refused and why, and has changed nothing then:
+  set ITEM OFFSET BYTES        outputs from the next cycle on; behind ; more such
+                               places, all of which are changed, or none
+  get ITEM [OFFSET LENGTH]     what an item sent, and took in the last good cycle
+  slaves, cable                what is known of each slave, and of the cable
+  counts, times                the sums that are told at the end, as of now
+  leave init|pre-op|safe-op|op ends it, and leaves the slaves there
+  quit                         ends it, as the end of the input does
 With --stop it ends at the first cycle that is not good. With --recover slaves
 that show an error, or came back in Init, are brought up again, by one frame
 behind each cycle. A state that one is asked for is read behind so many cycles

@@ -76,6 +76,19 @@ impl Course {
         image_length(&self.work)
     }
 
+    /// What each cycle asks: the items of the scene, and behind them the read of the states, where there is
+    /// room for it.
+    pub fn work(&self) -> &Work
+        ensures { result.now ≡ self.now.work }
+    {
+        &self.work
+    }
+
+    /// How many items of the work are the scene's.
+    pub fn items(&self) -> usize {
+        self.work.len().saturating_sub(usize::from(self.states))
+    }
+
     /// How far the counters of a cycle's items are to move, in their order.
     pub fn counters(&self, alloc: Global) -> Result<Vec<u16>, AllocError> {
         let mut counters = Vec::new(alloc);

@@ -9,7 +9,8 @@ use Rattle.ecat_master.specs.Ended.{IsEnded, HasStatus, is_well}
 use Rattle.ecat_master.specs.Exits.{start_status}
 use Rattle.ecat_master.specs.GoodRun.{IsMade}
 use Rattle.ecat_master.specs.Last.{in_op}
-use Rattle.ecat_master.specs.Leaving.{IsLeft}
+use Rattle.ec_regs.specs.declared.al.AlState.{AlState}
+use Rattle.ecat_master.specs.Leaving.{IsLeft, MayBeLeft}
 use Rattle.ecat_master.specs.Start.{IsCaused}
 use Rattle.ecat_master.specs.declared.leaving.Left.{Left}
 use Rattle.ecat_master.specs.declared.run.LinePlan.{LinePlan}
@@ -30,14 +31,15 @@ ended_unstarted sides given before work planned status same (fault, cause, is) =
 -- behind the last one
 pub ended_behind : {P D T : Type 0} (sides : Sides P D T) (given : P) (work : List ItemRecord)
     (planned : LinePlan) (cycles : Cycles) (behind later : WatchedState P) (left : Left) (status : ℕ)
-    (ran : Result (Option End) Unwritten)
+    (ran : Result (Option End) Unwritten) (leave : Option AlState)
     → IfOk ran (λ last. IsMade sides given work planned last cycles behind)
-    → IsLeft sides.heard planned.plan.now.leave (length planned.line.now) behind left later
+    → MayBeLeft planned.plan.now.leave_by_task planned.plan.now.leave leave
+    → IsLeft sides.heard leave (length planned.line.now) behind left later
     → HasStatus ran (is_well left && in_op planned.plan.now.states cycles.image) status
     → IsEnded sides given work planned status
-ended_behind sides given work planned cycles behind later left status (Err unwritten) made is_left failed =
+ended_behind sides given work planned cycles behind later left status (Err unwritten) leave made may is_left failed =
     IsEnded.unwritten failed
-ended_behind sides given work planned cycles behind later left status (Ok last) made is_left (inl failed) =
+ended_behind sides given work planned cycles behind later left status (Ok last) leave made may is_left (inl failed) =
     IsEnded.unwritten failed
-ended_behind sides given work planned cycles behind later left status (Ok last) made is_left (inr told) =
-    IsEnded.ran last cycles behind left later made is_left told
+ended_behind sides given work planned cycles behind later left status (Ok last) leave made may is_left (inr told) =
+    IsEnded.ran last cycles behind left later leave made may is_left told

@@ -8,7 +8,8 @@ use Rattle.ecat_master.specs.Course.{Sides}
 use Rattle.ecat_master.specs.Exits.{start_status}
 use Rattle.ecat_master.specs.GoodRun.{IsMade}
 use Rattle.ecat_master.specs.Last.{in_op, status_told}
-use Rattle.ecat_master.specs.Leaving.{IsLeft}
+use Rattle.ec_regs.specs.declared.al.AlState.{AlState}
+use Rattle.ecat_master.specs.Leaving.{IsLeft, MayBeLeft}
 use Rattle.ecat_master.specs.Start.{IsCaused}
 use Rattle.ecat_master.specs.declared.leaving.Left.{Left}
 use Rattle.ecat_master.specs.declared.leaving.Left.TheVariants.{AsTheyAre, All, NotAll}
@@ -38,7 +39,8 @@ pub data IsEnded {P D T : Type 0} (sides : Sides P D T) (before : P) (work : Lis
       → IsCaused sides.heard (untold before) planned.line.now planned.plan.now.identities.now fault
       → status ≡ start_status fault → IsEnded sides before work planned status
   ran : (last : Option End) (cycles : Cycles) (behind : WatchedState P) (left : Left)
-      (later : WatchedState P) → IsMade sides before work planned last cycles behind
-      → IsLeft sides.heard planned.plan.now.leave (length planned.line.now) behind left later
+      (later : WatchedState P) (leave : Option AlState) → IsMade sides before work planned last cycles behind
+      → MayBeLeft planned.plan.now.leave_by_task planned.plan.now.leave leave
+      → IsLeft sides.heard leave (length planned.line.now) behind left later
       → status ≡ status_told last (is_well left && in_op planned.plan.now.states cycles.image)
       → IsEnded sides before work planned status

@@ -65,6 +65,10 @@ IsLeft heard (Some state) slaves before left later =
     ((left ≡ All state) × IsBrought heard state (answers_of slaves) before later)
     ⊎ ((left ≡ NotAll state) × IsNotBrought heard state (answers_of slaves) before later)
 
+-- the state in which the slaves are left is the planned one, or, where the plan lets a task say it, any
+abbrev pub MayBeLeft : Bool → Option AlState → Option AlState → Type 0
+MayBeLeft by_task planned state = (state ≡ planned) ⊎ (by_task ≡ true)
+
 -- so many trips are made for that at the most: two for each time of asking
 abbrev pub leaving_trips : ℕ
 leaving_trips = ROUNDS * (LEAVE_ASKS * 2)

@@ -5,8 +5,10 @@ ghost use Rattle.ec_run.specs.Travels.{IsWithin};
 ghost use Rattle.ec_run.specs.Watched.{PortsTrip};
 ghost use Rattle.ecat_master.specs.Ended.{is_well};
 ghost use Rattle.ecat_master.specs.Leaving.{IsBrought, IsLeavingRound, IsLeft, IsNotBrought, answers_of};
-ghost use Rattle.ecat_master.specs.Leaving.{leaving_trips};
+ghost use Rattle.ecat_master.specs.Leaving.{MayBeLeft, leaving_trips};
 
+use crate::run::Plan;
+use crate::task::Task;
 use crate::words::state_name;
 use ec_regs::AlState;
 use ec_ring::HeardPorts;
@@ -34,6 +36,20 @@ impl Left {
         ensures { result ≡ is_well self }
     {
         !matches!(self, Left::NotAll(_))
+    }
+}
+
+/// The state in which the slaves are to be left, if there is one: that of the plan, or another one, where the
+/// plan lets the task say it and it does.
+pub(crate) fn leave_of<D: Task>(plan: &Plan<'_>, task: &D) -> Option<AlState>
+    ensures { MayBeLeft plan.now.leave_by_task plan.now.leave result }
+{
+    if !plan.leave_by_task {
+        return plan.leave;
+    }
+    match task.leave() {
+        Some(state) => Some(state),
+        None => plan.leave,
     }
 }
 

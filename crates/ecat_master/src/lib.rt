@@ -28,6 +28,7 @@
 //!     states: true,
 //!     identities: &[],
 //!     leave: Some(AlState::Init),
+//!     leave_by_task: false,
 //! };
 //! let line_plan = LinePlan { line: line.as_slice(), expected: &EXPECTED, plan: &plan };
 //! let writers = Writers { out: &mut out, err: &mut err, log: &mut log };
@@ -91,6 +92,7 @@
 mod allowance;
 mod care;
 mod identity;
+mod known;
 mod late;
 mod lateness;
 mod leaving;
@@ -108,6 +110,7 @@ mod telling;
 mod words;
 
 pub use identity::{ENTRIES, IDENTITY, Identity, OtherSlave};
+pub use known::Known;
 pub use over_ring::{found_line, started_line};
 pub use pace::Pace;
 pub use run::{FAILED, GOOD, LinePlan, Plan, REFUSED, Writers, master, run_cycles};

@@ -283,12 +283,23 @@ pub(crate) fn put_failures<P: HeardPorts, W: Write>(
     ports: &Watched<P>,
     lines: &mut Lines<'_, W>,
 ) -> io::Result<()> {
-    let a = ports.health(Port::A).failures;
-    let b = ports.health(Port::B).failures;
-    if a == 0 && b == 0 {
+    put_failed_times(
+        ports.health(Port::A).failures,
+        ports.health(Port::B).failures,
+        lines,
+    )
+}
+
+/// Writes how many sends and receives failed at port A and at port B, where one did.
+pub(crate) fn put_failed_times<W: Write>(
+    at_a: u64,
+    at_b: u64,
+    lines: &mut Lines<'_, W>,
+) -> io::Result<()> {
+    if at_a == 0 && at_b == 0 {
         return Ok(());
     }
-    lines.text(format_args!("port A failed {a} times, port B {b}"))?;
+    lines.text(format_args!("port A failed {at_a} times, port B {at_b}"))?;
     lines.end()
 }
 

@@ -19,8 +19,9 @@ ghost use Rattle.ecat_master.specs.declared.teller.Unwritten.{Unwritten};
 ghost use Rattle.ecat_master.specs.declared.run.TheConstants.{FAILED, GOOD};
 
 use crate::identity::Identity;
+use crate::known::{Known, ToldOf, failures_of};
 use crate::late::CycleTrips;
-use crate::leaving::{Left, leave_line, put_left};
+use crate::leaving::{Left, leave_line, leave_of, put_left};
 use crate::pace::Pace;
 use crate::ports::{put_failing, put_failures};
 use crate::startup::{StartEnd, StartFault, put_start_fault, start};
@@ -72,6 +73,8 @@ pub struct Plan<'a> {
     pub identities: &'a [Identity],
     /// The state in which the slaves are left at the end; `None` leaves them as they are.
     pub leave: Option<AlState>,
+    /// Whether the task may say another one.
+    pub leave_by_task: bool,
 }
 
 /// Do the last good cycle's answers tell that all slaves are in Op? Where cycles don't tell the states,
@@ -166,7 +169,50 @@ impl LinePlan<'_> {
         task.report(&report_of(cycles, end, late, self.items(), ports));
         let images = images_of(rooms, cycles);
         let told = teller.follow(cycles.counts, end, ports, self, images);
+        let failures = failures_of(ports);
+        let told = self.answered(told, cycles, rooms, failures, task, teller);
         Rounded { ended, told }
+    }
+
+    /// Has a task answer behind a round, and answers what was told of that: what could not be written of
+    /// answers is of the output. So often a send or a receive has failed at port A, and at port B.
+    fn answered<D, W, V, L>(
+        &self,
+        told: Result<bool, Unwritten>,
+        cycles: &Cycles,
+        rooms: &Rooms,
+        failures: [u64; 2],
+        task: &mut D,
+        teller: &mut Teller<'_, W, V, L>,
+    ) -> Result<bool, Unwritten>
+    where
+        D: Task,
+        W: Write,
+        V: Write,
+        L: Write,
+        ensures last { result ≡ Ok true → told ≡ Ok true }
+        ensures told { (result ≡ told) ⊎ ((why : Unwritten) × (result ≡ Err why)) }
+    {
+        let told_of = ToldOf {
+            tells_states: self.plan.states,
+            states: &teller.states,
+            took: &teller.took,
+            lateness: &teller.lateness,
+            late_copies: &teller.late_copies,
+        };
+        let known = Known {
+            items: self.items(),
+            images: images_of(rooms, cycles),
+            counts: cycles.counts,
+            line: self.line,
+            cable: teller.told.cable(),
+            told: told_of,
+            failures,
+        };
+        match task.answer(&known, &mut teller.out) {
+            Ok(()) => told,
+            Err(_) => Err(Unwritten::Output),
+        }
     }
 }
 
@@ -343,6 +389,7 @@ fn status_of_start(fault: &StartFault) -> u8
 }
 
 /// To whom a master tells what goes on.
+#[derive(Drop)]
 pub struct Writers<'a, W, V, L> {
     /// A line for each part of the start-up and for what changes while the cycles run, and at the end how
     /// many there were and the last image.
@@ -390,7 +437,8 @@ where
     let mut cycles = Cycles::new(work);
     let mut teller = Teller::new(Lines::new(out), Lines::new(err), Lines::new(log), cable);
     let ran = run_cycles(&mut cycles, &mut ports, line_plan, pace, task, &mut teller);
-    let left = leave_line(&mut ports, line_plan.plan.leave, line_plan.line.len());
+    let leave = leave_of(line_plan.plan, task);
+    let left = leave_line(&mut ports, leave, line_plan.line.len());
     conclude(ran, left, &cycles, line_plan, &ports, &mut teller)
 }
 

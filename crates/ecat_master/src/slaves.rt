@@ -40,6 +40,18 @@ impl SlaveStates {
         self.in_op
     }
 
+    /// What was last seen of the slave at a place: that it is in Op where the last good cycle told that of
+    /// all, else what was told of it since then, if anything was.
+    pub(crate) fn seen(&self, place: usize) -> Option<Seen> {
+        if self.in_op {
+            return Some(Seen::In(AlState::Op));
+        }
+        match self.told.get(place) {
+            Some(Seen::In(AlState::Op)) | None => None,
+            Some(seen) => Some(*seen),
+        }
+    }
+
     /// How many good cycles told that not all are in Op, where cycles tell it.
     pub(crate) fn cycles_if(&self, states: bool) -> Option<u64> {
         if states { Some(self.cycles) } else { None }

@@ -5,10 +5,14 @@ ghost use Rattle.std.specs.Option.{option_map, unwrap_or};
 ghost use Rattle.ec_run.specs.Tally.{came_at};
 ghost use Rattle.ecat_master.specs.Task.{TakesOutputs};
 
+use crate::known::Known;
 use crate::telling::CycleEnd;
 use ec_master::{CycleFault, Verdict, Work};
+use ec_regs::AlState;
 use ec_ring::{HeardPorts, Port};
 use ec_run::{Cycles, Watched};
+use ecat_text::Lines;
+use std::io::{self, Write};
 
 /// A control task: it gives outputs between two cycles, and is told what each cycle came to. An
 /// implementation says what it may give; nothing else is known of it.
@@ -30,6 +34,21 @@ pub trait Task {
 
     /// Is told of a cycle that is over. It does not wait.
     fn report(&mut self, report: &Report<'_>);
+
+    /// The state in which the slaves are to be left at the end, where it says one and the plan lets it.
+    fn leave(&self) -> Option<AlState> {
+        None
+    }
+
+    /// Writes to the master's output what it was asked for, behind a cycle, of what the master knows then. An
+    /// error is one of the output.
+    fn answer<W: Write>(
+        &mut self,
+        _known: &Known<'_, '_, '_>,
+        _lines: &mut Lines<'_, W>,
+    ) -> io::Result<()> {
+        Ok(())
+    }
 }
 
 /// No task: the outputs stay those of the plan.

@@ -103,7 +103,7 @@ pub struct Teller<'a, W, V, L> {
     pub(crate) out: Lines<'a, W>,
     pub(crate) err: Lines<'a, V>,
     log: Lines<'a, L>,
-    told: Told,
+    pub(crate) told: Told,
     pub(crate) states: SlaveStates,
     /// How long cycles took, all of them.
     pub(crate) took: Spread,

@@ -155,6 +155,7 @@ fn run(ports: Machine, course: Course, cycles: u32) -> Option<u64> {
         states: false,
         identities: &[],
         leave: None,
+        leave_by_task: false,
     };
     let Course {
         line,

@@ -34,6 +34,7 @@ fn a_line_is_brought_up_and_a_link_breaks_while_it_cycles(rt: HostRuntime) {
         states: true,
         identities: &[],
         leave: Some(AlState::Init),
+        leave_by_task: false,
     };
     let mut pace = Count { left: 5 };
     let mut out = Cursor::new([0u8; ROOM]);

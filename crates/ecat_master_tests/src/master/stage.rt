@@ -373,6 +373,7 @@ pub const PLAN: Plan<'static> = Plan {
     states: true,
     identities: &[],
     leave: Some(AlState::Init),
+    leave_by_task: false,
 };
 
 /// A change of what the three slaves are to be told.

@@ -22,8 +22,9 @@ returns g c =
           made (c.conclude.ensures.good is) (c.conclude.ensures.ran is);
       ended = ended_behind (sides_of g.P.HeardPorts.trips g.D.Task.listens g.D.Task.held g.T.Pace.over) c.args.ports
           c.args.work c.args.line_plan.now c.run_cycles-ran.new.cycles c.run_cycles-ran.new.ports
-          c.leave_line-left.new.ports c.leave_line-left.result c.conclude.result c.run_cycles-ran.result made
-          c.leave_line-left.ensures.left c.conclude.ensures.told;
+          c.leave_line-left.new.ports c.leave_line-left.result c.conclude.result c.run_cycles-ran.result
+          c.leave_of-leave.result made c.leave_of-leave.ensures c.leave_line-left.ensures.left
+          c.conclude.ensures.told;
     }
 
 pub returns-in-Err-Told-clause-ended : goal.returns-in-Err-Told-clause-ended

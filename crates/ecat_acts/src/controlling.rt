@@ -1,0 +1,49 @@
+//! `ecat master --control`: a master that lines of its input speak to.
+
+use crate::failure::{Failure, report};
+use crate::mastering::{Attended, Cycling, beat_of, cycle_for};
+use crate::patience::Impatient;
+use ecat_control::{ControlTask, Outputs, Stopping};
+use ecat_course::Course;
+use ecat_master::Writers;
+use ecat_record::{Moments, Recorder};
+use ecat_setup::LineFailure;
+use std::cell::Cell;
+use std::io;
+use std::net::Net;
+use std::random::RandomSource;
+use std::rt::Clock;
+
+/// Has a master run whose outputs are those of its scene, and then those that lines of its input set; until a
+/// line or the end of the input ends it, or so many cycles were made.
+pub(crate) fn run_controlled<R, T, M, W, V, L>(
+    rt: &R,
+    course: Box<Course>,
+    cycling: Cycling<'_>,
+    attended: Attended<'_>,
+    recorder: &mut Recorder<T, M>,
+    writers: Writers<'_, W, V, L>,
+) -> u8
+where
+    R: Clock + Net + RandomSource + AllocGlobal,
+    T: io::Write,
+    M: Moments,
+    W: io::Write,
+    V: io::Write,
+    L: io::Write,
+{
+    let Ok(beat) = beat_of(rt, cycling.running, None) else {
+        return report(&Failure::Clock, writers.out, writers.err);
+    };
+    let Ok(outputs) = Outputs::of(rt.alloc(), course.work(), course.items()) else {
+        return report(
+            &Failure::Line(LineFailure::NoMemory),
+            writers.out,
+            writers.err,
+        );
+    };
+    let stops = Cell::new(false);
+    let mut pace = Stopping::new(Impatient::new(beat, attended.is_patient), &stops);
+    let mut task = ControlTask::new(attended.input, outputs, &stops);
+    cycle_for(rt, course, cycling, recorder, &mut pace, &mut task, writers)
+}

@@ -1,0 +1,122 @@
+//! What a line is answered by.
+
+ghost use Rattle.std.specs.Prelude.{◌≡◌};
+ghost use Rattle.ecat_control.specs.Set.{is_set};
+
+use crate::image::{sent_by, taken_by};
+use crate::refusal::Refusal;
+use crate::request::Part;
+use ecat_master::Known;
+use ecat_text::Lines;
+use std::io::{self, Write};
+
+/// What a line came to that was taken, and what it is to be answered by behind the next cycle.
+#[derive(Clone, Copy, Default)]
+pub(crate) enum Answer {
+    /// It is done.
+    #[default]
+    Done,
+    /// It is done, and has set outputs.
+    Set,
+    /// It is refused, and nothing was changed.
+    Refused(Refusal),
+    /// What an item sent and took is told.
+    Get(Part),
+    /// The slaves are told.
+    Slaves,
+    /// The cable is told.
+    Cable,
+    /// How many cycles there were is told.
+    Counts,
+    /// How long they took is told.
+    Times,
+}
+
+impl Answer {
+    /// Has the line set outputs?
+    pub(crate) fn has_set(self) -> bool
+        ensures { result ≡ is_set self }
+    {
+        matches!(self, Answer::Set)
+    }
+
+    /// Writes what was asked for and `ok`, or why the line is refused.
+    pub(crate) fn put<W: Write>(
+        self,
+        known: &Known<'_, '_, '_>,
+        lines: &mut Lines<'_, W>,
+    ) -> io::Result<()> {
+        match self {
+            Answer::Done | Answer::Set => {}
+            Answer::Refused(refusal) => {
+                lines.text(refusal)?;
+                return lines.end();
+            }
+            Answer::Get(part) => put_part(part, known, lines)?,
+            Answer::Slaves => known.put_slaves(lines)?,
+            Answer::Cable => known.put_cable(lines)?,
+            Answer::Counts => known.put_counts(lines)?,
+            Answer::Times => known.put_times(lines)?,
+        }
+        lines.text("ok")?;
+        lines.end()
+    }
+}
+
+/// Writes each answer, in their order.
+pub(crate) fn put_answers<W: Write>(
+    answers: &[Answer],
+    known: &Known<'_, '_, '_>,
+    lines: &mut Lines<'_, W>,
+) -> io::Result<()> {
+    for answer in answers {
+        answer.put(known, lines)?;
+    }
+    Ok(())
+}
+
+/// Writes what an item sent in the last cycle, where it writes, and what it took in the last good one, where
+/// it reads.
+fn put_part<W: Write>(
+    part: Part,
+    known: &Known<'_, '_, '_>,
+    lines: &mut Lines<'_, W>,
+) -> io::Result<()> {
+    if let Some(bytes) = sent_by(known.sent(), part.item) {
+        put_bytes("outputs", part, Some(bytes), lines)?;
+    }
+    if taken_by(known.sent(), part.item).is_some() {
+        let bytes = match known.image() {
+            Some(image) => taken_by(image, part.item),
+            None => None,
+        };
+        put_bytes("inputs", part, bytes, lines)?;
+    }
+    Ok(())
+}
+
+/// Writes the bytes of a part, or that there are none.
+fn put_bytes<W: Write>(
+    what: &str,
+    part: Part,
+    bytes: Option<&[u8]>,
+    lines: &mut Lines<'_, W>,
+) -> io::Result<()> {
+    let item = part.item;
+    lines.text(format_args!("item {item} {what} "))?;
+    match bytes {
+        Some(bytes) => lines.hex(run_of(part, bytes))?,
+        None => lines.text("none")?,
+    }
+    lines.end()
+}
+
+/// The bytes of a part, among those of its item.
+fn run_of(part: Part, bytes: &[u8]) -> &[u8] {
+    match part.run {
+        None => bytes,
+        Some((offset, count)) => bytes
+            .get(offset..offset.saturating_add(count))
+            .unwrap_or(&[]),
+    }
+}
