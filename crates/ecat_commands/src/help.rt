@@ -48,8 +48,8 @@ pub(crate) const LIST: &str = "\
 Lists the datagrams of the EtherCAT frames of a capture, a line each: the
 number of the packet, seconds since the first one, the source address, the
 place of the datagram, its command, address, length, working counter and data.
-The capture is a pcap or pcapng file of Ethernet; frames are those of type
-0x88A4, behind VLAN tags too, and those of UDP port 34980.
+The capture is a pcap or pcapng file of Ethernet, or of Linux's any; frames are
+those of type 0x88A4, behind VLAN tags too, and whole ones by UDP at any ports.
 With --csv values are separated by commas, below a line of names. With --faults
 only packets are listed that are damaged or cut short, and why. With --stats
 each frame that was sent is paired with what came back of it, and datagrams that
