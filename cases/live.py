@@ -2796,8 +2796,10 @@ def datagrams_of_too_many_groups_are_counted_together(stage):
     rows = stage.ends("list", "c", "--stats").splitlines()
     first = "LRD 0x00000000 0 bytes: 2 sent, 0 back, 2 on the way"
     last = "LRD 0x0000fff0 0 bytes: 1 sent, 0 back, 1 on the way"
-    yield "groups", f"4096 {first} {last}", f"{len(rows) - 4} {rows[2]} {rows[-3]}"
-    yield "left out", "2 datagrams of further groups left out 0", " ".join(rows[-2:])
+    yield "groups", f"4096 {first} {last}", f"{len(rows) - 5} {rows[2]} {rows[-4]}"
+    yield "left out", "2 datagrams of further groups left out", rows[-3]
+    one_way = "one way of the line alone is in this capture: mergecap joins it with one of the other way"
+    yield "one way", f"{one_way} 0", " ".join(rows[-2:])
 
 
 @case
