@@ -48,10 +48,12 @@ mod mapping;
 #[cfg(feature = "net")]
 pub mod net;
 mod numbers;
+mod records;
 
 pub use mapping::{check, check_item, covered, expected, shown};
 pub use mapping::{Gap, NotShown, Outside, Party, Records, Unfit, WhyNotShown};
 pub use numbers::{open, seal, single, NUMBER_LENGTH};
+pub use records::{at, nth, FmmuRecord, NoRecord, SyncManagerRecord, Way};
 
 /// What an item does, by the standard's codes (IEC 61158-4-12).
 #[derive(Clone, Copy, PartialEq, Eq, Debug)]
