@@ -432,8 +432,7 @@ impl Net {
 
     /// Begins a trip, and waits for nothing: for loops of somebody else's; [`Net::trip`] does all of it.
     /// Whenever something is at a descriptor, and when [`Net::left`] says that no time is left, call
-    /// [`Net::look`], until it answers that the trip has ended. A cycle by turns is a [`Cycle`] whose frames
-    /// go out so.
+    /// [`Net::look`], until it answers that the trip has ended. A whole cycle so is [`Net::begin_cycle`].
     ///
     /// `expected` has by how much the counter of each datagram is expected to move; it is empty where none
     /// are expected: then one copy alone ends no trip, unless nothing has come for long at the other port. A
@@ -510,27 +509,38 @@ impl Net {
         waiting: &mut [u8],
         limit: Duration,
     ) -> Result<Ran, Fault> {
-        let (begun, mut cycle) = (Instant::now(), Cycle::begin(self.form));
+        let mut turns = self.begin_cycle(items, image, waiting, limit)?;
+        while turns.is_under_way() {
+            let awaited = [self.ports[0].awaited(), self.ports[1].awaited()];
+            self.look_at(sockets::wait(awaited, self.left()));
+            turns.go_on(self)?;
+        }
+        Ok(turns.ran)
+    }
+
+    /// Begins a cycle of these items, and waits for nothing: for loops of somebody else's; [`Net::cycle`]
+    /// does all of it, by these very turns, and says what the arguments are. The first frame goes out.
+    /// Whenever something is at a descriptor, and when [`Net::left`] says that no time is left, call
+    /// [`Turns::look`], until it answers what the cycle came to. Meanwhile nothing else travels.
+    pub fn begin_cycle<'a>(
+        &mut self,
+        items: &'a mut [Item],
+        image: &'a mut [u8],
+        waiting: &'a mut [u8],
+        limit: Duration,
+    ) -> Result<Turns<'a>, Fault> {
+        let (begun, cycle) = (Instant::now(), Cycle::begin(self.form));
         let (verdict, ended, took) = (Verdict::Good, End::Nowhere, Duration::ZERO);
-        let mut ran = Ran { verdict, frames: 0, missing: 0, ended, took };
+        let ran = Ran { verdict, frames: 0, missing: 0, ended, took };
         zero_broadcasts(items, image);
         self.count();
-        while cycle.state() == State::UnderWay {
-            let made = cycle.next_frame(items, image, &mut self.sent)?;
-            let carried = &items[cycle.first()..cycle.first() + made.items];
-            for (expected, item) in self.expected.iter_mut().zip(carried) {
-                *expected = item.expected;
-            }
-            let came = self.begin(made.bytes, made.items, after(begun, limit))?;
-            ran.ended = self.wait_for(came).ended;
-            let (sent, a, b) = (&self.sent[..made.bytes], self.opened(Side::A), self.opened(Side::B));
-            ran.verdict = cycle.came(items, sent, a, b, waiting, image)?.verdict;
-            ran.frames += 1;
-            ran.missing += u32::from(a.is_empty());
-            ran.missing += u32::from(b.is_empty() && self.ports[1].socket.is_some());
+        let until = after(begun, limit);
+        let mut turns = Turns { items, image, waiting, cycle, begun, until, ran, sent: 0 };
+        if turns.is_under_way() {
+            turns.send(self)?;
+            turns.go_on(self)?;
         }
-        ran.took = begun.elapsed();
-        Ok(ran)
+        Ok(turns)
     }
 
     /// Says where the cable of a line of so many slaves is broken: a broadcast read of AL status travels,
@@ -542,6 +552,65 @@ impl Net {
         let came = self.begin(size, 0, after(Instant::now(), limit))?;
         self.wait_for(came);
         locate(self.form, &self.sent[..size], self.at(Side::A), self.at(Side::B), slaves)
+    }
+}
+
+/// A cycle by turns that has begun at a line ([`Net::begin_cycle`]).
+#[derive(Debug)]
+pub struct Turns<'a> {
+    items: &'a mut [Item],
+    image: &'a mut [u8],
+    waiting: &'a mut [u8],
+    cycle: Cycle,
+    begun: Instant,
+    until: Instant,
+    ran: Ran,
+    /// How many bytes of the frame that is under way stand in the line's room.
+    sent: usize,
+}
+
+impl Turns<'_> {
+    fn is_under_way(&self) -> bool {
+        self.cycle.state() == State::UnderWay
+    }
+
+    /// Receives what waits at both ports of the line at which the cycle began, and waits for nothing. Where
+    /// the trip of a frame has ended by it, the next one goes out. What the cycle came to is answered once it
+    /// is over.
+    pub fn look(&mut self, net: &mut Net) -> Result<Option<Ran>, Fault> {
+        net.look();
+        self.go_on(net)?;
+        Ok((!self.is_under_way()).then_some(self.ran))
+    }
+
+    /// Sends the next frame.
+    fn send(&mut self, net: &mut Net) -> Result<(), Fault> {
+        let made = self.cycle.next_frame(self.items, self.image, &mut net.sent)?;
+        let carried = &self.items[self.cycle.first()..self.cycle.first() + made.items];
+        for (expected, item) in net.expected.iter_mut().zip(carried) {
+            *expected = item.expected;
+        }
+        self.sent = made.bytes;
+        net.begin(made.bytes, made.items, self.until)?;
+        Ok(())
+    }
+
+    /// Takes what came of the frames whose trips have ended, and sends those behind them.
+    fn go_on(&mut self, net: &mut Net) -> Result<(), Fault> {
+        while self.is_under_way() && net.ended != End::UnderWay {
+            let (sent, a, b) = (&net.sent[..self.sent], net.opened(Side::A), net.opened(Side::B));
+            let turn = self.cycle.came(self.items, sent, a, b, self.waiting, self.image)?;
+            self.ran.verdict = turn.verdict;
+            self.ran.ended = net.ended;
+            self.ran.frames += 1;
+            self.ran.missing += u32::from(a.is_empty());
+            self.ran.missing += u32::from(b.is_empty() && net.ports[1].socket.is_some());
+            self.ran.took = self.begun.elapsed();
+            if self.is_under_way() {
+                self.send(net)?;
+            }
+        }
+        Ok(())
     }
 }
 

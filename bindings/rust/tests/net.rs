@@ -256,3 +256,47 @@ fn what_is_no_end_is_an_error() {
     }
     assert_eq!(Net::raw("no-such-link", None).expect_err("no interface").raw_os_error(), Some(19));
 }
+
+/// Runs a cycle by turns, with a pause between two of them; what it came to, and how many turns it took.
+fn by_turns(net: &mut Net, image: &mut [u8; 2 * SLAVES], limit: Duration) -> (Verdict, u32, usize) {
+    let mut waiting = [0; 2 * SLAVES];
+    let mut items = [Item::new(Kind::Lwr, 0x10000, 0, 5, 5), Item::new(Kind::Lrd, 0x20000, 5, 5, 5)];
+    let mut turns = net.begin_cycle(&mut items, image, &mut waiting, limit).expect("one frame");
+    for count in 1.. {
+        if let Some(ran) = turns.look(net).expect("a turn") {
+            return (ran.verdict, ran.missing, count);
+        }
+        std::thread::sleep(Duration::from_micros(50));
+    }
+    unreachable!("a trip ends by its limit")
+}
+
+#[test]
+fn a_cycle_by_turns_waits_for_nothing_and_is_as_one_that_waits() {
+    let line = serve();
+    let mut net = open(&line);
+    cycles(&mut net, 5, LIMIT);
+    let mut good = 0;
+    for k in 0..200u8 {
+        let outputs = [k, 1, 2, 3, !k];
+        let mut image = [0; 2 * SLAVES];
+        image[..SLAVES].copy_from_slice(&outputs);
+        let (verdict, _missing, _turns) = by_turns(&mut net, &mut image, LIMIT);
+        let inputs = outputs.map(|byte| byte ^ 0xA5);
+        assert!(verdict != Verdict::Good || image[SLAVES..] == inputs, "cycle {k} has other inputs");
+        good += usize::from(verdict == Verdict::Good);
+    }
+    most(good, 200);
+}
+
+#[test]
+fn a_cycle_by_turns_ends_by_its_limit_where_nothing_comes() {
+    let nobody = UdpSocket::bind("127.0.0.1:0").expect("a port that answers nothing");
+    let end = nobody.local_addr().expect("its address").to_string();
+    let mut net = Net::udp(&end, None).expect("one port");
+    let (begun, mut image) = (Instant::now(), [7; 2 * SLAVES]);
+    let (verdict, missing, turns) = by_turns(&mut net, &mut image, Duration::from_millis(30));
+    assert!(verdict != Verdict::Good && missing == 1 && turns > 1, "{verdict:?} {missing} {turns}");
+    assert!(begun.elapsed() >= Duration::from_millis(30) && image == [7; 2 * SLAVES]);
+    assert_eq!(net.left(), Duration::ZERO);
+}
