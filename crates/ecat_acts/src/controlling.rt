@@ -1,7 +1,7 @@
 //! `ecat master --control`: a master that lines of its input speak to.
 
-use crate::failure::{Failure, report};
-use crate::mastering::{Attended, Cycling, beat_of, cycle_for};
+use crate::failure::Failure;
+use crate::mastering::{Attended, Cycling, beat_of, cycle_for, report_to};
 use crate::patience::Impatient;
 use ecat_control::{ControlTask, Outputs, Stopping};
 use ecat_course::Course;
@@ -33,14 +33,10 @@ where
     L: io::Write,
 {
     let Ok(beat) = beat_of(rt, cycling.running, None) else {
-        return report(&Failure::Clock, writers.out, writers.err);
+        return report_to(&Failure::Clock, writers);
     };
     let Ok(outputs) = Outputs::of(rt.alloc(), course.work(), course.items()) else {
-        return report(
-            &Failure::Line(LineFailure::NoMemory),
-            writers.out,
-            writers.err,
-        );
+        return report_to(&Failure::Line(LineFailure::NoMemory), writers);
     };
     let stops = Cell::new(false);
     let mut pace = Stopping::new(Impatient::new(beat, attended.is_patient), &stops);

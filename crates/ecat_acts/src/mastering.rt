@@ -494,19 +494,26 @@ where
 {
     let Cycling { running, plan } = cycling;
     let Ok(counters) = course.counters(rt.alloc()) else {
-        return report(
-            &Failure::Line(LineFailure::NoMemory),
-            writers.out,
-            writers.err,
-        );
+        return report_to(&Failure::Line(LineFailure::NoMemory), writers);
     };
     match open_ports(rt, running.reach, patience(running.limit), recorder) {
         Ok(ports) => {
             let ports = ready(ports, counters, running.busy);
             act_master(Box::into_inner(course), ports, &plan, pace, task, writers)
         }
-        Err(fault) => report(&Failure::from(fault), writers.out, writers.err),
+        Err(fault) => report_to(&Failure::from(fault), writers),
     }
+}
+
+/// Tells the writers of a master why it does not run, and answers the exit status.
+pub(crate) fn report_to<W, V, L>(failure: &Failure, writers: Writers<'_, W, V, L>) -> u8
+where
+    W: io::Write,
+    V: io::Write,
+    L: io::Write,
+{
+    let Writers { out, err, log: _ } = writers;
+    report(failure, out, err)
 }
 
 /// The task of a program that gives so many bytes of outputs, or none.
