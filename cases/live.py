@@ -1864,21 +1864,22 @@ def an_object_is_read_again_and_again(stage):
 SCENES = os.path.join(os.path.dirname(os.path.abspath(__file__)), "..", "scenes")
 
 # Commands, and the KB of stack and of address space that each has to get by with: hardly more than it took
-# before its works were lent from cycle to cycle.
+# before its works were lent from cycle to cycle, and of space what the program has grown by since.
 ROOMS = [
-    ("check check/accepted.scene", 104, 4880),
-    ("cover cover/left_out.scene", 104, 4880),
-    ("lint check/accepted.scene", 104, 4880),
-    ("where where/one_link_down.scene", 104, 4880),
-    ("run first.scene", 184, 4880),
-    ("run first.scene --judge", 184, 4880),
-    ("sweep sweep/two_slaves.scene", 320, 4880),
-    ("sdo sdo/lost_answer.scene 0x1001 0x1018 1 --surely", 104, 4880),
-    ("show startup.pcap", 104, 4880),
-    ("list startup.pcap --stats", 104, 4880),
-    ("learn startup.pcap", 104, 4880),
-    ("judge startup.pcap", 104, 4880),
-    ("vectors", 512, 4880),
+    ("check check/accepted.scene", 104, 4976),
+    ("cover cover/left_out.scene", 104, 4976),
+    ("lint check/accepted.scene", 104, 4976),
+    ("where where/one_link_down.scene", 104, 4976),
+    ("run first.scene", 184, 4976),
+    ("run first.scene --judge", 184, 4976),
+    ("sweep sweep/two_slaves.scene", 320, 4976),
+    ("sdo sdo/lost_answer.scene 0x1001 0x1018 1 --surely", 104, 4976),
+    ("show startup.pcap", 104, 4976),
+    ("list startup.pcap --stats", 104, 4976),
+    ("learn startup.pcap", 104, 4976),
+    ("judge startup.pcap", 104, 4976),
+    ("replay startup.pcap serve/line.scene", 104, 4976),
+    ("vectors", 512, 4976),
 ]
 
 
@@ -3145,3 +3146,48 @@ def captures_of_a_served_line_are_answered_alike_by_it(stage):
         yield f"{kept}: status", "0", status
         told = stage.ends("replay", kept, "other").splitlines()
         yield f"{kept}: other status", "1", told[-1]
+
+
+# A line of as many slaves as there may be, whose inputs are one item.
+LONGEST = "".join(
+    f"slave {0x1001 + k:#x}\nsimple\nareas 0 1\nsm 3 0x1100 1 read\nfmmu 0 {0x10000 + k:#x} 1 0 7 0x1100 0 read\n"
+    for k in range(256)
+) + f"lrd 0x10000 {'00' * 256}\nbrd 0x0130 0000\n"
+
+
+def packets_pass(line, count):
+    """Waits until so many packets have come to a line that is served under commands."""
+    def come():
+        told = command(line, "counts")
+        line.line()
+        return int(told.split()[1])
+
+    first = come()
+    while come() < first + count and line.process.poll() is None:
+        time.sleep(0.01)
+
+
+@case
+def who_leaves_op_of_256_slaves_is_named_three_cycles_later(stage):
+    """A frame asks 100 of them, from the first one on, and the one that is found is looked at behind the next
+    cycle; and so it is where another one leaves Op behind that."""
+    with controlled(stage, LONGEST) as line:
+        stage.file("m", LONGEST)
+        words = ("master", "m", "--at", both_ends(stage), "--cycles", "150", "--every", "20000", "--leave", "op")
+        with stage.start(*words, *PATIENCE) as master:
+            rows = [master.line()]
+            while rows[-1] and not rows[-1].startswith("all in Op"):
+                rows.append(master.line())
+            # Behind the first cycles the cable is looked at.
+            packets_pass(line, 100)
+            for place, state in (("255", "4"), ("255", "8"), ("1", "4")):
+                command(line, f"state {place} {state}")
+                wanted = "all in Op again" if state == "8" else f"slave {place} "
+                while rows[-1] and wanted not in rows[-1]:
+                    rows.append(master.line())
+            master.end()
+    fell = [int(row.split(":")[0].split()[1]) for row in rows if "not all in Op" in row]
+    named = [int(row.split(":")[0].split()[1]) for row in rows if " is in Safe-Op" in row]
+    yield "named", "2 2", f"{len(fell)} {len(named)}"
+    yield "the last one", "3", str(named[0] - fell[0])
+    yield "the second one", "1", str(named[1] - fell[1])
