@@ -1864,14 +1864,15 @@ def an_object_is_read_again_and_again(stage):
 SCENES = os.path.join(os.path.dirname(os.path.abspath(__file__)), "..", "scenes")
 
 # Commands, and the KB of stack and of address space that each has to get by with: hardly more than it took
-# before its works were lent from cycle to cycle, and of space what the program has grown by since.
+# before its works were lent from cycle to cycle, and of space what the program has grown by since. The system
+# moves the top of a stack by up to 8 KB by chance.
 ROOMS = [
     ("check check/accepted.scene", 104, 4976),
     ("cover cover/left_out.scene", 104, 4976),
     ("lint check/accepted.scene", 104, 4976),
     ("where where/one_link_down.scene", 104, 4976),
-    ("run first.scene", 184, 4976),
-    ("run first.scene --judge", 184, 4976),
+    ("run first.scene", 192, 4976),
+    ("run first.scene --judge", 192, 4976),
     ("sweep sweep/two_slaves.scene", 320, 4976),
     ("sdo sdo/lost_answer.scene 0x1001 0x1018 1 --surely", 104, 4976),
     ("show startup.pcap", 104, 4976),
