@@ -29,8 +29,12 @@ fn status_by(back: &Back) -> Result<AlStatus, MasterFault>
     }
 }
 
-/// Reads the AL status of a slave.
-fn read_al<P: Ports>(ports: &mut P, station: u16) -> Result<AlStatus, MasterFault>
+/// Reads the AL status of a slave, once (IEC 61158-6-12, AL management): the state that it is in, and whether
+/// an error stands. It takes no memory.
+///
+/// A trip that fails is `Port`, and a copy of another frame `Stranger`. `NoSlave`: the read came back with
+/// the working counter 0; `BadAnswer`: with more than 1.
+pub fn read_al<P: Ports>(ports: &mut P, station: u16) -> Result<AlStatus, MasterFault>
     ensures told { IsTold P.trips ports.old (status_read station) status_by result ports.new }
     ensures counted { result ≡ Err Port → P.failed ports.old < P.failed ports.new }
     ensures never_lower { P.failed ports.old ≤ P.failed ports.new }
@@ -51,8 +55,12 @@ fn unless_error(status: AlStatus) -> Option<AlState>
     }
 }
 
-/// Reads AL status, and answers the slave's state where no error stands.
-fn read_error<P: Ports>(ports: &mut P, station: u16) -> Result<Option<AlState>, MasterFault>
+/// Reads the AL status of a slave whose error is to be gone, once (IEC 61158-6-12, AL management): the state
+/// that it is in, `None` where the error stands yet. It takes no memory.
+///
+/// A trip that fails is `Port`, and a copy of another frame `Stranger`. `NoSlave`: the read came back with
+/// the working counter 0; `BadAnswer`: with more than 1.
+pub fn read_error<P: Ports>(ports: &mut P, station: u16) -> Result<Option<AlState>, MasterFault>
     ensures asked { IsAsked P.trips ports.old (error_question station) result ports.new }
     ensures counted { result ≡ Err Port → P.failed ports.old < P.failed ports.new }
     ensures never_lower { P.failed ports.old ≤ P.failed ports.new }

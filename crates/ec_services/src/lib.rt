@@ -24,11 +24,13 @@
 //!   the first write that not exactly one slave answered.
 //! - [`request_state`] asks a slave for a state, and waits until it is there or refuses, with its code.
 //! - [`acknowledge`] acknowledges an error of a slave, and waits until it is gone.
+//! - [`write_control`] asks for a state, and [`read_status`], [`read_al`] and [`read_error`] read AL status,
+//!   each by one trip: the parts of both, for a master that makes a trip behind each cycle.
 //! - [`sdo_upload`] and [`sdo_download`] read and write an object of a [`Peer`] by one mail and its answer.
 //! - [`upload_surely`] and [`download_surely`] do so whatever is lost on the way or was left behind before:
 //!   they post where one answer shows both mailboxes empty, until a mail answers the last post.
-//! - [`download_on`] makes one trip of such a writing, and says how far it is ([`Progress`]), so that a
-//!   master writes an object beside its cycles.
+//! - [`upload_on`] and [`download_on`] make one trip of such a reading or writing, and say how far it is
+//!   ([`Progress`]), so that a master reads or writes an object beside its cycles.
 //! - [`settle`] waits until one answer shows both mailboxes empty; [`Peer::skip`] moves the counter on.
 //! - [`locate`] says where the cable is broken, by one broadcast read over ports that tell where copies
 //!   arrive ([`ec_ring::HeardPorts`]), and [`CutOff`] who is cut off: the calls of `ec_diag`.
@@ -52,7 +54,7 @@ mod stations;
 mod surely;
 mod transfer;
 
-pub use acknowledgement::acknowledge;
+pub use acknowledgement::{acknowledge, read_al, read_error};
 pub use asking::{Back, ask, request};
 pub use ec_diag::{CutOff, Located, locate};
 pub use fault::MasterFault;
@@ -60,5 +62,5 @@ pub use mailbox::{Area, Peer};
 pub use settling::settle;
 pub use states::{read_status, request_state, write_control};
 pub use stations::assign_stations;
-pub use surely::{Progress, download_on, download_surely, upload_surely};
+pub use surely::{Progress, download_on, download_surely, upload_on, upload_surely};
 pub use transfer::{sdo_download, sdo_upload};

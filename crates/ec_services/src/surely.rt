@@ -16,7 +16,7 @@ use crate::transfer::{answer_in, downloaded_by, uploaded_by};
 use ec_app::{Mail, Sdo, Value};
 use ec_master::Ports;
 
-/// How far a transfer is that is made a trip at a time ([`download_on`]).
+/// How far a transfer is that is made a trip at a time ([`upload_on`], [`download_on`]).
 #[derive(Clone, Copy)]
 pub struct Progress {
     /// What is known of the peer's mailboxes.
@@ -221,6 +221,31 @@ pub fn download_surely<P: Ports>(
     let answer = run(ports, &mut progress, &asked, trips);
     *peer = progress.peer;
     downloaded_by(&answer?)
+}
+
+/// Makes one trip more of a transfer by which an object of a slave is read (`upload_surely`): `Some` once its
+/// value came, `None` where no mail has answered yet, say since nothing but the records of the mailboxes was
+/// read. So a master may read an object beside its cycles, a trip behind each. It takes no memory.
+///
+/// The faults are those of `upload_surely`, but for `NoAnswer`: how many trips are made is the caller's.
+pub fn upload_on<P: Ports>(
+    ports: &mut P,
+    progress: &mut Progress,
+    index: u16,
+    sub: u8,
+) -> Result<Option<Value>, MasterFault>
+    requires { IsPeer progress.old.peer }
+    ensures goes_on { GoesOn P.trips ports.old (uploading index sub) progress.old result progress.new
+        ports.new }
+    ensures still_peer { IsPeer progress.new.peer }
+    ensures counted { result ≡ Err Port → P.failed ports.old < P.failed ports.new }
+    ensures never_lower { P.failed ports.old ≤ P.failed ports.new }
+{
+    let Some(mail) = trip(ports, progress, &Sdo::Upload { index, sub })? else {
+        return Ok(None);
+    };
+    let value = uploaded_by(&mail)?;
+    Ok(Some(value))
 }
 
 /// Makes one trip more of a transfer by which an object of a slave is written (`download_surely`): `Some`

@@ -2,7 +2,8 @@
 //! Tests of the crates below the program, by public calls alone: `wire` of `ec_wire`, `merge` of `ec_merge`,
 //! `regs` of `ec_regs`, `areas` of `ec_areas`, `esc` of `ec_esc`, `app` of `ec_app`, `ring` of `ec_ring`,
 //! `process` of `ec_applications`, `diag` of `ec_diag`, `check` of `ec_check`, `map` of `ec_map`, `master` of
-//! `ec_master`, `services` of `ec_services`; and `over_ring`: rings that the laws of `ec_over_ring` speak of.
+//! `ec_master`, `services` of `ec_services` and `ec_acyclic`; and `over_ring`: rings that the laws of
+//! `ec_over_ring` speak of.
 //! What is records, bytes in and bytes out is rows of `data/`, which `ec_rows` runs.
 
 #[cfg(test)]

@@ -14,6 +14,7 @@ use Rattle.ec_run.specs.declared.cycles.Cycles.{Cycles}
 use Rattle.ec_run.specs.declared.wanted.Wanted.{Wanted}
 use Rattle.ec_run.proofs.Laws.{along_within, cycle_within, filled_length, looked_at_within, turn_within}
 use Rattle.ec_run.proofs.Laws.{within_less}
+use Rattle.ec_acyclic.proofs.Laws.{service_turn_within}
 use Rattle.ec_run.proofs.Laws.{within_none, within_one, within_then}
 use Rattle.ecat_master.specs.Course.{AreLooks, HeardTrips, IsCourse, IsFollowed, IsLook, IsRound, Sides}
 use Rattle.ecat_master.specs.Course.{IsCaredFor, MayBeLooked, MayBeLookedAt, Rounds, is_last_look}
@@ -219,6 +220,8 @@ seen_to_once heard line before later (IsCaredFor.turned wanted recovery turn the
     let less : turn_trips ≤ 1 = omega arith in
     within_less (WatchedTrips heard) turn_trips 1 before later less
     (turn_within (WatchedTrips heard) before later wanted recovery turn taken)
+seen_to_once heard line before later (IsCaredFor.served place wanted talk turn there its_own taken) =
+    service_turn_within (WatchedTrips heard) before later talk turn taken
 
 some_beside : (stop : Bool) → 1 ≤ beside_trips stop
 some_beside false = omega arith

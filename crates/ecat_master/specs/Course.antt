@@ -11,6 +11,9 @@ use Rattle.ec_diag.specs.declared.located.Located.TheVariants.{Whole, One, Betwe
 use Rattle.ec_ring.specs.declared.arrivals.Arrivals.{Arrivals}
 use Rattle.ec_ring.specs.declared.port.PortFault.{PortFault}
 use Rattle.ec_services.specs.declared.fault.MasterFault.{MasterFault}
+use Rattle.ec_acyclic.specs.Next.{TalkState}
+use Rattle.ec_acyclic.specs.Turn.{IsServiceTurn}
+use Rattle.ec_acyclic.specs.declared.turn.Turn.{Turn as ServiceTurn}
 use Rattle.ec_run.specs.Cycles.{End, IsCycle}
 use Rattle.ec_run.specs.Along.{IsAlong}
 use Rattle.ec_run.specs.Recovering.{RecoveryState}
@@ -104,7 +107,7 @@ pub data MayBeLookedAt {P : Type 0} (heard : HeardTrips P) (line : List Wanted)
       → MayBeLookedAt heard line before later
 
 -- a slave is looked at, or none is; or slaves of the line are asked by one frame; or a turn is taken with one
--- that is being brought to Op again
+-- that is being brought to Op again; or one of a service of a slave of the line, by its station address
 pub data IsCaredFor {P : Type 0} (heard : HeardTrips P) (line : List Wanted) (before later : WatchedState P)
     : Type 0 where
   looked_at : MayBeLookedAt heard line before later → IsCaredFor heard line before later
@@ -113,6 +116,10 @@ pub data IsCaredFor {P : Type 0} (heard : HeardTrips P) (line : List Wanted) (be
   turned : (wanted : Wanted) (recovery : RecoveryState) (turn : Turn)
       → slice_get line recovery.place ≡ Some wanted
       → IsTurn (WatchedTrips heard) before wanted recovery turn later
+      → IsCaredFor heard line before later
+  served : (place : ℕ) (wanted : Wanted) (talk : TalkState) (turn : ServiceTurn)
+      → slice_get line place ≡ Some wanted → talk.station ≡ wanted.station
+      → IsServiceTurn (WatchedTrips heard) before talk turn later
       → IsCaredFor heard line before later
 
 -- behind a cycle one frame goes out beside the cycles: the cable is looked at, or a slave is seen to. Behind

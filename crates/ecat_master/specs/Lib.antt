@@ -2,6 +2,7 @@ pub mod Allowance
 pub mod Last
 pub mod Exits
 pub mod Task
+pub mod Acyclic
 pub mod Course
 pub mod Over
 pub mod Identities

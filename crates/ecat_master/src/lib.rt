@@ -56,7 +56,8 @@
 //! - [`start`] counts the slaves, looks at the cable, gives the stations by place, and brings all slaves to
 //!   Op, phase by phase.
 //! - [`run_cycles`] makes cycle after cycle, says where a cable breaks and when it is whole again, and brings
-//!   slaves up again that have left Op.
+//!   slaves up again that have left Op. Beside the cycles it does what its task asks of slaves ([`Asked`]): a
+//!   [`Service`] is done by one frame behind a cycle, until its [`Answer`] came.
 //! - [`scan`] tells what stands on a line, slave by slave. [`master`] is all but that, with an exit status.
 //!
 //! What is promised:
@@ -71,10 +72,12 @@
 //!   told. (`trips`): so many trips are the most of a start that answers Ok, whatever a clock says.
 //! - [`run_cycles`] (`course`): the cycles of a run are `Cycles::cycle`, one after the other, and their ends
 //!   add up. Before each one its [`Task`] is listened to, and where that has other outputs the items that
-//!   write have these. Cycles, a look at the cable, looks at slaves and turns of recoveries follow each other
-//!   end to end, from the ports before to those behind; what copies told is forgotten before each cycle, kept
-//!   of its trips, and left as it is by a look at the cable. (`last`): it answers how the last cycle of that
-//!   course ended. (`trips`): so many trips are the most for each cycle, whatever a clock says.
+//!   write have these. Cycles, a look at the cable, looks at slaves, turns of recoveries and of services
+//!   follow each other end to end, one of them behind a cycle, from the ports before to those behind; a
+//!   service is of a slave of the line, by its station address (`ec_acyclic`); what copies told is forgotten
+//!   before each cycle, kept of its trips, and left as it is by a look at the cable. (`last`): it answers
+//!   how the last cycle of that course ended. (`trips`): so many trips are the most for each cycle, whatever
+//!   a clock says.
 //! - [`master`] (`good`): an exit status of 0 says that the line was started so, and that the last cycle on
 //!   it was good with all slaves in Op, if there was one. (`ended`): whichever it is, it is that of the fault
 //!   of a start, or that of the last cycle and of the way in which the slaves were left; or it is 3, which it
@@ -89,6 +92,7 @@
 //!
 //! What is printed and when is tried by tests.
 
+mod acyclic;
 mod allowance;
 mod care;
 mod identity;
@@ -109,6 +113,8 @@ mod teller;
 mod telling;
 mod words;
 
+pub use acyclic::Asked;
+pub use ec_acyclic::{Answer, Service};
 pub use identity::{ENTRIES, IDENTITY, Identity, OtherSlave};
 pub use known::Known;
 pub use over_ring::{found_line, started_line};

@@ -167,8 +167,10 @@ impl LinePlan<'_> {
             unsure: teller.take_cycle(cycles.counts, trips, late_copies, at, ended, self.plan),
         };
         task.report(&report_of(cycles, end, late, self.items(), ports));
+        teller.acyclic.begin(task, self.line, self.plan.tries);
         let images = images_of(rooms, cycles);
         let told = teller.follow(cycles.counts, end, ports, self, images);
+        teller.acyclic.tell(task);
         let failures = failures_of(ports);
         let told = self.answered(told, cycles, rooms, failures, task, teller);
         Rounded { ended, told }
@@ -258,6 +260,8 @@ where
 {
     let made = make_rounds(cycles, ports, line_plan, pace, task, teller);
     pace.end();
+    teller.acyclic.give_up();
+    teller.acyclic.tell(task);
     close(made, line_plan, teller)
 }
 

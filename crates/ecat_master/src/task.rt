@@ -5,12 +5,15 @@ ghost use Rattle.std.specs.Option.{option_map, unwrap_or};
 ghost use Rattle.ec_run.specs.Tally.{came_at};
 ghost use Rattle.ecat_master.specs.Task.{TakesOutputs};
 
+use crate::acyclic::Asked;
 use crate::known::Known;
 use crate::telling::CycleEnd;
+use ec_acyclic::Answer;
 use ec_master::{CycleFault, Verdict, Work};
 use ec_regs::AlState;
 use ec_ring::{HeardPorts, Port};
 use ec_run::{Cycles, Watched};
+use ec_services::MasterFault;
 use ecat_text::Lines;
 use std::io::{self, Write};
 
@@ -34,6 +37,22 @@ pub trait Task {
 
     /// Is told of a cycle that is over. It does not wait.
     fn report(&mut self, report: &Report<'_>);
+
+    /// What is to be asked of a slave beside the cycles next, if anything is. That is asked behind each cycle
+    /// while nothing is under way that it said before; it does not wait. One frame of a service goes out
+    /// behind a cycle at the most, by turns with looks at the cable and with what is done with slaves that
+    /// have left Op, and none behind a cycle of which no copy came. Where slaves are brought to Op again that
+    /// have left it (`Plan::recover`), a slave does not stay in another state for which it is asked.
+    fn ask(&mut self) -> Option<Asked> {
+        None
+    }
+
+    /// Is told what came of what it asked for: the slave's answer, or why there is none. It does not wait.
+    /// `NoSlave`: no slave of the line has that station address, the slave has no mailboxes where an object
+    /// was asked for, or it has not answered ten times in a row; `NoAnswer`: as many frames as may go out for
+    /// a service brought no end of it, or the last cycle was over before that. The others are those of
+    /// [`ec_acyclic::Talk::turn`].
+    fn told(&mut self, _answer: Result<Answer, MasterFault>) {}
 
     /// The state in which the slaves are to be left at the end, where it says one and the plan lets it.
     fn leave(&self) -> Option<AlState> {

@@ -6,6 +6,7 @@ ghost use Rattle.ecat_master.specs.Allowance.{time_left};
 ghost use Rattle.ecat_master.specs.Course.{IsFollowed, IsCaredFor, MayBeLookedAt};
 ghost use Rattle.ecat_master.specs.Over.{ends_well, stops_behind};
 
+use crate::acyclic::Acyclic;
 use crate::allowance::Allowance;
 use crate::care::{Care, Next, most_asked, wanted_at};
 use crate::late::{CycleTrips, LateCycles, Unsure};
@@ -122,8 +123,10 @@ pub struct Teller<'a, W, V, L> {
     /// Who is seen to behind the next cycle.
     care: Care,
     next: Next,
-    /// Whether the frame behind the last cycle was a look at the cable.
+    /// Whether the frame behind the last cycle, of those without one of a service, was a look at the cable.
     has_looked: bool,
+    /// What a task asks of slaves.
+    pub(crate) acyclic: Acyclic,
 }
 
 impl<'a, W: Write, V: Write, L: Write> Teller<'a, W, V, L> {
@@ -152,6 +155,7 @@ impl<'a, W: Write, V: Write, L: Write> Teller<'a, W, V, L> {
             care: Care::Nobody,
             next: Next::first(),
             has_looked: false,
+            acyclic: Acyclic::none(),
         }
     }
 
@@ -272,8 +276,8 @@ impl<'a, W: Write, V: Write, L: Write> Teller<'a, W, V, L> {
         !self.log_has_failed
     }
 
-    /// Tells the output of a cycle that was made, and looks at the cable or sees to a slave, by turns where
-    /// both are due; behind the last cycle it does both.
+    /// Tells the output of a cycle that was made, and looks at the cable, sees to a slave or goes on with a
+    /// service, by turns where more than one is due; behind the last cycle it looks and sees to a slave.
     fn tell<P: HeardPorts>(
         &mut self,
         cycle: u64,
@@ -288,12 +292,14 @@ impl<'a, W: Write, V: Write, L: Write> Teller<'a, W, V, L> {
         self.next = self.next.behind_cycle(end.is_well());
         let plan = line_plan.plan;
         let is_last = stops_behind(end, plan);
-        let may_look = is_last || !self.has_looked || !self.is_care_due(cycle, end, plan);
+        let serves = self.acyclic.goes_first(ports.has_heard());
+        let may_look = is_last
+            || !serves && (!self.has_looked || !self.is_care_due(cycle, end, plan));
         let setting = self.setting(line_plan, may_look);
         let has_looked = self
             .told
             .tell(cycle, end.ended, ports, setting, &mut self.out)?;
-        self.has_looked = has_looked;
+        self.has_looked = has_looked || serves && self.has_looked;
         if end.ended == Ok(Verdict::Good) {
             self.states.take(cycle, end.in_op, &mut self.out)?;
         }
@@ -303,6 +309,25 @@ impl<'a, W: Write, V: Write, L: Write> Teller<'a, W, V, L> {
             return self.look_at_found(cycle, ports, line_plan.line, plan);
         }
         if has_looked {
+            return Ok(());
+        }
+        self.go_beside(cycle, end, ports, line_plan, serves)
+    }
+
+    /// Goes on with a service, where it goes first or nobody is to be seen to, or else sees to a slave.
+    fn go_beside<P: HeardPorts>(
+        &mut self,
+        cycle: u64,
+        end: CycleEnd,
+        ports: &mut Watched<P>,
+        line_plan: &LinePlan<'_>,
+        serves: bool,
+    ) -> io::Result<()>
+        ensures seen_to { IsCaredFor P.trips line_plan.now.line.now ports.old ports.new }
+    {
+        let plan = line_plan.plan;
+        if serves || !self.is_care_due(cycle, end, plan) {
+            self.acyclic.serve(ports, line_plan.line);
             return Ok(());
         }
         self.see_to(cycle, end, ports, line_plan.line, plan)

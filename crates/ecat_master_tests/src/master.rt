@@ -11,6 +11,7 @@ macro_rules! brought {
     };
 }
 
+mod acyclic;
 mod brought;
 mod cabled;
 mod door;

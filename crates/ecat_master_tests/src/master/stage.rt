@@ -23,6 +23,8 @@ pub enum Event {
     LoseA,
     /// Both copies are lost, of this frame alone.
     LoseBoth,
+    /// Both copies are lost of the next frame that goes to one slave, beside the cycles.
+    LoseBeside,
     /// The cables at both ports are swapped, for these frames from now on.
     Swap(Swapped),
     /// The slave at this place falls into this state with an error.
@@ -82,6 +84,7 @@ pub struct Stage<'a> {
     health_a: PortHealth,
     health_b: PortHealth,
     swapped: Swapped,
+    loses_beside: bool,
 }
 
 impl<'a> Stage<'a> {
@@ -96,6 +99,7 @@ impl<'a> Stage<'a> {
             health_a: PortHealth::sound(),
             health_b: PortHealth::sound(),
             swapped: Swapped::Nothing,
+            loses_beside: false,
         }
     }
 
@@ -120,6 +124,7 @@ impl<'a> Stage<'a> {
                 fate.loses_a = true;
                 fate.loses_b = true;
             }
+            Event::LoseBeside => self.loses_beside = true,
             Event::Swap(swapped) => self.swapped = swapped,
             Event::Error(place, state) => self.falls(place, state, true),
             Event::Falls(place, state) => self.falls(place, state, false),
@@ -214,10 +219,21 @@ impl<'a> Stage<'a> {
 
     /// Does the next frame belong to a cycle, and what happens before it?
     fn before(&mut self, sent: &FrameBuf) -> Fate {
-        if sent.count() > 0 && sent.command(0) == Command::Lrw {
-            self.befalls()
+        let command = if sent.count() > 0 {
+            sent.command(0)
         } else {
-            CALM
+            Command::Nop
+        };
+        match command {
+            Command::Lrw => self.befalls(),
+            Command::Fprd | Command::Fpwr if self.loses_beside => {
+                self.loses_beside = false;
+                let mut fate = CALM;
+                fate.loses_a = true;
+                fate.loses_b = true;
+                fate
+            }
+            _ => CALM,
         }
     }
 }

@@ -22,6 +22,6 @@ returns-then-is_last-2 g c = record {
 pub returns : goal.returns
 returns g c = record {
   followed = IsFollowed.seen_to
-      (subst (λ p. IsCaredFor g.P.HeardPorts.trips c.args.line_plan.now.line.now p c.see_to-2.new.ports)
-      (c.in_ok-has_looked.ensures.kept (ap Ok c.if-has_looked.false)) c.see_to-2.ensures.seen_to);
+      (subst (λ p. IsCaredFor g.P.HeardPorts.trips c.args.line_plan.now.line.now p c.go_beside.new.ports)
+      (c.in_ok-has_looked.ensures.kept (ap Ok c.if-has_looked-2.false)) c.go_beside.ensures.seen_to);
 }

@@ -1,0 +1,2 @@
+mod TurnLemmas
+pub mod Laws

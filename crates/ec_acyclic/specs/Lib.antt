@@ -1,0 +1,4 @@
+pub mod Next
+pub mod Question
+pub mod Talk
+pub mod Turn
