@@ -1,7 +1,10 @@
 //! The ends of lines that are reached by UDP, at any ports.
 
 ghost use Rattle.std.specs.Prelude.{◌≡◌, ◌<◌, length};
-ghost use Rattle.ecat_frames.specs.Ends.{begins_behind, end_in, is_from_line, port_in, told_at};
+ghost use Rattle.ecat_frames.specs.Ends.{begins_behind, end_in, is_from_line, is_of, port_in, told_at};
+ghost use Rattle.ecat_frames.specs.Ends.{told_by_way, told_of};
+ghost use Rattle.std.specs.Option.{option_map};
+ghost use Rattle.std.specs.Prelude.{◌&&◌, ◌||◌, ◌==◌, find};
 
 use crate::packet::{host_of, interface_of};
 use arrayvec::ArrayVec;
@@ -54,7 +57,10 @@ impl Peers {
     }
 
     /// Those of a packet the other way.
-    fn turned(self) -> Peers {
+    fn turned(self) -> Peers
+        ensures from { result.from ≡ self.to }
+        ensures to { result.to ≡ self.from }
+    {
         Peers {
             from: self.to,
             to: self.from,
@@ -62,12 +68,16 @@ impl Peers {
     }
 
     /// Are both at EtherCAT's own port? Then the ports tell nothing.
-    pub(crate) fn are_alike(self) -> bool {
+    pub(crate) fn are_alike(self) -> bool
+        ensures { result ≡ (port_in self.from == 34980) && (port_in self.to == 34980) }
+    {
         port_in(self.from) == ETHERCAT && port_in(self.to) == ETHERCAT
     }
 
     /// Is one of them?
-    fn are_known(self) -> bool {
+    fn are_known(self) -> bool
+        ensures { result ≡ (port_in self.from == 34980) || (port_in self.to == 34980) }
+    {
         port_in(self.from) == ETHERCAT || port_in(self.to) == ETHERCAT
     }
 }
@@ -180,6 +190,17 @@ fn told_at(outline: &Outline, end: u64, is_back: bool, other: u16) -> Outline
     }
 }
 
+/// What is told of a packet with these peers, which comes from the line or goes there.
+fn told_by_way(outline: &Outline, peers: Peers, is_back: bool) -> Outline
+    ensures { result ≡ told_by_way outline.now peers is_back }
+{
+    if is_back {
+        told_at(outline, peers.from, true, port_in(peers.to))
+    } else {
+        told_at(outline, peers.to, false, port_in(peers.from))
+    }
+}
+
 /// The pairs of sockets of a capture whose packets have frames.
 #[derive(Drop)]
 pub(crate) struct Ends {
@@ -195,7 +216,9 @@ impl Ends {
     }
 
     /// The pair of these peers, if it was looked at.
-    fn pair_of(&self, peers: Peers) -> Option<&Pair> {
+    fn pair_of(&self, peers: Peers) -> Option<&Pair>
+        ensures { option_map (λ pair. pair.now) result ≡ find (is_of peers) self.now.pairs.items }
+    {
         let turned = peers.turned();
         self.pairs
             .iter()
@@ -276,17 +299,17 @@ impl Ends {
     /// What is told of a packet with these peers: where it comes from the end of a line or goes to one, its
     /// source is that end, with the mark on what comes from there, and the port of the end counts as
     /// EtherCAT's own. Of a pair that was not looked at, other ports than that tell nothing.
-    pub(crate) fn told(&self, outline: &Outline, peers: Peers) -> Outline {
+    pub(crate) fn told(&self, outline: &Outline, peers: Peers) -> Outline
+        ensures { result ≡ told_of self.now.pairs.items outline.now peers }
+    {
         if peers.are_alike() {
             return *outline;
         }
         match self.pair_of(peers) {
-            Some(pair) => {
-                let is_back = pair.is_from_line(peers);
-                let other = if is_back { peers.to } else { peers.from };
-                told_at(outline, pair.end(), is_back, port_in(other))
+            Some(pair) => told_by_way(outline, peers, pair.is_from_line(peers)),
+            None if peers.are_known() => {
+                told_by_way(outline, peers, port_in(peers.from) == ETHERCAT)
             }
-            None if peers.are_known() => *outline,
             None => Outline {
                 ports: None,
                 ..*outline

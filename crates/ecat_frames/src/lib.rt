@@ -22,9 +22,9 @@
 //! Packets without an EtherCAT frame are passed over; how many of them were cut when they were captured, and
 //! how many packets are older than the one before, is noted ([`Notes`]).
 //!
-//! Promised is which socket of a pair is the end of a line, and what is told of a packet that comes from
-//! there or goes there (`specs/Ends.antt`); what is noted of packets that are taken (`specs/Notes.antt`);
-//! that any bytes are taken, and that all calls end. What is read is tested where it is used.
+//! Promised is which socket of a pair is the end of a line, and what is told of each packet by the pairs that
+//! were looked at (`specs/Ends.antt`); what is noted of packets that are taken (`specs/Notes.antt`); that any
+//! bytes are taken, and that all calls end. What is read is tested where it is used.
 //!
 //! - `packet`: the frame of a packet, and its outline.
 //! - `ends`: the ends of lines that are reached by UDP.

@@ -1,6 +1,7 @@
 pub mod Address
 pub mod Counts
 pub mod Cut
+pub mod Dates
 pub mod Digits
 pub mod Front
 pub mod Histogram
@@ -13,3 +14,4 @@ pub mod Shown
 pub mod Spans
 pub mod Stats
 pub mod Tally
+pub mod TripRows

@@ -72,16 +72,16 @@ columns_words style k datagram =
     ++ address_words datagram.command datagram.address ++ separator style
     ++ counted_words style datagram
 
--- the line of datagram k of a packet
-abbrev pub line_words : Style → Head → ℕ → DatagramRecord → List ℕ
-line_words style head k datagram =
-    head_words style head ++ columns_words style k datagram ++ data_words style datagram.payload ++ codes "\n"
+-- the line of datagram k of a packet whose lines all begin so
+abbrev pub line_words : Style → List ℕ → ℕ → DatagramRecord → List ℕ
+line_words style begin k datagram =
+    begin ++ columns_words style k datagram ++ data_words style datagram.payload ++ codes "\n"
 
 -- the lines of datagrams, of which the first has the number k
-abbrev pub lines_from : Style → Head → ℕ → List DatagramRecord → List ℕ
-lines_from style head k [] = []
-lines_from style head k (d ∷ ds) = line_words style head k d ++ lines_from style head (k + 1) ds
+abbrev pub lines_from : Style → List ℕ → ℕ → List DatagramRecord → List ℕ
+lines_from style begin k [] = []
+lines_from style begin k (d ∷ ds) = line_words style begin k d ++ lines_from style begin (k + 1) ds
 
 -- the lines of all datagrams of a packet
 abbrev pub lines_words : Style → Head → List DatagramRecord → List ℕ
-lines_words style head datagrams = lines_from style head 0 datagrams
+lines_words style head datagrams = lines_from style (head_words style head) 0 datagrams

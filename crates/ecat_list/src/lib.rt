@@ -52,8 +52,10 @@ mod shown;
 mod stats;
 mod tallying;
 mod text;
+mod trip_rows;
+mod walk;
 mod ways;
 
 pub use listing::{Asked, Form, Listed, list};
 pub use shown::{Shown, show};
-pub use tallying::{Sums, tally, tally_stream};
+pub use tallying::{OfTrips, tally, tally_stream};

@@ -4,7 +4,8 @@ ghost use Rattle.std.specs.Prelude.{length};
 ghost use Rattle.ec_wire.specs.Datagram.{nth};
 ghost use Rattle.ecat_list.specs.Front.{IsFront};
 ghost use Rattle.ecat_list.specs.Line.{behind_colons, columns_words, counted_words, counter_words};
-ghost use Rattle.ecat_list.specs.Line.{data_words, head_words, lines_words, nothing_words, separator};
+ghost use Rattle.ecat_list.specs.Line.{data_words, head_words, lines_from, lines_words, nothing_words};
+ghost use Rattle.ecat_list.specs.Line.{separator};
 ghost use Rattle.ecat_list.specs.Line.{since_words, source_words};
 ghost use Rattle.ecat_list.specs.Listing.{is_fault};
 ghost use Rattle.ecat_list.specs.Note.{end_words, note_line_words, note_words};
@@ -163,7 +164,7 @@ fn lead_source(row: &mut Row, style: Style, source: Option<[u8; 6]>)
 }
 
 /// The bytes of an address, parted by colons.
-fn parted(address: [u8; 6]) -> [u8; 17]
+pub(crate) fn parted(address: [u8; 6]) -> [u8; 17]
     ensures { result ≡ drop 1 (behind_colons address) }
 {
     [
@@ -215,6 +216,23 @@ pub(crate) fn put_datagrams(
         (text.old.items ++ lines_words style head.now frame.now)) }
 {
     make_head(first, style, head);
+    put_lines(text, first, row, style, frame)
+}
+
+/// Puts a line for each datagram of a frame, from the second row, each behind what the first one has.
+pub(crate) fn put_lines(
+    text: &mut Vec<u8>,
+    first: &Row,
+    row: &mut Row,
+    style: Style,
+    frame: &FrameBuf,
+) -> Result<(), AllocError>
+    requires short { ROOM ≤ first.now.from + 110 }
+    ensures ok { OnOk result (text.new.items ≡ text.old.items
+        ++ lines_from style (drop first.now.from first.now.bytes) 0 frame.now) }
+    ensures err { OnErr result (IsFront text.new.items (text.old.items
+        ++ lines_from style (drop first.now.from first.now.bytes) 0 frame.now)) }
+{
     for k in 0..frame.count() {
         lead_line(row, style, first, frame, k);
         put_row(text, row)?;
@@ -225,7 +243,7 @@ pub(crate) fn put_datagrams(
 /// Makes a row of the line of datagram `k` of a frame, which begins with the bytes of the first row.
 fn lead_line(row: &mut Row, style: Style, first: &Row, frame: &FrameBuf, k: usize)
     requires there { k < length frame.now }
-    requires short { ROOM ≤ first.now.from + 81 }
+    requires short { ROOM ≤ first.now.from + 110 }
     ensures { drop row.new.from row.new.bytes
         ≡ drop first.now.from first.now.bytes
         ++ columns_words style k (nth frame.now k)

@@ -1,39 +1,43 @@
-//! `ecat list --stats`: what is counted of the trips of a capture.
+//! `ecat list --stats`: the trips of a capture, summed up, or each of their packets.
 
 ghost use Rattle.std.specs.Prelude.{◌≤◌};
 
 use crate::date::put_date;
 use crate::group_lines::{Clock, put_group};
-use crate::listing::{Listed, PROGRESS_STEP, listed_of, tell_progress};
+use crate::listing::{Listed, listed_of};
 use crate::output::{Output, Stop};
 use crate::stats::Stats;
 use crate::text::put_decimal;
-use crate::ways::Ways;
+use crate::trip_rows::TripRows;
+use crate::walk::{Steps, Walk};
 use ec_wire::FrameBuf;
-use ecat_frames::{End, Frames, Looked, UNJOINED, look};
+use ecat_frames::{End, Frames, Looked, look};
 use ecat_source::Source;
-use ecat_trips::{Marks, Outline, Step, Trips};
+use ecat_trips::{Outline, Step};
 use std::alloc::{AllocError, Global};
 use std::io::Write;
 
-/// How sums are told.
+/// How the trips of a capture are told.
 #[derive(Clone, Copy, Debug, PartialEq, Eq)]
-pub struct Sums {
-    /// Are datagrams told apart by their indexes too?
+pub struct OfTrips {
+    /// Has each packet its rows of CSV, with the trip that it is of? Else the datagrams of all trips are
+    /// summed up.
+    pub each: bool,
+    /// Are datagrams told apart by their indexes too, where they are summed up?
     pub by_index: bool,
     /// Is it told now and then, on the second writer, how many packets were read?
     pub progress: bool,
 }
 
-/// Sums up the trips of a capture that is read twice: `first` and `again` have the same bytes ahead. The
-/// texts go to `out`; to `err` goes where progress is asked for how many packets were read again, and at the
-/// end what else is to be known: how many packets were cut, how many are older than the one before, and that
-/// one way alone was captured. A write to `err` that fails is passed over.
+/// Tells the trips of a capture that is read twice: `first` and `again` have the same bytes ahead. The texts
+/// go to `out`; to `err` goes where progress is asked for how many packets were read again, and at the end
+/// what else is to be known: how many packets were cut, how many are older than the one before, and that one
+/// way alone was captured. A write to `err` that fails is passed over.
 pub fn tally<S: Source + Drop, T: Source + Drop, W: Write, V: Write>(
     alloc: Global,
     first: S,
     again: T,
-    asked: Sums,
+    asked: OfTrips,
     out: &mut W,
     err: &mut V,
 ) -> Listed {
@@ -49,12 +53,12 @@ pub fn tally<S: Source + Drop, T: Source + Drop, W: Write, V: Write>(
     }
 }
 
-/// Sums up the trips of a stream, of which the first 4,096 frames are held, and tell with which addresses
-/// frames are sent and return. The texts go to `out` at its end.
+/// Tells the trips of a stream, of which the first 4,096 frames are held, and tell with which addresses
+/// frames are sent and return. Sums go to `out` at its end.
 pub fn tally_stream<S: Source + Drop, W: Write, V: Write>(
     alloc: Global,
     source: S,
-    asked: Sums,
+    asked: OfTrips,
     out: &mut W,
     err: &mut V,
 ) -> Listed {
@@ -64,29 +68,73 @@ pub fn tally_stream<S: Source + Drop, W: Write, V: Write>(
     }
 }
 
-/// Sums up the trips of frames.
+/// Tells the trips of frames.
 fn tally_frames<S: Source + Drop, W: Write, V: Write>(
     alloc: Global,
     frames: &mut Frames<S>,
-    asked: Sums,
+    asked: OfTrips,
     out: &mut W,
     err: &mut V,
 ) -> Listed {
-    let Ok(mut tallying) = Tallying::new(alloc, asked.by_index) else {
+    let Ok(mut walk) = Walk::new(alloc) else {
         return Listed::NoMemory;
     };
-    let read = match tallying.read_all(frames, asked.progress, err) {
+    let told = if asked.each {
+        write_rows(alloc, frames, &mut walk, asked, out, err)
+    } else {
+        sum_up(alloc, frames, &mut walk, asked, out, err)
+    };
+    if matches!(told, Listed::Whole | Listed::Damaged(_)) {
+        walk.tell(frames, err);
+    }
+    told
+}
+
+/// Writes the rows of each packet.
+fn write_rows<S: Source + Drop, W: Write, V: Write>(
+    alloc: Global,
+    frames: &mut Frames<S>,
+    walk: &mut Walk,
+    asked: OfTrips,
+    out: &mut W,
+    err: &mut V,
+) -> Listed {
+    let mut rows = match TripRows::new(Output::new(alloc, out, false)) {
+        Ok(rows) => rows,
+        Err(stop) => return listed_of(stop),
+    };
+    let read = match walk.go(frames, &mut rows, asked.progress, err) {
         Ok(()) => listed_by_end(frames.end()),
-        Err(AllocError) => Listed::NoMemory,
+        Err(stop) => return listed_of(stop),
+    };
+    ended(read, rows.finish())
+}
+
+/// Sums up the trips.
+fn sum_up<S: Source + Drop, W: Write, V: Write>(
+    alloc: Global,
+    frames: &mut Frames<S>,
+    walk: &mut Walk,
+    asked: OfTrips,
+    out: &mut W,
+    err: &mut V,
+) -> Listed {
+    let mut sums = Sums {
+        by_index: asked.by_index,
+        stats: Stats::new(alloc),
+    };
+    let read = match walk.go(frames, &mut sums, asked.progress, err) {
+        Ok(()) => listed_by_end(frames.end()),
+        Err(stop) => listed_of(stop),
     };
     let mut output = Output::new(alloc, out, false);
-    match tallying.put(frames, &mut output) {
-        Ok(()) => {
-            if matches!(read, Listed::Whole | Listed::Damaged(_)) {
-                tallying.tell(frames, err);
-            }
-            read
-        }
+    ended(read, sums.put(frames, walk, &mut output))
+}
+
+/// How a listing ended whose reading ended so, and then its writing so.
+fn ended(read: Listed, written: Result<(), Stop>) -> Listed {
+    match written {
+        Ok(()) => read,
         Err(stop) => match read {
             Listed::Closed | Listed::OutputFailed | Listed::NoMemory => read,
             Listed::Whole | Listed::Damaged(_) | Listed::SourceFailed => listed_of(stop),
@@ -106,88 +154,24 @@ fn listed_by_end(end: End) -> Listed {
 
 /// Sums under way.
 #[derive(Drop)]
-struct Tallying {
+struct Sums {
     by_index: bool,
-    trips: Trips,
     stats: Stats,
-    ways: Ways,
 }
 
-impl Tallying {
-    /// Of no frame.
-    fn new(alloc: Global, by_index: bool) -> Result<Tallying, AllocError> {
-        Ok(Tallying {
-            by_index,
-            trips: Trips::new(alloc)?,
-            stats: Stats::new(alloc),
-            ways: Ways::new(),
-        })
-    }
-
-    /// Takes all frames.
-    fn read_all<S: Source + Drop, V: Write>(
-        &mut self,
-        frames: &mut Frames<S>,
-        progress: bool,
-        err: &mut V,
-    ) -> Result<(), AllocError> {
-        let mut steps = 0;
-        for _ in 0..u64::MAX {
-            let Some(packet) = frames.next() else {
-                break;
-            };
-            self.take(frames.marks(), &packet, frames.frame())?;
-            let now = frames.packets() / PROGRESS_STEP;
-            if progress && steps < now {
-                steps = now;
-                tell_progress(now.saturating_mul(PROGRESS_STEP), err);
-            }
-        }
+impl Steps for Sums {
+    fn take(&mut self, packet: &Outline, frame: &FrameBuf, step: &Step) -> Result<(), Stop> {
+        self.stats.take_step(self.by_index, packet, frame, step)?;
         Ok(())
     }
+}
 
-    /// Takes a frame.
-    fn take(
-        &mut self,
-        marks: &Marks,
-        packet: &Outline,
-        frame: &FrameBuf,
-    ) -> Result<(), AllocError> {
-        for _ in 0..u64::MAX {
-            let step = self.trips.take(marks, packet, frame)?;
-            self.stats.take_step(self.by_index, packet, frame, &step)?;
-            let is_taken = self.take_way(&step);
-            self.trips.reuse(step);
-            if is_taken {
-                break;
-            }
-        }
-        Ok(())
-    }
-
-    /// Takes what tells the way of the packet, if it is taken; is it?
-    fn take_way(&mut self, step: &Step) -> bool {
-        match step {
-            Step::Ended(_) => false,
-            Step::Taken(told, _) => {
-                self.ways.take(*told);
-                true
-            }
-        }
-    }
-
-    /// Tells what else is to be known of the capture.
-    fn tell<S: Source + Drop, V: Write>(&self, frames: &Frames<S>, err: &mut V) {
-        frames.notes().tell(err);
-        if self.ways.are_one() {
-            let _ = err.write_all(UNJOINED);
-        }
-    }
-
+impl Sums {
     /// Puts all sums, and writes them.
     fn put<S: Source + Drop, W: Write>(
         &self,
         frames: &Frames<S>,
+        walk: &Walk,
         output: &mut Output<'_, W>,
     ) -> Result<(), Stop> {
         let clock = Clock {
@@ -195,7 +179,7 @@ impl Tallying {
             fine: frames.is_fine(),
         };
         put_packets(&mut output.text, clock, frames.packets())?;
-        self.ways.put(&mut output.text)?;
+        walk.ways.put(&mut output.text)?;
         for place in 0..self.stats.count() {
             if let Some((key, group)) = self.stats.group(place) {
                 put_group(&mut output.text, clock, self.by_index, key, group)?;

@@ -3,7 +3,7 @@
 use crate::chance::Chance;
 use crate::digest::Digest;
 use crate::packets::{Model, models};
-use ecat_list::{Asked, Form, Listed, Sums, list, tally};
+use ecat_list::{Asked, Form, Listed, OfTrips, list, tally};
 use ecat_source::Counted;
 use std::alloc::{AllocError, Global};
 use std::io::{self, ErrorKind, Read};
@@ -182,7 +182,8 @@ pub(crate) fn listed(alloc: Global, seed: u32, packets: u64) -> Option<u64> {
 pub(crate) fn tallied(alloc: Global, seed: u32, packets: u64) -> Option<u64> {
     let first = Tape::new(alloc, seed, packets, true).ok()?;
     let again = Tape::new(alloc, seed, packets, true).ok()?;
-    let asked = Sums {
+    let asked = OfTrips {
+        each: false,
         by_index: false,
         progress: false,
     };

@@ -1,12 +1,13 @@
 //! Sums of captures whose outputs and sources fail.
 use super::samples::CUT;
 use crate::outputs::Fails;
-use ecat_list::{Listed, Sums, tally};
+use ecat_list::{Listed, OfTrips, tally};
 use ecat_source::{Bytes, FailsAt};
 use std::io::{Cursor, ErrorKind};
 
 /// Sums not told apart by the index.
-const SUMS: Sums = Sums {
+const SUMS: OfTrips = OfTrips {
+    each: false,
     by_index: false,
     progress: false,
 };
