@@ -1,8 +1,12 @@
 //! The differences that were found, each kind of them once.
 
+ghost use Rattle.std.specs.Prelude.{◌≡◌, ◌<◌, ◌++◌, [], ◌∷◌, IfSome, OnErr, OnOk, length, position};
+ghost use Rattle.std.specs.Prelude.{slice_index_or, slice_set};
+
 use crate::difference::{Difference, Kind};
 use crate::part::Part;
 use std::alloc::{AllocError, Global};
+use std::marker::Model;
 
 /// How many kinds of differences are told apart.
 pub(crate) const MOST_FINDINGS: usize = 512;
@@ -21,13 +25,13 @@ pub(crate) struct Finding {
 }
 
 impl Finding {
+    ghost use Rattle.ecat_replay.specs.Findings.{is_of};
+
     /// Is a difference one of this kind? The bytes of one part are one kind.
-    fn is_of(&self, part: &Part, kind: Kind) -> bool {
-        self.part == *part
-            && match (self.difference.kind, kind) {
-                (Kind::Data(_), Kind::Data(_)) => true,
-                (one, other) => one == other,
-            }
+    fn is_of(&self, part: &Part, kind: Kind) -> bool
+        ensures { result ≡ is_of part.now kind self.now }
+    {
+        self.part.is_same(part) && self.difference.kind.is_same(kind)
     }
 }
 
@@ -39,9 +43,22 @@ pub(crate) struct Findings {
     pub more: u64,
 }
 
+impl Model for Findings {
+    ghost use Rattle.ecat_replay.specs.Findings.{FindingsState};
+
+    ghost Value = { FindingsState };
+
+    ghost view = { λ f. record { all = f.all.items; more = f.more } };
+}
+
 impl Findings {
+    ghost use Rattle.ecat_replay.specs.declared.findings.Finding.{Finding};
+    ghost use Rattle.ecat_replay.specs.Findings.{first_found, found, is_of, none_found, once_more};
+
     /// None was found.
-    pub(crate) fn new(alloc: Global) -> Findings {
+    pub(crate) fn new(alloc: Global) -> Findings
+        ensures { result ≡ none_found }
+    {
         Findings {
             all: Vec::new(alloc),
             more: 0,
@@ -49,26 +66,37 @@ impl Findings {
     }
 
     /// Those that are told apart.
-    pub(crate) fn all(&self) -> &[Finding] {
+    pub(crate) fn all(&self) -> &[Finding]
+        ensures { result.now ≡ self.now.all }
+    {
         self.all.as_slice()
     }
 
-    /// Takes a difference, of what was sent in this packet.
-    pub(crate) fn take(
-        &mut self,
-        part: Part,
-        difference: Difference,
-        packet: u64,
-    ) -> Result<(), AllocError> {
-        let kind = difference.kind;
-        if let Some(finding) = self.all.iter_mut().find(|one| one.is_of(&part, kind)) {
-            finding.times = finding.times.saturating_add(1);
-            return Ok(());
-        }
-        if MOST_FINDINGS <= self.all.len() {
-            self.more = self.more.saturating_add(1);
-            return Ok(());
-        }
+    /// The place of a kind of difference, if it was found before.
+    fn place_of(&self, part: &Part, kind: Kind) -> Option<usize>
+        ensures value { result ≡ position (is_of part.now kind) self.now.all }
+        ensures within { IfSome result (λ i. i < length self.now.all) }
+    {
+        self.all.iter().position(|one| one.is_of(part, kind))
+    }
+
+    /// One more difference of the kind at a place.
+    fn count_at(&mut self, i: usize)
+        requires { i < length self.old.all }
+        ensures { (f : Finding) → self.new ≡ record self.old {
+          all = slice_set self.old.all i (once_more (slice_index_or self.old.all i f));
+        } }
+    {
+        self.all[i].times = self.all[i].times.saturating_add(1);
+    }
+
+    /// The first difference of a kind.
+    fn add(&mut self, part: Part, difference: Difference, packet: u64) -> Result<(), AllocError>
+        ensures added { OnOk result (self.new ≡ record self.old {
+          all = self.old.all ++ first_found part difference packet ∷ [];
+        }) }
+        ensures kept { OnErr result (self.new ≡ self.old) }
+    {
         self.all.push(Finding {
             part,
             difference,
@@ -76,5 +104,30 @@ impl Findings {
             times: 1,
         })?;
         Ok(())
+    }
+
+    /// Takes a difference, of what was sent in this packet: one more of its kind, which keeps the first one;
+    /// or the first of a kind. Where memory is refused, nothing has changed.
+    #[tactic(auto, unfolding(crate::specs::Findings::found))]
+    pub(crate) fn take(
+        &mut self,
+        part: Part,
+        difference: Difference,
+        packet: u64,
+    ) -> Result<(), AllocError>
+        ensures found { OnOk result (self.new ≡ found part difference packet self.old) }
+        ensures kept { OnErr result (self.new ≡ self.old) }
+    {
+        match self.place_of(&part, difference.kind) {
+            Some(i) => {
+                self.count_at(i);
+                Ok(())
+            }
+            None if self.all.len() < MOST_FINDINGS => self.add(part, difference, packet),
+            None => {
+                self.more = self.more.saturating_add(1);
+                Ok(())
+            }
+        }
     }
 }

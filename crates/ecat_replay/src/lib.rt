@@ -25,20 +25,41 @@
 //! - `difference`: how the answer of the line differs from that of the capture.
 //! - `findings`: the differences, each kind of them once; `tally`: how many there were.
 //! - `player`: the line, to which one frame after the other is sent.
+//! - `comparison`: a trip on the line, and what is found of its answers.
 //! - `replay`: packet after packet; `text`: the lines that are told.
 //!
 //! Compared are how far working counters moved, how many slaves were passed where the address counts them,
 //! and the data of registers and mailboxes that were read. Of process data the counters are compared alone:
 //! what a process does is no part of a line. Registers of distributed clocks (IEC 61158-6-12, 0x0900 to
-//! 0x09FF) are counted apart. Of the line nothing is promised here but what `ecat_serve` promises; which
-//! register is a clock's, and how answers are counted, is proved ([`Tally::count`], [`Part::is_clock`]).
+//! 0x09FF) are counted apart.
+//!
+//! What is promised:
+//!
+//! - [`Part::of`] and [`Part::is_clock`]: whom a datagram asks, and whether for a register of clocks;
+//! - [`Answer::difference`] and [`unanswered`]: the first thing in which the line's answer differs from the
+//!   one in the capture, with both values (`specs/Differences.antt`); it differs in nothing exactly where the
+//!   two are alike ([`alike_answers`]);
+//! - each kind of difference is found once, with the first one, its packet, and how often there was one; of
+//!   kinds past the 512th it is counted how many differences there were (`specs/Findings.antt`);
+//! - [`Player::play`]: each copy of a frame is answered as `ecat_serve` answers a packet at that end, and
+//!   what leaves is joined (`specs/Playing.antt`);
+//! - [`Replay::take`] and [`Replay::end`]: a trip goes to the line once it has ended, and each of its own
+//!   datagrams is compared with the line's answer to it (`specs/Comparing.antt`, `specs/Replaying.antt`);
+//! - [`Tally::count`] counts each answer once, and [`Tally::is_like`] says that some was compared, and that
+//!   none differs by anything but clocks;
+//! - behind any packets the sums add up ([`sums_add_up`]).
+//!
+//! Of the line nothing is promised here but what `ecat_serve` promises. Where memory is refused, a trip may
+//! have been compared in part, and the replay ends.
 //!
 //! It takes what `ecat_trips` takes, and 40 KB for the differences.
 
+mod comparison;
 mod difference;
 mod findings;
 mod part;
 mod player;
+mod promises;
 mod replay;
 mod tally;
 mod text;
@@ -46,5 +67,6 @@ mod text;
 pub use difference::{Answer, Difference, Kind, unanswered};
 pub use part::{Part, Whom};
 pub use player::Player;
+pub use promises::{alike_answers, sums_add_up};
 pub use replay::Replay;
 pub use tally::{Outcome, Tally};

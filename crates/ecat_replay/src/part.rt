@@ -1,7 +1,9 @@
 //! Whom a datagram asks, and for what.
 
 ghost use Rattle.std.specs.Prelude.{◌≡◌, ◌<◌, length};
-ghost use Rattle.ecat_replay.specs.Parts.{has_registers, is_clock};
+ghost use Rattle.ec_wire.specs.Datagram.{nth};
+ghost use Rattle.ecat_replay.specs.Findings.{same_part, same_whom};
+ghost use Rattle.ecat_replay.specs.Parts.{has_registers, is_clock, part_of, register_of, whom_of};
 
 use ec_wire::{Command, FrameBuf};
 
@@ -28,6 +30,34 @@ pub enum Whom {
 }
 
 impl Whom {
+    /// Whom a command with this ADP asks: each slave counts up an ADP that names a place, and the slave at
+    /// that place sees 0.
+    fn of(command: Command, adp: u16) -> Whom
+        ensures { result ≡ whom_of command adp }
+    {
+        match command {
+            Command::Lrd | Command::Lwr | Command::Lrw => Whom::Mapped,
+            Command::Aprd | Command::Apwr | Command::Aprw | Command::Armw => {
+                Whom::Place(0u16.wrapping_sub(adp))
+            }
+            Command::Fprd | Command::Fpwr | Command::Fprw | Command::Frmw => Whom::Station(adp),
+            Command::Nop | Command::Brd | Command::Bwr | Command::Brw => Whom::All,
+        }
+    }
+
+    /// Are the same slaves asked?
+    fn is_same(self, other: Whom) -> bool
+        ensures { result ≡ same_whom self other }
+    {
+        match (self, other) {
+            (Whom::All, Whom::All) | (Whom::Mapped, Whom::Mapped) => true,
+            (Whom::Place(one), Whom::Place(other)) | (Whom::Station(one), Whom::Station(other)) => {
+                one == other
+            }
+            (_, _) => false,
+        }
+    }
+
     /// Is an address a register, and no logical address?
     fn has_registers(self) -> bool
         ensures { result ≡ has_registers self }
@@ -51,20 +81,17 @@ pub struct Part {
 
 impl Part {
     /// What the datagram at `k` of a frame asks for.
+    #[tactic(auto, unfolding(crate::specs::Parts::part_of))]
     pub fn of(frame: &FrameBuf, k: usize) -> Part
         requires { k < length frame.now }
+        ensures { result ≡ part_of (nth frame.now k) }
     {
         let command = frame.command(k);
-        let register = u32::from(frame.ado(k));
-        let (whom, address) = match command {
-            Command::Lrd | Command::Lwr | Command::Lrw => (Whom::Mapped, frame.address(k)),
-            Command::Aprd | Command::Apwr | Command::Aprw | Command::Armw => {
-                (Whom::Place(frame.adp(k).wrapping_neg()), register)
-            }
-            Command::Fprd | Command::Fpwr | Command::Fprw | Command::Frmw => {
-                (Whom::Station(frame.adp(k)), register)
-            }
-            Command::Nop | Command::Brd | Command::Bwr | Command::Brw => (Whom::All, register),
+        let whom = Whom::of(command, frame.adp(k));
+        let address = if whom.has_registers() {
+            u32::from(frame.ado(k))
+        } else {
+            frame.address(k)
         };
         Part {
             command,
@@ -72,6 +99,16 @@ impl Part {
             address,
             count: frame.data(k).len(),
         }
+    }
+
+    /// Is it one part of the line?
+    pub(crate) fn is_same(&self, other: &Part) -> bool
+        ensures { result ≡ same_part self.now other.now }
+    {
+        self.command.code() == other.command.code()
+            && self.whom.is_same(other.whom)
+            && self.address == other.address
+            && self.count == other.count
     }
 
     /// Is its address a register of distributed clocks, 0x0900 to 0x09FF?
@@ -82,10 +119,13 @@ impl Part {
     }
 
     /// The register where it begins, where it has one.
-    pub(crate) fn register(&self) -> Option<u16> {
-        match self.whom {
-            Whom::Mapped => None,
-            _ => u16::try_from(self.address).ok(),
+    pub(crate) fn register(&self) -> Option<u16>
+        ensures { result ≡ register_of self.now }
+    {
+        if self.whom.has_registers() {
+            u16::try_from(self.address).ok()
+        } else {
+            None
         }
     }
 }

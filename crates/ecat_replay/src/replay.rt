@@ -1,45 +1,74 @@
 //! The packets of a capture, one after the other.
 
-ghost use Rattle.std.specs.Prelude.{◌<◌, length};
+ghost use Rattle.std.specs.Prelude.{◌≡◌, [], IfOk, OnOk};
+ghost use Rattle.ecat_replay.specs.Replaying.{is_taken};
 
-use crate::difference::{Answer, Difference, unanswered};
-use crate::findings::Findings;
-use crate::part::Part;
+use crate::comparison::Comparison;
 use crate::player::Player;
-use crate::tally::{Outcome, Tally};
+use crate::tally::Tally;
 use ec_wire::FrameBuf;
 use ecat_serve::Served;
-use ecat_trips::{Fate, Marks, Outline, Step, Trip, Trips, own_count};
+use ecat_trips::{Fate, Marks, Outline, Step, Trips};
 use std::alloc::{AllocError, Global};
+use std::marker::Model;
 
 /// A capture that is sent to a line once more, and what was found so far.
 #[derive(Drop)]
 pub struct Replay {
     trips: Trips,
-    player: Player,
-    pub(crate) findings: Findings,
-    tally: Tally,
+    pub(crate) comparison: Comparison,
+}
+
+impl Model for Replay {
+    ghost use Rattle.ecat_replay.specs.Replaying.{ReplayState};
+
+    ghost Value = { ReplayState };
+
+    ghost view = { λ r. record { trips = r.trips; comparison = r.comparison } };
+}
+
+/// Is a packet taken by what happened?
+fn is_taken(step: &Step) -> bool
+    ensures { result ≡ is_taken step.now }
+{
+    match step {
+        Step::Ended(_) => false,
+        Step::Taken(_, _) => true,
+    }
 }
 
 impl Replay {
+    ghost use Rattle.ecat_replay.specs.Comparing.{AreCompared};
+    ghost use Rattle.ecat_replay.specs.Findings.{none_found};
+    ghost use Rattle.ecat_replay.specs.Replaying.{Happens, Takes};
+    ghost use Rattle.ecat_replay.specs.Tallies.{nothing_sent};
+    ghost use Rattle.ecat_trips.specs.Steps.{step};
+
     /// Nothing was sent yet to this line.
-    pub fn new(alloc: Global, served: Served) -> Result<Replay, AllocError> {
+    pub fn new(alloc: Global, served: Served) -> Result<Replay, AllocError>
+        ensures { IfOk result (λ replay. replay ≡ record {
+          trips = record { on_the_way = []; lost = [] };
+          comparison = record { line = served; findings = none_found; tally = nothing_sent };
+        }) }
+    {
         Ok(Replay {
             trips: Trips::new(alloc)?,
-            player: Player::new(served),
-            findings: Findings::new(alloc),
-            tally: Tally::default(),
+            comparison: Comparison::new(alloc, served),
         })
     }
 
     /// How many there were so far.
-    pub fn tally(&self) -> &Tally {
-        &self.tally
+    pub fn tally(&self) -> &Tally
+        ensures { result.now ≡ self.now.comparison.tally }
+    {
+        &self.comparison.tally
     }
 
     /// The line.
-    pub(crate) fn player(&self) -> &Player {
-        &self.player
+    pub(crate) fn player(&self) -> &Player
+        ensures { result.now ≡ self.now.comparison.line }
+    {
+        &self.comparison.player
     }
 
     /// Takes the next packet of the capture: a frame that was sent goes to the line once what came back of it
@@ -49,94 +78,73 @@ impl Replay {
         marks: &Marks,
         packet: &Outline,
         frame: &FrameBuf,
-    ) -> Result<(), AllocError> {
-        for _ in 0..u64::MAX {
-            let step = self.trips.take(marks, packet, frame)?;
-            let is_taken = self.take_step(&step)?;
-            self.trips.reuse(step);
-            if is_taken {
+    ) -> Result<(), AllocError>
+        ensures { OnOk result (Takes marks.now packet.now frame.now self.old self.new) }
+    {
+        for _turn in 0..u64::MAX {
+            if self.go_on(marks, packet, frame)? {
                 break;
             }
         }
         Ok(())
     }
 
-    /// Takes what happened by a packet, and says whether that is taken by now.
-    fn take_step(&mut self, step: &Step) -> Result<bool, AllocError> {
-        match step {
-            Step::Ended(kept) => {
-                self.play(kept.trip())?;
-                return Ok(false);
-            }
-            Step::Taken(_, Fate::Closes(kept) | Fate::Replaces(kept)) => self.play(kept.trip())?,
-            Step::Taken(_, Fate::Late) => self.tally.count_late(),
-            Step::Taken(_, Fate::Stray) => self.tally.count_stray(),
-            Step::Taken(_, Fate::Begins | Fate::Second(_) | Fate::Back(_)) => {}
-        }
-        Ok(true)
+    /// Takes the next thing that happens by a packet, and says whether that is taken by now.
+    fn go_on(
+        &mut self,
+        marks: &Marks,
+        packet: &Outline,
+        frame: &FrameBuf,
+    ) -> Result<bool, AllocError>
+        ensures taken { IfOk result (λ taken.
+            taken ≡ is_taken (step marks.now packet.now frame.now self.old.trips).step) }
+        ensures happens { OnOk result (Happens marks.now packet.now frame.now self.old self.new) }
+    {
+        let step = self.trips.take(marks, packet, frame)?;
+        self.comparison.follow(&step)?;
+        let taken = is_taken(&step);
+        self.trips.reuse(step);
+        Ok(taken)
     }
 
     /// Takes what is on the way where the capture ends.
-    pub fn end(&mut self) -> Result<(), AllocError> {
-        let Replay {
-            trips,
-            player,
-            findings,
-            tally,
-        } = self;
-        for kept in trips.trips().iter().rev() {
-            play_trip(player, findings, tally, kept.trip())?;
+    pub fn end(&mut self) -> Result<(), AllocError>
+        ensures { OnOk result
+            (AreCompared self.old.trips.on_the_way self.old.comparison self.new.comparison) }
+    {
+        let Replay { trips, comparison } = self;
+        comparison.play_all(trips.trips())
+    }
+}
+
+impl Comparison {
+    ghost use Rattle.ecat_replay.specs.Replaying.{Follows, FollowsFate};
+
+    /// Takes what happened by a packet.
+    fn follow(&mut self, step: &Step) -> Result<(), AllocError>
+        ensures { OnOk result (Follows step.now self.old self.new) }
+    {
+        match step {
+            Step::Ended(kept) => self.play(kept.trip()),
+            Step::Taken(_, fate) => self.follow_fate(fate),
         }
-        Ok(())
     }
 
-    /// Sends what a trip sent to the line once more, and compares.
-    fn play(&mut self, trip: &Trip) -> Result<(), AllocError> {
-        play_trip(&mut self.player, &mut self.findings, &mut self.tally, trip)
-    }
-}
-
-/// How a line answered the datagram at `k` of a frame otherwise than the capture has it, if it did.
-fn difference_of(
-    player: &Player,
-    sent: &FrameBuf,
-    there: &FrameBuf,
-    here: Option<&FrameBuf>,
-    k: usize,
-) -> Option<Difference>
-    requires { k < length sent.now }
-{
-    let Some(here) = here else {
-        return unanswered(sent, there, k);
-    };
-    let part = Part::of(sent, k);
-    let mailbox = player.mailbox_of(&part);
-    Answer { sent, there, here }.difference(k, &part, mailbox)
-}
-
-/// Sends what a trip sent to a line once more, and compares what comes back with what came back of the trip.
-fn play_trip(
-    player: &mut Player,
-    findings: &mut Findings,
-    tally: &mut Tally,
-    trip: &Trip,
-) -> Result<(), AllocError> {
-    let here = player.play(&trip.sent.frame, trip.second.is_some());
-    tally.count_frame(trip.came.is_some());
-    let Some(came) = &trip.came else {
-        return Ok(());
-    };
-    let sent = &trip.sent.frame;
-    for k in 0..own_count(sent) {
-        let part = Part::of(sent, k);
-        match difference_of(player, sent, came.frame(), here.as_ref(), k) {
-            None => tally.count(Outcome::Alike),
-            Some(_) if part.is_clock() => tally.count(Outcome::OfClocks),
-            Some(difference) => {
-                tally.count(Outcome::Other);
-                findings.take(part, difference, trip.first.number)?;
+    /// Takes a packet by what it is.
+    fn follow_fate(&mut self, fate: &Fate) -> Result<(), AllocError>
+        ensures { OnOk result (FollowsFate fate.now self.old self.new) }
+    {
+        match fate {
+            Fate::Closes(kept) | Fate::Replaces(kept) => self.play(kept.trip()),
+            Fate::Late => {
+                self.tally.count_late();
+                Ok(())
             }
+            Fate::Stray => {
+                self.tally.count_stray();
+                Ok(())
+            }
+            Fate::Begins | Fate::Second(_) | Fate::Back(_) => Ok(()),
         }
     }
-    Ok(())
 }

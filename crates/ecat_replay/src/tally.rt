@@ -1,7 +1,8 @@
 //! How many frames and datagrams were answered as the capture has it.
 
 ghost use Rattle.std.specs.Prelude.{◌≡◌};
-ghost use Rattle.ecat_replay.specs.Tallies.{counted, is_like};
+ghost use Rattle.ecat_replay.specs.Tallies.{counted, counted_frame, counted_late, counted_stray, is_like};
+ghost use Rattle.ecat_replay.specs.Tallies.{nothing_sent};
 
 /// How a datagram was answered.
 #[derive(Clone, Copy, PartialEq, Eq, Debug)]
@@ -38,6 +39,23 @@ pub struct Tally {
 }
 
 impl Tally {
+    /// Nothing was sent yet.
+    pub(crate) fn none() -> Tally
+        ensures { result ≡ nothing_sent }
+    {
+        Tally {
+            frames: 0,
+            answered: 0,
+            lost: 0,
+            late: 0,
+            strays: 0,
+            datagrams: 0,
+            alike: 0,
+            clocks: 0,
+            other: 0,
+        }
+    }
+
     /// Counts one more datagram that was compared.
     pub fn count(&mut self, outcome: Outcome)
         ensures { self.new ≡ counted outcome self.old }
@@ -58,7 +76,9 @@ impl Tally {
     }
 
     /// Counts a frame that was sent, of which a copy came back in the capture, or none.
-    pub(crate) fn count_frame(&mut self, is_answered: bool) {
+    pub(crate) fn count_frame(&mut self, is_answered: bool)
+        ensures { self.new ≡ counted_frame is_answered self.old }
+    {
         self.frames = self.frames.saturating_add(1);
         if is_answered {
             self.answered = self.answered.saturating_add(1);
@@ -68,12 +88,16 @@ impl Tally {
     }
 
     /// Counts a frame that came back late.
-    pub(crate) fn count_late(&mut self) {
+    pub(crate) fn count_late(&mut self)
+        ensures { self.new ≡ counted_late self.old }
+    {
         self.late = self.late.saturating_add(1);
     }
 
     /// Counts a frame that came back of nothing that was sent.
-    pub(crate) fn count_stray(&mut self) {
+    pub(crate) fn count_stray(&mut self)
+        ensures { self.new ≡ counted_stray self.old }
+    {
         self.strays = self.strays.saturating_add(1);
     }
 }

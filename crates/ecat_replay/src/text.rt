@@ -62,11 +62,11 @@ impl Replay {
     /// Writes each kind of difference once, with the packet in which was sent what was first answered so, and
     /// how often there was one: `there` is in the capture, `here` at the line.
     pub fn put_findings<W: Write>(&self, out: &mut W) -> io::Result<()> {
-        for finding in self.findings.all() {
+        for finding in self.comparison.findings.all() {
             self.put_finding(finding, out)?;
         }
-        if self.findings.more != 0 {
-            let more = self.findings.more;
+        if self.comparison.findings.more != 0 {
+            let more = self.comparison.findings.more;
             writeln!(out, "further differences {more}")?;
         }
         Ok(())
