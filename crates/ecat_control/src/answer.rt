@@ -30,6 +30,8 @@ pub(crate) enum Answer {
     Counts,
     /// How long they took is told.
     Times,
+    /// A slave is asked, and it is answered once that came to an end.
+    Later,
 }
 
 impl Answer {
@@ -47,6 +49,7 @@ impl Answer {
         lines: &mut Lines<'_, W>,
     ) -> io::Result<()> {
         match self {
+            Answer::Later => return Ok(()),
             Answer::Done | Answer::Set => {}
             Answer::Refused(refusal) => {
                 lines.text(refusal)?;

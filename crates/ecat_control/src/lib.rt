@@ -5,7 +5,8 @@
 //! - [`ControlTask`] is the `ecat_master::Task` of such an input: what it sets are the outputs of the cycles
 //!   from the next one on, and what it asks for is written to the master's output behind that cycle.
 //! - [`Stopping`] is the pace of a master that such an input may end.
-//! - [`Request`] is what a line says; [`Outputs`] are the outputs that lines change.
+//! - [`Request`] is what a line says; [`Outputs`] are the outputs that lines change. What a line asks of a
+//!   slave, its object or its state, the master does beside its cycles, one at a time.
 //!
 //! One use; `course` has a work whose first item writes three bytes, `input` is the standard one, and `pace`
 //! has any number of cycles:
@@ -37,6 +38,7 @@
 //! What an input brings is up to the system. What a line says is tested.
 
 mod answer;
+mod asking;
 mod change;
 mod held;
 mod image;

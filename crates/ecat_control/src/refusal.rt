@@ -23,6 +23,8 @@ pub enum Fault {
     NoOutputs,
     /// The item has no such bytes.
     OutOfRange,
+    /// A slave is being asked for something else.
+    Busy,
 }
 
 impl Fault {
@@ -38,6 +40,7 @@ impl Fault {
             Fault::NoItem => "NoItem",
             Fault::NoOutputs => "NoOutputs",
             Fault::OutOfRange => "OutOfRange",
+            Fault::Busy => "Busy",
         }
     }
 }

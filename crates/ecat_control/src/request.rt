@@ -2,8 +2,10 @@
 
 use crate::change::{Change, MOST_PLACES, Place};
 use crate::refusal::{Fault, Refusal};
-use crate::words::{Words, is_text, number, put_row, words_of};
+use crate::words::{Words, byte, is_text, number, put_row, short, value_of, words_of};
+use ec_acyclic::Service;
 use ec_regs::AlState;
+use ecat_master::Asked;
 
 /// Bytes of an item.
 #[derive(Clone, Copy, PartialEq, Eq, Debug)]
@@ -31,6 +33,8 @@ pub enum Request {
     Counts,
     /// `times`
     Times,
+    /// `sdo STATION INDEX SUB [VALUE]`, `state STATION STATE` or `acknowledge STATION`
+    Ask(Asked),
     /// `leave STATE`
     Leave(AlState),
     /// `quit`
@@ -43,8 +47,14 @@ pub(crate) const SET: &str = "set ITEM OFFSET BYTES; ..";
 /// The form of `get`.
 pub(crate) const GET: &str = "get ITEM [OFFSET LENGTH]";
 
+/// The form of `sdo`.
+const SDO: &str = "sdo STATION INDEX SUB [VALUE]";
+
+/// The form of `state`.
+const STATE: &str = "state STATION init|pre-op|safe-op|op";
+
 /// The words of all lines.
-const ALL: &str = "set, get, slaves, cable, counts, times, leave or quit";
+const ALL: &str = "set, get, slaves, cable, counts, times, sdo, state, acknowledge, leave or quit";
 
 impl Request {
     /// What a line asks for, or its first fault in the order of [`Fault`]. Any bytes are taken. The places of
@@ -70,6 +80,9 @@ impl Request {
             b"cable" => wanting("cable", alone(&words, Request::Cable)),
             b"counts" => wanting("counts", alone(&words, Request::Counts)),
             b"times" => wanting("times", alone(&words, Request::Times)),
+            b"sdo" => wanting(SDO, read_sdo(&words)),
+            b"state" => wanting(STATE, read_state(&words)),
+            b"acknowledge" => wanting("acknowledge STATION", read_acknowledge(&words)),
             b"leave" => wanting("leave init|pre-op|safe-op|op", read_leave(&words)),
             b"quit" => wanting("quit", alone(&words, Request::Quit)),
             _ => wanting(ALL, Err(Fault::UnknownWord)),
@@ -143,16 +156,59 @@ fn read_get(words: &Words<'_>) -> Result<Request, Fault> {
     }
 }
 
+/// `sdo STATION INDEX SUB` or `sdo STATION INDEX SUB VALUE`
+fn read_sdo(words: &Words<'_>) -> Result<Request, Fault> {
+    match words.as_slice() {
+        [_, station, index, sub] => {
+            let (station, index, sub) = (short(station)?, short(index)?, byte(sub)?);
+            asking(station, Service::Read { index, sub })
+        }
+        [_, station, index, sub, value] => {
+            let (station, index, sub) = (short(station)?, short(index)?, byte(sub)?);
+            let value = value_of(value)?;
+            asking(station, Service::Write { index, sub, value })
+        }
+        _ => Err(Fault::WrongCount),
+    }
+}
+
+/// `state STATION STATE`
+fn read_state(words: &Words<'_>) -> Result<Request, Fault> {
+    let [_, station, name] = words.as_slice() else {
+        return Err(Fault::WrongCount);
+    };
+    let station = short(station)?;
+    asking(station, Service::State(state_named(name)?))
+}
+
+/// `acknowledge STATION`
+fn read_acknowledge(words: &Words<'_>) -> Result<Request, Fault> {
+    let [_, station] = words.as_slice() else {
+        return Err(Fault::WrongCount);
+    };
+    asking(short(station)?, Service::Acknowledge)
+}
+
+/// A request that asks this of the slave with a station address.
+fn asking(station: u16, service: Service) -> Result<Request, Fault> {
+    Ok(Request::Ask(Asked { station, service }))
+}
+
 /// `leave STATE`
 fn read_leave(words: &Words<'_>) -> Result<Request, Fault> {
     let [_, name] = words.as_slice() else {
         return Err(Fault::WrongCount);
     };
-    match *name {
-        b"init" => Ok(Request::Leave(AlState::Init)),
-        b"pre-op" => Ok(Request::Leave(AlState::PreOp)),
-        b"safe-op" => Ok(Request::Leave(AlState::SafeOp)),
-        b"op" => Ok(Request::Leave(AlState::Op)),
+    Ok(Request::Leave(state_named(name)?))
+}
+
+/// The state that has this name.
+fn state_named(name: &[u8]) -> Result<AlState, Fault> {
+    match name {
+        b"init" => Ok(AlState::Init),
+        b"pre-op" => Ok(AlState::PreOp),
+        b"safe-op" => Ok(AlState::SafeOp),
+        b"op" => Ok(AlState::Op),
         _ => Err(Fault::BadNumber),
     }
 }

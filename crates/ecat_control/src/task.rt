@@ -4,14 +4,17 @@ ghost use Rattle.std.specs.Prelude.{◌≡◌, false};
 ghost use Rattle.ecat_control.specs.Set.{Become, BecomeBy, has_set, is_set};
 
 use crate::answer::{Answer, put_answers};
+use crate::asking::Asking;
 use crate::change::Change;
 use crate::held::Outputs;
 use crate::input::Commands;
 use crate::refusal::{Fault, Refusal};
 use crate::request::{GET, Part, Request, SET};
 use arrayvec::ArrayVec;
+use ec_acyclic::Answer as ServiceAnswer;
 use ec_regs::AlState;
-use ecat_master::{Known, Report, Task};
+use ec_services::MasterFault;
+use ecat_master::{Asked, Known, Report, Task};
 use ecat_serve::LINE_ROOM;
 use ecat_serve::lines::InputLine;
 use ecat_text::Lines;
@@ -31,6 +34,8 @@ pub struct ControlTask<'a, I> {
     change: Change,
     /// What the lines came to that were taken before this cycle.
     answers: ArrayVec<Answer, MOST_LINES>,
+    /// What a slave is asked for.
+    asking: Asking,
     /// Whether the master is to end.
     stops: &'a Cell<bool>,
     /// The state in which the slaves are to be left, where it was said.
@@ -46,6 +51,7 @@ impl<'a, I: Read + AsRawFd> ControlTask<'a, I> {
             outputs,
             change: Change::none(),
             answers: ArrayVec::new(),
+            asking: Asking::Nothing,
             stops,
             leave: None,
         }
@@ -121,6 +127,7 @@ impl<'a, I: Read + AsRawFd> ControlTask<'a, I> {
             Request::Cable => Answer::Cable,
             Request::Counts => Answer::Counts,
             Request::Times => Answer::Times,
+            Request::Ask(asked) => self.ask_slave(asked),
             Request::Leave(state) => {
                 self.leave = Some(state);
                 self.stops.set(true);
@@ -131,6 +138,21 @@ impl<'a, I: Read + AsRawFd> ControlTask<'a, I> {
                 Answer::Done
             }
         }
+    }
+
+    /// Has a slave asked for something, unless one is already.
+    fn ask_slave(&mut self, asked: Asked) -> Answer
+        ensures kept { self.new.outputs ≡ self.old.outputs }
+        ensures nothing_set { is_set result ≡ false }
+    {
+        if self.asking.is_busy() {
+            return Answer::Refused(Refusal {
+                fault: Fault::Busy,
+                wanted: "one of sdo, state and acknowledge at a time",
+            });
+        }
+        self.asking = Asking::Waits(asked);
+        Answer::Later
     }
 
     /// Why bytes cannot be got, if they cannot.
@@ -184,13 +206,25 @@ impl<I: Read + AsRawFd> Task for ControlTask<'_, I> {
         self.leave
     }
 
+    fn ask(&mut self) -> Option<Asked> {
+        self.asking.begin()
+    }
+
+    fn told(&mut self, answer: Result<ServiceAnswer, MasterFault>) {
+        self.asking.end(answer);
+    }
+
     fn answer<W: Write>(
         &mut self,
         known: &Known<'_, '_, '_>,
         lines: &mut Lines<'_, W>,
     ) -> io::Result<()> {
+        if self.stops.get() {
+            self.asking.end(Err(MasterFault::NoAnswer));
+        }
         let written = put_answers(self.answers.as_slice(), known, lines);
         self.answers.clear();
-        written
+        written?;
+        self.asking.put(lines)
     }
 }

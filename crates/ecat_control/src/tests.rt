@@ -4,9 +4,12 @@ use crate::change::Change;
 use crate::held::Outputs;
 use crate::refusal::Fault;
 use crate::request::{Part, Request};
+use ec_acyclic::Service;
+use ec_app::Value;
 use ec_map::{Item, Kind};
 use ec_master::Work;
 use ec_regs::AlState;
+use ecat_master::Asked;
 use std::process::Abort;
 use std::rt::HostRuntime;
 
@@ -34,6 +37,92 @@ fn lines_say_what_they_ask(rt: HostRuntime) {
     for (line, wanted) in ASKED {
         let read = Request::read(line.as_bytes(), &mut Change::none());
         assert_eq!(rt; read, Ok(wanted), "{line}");
+    }
+}
+
+/// What lines ask of the slave with station address 0x1002.
+const SERVICES: [(&str, Service); 7] = [
+    (
+        "sdo 0x1002 0x1018 1",
+        Service::Read {
+            index: 0x1018,
+            sub: 1,
+        },
+    ),
+    (
+        "sdo 4098 4120 0xff",
+        Service::Read {
+            index: 0x1018,
+            sub: 255,
+        },
+    ),
+    (
+        "sdo 0x1002 0x6060 0 0x08",
+        Service::Write {
+            index: 0x6060,
+            sub: 0,
+            value: Value::One(8),
+        },
+    ),
+    (
+        "sdo 0x1002 0x6071 0 0xFFf0",
+        Service::Write {
+            index: 0x6071,
+            sub: 0,
+            value: Value::Two(0xfff0),
+        },
+    ),
+    (
+        "sdo 0x1002 0x60ff 0 0x80000001",
+        Service::Write {
+            index: 0x60ff,
+            sub: 0,
+            value: Value::Four(0x8000_0001),
+        },
+    ),
+    ("state 0x1002 safe-op", Service::State(AlState::SafeOp)),
+    ("acknowledge 0x1002", Service::Acknowledge),
+];
+
+#[test]
+fn lines_say_what_they_ask_of_a_slave(rt: HostRuntime) {
+    for (line, service) in SERVICES {
+        let wanted = Request::Ask(Asked {
+            station: 0x1002,
+            service,
+        });
+        let read = Request::read(line.as_bytes(), &mut Change::none());
+        assert_eq!(rt; read, Ok(wanted), "{line}");
+    }
+}
+
+/// Lines that ask something of a slave and are refused, and what is wrong with them.
+const REFUSED_SERVICES: [(&str, Fault); 14] = [
+    ("sdo", Fault::WrongCount),
+    ("sdo 0x1002 0x1018", Fault::WrongCount),
+    ("sdo 0x1002 0x1018 1 0x01 0x02", Fault::WrongCount),
+    ("sdo 65536 0x1018 1", Fault::BadNumber),
+    ("sdo 0x1002 0x10000 1", Fault::BadNumber),
+    ("sdo 0x1002 0x1018 256", Fault::BadNumber),
+    ("sdo 0x1002 0x1018 1 5", Fault::BadNumber),
+    ("sdo 0x1002 0x1018 1 0x123", Fault::BadNumber),
+    ("sdo 0x1002 0x1018 1 0x0g", Fault::BadNumber),
+    ("state 0x1002", Fault::WrongCount),
+    ("state 0x1002 boot", Fault::BadNumber),
+    ("state x init", Fault::BadNumber),
+    ("acknowledge", Fault::WrongCount),
+    ("acknowledge 0x1002 1", Fault::WrongCount),
+];
+
+#[test]
+fn lines_that_ask_a_slave_are_refused_by_name(rt: HostRuntime) {
+    for (line, wanted) in REFUSED_SERVICES {
+        let read = Request::read(line.as_bytes(), &mut Change::none());
+        assert_eq!(rt;
+            read.map_err(|refusal| refusal.fault),
+            Err(wanted),
+            "{line}"
+        );
     }
 }
 

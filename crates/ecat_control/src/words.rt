@@ -3,9 +3,10 @@
 use crate::change::MOST_BYTES;
 use crate::refusal::Fault;
 use arrayvec::ArrayVec;
+use ec_app::Value;
 
 /// How many words of a line are kept: a line with so many has too many.
-const TOO_MANY: usize = 5;
+const TOO_MANY: usize = 6;
 
 /// The words of a line, the first ones where there are too many.
 pub(crate) type Words<'a> = ArrayVec<&'a [u8], TOO_MANY>;
@@ -31,6 +32,36 @@ pub(crate) fn number(word: &[u8]) -> Result<usize, Fault> {
     match word {
         [b'0', b'x', row @ ..] => digits(row, 16),
         row => digits(row, 10),
+    }
+}
+
+/// A number of sixteen bits, as a station address or an index.
+pub(crate) fn short(word: &[u8]) -> Result<u16, Fault> {
+    match u16::try_from(number(word)?) {
+        Ok(number) => Ok(number),
+        Err(_) => Err(Fault::BadNumber),
+    }
+}
+
+/// A number of eight bits, as a subindex.
+pub(crate) fn byte(word: &[u8]) -> Result<u8, Fault> {
+    match u8::try_from(number(word)?) {
+        Ok(number) => Ok(number),
+        Err(_) => Err(Fault::BadNumber),
+    }
+}
+
+/// A value: `0x` and two, four or eight hexadecimal digits, which say its size.
+pub(crate) fn value_of(word: &[u8]) -> Result<Value, Fault> {
+    let [b'0', b'x', row @ ..] = word else {
+        return Err(Fault::BadNumber);
+    };
+    let value = digits(row, 16)?;
+    match row.len() {
+        2 => Ok(Value::One((value % 0x100) as u8)),
+        4 => Ok(Value::Two((value % 0x1_0000) as u16)),
+        8 => Ok(Value::Four((value % 0x1_0000_0000) as u32)),
+        _ => Err(Fault::BadNumber),
     }
 }
 

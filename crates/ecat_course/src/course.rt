@@ -89,6 +89,15 @@ impl Course {
         self.work.len().saturating_sub(usize::from(self.states))
     }
 
+    /// The station addresses of the slaves, by their places.
+    pub fn stations(&self, alloc: Global) -> Result<Vec<u16>, AllocError> {
+        let mut stations = Vec::new(alloc);
+        for wanted in self.line.iter() {
+            stations.push(wanted.station)?;
+        }
+        Ok(stations)
+    }
+
     /// How far the counters of a cycle's items are to move, in their order.
     pub fn counters(&self, alloc: Global) -> Result<Vec<u16>, AllocError> {
         let mut counters = Vec::new(alloc);

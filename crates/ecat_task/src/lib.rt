@@ -6,27 +6,32 @@
 //!   outputs of that cycle, and each cycle is reported to who ordered last.
 //! - [`Held`] are the outputs that are held: what packets make of them, and what becomes of them where no
 //!   packet comes any more.
+//! - [`Resting`] are the slaves that are asked for Safe-Op then, where that is wanted, and for Op once an
+//!   order comes.
 //!
 //! One use; `rt` is what `main` is given, and `work` has outputs of three bytes:
 //!
 //! ```text
 //! let terms = Terms { count: 3, stale_after: Some(100), rest: Rest::Zeros };
-//! let mut task = UdpTask::open(&rt, rt.alloc(), "127.0.0.1:34990", terms)?;
+//! let mut task = UdpTask::open(&rt, rt.alloc(), "127.0.0.1:34990", terms, stations)?;
 //! let status = master(ports, line, work, expected, &plan, &mut pace, &mut task, out, err, log);
 //! ```
 //!
 //! What is promised: outputs that became others are, whole, those of one packet that is an order, or those
 //! that the terms have for a task that says nothing any more; and outputs of another length than the line's
-//! are refused (`Held::take`, `listens` of [`UdpTask`]). What a report says is exact (`report_of`): the end
-//! of its cycle, and the inputs of the last good one. Up to the first order and while nobody listens nothing
-//! is sent. It takes memory when it is opened, and none in a cycle.
+//! are refused (`Held::take`, `listens` of [`UdpTask`]). All slaves were asked for Safe-Op only once none is
+//! left that did not come to it (`Resting::take`). What a report says is exact (`report_of`): the end of its
+//! cycle, and the inputs of the last good one. Up to the first order and while nobody listens nothing is
+//! sent. It takes memory when it is opened, and none in a cycle.
 //!
 //! What a socket gives is up to the system.
 
 mod counts;
 mod held;
+mod resting;
 mod told;
 mod udp;
 
 pub use held::{Held, Refused};
+pub use resting::Resting;
 pub use udp::{Rest, TaskFault, Terms, UdpTask};

@@ -7,11 +7,14 @@ ghost use Rattle.ecat_task.specs.Held.{Become, orders_others};
 
 use crate::counts::Counts;
 use crate::held::{Held, Refused};
+use crate::resting::Resting;
 use crate::told::report_of;
+use ec_acyclic::Answer;
 use ec_io::{ORDER_HEAD, REPORT_HEAD};
 use ec_master::Verdict;
 use ec_run::{Inputs, MOST_INPUTS, put_inputs};
-use ecat_master::{Report, Task};
+use ec_services::MasterFault;
+use ecat_master::{Asked, Report, Task};
 use ecat_text::Lines;
 use std::alloc::{AllocError, Global};
 use std::io::{self, Write};
@@ -27,6 +30,8 @@ pub enum Rest {
     Kept,
     /// They are all 0.
     Zeros,
+    /// They are all 0, and all slaves are asked for Safe-Op; once an order comes, for Op again.
+    SafeOp,
 }
 
 /// What a task may order, and what becomes of outputs where it does not.
@@ -75,6 +80,8 @@ pub struct UdpTask {
     /// Who sent the last order.
     program: Option<SocketAddr>,
     held: Held,
+    /// The slaves that rest while outputs are stale.
+    resting: Resting,
     /// Room for a packet that comes, with a byte more than an order has.
     room: Vec<u8>,
     /// Room for a packet that goes.
@@ -96,30 +103,41 @@ impl UdpTask {
             rest: Rest::Kept,
             is_open: false,
         };
-        UdpTask::at(alloc, None, terms)
+        UdpTask::at(alloc, None, terms, Vec::new(alloc))
     }
 
-    /// The task of who speaks at this address (`HOST:PORT`), on these terms.
+    /// The task of who speaks at this address (`HOST:PORT`), on these terms, over a line of slaves with these
+    /// station addresses, which are in Op.
     pub fn open(
         net: &impl Net,
         alloc: Global,
         address: &str,
         terms: Terms,
+        stations: Vec<u16>,
     ) -> Result<UdpTask, TaskFault> {
         let socket = UdpSocket::bind(net, address)?;
         socket.set_nonblocking(true)?;
         if !terms.is_open && !socket.local_addr()?.ip().is_loopback() {
             return Err(TaskFault::Reachable);
         }
-        Ok(UdpTask::at(alloc, Some(socket), terms)?)
+        Ok(UdpTask::at(alloc, Some(socket), terms, stations)?)
     }
 
     /// The task at a socket, or none.
     #[inline(never)]
-    fn at(alloc: Global, socket: Option<UdpSocket>, terms: Terms) -> Result<UdpTask, AllocError> {
+    fn at(
+        alloc: Global,
+        socket: Option<UdpSocket>,
+        terms: Terms,
+        stations: Vec<u16>,
+    ) -> Result<UdpTask, AllocError> {
         let rest = match terms.rest {
             Rest::Kept => None,
-            Rest::Zeros => Some(zeros(alloc, terms.count)?),
+            Rest::Zeros | Rest::SafeOp => Some(zeros(alloc, terms.count)?),
+        };
+        let stations = match terms.rest {
+            Rest::Kept | Rest::Zeros => Vec::new(alloc),
+            Rest::SafeOp => stations,
         };
         let held = Held::new(zeros(alloc, terms.count)?, rest, terms.stale_after);
         let room = if socket.is_some() { MOST_INPUTS } else { 0 };
@@ -127,6 +145,7 @@ impl UdpTask {
             socket,
             program: None,
             held,
+            resting: Resting::of(stations),
             room: zeros(alloc, terms.count.saturating_add(ORDER_HEAD + 1))?,
             packet: zeros(alloc, REPORT_HEAD + room)?,
             inputs: Box::new(alloc, Inputs::new())?,
@@ -234,11 +253,20 @@ impl Task for UdpTask {
     fn listen(&mut self) -> bool {
         let orders = self.take_all();
         let rests = self.held.begin_cycle(orders.is_ordered);
+        self.resting.follow(self.held.is_stale());
         orders.are_others || rests
     }
 
     fn outputs(&self) -> &[u8] {
         self.held.outputs()
+    }
+
+    fn ask(&mut self) -> Option<Asked> {
+        self.resting.ask()
+    }
+
+    fn told(&mut self, answer: Result<Answer, MasterFault>) {
+        self.resting.take(&answer);
     }
 
     fn report(&mut self, report: &Report<'_>) {

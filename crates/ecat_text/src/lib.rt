@@ -30,7 +30,7 @@ pub use cable::{
 pub use cycle::{VerdictText, print_item, print_items, print_verdict, status_of};
 pub use judgement::{CountText, print_counts, print_losses};
 pub use lines::Lines;
-pub use object::{FaultText, TripsText, print_line, print_read, print_written};
+pub use object::{FaultText, TripsText, ValueText, print_line, print_read, print_written};
 pub use refusal::{refuse, refuse_mapped, refuse_work};
 pub use status::{BAD_ARGUMENTS, FAILED, GOOD, REFUSED};
 pub use system::SystemError;

@@ -34,7 +34,7 @@ pub fn print_written<W: Write>(
 
 /// A value as it is printed, with two digits for each of its bytes.
 #[derive(Drop)]
-struct ValueText(Value);
+pub struct ValueText(pub Value);
 
 impl fmt::Display for ValueText {
     ghost output = { λ text. Some (value_words text.0) };
