@@ -6,8 +6,8 @@ import re
 import subprocess
 import time
 
-from live import MACHINE, PATIENCE, STARTED, both_ends, case, command, last_lines, left_out, outputs_sent, sums, timed
-from live import without_late
+from live import MACHINE, PATIENCE, STARTED, TIME, both_ends, case, command, last_lines, left_out, outputs_sent, sums, timed
+from live import without_late, without_times
 
 # A machine with outputs and inputs in items of their own: slave 1 takes two bytes, and slave 2 gives two.
 TWO_ITEMS = (
@@ -18,6 +18,9 @@ TWO_ITEMS = (
 
 # The call that sets how much a pipe holds (Linux, `F_SETPIPE_SZ`).
 SET_PIPE_SIZE = 1031
+
+# The machine of live.py, whose second slave has an object that can be written.
+OBJECTS = MACHINE.replace("object 0x1018 2 4 ro 257\n", "object 0x1018 2 4 ro 257\nobject 0x2000 0 2 rw 0\n")
 
 WANTED_SET = "wanted set ITEM OFFSET BYTES; ..\n"
 WANTED_GET = "wanted get ITEM [OFFSET LENGTH]\n"
@@ -40,7 +43,7 @@ def commanded(stage, scene, *words, started=STARTED):
 
 def next_line(master):
     """The next line, but for what is told of a cycle: a loaded machine has late ones, and such as are not good."""
-    while re.match(r"cycle \d+: ", line := master.line()):
+    while re.match(rf"({TIME} )?cycle \d+: ", line := master.line()):
         pass
     return line
 
@@ -49,7 +52,7 @@ def answer(master, text):
     """Gives a command, and answers all that it is answered by."""
     master.process.stdin.write(text.encode() + b"\n")
     told = line = next_line(master)
-    while line and line != "ok\n" and not line.startswith("refused: "):
+    while line and line != "ok\n" and not line.startswith(("refused: ", "failed: ")):
         told += (line := next_line(master))
     return told
 
@@ -86,6 +89,28 @@ def a_running_master_is_asked_how_it_goes(stage):
 
 
 @case
+def answers_to_commands_bear_no_time(stage):
+    """Where each line of a master begins with one: so whoever asks finds an answer as it always is."""
+    pipe = {"stdin": subprocess.PIPE}
+    with stage.serve(MACHINE, "--control", **pipe) as line:
+        stage.file("m", MACHINE)
+        words = ("master", "m", "--at", both_ends(stage), "--control", "--clock", "utc", "--every", "20000")
+        with stage.start(*words, *PATIENCE, **pipe) as master:
+            told = "".join(master.line() for _ in STARTED.splitlines())
+            yield "start", STARTED, without_times(told)
+            line.process.stdin.write(b"link 1 down\n")
+            while (told := master.line()) and "redundancy lost" not in told:
+                pass
+            yield "a break", "a time", re.sub(rf"^{TIME} cycle \d+: redundancy lost: link 1 .*\n", "a time", told)
+            yield "get", "item 1 inputs 0800\nok\n", answer(master, "get 1")
+            yield "refused", f"refused: BadNumber, {WANTED_GET}", answer(master, "get x")
+            yield "quit", "ok\n", answer(master, "quit")
+            end = master.end().splitlines(True)
+            yield "end", "left in Init\n", without_times("".join(row for row in end if row.endswith(" left in Init\n")))
+            yield "status", "0\n", end[-1]
+
+
+@case
 def outputs_are_set_while_a_master_runs(stage):
     """Those of a line are of one cycle; up to the first one they are those of the scene."""
     with commanded(stage, MACHINE, "--log", "log", "--log-images") as (line, master):
@@ -110,7 +135,10 @@ def commands_to_a_master_are_refused_by_name(stage):
     """A line that is refused changes nothing: the other places of it stay too."""
     rows = [
         ("get\t0", "NotText, wanted ASCII text\n"),
-        ("sett 0 0 00", "UnknownWord, wanted set, get, slaves, cable, counts, times, leave or quit\n"),
+        (
+            "sett 0 0 00",
+            "UnknownWord, wanted set, get, slaves, cable, counts, times, sdo, state, acknowledge, leave or quit\n",
+        ),
         ("set", f"WrongCount, {WANTED_SET}"),
         ("set 0 0", f"WrongCount, {WANTED_SET}"),
         ("set 0 0 00;", f"WrongCount, {WANTED_SET}"),
@@ -133,6 +161,10 @@ def commands_to_a_master_are_refused_by_name(stage):
         ("get 2", f"NoItem, {WANTED_GET}"),
         ("get 0 1 2", f"OutOfRange, {WANTED_GET}"),
         ("slaves 0", "WrongCount, wanted slaves\n"),
+        ("sdo 1 0x1018", "WrongCount, wanted sdo STATION INDEX SUB [VALUE]\n"),
+        ("sdo 1 0x1018 0 5", "BadNumber, wanted sdo STATION INDEX SUB [VALUE]\n"),
+        ("state 1 boot", "BadNumber, wanted state STATION init|pre-op|safe-op|op\n"),
+        ("acknowledge 0x10000", "BadNumber, wanted acknowledge STATION\n"),
         ("leave boot", "BadNumber, wanted leave init|pre-op|safe-op|op\n"),
         ("leave", "WrongCount, wanted leave init|pre-op|safe-op|op\n"),
         ("quit now", "WrongCount, wanted quit\n"),
@@ -196,6 +228,59 @@ def a_master_takes_32_lines_between_two_cycles(stage):
     rows = end[len(STARTED) :].splitlines()
     yield "oks", "64", str(rows.index("cycles 3 good 3 short 0 over 0 fault 0 not-in-op 0"))
     yield "status", "0", rows[-1]
+
+
+@case
+def objects_are_read_and_written_beside_the_cycles(stage):
+    """Each answer is the object's, also where copies are lost; the cycles go on, and none is left out for it."""
+    with commanded(stage, OBJECTS, "--every", "5000") as (line, master):
+        yield "read", "sdo 0x1002 0x1018 2 value 0x00000101\nok\n", answer(master, "sdo 0x1002 0x1018 2")
+        yield "of another", "sdo 0x1003 0x1018 2 value 0x00000102\nok\n", answer(master, "sdo 0x1003 0x1018 2")
+        yield "written", "sdo 0x1002 0x2000 0 written\nok\n", answer(master, "sdo 0x1002 0x2000 0 0xbeef")
+        yield "as written", "sdo 0x1002 0x2000 0 value 0xbeef\nok\n", answer(master, "sdo 4098 8192 0")
+        yield "no object", "failed: sdo 0x1002 0x3000 0 abort 0x06020000\n", answer(master, "sdo 0x1002 0x3000 0")
+        words = "sdo 0x1002 0x1018 1 0x00000001"
+        yield "read only", "failed: sdo 0x1002 0x1018 1 abort 0x06010002\n", answer(master, words)
+        yield "nobody", "failed: sdo 0x1009 0x1018 1 fault NoSlave\n", answer(master, "sdo 0x1009 0x1018 1")
+        count, good = re.match(r"cycles (\d+) good (\d+) ", answer(master, "counts")).groups()
+        yield "each cycle is good", count, good
+        yield "lose", "ok\nok\n", command(line, "lose A 7") + command(line, "lose B 7")
+        yield "with copies lost", "sdo 0x1001 0x1018 2 value 0x00000100\nok\n", answer(master, "sdo 0x1001 0x1018 2")
+        yield "quit", "ok\n", answer(master, "quit")
+        yield "status", "0\n", last_lines(master.end(), 1)
+
+
+@case
+def a_slave_is_asked_for_a_state_beside_the_cycles(stage):
+    """It comes to it, and is told of; an error is acknowledged; a state that it refuses is told with its code."""
+    with commanded(stage, MACHINE, "--every", "5000") as (line, master):
+        yield "safe-op", "state 0x1003 state 4\nok\n", answer(master, "state 0x1003 safe-op")
+        yield "told", "True", tells(master, "slave 2 (0x1003) is in Safe-Op\n")
+        yield "op", "state 0x1003 state 8\nok\n", answer(master, "state 0x1003 op")
+        yield "again", "True", tells(master, "all in Op again")
+        yield "fall", "ok\n", command(line, "error 0x1002 0x0011")
+        yield "not all", "True", tells(master, "slave 1 (0x1002) is in Safe-Op with error 0x0011")
+        yield "acknowledged", "acknowledge 0x1002 state 4\nok\n", answer(master, "acknowledge 0x1002")
+        yield "op again", "state 0x1002 state 8\nok\n", answer(master, "state 0x1002 op")
+        yield "init", "state 0x1001 state 1\nok\n", answer(master, "state 0x1001 init")
+        yield "refused", "failed: state 0x1001 error 0x0011\n", answer(master, "state 0x1001 op")
+        yield "quit", "ok\n", answer(master, "quit")
+        yield "status", "1\n", last_lines(master.end(), 1)
+
+
+@case
+def one_slave_is_asked_at_a_time(stage):
+    """Lines behind such a one are done meanwhile; what is not answered at the end is told so."""
+    with commanded(stage, MACHINE, "--every", "20000") as (_line, master):
+        master.process.stdin.write(b"sdo 0x1002 0x1018 1\nstate 0x1003 op\nget 0\n")
+        told = "".join(next_line(master) for _ in range(6))
+        wanted = "refused: Busy, wanted one of sdo, state and acknowledge at a time\n"
+        wanted += "item 0 outputs a1a2a3\nitem 0 inputs 112233\nok\nsdo 0x1002 0x1018 1 value 0x00000002\nok\n"
+        yield "meanwhile", wanted, told
+        master.process.stdin.write(b"sdo 0x1002 0x1018 1\nquit\n")
+        told = "".join(next_line(master) for _ in range(2))
+        yield "at the end", "ok\nfailed: sdo 0x1002 0x1018 1 fault NoAnswer\n", told
+        yield "status", "0\n", last_lines(master.end(), 1)
 
 
 @case

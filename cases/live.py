@@ -4,6 +4,7 @@ Each is a function of a `Stage`. It gives what `cases/try` compares: a name, wha
 """
 import collections
 import contextlib
+import datetime
 import fcntl
 import os
 import pty
@@ -809,6 +810,50 @@ def a_master_brings_a_line_to_op_and_cycles(stage):
             yield "log", wanted, log.read()
 
 
+# The time that a line begins with where it is asked for: the day and the time of the day in UTC, to the millisecond.
+TIME = r"\d{4}-\d\d-\d\dT\d\d:\d\d:\d\d\.\d{3}Z"
+
+
+def utc_now():
+    """The time as such a line has it."""
+    return datetime.datetime.now(datetime.timezone.utc).strftime("%Y-%m-%dT%H:%M:%S.%f")[:23] + "Z"
+
+
+def seen_times(name, text, began):
+    """Each line begins with the time, which never falls and lies from that on up to now."""
+    times = re.findall(f"(?m)^{TIME}(?= .)", text)
+    yield f"{name}: times", str(text.count("\n")), str(len(times))
+    yield f"{name}: in their order", "\n".join(sorted(times)), "\n".join(times)
+    yield f"{name}: now", "True", str(bool(times) and began <= times[0] and times[-1] <= utc_now())
+
+
+def without_times(text):
+    """The lines of a text without the times that they begin with."""
+    return re.sub(f"(?m)^{TIME} ", "", text)
+
+
+@case
+def each_line_of_a_master_begins_with_the_time(stage):
+    """Where it is asked for: all that is printed and logged. Else, and by `none`, it is as it always was."""
+    with stage.serve(MACHINE, "--forever") as _line:
+        stage.file("m", MACHINE)
+        words = ("master", "m", "--at", both_ends(stage), "--cycles", "20", "--log", "log", *PATIENCE)
+        wanted = STARTED + LEFT + sums(20) + ITEMS + "0\n"
+        logged = "".join(f"cycle {k} good counts 9 3\n" for k in range(20))
+        for clock, has_times in ((), False), (("--clock", "none"), False), (("--clock", "utc"), True):
+            began = utc_now()
+            end = stage.ends(*words, *clock)
+            with open(os.path.join(stage.folder, "log"), encoding="latin-1") as log:
+                kept = log.read()
+            if has_times:
+                yield from seen_times("output", end.removesuffix("0\n"), began)
+                yield from seen_times("log", kept, began)
+                end, kept = without_times(end), without_times(kept)
+            name = " ".join(clock) or "no word"
+            yield f"{name}: output", wanted, without_late(end)
+            yield f"{name}: log", logged, re.sub(" unsure .*", "", kept)
+
+
 @case
 def a_master_logs_what_it_sent_and_holds_and_keeps_its_packets(stage):
     with stage.serve(MACHINE, "--forever") as _line:
@@ -1274,6 +1319,29 @@ def outputs_of_a_silent_program_become_stale(stage):
         yield "stale behind four cycles", "[0, 0, 0, 0, 8, 8]", str(flags)
         program.send(ORDER.pack(b"EcIO", 1, 1, 3, 0) + bytes.fromhex("040506"))
         yield "no more", "True", str(0 in [report(program)[0][7] for _ in range(20)])
+        end = end_of_task(master)
+    yield "status", "0", end[-1]
+    _, rows = outputs_sent(stage)
+    yield "outputs", "010203 000000 040506", " ".join(rows[rows.index("010203") :][:3])
+
+
+@case
+def a_line_rests_in_safe_op_while_its_program_is_silent(stage):
+    """Its slaves are asked for Safe-Op, each by itself, with outputs of 0; and for Op once an order comes."""
+    with serving_a_task(stage, "--io-stale", "200", "--io-rest", "safe-op") as (master, program, _where):
+        program.send(ORDER.pack(b"EcIO", 1, 1, 3, NO_CYCLE) + bytes.fromhex("010203"))
+        for place in range(3):
+            wanted = f"slave {place} ({0x1001 + place:#06x}) is in Safe-Op"
+            while (line := master.line()) and wanted not in line:
+                pass
+            yield f"slave {place} rests", "True", str(wanted in line)
+        while not (flags := report(program)[0][7]) & 1:
+            pass
+        yield "stale, and not all in Op", "9", str(flags & 9)
+        program.send(ORDER.pack(b"EcIO", 1, 1, 3, 0) + bytes.fromhex("040506"))
+        while (line := master.line()) and "all in Op again" not in line:
+            pass
+        yield "driven again", "True", str("all in Op again" in line)
         end = end_of_task(master)
     yield "status", "0", end[-1]
     _, rows = outputs_sent(stage)

@@ -361,6 +361,7 @@ def what_no_end_of_input_ends_is_the_process_itself(stage):
         ("master s --at x", "master s --at x"),
         ("master s --at x --cycles 5", "master --until-end s --at x --cycles 5"),
         ("master s --at x --cycles=5", "master --until-end s --at x --cycles=5"),
+        ("master s --cycles 5 --clock utc", "master --until-end s --cycles 5 --clock utc"),
         ("master s --cycles 5 --until-end", "master s --cycles 5 --until-end"),
         ("master s --cycles 5 --control", "master s --cycles 5 --control"),
         (

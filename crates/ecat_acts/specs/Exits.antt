@@ -8,7 +8,8 @@ use Rattle.ec_services.specs.declared.fault.MasterFault.TheVariants.{Port as Por
 use Rattle.ecat_acts.specs.declared.failure.Failure.{Failure}
 use Rattle.ecat_acts.specs.declared.failure.Failure.TheVariants.{Asked, At, Capture, Descriptors, Forms}
 use Rattle.ecat_acts.specs.declared.failure.Failure.TheVariants.{Images, IndexAlone, IoAlone, NeedsScene}
-use Rattle.ecat_acts.specs.declared.failure.Failure.TheVariants.{Reach, Rest, State, Task, TriesAlone}
+use Rattle.ecat_acts.specs.declared.failure.Failure.TheVariants.{Reach, Rest, RestRecovers, Stamps, State, Task}
+use Rattle.ecat_acts.specs.declared.failure.Failure.TheVariants.{TriesAlone}
 use Rattle.ecat_acts.specs.declared.failure.Failure.TheVariants.{ControlOutputs, TwoOutputs}
 use Rattle.ecat_acts.specs.declared.failure.Failure.TheVariants.{Line as OfLine}
 use Rattle.ecat_setup.specs.declared.failure.LineFailure.{LineFailure}
@@ -64,9 +65,11 @@ IsExit IndexAlone status = status ≡ BAD_ARGUMENTS
 IsExit Descriptors status = status ≡ BAD_ARGUMENTS
 IsExit State status = status ≡ BAD_ARGUMENTS
 IsExit Rest status = status ≡ BAD_ARGUMENTS
+IsExit RestRecovers status = status ≡ BAD_ARGUMENTS
 IsExit TwoOutputs status = status ≡ BAD_ARGUMENTS
 IsExit ControlOutputs status = status ≡ BAD_ARGUMENTS
 IsExit IoAlone status = status ≡ BAD_ARGUMENTS
 IsExit TriesAlone status = status ≡ BAD_ARGUMENTS
+IsExit Stamps status = status ≡ BAD_ARGUMENTS
 IsExit (Task fault) status = IsTaskExit fault status
 IsExit _ status = status ≡ FAILED

@@ -1,5 +1,6 @@
 //! `ecat master --control`: a master that lines of its input speak to.
 
+use crate::answering::Answering;
 use crate::failure::Failure;
 use crate::mastering::{Attended, Cycling, beat_of, cycle_for, report_to};
 use crate::patience::Impatient;
@@ -20,7 +21,7 @@ pub(crate) fn run_controlled<R, T, M, W, V, L>(
     rt: &R,
     course: Box<Course>,
     cycling: Cycling<'_>,
-    attended: Attended<'_>,
+    attended: Attended<'_, '_>,
     recorder: &mut Recorder<T, M>,
     writers: Writers<'_, W, V, L>,
 ) -> u8
@@ -40,6 +41,7 @@ where
     };
     let stops = Cell::new(false);
     let mut pace = Stopping::new(Impatient::new(beat, attended.is_patient), &stops);
-    let mut task = ControlTask::new(attended.input, outputs, &stops);
+    let task = ControlTask::new(attended.input, outputs, &stops);
+    let mut task = Answering::new(task, attended.are_own);
     cycle_for(rt, course, cycling, recorder, &mut pace, &mut task, writers)
 }

@@ -62,7 +62,7 @@ pub enum Failure {
     Reach,
     /// The ends of a line that is somewhere else are no hosts and ports.
     At,
-    /// More than one form of a listing is asked for.
+    /// Faults are asked for with another form of a listing.
     Forms,
     /// A stream is to be judged, and no scene is named: it is read once, and its line is learned of it all.
     NeedsScene,
@@ -80,6 +80,8 @@ pub enum Failure {
     Task(TaskFault),
     /// What stale outputs of a master's program become has another name.
     Rest,
+    /// Slaves are to rest in Safe-Op, and to be brought to Op again.
+    RestRecovers,
     /// Both a file and a program are to give the outputs of a master.
     TwoOutputs,
     /// Lines of the input are to set the outputs of a master, and something else is to give them.
@@ -88,6 +90,8 @@ pub enum Failure {
     IoAlone,
     /// It is said how often a master tries, and it brings no slave up again.
     TriesAlone,
+    /// What lines begin with has another name.
+    Stamps,
 }
 
 impl From<LineFailure> for Failure {
@@ -154,10 +158,10 @@ pub fn report<W: Write, V: Write>(failure: &Failure, out: &mut W, err: &mut V) -
         ),
         Failure::Forms => bad_argument(
             err,
-            b"argument: --csv, --faults and --stats are forms of a listing, of which it has one\n",
+            b"argument: --faults is a form of a listing by itself\n",
         ),
         Failure::NeedsScene => bad_argument(err, b"argument: NeedsScene\n"),
-        Failure::IndexAlone => bad_argument(err, b"argument: --index is of --stats\n"),
+        Failure::IndexAlone => bad_argument(err, b"argument: --index is of the sums of --stats\n"),
         Failure::Descriptors => bad_argument(
             err,
             b"argument: --raw wants numbers, as 10 or 10,11\n",
@@ -166,7 +170,11 @@ pub fn report<W: Write, V: Write>(failure: &Failure, out: &mut W, err: &mut V) -
             err,
             b"argument: --leave wants init, pre-op, safe-op or op\n",
         ),
-        Failure::Rest => bad_argument(err, b"argument: --io-rest wants kept or zeros\n"),
+        Failure::Rest => bad_argument(err, b"argument: --io-rest wants kept, zeros or safe-op\n"),
+        Failure::RestRecovers => bad_argument(
+            err,
+            b"argument: --io-rest safe-op leaves slaves in Safe-Op, and --recover brings them to Op\n",
+        ),
         Failure::TwoOutputs => bad_argument(
             err,
             b"argument: --io gives the outputs, and so does --outputs\n",
@@ -180,6 +188,7 @@ pub fn report<W: Write, V: Write>(failure: &Failure, out: &mut W, err: &mut V) -
             b"argument: --io-open, --io-stale and --io-rest are of --io\n",
         ),
         Failure::TriesAlone => bad_argument(err, b"argument: --tries is of --recover\n"),
+        Failure::Stamps => bad_argument(err, b"argument: --clock wants utc or none\n"),
         Failure::Task(fault) => report_task(fault, err),
         Failure::Raw(fault) => report_raw(*fault, err),
         Failure::Remote(fault) => {

@@ -10,8 +10,9 @@
 //! - [`act_list`](listing::act_list) and [`act_show`](show::act_show) go through a capture, `learning` tells
 //!   how `learn` ended, `judging` judges a capture by a scene or by the line that it shows, and `replaying`
 //!   sends what its master sent to the line of a scene;
-//! - `piped` is an output that its reader may close, and `patience` says when a master waits for who reads
-//!   what it writes: not while its cycles run;
+//! - `piped` is an output that its reader may close, `patience` says when a master waits for who reads what
+//!   it writes, which is not while its cycles run, and `answering` tells answers to commands from the lines
+//!   that it writes of its own;
 //! - [`report`](failure::report) tells a [`Failure`](failure::Failure) by its fixed line, and `hints` what
 //!   helps a person behind it; `kinds` is what a file is that was refused.
 //!
@@ -20,6 +21,7 @@
 //! opened in which order, and all other lines, are tried by tests.
 
 pub mod act;
+mod answering;
 mod asked;
 pub mod asking;
 pub mod console;

@@ -1,12 +1,12 @@
-//! `ecat list`: the datagrams of a capture, a line each, or the sums of its trips.
+//! `ecat list`: the datagrams of a capture, a line each, or its trips.
 
-ghost use Rattle.std.specs.Prelude.{◌≡◌, IfOk, false};
-ghost use Rattle.ecat_acts.specs.Listings.{are_sums, tells_progress};
+ghost use Rattle.std.specs.Prelude.{◌≡◌, ◌&&◌, IfOk, false};
+ghost use Rattle.ecat_acts.specs.Listings.{are_trips, tells_each, tells_progress};
 
 use crate::console::Console;
 use crate::failure::{Failure, report};
 use ecat_capture::CaptureFaultKind;
-use ecat_list::{Asked, Form, Listed, Sums, list, tally, tally_stream};
+use ecat_list::{Asked, Form, Listed, OfTrips, list, tally, tally_stream};
 use ecat_setup::LineFailure;
 use ecat_source::Source;
 use ecat_text::{FAILED, GOOD, REFUSED};
@@ -22,13 +22,13 @@ const NOT_ETHERNET: &[u8] =
 pub enum Wanted {
     /// The packets, in this form.
     Packets(Asked),
-    /// The sums of the trips.
-    Trips(Sums),
+    /// The trips: their sums, or each of their packets.
+    Trips(OfTrips),
 }
 
 impl Wanted {
-    /// What is listed, unless several forms are asked for, or the index without the sums. Where somebody
-    /// watches, he is told how far it is.
+    /// What is listed, unless faults are asked for with another form, or the index without sums. Where
+    /// somebody watches, he is told how far it is.
     pub fn of(
         csv: bool,
         faults: bool,
@@ -37,15 +37,18 @@ impl Wanted {
         console: &Console,
     ) -> Result<Wanted, Failure>
         ensures progress { IfOk result (λ wanted. tells_progress wanted ≡ console.now.is_watched) }
-        ensures sums { IfOk result (λ wanted. are_sums wanted ≡ stats) }
+        ensures trips { IfOk result (λ wanted. are_trips wanted ≡ stats) }
+        ensures each { IfOk result (λ wanted. tells_each wanted ≡ csv && stats) }
     {
         let is_watched = console.is_watched;
         let form = match (csv, faults, stats) {
             (false, false, false) => Form::Lines,
             (true, false, false) => Form::Csv,
             (false, true, false) => Form::Faults,
-            (false, false, true) => {
-                return Ok(Wanted::Trips(Sums {
+            (true, false, true) if by_index => return Err(Failure::IndexAlone),
+            (each, false, true) => {
+                return Ok(Wanted::Trips(OfTrips {
+                    each,
                     by_index,
                     progress: is_watched,
                 }));
@@ -62,10 +65,12 @@ impl Wanted {
         }))
     }
 
-    /// What is listed while the capture is still written: each packet at once, or the sums at its end.
+    /// What is listed while the capture is still written: each packet at once, or its trips in pieces and
+    /// their sums at its end.
     pub fn live(self) -> Wanted
         ensures progress { tells_progress result ≡ false }
-        ensures sums { are_sums result ≡ are_sums self }
+        ensures trips { are_trips result ≡ are_trips self }
+        ensures each { tells_each result ≡ tells_each self }
     {
         match self {
             Wanted::Packets(asked) => Wanted::Packets(Asked {
@@ -73,16 +78,16 @@ impl Wanted {
                 progress: false,
                 ..asked
             }),
-            Wanted::Trips(sums) => Wanted::Trips(Sums {
+            Wanted::Trips(asked) => Wanted::Trips(OfTrips {
                 progress: false,
-                ..sums
+                ..asked
             }),
         }
     }
 
     /// Is a file read twice for it?
     pub fn reads_twice(self) -> bool
-        ensures { result ≡ are_sums self }
+        ensures { result ≡ are_trips self }
     {
         match self {
             Wanted::Packets(_) => false,
@@ -101,7 +106,7 @@ where
 {
     let listed = match wanted {
         Wanted::Packets(asked) => list(alloc, source, asked, out, err),
-        Wanted::Trips(sums) => tally_stream(alloc, source, sums, out, err),
+        Wanted::Trips(asked) => tally_stream(alloc, source, asked, out, err),
     };
     end_of_listing(listed, out, err)
 }
@@ -124,7 +129,7 @@ where
 {
     let listed = match wanted {
         Wanted::Packets(asked) => list(alloc, first, asked, out, err),
-        Wanted::Trips(sums) => tally(alloc, first, again, sums, out, err),
+        Wanted::Trips(asked) => tally(alloc, first, again, asked, out, err),
     };
     end_of_listing(listed, out, err)
 }

@@ -1,6 +1,6 @@
 //! `ecat master`: what its words say, and what it opens.
 
-ghost use Rattle.std.specs.Prelude.{◌≡◌, ◌||◌, IfOk, None, Some, is_none, is_some};
+ghost use Rattle.std.specs.Prelude.{◌≡◌, ◌||◌, IfOk, None, Ok, Some, false, is_none, is_some};
 ghost use Rattle.std.specs.Option.{unwrap_or};
 ghost use Rattle.ec_regs.specs.declared.al.AlState.TheVariants.{Init};
 ghost use Rattle.ec_run.specs.declared.step.TheConstants.{MOST_READS};
@@ -24,6 +24,7 @@ use ecat_record::{Moments, Recorder};
 use ecat_remote::{Carrier, RemotePorts, Timer};
 use ecat_scene::{Scene, SceneFault};
 use ecat_setup::LineFailure;
+use ecat_stamps::{Stamped, Utc};
 use ecat_task::{Rest, TaskFault, Terms, UdpTask};
 use ecat_text::Lines;
 use ecat_unblocking::{AT_ONCE, Behind, Screen, Unblocking, never_waits};
@@ -58,6 +59,8 @@ pub(crate) struct Running<'a> {
     log_images: bool,
     /// Whether it ends where the log cannot be written.
     log_or_stop: bool,
+    /// Whether each line that it writes and logs begins with the time.
+    is_stamped: bool,
     /// The program that gives the outputs, if there is one.
     program: Option<Program<'a>>,
     /// Whether it ends at the first cycle that is not good.
@@ -88,6 +91,7 @@ impl<'w> Running<'w> {
         ensures log { IfOk result (λ running. running.log ≡ words.now.log) }
         ensures log_images { IfOk result (λ running. running.log_images ≡ words.now.log_images) }
         ensures log_or_stop { IfOk result (λ running. running.log_or_stop ≡ words.now.log_or_stop) }
+        ensures unstamped { words.now.clock ≡ None → IfOk result (λ running. running.is_stamped ≡ false) }
         ensures stop { IfOk result (λ running. running.stop ≡ words.now.stop) }
         ensures recover { IfOk result (λ running. running.recover ≡ words.now.recover) }
         ensures tries { IfOk result (λ running. running.tries ≡ unwrap_or words.now.tries MOST_READS) }
@@ -100,6 +104,7 @@ impl<'w> Running<'w> {
         let leave = left_in(words.leave)?;
         let program = program_of(words)?;
         let tries = tries_of(words)?;
+        let is_stamped = stamped_by(words.clock)?;
         Ok(Running {
             reach,
             cycles: words.cycles,
@@ -111,6 +116,7 @@ impl<'w> Running<'w> {
             log: words.log,
             log_images: words.log_images,
             log_or_stop: words.log_or_stop,
+            is_stamped,
             program,
             stop: words.stop,
             recover: words.recover,
@@ -191,6 +197,8 @@ fn program_of<'w>(words: &MasterWords<'w>) -> Result<Option<Program<'w>>, Failur
     let rest = match words.io_rest {
         None | Some("kept") => Rest::Kept,
         Some("zeros") => Rest::Zeros,
+        Some("safe-op") if words.recover => return Err(Failure::RestRecovers),
+        Some("safe-op") => Rest::SafeOp,
         Some(_) => return Err(Failure::Rest),
     };
     match words.io {
@@ -219,6 +227,26 @@ fn tries_of(words: &MasterWords<'_>) -> Result<u32, Failure>
         Some(_) if !words.recover => Err(Failure::TriesAlone),
         Some(tries) => Ok(tries),
         None => Ok(MOST_READS),
+    }
+}
+
+/// Does each line begin with the time, as a word says? Where there is none it does not.
+fn stamped_by(word: Option<&str>) -> Result<bool, Failure>
+    ensures usual { word.entry ≡ None → result ≡ Ok false }
+{
+    match word {
+        None | Some("none") => Ok(false),
+        Some("utc") => Ok(true),
+        Some(_) => Err(Failure::Stamps),
+    }
+}
+
+/// What time it is from now on, where lines begin with it.
+fn utc_of<R: Clock>(clock: &R, is_stamped: bool) -> io::Result<Option<Utc<'_, R>>> {
+    if is_stamped {
+        Ok(Some(Utc::begin(clock)?))
+    } else {
+        Ok(None)
     }
 }
 
@@ -251,11 +279,13 @@ where
     }
 }
 
-/// What a master has of its console while it runs: the input, and how patient its writers are.
+/// What a master has of its console while it runs: the input, how patient its writers are, and whether their
+/// lines are its own, which may begin with the time, or answers.
 #[derive(Drop)]
-pub(crate) struct Attended<'a> {
+pub(crate) struct Attended<'p, 'o> {
     pub(crate) input: Stdin,
-    pub(crate) is_patient: &'a Cell<bool>,
+    pub(crate) is_patient: &'p Cell<bool>,
+    pub(crate) are_own: &'o Cell<bool>,
 }
 
 /// Brings the line of a scene to Op, as the words of `master` say, and answers the exit status. No cycle
@@ -301,13 +331,14 @@ where
     W: io::Write,
     V: io::Write,
 {
-    let is_patient = Cell::new(true);
+    let (is_patient, are_own) = (Cell::new(true), Cell::new(true));
     let (output, errors) = (Behind(console.output), Behind(console.errors));
     let mut out = Unblocking::new(out, output, AT_ONCE, &is_patient);
     let mut err = Unblocking::new(err, errors, AT_ONCE, &is_patient);
     let attended = Attended {
         input: console.input,
         is_patient: &is_patient,
+        are_own: &are_own,
     };
     let status = master_at(rt, running, attended, scene, &mut out, &mut err);
     tell_left_out("output", out.left_out(), &mut err);
@@ -320,7 +351,7 @@ where
 fn master_at<R, W, V>(
     rt: &R,
     running: Running<'_>,
-    attended: Attended<'_>,
+    attended: Attended<'_, '_>,
     scene: Result<Scene, SceneFault>,
     out: &mut W,
     err: &mut V,
@@ -354,10 +385,10 @@ where
 
 /// A master that is about to run: by which words and to which plan, and what it has of its console.
 #[derive(Drop)]
-struct Prepared<'a> {
+struct Prepared<'a, 'p, 'o> {
     running: Running<'a>,
     plan: Plan<'a>,
-    attended: Attended<'a>,
+    attended: Attended<'p, 'o>,
 }
 
 /// Opens the log of a master, if it has one, has it run, and tells how many lines of the log were left out,
@@ -365,7 +396,7 @@ struct Prepared<'a> {
 fn master_logged<R, T, M, W, V>(
     rt: &R,
     course: Box<Course>,
-    prepared: Prepared<'_>,
+    prepared: Prepared<'_, '_, '_>,
     recorder: &mut Recorder<T, M>,
     out: &mut W,
     err: &mut V,
@@ -394,11 +425,12 @@ where
     status
 }
 
-/// Opens the clock of a master, and has it run for the task that its words name.
+/// Asks for the time where the lines of a master begin with it, and has it run for the task that its words
+/// name.
 fn run_master<R, T, M, W, V, L>(
     rt: &R,
     course: Box<Course>,
-    prepared: Prepared<'_>,
+    prepared: Prepared<'_, '_, '_>,
     recorder: &mut Recorder<T, M>,
     out: &mut W,
     err: &mut V,
@@ -417,7 +449,16 @@ where
         plan,
         attended,
     } = prepared;
-    let writers = Writers { out, err, log };
+    let Ok(utc) = utc_of(rt, running.is_stamped) else {
+        return report(&Failure::Clock, out, err);
+    };
+    let mut out = Stamped::new(out, &utc, attended.are_own);
+    let mut log = Stamped::new(log, &utc, attended.are_own);
+    let writers = Writers {
+        out: &mut out,
+        err,
+        log: &mut log,
+    };
     let cycling = Cycling { running, plan };
     if running.control {
         run_controlled(rt, course, cycling, attended, recorder, writers)
@@ -439,7 +480,7 @@ fn run_by_program<R, T, M, W, V, L>(
     rt: &R,
     course: Box<Course>,
     cycling: Cycling<'_>,
-    attended: Attended<'_>,
+    attended: Attended<'_, '_>,
     recorder: &mut Recorder<T, M>,
     writers: Writers<'_, W, V, L>,
 ) -> u8
@@ -457,7 +498,7 @@ where
     };
     let mut pace = Impatient::new(beat, attended.is_patient);
     let count = course.image_length();
-    let mut task = match task_of(rt, cycling.running.program, count) {
+    let mut task = match task_of(rt, cycling.running.program, &course) {
         Ok(task) => task,
         Err(fault) => return report(&Failure::Task(fault), out, err),
     };
@@ -516,15 +557,17 @@ where
     report(failure, out, err)
 }
 
-/// The task of a program that gives so many bytes of outputs, or none.
-fn task_of<R>(rt: &R, program: Option<Program<'_>>, count: usize) -> Result<UdpTask, TaskFault>
+/// The task of a program that gives the outputs of a course, or none.
+fn task_of<R>(rt: &R, program: Option<Program<'_>>, course: &Course) -> Result<UdpTask, TaskFault>
 where
     R: Net + AllocGlobal,
 {
-    match program {
-        Some(program) => UdpTask::open(rt, rt.alloc(), program.address, program.terms(count)),
-        None => Ok(UdpTask::none(rt.alloc())?),
-    }
+    let Some(program) = program else {
+        return Ok(UdpTask::none(rt.alloc())?);
+    };
+    let terms = program.terms(course.image_length());
+    let stations = course.stations(rt.alloc())?;
+    UdpTask::open(rt, rt.alloc(), program.address, terms, stations)
 }
 
 /// Tells where a program gives outputs, if one does, and how many bytes of them. A fault of that line is

@@ -85,6 +85,7 @@ SaysOfScene (Master words) given =
     × (word_in given (codes "OUTPUTS") ≡ option_map (λ w. w.now) words.outputs)
     × (word_in given (codes "LOG") ≡ option_map (λ w. w.now) words.log) × (images_in given ≡ words.log_images)
     × (or_stop_in given ≡ words.log_or_stop)
+    × (word_in given (codes "CLOCK") ≡ option_map (λ w. w.now) words.clock)
     × (word_in given (codes "IO") ≡ option_map (λ w. w.now) words.io) × (io_open_in given ≡ words.io_open)
     × (io_stale_in given ≡ Some words.io_stale)
     × (word_in given (codes "REST") ≡ option_map (λ w. w.now) words.io_rest)

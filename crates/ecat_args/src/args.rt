@@ -377,6 +377,7 @@ fn master<'a>(given: &ArgMatches<'a>) -> Option<Args<'a>>
             log: word(given, "LOG"),
             log_images: flag(given, "log-images"),
             log_or_stop: flag(given, "log-or-stop"),
+            clock: word(given, "CLOCK"),
             io: word(given, "IO"),
             io_open: flag(given, "io-open"),
             io_stale,

@@ -148,10 +148,10 @@ pub enum SceneCommand<'a> {
         force: bool,
     },
     /// `master SCENE [--at AT] [--raw RAW] [--cycles N] [--until-end] [--every MICROSECONDS] [--busy]
-    /// [--limit LIMIT] [--late LATE] [--outputs OUTPUTS] [--log LOG] [--log-images] [--log-or-stop] [--io IO]
-    /// [--io-open] [--io-stale CYCLES] [--io-rest REST] [--control] [--stop] [--recover] [--tries TRIES]
-    /// [--leave STATE] [--pcap PCAP] [--force]`: brings a line somewhere else to Op, cycles on it, and leaves
-    /// it in a state.
+    /// [--limit LIMIT] [--late LATE] [--outputs OUTPUTS] [--log LOG] [--log-images] [--log-or-stop]
+    /// [--clock CLOCK] [--io IO] [--io-open] [--io-stale CYCLES] [--io-rest REST] [--control] [--stop]
+    /// [--recover] [--tries TRIES] [--leave STATE] [--pcap PCAP] [--force]`: brings a line somewhere else to
+    /// Op, cycles on it, and leaves it in a state.
     Master(MasterWords<'a>),
 }
 
@@ -182,6 +182,8 @@ pub struct MasterWords<'a> {
     pub log_images: bool,
     /// Whether it ends where the log cannot be written.
     pub log_or_stop: bool,
+    /// What each line begins with that it writes and logs: `utc`, or `none`.
+    pub clock: Option<&'a str>,
     /// The address where a program gives the outputs and gets the inputs of each cycle.
     pub io: Option<&'a str>,
     /// Whether other machines may reach that address.

@@ -16,9 +16,9 @@
 //! ecat serve SCENE [--port P] [--packets N] [--bind ADDRESS] [--forever] [--control] [--log] [--plain]
 //!     [--set-up] [--sii FOLDER] [--raw RAW] [--pcap PCAP] [--force]
 //! ecat master SCENE [--at AT] [--raw RAW] [--cycles N] [--until-end] [--every MICROSECONDS] [--busy]
-//!     [--limit LIMIT] [--late LATE] [--outputs OUTPUTS] [--log LOG] [--log-images] [--log-or-stop] [--io IO]
-//!     [--io-open] [--io-stale CYCLES] [--io-rest REST] [--control] [--stop] [--recover] [--tries TRIES]
-//!     [--leave STATE] [--pcap PCAP] [--force]
+//!     [--limit LIMIT] [--late LATE] [--outputs OUTPUTS] [--log LOG] [--log-images] [--log-or-stop]
+//!     [--clock CLOCK] [--io IO] [--io-open] [--io-stale CYCLES] [--io-rest REST] [--control] [--stop]
+//!     [--recover] [--tries TRIES] [--leave STATE] [--pcap PCAP] [--force]
 //! ecat scan [--at AT] [--raw RAW] [--limit LIMIT] [--late LATE] [--scene SCENE] [--force]
 //! ecat vectors
 //! ```

@@ -181,9 +181,9 @@ abbrev pub serve_line : App
 serve_line = with_rules (with_rules (new_app (codes "serve")) serve_words) device_words
 
 -- `master SCENE [--at AT] [--raw RAW] [--cycles N] [--until-end] [--every MICROSECONDS] [--busy]
--- [--limit LIMIT] [--late LATE] [--outputs OUTPUTS] [--log LOG] [--log-images] [--log-or-stop] [--io IO]
--- [--io-open] [--io-stale CYCLES] [--io-rest REST] [--control] [--stop] [--recover] [--tries TRIES]
--- [--leave STATE] [--pcap PCAP] [--force]`
+-- [--limit LIMIT] [--late LATE] [--outputs OUTPUTS] [--log LOG] [--log-images] [--log-or-stop]
+-- [--clock CLOCK] [--io IO] [--io-open] [--io-stale CYCLES] [--io-rest REST] [--control] [--stop]
+-- [--recover] [--tries TRIES] [--leave STATE] [--pcap PCAP] [--force]`
 abbrev pub master_words : List Rule
 master_words = scene_rule ∷ at_rule ∷ raw_rule
     ∷ option_rule (codes "N") (codes "cycles") ∷ flag_rule (codes "until-end") ∷ []
@@ -197,7 +197,7 @@ pace_words = option_rule (codes "MICROSECONDS") (codes "every") ∷ flag_rule (c
 abbrev pub course_words : List Rule
 course_words = option_rule (codes "OUTPUTS") (codes "outputs")
     ∷ option_rule (codes "LOG") (codes "log") ∷ flag_rule (codes "log-images")
-    ∷ flag_rule (codes "log-or-stop") ∷ []
+    ∷ flag_rule (codes "log-or-stop") ∷ option_rule (codes "CLOCK") (codes "clock") ∷ []
 
 -- where a program gives the outputs and gets the inputs, and whether lines of the input set and tell them
 abbrev pub io_words : List Rule

@@ -391,9 +391,9 @@ fn devices_of_serve<'a>(alloc: Global) -> Result<Vec<Arg<'a>>, AllocError>
 }
 
 // `master SCENE [--at AT] [--raw RAW] [--cycles N] [--until-end] [--every MICROSECONDS] [--busy]
-// [--limit LIMIT] [--late LATE] [--outputs OUTPUTS] [--log LOG] [--log-images] [--log-or-stop] [--io IO]
-// [--io-open] [--io-stale CYCLES] [--io-rest REST] [--control] [--stop] [--recover] [--tries TRIES]
-// [--leave STATE] [--pcap PCAP] [--force]`
+// [--limit LIMIT] [--late LATE] [--outputs OUTPUTS] [--log LOG] [--log-images] [--log-or-stop]
+// [--clock CLOCK] [--io IO] [--io-open] [--io-stale CYCLES] [--io-rest REST] [--control] [--stop]
+// [--recover] [--tries TRIES] [--leave STATE] [--pcap PCAP] [--force]`
 fn master<'a>(alloc: Global) -> Result<Command<'a>, AllocError>
     ensures { IfOk result (Builds master_line) }
 {
@@ -444,7 +444,7 @@ fn pace_of_master<'a>(alloc: Global) -> Result<Vec<Arg<'a>>, AllocError>
     ]?)
 }
 
-// `[--outputs OUTPUTS] [--log LOG] [--log-images] [--log-or-stop]`
+// `[--outputs OUTPUTS] [--log LOG] [--log-images] [--log-or-stop] [--clock CLOCK]`
 #[inline(never)]
 fn course_of_master<'a>(alloc: Global) -> Result<Vec<Arg<'a>>, AllocError>
     ensures { IfOk result (λ words. AreWords course_words words.items) }
@@ -454,11 +454,14 @@ fn course_of_master<'a>(alloc: Global) -> Result<Vec<Arg<'a>>, AllocError>
     let log = "A file that gets a line for each cycle: its number, its verdict and its counters";
     let images = "Writes to the log what each cycle sent and took, as hexadecimal digits";
     let or_stop = "Ends where the log cannot be written; else the cycles go on without it";
+    let clock =
+        "What each line that it prints or logs begins with: utc, the time; none; none if not given";
     Ok(vec![in alloc;
         option(alloc, "OUTPUTS", "outputs", outputs),
         option(alloc, "LOG", "log", log),
         flag(alloc, "log-images", images),
         flag(alloc, "log-or-stop", or_stop),
+        option(alloc, "CLOCK", "clock", clock),
     ]?)
 }
 
@@ -470,7 +473,7 @@ fn io_of_master<'a>(alloc: Global) -> Result<Vec<Arg<'a>>, AllocError>
     let io = "HOST:PORT where a program gives the outputs and gets the inputs of each cycle";
     let open = "Lets other machines reach that address";
     let stale = "After how many cycles without a packet of the program its outputs are stale";
-    let rest = "What stale outputs become: kept, zeros; kept if not given";
+    let rest = "What stale outputs become: kept, zeros, safe-op; kept if not given";
     let control = "Takes commands from standard input while it cycles, a line each";
     Ok(vec![in alloc;
         option(alloc, "IO", "io", io),

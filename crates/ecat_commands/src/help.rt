@@ -56,11 +56,15 @@ each frame that was sent is paired with what came back of it, and datagrams that
 are alike in command, address and length are counted: how many were sent, came
 back and were lost, how far their working counters moved, with the packet where
 each counter came first, and how often and how soon. With --index as well those
-of each index are counted apart. A file is then read twice.
+of each index are counted apart. With --stats and --csv the packets themselves
+have rows: when each was captured, in UTC, which way it went, the packet with
+which its trip began, the port of the line, and its datagrams. A file is read
+twice for it.
 
 Example:
   ecat list scenes/startup.pcap
-  ecat list scenes/startup.pcap --stats";
+  ecat list scenes/startup.pcap --stats
+  ecat list scenes/startup.pcap --stats --csv";
 
 /// Of `learn`.
 pub(crate) const LEARN: &str = "\
@@ -279,7 +283,8 @@ of each cycle, one packet each way: what it ordered last before a cycle goes out
 in it, and it is told each cycle's number, end and inputs. The address has to be
 one of this machine alone, unless --io-open is said. With --io-stale N outputs of
 which no packet came for N cycles are stale: the program is told, and with
---io-rest zeros they become 0.
+--io-rest zeros they become 0. With --io-rest safe-op they do too, and the slaves
+are asked for Safe-Op, one after the other; once it speaks again, for Op.
 With --control each line of standard input is a command, 32 at the most between
 two cycles. It is answered behind the next one, by what it asks for and ok, or
 refused and why, and has changed nothing then:
@@ -288,6 +293,9 @@ refused and why, and has changed nothing then:
   get ITEM [OFFSET LENGTH]     what an item sent, and took in the last good cycle
   slaves, cable                what is known of each slave, and of the cable
   counts, times                the sums that are told at the end, as of now
+  sdo STATION INDEX SUB [VALUE] reads or writes an object beside the cycles
+  state STATION init|pre-op|safe-op|op  asks a slave for a state, as well
+  acknowledge STATION          acknowledges its error
   leave init|pre-op|safe-op|op ends it, and leaves the slaves there
   quit                         ends it, as the end of the input does
 With --stop it ends at the first cycle that is not good. With --recover slaves
@@ -300,6 +308,8 @@ No cycle waits for a reader: lines that nobody takes, of the log as of all that
 is printed, are left out, counted and told at the end. A log that cannot be
 written is told once, the cycles go on, and the status is 3; with --log-or-stop
 it ends there.
+With --clock utc each line that is printed or logged begins with the time, as
+2026-12-01T04:16:03.123Z, but for answers to commands.
 With --until-end and --cycles it ends at the end of standard input too. With
 --busy it never sleeps while it waits for a cycle's time or for copies: it
 begins sooner, and takes a processor of its own.

@@ -44,13 +44,14 @@ scan --late 0x10 --at a:1 | Ok(Scan(ScanWords { at: Some(\"a:1\"), raw: None, li
 master a.scene --at a:1 | \
     Ok(Scene { path: \"a.scene\", command: Master(MasterWords { at: Some(\"a:1\"), raw: None, \
     cycles: None, until_end: false, every: None, busy: false, limit: None, \
-    late: None, outputs: None, log: None, log_images: false, log_or_stop: false, io: None, io_open: false, \
+    late: None, outputs: None, log: None, log_images: false, log_or_stop: false, clock: None, \
+    io: None, io_open: false, \
     io_stale: None, io_rest: None, control: false, stop: false, \
     recover: false, tries: None, leave: None, pcap: None, force: false }) })
 master a.scene --late 250 --leave safe-op | \
     Ok(Scene { path: \"a.scene\", command: Master(MasterWords { at: None, raw: None, cycles: None, \
     until_end: false, every: None, busy: false, limit: None, \
-    late: Some(250), outputs: None, log: None, log_images: false, log_or_stop: false, io: None, \
+    late: Some(250), outputs: None, log: None, log_images: false, log_or_stop: false, clock: None, io: None, \
     io_open: false, io_stale: None, io_rest: None, control: false, stop: false, \
     recover: false, tries: None, \
     leave: Some(\"safe-op\"), pcap: None, force: false }) })
@@ -59,32 +60,35 @@ master a.scene --raw 10 --cycles 7 --every 1000 --limit 2000 --outputs count --l
     Ok(Scene { path: \"a.scene\", command: Master(MasterWords { at: None, raw: Some(\"10\"), \
     cycles: Some(7), until_end: false, every: Some(1000), busy: true, \
     limit: Some(2000), late: None, outputs: Some(\"count\"), log: Some(\"f\"), log_images: false, \
-    log_or_stop: false, \
+    log_or_stop: false, clock: None, \
     io: None, io_open: false, io_stale: None, io_rest: None, control: false, \
     stop: true, recover: true, tries: None, leave: None, pcap: None, force: false }) })
-master a.scene --at a:1 --log f --log-images --log-or-stop --until-end --pcap a.pcap --force | \
+master a.scene --at a:1 --log f --log-images --log-or-stop --clock utc --until-end --pcap a.pcap --force | \
     Ok(Scene { path: \"a.scene\", command: Master(MasterWords { at: Some(\"a:1\"), raw: None, \
     cycles: None, until_end: true, every: None, busy: false, limit: None, \
-    late: None, outputs: None, log: Some(\"f\"), log_images: true, log_or_stop: true, io: None, \
+    late: None, outputs: None, log: Some(\"f\"), log_images: true, log_or_stop: true, clock: Some(\"utc\"), \
+    io: None, \
     io_open: false, io_stale: None, io_rest: None, control: false, stop: false, \
     recover: false, tries: None, leave: None, \
     pcap: Some(\"a.pcap\"), force: true }) })
 master a.scene --at a:1 --io b:2 --io-open --io-stale 9 --io-rest zeros | \
     Ok(Scene { path: \"a.scene\", command: Master(MasterWords { at: Some(\"a:1\"), raw: None, \
     cycles: None, until_end: false, every: None, busy: false, limit: None, \
-    late: None, outputs: None, log: None, log_images: false, log_or_stop: false, io: Some(\"b:2\"), \
+    late: None, outputs: None, log: None, log_images: false, log_or_stop: false, clock: None, \
+    io: Some(\"b:2\"), \
     io_open: true, io_stale: Some(9), io_rest: Some(\"zeros\"), control: false, stop: false, \
     recover: false, tries: None, leave: None, pcap: None, force: false }) })
 master a.scene --at a:1 --control | \
     Ok(Scene { path: \"a.scene\", command: Master(MasterWords { at: Some(\"a:1\"), raw: None, \
     cycles: None, until_end: false, every: None, busy: false, limit: None, \
-    late: None, outputs: None, log: None, log_images: false, log_or_stop: false, io: None, io_open: false, \
+    late: None, outputs: None, log: None, log_images: false, log_or_stop: false, clock: None, \
+    io: None, io_open: false, \
     io_stale: None, io_rest: None, control: true, stop: false, \
     recover: false, tries: None, leave: None, pcap: None, force: false }) })
 master a.scene --at a:1 --recover --tries 5000 | \
     Ok(Scene { path: \"a.scene\", command: Master(MasterWords { at: Some(\"a:1\"), raw: None, \
     cycles: None, until_end: false, every: None, busy: false, limit: None, \
-    late: None, outputs: None, log: None, log_images: false, log_or_stop: false, io: None, \
+    late: None, outputs: None, log: None, log_images: false, log_or_stop: false, clock: None, io: None, \
     io_open: false, io_stale: None, io_rest: None, control: false, stop: false, \
     recover: true, tries: Some(5000), leave: None, pcap: None, force: false }) })
 sdo a.scene 0x1001 0x1018 1 | \
