@@ -57,6 +57,20 @@ def answer(master, text):
     return told
 
 
+def answer_and(master, text, words):
+    """Gives a command, and answers what it is answered by, once these words were told of a cycle too, before
+    that or behind it."""
+    master.process.stdin.write(text.encode() + b"\n")
+    told, is_told, is_over = "", False, False
+    while not (is_told and is_over) and (line := master.line()):
+        if re.match(r"cycle \d+: ", line):
+            is_told = is_told or words in line
+        else:
+            told += line
+            is_over = line == "ok\n" or line.startswith(("refused: ", "failed: "))
+    return told if is_told else f"{told}and not {words}"
+
+
 def tells(master, words):
     """Reads on to a line of a cycle with these words, and answers whether there is one."""
     while (line := master.line()) and words not in line:
@@ -254,14 +268,15 @@ def objects_are_read_and_written_beside_the_cycles(stage):
 def a_slave_is_asked_for_a_state_beside_the_cycles(stage):
     """It comes to it, and is told of; an error is acknowledged; a state that it refuses is told with its code."""
     with commanded(stage, MACHINE, "--every", "5000") as (line, master):
-        yield "safe-op", "state 0x1003 state 4\nok\n", answer(master, "state 0x1003 safe-op")
-        yield "told", "True", tells(master, "slave 2 (0x1003) is in Safe-Op\n")
-        yield "op", "state 0x1003 state 8\nok\n", answer(master, "state 0x1003 op")
-        yield "again", "True", tells(master, "all in Op again")
+        told = answer_and(master, "state 0x1003 safe-op", "slave 2 (0x1003) is in Safe-Op\n")
+        yield "safe-op", "state 0x1003 state 4\nok\n", told
+        told = answer_and(master, "state 0x1003 op", "all in Op again")
+        yield "op", "state 0x1003 state 8\nok\n", told
         yield "fall", "ok\n", command(line, "error 0x1002 0x0011")
         yield "not all", "True", tells(master, "slave 1 (0x1002) is in Safe-Op with error 0x0011")
         yield "acknowledged", "acknowledge 0x1002 state 4\nok\n", answer(master, "acknowledge 0x1002")
-        yield "op again", "state 0x1002 state 8\nok\n", answer(master, "state 0x1002 op")
+        told = answer_and(master, "state 0x1002 op", "all in Op again")
+        yield "op again", "state 0x1002 state 8\nok\n", told
         yield "init", "state 0x1001 state 1\nok\n", answer(master, "state 0x1001 init")
         yield "refused", "failed: state 0x1001 error 0x0011\n", answer(master, "state 0x1001 op")
         yield "quit", "ok\n", answer(master, "quit")
