@@ -8,8 +8,8 @@ use Rattle.ec_services.specs.declared.fault.MasterFault.TheVariants.{Port as Por
 use Rattle.ecat_acts.specs.declared.failure.Failure.{Failure}
 use Rattle.ecat_acts.specs.declared.failure.Failure.TheVariants.{Asked, At, Capture, Descriptors, Forms}
 use Rattle.ecat_acts.specs.declared.failure.Failure.TheVariants.{Images, IndexAlone, IoAlone, NeedsScene}
-use Rattle.ecat_acts.specs.declared.failure.Failure.TheVariants.{Reach, Rest, RestRecovers, Stamps, State, Task}
-use Rattle.ecat_acts.specs.declared.failure.Failure.TheVariants.{TriesAlone}
+use Rattle.ecat_acts.specs.declared.failure.Failure.TheVariants.{Reach, Rest, RestRecovers, Stamps, State}
+use Rattle.ecat_acts.specs.declared.failure.Failure.TheVariants.{Task, TriesAlone}
 use Rattle.ecat_acts.specs.declared.failure.Failure.TheVariants.{ControlOutputs, TwoOutputs}
 use Rattle.ecat_acts.specs.declared.failure.Failure.TheVariants.{Line as OfLine}
 use Rattle.ecat_setup.specs.declared.failure.LineFailure.{LineFailure}
