@@ -1935,20 +1935,20 @@ SCENES = os.path.join(os.path.dirname(os.path.abspath(__file__)), "..", "scenes"
 # before its works were lent from cycle to cycle, and of space what the program has grown by since. The system
 # moves the top of a stack by up to 8 KB by chance.
 ROOMS = [
-    ("check check/accepted.scene", 104, 4976),
-    ("cover cover/left_out.scene", 104, 4976),
-    ("lint check/accepted.scene", 104, 4976),
-    ("where where/one_link_down.scene", 104, 4976),
-    ("run first.scene", 192, 4976),
-    ("run first.scene --judge", 192, 4976),
-    ("sweep sweep/two_slaves.scene", 320, 4976),
-    ("sdo sdo/lost_answer.scene 0x1001 0x1018 1 --surely", 104, 4976),
-    ("show startup.pcap", 104, 4976),
-    ("list startup.pcap --stats", 104, 4976),
-    ("learn startup.pcap", 104, 4976),
-    ("judge startup.pcap", 104, 4976),
-    ("replay startup.pcap serve/line.scene", 104, 4976),
-    ("vectors", 512, 4976),
+    ("check check/accepted.scene", 104, 5040),
+    ("cover cover/left_out.scene", 104, 5040),
+    ("lint check/accepted.scene", 104, 5040),
+    ("where where/one_link_down.scene", 104, 5040),
+    ("run first.scene", 192, 5040),
+    ("run first.scene --judge", 192, 5040),
+    ("sweep sweep/two_slaves.scene", 320, 5040),
+    ("sdo sdo/lost_answer.scene 0x1001 0x1018 1 --surely", 104, 5040),
+    ("show startup.pcap", 104, 5040),
+    ("list startup.pcap --stats", 104, 5040),
+    ("learn startup.pcap", 104, 5040),
+    ("judge startup.pcap", 104, 5040),
+    ("replay startup.pcap serve/line.scene", 104, 5040),
+    ("vectors", 512, 5040),
 ]
 
 
