@@ -62,7 +62,7 @@ impl Task for Asking {
 }
 
 /// An object of a slave that is read.
-macro_rules! read {
+macro_rules! reads {
     ($station:expr, $index:expr) => {
         Asked {
             station: $station,
@@ -75,7 +75,7 @@ macro_rules! read {
 }
 
 /// A value that is written to the object that slaves have.
-macro_rules! write {
+macro_rules! writes {
     ($station:expr, $value:expr) => {
         Asked {
             station: $station,
@@ -175,9 +175,9 @@ static ROWS: [Row; 10] = [
     Row {
         name: "an object is read and written and read again",
         asks: &[
-            read!(0x1002, 0x1018),
-            write!(0x1002, 7),
-            read!(0x1002, 0x8000),
+            reads!(0x1002, 0x1018),
+            writes!(0x1002, 7),
+            reads!(0x1002, 0x8000),
         ],
         events: &[],
         recover: true,
@@ -195,7 +195,7 @@ static ROWS: [Row; 10] = [
     },
     Row {
         name: "an object that there is not is aborted",
-        asks: &[read!(0x1003, 0x8001)],
+        asks: &[reads!(0x1003, 0x8001)],
         events: &[],
         recover: true,
         cycles: 10,
@@ -208,7 +208,7 @@ static ROWS: [Row; 10] = [
     },
     Row {
         name: "a station that no slave has is asked for nothing",
-        asks: &[read!(0x1004, 0x1018), write!(0x1001, 7)],
+        asks: &[reads!(0x1004, 0x1018), writes!(0x1001, 7)],
         events: &[],
         recover: true,
         cycles: 10,
@@ -268,7 +268,7 @@ static ROWS: [Row; 10] = [
     },
     Row {
         name: "a frame that is lost goes out again",
-        asks: &[read!(0x1002, 0x1018), write!(0x1002, 7)],
+        asks: &[reads!(0x1002, 0x1018), writes!(0x1002, 7)],
         events: &[
             (0, Event::LoseBeside),
             (2, Event::LoseBeside),
@@ -313,9 +313,9 @@ static ROWS: [Row; 10] = [
     Row {
         name: "looks and a recovery go on beside a service",
         asks: &[
-            read!(0x1002, 0x1018),
-            write!(0x1002, 7),
-            read!(0x1001, 0x8000),
+            reads!(0x1002, 0x1018),
+            writes!(0x1002, 7),
+            reads!(0x1001, 0x8000),
         ],
         events: &[
             (0, Event::Falls(0, AlState::PreOp)),
@@ -341,7 +341,7 @@ static ROWS: [Row; 10] = [
     },
     Row {
         name: "behind a cycle of which no copy came nobody is asked",
-        asks: &[read!(0x1002, 0x1018), read!(0x1003, 0x8000)],
+        asks: &[reads!(0x1002, 0x1018), reads!(0x1003, 0x8000)],
         events: &[(6, Event::Fault), (7, Event::Fault)],
         recover: true,
         cycles: 16,
@@ -358,7 +358,7 @@ static ROWS: [Row; 10] = [
     },
     Row {
         name: "what is under way behind the last cycle has no answer",
-        asks: &[read!(0x1002, 0x1018)],
+        asks: &[reads!(0x1002, 0x1018)],
         events: &[],
         recover: true,
         cycles: 3,
