@@ -187,7 +187,7 @@ def what_is_installed_lies_below_destdir(ecat, folder, _limit):
         (("-",), "--help --version -V"),
         (("--v",), "--version"),
         (("help", "sc"), "scan"),
-        (("list", "--"), "--csv --faults --stats --index --help"),
+        (("list", "--"), "--csv --faults --stats --index --json --help"),
         (("master", "x.scene", "--re"), "--recover"),
         (("run", "sc"), ""),
     ]:

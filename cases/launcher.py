@@ -629,7 +629,8 @@ def what_is_missing_or_damaged_is_named(clone):
 @case
 def cases_say_what_they_wait_for(clone):
     os.mkdir(clone.at("cases"))
-    for name in ("try", "live.py", "commanded.py", "launcher.py", "install.py", "made.py", "signals.py"):
+    scripts = "live commanded named through scanned screened followed objects launcher install made signals".split()
+    for name in ("try", *(f"{name}.py" for name in scripts)):
         copy(os.path.join(ROOT, "cases", name), clone.at(f"cases/{name}"))
     os.symlink(shutil.which("python3"), os.path.join(clone.bin, "python3"))
     clone.rt(toolchain(OTHER, seconds=3))

@@ -1935,20 +1935,20 @@ SCENES = os.path.join(os.path.dirname(os.path.abspath(__file__)), "..", "scenes"
 # before its works were lent from cycle to cycle, and of space what the program has grown by since. The system
 # moves the top of a stack by up to 8 KB by chance.
 ROOMS = [
-    ("check check/accepted.scene", 104, 5040),
-    ("cover cover/left_out.scene", 104, 5040),
-    ("lint check/accepted.scene", 104, 5040),
-    ("where where/one_link_down.scene", 104, 5040),
-    ("run first.scene", 192, 5040),
-    ("run first.scene --judge", 192, 5040),
-    ("sweep sweep/two_slaves.scene", 320, 5040),
-    ("sdo sdo/lost_answer.scene 0x1001 0x1018 1 --surely", 104, 5040),
-    ("show startup.pcap", 104, 5040),
-    ("list startup.pcap --stats", 104, 5040),
-    ("learn startup.pcap", 104, 5040),
-    ("judge startup.pcap", 104, 5040),
-    ("replay startup.pcap serve/line.scene", 104, 5040),
-    ("vectors", 512, 5040),
+    ("check check/accepted.scene", 104, 5600),
+    ("cover cover/left_out.scene", 104, 5600),
+    ("lint check/accepted.scene", 104, 5600),
+    ("where where/one_link_down.scene", 104, 5600),
+    ("run first.scene", 192, 5600),
+    ("run first.scene --judge", 192, 5600),
+    ("sweep sweep/two_slaves.scene", 320, 5600),
+    ("sdo sdo/lost_answer.scene 0x1001 0x1018 1 --surely", 104, 5600),
+    ("show startup.pcap", 104, 5600),
+    ("list startup.pcap --stats", 104, 5600),
+    ("learn startup.pcap", 104, 5600),
+    ("judge startup.pcap", 104, 5600),
+    ("replay startup.pcap serve/line.scene", 104, 5600),
+    ("vectors", 512, 5600),
 ]
 
 
@@ -2071,7 +2071,7 @@ def a_master_tells_a_terminal_of_each_second_anew(stage):
         words = ("master", "m", "--at", both_ends(stage))
         with terminal() as (written, screen):
             more = {"stdin": subprocess.PIPE, "stderr": screen}
-            with stage.start(*words, "--limit", "10000000", **more) as master:
+            with stage.start(*words, "--progress", "lines", "--limit", "10000000", **more) as master:
                 for wanted in STARTED.splitlines(True):
                     yield "start", wanted, master.line()
                 # By then the look behind the first cycle is over, which may take the late copy too.

@@ -1,5 +1,9 @@
 pub mod ByteLemmas
 pub mod FrontLemmas
+pub mod TextLemmas
 pub mod OrderLemmas
 pub mod ReportLemmas
+pub mod QuestionLemmas
+pub mod ReplyLemmas
+pub mod KindLemmas
 pub mod Laws

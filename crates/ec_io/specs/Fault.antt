@@ -6,6 +6,7 @@ use Rattle.ec_io.specs.Cycle.{letters, version}
 use Rattle.ec_io.specs.declared.fault.PacketFault.{PacketFault}
 use Rattle.ec_io.specs.declared.fault.PacketFault.TheVariants.{Short, OtherMagic, OtherVersion, OtherKind}
 use Rattle.ec_io.specs.declared.fault.PacketFault.TheVariants.{Length, BadEnd, BadFlags, BadItem, BadInputs}
+use Rattle.ec_io.specs.declared.fault.PacketFault.TheVariants.{BadLast, LongText}
 
 -- the fault of the first test that holds
 abbrev pub first_of : List (Bool × PacketFault) → Option PacketFault
@@ -41,3 +42,5 @@ place_of (BadEnd _) = Some 24
 place_of (BadFlags _) = Some 25
 place_of (BadItem _) = Some 26
 place_of BadInputs = Some 32
+place_of (BadLast _) = Some 18
+place_of LongText = Some 6

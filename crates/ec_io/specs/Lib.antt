@@ -3,4 +3,7 @@ pub mod End
 pub mod Fault
 pub mod Flags
 pub mod Order
+pub mod Question
+pub mod Reply
 pub mod Report
+pub mod Text

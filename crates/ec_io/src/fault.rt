@@ -4,7 +4,7 @@ ghost use Rattle.std.specs.Prelude.{◌≡◌};
 ghost use Rattle.ec_io.specs.Fault.{place_of};
 
 use crate::layout::{
-    END_AT, FLAGS_AT, INPUTS_OF_AT, ITEM_AT, KIND_AT, LENGTH_AT, LETTERS_AT, VERSION_AT,
+    END_AT, FLAGS_AT, INPUTS_OF_AT, ITEM_AT, KIND_AT, LAST_AT, LENGTH_AT, LETTERS_AT, VERSION_AT,
 };
 use thiserror::Error;
 
@@ -21,7 +21,8 @@ pub enum PacketFault {
     /// The packet is of this version, and version 1 was wanted.
     #[error("the packet is of version {0}, and 1 was wanted")]
     OtherVersion(u8),
-    /// The packet is of this kind, and another was wanted: orders are of kind 1, reports of kind 2.
+    /// The packet is of this kind, and another was wanted: orders are of kind 1, reports of kind 2, questions
+    /// of kind 3, replies of kind 4.
     #[error("the packet is of kind {0}, and another was wanted")]
     OtherKind(u8),
     /// The bytes that follow the head are more or fewer than it says.
@@ -39,6 +40,12 @@ pub enum PacketFault {
     /// The report has inputs, and they are of no cycle.
     #[error("there are inputs, and they are of no cycle")]
     BadInputs,
+    /// The reply says this of whether it is the last one, and 0 or 1 was wanted.
+    #[error("whether it is the last reply is told by {0}, and 0 or 1 was wanted")]
+    BadLast(u16),
+    /// The line of the question, or the text of the reply, is of more than 1,024 bytes.
+    #[error("there are more than 1024 bytes of text")]
+    LongText,
 }
 
 impl PacketFault {
@@ -57,11 +64,14 @@ impl PacketFault {
             PacketFault::BadFlags(_) => Some(FLAGS_AT),
             PacketFault::BadItem(_) => Some(ITEM_AT),
             PacketFault::BadInputs => Some(INPUTS_OF_AT),
+            PacketFault::BadLast(_) => Some(LAST_AT),
+            PacketFault::LongText => Some(LENGTH_AT),
         }
     }
 }
 
-/// A packet is not written: there is no room for it, or its process data are more than 65,535 bytes.
+/// A packet is not written: there is no room for it, or its process data are more than 65,535 bytes, or its
+/// text is of more than 1,024.
 #[derive(Clone, Copy, PartialEq, Eq, Debug, Error)]
 #[error("no room for the packet")]
 pub struct NoRoom;

@@ -1,12 +1,13 @@
 //! The front of a packet, which all kinds have, and how a packet is put together.
 
-ghost use Rattle.std.specs.Prelude.{◌≡◌, ◌+◌, ◌≤◌, ◌↔◌, ◌++◌, length, drop, IsOk, IfOk};
+ghost use Rattle.std.specs.Prelude.{◌≡◌, ◌+◌, ◌≤◌, ◌↔◌, ◌++◌, ◌∷◌, [], length, drop, IsOk, IfOk};
 ghost use Rattle.ec_io.specs.Cycle.{front};
-ghost use Rattle.ec_io.specs.Fault.{front_fault};
+ghost use Rattle.ec_io.specs.Fault.{first_of, front_fault};
+ghost use Rattle.ec_io.specs.Text.{text_test};
 
 use crate::fault::{NoRoom, PacketFault};
 use crate::layout::{
-    FRONT, KIND_AT, LENGTH_AT, LETTERS, LETTERS_AT, MAX_DATA, VERSION, VERSION_AT,
+    FRONT, KIND_AT, LENGTH_AT, LETTERS, LETTERS_AT, MAX_DATA, MAX_TEXT, VERSION, VERSION_AT,
 };
 use crate::numbers::{u16_at, u32_at};
 use byteorder::{ByteOrder, LittleEndian};
@@ -63,7 +64,32 @@ pub(crate) fn packet_size(size: usize, count: usize, room: usize) -> Result<usiz
     Ok(size + count)
 }
 
-/// Writes a head, and the process data behind it, to the front of some bytes.
+/// How many bytes a packet takes that has a head of a size and as many bytes of text, where there is room for
+/// it and they are not more than 1,024.
+pub(crate) fn text_size(size: usize, count: usize, room: usize) -> Result<usize, NoRoom>
+    requires { size ≤ MAX_DATA }
+    ensures value { IfOk result (λ whole. whole ≡ size + count) }
+    ensures fits { IsOk result ↔ ((count ≤ MAX_TEXT) × (size + count ≤ room)) }
+{
+    if count > MAX_TEXT {
+        return Err(NoRoom);
+    }
+    packet_size(size, count, room)
+}
+
+/// The fault of bytes that have more than 1,024 bytes of text behind a head of a size.
+pub(crate) fn text_fault(bytes: &[u8], size: usize) -> Option<PacketFault>
+    requires { size ≤ MAX_DATA }
+    ensures { result ≡ first_of (text_test size bytes.now ∷ []) }
+{
+    if bytes.len() > size + MAX_TEXT {
+        Some(PacketFault::LongText)
+    } else {
+        None
+    }
+}
+
+/// Writes a head, and what is behind it, to the front of some bytes.
 pub(crate) fn put_packet(into: &mut [u8], head: &[u8], behind: &[u8])
     requires { length head.now + length behind.now ≤ length into.old }
     ensures { into.new

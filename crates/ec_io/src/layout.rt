@@ -6,6 +6,15 @@ pub const ORDER_HEAD: usize = 16;
 /// The bytes of a report's head, which its inputs follow.
 pub const REPORT_HEAD: usize = 40;
 
+/// The bytes of a question's head, which its line follows.
+pub const QUESTION_HEAD: usize = 16;
+
+/// The bytes of a reply's head, which a run of text follows.
+pub const REPLY_HEAD: usize = 20;
+
+/// The most bytes of a question's line, and of a reply's text.
+pub const MAX_TEXT: usize = 1_024;
+
 /// The most bytes of process data in a packet, since the length field has 16 bits.
 pub const MAX_DATA: usize = 65_535;
 
@@ -18,8 +27,14 @@ pub(crate) const VERSION: u8 = 1;
 /// The kind of a packet: an order,
 pub(crate) const ORDER: u8 = 1;
 
-/// or a report.
+/// a report,
 pub(crate) const REPORT: u8 = 2;
+
+/// a question,
+pub(crate) const QUESTION: u8 = 3;
+
+/// or a reply.
+pub(crate) const REPLY: u8 = 4;
 
 /// Where the fields of the front begin, which is the same in all packets: the letters,
 pub(crate) const LETTERS_AT: usize = 0;
@@ -30,7 +45,7 @@ pub(crate) const VERSION_AT: usize = 4;
 /// the kind,
 pub(crate) const KIND_AT: usize = 5;
 
-/// and how many bytes of process data follow the head.
+/// and how many bytes follow the head.
 pub(crate) const LENGTH_AT: usize = 6;
 
 /// The bytes of the front.
@@ -59,6 +74,15 @@ pub(crate) const LATE_AT: usize = 28;
 
 /// and the number of the cycle that the inputs are of.
 pub(crate) const INPUTS_OF_AT: usize = 32;
+
+/// Where the number of a question begins, in it and in its replies.
+pub(crate) const NUMBER_AT: usize = 8;
+
+/// Where it begins behind how many others a reply stands,
+pub(crate) const PLACE_AT: usize = 16;
+
+/// and whether it is the last one.
+pub(crate) const LAST_AT: usize = 18;
 
 /// The last of the numbers that say how a cycle ended.
 pub(crate) const LAST_END: u8 = 4;

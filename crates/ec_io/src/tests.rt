@@ -12,6 +12,8 @@ use std::fmt::Debug;
 use std::process::Abort;
 use std::test::Fail;
 
+mod text;
+
 /// What stands in bytes before a packet is written there.
 const BEFORE: u8 = 0x77;
 
@@ -369,7 +371,7 @@ fn what_has_no_spelling_is_not_written(rt: HostRuntime) {
 }
 
 /// Faults, where they are, and their texts.
-const TEXTS: [(PacketFault, Option<usize>, &str); 9] = [
+const TEXTS: [(PacketFault, Option<usize>, &str); 11] = [
     (PacketFault::Short, None, "the packet ends inside its head"),
     (
         PacketFault::OtherMagic,
@@ -410,6 +412,16 @@ const TEXTS: [(PacketFault, Option<usize>, &str); 9] = [
         PacketFault::BadInputs,
         Some(32),
         "there are inputs, and they are of no cycle",
+    ),
+    (
+        PacketFault::BadLast(2),
+        Some(18),
+        "whether it is the last reply is told by 2, and 0 or 1 was wanted",
+    ),
+    (
+        PacketFault::LongText,
+        Some(6),
+        "there are more than 1024 bytes of text",
     ),
 ];
 

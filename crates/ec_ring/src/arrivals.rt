@@ -111,8 +111,8 @@ pub trait HeardPorts {
         0
     }
 
-    /// Which copies of earlier trips came since it was last asked, later than their trips; none where the
-    /// ports can't tell.
+    /// Which copies of earlier trips came since it was last asked, later than their trips, and how many
+    /// frames of others; none where the ports can't tell.
     fn take_late(&mut self) -> LateCopies
         ensures { self.new ≡ self.old }
     {

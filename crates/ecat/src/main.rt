@@ -190,7 +190,8 @@ where
             faults,
             stats,
             by_index,
-        } => match Wanted::of(*csv, *faults, *stats, *by_index, &console) {
+            json,
+        } => match Wanted::of(*csv, *faults, *stats, *by_index, *json, &console) {
             Ok(wanted) => open_listing(rt, file, wanted, console.input, out, err),
             Err(failure) => report(&failure, out, err),
         },
@@ -208,16 +209,16 @@ where
             scene,
             csv,
             lines,
-        } => {
-            let asked = asked_of_judge(*csv, *lines);
-            match *scene {
-                Some(path) => {
-                    let by = ByScene::Judge(asked);
-                    compare_with_scene(rt, file, path, by, console.input, out, err)
-                }
-                None => judge_alone(rt, file, asked, out, err),
+            json,
+            clock,
+        } => match (asked_of_judge(*csv, *json, *lines, *clock), *scene) {
+            (Ok(asked), Some(path)) => {
+                let by = ByScene::Judge(asked);
+                compare_with_scene(rt, file, path, by, console.input, out, err)
             }
-        }
+            (Ok(asked), None) => judge_alone(rt, file, asked, out, err),
+            (Err(failure), _) => report(&failure, out, err),
+        },
         CaptureCommand::Replay {
             file,
             scene,

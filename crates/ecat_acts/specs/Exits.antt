@@ -9,8 +9,9 @@ use Rattle.ecat_acts.specs.declared.failure.Failure.{Failure}
 use Rattle.ecat_acts.specs.declared.failure.Failure.TheVariants.{Asked, At, Capture, Descriptors, Forms}
 use Rattle.ecat_acts.specs.declared.failure.Failure.TheVariants.{Images, IndexAlone, IoAlone, NeedsScene}
 use Rattle.ecat_acts.specs.declared.failure.Failure.TheVariants.{Reach, Rest, RestRecovers, Stamps, State}
-use Rattle.ecat_acts.specs.declared.failure.Failure.TheVariants.{Task, TriesAlone}
-use Rattle.ecat_acts.specs.declared.failure.Failure.TheVariants.{ControlOutputs, TwoOutputs}
+use Rattle.ecat_acts.specs.declared.failure.Failure.TheVariants.{JsonAlone, Task, TriesAlone, TwoForms}
+use Rattle.ecat_acts.specs.declared.failure.Failure.TheVariants.{ControlOutputs, Door, Through, TwoOutputs}
+use Rattle.ecat_acts.specs.declared.failure.Failure.TheVariants.{Progress}
 use Rattle.ecat_acts.specs.declared.failure.Failure.TheVariants.{Line as OfLine}
 use Rattle.ecat_setup.specs.declared.failure.LineFailure.{LineFailure}
 use Rattle.ecat_setup.specs.declared.failure.LineFailure.TheVariants.{NoMemory, Output, Port, Read}
@@ -62,6 +63,8 @@ IsExit At status = status ≡ BAD_ARGUMENTS
 IsExit Forms status = status ≡ BAD_ARGUMENTS
 IsExit NeedsScene status = status ≡ BAD_ARGUMENTS
 IsExit IndexAlone status = status ≡ BAD_ARGUMENTS
+IsExit TwoForms status = status ≡ BAD_ARGUMENTS
+IsExit JsonAlone status = status ≡ BAD_ARGUMENTS
 IsExit Descriptors status = status ≡ BAD_ARGUMENTS
 IsExit State status = status ≡ BAD_ARGUMENTS
 IsExit Rest status = status ≡ BAD_ARGUMENTS
@@ -71,5 +74,8 @@ IsExit ControlOutputs status = status ≡ BAD_ARGUMENTS
 IsExit IoAlone status = status ≡ BAD_ARGUMENTS
 IsExit TriesAlone status = status ≡ BAD_ARGUMENTS
 IsExit Stamps status = status ≡ BAD_ARGUMENTS
+IsExit Progress status = status ≡ BAD_ARGUMENTS
+IsExit Through status = status ≡ BAD_ARGUMENTS
+IsExit Door status = status ≡ BAD_ARGUMENTS
 IsExit (Task fault) status = IsTaskExit fault status
 IsExit _ status = status ≡ FAILED

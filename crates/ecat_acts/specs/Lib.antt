@@ -3,3 +3,4 @@ pub mod Exits
 pub mod Failures
 pub mod Raw
 pub mod Values
+pub mod Progress

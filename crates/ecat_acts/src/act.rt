@@ -1,25 +1,49 @@
 //! The commands over a scene and two writers.
 
+ghost use Rattle.std.specs.Prelude.{◌≡◌, if◌then◌else◌};
+ghost use Rattle.ecat_acts.specs.declared.act.Told.TheVariants.{Json, Texts};
+
 use crate::failure::{Failure, report, status_of};
 use ecat_record::unrecorded;
 use ecat_scene::{Scene, SceneFault};
 use ecat_setup::LineFailure;
-use ecat_simulation::{Asked, check, cover, lint, run, sdo, sweep, where_broken};
+use ecat_simulation::{
+    Asked, check, cover, json_check, json_cover, json_lint, json_where, lint, run, sdo, sweep,
+    where_broken,
+};
 use ecat_vectors::vectors;
 use std::alloc::Global;
 use std::io::Write;
+
+/// How a command prints what it tells.
+#[derive(Clone, Copy)]
+pub enum Told {
+    /// As texts.
+    Texts,
+    /// As objects of JSON, one a line.
+    Json,
+}
+
+impl Told {
+    /// How it prints where objects are asked for, or are not.
+    pub fn of(json: bool) -> Told
+        ensures { result ≡ (if json then Json else Texts) }
+    {
+        if json { Told::Json } else { Told::Texts }
+    }
+}
 
 /// A command that needs nothing but its scene.
 #[derive(Clone, Copy)]
 pub enum Alone {
     /// `check`.
-    Check,
+    Check(Told),
     /// `cover`.
-    Cover,
+    Cover(Told),
     /// `lint`.
-    Lint,
+    Lint(Told),
     /// `where`, of the line of the scene.
-    Where,
+    Where(Told),
     /// `run`.
     Run {
         /// Whether its cycle is judged.
@@ -77,10 +101,14 @@ where
     V: Write,
 {
     match command {
-        Alone::Check => check(alloc, &scene, out),
-        Alone::Cover => cover(alloc, &scene, out),
-        Alone::Lint => lint(alloc, text, &scene, out),
-        Alone::Where => where_broken(alloc, scene, out),
+        Alone::Check(Told::Texts) => check(alloc, &scene, out),
+        Alone::Cover(Told::Texts) => cover(alloc, &scene, out),
+        Alone::Lint(Told::Texts) => lint(alloc, text, &scene, out),
+        Alone::Where(Told::Texts) => where_broken(alloc, scene, out),
+        Alone::Check(Told::Json) => json_check(alloc, &scene, out),
+        Alone::Cover(Told::Json) => json_cover(alloc, &scene, out),
+        Alone::Lint(Told::Json) => json_lint(alloc, text, &scene, out),
+        Alone::Where(Told::Json) => json_where(alloc, scene, out),
         Alone::Run { judge } => run(alloc, *judge, &mut unrecorded(), scene, out),
         Alone::Sweep => sweep(alloc, scene, out),
         Alone::Sdo(asked) => sdo(alloc, asked, scene, out, err),

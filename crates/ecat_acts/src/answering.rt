@@ -50,6 +50,14 @@ impl<D: Task> Task for Answering<'_, D> {
         self.task.leave()
     }
 
+    fn show<V: Write>(
+        &mut self,
+        known: &Known<'_, '_, '_>,
+        errors: &mut Lines<'_, V>,
+    ) -> io::Result<()> {
+        self.task.show(known, errors)
+    }
+
     fn answer<W: Write>(
         &mut self,
         known: &Known<'_, '_, '_>,

@@ -68,6 +68,10 @@ pub enum Failure {
     NeedsScene,
     /// Sums by index are asked for, and no sums.
     IndexAlone,
+    /// Objects of JSON are asked for, and another form.
+    TwoForms,
+    /// Objects of JSON are asked for of a listing without sums.
+    JsonAlone,
     /// The descriptors of packet sockets are no numbers.
     Descriptors,
     /// The state in which slaves are to be left has another name.
@@ -92,6 +96,14 @@ pub enum Failure {
     TriesAlone,
     /// What lines begin with has another name.
     Stamps,
+    /// What is told of cycles has another name.
+    Progress,
+    /// A master that runs on a line is to be asked, and the line is to be reached besides.
+    Through,
+    /// The door of a running master is no host and port.
+    Door,
+    /// No running master answers.
+    Unanswered,
 }
 
 impl From<LineFailure> for Failure {
@@ -162,6 +174,11 @@ pub fn report<W: Write, V: Write>(failure: &Failure, out: &mut W, err: &mut V) -
         ),
         Failure::NeedsScene => bad_argument(err, b"argument: NeedsScene\n"),
         Failure::IndexAlone => bad_argument(err, b"argument: --index is of the sums of --stats\n"),
+        Failure::TwoForms => bad_argument(err, b"argument: --json is a form by itself\n"),
+        Failure::JsonAlone => bad_argument(
+            err,
+            b"argument: --json of a listing is of the sums of --stats\n",
+        ),
         Failure::Descriptors => bad_argument(
             err,
             b"argument: --raw wants numbers, as 10 or 10,11\n",
@@ -170,6 +187,12 @@ pub fn report<W: Write, V: Write>(failure: &Failure, out: &mut W, err: &mut V) -
             err,
             b"argument: --leave wants init, pre-op, safe-op or op\n",
         ),
+        Failure::Through => bad_argument(
+            err,
+            b"argument: --through is wanted without --at, --raw, --scene and --json\n",
+        ),
+        Failure::Door => bad_argument(err, b"argument: --through wants HOST:PORT\n"),
+        Failure::Unanswered => failed(err, b"through: NoAnswer\n"),
         Failure::Rest => bad_argument(err, b"argument: --io-rest wants kept, zeros or safe-op\n"),
         Failure::RestRecovers => bad_argument(
             err,
@@ -189,6 +212,10 @@ pub fn report<W: Write, V: Write>(failure: &Failure, out: &mut W, err: &mut V) -
         ),
         Failure::TriesAlone => bad_argument(err, b"argument: --tries is of --recover\n"),
         Failure::Stamps => bad_argument(err, b"argument: --clock wants utc or none\n"),
+        Failure::Progress => bad_argument(
+            err,
+            b"argument: --progress wants screen, lines or none\n",
+        ),
         Failure::Task(fault) => report_task(fault, err),
         Failure::Raw(fault) => report_raw(*fault, err),
         Failure::Remote(fault) => {

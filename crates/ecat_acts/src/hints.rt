@@ -116,7 +116,7 @@ impl Noted {
         scene: &Result<Scene, SceneFault>,
     ) -> Noted {
         match scene {
-            Ok(scene) if matches!(command, SceneCommand::Cover) => Noted {
+            Ok(scene) if matches!(command, SceneCommand::Cover { .. }) => Noted {
                 fault: None,
                 covered: covered_of(alloc, scene),
             },
@@ -243,7 +243,10 @@ fn hint_line<V: Write>(
             at: None,
             ..
         } => hint_station(alloc, scene, *station, err),
-        SceneCommand::Check | SceneCommand::Cover | SceneCommand::Lint | SceneCommand::Sweep => {
+        SceneCommand::Check { .. }
+        | SceneCommand::Cover { .. }
+        | SceneCommand::Lint { .. }
+        | SceneCommand::Sweep => {
             hint_fit(alloc, path, text, &scene, err);
         }
         SceneCommand::Udp { .. } | SceneCommand::Serve { .. } | SceneCommand::Master(_)

@@ -1,11 +1,14 @@
 //! `ecat judge`: which cycles of a capture were not good, by a scene or by the line that it shows itself.
 
+ghost use Rattle.std.specs.Prelude.{◌≡◌, IfOk, None, false};
+
 use crate::failure::{Failure, refuse, report};
 use crate::learning::end_of_learning;
+use crate::mastering::stamped_by;
 use ecat_frames::{End, Frames, Looked, look};
-use ecat_judge::{Asked, Judged, judge, judge_usual};
+use ecat_judge::{Asked, Judged, Known, judge, judge_usual};
 use ecat_scene::{Scene, SceneFault};
-use ecat_setup::{LineFailure, records_of};
+use ecat_setup::{LineFailure, names_of, records_of};
 use ecat_source::Source;
 use ecat_text::{FAILED, GOOD, REFUSED};
 use ecat_told::{Asked as AskedOfLine, Learned, Usual, learn_by};
@@ -15,12 +18,27 @@ use std::io::Write;
 /// How many lines of runs are printed where the words do not say it.
 const LINES: u32 = 1000;
 
-/// What the words of `judge` say but for its files.
-pub fn asked_of_judge(csv: bool, lines: Option<u32>) -> Asked {
-    Asked {
-        csv,
-        limit: u64::from(lines.unwrap_or(LINES)),
+/// What the words of `judge` say but for its files: whether it writes rows or objects, which are not asked
+/// for both, how many lines of runs, and what stands beside a time, which has to be `utc` or `none`.
+pub fn asked_of_judge(
+    csv: bool,
+    json: bool,
+    lines: Option<u32>,
+    clock: Option<&str>,
+) -> Result<Asked, Failure>
+    ensures csv { IfOk result (λ asked. asked.csv ≡ csv) }
+    ensures json { IfOk result (λ asked. asked.json ≡ json) }
+    ensures usual { clock.entry ≡ None → IfOk result (λ asked. asked.dates ≡ false) }
+{
+    if csv && json {
+        return Err(Failure::TwoForms);
     }
+    Ok(Asked {
+        csv,
+        json,
+        limit: u64::from(lines.unwrap_or(LINES)),
+        dates: stamped_by(clock)?,
+    })
 }
 
 /// The frames of a capture that is open twice, since the addresses of all packets tell their ways; else how
@@ -73,13 +91,17 @@ where
         Ok(scene) => scene,
         Err(fault) => return report(&Failure::Line(LineFailure::Scene(fault)), out, err),
     };
-    match records_of(alloc, scene.slaves.as_slice()) {
-        Ok(line) => {
-            let items = scene.items.as_slice();
-            let judged = judge(alloc, frames, line.as_slice(), items, asked, out);
-            end_of_judging(judged, out, err)
+    let slaves = scene.slaves.as_slice();
+    match (records_of(alloc, slaves), names_of(alloc, slaves)) {
+        (Ok(line), Ok(names)) => {
+            let line = Known {
+                slaves: line.as_slice(),
+                names,
+                items: scene.items.as_slice(),
+            };
+            end_of_judging(judge(alloc, frames, line, asked, out), out, err)
         }
-        Err(failure) => report(&Failure::Line(failure), out, err),
+        (Err(failure), _) | (Ok(_), Err(failure)) => report(&Failure::Line(failure), out, err),
     }
 }
 

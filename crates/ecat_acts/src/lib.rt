@@ -7,6 +7,7 @@
 //!   input speak to it, what a line somewhere else is asked by `asking`, a service by `serving`. `remote`
 //!   says how a line elsewhere is reached, `udp` opens sockets for a cycle, `images` and `eeproms` read
 //!   files, and `tape` makes those that are written;
+//! - `through` asks the master that runs on a line by its door, where a second one would break its cycles;
 //! - [`act_list`](listing::act_list) and [`act_show`](show::act_show) go through a capture, `learning` tells
 //!   how `learn` ended, `judging` judges a capture by a scene or by the line that it shows, and `replaying`
 //!   sends what its master sent to the line of a scene;
@@ -40,10 +41,12 @@ mod mastering;
 pub mod on_scene;
 mod patience;
 mod piped;
+mod progress;
 mod raw;
 mod remote;
 pub mod replaying;
 mod serving;
 pub mod show;
 mod tape;
+mod through;
 pub mod udp;

@@ -27,13 +27,14 @@ pub enum Wanted {
 }
 
 impl Wanted {
-    /// What is listed, unless faults are asked for with another form, or the index without sums. Where
-    /// somebody watches, he is told how far it is.
+    /// What is listed, unless faults are asked for with another form, the index without sums, or objects of
+    /// JSON with another form or without sums. Where somebody watches, he is told how far it is.
     pub fn of(
         csv: bool,
         faults: bool,
         stats: bool,
         by_index: bool,
+        json: bool,
         console: &Console,
     ) -> Result<Wanted, Failure>
         ensures progress { IfOk result (λ wanted. tells_progress wanted ≡ console.now.is_watched) }
@@ -41,6 +42,12 @@ impl Wanted {
         ensures each { IfOk result (λ wanted. tells_each wanted ≡ csv && stats) }
     {
         let is_watched = console.is_watched;
+        if json && (csv || faults) {
+            return Err(Failure::TwoForms);
+        }
+        if json && !stats {
+            return Err(Failure::JsonAlone);
+        }
         let form = match (csv, faults, stats) {
             (false, false, false) => Form::Lines,
             (true, false, false) => Form::Csv,
@@ -50,6 +57,7 @@ impl Wanted {
                 return Ok(Wanted::Trips(OfTrips {
                     each,
                     by_index,
+                    json,
                     progress: is_watched,
                 }));
             }

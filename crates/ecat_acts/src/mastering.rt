@@ -4,6 +4,7 @@ ghost use Rattle.std.specs.Prelude.{◌≡◌, ◌||◌, IfOk, None, Ok, Some, f
 ghost use Rattle.std.specs.Option.{unwrap_or};
 ghost use Rattle.ec_regs.specs.declared.al.AlState.TheVariants.{Init};
 ghost use Rattle.ec_run.specs.declared.step.TheConstants.{MOST_READS};
+ghost use Rattle.ecat_acts.specs.Progress.{tells_lines, usual_progress};
 
 use crate::console::Console;
 use crate::controlling::run_controlled;
@@ -11,18 +12,23 @@ use crate::course::course_of;
 use crate::failure::{Failure, report, report_file};
 use crate::images::images_at;
 use crate::patience::{Impatient, tell_left_out};
+use crate::progress::{Progress, progress_by, recent_of};
 use crate::remote::{left_in, patience, reach_of, tell_late};
 use crate::tape::{Pcap, end_unawaited, unawaited_at};
 use ec_regs::AlState;
 use ec_run::{Image, MOST_READS, Outputs};
 use ecat_args::MasterWords;
+use ecat_control as control;
 use ecat_course::{Course, act_master};
+use ecat_door::{DoorTask, MOST_ANSWER, Text};
+use ecat_events::{Counted, Objects, Telling, Voice, room_if, told_if};
 use ecat_master::{Pace, Plan, Task, Writers};
 use ecat_pace::{Beat, Ending};
 use ecat_reach::{Reach, open_ports};
 use ecat_record::{Moments, Recorder};
 use ecat_remote::{Carrier, RemotePorts, Timer};
 use ecat_scene::{Scene, SceneFault};
+use ecat_screen::{Kept, Shared, Watching};
 use ecat_setup::LineFailure;
 use ecat_stamps::{Stamped, Utc};
 use ecat_task::{Rest, TaskFault, Terms, UdpTask};
@@ -61,6 +67,8 @@ pub(crate) struct Running<'a> {
     log_or_stop: bool,
     /// Whether each line that it writes and logs begins with the time.
     is_stamped: bool,
+    /// Whether what it tells are objects of JSON.
+    pub(crate) json: bool,
     /// The program that gives the outputs, if there is one.
     program: Option<Program<'a>>,
     /// Whether it ends at the first cycle that is not good.
@@ -69,8 +77,8 @@ pub(crate) struct Running<'a> {
     recover: bool,
     /// How often a state that they are asked for is read at the most.
     tries: u32,
-    /// Whether a line of progress is written each second.
-    progress: bool,
+    /// What standard error is told of its cycles.
+    progress: Progress,
     /// The state in which the slaves are left.
     leave: Option<AlState>,
     /// Whether lines of the input are done between its cycles.
@@ -92,10 +100,12 @@ impl<'w> Running<'w> {
         ensures log_images { IfOk result (λ running. running.log_images ≡ words.now.log_images) }
         ensures log_or_stop { IfOk result (λ running. running.log_or_stop ≡ words.now.log_or_stop) }
         ensures unstamped { words.now.clock ≡ None → IfOk result (λ running. running.is_stamped ≡ false) }
+        ensures json { IfOk result (λ running. running.json ≡ words.now.json) }
         ensures stop { IfOk result (λ running. running.stop ≡ words.now.stop) }
         ensures recover { IfOk result (λ running. running.recover ≡ words.now.recover) }
         ensures tries { IfOk result (λ running. running.tries ≡ unwrap_or words.now.tries MOST_READS) }
-        ensures progress { IfOk result (λ running. running.progress ≡ console.now.is_watched) }
+        ensures progress { words.now.progress ≡ None → IfOk result (λ running. running.progress
+            ≡ usual_progress console.now.is_watched words.now.control) }
         ensures leave { words.now.leave ≡ None → IfOk result (λ running. running.leave ≡ Some Init) }
         ensures control { IfOk result (λ running. running.control ≡ words.now.control) }
         ensures pcap { IfOk result (λ running. is_some running.pcap ≡ is_some words.now.pcap) }
@@ -105,6 +115,7 @@ impl<'w> Running<'w> {
         let program = program_of(words)?;
         let tries = tries_of(words)?;
         let is_stamped = stamped_by(words.clock)?;
+        let progress = progress_by(words.progress, console.is_watched, words.control)?;
         Ok(Running {
             reach,
             cycles: words.cycles,
@@ -117,11 +128,12 @@ impl<'w> Running<'w> {
             log_images: words.log_images,
             log_or_stop: words.log_or_stop,
             is_stamped,
+            json: words.json,
             program,
             stop: words.stop,
             recover: words.recover,
             tries,
-            progress: console.is_watched,
+            progress,
             leave,
             control: words.control,
             pcap: Pcap::of(words.pcap, words.force),
@@ -143,7 +155,7 @@ impl<'w> Running<'w> {
         ensures stop { result.stop ≡ self.now.stop }
         ensures recover { result.recover ≡ self.now.recover }
         ensures tries { result.tries ≡ self.now.tries }
-        ensures progress { result.progress ≡ self.now.progress }
+        ensures progress { result.progress ≡ tells_lines self.now.progress }
         ensures log { result.log ≡ is_some self.now.log }
         ensures log_images { result.log_images ≡ self.now.log_images }
         ensures log_or_stop { result.log_or_stop ≡ self.now.log_or_stop }
@@ -155,12 +167,13 @@ impl<'w> Running<'w> {
             stop: self.stop,
             recover: self.recover,
             tries: self.tries,
-            progress: self.progress,
+            progress: self.progress == Progress::Lines,
             log: self.log.is_some(),
             log_images: self.log_images,
             log_or_stop: self.log_or_stop,
             states: false,
             identities: &[],
+            names: &[],
             leave: self.leave,
             leave_by_task: self.control,
         }
@@ -230,8 +243,8 @@ fn tries_of(words: &MasterWords<'_>) -> Result<u32, Failure>
     }
 }
 
-/// Does each line begin with the time, as a word says? Where there is none it does not.
-fn stamped_by(word: Option<&str>) -> Result<bool, Failure>
+/// Does the time of the clock stand there, as a word says? Where there is none it does not.
+pub(crate) fn stamped_by(word: Option<&str>) -> Result<bool, Failure>
     ensures usual { word.entry ≡ None → result ≡ Ok false }
 {
     match word {
@@ -279,13 +292,16 @@ where
     }
 }
 
-/// What a master has of its console while it runs: the input, how patient its writers are, and whether their
-/// lines are its own, which may begin with the time, or answers.
+/// What a master has of its console while it runs: the input, how patient its writers are, whether their
+/// lines are its own, which may begin with the time, or answers, and the last lines for a page.
 #[derive(Drop)]
-pub(crate) struct Attended<'p, 'o> {
+pub(crate) struct Attended<'p, 'o, 'c> {
     pub(crate) input: Stdin,
     pub(crate) is_patient: &'p Cell<bool>,
     pub(crate) are_own: &'o Cell<bool>,
+    /// Whether what is written are objects already.
+    pub(crate) are_objects: &'o Cell<bool>,
+    pub(crate) recent: &'c Shared,
 }
 
 /// Brings the line of a scene to Op, as the words of `master` say, and answers the exit status. No cycle
@@ -331,7 +347,10 @@ where
     W: io::Write,
     V: io::Write,
 {
-    let (is_patient, are_own) = (Cell::new(true), Cell::new(true));
+    let Ok(recent) = recent_of(rt.alloc(), running.progress) else {
+        return report(&Failure::Line(LineFailure::NoMemory), out, err);
+    };
+    let (is_patient, are_own, are_objects) = (Cell::new(true), Cell::new(true), Cell::new(false));
     let (output, errors) = (Behind(console.output), Behind(console.errors));
     let mut out = Unblocking::new(out, output, AT_ONCE, &is_patient);
     let mut err = Unblocking::new(err, errors, AT_ONCE, &is_patient);
@@ -339,8 +358,12 @@ where
         input: console.input,
         is_patient: &is_patient,
         are_own: &are_own,
+        are_objects: &are_objects,
+        recent: &recent,
     };
-    let status = master_at(rt, running, attended, scene, &mut out, &mut err);
+    let is_apart = !(console.is_read && console.is_watched);
+    let mut kept = Kept::new(&mut out, &recent, is_apart, &is_patient);
+    let status = master_at(rt, running, attended, scene, &mut kept, &mut err);
     tell_left_out("output", out.left_out(), &mut err);
     tell_left_out("standard error", err.left_out(), &mut err);
     status
@@ -351,7 +374,7 @@ where
 fn master_at<R, W, V>(
     rt: &R,
     running: Running<'_>,
-    attended: Attended<'_, '_>,
+    attended: Attended<'_, '_, '_>,
     scene: Result<Scene, SceneFault>,
     out: &mut W,
     err: &mut V,
@@ -385,10 +408,10 @@ where
 
 /// A master that is about to run: by which words and to which plan, and what it has of its console.
 #[derive(Drop)]
-struct Prepared<'a, 'p, 'o> {
+struct Prepared<'a, 'p, 'o, 'c> {
     running: Running<'a>,
     plan: Plan<'a>,
-    attended: Attended<'p, 'o>,
+    attended: Attended<'p, 'o, 'c>,
 }
 
 /// Opens the log of a master, if it has one, has it run, and tells how many lines of the log were left out,
@@ -396,7 +419,7 @@ struct Prepared<'a, 'p, 'o> {
 fn master_logged<R, T, M, W, V>(
     rt: &R,
     course: Box<Course>,
-    prepared: Prepared<'_, '_, '_>,
+    prepared: Prepared<'_, '_, '_, '_>,
     recorder: &mut Recorder<T, M>,
     out: &mut W,
     err: &mut V,
@@ -425,16 +448,49 @@ where
     status
 }
 
-/// Asks for the time where the lines of a master begin with it, and has it run for the task that its words
-/// name.
+/// Asks for the time where the lines of a master begin with it, and has it run.
 fn run_master<R, T, M, W, V, L>(
     rt: &R,
     course: Box<Course>,
-    prepared: Prepared<'_, '_, '_>,
+    prepared: Prepared<'_, '_, '_, '_>,
     recorder: &mut Recorder<T, M>,
     out: &mut W,
     err: &mut V,
     log: &mut L,
+) -> u8
+where
+    R: Clock + Net + RandomSource + AllocGlobal,
+    T: io::Write,
+    M: Moments,
+    W: io::Write,
+    V: io::Write,
+    L: io::Write,
+{
+    let running = prepared.running;
+    let Ok(utc) = utc_of(rt, running.is_stamped) else {
+        return report(&Failure::Clock, out, err);
+    };
+    let Ok(before_lines) = utc_of(rt, running.is_stamped && !running.json) else {
+        return report(&Failure::Clock, out, err);
+    };
+    let mut out = Stamped::new(out, &before_lines, prepared.attended.are_own);
+    let writers = Writers {
+        out: &mut out,
+        err,
+        log,
+    };
+    run_timed(rt, course, prepared, recorder, writers, &utc)
+}
+
+/// Has a master run for the task that its words name, by a clock, if it tells the time: objects and the lines
+/// of its log have the time in them.
+fn run_timed<'u, R, T, M, W, V, L>(
+    rt: &R,
+    course: Box<Course>,
+    prepared: Prepared<'_, '_, 'u, '_>,
+    recorder: &mut Recorder<T, M>,
+    writers: Writers<'_, W, V, L>,
+    utc: &'u Option<Utc<'u, R>>,
 ) -> u8
 where
     R: Clock + Net + RandomSource + AllocGlobal,
@@ -449,11 +505,17 @@ where
         plan,
         attended,
     } = prepared;
-    let Ok(utc) = utc_of(rt, running.is_stamped) else {
-        return report(&Failure::Clock, out, err);
+    let Writers { out, err, log } = writers;
+    let Ok(gathered) = room_if(rt.alloc(), running.json) else {
+        return report(&Failure::Line(LineFailure::NoMemory), out, err);
     };
-    let mut out = Stamped::new(out, &utc, attended.are_own);
-    let mut log = Stamped::new(log, &utc, attended.are_own);
+    let voice = Voice {
+        are_own: attended.are_own,
+        are_objects: attended.are_objects,
+        counts: Counted::Cycles,
+    };
+    let mut out = Objects::new(out, gathered, voice, utc);
+    let mut log = Stamped::new(log, utc, attended.are_own);
     let writers = Writers {
         out: &mut out,
         err,
@@ -480,7 +542,7 @@ fn run_by_program<R, T, M, W, V, L>(
     rt: &R,
     course: Box<Course>,
     cycling: Cycling<'_>,
-    attended: Attended<'_, '_>,
+    attended: Attended<'_, '_, '_>,
     recorder: &mut Recorder<T, M>,
     writers: Writers<'_, W, V, L>,
 ) -> u8
@@ -498,18 +560,23 @@ where
     };
     let mut pace = Impatient::new(beat, attended.is_patient);
     let count = course.image_length();
-    let mut task = match task_of(rt, cycling.running.program, &course) {
+    let task = match door_of(rt, cycling.running.program, &course) {
         Ok(task) => task,
         Err(fault) => return report(&Failure::Task(fault), out, err),
     };
-    tell_task(&task, count, err);
+    tell_task(task.task(), count, err);
+    let Ok(told) = told_if(rt.alloc(), cycling.running.json) else {
+        return report(&Failure::Line(LineFailure::NoMemory), out, err);
+    };
+    let task = Telling::new(task, told, attended.are_objects);
+    let mut task = Watching::new(task, attended.recent);
     let writers = Writers {
         out,
         err: &mut *err,
         log,
     };
     let status = cycle_for(rt, course, cycling, recorder, &mut pace, &mut task, writers);
-    let _ = task.put_sum(&mut Lines::new(err));
+    let _ = task.task.task.task().put_sum(&mut Lines::new(err));
     status
 }
 
@@ -568,6 +635,23 @@ where
     let terms = program.terms(course.image_length());
     let stations = course.stations(rt.alloc())?;
     UdpTask::open(rt, rt.alloc(), program.address, terms, stations)
+}
+
+/// The door of the task of a program, or of none: nobody can ask then, and there is no room for an answer.
+fn door_of<R>(
+    rt: &R,
+    program: Option<Program<'_>>,
+    course: &Course,
+) -> Result<DoorTask<UdpTask>, TaskFault>
+where
+    R: Net + AllocGlobal,
+{
+    let room = if program.is_some() { MOST_ANSWER } else { 0 };
+    let items = control::Outputs::of(rt.alloc(), course.work(), course.items())?;
+    let text = Text::with_room(rt.alloc(), room)?;
+    let task = task_of(rt, program, course)?;
+    let signals = course.signals(rt.alloc())?;
+    Ok(DoorTask::new(task, items, signals, text))
 }
 
 /// Tells where a program gives outputs, if one does, and how many bytes of them. A fault of that line is

@@ -1,15 +1,16 @@
 //! The commands on a scene: those that need no more than it, and those that open sockets, a clock or a file
 //! of their own.
 
-use crate::act::{Alone, act};
+use crate::act::{Alone, Told, act};
 use crate::asked::asked_of;
 use crate::asking::{sdo_at, where_at};
 use crate::console::Console;
 use crate::failure::{Failure, report, status_of};
 use crate::mastering::master_by;
 use crate::remote::reach_of;
-use crate::serving::{ServeFiles, serve_at};
+use crate::serving::{ServeFiles, serve_told};
 use crate::tape::{Pcap, counted_at, end};
+use crate::through::{Far, Sought, ask_through};
 use crate::udp::{Prepared, Wanted, act_udp, prepare_udp};
 use ecat_args::SceneCommand;
 use ecat_raw::{Descriptors, descriptors_of};
@@ -45,16 +46,38 @@ where
 {
     let alloc = rt.alloc();
     match command {
-        SceneCommand::Check => act(alloc, &Alone::Check, text, scene, out, err),
-        SceneCommand::Cover => act(alloc, &Alone::Cover, text, scene, out, err),
-        SceneCommand::Lint => act(alloc, &Alone::Lint, text, scene, out, err),
+        SceneCommand::Check { json } => {
+            act(alloc, &Alone::Check(Told::of(*json)), text, scene, out, err)
+        }
+        SceneCommand::Cover { json } => {
+            act(alloc, &Alone::Cover(Told::of(*json)), text, scene, out, err)
+        }
+        SceneCommand::Lint { json } => {
+            act(alloc, &Alone::Lint(Told::of(*json)), text, scene, out, err)
+        }
         SceneCommand::Sweep => act(alloc, &Alone::Sweep, text, scene, out, err),
+        SceneCommand::Where {
+            through: Some(_),
+            json: true,
+            ..
+        } => report(&Failure::Through, out, err),
+        SceneCommand::Where {
+            at,
+            raw,
+            through: Some(door),
+            json: false,
+        } => {
+            let far = Far::of(*at, *raw, None);
+            ask_through(rt, door, far, &Sought::Cable, scene, out, err)
+        }
         SceneCommand::Where {
             at: None,
             raw: None,
-        } => act(alloc, &Alone::Where, text, scene, out, err),
-        SceneCommand::Where { at, raw } => match reach_of(*at, *raw) {
-            Ok(reach) => where_at(rt, reach, scene, out, err),
+            json,
+            ..
+        } => act(alloc, &Alone::Where(Told::of(*json)), text, scene, out, err),
+        SceneCommand::Where { at, raw, json, .. } => match reach_of(*at, *raw) {
+            Ok(reach) => where_at(rt, reach, Told::of(*json), scene, out, err),
             Err(failure) => report(&failure, out, err),
         },
         SceneCommand::Run {
@@ -64,6 +87,20 @@ where
         } => act(alloc, &Alone::Run { judge: *judge }, text, scene, out, err),
         SceneCommand::Run { judge, pcap, force } => {
             run_taped(rt, *judge, Pcap::of(*pcap, *force), scene, out, err)
+        }
+        SceneCommand::Sdo {
+            station,
+            index,
+            sub,
+            value,
+            at,
+            raw,
+            through: Some(door),
+            ..
+        } => {
+            let asked = asked_of(*station, *index, *sub, *value, false);
+            let far = Far::of(*at, *raw, None);
+            ask_through(rt, door, far, &Sought::Object(asked), scene, out, err)
         }
         SceneCommand::Sdo {
             station,
@@ -119,6 +156,7 @@ where
             raw,
             pcap,
             force,
+            json,
         } => {
             let Some(raw) = raw_of(*raw) else {
                 return report(&Failure::Descriptors, out, err);
@@ -138,7 +176,7 @@ where
                 eeproms: *sii,
                 pcap: Pcap::of(*pcap, *force),
             };
-            serve_at(rt, service, files, console.input, scene, out, err)
+            serve_told(rt, service, files, console.input, *json, scene, out, err)
         }
         SceneCommand::Master(words) => master_by(rt, words, console, scene, out, err),
     }

@@ -69,7 +69,7 @@ fn are_ends(at: &str) -> bool {
 }
 
 /// Does a text name a host and a port from 1 to 65535?
-fn is_end(end: &str) -> bool {
+pub(crate) fn is_end(end: &str) -> bool {
     match end.rsplit_once(':') {
         Some((host, port)) => !host.is_empty() && port.parse::<u16>().is_ok_and(|port| port != 0),
         None => false,

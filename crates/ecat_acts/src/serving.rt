@@ -4,6 +4,7 @@ use crate::eeproms::eeproms_at;
 use crate::failure::{Failure, report, status_of, unbound};
 use crate::on_scene::report_unbound;
 use crate::tape::{Pcap, end, recorder_at};
+use ecat_events::{Counted, Objects, Voice, room_if};
 use ecat_raw::{Carriers, Descriptors, RawEnds};
 use ecat_record::{Moments, Recorder, TapedEnds};
 use ecat_remote::{ClockTimer, Timer};
@@ -11,6 +12,8 @@ use ecat_scene::{Scene, SceneFault};
 use ecat_serve::{Cabled, Console as LineConsole, Disturbed, Served, TimedEnds, Times, UdpEnds};
 use ecat_service::{Service, control, line_to_serve, serve, serve_cabled};
 use ecat_setup::LineFailure;
+use ecat_stamps::Utc;
+use std::cell::Cell;
 use std::io;
 use std::net::Net;
 use std::rt::{Clock, Files, Stdin};
@@ -24,10 +27,41 @@ pub struct ServeFiles<'a> {
     pub pcap: Option<Pcap<'a>>,
 }
 
+/// Serves the line of a scene, and has what is told of it be objects of JSON, if they are to be.
+#[inline(never)]
+pub fn serve_told<R, W, V>(
+    rt: &R,
+    service: Service,
+    files: ServeFiles<'_>,
+    input: Stdin,
+    json: bool,
+    scene: Result<Scene, SceneFault>,
+    out: &mut W,
+    err: &mut V,
+) -> u8
+where
+    R: Clock + Files + Net + AllocGlobal,
+    W: io::Write,
+    V: io::Write,
+{
+    let (Ok(told), Ok(logged)) = (room_if(rt.alloc(), json), room_if(rt.alloc(), json)) else {
+        return report(&Failure::Line(LineFailure::NoMemory), out, err);
+    };
+    let (are_own, are_objects) = (Cell::new(true), Cell::new(false));
+    let voice = Voice {
+        are_own: &are_own,
+        are_objects: &are_objects,
+        counts: Counted::Packets,
+    };
+    let mut out = Objects::new(out, told, voice, &None::<Utc<'_, R>>);
+    let mut err = Objects::new(err, logged, voice, &None::<Utc<'_, R>>);
+    serve_at(rt, service, files, input, scene, &mut out, &mut err)
+}
+
 /// Serves the line of a scene. Its ends are opened once it is known that there is one. The service ends with
 /// the input where that has commands, or where it is not left alone.
 #[inline(never)]
-pub fn serve_at<R, W, V>(
+fn serve_at<R, W, V>(
     rt: &R,
     service: Service,
     files: ServeFiles<'_>,

@@ -9,7 +9,7 @@ use Rattle.ecat_args.specs.Given.{judge_in, log_in, many_in, plain_in, port_in, 
 use Rattle.ecat_args.specs.Given.{surely_in, tries_in}
 use Rattle.ecat_args.specs.Given.{csv_in, every_in, faults_in, images_in, late_in, limit_in, once_in}
 use Rattle.ecat_args.specs.Given.{asked_in, data_in, packet_in, recover_in, stats_in, stop_in, value_in}
-use Rattle.ecat_args.specs.Given.{busy_in, or_stop_in, until_end_in, word_in}
+use Rattle.ecat_args.specs.Given.{busy_in, json_in, or_stop_in, until_end_in, word_in}
 use Rattle.ecat_commands.specs.Commands.{line}
 use Rattle.ecat_args.specs.declared.args.Args.{Args}
 use Rattle.ecat_args.specs.declared.args.Args.TheVariants.{Capture, Scene, Scan, Vectors}
@@ -26,17 +26,18 @@ use Rattle.ecat_args.specs.declared.commands.SceneCommand.TheVariants.{Sdo, Udp,
 abbrev pub SaysOfCapture : CaptureCommand → Given → Type 0
 SaysOfCapture (Show file) given =
     (given.0 ≡ codes "show") × (word_in given (codes "FILE") ≡ Some file.now)
-SaysOfCapture (Lists file csv faults stats by_index) given =
+SaysOfCapture (Lists file csv faults stats by_index json) given =
     (given.0 ≡ codes "list") × (word_in given (codes "FILE") ≡ Some file.now)
     × (csv_in given ≡ csv) × (faults_in given ≡ faults) × (stats_in given ≡ stats)
-    × (by_index_in given ≡ by_index)
+    × (by_index_in given ≡ by_index) × (json_in given ≡ json)
 SaysOfCapture (Learn file packet asked values) given =
     (given.0 ≡ codes "learn") × (word_in given (codes "FILE") ≡ Some file.now)
     × (packet_in given ≡ Some packet) × (asked_in given ≡ asked) × (data_in given ≡ values)
-SaysOfCapture (Judge file scene csv lines) given =
+SaysOfCapture (Judge file scene csv lines clock json) given =
     (given.0 ≡ codes "judge") × (word_in given (codes "FILE") ≡ Some file.now)
     × (word_in given (codes "SCENE") ≡ option_map (λ w. w.now) scene)
     × (csv_in given ≡ csv) × (lines_in given ≡ Some lines)
+    × (word_in given (codes "CLOCK") ≡ option_map (λ w. w.now) clock) × (json_in given ≡ json)
 SaysOfCapture (Replay file scene plain set_up) given =
     (given.0 ≡ codes "replay") × (word_in given (codes "FILE") ≡ Some file.now)
     × (word_in given (codes "SCENE") ≡ Some scene.now)
@@ -44,29 +45,32 @@ SaysOfCapture (Replay file scene plain set_up) given =
 
 -- the command on a scene is this one; where the scene lies is said beside it
 abbrev pub SaysOfScene : SceneCommand → Given → Type 0
-SaysOfScene Check given = given.0 ≡ codes "check"
-SaysOfScene Cover given = given.0 ≡ codes "cover"
-SaysOfScene Lint given = given.0 ≡ codes "lint"
-SaysOfScene (Where place raw) given =
+SaysOfScene (Check json) given = (given.0 ≡ codes "check") × (json_in given ≡ json)
+SaysOfScene (Cover json) given = (given.0 ≡ codes "cover") × (json_in given ≡ json)
+SaysOfScene (Lint json) given = (given.0 ≡ codes "lint") × (json_in given ≡ json)
+SaysOfScene (Where place raw through json) given =
     (given.0 ≡ codes "where")
     × (word_in given (codes "AT") ≡ option_map (λ w. w.now) place)
     × (word_in given (codes "RAW") ≡ option_map (λ w. w.now) raw)
+    × (word_in given (codes "THROUGH") ≡ option_map (λ w. w.now) through)
+    × (json_in given ≡ json)
 SaysOfScene (Run judge pcap force) given =
     (given.0 ≡ codes "run")
     × (judge_in given ≡ judge) × (word_in given (codes "PCAP") ≡ option_map (λ w. w.now) pcap)
     × (force_in given ≡ force)
 SaysOfScene Sweep given = given.0 ≡ codes "sweep"
-SaysOfScene (Sdo station index sub value surely once place raw) given =
+SaysOfScene (Sdo station index sub value surely once place raw through) given =
     (given.0 ≡ codes "sdo")
     × (station_in given ≡ Some station) × (index_in given ≡ Some index)
     × (sub_in given ≡ Some sub) × (value_in given ≡ Some value) × (surely_in given ≡ surely)
     × (once_in given ≡ once) × (word_in given (codes "AT") ≡ option_map (λ w. w.now) place)
     × (word_in given (codes "RAW") ≡ option_map (λ w. w.now) raw)
+    × (word_in given (codes "THROUGH") ≡ option_map (λ w. w.now) through)
 SaysOfScene (Udp port judge pcap force) given =
     (given.0 ≡ codes "udp")
     × (port_in given ≡ Some port) × (judge_in given ≡ judge)
     × (word_in given (codes "PCAP") ≡ option_map (λ w. w.now) pcap) × (force_in given ≡ force)
-SaysOfScene (Serve port packets address forever control log plain set_up sii raw pcap force) given =
+SaysOfScene (Serve port packets address forever control log plain set_up sii raw pcap force json) given =
     (given.0 ≡ codes "serve")
     × (port_in given ≡ Some port) × (many_in given ≡ Some packets)
     × LiesAt (word_in given (codes "ADDRESS")) address
@@ -75,6 +79,7 @@ SaysOfScene (Serve port packets address forever control log plain set_up sii raw
     × (word_in given (codes "FOLDER") ≡ option_map (λ w. w.now) sii)
     × (word_in given (codes "RAW") ≡ option_map (λ w. w.now) raw)
     × (word_in given (codes "PCAP") ≡ option_map (λ w. w.now) pcap) × (force_in given ≡ force)
+    × (json_in given ≡ json)
 SaysOfScene (Master words) given =
     (given.0 ≡ codes "master")
     × (word_in given (codes "AT") ≡ option_map (λ w. w.now) words.at)
@@ -86,6 +91,8 @@ SaysOfScene (Master words) given =
     × (word_in given (codes "LOG") ≡ option_map (λ w. w.now) words.log) × (images_in given ≡ words.log_images)
     × (or_stop_in given ≡ words.log_or_stop)
     × (word_in given (codes "CLOCK") ≡ option_map (λ w. w.now) words.clock)
+    × (word_in given (codes "PROGRESS") ≡ option_map (λ w. w.now) words.progress)
+    × (json_in given ≡ words.json)
     × (word_in given (codes "IO") ≡ option_map (λ w. w.now) words.io) × (io_open_in given ≡ words.io_open)
     × (io_stale_in given ≡ Some words.io_stale)
     × (word_in given (codes "REST") ≡ option_map (λ w. w.now) words.io_rest)
@@ -102,9 +109,10 @@ Says (Scene path command) given =
 Says (Scan words) given =
     (given.0 ≡ codes "scan") × (word_in given (codes "AT") ≡ option_map (λ w. w.now) words.at)
     × (word_in given (codes "RAW") ≡ option_map (λ w. w.now) words.raw)
+    × (word_in given (codes "THROUGH") ≡ option_map (λ w. w.now) words.through)
     × (limit_in given ≡ Some words.limit) × (late_in given ≡ Some words.late)
     × (word_in given (codes "SCENE") ≡ option_map (λ w. w.now) words.scene)
-    × (force_in given ≡ words.force)
+    × (force_in given ≡ words.force) × (json_in given ≡ words.json)
 Says Vectors given = given.0 ≡ codes "vectors"
 
 -- a word of the command that has to be a number, a value or an address is none in its range

@@ -144,6 +144,9 @@ data_in given = flag_by (word_in given (codes "data"))
 abbrev pub csv_in : Given → Bool
 csv_in given = flag_by (word_in given (codes "csv"))
 
+abbrev pub json_in : Given → Bool
+json_in given = flag_by (word_in given (codes "json"))
+
 abbrev pub faults_in : Given → Bool
 faults_in given = flag_by (word_in given (codes "faults"))
 

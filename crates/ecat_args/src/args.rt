@@ -40,8 +40,8 @@ pub enum Args<'a> {
         /// What is done with its line.
         command: SceneCommand<'a>,
     },
-    /// `scan [--at AT] [--raw RAW] [--limit LIMIT] [--late LATE] [--scene SCENE] [--force]`: tells what
-    /// slaves a line has that lies somewhere else.
+    /// `scan [--at AT] [--raw RAW] [--through THROUGH] [--limit LIMIT] [--late LATE] [--scene SCENE]
+    /// [--force] [--json]`: tells what slaves a line has that lies somewhere else.
     Scan(ScanWords<'a>),
     /// `vectors`: runs the worked rows.
     Vectors,
@@ -129,15 +129,21 @@ fn command<'a>(name: &str, given: &ArgMatches<'a>) -> Option<Args<'a>>
         "replay" => Some(replay(given)),
         "check" => Some(Args::Scene {
             path: text(given, "SCENE"),
-            command: SceneCommand::Check,
+            command: SceneCommand::Check {
+                json: flag(given, "json"),
+            },
         }),
         "cover" => Some(Args::Scene {
             path: text(given, "SCENE"),
-            command: SceneCommand::Cover,
+            command: SceneCommand::Cover {
+                json: flag(given, "json"),
+            },
         }),
         "lint" => Some(Args::Scene {
             path: text(given, "SCENE"),
-            command: SceneCommand::Lint,
+            command: SceneCommand::Lint {
+                json: flag(given, "json"),
+            },
         }),
         "where" => Some(where_broken(given)),
         "run" => Some(run(given)),
@@ -194,6 +200,7 @@ fn list<'a>(given: &ArgMatches<'a>) -> Args<'a>
         faults: flag(given, "faults"),
         stats: flag(given, "stats"),
         by_index: flag(given, "index"),
+        json: flag(given, "json"),
     })
 }
 
@@ -224,6 +231,8 @@ fn judge<'a>(given: &ArgMatches<'a>) -> Option<Args<'a>>
         scene: word(given, "SCENE"),
         csv: flag(given, "csv"),
         lines,
+        clock: word(given, "CLOCK"),
+        json: flag(given, "json"),
     }))
 }
 
@@ -250,6 +259,8 @@ fn where_broken<'a>(given: &ArgMatches<'a>) -> Args<'a>
         command: SceneCommand::Where {
             at: word(given, "AT"),
             raw: word(given, "RAW"),
+            through: word(given, "THROUGH"),
+            json: flag(given, "json"),
         },
     }
 }
@@ -290,6 +301,7 @@ fn sdo<'a>(given: &ArgMatches<'a>) -> Option<Args<'a>>
             once: flag(given, "once"),
             at: word(given, "AT"),
             raw: word(given, "RAW"),
+            through: word(given, "THROUGH"),
         },
     })
 }
@@ -346,6 +358,7 @@ fn serve<'a>(given: &ArgMatches<'a>) -> Option<Args<'a>>
             raw: word(given, "RAW"),
             pcap: word(given, "PCAP"),
             force: flag(given, "force"),
+            json: flag(given, "json"),
         },
     })
 }
@@ -378,6 +391,8 @@ fn master<'a>(given: &ArgMatches<'a>) -> Option<Args<'a>>
             log_images: flag(given, "log-images"),
             log_or_stop: flag(given, "log-or-stop"),
             clock: word(given, "CLOCK"),
+            progress: word(given, "PROGRESS"),
+            json: flag(given, "json"),
             io: word(given, "IO"),
             io_open: flag(given, "io-open"),
             io_stale,
@@ -404,10 +419,12 @@ fn scan<'a>(given: &ArgMatches<'a>) -> Option<Args<'a>>
     Some(Args::Scan(ScanWords {
         at: word(given, "AT"),
         raw: word(given, "RAW"),
+        through: word(given, "THROUGH"),
         limit,
         late,
         scene: word(given, "SCENE"),
         force: flag(given, "force"),
+        json: flag(given, "json"),
     }))
 }
 

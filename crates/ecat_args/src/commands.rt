@@ -11,7 +11,7 @@ pub enum CaptureCommand<'a> {
         /// The path of the capture.
         file: &'a str,
     },
-    /// `list FILE [--csv] [--faults] [--stats] [--index]`: lists the datagrams of a capture.
+    /// `list FILE [--csv] [--faults] [--stats] [--index] [--json]`: lists the datagrams of a capture.
     List {
         /// The path of the capture; `-` stands for standard input.
         file: &'a str,
@@ -23,6 +23,8 @@ pub enum CaptureCommand<'a> {
         stats: bool,
         /// Whether the datagrams of each index are counted apart.
         by_index: bool,
+        /// Whether objects of JSON are printed.
+        json: bool,
     },
     /// `learn FILE [--at PACKET] [--asked] [--data]`: writes the line that a capture shows as a scene.
     Learn {
@@ -35,7 +37,8 @@ pub enum CaptureCommand<'a> {
         /// Whether items and inputs have their last data.
         values: bool,
     },
-    /// `judge FILE [SCENE] [--csv] [--limit LINES]`: says which cycles of a capture were not good.
+    /// `judge FILE [SCENE] [--csv] [--limit LINES] [--clock CLOCK] [--json]`: says which cycles of a capture
+    /// were not good.
     Judge {
         /// The path of the capture; `-` stands for standard input.
         file: &'a str,
@@ -45,6 +48,10 @@ pub enum CaptureCommand<'a> {
         csv: bool,
         /// How many lines of runs are printed, one at least.
         lines: Option<u32>,
+        /// What stands beside each time: `utc`, or `none`.
+        clock: Option<&'a str>,
+        /// Whether objects of JSON are printed.
+        json: bool,
     },
     /// `replay FILE SCENE [--plain] [--set-up]`: sends what the master of a capture sent to the line of a
     /// scene.
@@ -63,18 +70,32 @@ pub enum CaptureCommand<'a> {
 /// A command on the line of a scene.
 #[derive(Clone, Copy, Debug)]
 pub enum SceneCommand<'a> {
-    /// `check SCENE`: says whether the line of a scene is fit.
-    Check,
-    /// `cover SCENE`: says whether the items of a scene carry all that its line is mapped for.
-    Cover,
-    /// `lint SCENE`: names what a scene says that is accepted and yet seldom meant.
-    Lint,
-    /// `where SCENE [--at AT] [--raw RAW]`: says where the cable of a scene is broken, and who is missing.
+    /// `check SCENE [--json]`: says whether the line of a scene is fit.
+    Check {
+        /// Whether objects of JSON are printed.
+        json: bool,
+    },
+    /// `cover SCENE [--json]`: says whether the items of a scene carry all that its line is mapped for.
+    Cover {
+        /// Whether objects of JSON are printed.
+        json: bool,
+    },
+    /// `lint SCENE [--json]`: names what a scene says that is accepted and yet seldom meant.
+    Lint {
+        /// Whether objects of JSON are printed.
+        json: bool,
+    },
+    /// `where SCENE [--at AT] [--raw RAW] [--through THROUGH] [--json]`: says where the cable of a scene is
+    /// broken, and who is missing.
     Where {
         /// Where the line lies, if it is reached by UDP: the address of an end, or of both.
         at: Option<&'a str>,
         /// The descriptors of packet sockets, if it is reached by network interfaces.
         raw: Option<&'a str>,
+        /// The door of the master that runs on the line, if that is asked.
+        through: Option<&'a str>,
+        /// Whether objects of JSON are printed.
+        json: bool,
     },
     /// `run SCENE [--judge] [--pcap PCAP] [--force]`: does the actions of a scene, and then its work.
     Run {
@@ -87,8 +108,8 @@ pub enum SceneCommand<'a> {
     },
     /// `sweep SCENE`: does the cycle of a scene whole, and with each cable broken.
     Sweep,
-    /// `sdo SCENE STATION INDEX SUB [VALUE] [--surely] [--once] [--at AT] [--raw RAW]`: one upload, or a
-    /// download of the value.
+    /// `sdo SCENE STATION INDEX SUB [VALUE] [--surely] [--once] [--at AT] [--raw RAW] [--through THROUGH]`:
+    /// one upload, or a download of the value.
     Sdo {
         /// The configured station address of the slave.
         station: u16,
@@ -106,6 +127,8 @@ pub enum SceneCommand<'a> {
         at: Option<&'a str>,
         /// The descriptors of packet sockets, if it is reached by network interfaces.
         raw: Option<&'a str>,
+        /// The door of the master that runs on the line, if that is asked.
+        through: Option<&'a str>,
     },
     /// `udp SCENE [--port P] [--judge] [--pcap PCAP] [--force]`: does the work of a scene by UDP sockets.
     Udp {
@@ -119,8 +142,8 @@ pub enum SceneCommand<'a> {
         force: bool,
     },
     /// `serve SCENE [--port P] [--packets N] [--bind ADDRESS] [--forever] [--control] [--log] [--plain]
-    /// [--set-up] [--sii FOLDER] [--raw RAW] [--pcap PCAP] [--force]`: puts the line of a scene on the
-    /// network.
+    /// [--set-up] [--sii FOLDER] [--raw RAW] [--pcap PCAP] [--force] [--json]`: puts the line of a scene on
+    /// the network.
     Serve {
         /// The port of the line's end A, 1024 to 65534. The end B has the next one.
         port: u16,
@@ -146,12 +169,14 @@ pub enum SceneCommand<'a> {
         pcap: Option<&'a str>,
         /// Whether a capture that is there is overwritten.
         force: bool,
+        /// Whether what it tells are objects of JSON.
+        json: bool,
     },
     /// `master SCENE [--at AT] [--raw RAW] [--cycles N] [--until-end] [--every MICROSECONDS] [--busy]
     /// [--limit LIMIT] [--late LATE] [--outputs OUTPUTS] [--log LOG] [--log-images] [--log-or-stop]
-    /// [--clock CLOCK] [--io IO] [--io-open] [--io-stale CYCLES] [--io-rest REST] [--control] [--stop]
-    /// [--recover] [--tries TRIES] [--leave STATE] [--pcap PCAP] [--force]`: brings a line somewhere else to
-    /// Op, cycles on it, and leaves it in a state.
+    /// [--clock CLOCK] [--progress PROGRESS] [--json] [--io IO] [--io-open] [--io-stale CYCLES]
+    /// [--io-rest REST] [--control] [--stop] [--recover] [--tries TRIES] [--leave STATE] [--pcap PCAP]
+    /// [--force]`: brings a line somewhere else to Op, cycles on it, and leaves it in a state.
     Master(MasterWords<'a>),
 }
 
@@ -184,6 +209,10 @@ pub struct MasterWords<'a> {
     pub log_or_stop: bool,
     /// What each line begins with that it writes and logs: `utc`, or `none`.
     pub clock: Option<&'a str>,
+    /// What standard error is told of its cycles: `screen`, `lines` or `none`.
+    pub progress: Option<&'a str>,
+    /// Whether what it tells are objects of JSON.
+    pub json: bool,
     /// The address where a program gives the outputs and gets the inputs of each cycle.
     pub io: Option<&'a str>,
     /// Whether other machines may reach that address.
@@ -215,6 +244,8 @@ pub struct ScanWords<'a> {
     pub at: Option<&'a str>,
     /// The descriptors of packet sockets, if it is reached by network interfaces.
     pub raw: Option<&'a str>,
+    /// The door of the master that runs on the line, if that is asked.
+    pub through: Option<&'a str>,
     /// How many microseconds a copy is waited for.
     pub limit: Option<u32>,
     /// For how many milliseconds a missing copy may still come.
@@ -223,4 +254,6 @@ pub struct ScanWords<'a> {
     pub scene: Option<&'a str>,
     /// Whether a scene that is there is overwritten.
     pub force: bool,
+    /// Whether objects of JSON are printed.
+    pub json: bool,
 }

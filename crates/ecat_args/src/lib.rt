@@ -2,32 +2,34 @@
 //!
 //! ```text
 //! ecat show FILE
-//! ecat list FILE [--csv] [--faults] [--stats] [--index]
+//! ecat list FILE [--csv] [--faults] [--stats] [--index] [--json]
 //! ecat learn FILE [--at PACKET] [--asked] [--data]
-//! ecat judge FILE [SCENE] [--csv] [--limit LINES]
-//! ecat check SCENE
-//! ecat cover SCENE
-//! ecat lint SCENE
-//! ecat where SCENE [--at AT] [--raw RAW]
+//! ecat judge FILE [SCENE] [--csv] [--limit LINES] [--clock CLOCK] [--json]
+//! ecat check SCENE [--json]
+//! ecat cover SCENE [--json]
+//! ecat lint SCENE [--json]
+//! ecat where SCENE [--at AT] [--raw RAW] [--through THROUGH] [--json]
 //! ecat run SCENE [--judge] [--pcap PCAP] [--force]
 //! ecat sweep SCENE
-//! ecat sdo SCENE STATION INDEX SUB [VALUE] [--surely] [--once] [--at AT] [--raw RAW]
+//! ecat sdo SCENE STATION INDEX SUB [VALUE] [--surely] [--once] [--at AT] [--raw RAW] [--through THROUGH]
 //! ecat udp SCENE [--port P] [--judge] [--pcap PCAP] [--force]
 //! ecat serve SCENE [--port P] [--packets N] [--bind ADDRESS] [--forever] [--control] [--log] [--plain]
-//!     [--set-up] [--sii FOLDER] [--raw RAW] [--pcap PCAP] [--force]
+//!     [--set-up] [--sii FOLDER] [--raw RAW] [--pcap PCAP] [--force] [--json]
 //! ecat master SCENE [--at AT] [--raw RAW] [--cycles N] [--until-end] [--every MICROSECONDS] [--busy]
 //!     [--limit LIMIT] [--late LATE] [--outputs OUTPUTS] [--log LOG] [--log-images] [--log-or-stop]
-//!     [--clock CLOCK] [--io IO] [--io-open] [--io-stale CYCLES] [--io-rest REST] [--control] [--stop]
-//!     [--recover] [--tries TRIES] [--leave STATE] [--pcap PCAP] [--force]
-//! ecat scan [--at AT] [--raw RAW] [--limit LIMIT] [--late LATE] [--scene SCENE] [--force]
+//!     [--clock CLOCK] [--progress PROGRESS] [--json] [--io IO] [--io-open] [--io-stale CYCLES]
+//!     [--io-rest REST] [--control] [--stop] [--recover] [--tries TRIES] [--leave STATE] [--pcap PCAP]
+//!     [--force]
+//! ecat scan [--at AT] [--raw RAW] [--through THROUGH] [--limit LIMIT] [--late LATE] [--scene SCENE]
+//!     [--force] [--json]
 //! ecat vectors
 //! ```
 //!
 //! A number is decimal digits, or `0x` and hexadecimal digits of either case. `VALUE` is `0x` and exactly 2,
 //! 4 or 8 hexadecimal digits, which give its size. `ADDRESS` is an IPv4 address, as 127.0.0.1. `AT` is where
 //! a line lies, `HOST:PORT` of its end A or those of both ends with a comma between them; `RAW` are the
-//! descriptors of packet sockets, one or two; `STATE` is the name of a state. These are handed on as they
-//! stand.
+//! descriptors of packet sockets, one or two; `THROUGH` is the `HOST:PORT` of a master's `--io`; `STATE` is
+//! the name of a state. These are handed on as they stand.
 //!
 //! A use, which the test `words_are_read_as_the_page_shows` tries; `rt` is what `main` is given:
 //!

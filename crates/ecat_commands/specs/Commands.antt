@@ -58,6 +58,10 @@ at_rule = option_rule (codes "AT") (codes "at")
 abbrev pub raw_rule : Rule
 raw_rule = option_rule (codes "RAW") (codes "raw")
 
+-- `--through THROUGH`
+abbrev pub through_rule : Rule
+through_rule = option_rule (codes "THROUGH") (codes "through")
+
 -- `--limit LIMIT`
 abbrev pub limit_rule : Rule
 limit_rule = option_rule (codes "LIMIT") (codes "limit")
@@ -78,6 +82,14 @@ force_rule = flag_rule (codes "force")
 abbrev pub judge_rule : Rule
 judge_rule = flag_rule (codes "judge")
 
+-- `--json`
+abbrev pub json_rule : Rule
+json_rule = flag_rule (codes "json")
+
+-- `SCENE [--json]`
+abbrev pub told_words : List Rule
+told_words = scene_rule ∷ json_rule ∷ []
+
 -- ---- the commands
 
 -- `show FILE`
@@ -87,10 +99,11 @@ show_words = needed_rule (codes "FILE") ∷ []
 abbrev pub show_line : App
 show_line = with_rules (new_app (codes "show")) show_words
 
--- `list FILE [--csv] [--faults] [--stats] [--index]`
+-- `list FILE [--csv] [--faults] [--stats] [--index] [--json]`
 abbrev pub list_words : List Rule
 list_words = needed_rule (codes "FILE") ∷ flag_rule (codes "csv")
-    ∷ flag_rule (codes "faults") ∷ flag_rule (codes "stats") ∷ flag_rule (codes "index") ∷ []
+    ∷ flag_rule (codes "faults") ∷ flag_rule (codes "stats") ∷ flag_rule (codes "index")
+    ∷ json_rule ∷ []
 
 abbrev pub list_line : App
 list_line = with_rules (new_app (codes "list")) list_words
@@ -103,10 +116,15 @@ learn_words = needed_rule (codes "FILE") ∷ option_rule (codes "PACKET") (codes
 abbrev pub learn_line : App
 learn_line = with_rules (new_app (codes "learn")) learn_words
 
--- `judge FILE [SCENE] [--csv] [--limit LINES]`
+-- `--clock CLOCK`
+abbrev pub clock_rule : Rule
+clock_rule = option_rule (codes "CLOCK") (codes "clock")
+
+-- `judge FILE [SCENE] [--csv] [--limit LINES] [--clock CLOCK] [--json]`
 abbrev pub judge_words : List Rule
 judge_words = needed_rule (codes "FILE") ∷ new_rule (codes "SCENE")
-    ∷ flag_rule (codes "csv") ∷ option_rule (codes "LINES") (codes "limit") ∷ []
+    ∷ flag_rule (codes "csv") ∷ option_rule (codes "LINES") (codes "limit") ∷ clock_rule
+    ∷ json_rule ∷ []
 
 abbrev pub judge_line : App
 judge_line = with_rules (new_app (codes "judge")) judge_words
@@ -119,21 +137,21 @@ replay_words = needed_rule (codes "FILE") ∷ needed_rule (codes "SCENE")
 abbrev pub replay_line : App
 replay_line = with_rules (new_app (codes "replay")) replay_words
 
--- `check SCENE`
+-- `check SCENE [--json]`
 abbrev pub check_line : App
-check_line = with_rules (new_app (codes "check")) scene_word
+check_line = with_rules (new_app (codes "check")) told_words
 
--- `cover SCENE`
+-- `cover SCENE [--json]`
 abbrev pub cover_line : App
-cover_line = with_rules (new_app (codes "cover")) scene_word
+cover_line = with_rules (new_app (codes "cover")) told_words
 
--- `lint SCENE`
+-- `lint SCENE [--json]`
 abbrev pub lint_line : App
-lint_line = with_rules (new_app (codes "lint")) scene_word
+lint_line = with_rules (new_app (codes "lint")) told_words
 
--- `where SCENE [--at AT] [--raw RAW]`
+-- `where SCENE [--at AT] [--raw RAW] [--through THROUGH] [--json]`
 abbrev pub where_words : List Rule
-where_words = scene_rule ∷ at_rule ∷ raw_rule ∷ []
+where_words = scene_rule ∷ at_rule ∷ raw_rule ∷ through_rule ∷ json_rule ∷ []
 
 abbrev pub where_line : App
 where_line = with_rules (new_app (codes "where")) where_words
@@ -149,11 +167,11 @@ run_line = with_rules (new_app (codes "run")) run_words
 abbrev pub sweep_line : App
 sweep_line = with_rules (new_app (codes "sweep")) scene_word
 
--- `sdo SCENE STATION INDEX SUB [VALUE] [--surely] [--once] [--at AT] [--raw RAW]`
+-- `sdo SCENE STATION INDEX SUB [VALUE] [--surely] [--once] [--at AT] [--raw RAW] [--through THROUGH]`
 abbrev pub sdo_words : List Rule
 sdo_words = scene_rule ∷ needed_rule (codes "STATION")
     ∷ needed_rule (codes "INDEX") ∷ needed_rule (codes "SUB") ∷ new_rule (codes "VALUE")
-    ∷ flag_rule (codes "surely") ∷ flag_rule (codes "once") ∷ at_rule ∷ raw_rule ∷ []
+    ∷ flag_rule (codes "surely") ∷ flag_rule (codes "once") ∷ at_rule ∷ raw_rule ∷ through_rule ∷ []
 
 abbrev pub sdo_line : App
 sdo_line = with_rules (new_app (codes "sdo")) sdo_words
@@ -166,7 +184,7 @@ abbrev pub udp_line : App
 udp_line = with_rules (new_app (codes "udp")) udp_words
 
 -- `serve SCENE [--port P] [--packets N] [--bind ADDRESS] [--forever] [--control] [--log] [--plain]
--- [--set-up] [--sii FOLDER] [--raw RAW] [--pcap PCAP] [--force]`
+-- [--set-up] [--sii FOLDER] [--raw RAW] [--pcap PCAP] [--force] [--json]`
 abbrev pub serve_words : List Rule
 serve_words = scene_rule ∷ port_rule
     ∷ option_rule (codes "N") (codes "packets") ∷ option_rule (codes "ADDRESS") (codes "bind")
@@ -175,15 +193,15 @@ serve_words = scene_rule ∷ port_rule
 -- what its slaves are, and where it lies
 abbrev pub device_words : List Rule
 device_words = flag_rule (codes "plain") ∷ flag_rule (codes "set-up")
-    ∷ option_rule (codes "FOLDER") (codes "sii") ∷ raw_rule ∷ pcap_rule ∷ force_rule ∷ []
+    ∷ option_rule (codes "FOLDER") (codes "sii") ∷ raw_rule ∷ pcap_rule ∷ force_rule ∷ json_rule ∷ []
 
 abbrev pub serve_line : App
 serve_line = with_rules (with_rules (new_app (codes "serve")) serve_words) device_words
 
 -- `master SCENE [--at AT] [--raw RAW] [--cycles N] [--until-end] [--every MICROSECONDS] [--busy]
 -- [--limit LIMIT] [--late LATE] [--outputs OUTPUTS] [--log LOG] [--log-images] [--log-or-stop]
--- [--clock CLOCK] [--io IO] [--io-open] [--io-stale CYCLES] [--io-rest REST] [--control] [--stop]
--- [--recover] [--tries TRIES] [--leave STATE] [--pcap PCAP] [--force]`
+-- [--clock CLOCK] [--progress PROGRESS] [--json] [--io IO] [--io-open] [--io-stale CYCLES]
+-- [--io-rest REST] [--control] [--stop] [--recover] [--tries TRIES] [--leave STATE] [--pcap PCAP] [--force]`
 abbrev pub master_words : List Rule
 master_words = scene_rule ∷ at_rule ∷ raw_rule
     ∷ option_rule (codes "N") (codes "cycles") ∷ flag_rule (codes "until-end") ∷ []
@@ -197,7 +215,8 @@ pace_words = option_rule (codes "MICROSECONDS") (codes "every") ∷ flag_rule (c
 abbrev pub course_words : List Rule
 course_words = option_rule (codes "OUTPUTS") (codes "outputs")
     ∷ option_rule (codes "LOG") (codes "log") ∷ flag_rule (codes "log-images")
-    ∷ flag_rule (codes "log-or-stop") ∷ option_rule (codes "CLOCK") (codes "clock") ∷ []
+    ∷ flag_rule (codes "log-or-stop") ∷ clock_rule ∷ option_rule (codes "PROGRESS") (codes "progress")
+    ∷ json_rule ∷ []
 
 -- where a program gives the outputs and gets the inputs, and whether lines of the input set and tell them
 abbrev pub io_words : List Rule
@@ -216,10 +235,11 @@ master_line =
     with_rules (with_rules (with_rules (with_rules (with_rules (new_app (codes "master")) master_words)
     pace_words) course_words) io_words) end_words
 
--- `scan [--at AT] [--raw RAW] [--limit LIMIT] [--late LATE] [--scene SCENE] [--force]`
+-- `scan [--at AT] [--raw RAW] [--through THROUGH] [--limit LIMIT] [--late LATE] [--scene SCENE] [--force]
+-- [--json]`
 abbrev pub scan_words : List Rule
-scan_words = at_rule ∷ raw_rule ∷ limit_rule ∷ late_rule ∷ option_rule (codes "SCENE") (codes "scene")
-    ∷ force_rule ∷ []
+scan_words = at_rule ∷ raw_rule ∷ through_rule ∷ limit_rule ∷ late_rule
+    ∷ option_rule (codes "SCENE") (codes "scene") ∷ force_rule ∷ json_rule ∷ []
 
 abbrev pub scan_line : App
 scan_line = with_rules (new_app (codes "scan")) scan_words

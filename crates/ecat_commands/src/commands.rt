@@ -2,17 +2,17 @@
 ghost use Rattle.std.specs.Prelude.{◌≡◌, List, IfOk, codes};
 ghost use Rattle.clap.specs.Words.{App, Rule, new_app, new_rule, with_subcommand};
 ghost use Rattle.ecat_commands.specs.Commands.{AreWords, Builds, IsWord, flag_rule, line};
-ghost use Rattle.ecat_commands.specs.Commands.{capture_lines, course_words, end_words, io_words};
+ghost use Rattle.ecat_commands.specs.Commands.{capture_lines, clock_rule, course_words, end_words, io_words};
 ghost use Rattle.ecat_commands.specs.Commands.{master_words};
 ghost use Rattle.ecat_commands.specs.Commands.{judge_line, pace_words, replay_line, scene_lines};
 ghost use Rattle.ecat_commands.specs.Commands.{socket_lines};
 ghost use Rattle.ecat_commands.specs.Commands.{with_commands};
-ghost use Rattle.ecat_commands.specs.Commands.{needed_rule, option_rule, at_rule, force_rule};
+ghost use Rattle.ecat_commands.specs.Commands.{needed_rule, option_rule, at_rule, force_rule, json_rule};
 ghost use Rattle.ecat_commands.specs.Commands.{judge_rule, late_rule, limit_rule, pcap_rule, port_rule};
 ghost use Rattle.ecat_commands.specs.Commands.{raw_rule, check_line, cover_line, learn_line, lint_line};
 ghost use Rattle.ecat_commands.specs.Commands.{list_line, master_line, run_line, scan_line, sdo_line};
 ghost use Rattle.ecat_commands.specs.Commands.{device_words, serve_line, serve_words, show_line, sweep_line};
-ghost use Rattle.ecat_commands.specs.Commands.{udp_line};
+ghost use Rattle.ecat_commands.specs.Commands.{through_rule, udp_line};
 ghost use Rattle.ecat_commands.specs.Commands.{ecat_setup, vectors_line, where_line, with_rules};
 
 use crate::help;
@@ -80,6 +80,14 @@ fn raw<'a>(alloc: Global) -> Arg<'a>
     option(alloc, "RAW", "raw", help)
 }
 
+// The door of a running master through which a line is asked.
+fn through<'a>(alloc: Global) -> Arg<'a>
+    ensures { IsWord through_rule result }
+{
+    let help = "The --io address, HOST:PORT, of the master that runs on the line and is asked";
+    option(alloc, "THROUGH", "through", help)
+}
+
 // How long a copy is waited for.
 fn limit<'a>(alloc: Global, help: &'a str) -> Arg<'a>
     ensures { IsWord limit_rule result }
@@ -111,6 +119,13 @@ fn force<'a>(alloc: Global) -> Arg<'a>
     flag(alloc, "force", "Overwrites the file where it is there")
 }
 
+// Whether lines have the time of the clock.
+fn clock<'a>(alloc: Global, help: &'a str) -> Arg<'a>
+    ensures { IsWord clock_rule result }
+{
+    option(alloc, "CLOCK", "clock", help)
+}
+
 // Whether the cycle is judged.
 fn judge<'a>(alloc: Global) -> Arg<'a>
     ensures { IsWord judge_rule result }
@@ -118,6 +133,17 @@ fn judge<'a>(alloc: Global) -> Arg<'a>
     let help =
         "Judges the cycle: which items are short, whose copies are lost, where the cable is broken";
     flag(alloc, "judge", help)
+}
+
+// Whether objects of JSON are printed.
+fn json<'a>(alloc: Global) -> Arg<'a>
+    ensures { IsWord json_rule result }
+{
+    flag(
+        alloc,
+        "json",
+        "Prints an object of JSON a line, in place of texts",
+    )
 }
 
 // A command with no words: its line in the list of commands, and what its help tells.
@@ -161,7 +187,7 @@ fn show<'a>(alloc: Global) -> Result<Command<'a>, AllocError>
     command(alloc, "show", about, help::SHOW, words)
 }
 
-// `list FILE [--csv] [--faults] [--stats] [--index]`
+// `list FILE [--csv] [--faults] [--stats] [--index] [--json]`
 fn list<'a>(alloc: Global) -> Result<Command<'a>, AllocError>
     ensures { IfOk result (Builds list_line) }
 {
@@ -185,6 +211,7 @@ fn list<'a>(alloc: Global) -> Result<Command<'a>, AllocError>
             "index",
             "With --stats, counts the datagrams of each index apart",
         ),
+        json(alloc),
     ]?;
     command(alloc, "list", about, help::LIST, words)
 }
@@ -210,7 +237,7 @@ fn learn<'a>(alloc: Global) -> Result<Command<'a>, AllocError>
     command(alloc, "learn", about, help::LEARN, words)
 }
 
-// `judge FILE [SCENE] [--csv] [--limit LINES]`
+// `judge FILE [SCENE] [--csv] [--limit LINES] [--clock CLOCK] [--json]`
 fn judge_capture<'a>(alloc: Global) -> Result<Command<'a>, AllocError>
     ensures { IfOk result (Builds judge_line) }
 {
@@ -218,11 +245,15 @@ fn judge_capture<'a>(alloc: Global) -> Result<Command<'a>, AllocError>
     let file = "The capture, a pcap or pcapng file; - for standard input, with a SCENE";
     let scene = "A file with the slaves and their work; learned of the capture if not given";
     let lines = "How many runs of cycles are told; 1000 if not given";
+    let stamps =
+        "What stands beside each time: utc, the date and the time of day; none; none if not given";
     let words = vec![in alloc;
         needed(alloc, "FILE", file),
         optional(alloc, "SCENE", scene),
         flag(alloc, "csv", "Separates by commas, below a line of names"),
         option(alloc, "LINES", "limit", lines),
+        clock(alloc, stamps),
+        json(alloc),
     ]?;
     command(alloc, "judge", about, help::JUDGE, words)
 }
@@ -245,39 +276,45 @@ fn replay<'a>(alloc: Global) -> Result<Command<'a>, AllocError>
     command(alloc, "replay", about, help::REPLAY, words)
 }
 
-// `check SCENE`
+// `check SCENE [--json]`
 fn check<'a>(alloc: Global) -> Result<Command<'a>, AllocError>
     ensures { IfOk result (Builds check_line) }
 {
     let about = "Says whether the slaves of a scene fit together on one line";
-    let words = vec![in alloc; scene(alloc)]?;
+    let words = vec![in alloc; scene(alloc), json(alloc)]?;
     command(alloc, "check", about, help::CHECK, words)
 }
 
-// `cover SCENE`
+// `cover SCENE [--json]`
 fn cover<'a>(alloc: Global) -> Result<Command<'a>, AllocError>
     ensures { IfOk result (Builds cover_line) }
 {
     let about = "Says whether the items of a scene carry all that its slaves are mapped for";
-    let words = vec![in alloc; scene(alloc)]?;
+    let words = vec![in alloc; scene(alloc), json(alloc)]?;
     command(alloc, "cover", about, help::COVER, words)
 }
 
-// `lint SCENE`
+// `lint SCENE [--json]`
 fn lint<'a>(alloc: Global) -> Result<Command<'a>, AllocError>
     ensures { IfOk result (Builds lint_line) }
 {
     let about = "Names what a scene says that is accepted and yet seldom meant";
-    let words = vec![in alloc; scene(alloc)]?;
+    let words = vec![in alloc; scene(alloc), json(alloc)]?;
     command(alloc, "lint", about, help::LINT, words)
 }
 
-// `where SCENE [--at AT] [--raw RAW]`
+// `where SCENE [--at AT] [--raw RAW] [--through THROUGH] [--json]`
 fn where_broken<'a>(alloc: Global) -> Result<Command<'a>, AllocError>
     ensures { IfOk result (Builds where_line) }
 {
     let about = "Says where the cable of a scene is broken, and who is missing";
-    let words = vec![in alloc; scene(alloc), at(alloc), raw(alloc)]?;
+    let words = vec![in alloc;
+        scene(alloc),
+        at(alloc),
+        raw(alloc),
+        through(alloc),
+        json(alloc),
+    ]?;
     command(alloc, "where", about, help::WHERE, words)
 }
 
@@ -299,7 +336,7 @@ fn sweep<'a>(alloc: Global) -> Result<Command<'a>, AllocError>
     command(alloc, "sweep", about, help::SWEEP, words)
 }
 
-// `sdo SCENE STATION INDEX SUB [VALUE] [--surely] [--once] [--at AT] [--raw RAW]`
+// `sdo SCENE STATION INDEX SUB [VALUE] [--surely] [--once] [--at AT] [--raw RAW] [--through THROUGH]`
 fn sdo<'a>(alloc: Global) -> Result<Command<'a>, AllocError>
     ensures { IfOk result (Builds sdo_line) }
 {
@@ -317,6 +354,7 @@ fn sdo<'a>(alloc: Global) -> Result<Command<'a>, AllocError>
         flag(alloc, "once", once),
         at(alloc),
         raw(alloc),
+        through(alloc),
     ]?;
     command(alloc, "sdo", about, help::SDO, words)
 }
@@ -337,7 +375,7 @@ fn udp<'a>(alloc: Global) -> Result<Command<'a>, AllocError>
 }
 
 // `serve SCENE [--port P] [--packets N] [--bind ADDRESS] [--forever] [--control] [--log] [--plain]
-// [--set-up] [--sii FOLDER] [--raw RAW] [--pcap PCAP] [--force]`
+// [--set-up] [--sii FOLDER] [--raw RAW] [--pcap PCAP] [--force] [--json]`
 fn serve<'a>(alloc: Global) -> Result<Command<'a>, AllocError>
     ensures { IfOk result (Builds serve_line) }
 {
@@ -371,7 +409,7 @@ fn line_of_serve<'a>(alloc: Global) -> Result<Vec<Arg<'a>>, AllocError>
     ]?)
 }
 
-// `[--plain] [--set-up] [--sii FOLDER] [--raw RAW] [--pcap PCAP] [--force]`
+// `[--plain] [--set-up] [--sii FOLDER] [--raw RAW] [--pcap PCAP] [--force] [--json]`
 #[inline(never)]
 fn devices_of_serve<'a>(alloc: Global) -> Result<Vec<Arg<'a>>, AllocError>
     ensures { IfOk result (λ words. AreWords device_words words.items) }
@@ -387,13 +425,14 @@ fn devices_of_serve<'a>(alloc: Global) -> Result<Vec<Arg<'a>>, AllocError>
         raw(alloc),
         pcap(alloc),
         force(alloc),
+        json(alloc),
     ]?)
 }
 
 // `master SCENE [--at AT] [--raw RAW] [--cycles N] [--until-end] [--every MICROSECONDS] [--busy]
 // [--limit LIMIT] [--late LATE] [--outputs OUTPUTS] [--log LOG] [--log-images] [--log-or-stop]
-// [--clock CLOCK] [--io IO] [--io-open] [--io-stale CYCLES] [--io-rest REST] [--control] [--stop]
-// [--recover] [--tries TRIES] [--leave STATE] [--pcap PCAP] [--force]`
+// [--clock CLOCK] [--progress PROGRESS] [--json] [--io IO] [--io-open] [--io-stale CYCLES] [--io-rest REST]
+// [--control] [--stop] [--recover] [--tries TRIES] [--leave STATE] [--pcap PCAP] [--force]`
 fn master<'a>(alloc: Global) -> Result<Command<'a>, AllocError>
     ensures { IfOk result (Builds master_line) }
 {
@@ -434,8 +473,8 @@ fn pace_of_master<'a>(alloc: Global) -> Result<Vec<Arg<'a>>, AllocError>
 {
     let every = "How far apart the cycles begin; back to back if not given";
     let busy = "Never sleeps while it waits, which takes a processor of its own";
-    let lost =
-        "After how many microseconds a copy counts as lost; if not given 20000, and four fifths of --every at most";
+    let lost = "After how many microseconds a copy counts as lost; if not given 20000, \
+        and four fifths of --every at most";
     Ok(vec![in alloc;
         option(alloc, "MICROSECONDS", "every", every),
         flag(alloc, "busy", busy),
@@ -444,7 +483,8 @@ fn pace_of_master<'a>(alloc: Global) -> Result<Vec<Arg<'a>>, AllocError>
     ]?)
 }
 
-// `[--outputs OUTPUTS] [--log LOG] [--log-images] [--log-or-stop] [--clock CLOCK]`
+// `[--outputs OUTPUTS] [--log LOG] [--log-images] [--log-or-stop] [--clock CLOCK] [--progress PROGRESS]
+// [--json]`
 #[inline(never)]
 fn course_of_master<'a>(alloc: Global) -> Result<Vec<Arg<'a>>, AllocError>
     ensures { IfOk result (λ words. AreWords course_words words.items) }
@@ -454,14 +494,18 @@ fn course_of_master<'a>(alloc: Global) -> Result<Vec<Arg<'a>>, AllocError>
     let log = "A file that gets a line for each cycle: its number, its verdict and its counters";
     let images = "Writes to the log what each cycle sent and took, as hexadecimal digits";
     let or_stop = "Ends where the log cannot be written; else the cycles go on without it";
-    let clock =
+    let stamps =
         "What each line that it prints or logs begins with: utc, the time; none; none if not given";
+    let progress = "What standard error is told of its cycles: screen, a page that is drawn anew; \
+        lines, one each second; none; at a terminal screen if not given, and none elsewhere";
     Ok(vec![in alloc;
         option(alloc, "OUTPUTS", "outputs", outputs),
         option(alloc, "LOG", "log", log),
         flag(alloc, "log-images", images),
         flag(alloc, "log-or-stop", or_stop),
-        option(alloc, "CLOCK", "clock", clock),
+        clock(alloc, stamps),
+        option(alloc, "PROGRESS", "progress", progress),
+        json(alloc),
     ]?)
 }
 
@@ -503,7 +547,8 @@ fn end_of_master<'a>(alloc: Global) -> Result<Vec<Arg<'a>>, AllocError>
     ]?)
 }
 
-// `scan [--at AT] [--raw RAW] [--limit LIMIT] [--late LATE] [--scene SCENE] [--force]`
+// `scan [--at AT] [--raw RAW] [--through THROUGH] [--limit LIMIT] [--late LATE] [--scene SCENE] [--force]
+// [--json]`
 fn scan<'a>(alloc: Global) -> Result<Command<'a>, AllocError>
     ensures { IfOk result (Builds scan_line) }
 {
@@ -513,10 +558,12 @@ fn scan<'a>(alloc: Global) -> Result<Command<'a>, AllocError>
     let words = vec![in alloc;
         at(alloc),
         raw(alloc),
+        through(alloc),
         limit(alloc, lost),
         late(alloc),
         option(alloc, "SCENE", "scene", scene),
         force(alloc),
+        json(alloc),
     ]?;
     command(alloc, "scan", about, help::SCAN, words)
 }

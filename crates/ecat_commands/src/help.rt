@@ -93,8 +93,9 @@ Lost frames have lines of their own. Then come sums of each item: how many were
 sent, good, short, over and lost, how far apart, and how long they were out.
 The line is that of SCENE, or else the one that the capture itself shows, as
 learn tells it. Datagrams that are no items of the scene are not judged, but
-counted. Prints no more than so many lines of runs as --limit says. The status
-is 0 where each cycle was good and none was lost.
+counted. Prints no more than so many lines of runs as --limit says. With --clock
+utc date and time of day stand behind the times of packets. The status is 0
+where each cycle was good and none was lost.
 
 Example:
   ecat judge scenes/startup.pcap";
@@ -152,6 +153,8 @@ slaves are cut off, as far as the copies tell. Whole gives the status 0, else
 it is 1. The actions and items of the scene are passed over.
 With --at or --raw the frame goes to a line somewhere else, at its ends A and B;
 of the scene the number of slaves and their stations are taken.
+With --through the master that runs on the line is asked, by its --io address,
+and tells what its last look at the cable found; no frame goes out for it.
 
 Example:
   ecat where scenes/run/two_slaves_link_1_down.scene";
@@ -195,6 +198,8 @@ at most: the first ones in the weathers of the scene, the others under its
 links. How many it took is printed on standard error.
 With --at or --raw the slave is one of a line somewhere else; the scene says
 where its mailboxes are. It is asked as with --surely, or as above with --once.
+With --through the master that runs on the line is asked, by its --io address,
+and does it beside its cycles; a question that is sent again is not done twice.
 
 Example:
   ecat sdo scenes/sdo/objects.scene 0x1001 0x1018 1
@@ -290,7 +295,9 @@ two cycles. It is answered behind the next one, by what it asks for and ok, or
 refused and why, and has changed nothing then:
   set ITEM OFFSET BYTES        outputs from the next cycle on; behind ; more such
                                places, all of which are changed, or none
+  set NAME VALUE               the bits of a signal, as one of the places
   get ITEM [OFFSET LENGTH]     what an item sent, and took in the last good cycle
+  get NAME, signals            values of a signal, and of all of them
   slaves, cable                what is known of each slave, and of the cable
   counts, times                the sums that are told at the end, as of now
   sdo STATION INDEX SUB [VALUE] reads or writes an object beside the cycles
@@ -310,6 +317,10 @@ written is told once, the cycles go on, and the status is 3; with --log-or-stop
 it ends there.
 With --clock utc each line that is printed or logged begins with the time, as
 2026-12-01T04:16:03.123Z, but for answers to commands.
+At a terminal standard error has a page, drawn anew four times a second: how many
+cycles there were, the cable, a letter for each slave, the last lines, and how
+long cycles take. With --control it has a line each second in its place. What
+--progress says, screen, lines or none, is so without a terminal too.
 With --until-end and --cycles it ends at the end of standard input too. With
 --busy it never sleeps while it waits for a cycle's time or for copies: it
 begins sooner, and takes a processor of its own.
@@ -331,6 +342,9 @@ counts that differ are told, and so is it where nobody answers.
 With --scene the line is written as a scene besides: stations, AL states, sync
 managers and FMMUs as they were read, and the identity as objects; so that
 check, cover and lint say of it what they say of a scene.
+With --through the master that runs on the line is asked, by its --io address,
+and tells of each slave its place, station, AL state, error and links, and of
+the cable, as far as it knows them; no frame goes out for it.
 
 Example:
   ecat scan --at 127.0.0.1:34980,127.0.0.1:34981";

@@ -20,7 +20,8 @@ left_is xs k d inside =
 -- the places that are left begin with one, and what they make of outputs is what is made behind it
 left_changes : (spans : List Span) (bytes : List ℕ) (places : List Place) (k : ℕ) (d : Place)
     (outputs : List ℕ) (put : Result (List ℕ) Fault) → k < length places
-    → put_placed (placed spans (get_or places k d)) (bytes_of (get_or places k d) bytes) outputs ≡ put
+    → put_placed (placed spans (get_or places k d)) (get_or places k d).run
+    (bytes_of (get_or places k d) bytes) outputs ≡ put
     → changed spans bytes (drop k places) outputs
     ≡ go_on (λ later. changed spans bytes (drop (k + 1) places) later) put
 unfolding changed
@@ -30,14 +31,16 @@ left_changes spans bytes places k d outputs put inside is =
 
 pub place_put : (spans : List Span) (bytes : List ℕ) (places : List Place) (k : ℕ) (d : Place)
     (outputs later : List ℕ) → k < length places
-    → put_placed (placed spans (get_or places k d)) (bytes_of (get_or places k d) bytes) outputs ≡ Ok later
+    → put_placed (placed spans (get_or places k d)) (get_or places k d).run
+    (bytes_of (get_or places k d) bytes) outputs ≡ Ok later
     → changed spans bytes (drop k places) outputs ≡ changed spans bytes (drop (k + 1) places) later
 place_put spans bytes places k d outputs later inside is =
     left_changes spans bytes places k d outputs (Ok later) inside is
 
 pub place_refused : (spans : List Span) (bytes : List ℕ) (places : List Place) (k : ℕ) (d : Place)
     (outputs : List ℕ) (fault : Fault) → k < length places
-    → put_placed (placed spans (get_or places k d)) (bytes_of (get_or places k d) bytes) outputs ≡ Err fault
+    → put_placed (placed spans (get_or places k d)) (get_or places k d).run
+    (bytes_of (get_or places k d) bytes) outputs ≡ Err fault
     → changed spans bytes (drop k places) outputs ≡ Err fault
 place_refused spans bytes places k d outputs fault inside is =
     left_changes spans bytes places k d outputs (Err fault) inside is

@@ -1,11 +1,15 @@
--- What a change makes of outputs: the bytes of its places, one place after the other, or nothing.
-use Rattle.std.specs.Prelude.{◌+◌, ◌-◌, ◌^◌, min, ℕ, nat_le, if◌then◌else◌}
+-- What a change makes of outputs: the bytes of its places, or some of their bits, one place after the other;
+-- or nothing.
+use Rattle.std.specs.Prelude.{◌+◌, ◌*◌, ◌-◌, ◌^◌, ◌&&◌, min, ℕ, Bool, true, nat_le, if◌then◌else◌}
 use Rattle.std.specs.Prelude.{List, [], ◌∷◌, ◌++◌, take, drop, length, slice_get, Option, None, Some}
 use Rattle.std.specs.Prelude.{Result, Ok, Err}
 use Rattle.ec_map.specs.Item.{ItemRecord}
+use Rattle.ec_regs.specs.Bits.{with_bits}
+use Rattle.ec_regs.specs.Pairs.{partner}
 use Rattle.ec_wire.specs.Command.{writes}
 use Rattle.ec_wire.specs.Kind.{command_of}
 use Rattle.ecat_control.specs.declared.change.Place.{Place}
+use Rattle.ecat_control.specs.declared.change.Run.{Run}
 use Rattle.ecat_control.specs.declared.held.Span.{Span}
 use Rattle.ecat_control.specs.declared.refusal.Fault.{Fault}
 use Rattle.ecat_control.specs.declared.refusal.Fault.TheVariants.{NoItem, NoOutputs, OutOfRange}
@@ -32,11 +36,22 @@ placed spans place = placed_at (slice_get spans place.item) place
 abbrev pub bytes_of : Place → List ℕ → List ℕ
 bytes_of place bytes = take place.count (drop place.from bytes)
 
--- outputs with the bytes of a place, if it has room where it is to lie
-abbrev pub put_placed : Result ℕ Fault → List ℕ → List ℕ → Result (List ℕ) Fault
-put_placed (Ok at) bytes outputs =
-    if nat_le (at + length bytes) (length outputs) then Ok (put_at at bytes outputs) else Err OutOfRange
-put_placed (Err fault) bytes outputs = Err fault
+-- bytes of which all go to the place of as many others, or those bits alone that a run names
+abbrev pub over : Option Run → List ℕ → List ℕ → List ℕ
+over None bytes others = bytes
+over (Some run) bytes others = with_bits others bytes (partner run.first run.first run.count)
+
+-- does a run lie in bytes, whose bits a number of 64 bits counts
+abbrev pub has_run : Option Run → List ℕ → Bool
+has_run None bytes = true
+has_run (Some run) bytes = nat_le (run.first + run.count) (min (8 * length bytes) (2 ^ 64 - 1))
+
+-- outputs with the bytes of a place, or with some of their bits, if it has room where it is to lie
+abbrev pub put_placed : Result ℕ Fault → Option Run → List ℕ → List ℕ → Result (List ℕ) Fault
+put_placed (Ok at) run bytes outputs =
+    if nat_le (at + length bytes) (length outputs) && has_run run bytes
+    then Ok (put_at at (over run bytes (take (length bytes) (drop at outputs))) outputs) else Err OutOfRange
+put_placed (Err fault) run bytes outputs = Err fault
 
 -- what comes behind a place, if that could be put
 abbrev pub go_on : (List ℕ → Result (List ℕ) Fault) → Result (List ℕ) Fault → Result (List ℕ) Fault
@@ -49,7 +64,7 @@ unfoldable pub changed : List Span → List ℕ → List Place → List ℕ → 
 changed spans bytes [] outputs = Ok outputs
 changed spans bytes (place ∷ rest) outputs =
     go_on (λ later. changed spans bytes rest later)
-    (put_placed (placed spans place) (bytes_of place bytes) outputs)
+    (put_placed (placed spans place) place.run (bytes_of place bytes) outputs)
 
 -- ---- changes, one after the other
 

@@ -1,3 +1,4 @@
 pub mod Changes
 pub mod Images
 pub mod Set
+pub mod Values

@@ -6,13 +6,15 @@ ghost use Rattle.ecat_control.specs.Set.{is_set};
 use crate::image::{sent_by, taken_by};
 use crate::refusal::Refusal;
 use crate::request::Part;
+use crate::signal::{put_signal, put_signals};
 use ecat_master::Known;
+use ecat_signals::Signal;
 use ecat_text::Lines;
 use std::io::{self, Write};
 
 /// What a line came to that was taken, and what it is to be answered by behind the next cycle.
 #[derive(Clone, Copy, Default)]
-pub(crate) enum Answer {
+pub enum Answer {
     /// It is done.
     #[default]
     Done,
@@ -22,6 +24,10 @@ pub(crate) enum Answer {
     Refused(Refusal),
     /// What an item sent and took is told.
     Get(Part),
+    /// What a signal sent and took is told, by its place among those of the scene.
+    GetSignal(usize),
+    /// The signals are told.
+    Signals,
     /// The slaves are told.
     Slaves,
     /// The cable is told.
@@ -36,15 +42,16 @@ pub(crate) enum Answer {
 
 impl Answer {
     /// Has the line set outputs?
-    pub(crate) fn has_set(self) -> bool
+    pub fn has_set(self) -> bool
         ensures { result ≡ is_set self }
     {
         matches!(self, Answer::Set)
     }
 
-    /// Writes what was asked for and `ok`, or why the line is refused.
-    pub(crate) fn put<W: Write>(
+    /// Writes what was asked for, of a scene with these signals, and `ok`, or why the line is refused.
+    pub fn put<W: Write>(
         self,
+        signals: &[Signal],
         known: &Known<'_, '_, '_>,
         lines: &mut Lines<'_, W>,
     ) -> io::Result<()> {
@@ -56,6 +63,12 @@ impl Answer {
                 return lines.end();
             }
             Answer::Get(part) => put_part(part, known, lines)?,
+            Answer::GetSignal(place) => {
+                if let Some(signal) = signals.get(place) {
+                    put_signal(signal, known, lines)?;
+                }
+            }
+            Answer::Signals => put_signals(signals, known, lines)?,
             Answer::Slaves => known.put_slaves(lines)?,
             Answer::Cable => known.put_cable(lines)?,
             Answer::Counts => known.put_counts(lines)?,
@@ -66,14 +79,15 @@ impl Answer {
     }
 }
 
-/// Writes each answer, in their order.
-pub(crate) fn put_answers<W: Write>(
+/// Writes each answer, in their order, of a scene with these signals.
+pub fn put_answers<W: Write>(
     answers: &[Answer],
+    signals: &[Signal],
     known: &Known<'_, '_, '_>,
     lines: &mut Lines<'_, W>,
 ) -> io::Result<()> {
     for answer in answers {
-        answer.put(known, lines)?;
+        answer.put(signals, known, lines)?;
     }
     Ok(())
 }

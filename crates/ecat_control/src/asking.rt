@@ -9,7 +9,7 @@ use std::io::{self, Write};
 
 /// How far it is with what a line asked a slave for.
 #[derive(Clone, Copy)]
-pub(crate) enum Asking {
+pub enum Asking {
     /// Nothing is asked.
     Nothing,
     /// The master has not begun.
@@ -22,12 +22,12 @@ pub(crate) enum Asking {
 
 impl Asking {
     /// Has a line asked for something that is not told yet?
-    pub(crate) fn is_busy(&self) -> bool {
+    pub fn is_busy(&self) -> bool {
         !matches!(self, Asking::Nothing)
     }
 
     /// What the master is to begin with, if anything is.
-    pub(crate) fn begin(&mut self) -> Option<Asked> {
+    pub fn begin(&mut self) -> Option<Asked> {
         let Asking::Waits(asked) = *self else {
             return None;
         };
@@ -36,14 +36,14 @@ impl Asking {
     }
 
     /// Takes what came of it.
-    pub(crate) fn end(&mut self, told: Result<ServiceAnswer, MasterFault>) {
+    pub fn end(&mut self, told: Result<ServiceAnswer, MasterFault>) {
         if let Asking::Waits(asked) | Asking::UnderWay(asked) = *self {
             *self = Asking::Ended(asked, told);
         }
     }
 
     /// Writes what came of it, once, where it is at its end.
-    pub(crate) fn put<W: Write>(&mut self, lines: &mut Lines<'_, W>) -> io::Result<()> {
+    pub fn put<W: Write>(&mut self, lines: &mut Lines<'_, W>) -> io::Result<()> {
         let Asking::Ended(asked, told) = *self else {
             return Ok(());
         };

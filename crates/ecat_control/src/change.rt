@@ -1,4 +1,4 @@
-//! A change of outputs: which bytes go where.
+//! A change of outputs: which bytes, or bits of them, go where.
 
 ghost use Rattle.std.specs.Prelude.{◌≡◌, []};
 ghost use Rattle.ecat_control.specs.Changes.{bytes_of};
@@ -11,6 +11,15 @@ pub const MOST_PLACES: usize = 64;
 /// The most bytes of a change: as many as a line of 1,024 characters can have.
 pub const MOST_BYTES: usize = 512;
 
+/// Bits that follow each other in bytes.
+#[derive(Clone, Copy, PartialEq, Eq, Default, Debug)]
+pub struct Run {
+    /// The first one, from 0: bit 0 is the lowest one of the first byte.
+    pub first: usize,
+    /// How many there are.
+    pub count: usize,
+}
+
 /// A place of a change: where bytes go, and which of the change's.
 #[derive(Clone, Copy, PartialEq, Eq, Default, Debug)]
 pub struct Place {
@@ -22,6 +31,8 @@ pub struct Place {
     pub from: usize,
     /// How many there are.
     pub count: usize,
+    /// Which of their bits go there, each to the same bit; `None` for all.
+    pub run: Option<Run>,
 }
 
 /// A change of outputs: its places, of which each has bytes of the change.

@@ -1,16 +1,21 @@
 //! The outputs that lines change.
 
-ghost use Rattle.std.specs.Prelude.{◌≡◌, ◌<◌, ◌++◌, ◌∷◌, [], IfOk, OnErr, OnOk, Err, Ok, length, take};
+ghost use Rattle.std.specs.Prelude.{◌≡◌, ◌<◌, ◌++◌, ◌∷◌, [], IfOk, IsTrue, OnErr, OnOk, Err, Ok, length};
+ghost use Rattle.std.specs.Prelude.{take};
 ghost use Rattle.ecat_control.specs.Changes.{bytes_of, changed, outputs_in, outputs_of, placed, placed_in};
-ghost use Rattle.ecat_control.specs.Changes.{put_placed, span_of, spans_in};
+ghost use Rattle.ecat_control.specs.Changes.{has_run, over, put_placed, span_of, spans_in};
 ghost use Rattle.ecat_control.specs.declared.refusal.Fault.{Fault};
 
-use crate::change::{Change, Place, bytes_of};
+use crate::change::{Change, Place, Run, bytes_of};
 use crate::refusal::Fault;
 use arrayvec::ArrayVec;
 use ec_map::Item;
 use ec_master::{MAX_ITEMS, Work};
+use ec_regs::bits::copy_bits;
 use std::alloc::{AllocError, Global};
+
+/// How many bits a byte has.
+const BYTE: usize = 8;
 
 /// Where the bytes of an item stand among the outputs, and how many there are.
 #[derive(Clone, Copy, PartialEq, Eq, Default, Debug)]
@@ -174,14 +179,14 @@ fn put_places(
 /// Puts the bytes of a place among outputs, if it lies in an item that writes, to its end; else nothing is
 /// changed.
 fn put_place(spans: &[Span], place: Place, bytes: &[u8], outputs: &mut [u8]) -> Result<(), Fault>
-    ensures done { IfOk result (λ _. put_placed (placed spans.now place) (bytes_of place bytes.now)
-        outputs.old ≡ Ok outputs.new) }
-    ensures refused { (fault : Fault) → result ≡ Err fault
-        → put_placed (placed spans.now place) (bytes_of place bytes.now) outputs.old ≡ Err fault }
+    ensures done { IfOk result (λ _. put_placed (placed spans.now place) place.run
+        (bytes_of place bytes.now) outputs.old ≡ Ok outputs.new) }
+    ensures refused { (fault : Fault) → result ≡ Err fault → put_placed (placed spans.now place) place.run
+        (bytes_of place bytes.now) outputs.old ≡ Err fault }
     ensures size { length outputs.new ≡ length outputs.old }
 {
     let at = placed(spans, place)?;
-    put_bytes(outputs, at, bytes_of(place, bytes))
+    put_bytes(outputs, at, place.run, bytes_of(place, bytes))
 }
 
 /// Where among the outputs the bytes of a place go, if it lies in an item that writes, to its end; else what
@@ -209,17 +214,47 @@ fn placed_in(span: Span, place: Place) -> Result<usize, Fault>
     }
 }
 
-/// Puts bytes among others, at a place where they have room; else nothing is changed.
-fn put_bytes(outputs: &mut [u8], at: usize, bytes: &[u8]) -> Result<(), Fault>
-    ensures done { IfOk result (λ _. put_placed (Ok at) bytes.now outputs.old ≡ Ok outputs.new) }
+/// Puts bytes among others, or the bits of a run alone, at a place where they have room; else nothing is
+/// changed.
+fn put_bytes(outputs: &mut [u8], at: usize, run: Option<Run>, bytes: &[u8]) -> Result<(), Fault>
+    ensures done { IfOk result (λ _. put_placed (Ok at) run bytes.now outputs.old ≡ Ok outputs.new) }
     ensures refused { (fault : Fault) → result ≡ Err fault
-        → put_placed (Ok at) bytes.now outputs.old ≡ Err fault }
+        → put_placed (Ok at) run bytes.now outputs.old ≡ Err fault }
     ensures stays { OnErr result (outputs.new ≡ outputs.old) }
     ensures size { length outputs.new ≡ length outputs.old }
 {
     if at > outputs.len() || bytes.len() > outputs.len() - at {
         return Err(Fault::OutOfRange);
     }
-    outputs[at..at + bytes.len()].copy_from_slice(bytes);
+    if !has_run(run, bytes) {
+        return Err(Fault::OutOfRange);
+    }
+    put_over(run, bytes, &mut outputs[at..at + bytes.len()]);
     Ok(())
+}
+
+/// Puts bytes in the place of as many others, or the bits of a run alone, which lies in them.
+fn put_over(run: Option<Run>, bytes: &[u8], others: &mut [u8])
+    requires size { length others.old ≡ length bytes.now }
+    requires inside { IsTrue (has_run run bytes.now) }
+    ensures put { others.new ≡ over run bytes.now others.old }
+    ensures size { length others.new ≡ length others.old }
+{
+    match run {
+        None => others.copy_from_slice(bytes),
+        Some(Run { first, count }) => copy_bits(others, first, bytes, first, count),
+    }
+}
+
+/// Does a run lie in bytes?
+fn has_run(run: Option<Run>, bytes: &[u8]) -> bool
+    ensures { result ≡ has_run run bytes.now }
+{
+    match run {
+        None => true,
+        Some(Run { first, count }) => {
+            let bits = bytes.len().saturating_mul(BYTE);
+            first <= bits && count <= bits - first
+        }
+    }
 }

@@ -15,6 +15,10 @@ pub enum Fault {
     WrongCount,
     /// A number, a row of bytes or a name of another form.
     BadNumber,
+    /// The scene has no such signal.
+    NoSignal,
+    /// A value of another form than the signal's, or one that its bits do not hold.
+    BadValue,
     /// More places than a line may have.
     TooMany,
     /// The scene has no such item.
@@ -25,6 +29,8 @@ pub enum Fault {
     OutOfRange,
     /// A slave is being asked for something else.
     Busy,
+    /// It is not taken where it came: it sets outputs or ends the master, and not who asks does that there.
+    NotHere,
 }
 
 impl Fault {
@@ -36,11 +42,14 @@ impl Fault {
             Fault::UnknownWord => "UnknownWord",
             Fault::WrongCount => "WrongCount",
             Fault::BadNumber => "BadNumber",
+            Fault::NoSignal => "NoSignal",
+            Fault::BadValue => "BadValue",
             Fault::TooMany => "TooMany",
             Fault::NoItem => "NoItem",
             Fault::NoOutputs => "NoOutputs",
             Fault::OutOfRange => "OutOfRange",
             Fault::Busy => "Busy",
+            Fault::NotHere => "NotHere",
         }
     }
 }

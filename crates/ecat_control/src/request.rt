@@ -2,10 +2,12 @@
 
 use crate::change::{Change, MOST_PLACES, Place};
 use crate::refusal::{Fault, Refusal};
+use crate::value::{put_value, signal_named, wanted_of};
 use crate::words::{Words, byte, is_text, number, put_row, short, value_of, words_of};
 use ec_acyclic::Service;
 use ec_regs::AlState;
 use ecat_master::Asked;
+use ecat_signals::Signal;
 
 /// Bytes of an item.
 #[derive(Clone, Copy, PartialEq, Eq, Debug)]
@@ -21,10 +23,15 @@ pub struct Part {
 pub enum Request {
     /// Nothing: an empty line, or one that begins with `#`.
     Nothing,
-    /// `set ITEM OFFSET BYTES`, and more places behind a `;` each: the change that was read beside it.
+    /// `set ITEM OFFSET BYTES` or `set NAME VALUE`, and more places behind a `;` each: the change that was
+    /// read beside it.
     Set,
     /// `get ITEM` or `get ITEM OFFSET LENGTH`
     Get(Part),
+    /// `get NAME`: the signal at this place among those of the scene.
+    GetSignal(usize),
+    /// `signals`
+    Signals,
     /// `slaves`
     Slaves,
     /// `cable`
@@ -53,13 +60,20 @@ const SDO: &str = "sdo STATION INDEX SUB [VALUE]";
 /// The form of `state`.
 const STATE: &str = "state STATION init|pre-op|safe-op|op";
 
+/// What is wanted where no signal has a name.
+const NAMED: &str = "the name of a signal, as `signals` tells them";
+
+/// The words of all lines of a scene that has signals.
+const ALL_OF_SIGNALS: &str =
+    "set, get, signals, slaves, cable, counts, times, sdo, state, acknowledge, leave or quit";
+
 /// The words of all lines.
 const ALL: &str = "set, get, slaves, cable, counts, times, sdo, state, acknowledge, leave or quit";
 
 impl Request {
-    /// What a line asks for, or its first fault in the order of [`Fault`]. Any bytes are taken. The places of
-    /// a `set` come into the change, whatever it had.
-    pub fn read(line: &[u8], change: &mut Change) -> Result<Request, Refusal> {
+    /// What a line asks for of a scene with these signals, or its first fault in the order of [`Fault`]. Any
+    /// bytes are taken. The places of a `set` come into the change, whatever it had.
+    pub fn read(line: &[u8], signals: &[Signal], change: &mut Change) -> Result<Request, Refusal> {
         if !is_text(line) {
             return Err(Refusal {
                 fault: Fault::NotText,
@@ -74,8 +88,9 @@ impl Request {
             return Ok(Request::Nothing);
         };
         match *first {
-            b"set" => wanting(SET, read_set(line, change)),
-            b"get" => wanting(GET, read_get(&words)),
+            b"set" => read_set(line, signals, change),
+            b"get" => read_get(&words, signals),
+            b"signals" => wanting("signals", alone(&words, Request::Signals)),
             b"slaves" => wanting("slaves", alone(&words, Request::Slaves)),
             b"cable" => wanting("cable", alone(&words, Request::Cable)),
             b"counts" => wanting("counts", alone(&words, Request::Counts)),
@@ -85,15 +100,24 @@ impl Request {
             b"acknowledge" => wanting("acknowledge STATION", read_acknowledge(&words)),
             b"leave" => wanting("leave init|pre-op|safe-op|op", read_leave(&words)),
             b"quit" => wanting("quit", alone(&words, Request::Quit)),
-            _ => wanting(ALL, Err(Fault::UnknownWord)),
+            _ => wanting(all_of(signals), Err(Fault::UnknownWord)),
         }
     }
 }
 
-/// What the reading of a line comes to that was to be of this form.
-fn wanting(wanted: &'static str, read: Result<Request, Fault>) -> Result<Request, Refusal> {
+/// The words of all lines of a scene with these signals.
+fn all_of(signals: &[Signal]) -> &'static str {
+    if signals.is_empty() {
+        ALL
+    } else {
+        ALL_OF_SIGNALS
+    }
+}
+
+/// What the reading of a line, or of a part of it, comes to that was to be of this form.
+fn wanting<T>(wanted: &'static str, read: Result<T, Fault>) -> Result<T, Refusal> {
     match read {
-        Ok(request) => Ok(request),
+        Ok(read) => Ok(read),
         Err(fault) => Err(Refusal { fault, wanted }),
     }
 }
@@ -107,20 +131,42 @@ fn alone(words: &Words<'_>, request: Request) -> Result<Request, Fault> {
     }
 }
 
-/// `set ITEM OFFSET BYTES; ITEM OFFSET BYTES; ..`: the word stands before the first place.
-fn read_set(line: &[u8], change: &mut Change) -> Result<Request, Fault> {
+/// `set`, and places with a `;` between any two of them: the word stands before the first one.
+fn read_set(line: &[u8], signals: &[Signal], change: &mut Change) -> Result<Request, Refusal> {
     change.clear();
     let mut is_first = true;
     for piece in line.split(|byte| *byte == b';') {
         let words = words_of(piece);
         let skipped = usize::from(is_first);
-        read_place(words.get(skipped..).unwrap_or(&[]), change)?;
+        match words.get(skipped..).unwrap_or(&[]) {
+            [name, value] if is_name(name, signals) => read_signal(name, value, signals, change)?,
+            words => wanting(SET, read_place(words, change))?,
+        }
         is_first = false;
     }
     Ok(Request::Set)
 }
 
-/// Puts a place behind those of a change.
+/// Is a word the name of a signal, or of none? It is no number then; a scene without signals has no names.
+fn is_name(word: &[u8], signals: &[Signal]) -> bool {
+    !signals.is_empty() && number(word).is_err()
+}
+
+/// `NAME VALUE`: puts the bits of a signal behind the places of a change.
+fn read_signal(
+    name: &[u8],
+    value: &[u8],
+    signals: &[Signal],
+    change: &mut Change,
+) -> Result<(), Refusal> {
+    let Some(signal) = signal_named(signals, name).and_then(|place| signals.get(place)) else {
+        return wanting(NAMED, Err(Fault::NoSignal));
+    };
+    let field = signal.field;
+    wanting(wanted_of(field.kind), put_value(field, value, change))
+}
+
+/// `ITEM OFFSET BYTES`: puts a place behind those of a change.
 fn read_place(words: &[&[u8]], change: &mut Change) -> Result<(), Fault> {
     let [item, offset, row] = words else {
         return Err(Fault::WrongCount);
@@ -134,6 +180,7 @@ fn read_place(words: &[&[u8]], change: &mut Change) -> Result<(), Fault> {
         offset,
         from,
         count,
+        run: None,
     };
     if change.places.try_push(place).is_err() {
         return Err(Fault::TooMany);
@@ -141,9 +188,20 @@ fn read_place(words: &[&[u8]], change: &mut Change) -> Result<(), Fault> {
     Ok(())
 }
 
-/// `get ITEM` or `get ITEM OFFSET LENGTH`
-fn read_get(words: &Words<'_>) -> Result<Request, Fault> {
+/// `get NAME`, `get ITEM` or `get ITEM OFFSET LENGTH`
+fn read_get(words: &Words<'_>, signals: &[Signal]) -> Result<Request, Refusal> {
     match words.as_slice() {
+        [_, name] if is_name(name, signals) => match signal_named(signals, name) {
+            Some(place) => Ok(Request::GetSignal(place)),
+            None => wanting(NAMED, Err(Fault::NoSignal)),
+        },
+        words => wanting(GET, read_part(words)),
+    }
+}
+
+/// `get ITEM` or `get ITEM OFFSET LENGTH`
+fn read_part(words: &[&[u8]]) -> Result<Request, Fault> {
+    match words {
         [_, item] => Ok(Request::Get(Part {
             item: number(item)?,
             run: None,

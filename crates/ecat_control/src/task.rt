@@ -8,8 +8,9 @@ use crate::asking::Asking;
 use crate::change::Change;
 use crate::held::Outputs;
 use crate::input::Commands;
+use crate::reading::read_answer;
 use crate::refusal::{Fault, Refusal};
-use crate::request::{GET, Part, Request, SET};
+use crate::request::{Request, SET};
 use arrayvec::ArrayVec;
 use ec_acyclic::Answer as ServiceAnswer;
 use ec_regs::AlState;
@@ -17,6 +18,7 @@ use ec_services::MasterFault;
 use ecat_master::{Asked, Known, Report, Task};
 use ecat_serve::LINE_ROOM;
 use ecat_serve::lines::InputLine;
+use ecat_signals::Signal;
 use ecat_text::Lines;
 use std::cell::Cell;
 use std::io::{self, Read, Write};
@@ -28,7 +30,7 @@ pub const MOST_LINES: usize = 32;
 /// The task of who speaks to a master on its input: before each cycle the lines that came are done, 32 of
 /// them at the most, and behind it each is answered.
 #[derive(Drop)]
-pub struct ControlTask<'a, I> {
+pub struct ControlTask<'a, 's, I> {
     commands: Commands<I>,
     outputs: Outputs,
     change: Change,
@@ -40,12 +42,19 @@ pub struct ControlTask<'a, I> {
     stops: &'a Cell<bool>,
     /// The state in which the slaves are to be left, where it was said.
     leave: Option<AlState>,
+    /// The signals that lines may name.
+    signals: &'s [Signal],
 }
 
-impl<'a, I: Read + AsRawFd> ControlTask<'a, I> {
-    /// The task of who speaks there, over these outputs. The cell is told where the master is to end: by
-    /// `quit` or `leave`, or once the input has ended.
-    pub fn new(input: I, outputs: Outputs, stops: &'a Cell<bool>) -> ControlTask<'a, I> {
+impl<'a, 's, I: Read + AsRawFd> ControlTask<'a, 's, I> {
+    /// The task of who speaks there, over these outputs; lines name these signals, each of which lies in its
+    /// item. The cell is told where the master is to end: by `quit` or `leave`, or once the input has ended.
+    pub fn new(
+        input: I,
+        outputs: Outputs,
+        signals: &'s [Signal],
+        stops: &'a Cell<bool>,
+    ) -> ControlTask<'a, 's, I> {
         ControlTask {
             commands: Commands::of(input),
             outputs,
@@ -54,6 +63,7 @@ impl<'a, I: Read + AsRawFd> ControlTask<'a, I> {
             asking: Asking::Nothing,
             stops,
             leave: None,
+            signals,
         }
     }
 
@@ -73,7 +83,7 @@ impl<'a, I: Read + AsRawFd> ControlTask<'a, I> {
             })),
             InputLine::Whole(count) => {
                 let line = room.get(..count).unwrap_or(&[]);
-                Some(Request::read(line, &mut self.change))
+                Some(Request::read(line, self.signals, &mut self.change))
             }
         }
     }
@@ -118,16 +128,6 @@ impl<'a, I: Read + AsRawFd> ControlTask<'a, I> {
         ensures nothing_set { is_set result ≡ false }
     {
         match request {
-            Request::Nothing | Request::Set => Answer::Done,
-            Request::Get(part) => match self.refused(part) {
-                None => Answer::Get(part),
-                Some(fault) => Answer::Refused(Refusal { fault, wanted: GET }),
-            },
-            Request::Slaves => Answer::Slaves,
-            Request::Cable => Answer::Cable,
-            Request::Counts => Answer::Counts,
-            Request::Times => Answer::Times,
-            Request::Ask(asked) => self.ask_slave(asked),
             Request::Leave(state) => {
                 self.leave = Some(state);
                 self.stops.set(true);
@@ -137,34 +137,7 @@ impl<'a, I: Read + AsRawFd> ControlTask<'a, I> {
                 self.stops.set(true);
                 Answer::Done
             }
-        }
-    }
-
-    /// Has a slave asked for something, unless one is already.
-    fn ask_slave(&mut self, asked: Asked) -> Answer
-        ensures kept { self.new.outputs ≡ self.old.outputs }
-        ensures nothing_set { is_set result ≡ false }
-    {
-        if self.asking.is_busy() {
-            return Answer::Refused(Refusal {
-                fault: Fault::Busy,
-                wanted: "one of sdo, state and acknowledge at a time",
-            });
-        }
-        self.asking = Asking::Waits(asked);
-        Answer::Later
-    }
-
-    /// Why bytes cannot be got, if they cannot.
-    fn refused(&self, part: Part) -> Option<Fault> {
-        let Some(length) = self.outputs.length_of(part.item) else {
-            return Some(Fault::NoItem);
-        };
-        match part.run {
-            Some((offset, count)) if offset > length || count > length - offset => {
-                Some(Fault::OutOfRange)
-            }
-            _ => None,
+            request => read_answer(request, &self.outputs, &mut self.asking),
         }
     }
 
@@ -183,7 +156,7 @@ impl<'a, I: Read + AsRawFd> ControlTask<'a, I> {
     }
 }
 
-impl<I: Read + AsRawFd> Task for ControlTask<'_, I> {
+impl<I: Read + AsRawFd> Task for ControlTask<'_, '_, I> {
     ghost listens = { λ before are_others later. Become before.outputs are_others later.outputs };
 
     ghost held = { λ task. task.outputs.bytes.items };
@@ -222,7 +195,7 @@ impl<I: Read + AsRawFd> Task for ControlTask<'_, I> {
         if self.stops.get() {
             self.asking.end(Err(MasterFault::NoAnswer));
         }
-        let written = put_answers(self.answers.as_slice(), known, lines);
+        let written = put_answers(self.answers.as_slice(), self.signals, known, lines);
         self.answers.clear();
         written?;
         self.asking.put(lines)

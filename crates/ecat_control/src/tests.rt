@@ -35,7 +35,7 @@ const ASKED: [(&str, Request); 9] = [
 #[test]
 fn lines_say_what_they_ask(rt: HostRuntime) {
     for (line, wanted) in ASKED {
-        let read = Request::read(line.as_bytes(), &mut Change::none());
+        let read = Request::read(line.as_bytes(), &[], &mut Change::none());
         assert_eq!(rt; read, Ok(wanted), "{line}");
     }
 }
@@ -91,7 +91,7 @@ fn lines_say_what_they_ask_of_a_slave(rt: HostRuntime) {
             station: 0x1002,
             service,
         });
-        let read = Request::read(line.as_bytes(), &mut Change::none());
+        let read = Request::read(line.as_bytes(), &[], &mut Change::none());
         assert_eq!(rt; read, Ok(wanted), "{line}");
     }
 }
@@ -117,7 +117,7 @@ const REFUSED_SERVICES: [(&str, Fault); 14] = [
 #[test]
 fn lines_that_ask_a_slave_are_refused_by_name(rt: HostRuntime) {
     for (line, wanted) in REFUSED_SERVICES {
-        let read = Request::read(line.as_bytes(), &mut Change::none());
+        let read = Request::read(line.as_bytes(), &[], &mut Change::none());
         assert_eq!(rt;
             read.map_err(|refusal| refusal.fault),
             Err(wanted),
@@ -148,7 +148,7 @@ const REFUSED: [(&str, Fault); 15] = [
 #[test]
 fn lines_are_refused_by_name(rt: HostRuntime) {
     for (line, wanted) in REFUSED {
-        let read = Request::read(line.as_bytes(), &mut Change::none());
+        let read = Request::read(line.as_bytes(), &[], &mut Change::none());
         assert_eq!(rt;
             read.map_err(|refusal| refusal.fault),
             Err(wanted),
@@ -193,7 +193,7 @@ fn changes_are_whole(rt: HostRuntime) {
             rt.abort();
         };
         let mut change = Change::none();
-        let _ = Request::read(line.as_bytes(), &mut change);
+        let _ = Request::read(line.as_bytes(), &[], &mut change);
         let set = outputs.set(&change);
         match wanted {
             Ok(bytes) => {

@@ -9,14 +9,19 @@ use Rattle.ecat_course.specs.Stands.{Stands}
 use Rattle.ecat_course.specs.declared.course.Course.{Course}
 
 -- the line and the counters that are cycled on are those of the course; how a master runs on them is as it is
--- planned, with the identities of the course, and its cycles tell the states if the course says so
+-- planned, with the identities and the names of the course, and its cycles tell the states if the course says
+-- so
 pub record IsPlannedFor (course : Course) (plan : Plan) (planned : LinePlan) : Type 0 where
   pub line : planned.line.now ≡ course.line.items
   pub expected : planned.expected.now ≡ course.expected
   pub states : planned.plan.now.states ≡ course.states
   pub identities : planned.plan.now.identities.now ≡ course.identities.items
-  pub rest : planned.plan.now
-      ≡ record plan { states = planned.plan.now.states; identities = planned.plan.now.identities }
+  pub names : planned.plan.now.names.now ≡ course.names.items
+  pub rest : planned.plan.now ≡ record plan {
+    states = planned.plan.now.states;
+    identities = planned.plan.now.identities;
+    names = planned.plan.now.names;
+  }
 
 -- a run that ends well, of the line, the work and the counters of a course that stands
 pub record IsGoodCourse {P D T : Type 0} (sides : Sides P D T) (before : P) (course : Course) (plan : Plan)

@@ -34,12 +34,15 @@ where
     let Course {
         line,
         identities,
+        names,
+        signals: _,
         work,
         expected,
         states,
     } = course;
     let plan = Plan {
         identities: identities.as_slice(),
+        names: names.as_slice(),
         states,
         ..*plan
     };

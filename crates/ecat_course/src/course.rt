@@ -10,7 +10,8 @@ use ec_master::Work;
 use ec_run::{MAX_STARTUP, StartupObject, Wanted, add_states, image_length};
 use ecat_master::{ENTRIES, IDENTITY, Identity};
 use ecat_scene::{Scene, SceneSlave};
-use ecat_setup::{Expected, LineFailure, for_packets, ring_of, work_of};
+use ecat_setup::{Expected, LineFailure, for_packets, names_of, ring_of, work_of};
+use ecat_signals::Signal;
 use ecat_text::{Lines, refuse_work};
 use std::alloc::{AllocError, Global};
 use std::io::Write;
@@ -25,6 +26,8 @@ type Startup = [Option<StartupObject>; MAX_STARTUP];
 pub struct Course {
     pub(crate) line: Vec<Wanted>,
     pub(crate) identities: Vec<Identity>,
+    pub(crate) names: Vec<String>,
+    pub(crate) signals: Vec<Signal>,
     pub(crate) work: Work,
     pub(crate) expected: Expected,
     pub(crate) states: bool,
@@ -40,20 +43,26 @@ impl Course {
         scene: Scene,
         out: &mut W,
     ) -> Result<Option<Course>, LineFailure> {
-        let scene = for_packets(scene)?;
-        let startups = startups_of(alloc, scene.slaves.as_slice())?;
-        let identities = identities_of(alloc, scene.slaves.as_slice())?;
+        let Scene {
+            slaves,
+            items,
+            signals,
+            ..
+        } = for_packets(scene)?;
+        let startups = startups_of(alloc, slaves.as_slice())?;
+        let identities = identities_of(alloc, slaves.as_slice())?;
+        let names = names_of(alloc, slaves.as_slice())?;
         let mut lines = Lines::new(out);
-        if refuse_long_mailbox(scene.slaves.as_slice(), None, &mut lines)? {
+        if refuse_long_mailbox(slaves.as_slice(), None, &mut lines)? {
             return Ok(None);
         }
-        let ring = ring_of(alloc, scene.slaves, &[])?;
-        if scene.items.is_empty() {
+        let ring = ring_of(alloc, slaves, &[])?;
+        if items.is_empty() {
             lines.text("no items: nothing to cycle on")?;
             lines.end()?;
             return Ok(None);
         }
-        let mut work = work_of(scene.items)?;
+        let mut work = work_of(items)?;
         let states = add_states(&mut work);
         if refuse_work(ring.slaves(), &work, &mut lines)?
             || refuse_full(&work, states, &mut lines)?
@@ -65,6 +74,8 @@ impl Course {
         Ok(Some(Course {
             line,
             identities,
+            names,
+            signals,
             work,
             expected,
             states,
@@ -96,6 +107,20 @@ impl Course {
             stations.push(wanted.station)?;
         }
         Ok(stations)
+    }
+
+    /// The signals of the scene, each of which lies in its item.
+    pub fn signals(&self, alloc: Global) -> Result<Vec<Signal>, AllocError> {
+        let mut signals = Vec::new(alloc);
+        for signal in self.signals.iter() {
+            let mut name = Vec::new(alloc);
+            name.extend_from_slice(signal.name.as_slice())?;
+            signals.push(Signal {
+                name,
+                field: signal.field,
+            })?;
+        }
+        Ok(signals)
     }
 
     /// How far the counters of a cycle's items are to move, in their order.

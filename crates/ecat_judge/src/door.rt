@@ -17,8 +17,12 @@ const PIECE: usize = 65_536;
 pub struct Asked {
     /// Runs and losses are rows of columns; the sums are left out.
     pub csv: bool,
+    /// All is told as objects of JSON, one a line. It is not asked for beside columns.
+    pub json: bool,
     /// How many lines of runs and losses are told. Further ones are counted.
     pub limit: u64,
+    /// Whether the date and the time of day, in UTC, stand beside each time.
+    pub dates: bool,
 }
 
 /// How the judging of a capture ended.
@@ -109,7 +113,7 @@ fn take_all<S: Source + Drop, W: Write>(
 
 /// What is written of a capture, with the head of its columns.
 fn page_of(alloc: Global, asked: &Asked) -> Result<Page, AllocError> {
-    let mut page = Page::new(alloc, asked.csv, asked.limit);
+    let mut page = Page::new(alloc, asked);
     page.put_head()?;
     Ok(page)
 }
@@ -151,18 +155,33 @@ fn verdict(taken: u64, trial: &Trial) -> Judged {
     }
 }
 
+/// A line by which a capture is judged.
+#[derive(Drop)]
+pub struct Known<'a, M> {
+    /// The slaves, from the one at port A on.
+    pub slaves: &'a [M],
+    /// Their names, by their places: an empty one, or none, of a slave that has no name.
+    pub names: Vec<String>,
+    /// What the master asks in each cycle.
+    pub items: &'a [Item],
+}
+
 /// Judges the frames of a capture by the line and the items of a scene. The lines go to `out`.
 pub fn judge<S: Source + Drop, M: Mapped, W: Write>(
     alloc: Global,
     frames: &mut Frames<S>,
-    line: &[M],
-    items: &[Item],
+    line: Known<'_, M>,
     asked: &Asked,
     out: &mut W,
 ) -> Judged {
     let two = frames.marks().two;
+    let Known {
+        slaves,
+        names,
+        items,
+    } = line;
     let trial = match page_of(alloc, asked) {
-        Ok(page) => Trial::new(alloc, line, items, two, page),
+        Ok(page) => Trial::new(alloc, slaves, items, two, page.naming(names)),
         Err(failed) => Err(failed),
     };
     judged_of(judge_frames(frames, trial, out))

@@ -9,8 +9,9 @@
 //! let mut looked = Looked::new();
 //! let _ = look(rt.alloc(), first, &mut looked);
 //! let mut frames = Frames::of_file(rt.alloc(), again, looked, None);
-//! let asked = Asked { csv: false, limit: 1000 };
-//! match judge(rt.alloc(), &mut frames, line, items, &asked, &mut out) {
+//! let asked = Asked { csv: false, json: false, limit: 1000, dates: false };
+//! let line = Known { slaves, names, items };
+//! match judge(rt.alloc(), &mut frames, line, &asked, &mut out) {
 //!     Judged::Good => {}       // all items came back, with the counters that the line gives
 //!     Judged::NotGood => {}    // not all did
 //!     ended => {}
@@ -32,6 +33,7 @@
 //! - one slave; all slaves from one on, and of a master with two ports any run of neighbours; the inputs
 //!   alone or the outputs alone of a slave that does not fit whole. Where none of these fits, how many sets
 //!   of slaves fit the item that is short most;
+//! - the name of each slave that has one: `slave 2 X axis (0x1003)`;
 //! - `may be more` behind it, where two slaves fit as well that are no neighbours. So one name alone, without
 //!   it, is all that fits of what is tried;
 //! - `one copy alone`, where one of two sent copies did not come back, and `more than the slaves of the
@@ -55,7 +57,12 @@
 //! `from` and `to` when that was, in seconds from the first frame on, `times` how many bad trips there were;
 //! of losses both are sent packets. `counters` has the items that were not good, parted by `; `, and `passed`
 //! how many slaves an ADP tells to have been passed. The verdict is `lost`, or what the line says. Behind
-//! [`Asked::limit`] lines or rows further ones are counted alone, and a last one tells how many.
+//! [`Asked::limit`] lines or rows further ones are counted alone, and a last one tells how many. With
+//! [`Asked::dates`] the times of a line have date and time of day in UTC behind them, as
+//! `2026-12-01T04:16:03.123456Z`, and a row has two columns more: `from_utc` and `to_utc`.
+//!
+//! With [`Asked::json`] all of it, runs, losses and sums, is objects of JSON, one a line, whose members are
+//! those of `docs/JSON.md`; what explains a run stands behind it, an object each.
 //!
 //! What is promised:
 //!
@@ -67,7 +74,8 @@
 //!   by which names, and whether two slaves fit that are no neighbours (`specs/Answer.antt`);
 //! - [`missing_fits`]: what is missing is among what fits (`specs/Without.antt`); [`one_name_alone`]: one
 //!   name alone, where no more may be missing, is all that fits;
-//! - [`Sums::count`]: what became of each datagram of an item is counted once (`specs/Sums.antt`);
+//! - [`Sums::count`]: what became of each datagram of an item is counted once (`specs/Sums.antt`), and an
+//!   object has just that (`specs/Members.antt`);
 //! - any bytes are taken, and all calls end.
 //!
 //! Only tested: which trips make a run, which bits a slave reads, how many sets fit where no class does,
@@ -80,11 +88,12 @@
 //! - `answer`: what is told of it; `sets`: how many sets, where nothing is told by name.
 //! - `verdict`, `sums`, `times`: of one trip, of all.
 //! - `table`: the line and its items; `strangers`: what no item asks for.
-//! - `run`, `trial`: packet after packet; `page`: the lines; `door`: the whole capture.
+//! - `run`, `trial`: packet after packet; `page`, `as_json`: the lines; `door`: the whole capture.
 //!
 //! It takes what `ecat_trips` takes, and 400 KB for 256 slaves and 32 items; of two ports 1 MB more.
 
 mod answer;
+mod as_json;
 mod candidates;
 mod door;
 mod evidence;
@@ -102,7 +111,7 @@ mod verdict;
 
 pub use answer::Answer;
 pub use candidates::Candidates;
-pub use door::{Asked, Judged, judge, judge_usual};
+pub use door::{Asked, Judged, Known, judge, judge_usual};
 pub use evidence::{Evidence, Row};
 pub use promises::{missing_fits, missing_lacks, one_name_alone};
 pub use share::{Missing, Share, lacks};

@@ -2,6 +2,7 @@
 
 use crate::answer::Answer;
 use crate::candidates::Candidates;
+use crate::door::Asked;
 use crate::evidence::Evidence;
 use crate::run::{Kind, Run};
 use crate::sets::{MOST_SETS, sets_of};
@@ -11,18 +12,19 @@ use crate::sums::Sums;
 use crate::table::{Entry, Key, Table, is_logical};
 use crate::times::{At, Spread, Times};
 use ec_wire::{Command, ado_of, adp_of};
+use ecat_stamps::date_of;
 use std::alloc::{AllocError, Global};
 use std::fmt;
 
 /// How much of what fits is told by name.
-const NAMED: usize = 4;
+pub(crate) const NAMED: usize = 4;
 
 /// What is guessed of a capture that has nothing that was sent.
 const GUESS: &str = "guess: what was sent had the counters 0, since nothing of it was captured\n";
 
 /// The classes of what may be missing, in the order in which they are told.
 #[derive(Clone, Copy)]
-enum Class {
+pub(crate) enum Class {
     /// One slave.
     Slave,
     /// Neighbours.
@@ -35,11 +37,15 @@ enum Class {
 #[derive(Drop)]
 pub(crate) struct Page {
     /// Where names are gathered.
-    alloc: Global,
+    pub alloc: Global,
+    /// The names of the slaves, by their places.
+    pub(crate) names: Vec<String>,
     /// The lines.
     pub text: String,
     /// Are they rows of columns?
     pub csv: bool,
+    /// Are they objects of JSON?
+    pub json: bool,
     /// How many lines of runs and losses are told.
     pub limit: u64,
     /// How many were told.
@@ -50,6 +56,8 @@ pub(crate) struct Page {
     pub start: Option<u64>,
     /// Does the capture count finer than microseconds?
     pub fine: bool,
+    /// Do the dates stand beside the times?
+    pub dates: bool,
 }
 
 /// Nanoseconds as seconds.
@@ -94,18 +102,26 @@ impl fmt::Display for KeyText {
 }
 
 impl Page {
-    /// Nothing is written. So many lines of runs and losses are told.
-    pub(crate) fn new(alloc: Global, csv: bool, limit: u64) -> Page {
+    /// Nothing is written of what was asked for so.
+    pub(crate) fn new(alloc: Global, asked: &Asked) -> Page {
         Page {
             alloc,
+            names: Vec::new(alloc),
             text: String::new(alloc),
-            csv,
-            limit,
+            csv: asked.csv,
+            json: asked.json,
+            limit: asked.limit,
+            dates: asked.dates,
             told: 0,
             not_told: 0,
             start: None,
             fine: false,
         }
+    }
+
+    /// A page that tells the names of slaves, by their places.
+    pub(crate) fn naming(self, names: Vec<String>) -> Page {
+        Page { names, ..self }
     }
 
     /// Looks at the time of a packet.
@@ -131,6 +147,11 @@ impl Page {
         })
     }
 
+    /// How many digits stand behind the point of a second: as many as the capture counts.
+    pub(crate) fn digits(&self) -> u8 {
+        if self.fine { 9 } else { 6 }
+    }
+
     /// Is one more line of a run or of losses told? If not, it is counted.
     fn may_tell(&mut self) -> bool {
         if self.told < self.limit {
@@ -146,7 +167,12 @@ impl Page {
     pub(crate) fn put_head(&mut self) -> Result<(), AllocError> {
         if self.csv {
             self.text
-                .push_str("first,last,from,to,times,counters,passed,verdict\n")?;
+                .push_str("first,last,from,to,times,counters,passed,verdict")?;
+            self.text.push_str(if self.dates {
+                ",from_utc,to_utc\n"
+            } else {
+                "\n"
+            })?;
         }
         Ok(())
     }
@@ -169,6 +195,29 @@ impl Page {
         }
     }
 
+    /// Puts a time as a date in UTC behind some words, where dates are told and it is known.
+    fn put_date_behind(&mut self, words: &str, time: Option<u64>) -> Result<(), AllocError> {
+        match time {
+            Some(time) if self.dates => {
+                let date = date_of(time, self.digits());
+                self.text.push_str(words)?;
+                self.text.push_str(date.as_str())
+            }
+            _ => Ok(()),
+        }
+    }
+
+    /// Ends a row, or a line. A row has its dates behind it, where they are told.
+    fn end_line(&mut self, first: At, last: At) -> Result<(), AllocError> {
+        if self.csv && self.dates {
+            self.text.push_str(",")?;
+            self.put_date_behind("", first.time)?;
+            self.text.push_str(",")?;
+            self.put_date_behind("", last.time)?;
+        }
+        self.text.push_str("\n")
+    }
+
     /// Puts the packets, their times and how many trips there were.
     fn put_packets(&mut self, first: At, last: At, times: u64) -> Result<(), AllocError> {
         let from = first.packet;
@@ -181,16 +230,24 @@ impl Page {
             return write!(self.text, ",{times},");
         }
         write!(self.text, "packets {from} to {to}")?;
+        self.put_times(first, last)?;
+        write!(self.text, ", {times} times")
+    }
+
+    /// Puts the times of a first and a last packet, and their dates.
+    fn put_times(&mut self, first: At, last: At) -> Result<(), AllocError> {
         self.put_time_behind(", ", first.time)?;
         self.put_time_behind(" to ", last.time)?;
-        write!(self.text, ", {times} times")
+        self.put_date_behind(", ", first.time)?;
+        self.put_date_behind(" to ", last.time)
     }
 
     /// Puts one packet and its time.
     fn put_packet(&mut self, at: At) -> Result<(), AllocError> {
         let packet = at.packet;
         write!(self.text, "packet {packet}")?;
-        self.put_time_behind(", ", at.time)
+        self.put_time_behind(", ", at.time)?;
+        self.put_date_behind(", ", at.time)
     }
 
     /// Puts the losses of trips that were sent one after the other.
@@ -198,13 +255,17 @@ impl Page {
         if !self.may_tell() {
             return Ok(());
         }
+        if self.json {
+            return self.json_losses(first, last, times);
+        }
         if times == 1 && !self.csv {
             self.put_packet(first)?;
         } else {
             self.put_packets(first, last, times)?;
         }
         self.text
-            .push_str(if self.csv { ",,lost\n" } else { ": lost\n" })
+            .push_str(if self.csv { ",,lost" } else { ": lost" })?;
+        self.end_line(first, last)
     }
 
     // ---- runs
@@ -219,6 +280,9 @@ impl Page {
         if !self.may_tell() {
             return Ok(());
         }
+        if self.json {
+            return self.json_run(run, table, evidence);
+        }
         self.put_packets(run.first, run.last, run.times)?;
         self.put_counters(run, table)?;
         self.put_passed(run, table.stations.len())?;
@@ -232,7 +296,8 @@ impl Page {
             Kind::More => self.text.push_str("more than usual")?,
             Kind::Missing => self.text.push_str("less than usual")?,
         }
-        self.text.push_str(if self.csv { "\"\n" } else { "\n" })
+        self.text.push_str(if self.csv { "\"" } else { "" })?;
+        self.end_line(run.first, run.last)
     }
 
     /// Puts the counters of a run that are not those of the line; where none of several items counted at all,
@@ -367,40 +432,72 @@ impl Page {
     fn put_one(&mut self, missing: Missing, table: &Table) -> Result<(), AllocError> {
         match missing {
             Missing::Inputs(slave) => {
-                let station = station_of(table, slave);
-                write!(self.text, "inputs of slave {slave} (0x{station:04x})")
+                self.text.push_str("inputs of ")?;
+                self.put_slave(slave, table)
             }
             Missing::Outputs(slave) => {
-                let station = station_of(table, slave);
-                write!(self.text, "outputs of slave {slave} (0x{station:04x})")
+                self.text.push_str("outputs of ")?;
+                self.put_slave(slave, table)
             }
             Missing::Two(one, other) => {
-                let one_station = station_of(table, one);
-                let other_station = station_of(table, other);
-                write!(
-                    self.text,
-                    "slaves {one}, {other} (0x{one_station:04x}, 0x{other_station:04x})"
-                )
+                write!(self.text, "slaves {one}, {other} (")?;
+                self.put_stations(one, ", ", other, table)
             }
             Missing::Slaves(from, to) => {
                 let last = to.saturating_sub(1);
-                let first_station = station_of(table, from);
-                let last_station = station_of(table, last);
                 if from == last {
-                    write!(self.text, "slave {from} (0x{first_station:04x})")
-                } else {
-                    let parted = if to.saturating_sub(from) == 2 {
-                        ", "
-                    } else {
-                        " to "
-                    };
-                    write!(
-                        self.text,
-                        "slaves {from}..{last} (0x{first_station:04x}{parted}0x{last_station:04x})"
-                    )
+                    return self.put_slave(from, table);
                 }
+                let parted = if to.saturating_sub(from) == 2 {
+                    ", "
+                } else {
+                    " to "
+                };
+                write!(self.text, "slaves {from}..{last} (")?;
+                self.put_stations(from, parted, last, table)
             }
         }
+    }
+
+    /// Puts a slave by its place, its name, if it has one, and its station.
+    fn put_slave(&mut self, slave: usize, table: &Table) -> Result<(), AllocError> {
+        write!(self.text, "slave {slave}")?;
+        self.put_name(slave)?;
+        let station = station_of(table, slave);
+        write!(self.text, " (0x{station:04x})")
+    }
+
+    /// Puts two slaves by their stations and their names, with this between them, and the end of a bracket.
+    fn put_stations(
+        &mut self,
+        one: usize,
+        parted: &str,
+        other: usize,
+        table: &Table,
+    ) -> Result<(), AllocError> {
+        let station = station_of(table, one);
+        write!(self.text, "0x{station:04x}")?;
+        self.put_name(one)?;
+        let station = station_of(table, other);
+        write!(self.text, "{parted}0x{station:04x}")?;
+        self.put_name(other)?;
+        self.text.push_str(")")
+    }
+
+    /// Puts the name of a slave behind a space, if it has one. In a row each `"` of it is doubled, as columns
+    /// in quotes have it (RFC 4180).
+    fn put_name(&mut self, slave: usize) -> Result<(), AllocError> {
+        let name = name_in(self.names.as_slice(), slave);
+        if !name.is_empty() {
+            self.text.push_str(" ")?;
+        }
+        for letter in name.chars() {
+            if self.csv && letter == '"' {
+                self.text.push('"')?;
+            }
+            self.text.push(letter)?;
+        }
+        Ok(())
     }
 
     // ---- sums
@@ -413,6 +510,9 @@ impl Page {
         sums: &Sums,
         times: &Times,
     ) -> Result<(), AllocError> {
+        if self.json {
+            return self.json_sums(item, entry, sums, times);
+        }
         let key = KeyText(entry.key);
         write!(self.text, "item {item} {key}:")?;
         self.put_counts(sums)?;
@@ -467,8 +567,7 @@ impl Page {
         let from = first.packet;
         let to = last.packet;
         write!(self.text, "  packets {from} to {to}")?;
-        self.put_time_behind(", ", first.time)?;
-        self.put_time_behind(" to ", last.time)?;
+        self.put_times(first, last)?;
         self.text.push_str("\n")
     }
 
@@ -492,6 +591,9 @@ impl Page {
 
     /// Puts what was guessed, where nothing was captured that was sent.
     pub(crate) fn put_guess(&mut self, is_guessed: bool) -> Result<(), AllocError> {
+        if self.json {
+            return self.json_guess(is_guessed);
+        }
         if is_guessed {
             self.text.push_str(GUESS)?;
         }
@@ -504,6 +606,9 @@ impl Page {
         strangers: &Strangers,
         is_known: bool,
     ) -> Result<(), AllocError> {
+        if self.json {
+            return self.json_strangers(strangers, is_known);
+        }
         let whose = if is_known { "scene" } else { "cycle" };
         let groups = strangers.groups();
         let datagrams = strangers.datagrams;
@@ -524,11 +629,15 @@ impl Page {
 
     /// Puts how many lines were not told.
     pub(crate) fn put_rest(&mut self) -> Result<(), AllocError> {
+        if self.json {
+            return self.json_rest();
+        }
         let not_told = self.not_told;
         if not_told == 0 {
             Ok(())
         } else if self.csv {
-            write!(self.text, ",,,,{not_told},,,not told\n")
+            let dates = if self.dates { ",," } else { "" };
+            write!(self.text, ",,,,{not_told},,,not told{dates}\n")
         } else {
             write!(self.text, "not told: {not_told} lines\n")
         }
@@ -536,7 +645,7 @@ impl Page {
 }
 
 /// The candidates of a class.
-fn candidates_of(class: Class, candidates: &Candidates) -> &[Missing] {
+pub(crate) fn candidates_of(class: Class, candidates: &Candidates) -> &[Missing] {
     match class {
         Class::Slave => candidates.slaves.as_slice(),
         Class::Neighbours => candidates.neighbours.as_slice(),
@@ -545,9 +654,17 @@ fn candidates_of(class: Class, candidates: &Candidates) -> &[Missing] {
 }
 
 /// The station address of a slave; of none that is not there.
-fn station_of(table: &Table, slave: usize) -> u16 {
+pub(crate) fn station_of(table: &Table, slave: usize) -> u16 {
     match table.stations.get(slave) {
         Some(station) => *station,
         None => 0,
+    }
+}
+
+/// The name of the slave at a place; an empty one where it has none.
+pub(crate) fn name_in(names: &[String], slave: usize) -> &str {
+    match names.get(slave) {
+        Some(name) => name.as_str(),
+        None => "",
     }
 }

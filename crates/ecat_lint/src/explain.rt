@@ -241,6 +241,10 @@ fn outside_of(first: &[u8]) -> &'static str {
         "object" => "the value does not fit its size in bytes",
         "startup" => "an object is written with 1, 2 or 4 bytes",
         "name" => "a name has 64 characters at most, spaces included",
+        "signal" => {
+            "the item has all bits of a signal, and its kind takes so many: bool 1, u8 and i8 1 to 8, u16 \
+             and i16 1 to 16, u32 and i32 1 to 32, f32 32, raw whole bytes"
+        }
         "link" | "weather" => {
             "the line has no such link; link 0 is before the first slave, and one is behind each"
         }
@@ -251,10 +255,11 @@ fn outside_of(first: &[u8]) -> &'static str {
     }
 }
 
-/// What a slave has already that a line says once more.
+/// What a slave or the scene has already that a line says once more.
 fn twin_of(first: &[u8]) -> &'static str {
     match text_of(first) {
         "mirror" | "count" => "a line above puts inputs into this sync manager already",
+        "signal" => "a signal above has this name already",
         _ => "the slave has an object with this index and subindex already",
     }
 }
@@ -267,6 +272,7 @@ fn most_of(first: &[u8]) -> &'static str {
         "startup" => "a slave has 16 startup objects at most",
         "frame" | "step" => "a scene has 32 actions at most",
         "weather" => "a scene has 32 weathers at most",
+        "signal" => "a scene has 256 signals at most",
         _ => "a scene has 32 items at most",
     }
 }

@@ -1,7 +1,7 @@
 //! What the words behind the first one of a scene's line have to be: their forms, their ranges, and both in
 //! words for a person.
 
-use ecat_scene::{number, test_bytes, text_of};
+use ecat_scene::{MAX_SIGNAL_NAME, number, test_bytes, test_signal_name, text_of};
 
 /// What a word behind the first one of a line has to be.
 #[derive(Clone, Copy)]
@@ -32,6 +32,10 @@ pub(crate) enum Form {
     Lost,
     /// Which copy goes first.
     First,
+    /// The name of a signal.
+    Name,
+    /// What the bits of a signal are.
+    Kind,
 }
 
 /// The greatest number of 8, of 16 and of 32 bits.
@@ -43,6 +47,9 @@ const DOUBLE_WORD: u64 = 0xffff_ffff;
 
 /// The greatest number of a sync manager or an FMMU.
 const LAST_RECORD: u64 = 7;
+
+/// The greatest number of an item.
+const LAST_ITEM: u64 = 31;
 
 /// The forms of the words that follow each first word of a scene, with the line as it is written.
 pub(crate) fn forms_of(first: &[u8]) -> Option<(&'static str, &'static [Form])> {
@@ -101,6 +108,16 @@ pub(crate) fn forms_of(first: &[u8]) -> Option<(&'static str, &'static [Form])> 
         )),
         "alias" => Some(("alias NUMBER", &[Form::Number(WORD)])),
         "name" => Some(("name TEXT", &[])),
+        "signal" => Some((
+            "signal NAME ITEM BIT COUNT KIND",
+            &[
+                Form::Name,
+                Form::Number(LAST_ITEM),
+                Form::Number(WORD),
+                Form::Number(WORD),
+                Form::Kind,
+            ],
+        )),
         "mirror" => Some((
             "mirror IN OUT",
             &[Form::Number(LAST_RECORD), Form::Number(LAST_RECORD)],
@@ -159,6 +176,11 @@ impl Form {
             Form::Links => are_links(word),
             Form::Lost => matches!(text_of(word), "-" | "a" | "b" | "ab"),
             Form::First => matches!(text_of(word), "a" | "b"),
+            Form::Name => test_signal_name(word).is_ok(),
+            Form::Kind => matches!(
+                text_of(word),
+                "bool" | "u8" | "i8" | "u16" | "i16" | "u32" | "i32" | "f32" | "raw"
+            ),
         }
     }
 
@@ -169,6 +191,7 @@ impl Form {
             (Form::State, Ok(number)) => matches!(number, 1 | 2 | 4 | 8),
             (Form::Size, Ok(number)) => matches!(number, 1 | 2 | 4),
             (Form::Process, Ok(number)) => 0x1000 <= number && number <= 0x2fff,
+            (Form::Name, _) => word.len() <= MAX_SIGNAL_NAME,
             _ => true,
         }
     }
@@ -179,8 +202,14 @@ impl Form {
             Form::Number(_) | Form::State | Form::Size | Form::Process | Form::Link => "no number",
             Form::Bytes => "no row of bytes",
             Form::Links => "no list of links",
-            Form::SyncManager | Form::Fmmu | Form::Rights | Form::Down | Form::Lost | Form::First =>
-                "no such word",
+            Form::Name => "no name of a signal",
+            Form::SyncManager
+            | Form::Fmmu
+            | Form::Rights
+            | Form::Down
+            | Form::Lost
+            | Form::First
+            | Form::Kind => "no such word",
         }
     }
 
@@ -188,6 +217,7 @@ impl Form {
     pub(crate) fn wanted(self) -> &'static str {
         match self {
             Form::Number(LAST_RECORD) => "0 to 7",
+            Form::Number(LAST_ITEM) => "an item of the scene, 0 to 31",
             Form::Number(BYTE) => "0 to 255",
             Form::Number(WORD) => "0 to 65535",
             Form::Number(_) => "0 to 4294967295",
@@ -203,6 +233,8 @@ impl Form {
             Form::Links => "links with commas between them, or -",
             Form::Lost => "-, a, b or ab: the copies that are lost",
             Form::First => "a or b: the copy that goes first",
+            Form::Name => "1 to 32 letters, digits, _, . and -, and no number",
+            Form::Kind => "bool, u8, i8, u16, i16, u32, i32, f32 or raw",
         }
     }
 }

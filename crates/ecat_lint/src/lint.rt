@@ -38,6 +38,26 @@ pub struct OddLine {
     oddity: Oddity,
 }
 
+impl OddLine {
+    /// The number of the line of the scene, from 1.
+    pub(crate) fn line(&self) -> usize {
+        self.line
+    }
+
+    /// The slave and the item that it is about, of which one is there.
+    pub(crate) fn subjects(&self) -> (Option<u64>, Option<u64>) {
+        match self.subject {
+            Subject::Slave(slave) => (Some(slave as u64), None),
+            Subject::Item(item) => (None, Some(item as u64)),
+        }
+    }
+
+    /// What is odd.
+    pub(crate) fn oddity(&self) -> Oddity {
+        self.oddity
+    }
+}
+
 impl fmt::Display for OddLine {
     fn fmt<W: fmt::Write>(&self, f: &mut fmt::Formatter<W>) -> fmt::Result {
         let line = self.line;

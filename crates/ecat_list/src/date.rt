@@ -8,7 +8,7 @@ use ecat_stamps::date_of;
 use std::alloc::AllocError;
 
 /// How many digits stand behind the point of a second.
-fn digits_of(fine: bool) -> u8
+pub(crate) fn digits_of(fine: bool) -> u8
     ensures { result ≡ digits_of fine }
 {
     if fine { 9 } else { 6 }

@@ -13,13 +13,13 @@ const MIN_GAPS: u64 = 2;
 const MIN_RETURNS: u64 = 3;
 
 /// How many times there are at least where shares of them are told.
-const MIN_SHARED: u64 = 100;
+pub(crate) const MIN_SHARED: u64 = 100;
 
 /// The shares that are told, and for each of how many times one is beyond it.
-const SHARES: [u64; 4] = [2, 10, 100, 1000];
+pub(crate) const SHARES: [u64; 4] = [2, 10, 100, 1000];
 
 /// How many buckets a power of two has.
-const STEPS: usize = 8;
+pub(crate) const STEPS: usize = 8;
 
 /// By what times are told.
 #[derive(Clone, Copy)]
@@ -245,7 +245,7 @@ fn put_histogram(
 }
 
 /// All of some counts together.
-fn sum_of(counts: &[u64]) -> u64 {
+pub(crate) fn sum_of(counts: &[u64]) -> u64 {
     let mut sum: u64 = 0;
     for count in counts {
         sum = sum.saturating_add(*count);

@@ -22,6 +22,8 @@
 //! Of a packet that was cut when it was captured the datagrams are listed that are there whole, and behind
 //! the fault stands in which one it is cut.
 //!
+//! With [`OfTrips::json`] the sums are objects of JSON, one a line (`docs/JSON.md`).
+//!
 //! What is promised: what a listing puts of a frame's datagrams, and of a packet that has none to show, in
 //! each form (`specs/Listing.antt`): the line of a datagram, column by column (`specs/Line.antt`), with times
 //! in seconds by six digits behind the point, or nine (`specs/Seconds.antt`), and the address as the command
@@ -30,12 +32,14 @@
 //! lost, came late and are stray, each with its working counters in the order in which they came first, how
 //! often and where first, and how many datagrams are of further groups than are told apart
 //! (`specs/Stats.antt`, `specs/Passed.antt`); of the times of a group how many fall in each bucket, and in
-//! which one a share of them ends (`specs/Histogram.antt`, `specs/Spans.antt`); of packets that were cut how
+//! which one a share of them ends (`specs/Histogram.antt`, `specs/Spans.antt`); how many datagrams of a group
+//! an object has (`specs/Members.antt`); of packets that were cut how
 //! many they are, and behind how many bytes (`specs/Cut.antt`); and that no bytes, times or counters make any
 //! of this crate fail but for memory and the output. Which packets these are, when a writer is handed what,
 //! how a listing ends and the texts of sums are tried by tests alone.
 
 mod address;
+mod as_json;
 mod counters;
 mod cut;
 mod cut_packets;

@@ -2,6 +2,7 @@
 
 ghost use Rattle.std.specs.Prelude.{◌≤◌};
 
+use crate::as_json::{json_group, json_left_out, json_packets, json_ways};
 use crate::date::put_date;
 use crate::group_lines::{Clock, put_group};
 use crate::listing::{Listed, listed_of};
@@ -25,6 +26,8 @@ pub struct OfTrips {
     pub each: bool,
     /// Are datagrams told apart by their indexes too, where they are summed up?
     pub by_index: bool,
+    /// Are the sums objects of JSON, one a line? They are not asked for beside rows.
+    pub json: bool,
     /// Is it told now and then, on the second writer, how many packets were read?
     pub progress: bool,
 }
@@ -121,6 +124,7 @@ fn sum_up<S: Source + Drop, W: Write, V: Write>(
 ) -> Listed {
     let mut sums = Sums {
         by_index: asked.by_index,
+        json: asked.json,
         stats: Stats::new(alloc),
     };
     let read = match walk.go(frames, &mut sums, asked.progress, err) {
@@ -128,7 +132,12 @@ fn sum_up<S: Source + Drop, W: Write, V: Write>(
         Err(stop) => listed_of(stop),
     };
     let mut output = Output::new(alloc, out, false);
-    ended(read, sums.put(frames, walk, &mut output))
+    let put = if sums.json {
+        sums.put_objects(alloc, frames, walk, &mut output)
+    } else {
+        sums.put(frames, walk, &mut output)
+    };
+    ended(read, put)
 }
 
 /// How a listing ended whose reading ended so, and then its writing so.
@@ -156,6 +165,7 @@ fn listed_by_end(end: End) -> Listed {
 #[derive(Drop)]
 struct Sums {
     by_index: bool,
+    json: bool,
     stats: Stats,
 }
 
@@ -187,6 +197,30 @@ impl Sums {
             }
         }
         put_left_out(&mut output.text, self.stats.left_out())?;
+        output.flush()
+    }
+
+    /// Puts all sums as objects of JSON, and writes them.
+    fn put_objects<S: Source + Drop, W: Write>(
+        &self,
+        alloc: Global,
+        frames: &Frames<S>,
+        walk: &Walk,
+        output: &mut Output<'_, W>,
+    ) -> Result<(), Stop> {
+        let clock = Clock {
+            first: frames.first_time(),
+            fine: frames.is_fine(),
+        };
+        json_packets(alloc, &mut output.text, clock, frames.packets())?;
+        json_ways(alloc, &mut output.text, &walk.ways)?;
+        for place in 0..self.stats.count() {
+            if let Some((key, group)) = self.stats.group(place) {
+                json_group(alloc, &mut output.text, clock, self.by_index, key, group)?;
+                output.settle()?;
+            }
+        }
+        json_left_out(alloc, &mut output.text, self.stats.left_out())?;
         output.flush()
     }
 }

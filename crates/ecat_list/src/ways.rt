@@ -7,12 +7,12 @@ use std::alloc::AllocError;
 /// How many frames went each way, and of how many it was told by what.
 #[derive(Clone, Copy)]
 pub(crate) struct Ways {
-    sent: u64,
-    returned: u64,
-    port: u64,
-    place: u64,
-    mark: u64,
-    counters: u64,
+    pub(crate) sent: u64,
+    pub(crate) returned: u64,
+    pub(crate) port: u64,
+    pub(crate) place: u64,
+    pub(crate) mark: u64,
+    pub(crate) counters: u64,
 }
 
 impl Ways {

@@ -12,7 +12,7 @@ use ec_master::Ports;
 use ec_ring::MAX_SLAVES;
 use ec_run::{Wanted, peer_between};
 use ec_services::{MasterFault, Peer, upload_surely};
-use ecat_text::{End, Lines};
+use ecat_text::Lines;
 use std::io::{self, Write};
 
 /// The object that says who a slave is.
@@ -148,7 +148,7 @@ pub(crate) fn put_other_slave<W: Write>(
     lines: &mut Lines<'_, W>,
 ) -> io::Result<()> {
     let entry = other.entry;
-    lines.text(End::AtSlave(usize::from(other.place), other.station))?;
+    lines.slave(usize::from(other.place), other.station)?;
     lines.text(format_args!(": object 0x1018:{entry} is "))?;
     match other.found {
         Ok(value) => put_value(value, lines)?,

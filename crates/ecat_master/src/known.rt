@@ -3,7 +3,7 @@
 use crate::late::LateCycles;
 use crate::lateness::Lateness;
 use crate::ports::put_failed_times;
-use crate::slaves::SlaveStates;
+use crate::slaves::{SlaveStates, put_seen};
 use crate::spread::Spread;
 use crate::telling::{Images, put_counts};
 use crate::words::put_cable;
@@ -12,7 +12,7 @@ use ec_master::Work;
 use ec_regs::AlState;
 use ec_ring::{HeardPorts, Port};
 use ec_run::{Counts, Seen, Wanted, Watched};
-use ecat_text::Lines;
+use ecat_text::{Lines, name_at};
 use std::io::{self, Write};
 
 /// What a master that runs knows behind a cycle, without a trip for it: what a task may tell of who asks.
@@ -65,11 +65,73 @@ impl Known<'_, '_, '_> {
         self.images.image
     }
 
+    /// The slaves, from the one at port A on: by which station each is known, and what it was told.
+    pub fn line(&self) -> &[Wanted] {
+        self.line
+    }
+
+    /// How many cycles there were, by their ends.
+    pub fn counts(&self) -> Counts {
+        self.counts
+    }
+
+    /// How many good cycles found not all slaves in Op, where cycles tell that.
+    pub fn not_in_op(&self) -> Option<u64> {
+        self.told.states.cycles_if(self.told.tells_states)
+    }
+
+    /// How many cycles were left out, since those before them were not over; none where no time is set.
+    pub fn missed(&self) -> Option<u64> {
+        self.told.lateness.missed()
+    }
+
+    /// The least and the greatest of the times that cycles took, in microseconds, where there was one.
+    pub fn cycle_times(&self) -> Option<(u64, u64)> {
+        self.told.took.range()
+    }
+
+    /// How many cycles took less than so many microseconds, which are 16 or 16 doubled some times.
+    pub fn cycles_below(&self, micros: u64) -> u64 {
+        self.told.took.below(micros)
+    }
+
+    /// Where the cable was broken when it was last looked at.
+    pub fn cable(&self) -> Located {
+        self.cable
+    }
+
+    /// Is a link up, as far as the last look at the cable tells it? They are numbered from 0, the one at
+    /// port A.
+    pub fn link_is_up(&self, link: usize) -> Option<bool> {
+        link_is_up(self.cable, link)
+    }
+
+    /// Puts how many cycles there were, by their ends, without the end of the line.
+    pub fn put_cycles<W: Write>(&self, lines: &mut Lines<'_, W>) -> io::Result<()> {
+        put_counts(self.counts, self.not_in_op(), lines)
+    }
+
+    /// Puts where the cable was broken when it was last looked at, without the end of the line.
+    pub fn put_break<W: Write>(&self, lines: &mut Lines<'_, W>) -> io::Result<()> {
+        put_cable(self.cable, self.line, lines)
+    }
+
+    /// Puts what was last seen of the slave at a place, without the end of the line; nothing where nothing is
+    /// known of it.
+    pub fn put_seen<W: Write>(&self, place: usize, lines: &mut Lines<'_, W>) -> io::Result<()> {
+        match (self.line.get(place), self.seen_of(place)) {
+            (Some(wanted), Some(seen)) => {
+                lines.slave(place, wanted.station)?;
+                put_seen(seen, lines)
+            }
+            _ => Ok(()),
+        }
+    }
+
     /// Writes how many cycles there were, by their ends, which copies came late, and how often a port failed,
     /// as at the end of a run.
     pub fn put_counts<W: Write>(&self, lines: &mut Lines<'_, W>) -> io::Result<()> {
-        let not_in_op = self.told.states.cycles_if(self.told.tells_states);
-        put_counts(self.counts, not_in_op, lines)?;
+        self.put_cycles(lines)?;
         lines.end()?;
         self.told.late_copies.put(lines)?;
         let [at_a, at_b] = self.failures;
@@ -86,13 +148,13 @@ impl Known<'_, '_, '_> {
 
     /// Writes where the cable was broken when it was last looked at, as where that is told at first.
     pub fn put_cable<W: Write>(&self, lines: &mut Lines<'_, W>) -> io::Result<()> {
-        put_cable(self.cable, self.line, lines)?;
+        self.put_break(lines)?;
         lines.end()
     }
 
     /// Writes a line for each slave: its place and its station, its AL status (IEC 61158-6-12, AL status) as
     /// far as cycles and looks told it, and the links before and behind it as far as a look at the cable did.
-    /// What is not known is `unknown`.
+    /// What is not known is `unknown`. Behind them stands the name of a slave that has one.
     pub fn put_slaves<W: Write>(&self, lines: &mut Lines<'_, W>) -> io::Result<()> {
         for (place, wanted) in self.line.iter().enumerate() {
             self.put_slave(place, wanted.station, lines)?;
@@ -112,17 +174,27 @@ impl Known<'_, '_, '_> {
         let before = link_name(link_is_up(self.cable, place));
         let behind = link_name(link_is_up(self.cable, place.saturating_add(1)));
         lines.text(format_args!(" links {before} {behind}"))?;
+        put_name(name_at(lines.names(), place), lines)?;
         lines.end()
     }
 
     /// What was last seen of the slave at a place, unless that is not known.
-    fn seen_of(&self, place: usize) -> Option<Seen> {
+    pub fn seen_of(&self, place: usize) -> Option<Seen> {
         if self.images.image.is_some() && self.told.tells_states {
             self.told.states.seen(place)
         } else {
             None
         }
     }
+}
+
+/// Puts the name of a slave, if it has one.
+fn put_name<W: Write>(name: &str, lines: &mut Lines<'_, W>) -> io::Result<()> {
+    if name.is_empty() {
+        return Ok(());
+    }
+    lines.text(" name ")?;
+    lines.text(name)
 }
 
 /// Puts what was seen of a slave: its state and its error, as AL status and its code have them.

@@ -1,5 +1,7 @@
-//! Copies of earlier cycles that came late, and for which cycles outputs are unsure by them.
+//! Copies of earlier cycles that came late, and for which cycles outputs are unsure by them; beside them the
+//! frames of others that came.
 
+use crate::strangers::Strangers;
 use crate::telling::put_cycle;
 use crate::words::put_seconds;
 use ec_ring::LateCopies;
@@ -74,6 +76,8 @@ pub(crate) struct LateCycles {
     unsure: u64,
     /// Whether one was told.
     is_told: bool,
+    /// The frames of others that came.
+    strangers: Strangers,
 }
 
 impl LateCycles {
@@ -92,6 +96,7 @@ impl LateCycles {
             unsure_at: [false; REMEMBERED],
             unsure: 0,
             is_told: false,
+            strangers: Strangers::none(),
         }
     }
 
@@ -110,6 +115,7 @@ impl LateCycles {
         self.unsure_at[place] = false;
         self.made = self.made.saturating_add(1);
         self.copies = self.copies.saturating_add(late.count);
+        self.strangers.take(late.strangers);
         if let Some(unsure) = unsure {
             self.count(unsure);
         }
@@ -157,13 +163,14 @@ impl LateCycles {
         }
     }
 
-    /// Tells the first copy of an earlier cycle that came late.
+    /// Tells the first copy of an earlier cycle that came late, and that another master speaks.
     pub(crate) fn tell<W: Write>(
         &mut self,
         cycle: u64,
         unsure: Option<Unsure>,
         lines: &mut Lines<'_, W>,
     ) -> io::Result<()> {
+        self.strangers.tell(cycle, lines)?;
         match unsure {
             Some(unsure) if !self.is_told => {
                 self.is_told = true;
@@ -173,8 +180,10 @@ impl LateCycles {
         }
     }
 
-    /// Writes how many copies came late, and for how many cycles outputs are unsure; nothing where none came.
+    /// Writes how many frames of others came, where another master was told, how many copies came late, and
+    /// for how many cycles outputs are unsure; nothing where none came.
     pub(crate) fn put<W: Write>(&self, lines: &mut Lines<'_, W>) -> io::Result<()> {
+        self.strangers.put(lines)?;
         if self.copies == 0 {
             return Ok(());
         }

@@ -27,6 +27,7 @@
 //!     log_or_stop: false,
 //!     states: true,
 //!     identities: &[],
+//!     names: &[],
 //!     leave: Some(AlState::Init),
 //!     leave_by_task: false,
 //! };
@@ -108,6 +109,7 @@ mod scanning;
 mod slaves;
 mod spread;
 mod startup;
+mod strangers;
 mod task;
 mod teller;
 mod telling;
@@ -120,7 +122,7 @@ pub use known::Known;
 pub use over_ring::{found_line, started_line};
 pub use pace::Pace;
 pub use run::{FAILED, GOOD, LinePlan, Plan, REFUSED, Writers, master, run_cycles};
-pub use scanning::{Finder, ScanEnd, Unfound, scan};
+pub use scanning::{Finder, ScanEnd, Shown, Unfound, scan};
 pub use startup::{StartEnd, StartFault, put_start_fault, start};
 pub use task::{NoTask, Report, Task};
 pub use teller::{Teller, Unwritten};

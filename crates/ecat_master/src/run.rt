@@ -71,6 +71,9 @@ pub struct Plan<'a> {
     pub states: bool,
     /// Who the slaves are to be, by their places; nobody in particular where it is shorter than the line.
     pub identities: &'a [Identity],
+    /// The names of the slaves, by their places, as messages tell them; one without a name has an empty one,
+    /// or stands behind as many slaves as there are.
+    pub names: &'a [String],
     /// The state in which the slaves are left at the end; `None` leaves them as they are.
     pub leave: Option<AlState>,
     /// Whether the task may say another one.
@@ -211,6 +214,7 @@ impl LinePlan<'_> {
             told: told_of,
             failures,
         };
+        let _ = task.show(&known, &mut teller.err);
         match task.answer(&known, &mut teller.out) {
             Ok(()) => told,
             Err(_) => Err(Unwritten::Output),
@@ -433,13 +437,15 @@ where
 {
     let Writers { out, err, log } = writers;
     let mut ports = Watched::new(ports);
-    let cable = match begin(&mut ports, line_plan, &mut Lines::new(out)) {
+    let names = line_plan.plan.names;
+    let cable = match begin(&mut ports, line_plan, &mut Lines::named(out, names)) {
         Ok(cable) => cable,
         Err(StartFailure::Told(status)) => return status,
         Err(StartFailure::Output) => return output_failed(err),
     };
     let mut cycles = Cycles::new(work);
-    let mut teller = Teller::new(Lines::new(out), Lines::new(err), Lines::new(log), cable);
+    let out = Lines::named(out, names);
+    let mut teller = Teller::new(out, Lines::new(err), Lines::new(log), cable);
     let ran = run_cycles(&mut cycles, &mut ports, line_plan, pace, task, &mut teller);
     let leave = leave_of(line_plan.plan, task);
     let left = leave_line(&mut ports, leave, line_plan.line.len());

@@ -53,6 +53,24 @@ pub trait Finder {
 
     /// Takes an entry of the object that says who the slave at a place is (0x1018), by its subindex.
     fn identity(&mut self, place: u16, sub: u8, value: Value);
+
+    /// Takes why that entry could not be read.
+    fn unidentified(&mut self, _place: u16, _sub: u8, _fault: MasterFault) {}
+
+    /// Takes how many slaves were counted, each time that a copy of that frame came back.
+    fn counted(&mut self, _counts: &[u16]) {}
+
+    /// Takes where the cable is broken, or that the ports of the master are swapped.
+    fn cable(&mut self, _located: Located, _swapped: bool) {}
+
+    /// Takes what the slave at a place shows of itself.
+    fn shown(&mut self, _place: u16, _shown: &Shown) {}
+
+    /// Takes why the slave at a place could not be read.
+    fn unread(&mut self, _place: u16, _fault: MasterFault) {}
+
+    /// All is read of the slave at a place that can be.
+    fn done(&mut self, _place: u16) {}
 }
 
 /// Nobody takes it.
@@ -92,12 +110,17 @@ impl From<MasterFault> for ScanEnd {
 
 /// What a slave shows of itself.
 #[derive(Clone, Copy)]
-struct Shown {
-    station: u16,
-    status: AlStatus,
-    code: u16,
-    managers: [SyncMan; SYNC_MANAGER_COUNT],
-    fmmus: [Fmmu; FMMU_COUNT],
+pub struct Shown {
+    /// Its station address.
+    pub station: u16,
+    /// Its AL status.
+    pub status: AlStatus,
+    /// Its AL status code.
+    pub code: u16,
+    /// Its sync managers.
+    pub managers: [SyncMan; SYNC_MANAGER_COUNT],
+    /// Its FMMUs.
+    pub fmmus: [Fmmu; FMMU_COUNT],
 }
 
 /// Writes a line for each slave that is counted: its place, its station address, its AL state and error, its
@@ -116,6 +139,7 @@ pub fn scan<P: HeardPorts, W: Write, F: Finder>(
     ensures scanned { IfOk result (λ all. all ≡ true → IsScanned P.trips ports.old ports.new) }
 {
     let counted = count_often(ports)?;
+    finder.counted(counted.counts.as_slice());
     let Some(count) = counted.greatest() else {
         lines.text("nobody answers at A")?;
         lines.end()?;
@@ -126,7 +150,9 @@ pub fn scan<P: HeardPorts, W: Write, F: Finder>(
         Some(located) => located,
         None => return Err(ScanEnd::Ask(MasterFault::Port)),
     };
-    put_links(located, are_swapped(ports), lines)?;
+    let swapped = are_swapped(ports);
+    finder.cable(located, swapped);
+    put_links(located, swapped, lines)?;
     lines.end()?;
     let read = scan_slaves(ports, count, located, lines, finder)?;
     Ok(is_all(located, &counted, read))
@@ -291,6 +317,8 @@ fn put_counted<W: Write>(
         for count in counted.counts.as_slice() {
             lines.text(format_args!(" {count}"))?;
         }
+        lines.line()?;
+        lines.text("does another master run here?")?;
     }
     lines.end()
 }
@@ -345,6 +373,7 @@ fn scan_slave<P: HeardPorts, W: Write, F: Finder>(
 {
     lines.text(format_args!("slave {place}"))?;
     let read = read_slave(ports, place, located, lines, finder)?;
+    finder.done(place);
     lines.end()?;
     Ok(read)
 }
@@ -363,10 +392,12 @@ fn read_slave<P: HeardPorts, W: Write, F: Finder>(
     match look(ports, way_to(place, located), place, finder) {
         Err(MasterFault::Port) => Err(ScanEnd::Ask(MasterFault::Port)),
         Err(fault) => {
+            finder.unread(place, fault);
             put_unread(fault, located, lines)?;
             Ok(false)
         }
         Ok(shown) => {
+            finder.shown(place, &shown);
             put_shown(&shown, lines)?;
             put_identity(ports, &shown, place, lines, finder)?;
             Ok(true)
@@ -624,6 +655,9 @@ fn put_object<P: Ports, W: Write, F: Finder>(
             finder.identity(place, sub, value);
             put_value(value, lines)
         }
-        Err(fault) => put_fault(fault, lines),
+        Err(fault) => {
+            finder.unidentified(place, sub, fault);
+            put_fault(fault, lines)
+        }
     }
 }

@@ -5,7 +5,7 @@ use crate::words::{put_code, put_cycles, state_name};
 use ec_regs::AlState;
 use ec_ring::MAX_SLAVES;
 use ec_run::Seen;
-use ecat_text::{End, Lines};
+use ecat_text::Lines;
 use std::io::{self, Write};
 
 /// What good cycles told of the states of all slaves, and what was told of each.
@@ -101,7 +101,7 @@ impl SlaveStates {
         self.told[at] = seen;
         self.failed[at] = false;
         put_cycle(cycle, lines)?;
-        lines.text(End::AtSlave(at, station))?;
+        lines.slave(at, station)?;
         put_seen(seen, lines)?;
         lines.end()
     }
@@ -128,7 +128,7 @@ impl SlaveStates {
 }
 
 /// Puts what was seen of a slave.
-fn put_seen<W: Write>(seen: Seen, lines: &mut Lines<'_, W>) -> io::Result<()> {
+pub(crate) fn put_seen<W: Write>(seen: Seen, lines: &mut Lines<'_, W>) -> io::Result<()> {
     match seen {
         Seen::Unheard => Ok(()),
         Seen::Nobody => lines.text(" does not answer"),

@@ -67,6 +67,24 @@ impl Spread {
         self.greatest
     }
 
+    /// The least and the greatest of these times, if there are any.
+    pub(crate) fn range(&self) -> Option<(u64, u64)> {
+        if self.count == 0 {
+            None
+        } else {
+            Some((self.least, self.greatest))
+        }
+    }
+
+    /// How many of these times lie below one, which is 16 or 16 doubled some times.
+    pub(crate) fn below(&self, time: u64) -> u64 {
+        let mut count = 0u64;
+        for of_place in self.places.iter().take(place_of(time)) {
+            count = count.saturating_add(*of_place);
+        }
+        count
+    }
+
     /// Puts these times, if there are any, and answers whether there are.
     pub(crate) fn put<W: Write>(&self, name: &str, lines: &mut Lines<'_, W>) -> io::Result<bool> {
         if self.count == 0 {

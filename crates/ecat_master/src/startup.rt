@@ -19,6 +19,7 @@ ghost use Rattle.ecat_master.specs.declared.startup.StartFault.TheVariants.{Step
 use crate::identity::{Identity, OtherSlave, compare_identities, put_other_slave};
 use crate::ports::are_swapped;
 use crate::words::{put_cable, put_fault, put_look, put_step_fault, state_name};
+use arrayvec::ArrayVec;
 use ec_diag::{CutOff, Located};
 use ec_master::Ports;
 use ec_ring::{HeardPorts, MAX_SLAVES};
@@ -200,7 +201,8 @@ fn count<P: HeardPorts, W: Write>(
     ensures failed { (fault : StartFault) → result ≡ Err (Fault fault) → (asked : MasterFault)
         × AreCounted (WatchedTrips P.trips) ports.old (Err asked) ports.new × (fault ≡ Ask asked) }
 {
-    let found = match count_until(ports, wanted) {
+    let mut counted = Counted::none();
+    let found = match count_until(ports, wanted, &mut counted) {
         Ok(found) => found,
         Err(fault) => return Err(StartEnd::Fault(StartFault::Ask(fault))),
     };
@@ -209,11 +211,18 @@ fn count<P: HeardPorts, W: Write>(
         lines.text(format_args!(", wanted {wanted}"))?;
     }
     lines.end()?;
+    if usize::from(found) != wanted {
+        counted.put(lines)?;
+    }
     Ok(found)
 }
 
 /// Counts the slaves until they are so many, `MORE_COUNTS` times more at the most.
-fn count_until<P: Ports>(ports: &mut P, wanted: usize) -> Result<u16, MasterFault>
+fn count_until<P: Ports>(
+    ports: &mut P,
+    wanted: usize,
+    counted: &mut Counted,
+) -> Result<u16, MasterFault>
     ensures { AreCounted P.trips ports.old result ports.new }
 {
     for _count in 0..MORE_COUNTS {
@@ -224,8 +233,50 @@ fn count_until<P: Ports>(ports: &mut P, wanted: usize) -> Result<u16, MasterFaul
         if usize::from(found) == wanted {
             return Ok(found);
         }
+        counted.keep(found);
     }
     count_slaves(ports)
+}
+
+/// How many slaves were counted each time, where they were not as many as they are to be.
+#[derive(Drop)]
+struct Counted {
+    counts: ArrayVec<u16, MORE_COUNTS>,
+}
+
+impl Counted {
+    /// Nothing was counted.
+    fn none() -> Counted {
+        Counted {
+            counts: ArrayVec::new(),
+        }
+    }
+
+    /// Keeps a count, as far as there is room.
+    fn keep(&mut self, found: u16) {
+        let _ = self.counts.try_push(found);
+    }
+
+    /// Was another number counted than the first one?
+    fn differ(&self) -> bool {
+        match self.counts.first() {
+            Some(first) => self.counts.iter().any(|count| *count != *first),
+            None => false,
+        }
+    }
+
+    /// Asks a person whether another master runs on the line, where the counts differ: its frames are in the
+    /// way of those that count.
+    fn put<W: Write>(&self, lines: &mut Lines<'_, W>) -> io::Result<()> {
+        if !self.differ() {
+            return Ok(());
+        }
+        lines.text("does another master run here? counts differ:")?;
+        for count in self.counts.as_slice() {
+            lines.text(format_args!(" {count}"))?;
+        }
+        lines.end()
+    }
 }
 
 /// Tells where the cable is broken, where slaves are cut off by it.

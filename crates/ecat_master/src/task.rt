@@ -68,6 +68,16 @@ pub trait Task {
     ) -> io::Result<()> {
         Ok(())
     }
+
+    /// Shows who follows the master, where its progress is told, what the master knows behind a cycle. It
+    /// does not wait, and an error is passed over.
+    fn show<V: Write>(
+        &mut self,
+        _known: &Known<'_, '_, '_>,
+        _errors: &mut Lines<'_, V>,
+    ) -> io::Result<()> {
+        Ok(())
+    }
 }
 
 /// No task: the outputs stay those of the plan.

@@ -25,7 +25,7 @@ use ec_run::{
     tells_places,
 };
 use ec_services::MasterFault;
-use ecat_text::{End, Lines, SystemError};
+use ecat_text::{Lines, SystemError};
 use std::io::{self, Write};
 use std::mem;
 
@@ -594,7 +594,7 @@ fn put_recovered<W: Write>(
     lines: &mut Lines<'_, W>,
 ) -> io::Result<()> {
     put_cycle(cycle, lines)?;
-    lines.text(End::AtSlave(usize::from(place), station))?;
+    lines.slave(usize::from(place), station)?;
     match seen {
         Seen::Nobody => lines.text(" had lost its station")?,
         Seen::In(state) => {

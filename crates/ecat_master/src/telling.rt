@@ -260,8 +260,8 @@ impl Told {
     /// Where the cable was broken by the last look, if there was one behind what is not told yet.
     fn known_cable(&self) -> Located {
         match self.open {
-            Some(open) => open.cable,
-            None => self.cable,
+            Some(open) if open.looks != 0 => open.cable,
+            _ => self.cable,
         }
     }
 

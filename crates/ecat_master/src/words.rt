@@ -5,7 +5,7 @@ use ec_diag::Located;
 use ec_regs::{AlState, AlStatusCode};
 use ec_run::{StartupObject, Step, StepFault, Wanted, startup_number};
 use ec_services::MasterFault;
-use ecat_text::{End, Lines, put_break, put_swapped};
+use ecat_text::{Lines, put_break, put_swapped};
 use std::io::{self, Write};
 
 /// How many microseconds a second has, and a millisecond.
@@ -107,7 +107,7 @@ pub fn put_step_fault<W: Write>(
     wanted: &Wanted,
     lines: &mut Lines<'_, W>,
 ) -> io::Result<()> {
-    lines.text(End::AtSlave(usize::from(fault.place), fault.station))?;
+    lines.slave(usize::from(fault.place), fault.station)?;
     lines.text(": ")?;
     put_step(fault.step, wanted, lines)?;
     lines.text(": ")?;

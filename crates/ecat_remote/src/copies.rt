@@ -39,6 +39,8 @@ pub(crate) struct Told {
     pub(crate) copy: Option<NumberedCopy>,
     /// The number that it bears, if it bears one.
     pub(crate) number: Option<u64>,
+    /// Whether it is a frame.
+    pub(crate) is_frame: bool,
 }
 
 /// A frame as it goes out on a trip; none where it has no room for a number.
@@ -83,11 +85,13 @@ pub(crate) fn told_by(sent: &Outgoing, already: Option<Port>, packet: &[u8]) -> 
             Told {
                 copy: own_copy(sent, already, frame),
                 number,
+                is_frame: true,
             }
         }
         Err(_) => Told {
             copy: None,
             number: None,
+            is_frame: false,
         },
     }
 }

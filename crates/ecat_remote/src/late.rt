@@ -1,7 +1,7 @@
-//! Which packets are copies of earlier trips.
+//! Which packets are copies of earlier trips, and which are of others.
 
 ghost use Rattle.std.specs.Prelude.{◌≡◌};
-ghost use Rattle.ecat_remote.specs.Late.{late_trip};
+ghost use Rattle.ecat_remote.specs.Late.{is_stranger, late_trip};
 
 use ec_number::Trip;
 
@@ -19,4 +19,13 @@ pub(crate) fn late_trip(next: Trip, made: u64, number: u64) -> Option<u64>
     } else {
         None
     }
+}
+
+/// Is this the number of a trip of others: of none that ports have made which made so many and whose next one
+/// this is?
+pub(crate) fn is_stranger(next: Trip, made: u64, number: u64) -> bool
+    ensures { result ≡ is_stranger next.number made number }
+{
+    let ago = (next.number + TRIPS - number / 2) % TRIPS;
+    !(ago >= 1 && ago <= made)
 }

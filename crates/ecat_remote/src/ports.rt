@@ -15,10 +15,10 @@ ghost use Rattle.ecat_remote.specs.Taken.{sent_from};
 ghost use Rattle.ecat_remote.specs.Trips.{RemoteState, RemoteTrips, HeardTrips, arrivals_of};
 
 use crate::carrier::Carrier;
-use crate::copies::{NumberedCopy, Outgoing, number_both, opened, told_by};
+use crate::copies::{NumberedCopy, Outgoing, Told, number_both, opened, told_by};
 use crate::cycle::{Cycle, Deadline, again};
 use crate::enough::{Awaited, Both, have_come, have_come_at, is_enough};
-use crate::late::late_trip;
+use crate::late::{is_stranger, late_trip};
 use crate::ready::Ready;
 use crate::silence::Silence;
 use crate::timer::{Timer, pass_until};
@@ -117,7 +117,7 @@ pub struct RemotePorts<C: Carrier, T: Timer> {
     next: Trip,
     /// How many trips were made.
     made: u64,
-    /// Which copies of earlier trips came since it was last asked.
+    /// Which copies of earlier trips came since it was last asked, and frames of others.
     late: LateCopies,
     /// The counters that are expected of a cycle's datagrams, in the order of its frames, if any are.
     expected: Option<Vec<u16>>,
@@ -192,15 +192,20 @@ impl<C: Carrier, T: Timer> RemotePorts<C, T> {
         &self.timer
     }
 
-    /// Notes the number of a packet that was passed over: it may be a copy of an earlier trip.
-    fn pass_over(&mut self, number: Option<u64>)
+    /// Notes a packet that was passed over: it may be a copy of an earlier trip, or another master's frame.
+    fn pass_over(&mut self, told: &Told)
         ensures { self.new ≡ self.old }
     {
-        if let Some(number) = number {
-            if let Some(trip) = late_trip(self.next, self.made, number) {
-                self.late = self.late.with(trip);
-            }
-        }
+        let late = self.late;
+        self.late = match told.number {
+            Some(number) => match late_trip(self.next, self.made, number) {
+                Some(trip) => late.with(trip),
+                None if is_stranger(self.next, self.made, number) => late.with_stranger(),
+                None => late,
+            },
+            None if told.is_frame => late.with_stranger(),
+            None => late,
+        };
     }
 
     /// Sends both copies, from port A first.
@@ -566,7 +571,7 @@ impl<C: Carrier, T: Timer> RemotePorts<C, T> {
             Some(count) => {
                 let told = told_by(out, already, &packet[..count]);
                 if told.copy.is_none() {
-                    self.pass_over(told.number);
+                    self.pass_over(&told);
                 }
                 self.silence = self.silence.ended(at);
                 Ok(Given {

@@ -3,6 +3,7 @@ mod LastLemmas
 mod MeantLemmas
 mod NumberLemmas
 mod RowLemmas
+mod SignalLemmas
 mod SpeltLemmas
 mod TextLemmas
 mod ThingLemmas

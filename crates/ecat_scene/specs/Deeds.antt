@@ -28,6 +28,7 @@ use Rattle.ecat_scene.specs.Fields.{fitting}
 use Rattle.ecat_scene.specs.Numbers.{number_of}
 use Rattle.ecat_scene.specs.Scene.{SceneRecord, SettingRecord, SyncManAt, FmmuAt, LoadAt, SlaveRecord}
 use Rattle.ecat_scene.specs.Scene.{new_slave}
+use Rattle.ecat_scene.specs.Signals.{signal_line}
 use Rattle.ecat_scene.specs.Text.{is_text, words_in}
 use Rattle.ecat_scene.specs.Words.{addressed_item_of, alias_of, fmmu_setting, identity_of, item_of, load_of}
 use Rattle.ecat_scene.specs.Words.{name_of, object_of, startup_of, state_of, Stops, sync_man_setting, ◌>>=◌}
@@ -219,7 +220,7 @@ other_does first =
     else if bytes_eq first (codes "weather") then None
     else Some (Err UnknownWord)
 
--- the words that say what a slave tells of itself
+-- the words that say what a slave tells of itself, and that of a signal
 abbrev pub told_does : List ℕ → List (List ℕ) → SceneRecord → Option (Result SceneRecord LineFault)
 told_does first rest scene =
     if bytes_eq first (codes "plain") then Some (kind_line Plain rest scene)
@@ -227,6 +228,7 @@ told_does first rest scene =
     else if bytes_eq first (codes "identity") then Some (identity_line rest scene)
     else if bytes_eq first (codes "alias") then Some (alias_line rest scene)
     else if bytes_eq first (codes "name") then Some (name_line rest scene)
+    else if bytes_eq first (codes "signal") then Some (signal_line rest scene)
     else other_does first
 
 -- what a line of these words does to a scene, where it describes a slave or an item

@@ -7,6 +7,7 @@ pub mod Numbers
 pub mod Order
 pub mod Read
 pub mod Scene
+pub mod Signals
 pub mod Spelt
 pub mod Text
 pub mod Words

@@ -8,6 +8,8 @@ use Rattle.ec_regs.specs.declared.al.AlState.TheVariants.{Init}
 use Rattle.ec_regs.specs.declared.fmmu.Fmmu.{Fmmu}
 use Rattle.ec_regs.specs.declared.sync_man.SyncMan.{SyncMan}
 use Rattle.ec_sii.specs.declared.image.Identity.{Identity}
+use Rattle.ecat_signals.specs.declared.field.Field.{Field}
+use Rattle.ecat_signals.specs.declared.field.Signal.{Signal}
 use Rattle.ecat_scene.specs.declared.scene.Action.{Action}
 use Rattle.ecat_scene.specs.declared.scene.Scene.{Scene}
 use Rattle.ecat_scene.specs.declared.scene.SceneSlave.{SceneSlave}
@@ -81,6 +83,14 @@ new_slave station = record {
   name = [];
 }
 
+-- bits of an item, by their name
+pub record SignalRecord : Type 0 where
+  pub name : List ℕ
+  pub field : Field
+
+abbrev pub signal_record : Signal → SignalRecord
+signal_record s = record { name = s.name.items; field = s.field }
+
 -- a line of slaves and what is done with it
 pub record SceneRecord : Type 0 where
   pub slaves : List SlaveRecord
@@ -88,6 +98,7 @@ pub record SceneRecord : Type 0 where
   pub actions : List Action
   pub items : List ItemRecord
   pub weathers : List SceneWeather
+  pub signals : List SignalRecord
 
 abbrev pub scene_record : Scene → SceneRecord
 scene_record s = record {
@@ -96,8 +107,16 @@ scene_record s = record {
   actions = s.actions.items;
   items = s.items.items;
   weathers = s.weathers.items;
+  signals = map signal_record s.signals.items;
 }
 
 -- one of which no line was read
 abbrev pub empty_scene : SceneRecord
-empty_scene = record { slaves = []; links_down = []; actions = []; items = []; weathers = [] }
+empty_scene = record {
+  slaves = [];
+  links_down = [];
+  actions = [];
+  items = [];
+  weathers = [];
+  signals = [];
+}

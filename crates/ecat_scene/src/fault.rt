@@ -23,13 +23,15 @@ pub enum LineFault {
     /// A number, a row of bytes or a name of another form.
     #[error("BadNumber")]
     BadNumber,
-    /// A value outside its field, or outside the memory that it names.
+    /// A value outside its field, or outside the memory or the item that it names.
     #[error("OutOfRange")]
     OutOfRange,
-    /// More slaves, objects or startup objects of a slave, actions, items or weathers than a scene may have.
+    /// More slaves, objects or startup objects of a slave, actions, items, weathers or signals than a scene
+    /// may have.
     #[error("TooMany")]
     TooMany,
-    /// An object that the slave has already, or inputs that its application puts already.
+    /// An object that the slave has already, inputs that its application puts already, or the name of a
+    /// signal above.
     #[error("Twin")]
     Twin,
     /// The bytes are no EtherCAT frame.

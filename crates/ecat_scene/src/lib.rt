@@ -27,8 +27,8 @@
 //! [`lines_read_back`], [`scenes_read_back`]).
 //!
 //! - `scene`: what a scene is; `fault`: what can be wrong with its text.
-//! - `reader`: the lines in their order; `slave_lines`, `device_lines`, `work_lines`: what each of them says;
-//!   `last_slave`: what the lines of a slave do to it.
+//! - `reader`: the lines in their order; `slave_lines`, `device_lines`, `work_lines`, `signal_lines`: what
+//!   each of them says; `last_slave`: what the lines of a slave do to it.
 //! - `bench`: the commands by which a line is worked on while it is served, a line of text each.
 //! - `edition`: texts of the second edition as texts of the first.
 //! - `words`, `numbers`: the words of a line, and the numbers and rows of bytes among them.
@@ -45,6 +45,7 @@ mod last_slave;
 mod numbers;
 mod reader;
 mod scene;
+mod signal_lines;
 mod slave_lines;
 mod words;
 mod work_lines;
@@ -55,10 +56,11 @@ pub use edition::to_first_edition;
 pub use fault::{LineFault, SceneFault, Stop};
 pub use numbers::{number, numbers_read_back, test_bytes};
 pub use scene::{
-    Action, FmmuSetting, Load, MAX_ACTIONS, MAX_ITEMS, MAX_NAME, MAX_SLAVES, MAX_STARTUP, MAX_TEXT,
-    MAX_WEATHERS, Scene, SceneSlave, SceneWeather, Setting, SlaveKind, StartupObject,
-    SyncManSetting,
+    Action, FmmuSetting, Load, MAX_ACTIONS, MAX_ITEMS, MAX_NAME, MAX_SIGNAL_NAME, MAX_SIGNALS,
+    MAX_SLAVES, MAX_STARTUP, MAX_TEXT, MAX_WEATHERS, Scene, SceneSlave, SceneWeather, Setting,
+    SlaveKind, StartupObject, SyncManSetting,
 };
+pub use signal_lines::test_signal_name;
 pub use slave_lines::{control_of, object_of, startup_of, sync_man_of};
 pub use words::{is_text, put_words, text_of, words_of};
 pub use written::{

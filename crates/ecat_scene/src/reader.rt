@@ -1,13 +1,16 @@
 //! The reading of a scene: its lines in their order, then the links that they name.
-ghost use Rattle.std.specs.Prelude.{◌≡◌, ◌≢◌, [], Err, IfSome, None, map};
+ghost use Rattle.std.specs.Prelude.{◌≡◌, ◌≢◌, [], Err, IfSome, None, Ok, is_some, map, not};
+ghost use Rattle.std.specs.List.{list_all};
 ghost use Rattle.ecat_scene.specs.Deeds.{is_line_end, line_does, text_does, word_does};
 ghost use Rattle.ecat_scene.specs.Read.{Did, ReadAs};
-ghost use Rattle.ecat_scene.specs.Scene.{empty_scene, scene_record};
+ghost use Rattle.ecat_scene.specs.Scene.{empty_scene, scene_record, signal_record};
+ghost use Rattle.ecat_scene.specs.Signals.{has_item, judged};
 ghost use Rattle.ecat_scene.specs.Order.{fault_of};
 ghost use Rattle.ecat_scene.specs.declared.fault.SceneFault.TheVariants.{TooLong};
 
 use crate::fault::{LineFault, SceneFault, Stop};
 use crate::scene::{Scene, SlaveKind};
+use crate::signal_lines::have_items;
 use crate::words::{put_words, test_text, text_of};
 use ec_map::Kind;
 use std::alloc::Global;
@@ -31,6 +34,8 @@ pub(crate) struct Reader {
     pub(crate) scene: Scene,
     /// The links that they name, in their order.
     pub(crate) links: Vec<NamedLink>,
+    /// The numbers of the lines of its signals, in their order.
+    pub(crate) signal_lines: Vec<usize>,
 }
 
 impl Drop for Reader {
@@ -40,6 +45,7 @@ impl Drop for Reader {
             line: _,
             scene: _,
             links: _,
+            signal_lines: _,
         } = self;
     }
 }
@@ -55,12 +61,14 @@ impl Reader {
             actions: Vec::new(alloc),
             items: Vec::new(alloc),
             weathers: Vec::new(alloc),
+            signals: Vec::new(alloc),
         };
         Reader {
             alloc,
             line: 0,
             scene,
             links: Vec::new(alloc),
+            signal_lines: Vec::new(alloc),
         }
     }
 
@@ -68,7 +76,7 @@ impl Reader {
     pub(crate) fn read(mut self, text: &[u8]) -> Result<Scene, SceneFault>
         ensures short { result ≢ Err TooLong }
         ensures read { self.links.items ≡ []
-            → IfSome (text_does text.now (scene_record self.scene)) (ReadAs result) }
+            → IfSome (text_does text.now (scene_record self.scene)) (λ does. ReadAs result (judged does)) }
     {
         let mut words = Vec::new(self.alloc);
         for line in text.split(|byte| is_line_end(*byte)) {
@@ -78,7 +86,16 @@ impl Reader {
                 Err(stop) => return Err(fault_of(self.line, stop)),
             }
         }
-        if let Some(line) = self.line_of_a_wrong_link() {
+        self.judged()
+    }
+
+    /// The scene of lines that all stand, or the first of them that is known to be at fault only then.
+    #[tactic(auto, using(crate::proofs::SignalLemmas::signals))]
+    fn judged(self) -> Result<Scene, SceneFault>
+        ensures short { result ≢ Err TooLong }
+        ensures judged { self.links.items ≡ [] → ReadAs result (judged (Ok (scene_record self.scene))) }
+    {
+        if let Some(line) = self.line_at_fault() {
             return Err(SceneFault::Line {
                 line,
                 fault: LineFault::OutOfRange,
@@ -89,8 +106,27 @@ impl Reader {
             line: _,
             scene,
             links: _,
+            signal_lines: _,
         } = self;
         Ok(scene)
+    }
+
+    /// The first line that is known to be at fault when all lines stand: it names a link which is not on the
+    /// line of slaves, or a signal that does not lie in its item.
+    fn line_at_fault(&self) -> Option<usize>
+        ensures { self.now.links.items ≡ [] → is_some result ≡ not (list_all
+            (λ signal. has_item self.now.scene.items.items (signal_record signal))
+            self.now.scene.signals.items) }
+    {
+        let link = self.line_of_a_wrong_link();
+        if have_items(self.scene.items.as_slice(), self.scene.signals.as_slice()) {
+            return link;
+        }
+        let signal = self.line_of_a_wrong_signal();
+        match link {
+            Some(link) => Some(link.min(signal)),
+            None => Some(signal),
+        }
     }
 
     /// The first line that names a link which is not on the line of slaves.
@@ -141,6 +177,7 @@ impl Reader {
             "identity" => self.identity(rest),
             "alias" => self.alias(rest),
             "name" => self.name(rest),
+            "signal" => self.signal(rest),
             "link" => self.link(rest),
             "frame" => self.frame(rest),
             "step" => self.step(rest),

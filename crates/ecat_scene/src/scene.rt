@@ -10,6 +10,7 @@ use ec_map::Item;
 use ec_regs::{AlState, Fmmu, SyncMan};
 use ec_sii::Identity;
 use ec_wire::FrameBuf;
+use ecat_signals::Signal;
 use std::alloc::Global;
 
 /// The most bytes of a scene's text.
@@ -29,6 +30,12 @@ pub const MAX_WEATHERS: usize = 32;
 
 /// The most startup objects of a slave.
 pub const MAX_STARTUP: usize = 16;
+
+/// The most signals of a scene.
+pub const MAX_SIGNALS: usize = 256;
+
+/// The most bytes of a signal's name.
+pub const MAX_SIGNAL_NAME: usize = 32;
 
 /// The most bytes of a slave's name.
 pub const MAX_NAME: usize = 64;
@@ -170,6 +177,8 @@ pub struct Scene {
     pub items: Vec<Item>,
     /// What the frames of the cycle meet, in their order; where there is none, only `links_down`.
     pub weathers: Vec<SceneWeather>,
+    /// The signals, in the order of their lines: each lies in its item, and no two have one name.
+    pub signals: Vec<Signal>,
 }
 
 impl Scene {
@@ -178,14 +187,16 @@ impl Scene {
     ghost use Rattle.ecat_scene.specs.Meant.{AreWritten, text_of_lines, with_lines, WrittenLine};
     ghost use Rattle.ecat_scene.specs.Read.{ReadAs};
     ghost use Rattle.ecat_scene.specs.Scene.{empty_scene};
+    ghost use Rattle.ecat_scene.specs.Signals.{judged};
     ghost use Rattle.ecat_scene.specs.declared.fault.SceneFault.TheVariants.{TooLong};
 
     /// The scene that the text describes, or its first fault from the top. Lines are what LF
-    /// separates; an empty one and one that begins with `#` are skipped. The numbers of links are
-    /// judged when all lines stand.
+    /// separates; an empty one and one that begins with `#` are skipped. The numbers of links, and whether
+    /// signals lie in their items, are judged when all lines stand.
     pub fn read(alloc: Global, text: &[u8]) -> Result<Scene, SceneFault>
         ensures long { (result ≡ Err TooLong) ↔ (MAX_TEXT < length text.now) }
-        ensures read { length text.now ≤ MAX_TEXT → IfSome (text_does text.now empty_scene) (ReadAs result) }
+        ensures read { length text.now ≤ MAX_TEXT
+            → IfSome (text_does text.now empty_scene) (λ does. ReadAs result (judged does)) }
         ensures written { (lines : List WrittenLine) → AreWritten lines → text.now ≡ text_of_lines lines
             → length text.now ≤ MAX_TEXT → ReadAs result (with_lines lines empty_scene) }
     {

@@ -5,7 +5,7 @@ use ec_diag::{Located, probe};
 use ec_ring::{Arrivals, HeardPorts, Ring, Travel, Weather};
 use ec_wire::FrameBuf;
 use ecat_scene::Scene;
-use ecat_setup::{LineFailure, ring_of, slaves_of, weathers_of};
+use ecat_setup::{LineFailure, names_of, ring_of, slaves_of, weathers_of};
 use ecat_text::{Lines, are_swapped, print_arrived, print_break, print_copies, print_swapped};
 use std::alloc::Global;
 use std::io::{self, Write};
@@ -16,12 +16,19 @@ use std::io::{self, Write};
 #[inline(never)]
 pub fn where_broken<W: Write>(alloc: Global, scene: Scene, out: &mut W) -> Result<u8, LineFailure> {
     let weathers = weathers_of(alloc, scene.weathers.as_slice())?;
+    let names = names_of(alloc, scene.slaves.as_slice())?;
     let mut ring = ring_of(alloc, scene.slaves, scene.links_down.as_slice())?;
-    let weather = match weathers.first() {
+    let weather = weather_of(weathers.as_slice(), &ring);
+    let mut lines = Lines::named(out, names.as_slice());
+    Ok(print_probe(&mut ring, &weather, &mut lines)?)
+}
+
+/// The first of these weathers, or that of the links of a ring.
+pub(crate) fn weather_of(weathers: &[Weather], ring: &Ring) -> Weather {
+    match weathers.first() {
         Some(weather) => *weather,
         None => Weather::calm(ring.links()),
-    };
-    Ok(print_probe(&mut ring, &weather, &mut Lines::new(out))?)
+    }
 }
 
 /// Sends one frame in this weather, and prints what its copies tell.
@@ -44,12 +51,13 @@ pub fn where_far<P: HeardPorts, W: Write>(
     scene: Scene,
     out: &mut W,
 ) -> Result<u8, LineFailure> {
+    let names = names_of(alloc, scene.slaves.as_slice())?;
     let line = slaves_of(alloc, scene.slaves)?;
     let sent = probe();
     let Ok(came) = ports.trip_heard(&sent) else {
         return Err(LineFailure::Port);
     };
-    let mut lines = Lines::new(out);
+    let mut lines = Lines::named(out, names.as_slice());
     print_arrived(&sent, &came, &mut lines)?;
     if are_swapped(line.len(), &sent, &came) {
         return Ok(print_swapped(&mut lines)?);

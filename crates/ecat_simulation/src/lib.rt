@@ -8,9 +8,11 @@
 //! let status = check(alloc, &scene, &mut out)?;
 //! ```
 //!
-//! What is promised: the words of what is printed here alone (`specs/Covers`, `specs/Sweeps`). What a command
-//! does is tested, here and by the scenes and cases of the program.
+//! What is promised: the words of what is printed here alone (`specs/Covers`, `specs/Sweeps`), and which
+//! members has what `json_cover` writes (`specs/Members`). What a command does is tested, here and by the
+//! scenes and cases of the program.
 
+mod as_json;
 mod cables;
 mod carry;
 mod checks;
@@ -22,6 +24,7 @@ mod objects;
 mod runs;
 mod sweeps;
 
+pub use as_json::{json_check, json_cover, json_lint, json_where, json_where_far};
 pub use cables::{where_broken, where_far};
 pub use checks::check;
 pub use covers::cover;

@@ -136,21 +136,21 @@ pub fn sweep<W: Write>(alloc: Global, scene: Scene, out: &mut W) -> Result<u8, L
     for link in &links_down {
         set_link(&mut ring, *link as usize, true);
     }
-    swept(ring, items, lines)
+    swept(ring, items, out)
 }
 
 /// Does all cycles of a sweep of these items over the ring, whose links are all up, and answers the status.
 /// Its works are large: they have a frame of their own, which no other command pays for, and stay where they
 /// are made.
 #[inline(never)]
-fn swept<W: Write>(ring: Ring, items: Vec<Item>, lines: Lines<'_, W>) -> Result<u8, LineFailure> {
+fn swept<W: Write>(ring: Ring, items: Vec<Item>, out: &mut W) -> Result<u8, LineFailure> {
     if items.len() > MAX_ITEMS {
         return Err(LineFailure::TooMany);
     }
     match &mut CheckedRing::of(ring, counted_work(items)) {
         Ok(cycles) => Ok(Sweeper {
             cycles,
-            lines,
+            lines: Lines::new(out),
             sums: Sums::new(),
         }
         .all()?),

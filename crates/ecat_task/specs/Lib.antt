@@ -1,3 +1,4 @@
+pub mod Desk
 pub mod Held
 pub mod Resting
 pub mod Told

@@ -1,5 +1,6 @@
 //! How often a control task spoke.
 
+use crate::desk::Taking;
 use crate::held::Refused;
 use ecat_text::Lines;
 use std::io::{self, Write};
@@ -19,6 +20,12 @@ pub(crate) struct Counts {
     stale: u64,
     /// How many reports could not be sent.
     unsent: u64,
+    /// How many questions came that were not asked before.
+    questions: u64,
+    /// How many came once more.
+    again: u64,
+    /// How many came while another one was under way.
+    busy: u64,
 }
 
 impl Counts {
@@ -31,6 +38,9 @@ impl Counts {
             why: None,
             stale: 0,
             unsent: 0,
+            questions: 0,
+            again: 0,
+            busy: 0,
         }
     }
 
@@ -68,6 +78,41 @@ impl Counts {
         }
     }
 
+    /// With a question more.
+    pub(crate) fn with_question(self, taking: Taking) -> Counts {
+        match taking {
+            Taking::New => Counts {
+                questions: self.questions.saturating_add(1),
+                ..self
+            },
+            Taking::UnderWay | Taking::Again => Counts {
+                again: self.again.saturating_add(1),
+                ..self
+            },
+            Taking::Busy => Counts {
+                busy: self.busy.saturating_add(1),
+                ..self
+            },
+        }
+    }
+
+    /// Writes how many questions came, if some did.
+    fn put_questions<W: Write>(&self, lines: &mut Lines<'_, W>) -> io::Result<()> {
+        let Counts {
+            questions,
+            again,
+            busy,
+            ..
+        } = *self;
+        if questions == 0 {
+            return Ok(());
+        }
+        lines.text(format_args!(
+            "task: questions {questions}, once more {again}, beside another {busy}"
+        ))?;
+        lines.end()
+    }
+
     /// Writes them, and why the last packet was refused that was, if one was.
     pub(crate) fn put<W: Write>(&self, lines: &mut Lines<'_, W>) -> io::Result<()> {
         let Counts {
@@ -77,12 +122,14 @@ impl Counts {
             why,
             stale,
             unsent,
+            ..
         } = *self;
         lines.text(format_args!(
             "task: orders {orders}, {prompt} to the last report, stale cycles {stale}, \
             unsent reports {unsent}"
         ))?;
         lines.end()?;
+        self.put_questions(lines)?;
         match why {
             Some(Refused::Packet(fault)) => {
                 lines.text(format_args!("task: refused packets {refused}, the last one: {fault}"))?;

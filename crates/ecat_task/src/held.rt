@@ -1,10 +1,18 @@
 //! The outputs that a control task holds.
 
-ghost use Rattle.std.specs.Prelude.{◌≡◌};
+ghost use Rattle.std.specs.Prelude.{◌≡◌, ℕ, Bool, List, Result};
 ghost use Rattle.std.specs.Option.{option_map};
+ghost use Rattle.ec_io.specs.Question.{IsQuestion, QuestionValue};
 ghost use Rattle.ecat_task.specs.Held.{Become, Takes};
+ghost use Rattle.ecat_task.specs.declared.held.Refused.{Refused};
 
 use ec_io::{Order, PacketFault};
+
+/// A packet that is a question leaves the outputs, whatever they are and whatever comes of it.
+pub fn questions_leave()
+    ensures { (packet before later : List ℕ) (v : QuestionValue) (taken : Result Bool Refused)
+        → IsQuestion packet v → Takes packet before taken later → later ≡ before }
+{}
 
 /// Why a packet is no order that can be taken.
 #[derive(Clone, Copy, PartialEq, Eq, Debug)]

@@ -6,11 +6,12 @@ ghost use Rattle.ec_io.specs.Cycle.{IsSpellable};
 ghost use Rattle.ecat_task.specs.Held.{Become, orders_others};
 
 use crate::counts::Counts;
+use crate::desk::{Desk, MOST_REPLIES, Questioned, Taking};
 use crate::held::{Held, Refused};
 use crate::resting::Resting;
 use crate::told::report_of;
 use ec_acyclic::Answer;
-use ec_io::{ORDER_HEAD, REPORT_HEAD};
+use ec_io::{MAX_TEXT, ORDER_HEAD, PacketFault, QUESTION_HEAD, Question, REPORT_HEAD};
 use ec_master::Verdict;
 use ec_run::{Inputs, MOST_INPUTS, put_inputs};
 use ec_services::MasterFault;
@@ -73,7 +74,8 @@ impl From<io::Error> for TaskFault {
 /// The task of a program that speaks at a UDP socket; or no task, where there is no socket.
 ///
 /// Who sent the last order is told of each cycle, and nobody is before the first one. Of the packets that
-/// came between two cycles, 64 at the most are taken, and the last order counts.
+/// came between two cycles, 64 at the most are taken, and the last order counts. Questions come there too, of
+/// anybody: no outputs are others by one, and who sent the last order is told of each cycle all the same.
 #[derive(Drop)]
 pub struct UdpTask {
     socket: Option<UdpSocket>,
@@ -82,7 +84,7 @@ pub struct UdpTask {
     held: Held,
     /// The slaves that rest while outputs are stale.
     resting: Resting,
-    /// Room for a packet that comes, with a byte more than an order has.
+    /// Room for a packet that comes, with a byte more than an order or a question has.
     room: Vec<u8>,
     /// Room for a packet that goes.
     packet: Vec<u8>,
@@ -91,6 +93,8 @@ pub struct UdpTask {
     good: Option<u64>,
     /// The number of the last cycle that was reported.
     reported: Option<u64>,
+    /// The questions that come.
+    desk: Desk,
     counts: Counts,
 }
 
@@ -139,6 +143,7 @@ impl UdpTask {
             Rest::Kept | Rest::Zeros => Vec::new(alloc),
             Rest::SafeOp => stations,
         };
+        let desk = Desk::of(alloc, socket.is_some())?;
         let held = Held::new(zeros(alloc, terms.count)?, rest, terms.stale_after);
         let room = if socket.is_some() { MOST_INPUTS } else { 0 };
         Ok(UdpTask {
@@ -146,11 +151,12 @@ impl UdpTask {
             program: None,
             held,
             resting: Resting::of(stations),
-            room: zeros(alloc, terms.count.saturating_add(ORDER_HEAD + 1))?,
+            room: zeros(alloc, packet_room(terms.count))?,
             packet: zeros(alloc, REPORT_HEAD + room)?,
             inputs: Box::new(alloc, Inputs::new())?,
             good: None,
             reported: None,
+            desk,
             counts: Counts::none(),
         })
     }
@@ -196,9 +202,52 @@ impl UdpTask {
                 let is_prompt = self.reported.is_some() && self.held.seen() == self.reported;
                 self.counts = self.counts.with_order(is_prompt);
             }
-            Err(why) => self.counts = self.counts.with_refused(why),
+            Err(why) => self.take_other(why, count, from),
         }
         Some(taken)
+    }
+
+    /// Takes a packet of so many bytes that is no order to be taken: a question, or one that is refused.
+    fn take_other(&mut self, why: Refused, count: usize, from: SocketAddr)
+        ensures { self.new.held ≡ self.old.held }
+    {
+        match why {
+            Refused::Packet(PacketFault::OtherKind(_)) => self.take_question(count, from),
+            Refused::Packet(_) | Refused::Outputs(_) => {
+                self.counts = self.counts.with_refused(why);
+            }
+        }
+    }
+
+    /// Takes a packet of so many bytes that is of another kind, if it is a question: it waits then, or is
+    /// answered at once, if its answer is kept or another one is under way.
+    fn take_question(&mut self, count: usize, from: SocketAddr)
+        ensures { self.new.held ≡ self.old.held }
+    {
+        let (number, taking) = match Question::read(self.room.get(..count).unwrap_or(&[])) {
+            Ok(question) => (question.number, self.desk.take(&question, from)),
+            Err(fault) => {
+                self.counts = self.counts.with_refused(Refused::Packet(fault));
+                return;
+            }
+        };
+        self.counts = self.counts.with_question(taking);
+        let size = match taking {
+            Taking::New | Taking::UnderWay => return,
+            Taking::Again => self.desk.write_again(number, from),
+            Taking::Busy => self.desk.write_busy(number),
+        };
+        if let Some(size) = size {
+            self.send_reply(size, from);
+        }
+    }
+
+    /// Sends the reply of so many bytes that was written, if the system takes it at once: who asked asks once
+    /// more where it is lost.
+    fn send_reply(&self, size: usize, to: SocketAddr) {
+        if let Some(socket) = &self.socket {
+            let _ = socket.send_to(self.desk.packet(size), to);
+        }
     }
 
     /// Takes the packets that wait, up to so many, and says whether one was an order, and whether the outputs
@@ -281,6 +330,22 @@ impl Task for UdpTask {
     }
 }
 
+impl Questioned for UdpTask {
+    fn question(&mut self, into: &mut [u8; MAX_TEXT]) -> Option<usize> {
+        self.desk.question(into)
+    }
+
+    fn reply(&mut self, text: &[u8]) -> bool {
+        for _reply in 0..MOST_REPLIES {
+            match self.desk.write_next(text) {
+                Some((size, to)) => self.send_reply(size, to),
+                None => break,
+            }
+        }
+        self.desk.is_free()
+    }
+}
+
 impl UdpTask {
     /// The number of the last good cycle, as a packet can tell it.
     fn good_cycle(&self) -> Option<u64>
@@ -327,6 +392,14 @@ impl UdpTask {
             _ => false,
         }
     }
+}
+
+/// Room for an order of so many bytes of outputs, or for a question, with a byte more.
+fn packet_room(count: usize) -> usize {
+    count
+        .saturating_add(ORDER_HEAD)
+        .max(QUESTION_HEAD + MAX_TEXT)
+        .saturating_add(1)
 }
 
 /// So many bytes of 0.

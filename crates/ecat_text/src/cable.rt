@@ -4,7 +4,7 @@ ghost use Rattle.std.specs.Prelude.{◌≡◌, Some, ℕ};
 ghost use Rattle.ec_esc.specs.State.{word_at};
 ghost use Rattle.ec_regs.specs.declared.registers.TheConstants.{STATION_ADDRESS};
 ghost use Rattle.ecat_text.specs.Cables.{arrived_words, break_of, break_status, break_words, copy_words};
-ghost use Rattle.ecat_text.specs.Cables.{end_at, end_before};
+ghost use Rattle.ecat_text.specs.Cables.{end_at, end_before, name_at, name_words, slave_words};
 ghost use Rattle.ecat_text.specs.Cables.{end_words, missing_of, missing_words, places_words, port_words};
 ghost use Rattle.ecat_text.specs.Cables.{station_words};
 
@@ -121,16 +121,54 @@ impl fmt::Display for Station {
     }
 }
 
-/// An end of a link, as it is printed.
+/// The name of a slave behind a space, as it is printed; nothing where it is empty.
 #[derive(Clone, Copy)]
-pub enum End {
-    /// A port of the master.
-    AtPort(Port),
-    /// The slave at this place of the line, with its station address.
-    AtSlave(usize, u16),
+struct NameText<'a>(&'a str);
+
+impl fmt::Display for NameText<'_> {
+    ghost output = { λ text. Some (name_words text.0.now) };
+
+    #[tactic(auto, unfolding(crate::specs::Cables::name_words))]
+    fn fmt<W: fmt::Write>(&self, f: &mut fmt::Formatter<W>) -> fmt::Result {
+        let name = self.0;
+        if name.is_empty() {
+            Ok(())
+        } else {
+            write!(f, " {name}")
+        }
+    }
 }
 
-impl fmt::Display for End {
+/// An end of a link, as it is printed.
+#[derive(Clone, Copy)]
+pub enum End<'a> {
+    /// A port of the master.
+    AtPort(Port),
+    /// The slave at this place of the line, with its station address, and its name, which is empty where it
+    /// has none.
+    AtSlave(usize, u16, &'a str),
+}
+
+impl<'a> End<'a> {
+    /// The slave at a place of a line, with its station address, where the slaves have these names.
+    pub fn at_slave(place: usize, station: u16, names: &'a [String]) -> End<'a>
+        ensures { end_words result ≡ slave_words place (name_at names.now place) station }
+    {
+        End::AtSlave(place, station, name_at(names, place))
+    }
+}
+
+/// The name of the slave at a place, where the slaves have these names; an empty one where it has none.
+pub fn name_at(names: &[String], place: usize) -> &str
+    ensures { result.now ≡ name_at names.now place }
+{
+    match names.get(place) {
+        Some(name) => name.as_str(),
+        None => "",
+    }
+}
+
+impl fmt::Display for End<'_> {
     ghost output = { λ end. Some (end_words end) };
 
     fn fmt<W: fmt::Write>(&self, f: &mut fmt::Formatter<W>) -> fmt::Result {
@@ -139,9 +177,10 @@ impl fmt::Display for End {
                 let port = PortText(*port);
                 write!(f, "port {port}")
             }
-            End::AtSlave(place, station) => {
+            End::AtSlave(place, station, name) => {
+                let name = NameText(name);
                 let station = Station(*station);
-                write!(f, "slave {place} ({station})")
+                write!(f, "slave {place}{name} ({station})")
             }
         }
     }
@@ -170,9 +209,9 @@ impl fmt::Display for Places {
 
 /// Which links are down, as it is printed; where slaves are cut off, as far as their station addresses.
 #[derive(Clone, Copy)]
-enum BreakText {
+enum BreakText<'a> {
     Whole,
-    One(usize, End, End),
+    One(usize, End<'a>, End<'a>),
     Two(usize, usize, Places),
     First(usize),
     Last(usize),
@@ -181,7 +220,7 @@ enum BreakText {
     Swapped,
 }
 
-impl fmt::Display for BreakText {
+impl fmt::Display for BreakText<'_> {
     ghost output = { λ text. Some (break_words text) };
 
     fn fmt<W: fmt::Write>(&self, f: &mut fmt::Formatter<W>) -> fmt::Result {
@@ -327,7 +366,7 @@ fn has_come(copy: Heard, at: Port, slaves: usize) -> bool {
 }
 
 /// What is heard of a copy of a frame, unless it was lost.
-fn heard(sent: &FrameBuf, copy: &Option<Arrival>) -> Option<Heard> {
+pub(crate) fn heard(sent: &FrameBuf, copy: &Option<Arrival>) -> Option<Heard> {
     match copy {
         Some(arrival) => Heard::of(sent, &arrival.frame, arrival.at),
         None => None,
@@ -351,7 +390,8 @@ pub fn put_break<S: Stationed, W: Write>(
     line: &[S],
     lines: &mut Lines<'_, W>,
 ) -> io::Result<()> {
-    lines.text(break_of(line, located))?;
+    let names = lines.names();
+    lines.text(break_of(line, names, located))?;
     match located.cut_off() {
         CutOff::Places(first, last) => {
             lines.text(" (")?;
@@ -362,12 +402,14 @@ pub fn put_break<S: Stationed, W: Write>(
     }
 }
 
-/// Puts the station addresses of these slaves, of the first `MOST_STATIONS` if there are more.
+/// Puts the station addresses of these slaves, each with its name where it has one, of the first
+/// `MOST_STATIONS` if there are more.
 fn put_stations<S: Stationed, W: Write>(
     line: &[S],
     places: Places,
     lines: &mut Lines<'_, W>,
 ) -> io::Result<()> {
+    let names = lines.names();
     for (place, slave) in line.iter().enumerate() {
         if place < places.first || places.last < place {
             continue;
@@ -379,19 +421,24 @@ fn put_stations<S: Stationed, W: Write>(
             return lines.text("..");
         }
         lines.text(Station(slave.station()))?;
+        lines.text(NameText(name_at(names, place)))?;
     }
     Ok(())
 }
 
 /// What is known of the links of a line, with the ends of a link that is down.
-fn break_of<S: Stationed>(line: &[S], located: Located) -> BreakText
-    ensures { result ≡ break_of S.station line.now located }
+fn break_of<'a, S: Stationed>(line: &[S], names: &'a [String], located: Located) -> BreakText<'a>
+    ensures { break_words result ≡ break_of S.station line.now names.now located }
 {
     match located {
         Located::Unknown => BreakText::Unknown,
         Located::Whole => BreakText::Whole,
         Located::One(link) => {
-            BreakText::One(link, end_before(line, link), end_at(Port::B, line, link))
+            BreakText::One(
+                link,
+                end_before(line, names, link),
+                end_at(Port::B, line, names, link),
+            )
         }
         Located::Between(first, last) => BreakText::Two(
             first,
@@ -408,7 +455,7 @@ fn break_of<S: Stationed>(line: &[S], located: Located) -> BreakText
 }
 
 /// The exit status: that of a refusal where anything is down or unknown.
-fn break_status(located: Located) -> u8
+pub(crate) fn break_status(located: Located) -> u8
     ensures { result ≡ break_status located }
 {
     match located {
@@ -418,22 +465,27 @@ fn break_status(located: Located) -> u8
 }
 
 /// The end of a link that is nearer to port A.
-fn end_before<S: Stationed>(line: &[S], link: usize) -> End
-    ensures { result ≡ end_before S.station line.now link }
+pub(crate) fn end_before<'a, S: Stationed>(line: &[S], names: &'a [String], link: usize) -> End<'a>
+    ensures { end_words result ≡ end_before S.station line.now names.now link }
 {
     if link == 0 {
         End::AtPort(Port::A)
     } else {
-        end_at(Port::B, line, link - 1)
+        end_at(Port::B, line, names, link - 1)
     }
 }
 
 /// The end of a link at the slave of this place, or at a port where the line has no such slave.
-fn end_at<S: Stationed>(port: Port, line: &[S], place: usize) -> End
-    ensures { result ≡ end_at S.station port line.now place }
+pub(crate) fn end_at<'a, S: Stationed>(
+    port: Port,
+    line: &[S],
+    names: &'a [String],
+    place: usize,
+) -> End<'a>
+    ensures { end_words result ≡ end_at S.station port line.now names.now place }
 {
     match line.get(place) {
-        Some(slave) => End::AtSlave(place, slave.station()),
+        Some(slave) => End::at_slave(place, slave.station(), names),
         None => End::AtPort(port),
     }
 }

@@ -13,6 +13,7 @@
 //! The output is `short 0`, and `status` is `REFUSED`.
 
 mod areas;
+mod as_json;
 mod cable;
 mod cycle;
 mod judgement;
@@ -23,9 +24,12 @@ mod status;
 mod system;
 
 pub use areas::print_areas;
+pub use as_json::{
+    json_arrived, json_break, json_copies, json_refuse_mapped, json_swapped, with_cable, with_state,
+};
 pub use cable::{
-    End, Missing, Places, PortText, Stationed, are_swapped, missing_of, print_arrived, print_break,
-    print_copies, print_swapped, put_break, put_swapped,
+    End, Missing, Places, PortText, Stationed, are_swapped, missing_of, name_at, print_arrived,
+    print_break, print_copies, print_swapped, put_break, put_swapped,
 };
 pub use cycle::{VerdictText, print_item, print_items, print_verdict, status_of};
 pub use judgement::{CountText, print_counts, print_losses};

@@ -1,5 +1,6 @@
 //! Lines of output, each written as soon as it is complete.
 
+use crate::cable::End;
 use arrayvec::{ArrayString, ArrayVec};
 use std::fmt::{Display, Write as _};
 use std::io::{self, Write};
@@ -11,20 +12,39 @@ const ROOM: usize = 4096;
 const PIECE: usize = 256;
 
 /// Writes lines. What belongs to one line, or to the lines of one packet, goes out in as few writes as
-/// its length lets it.
+/// its length lets it. Where they tell of a slave of a line that has names, they tell its name too.
 #[derive(Drop)]
 pub struct Lines<'a, W> {
     out: &'a mut W,
     gathered: ArrayVec<u8, ROOM>,
+    names: &'a [String],
 }
 
 impl<'a, W: Write> Lines<'a, W> {
-    /// Lines for this output.
+    /// Lines for this output, of slaves that have no names.
     pub fn new(out: &'a mut W) -> Lines<'a, W> {
+        Lines::named(out, &[])
+    }
+
+    /// Lines for this output, of slaves with these names, by their places. One whose name is empty, or that
+    /// stands behind as many slaves as there are names, has none. A name has 64 bytes at most.
+    pub fn named(out: &'a mut W, names: &'a [String]) -> Lines<'a, W> {
         Lines {
             out,
             gathered: ArrayVec::new(),
+            names,
         }
+    }
+
+    /// The names of the slaves, by their places.
+    pub fn names(&self) -> &'a [String] {
+        self.names
+    }
+
+    /// Puts a slave of the line, by its place and its station address, with its name where it has one.
+    pub fn slave(&mut self, place: usize, station: u16) -> io::Result<()> {
+        let names = self.names;
+        self.text(End::at_slave(place, station, names))
     }
 
     /// Writes what was gathered.

@@ -177,7 +177,7 @@ pub fn refuse_work<W: Write>(
 }
 
 /// Why a line or items on it are refused, if they are.
-fn refusal_of<S: Mapped>(line: &[S], items: &[Item]) -> Result<(), Refusal>
+pub(crate) fn refusal_of<S: Mapped>(line: &[S], items: &[Item]) -> Result<(), Refusal>
     ensures accepted { OnOk result (AreTaken (controllers_by S.controller line.now) items.now) }
     ensures refused { IfErr result (IsRefusedFor (controllers_by S.controller line.now) items.now) }
 {

@@ -185,6 +185,7 @@ pub(crate) fn tallied(alloc: Global, seed: u32, packets: u64) -> Option<u64> {
     let asked = OfTrips {
         each: false,
         by_index: false,
+        json: false,
         progress: false,
     };
     let mut out = Digest::new();

@@ -154,6 +154,7 @@ fn run(ports: Machine, course: Course, cycles: u32) -> Option<u64> {
         log_or_stop: false,
         states: false,
         identities: &[],
+        names: &[],
         leave: None,
         leave_by_task: false,
     };

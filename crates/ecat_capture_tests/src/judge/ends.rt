@@ -7,7 +7,7 @@ use ec_regs::{Fmmu, SyncMan};
 use ec_wire::Kind;
 use ecat_frames::{Frames, Looked, look};
 use ecat_judge::Judged::{Closed, Good, NoMemory, OutputFailed};
-use ecat_judge::{Asked, Judged, judge};
+use ecat_judge::{Asked, Judged, Known, judge};
 use ecat_source::Bytes;
 use std::alloc::Global;
 use std::io::{ErrorKind, Write};
@@ -43,9 +43,17 @@ fn judged<W: Write>(alloc: Global, out: &mut W) -> Option<Judged> {
     let mut frames = Frames::of_file(alloc, Bytes::new(bytes.as_slice()), looked, None);
     let asked = Asked {
         csv: false,
+        dates: false,
+        json: false,
         limit: 1000,
     };
-    Some(judge(alloc, &mut frames, &[drive()], &[item], &asked, out))
+    let (slaves, items) = ([drive()], [item]);
+    let line = Known {
+        slaves: &slaves,
+        names: Vec::new(alloc),
+        items: &items,
+    };
+    Some(judge(alloc, &mut frames, line, &asked, out))
 }
 
 #[test]

@@ -9,6 +9,7 @@ use std::io::{Cursor, ErrorKind};
 const SUMS: OfTrips = OfTrips {
     each: false,
     by_index: false,
+    json: false,
     progress: false,
 };
 

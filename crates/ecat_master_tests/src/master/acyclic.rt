@@ -3,7 +3,7 @@
 ghost use Rattle.std.specs.Prelude.{◌≡◌, false, []};
 
 use super::line::{EXPECTED, work};
-use super::stage::{Count, Event, PLAN, ROOM, Stage, Told, ring_with, wanted_with, written};
+use super::stage::{Count, Event, ROOM, Stage, Told, ring_with, usual_plan, wanted_with, written};
 use crate::asserts::assert_found;
 use ec_app::Value;
 use ec_regs::AlState;
@@ -140,7 +140,7 @@ fn assert_asks(rt: &(impl AllocGlobal + Abort), row: &Row) {
     let ports = Stage::new(ring_with(rt, 3, &[]), row.events);
     let plan = Plan {
         recover: row.recover,
-        ..PLAN
+        ..usual_plan()
     };
     let mut task = Asking {
         asks: row.asks,

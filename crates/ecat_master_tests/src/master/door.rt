@@ -33,6 +33,7 @@ fn a_line_is_brought_up_and_a_link_breaks_while_it_cycles(rt: HostRuntime) {
         log_or_stop: false,
         states: true,
         identities: &[],
+        names: &[],
         leave: Some(AlState::Init),
         leave_by_task: false,
     };

@@ -1,6 +1,6 @@
 //! An output that fails, each of its writes in turn.
 
-use super::stage::{PLAN, Stage, Told, assert_runs, ring_with, wanted_with};
+use super::stage::{Stage, Told, assert_runs, ring_with, usual_plan, wanted_with};
 use std::io::{self, Write};
 use std::process::Abort;
 
@@ -36,7 +36,16 @@ fn assert_status(rt: &(impl AllocGlobal + Abort), row: &str, left: usize, status
     let line = wanted_with(rt, Told::Same);
     let ports = Stage::new(ring_with(rt, 3, &[]), &[]);
     let out = &mut Stops { left };
-    assert_runs(rt, row, ports, line.as_slice(), &PLAN, 3, out, status);
+    assert_runs(
+        rt,
+        row,
+        ports,
+        line.as_slice(),
+        &usual_plan(),
+        3,
+        out,
+        status,
+    );
 }
 
 #[test]

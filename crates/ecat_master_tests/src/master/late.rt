@@ -4,14 +4,14 @@ ghost use Rattle.std.specs.Prelude.{⊤};
 
 use super::line::{EXPECTED, work};
 use super::stage::{
-    Count, Event, PLAN, ROOM, Row, Stage, Told, assert_rows, ring_with, wanted_with, written,
+    Count, Event, ROOM, Row, Stage, Told, assert_rows, ring_with, usual_plan, wanted_with, written,
 };
 use crate::asserts::assert_found;
 use ecat_master::{LinePlan, NoTask, Pace, Writers, master};
 use std::io::Cursor;
 
-/// What is told of copies of earlier trips.
-static ROWS: [Row; 4] = [
+/// What is told of copies of earlier trips, and of frames of others.
+static ROWS: [Row; 6] = [
     Row {
         name: "a copy of an earlier cycle is told once, and each is counted",
         slaves: 3,
@@ -78,6 +78,42 @@ static ROWS: [Row; 4] = [
             late copies 1, unsure cycles 0\nitem 0 LRW data a0a1a2 wkc 9 of 9\n"
         ),
     },
+    Row {
+        name: "another master is told once its frames came in three cycles",
+        slaves: 3,
+        down: &[],
+        told: Told::Same,
+        events: &[
+            (2, Event::Another(4)),
+            (3, Event::Another(1)),
+            (5, Event::Another(2)),
+            (6, Event::Another(1)),
+        ],
+        stop: false,
+        cycles: 7,
+        status: 0,
+        text: brought!(
+            "cycle 5: strangers: another master speaks here\n\
+            left in Init\ncycles 7 good 7 short 0 over 0 fault 0 not-in-op 0\n\
+            cycle time least 0 mean 0 greatest 0 microseconds, 50% within 0, 90% 0, 99% 0, 99.9% 0\n\
+            strangers 8\nitem 0 LRW data a0a1a2 wkc 9 of 9\n"
+        ),
+    },
+    Row {
+        name: "copies of a master that has ended are no other master",
+        slaves: 3,
+        down: &[],
+        told: Told::Same,
+        events: &[(1, Event::Another(9)), (2, Event::Another(9))],
+        stop: false,
+        cycles: 7,
+        status: 0,
+        text: brought!(
+            "left in Init\ncycles 7 good 7 short 0 over 0 fault 0 not-in-op 0\n\
+            cycle time least 0 mean 0 greatest 0 microseconds, 50% within 0, 90% 0, 99% 0, 99.9% 0\n\
+            item 0 LRW data a0a1a2 wkc 9 of 9\n"
+        ),
+    },
 ];
 
 #[test]
@@ -99,7 +135,7 @@ fn unsure_cycles_are_logged(rt: HostRuntime) {
     let events = [(300, Event::Late(1)), (301, Event::Late(310))];
     let ports = Stage::new(ring_with(&rt, 3, &[]), &events);
     let line = wanted_with(&rt, Told::Same);
-    let mut plan = PLAN;
+    let mut plan = usual_plan();
     plan.log = true;
     let mut pace = Count { left: 302 };
     let mut out = Cursor::new([0u8; ROOM]);
@@ -193,10 +229,11 @@ fn cycles_that_are_left_out_are_told_at_once_and_counted(rt: HostRuntime) {
     let mut log = Cursor::new([0u8; ROOM]);
     let work = work(&rt);
     assert!(&rt; work.len() == EXPECTED.len());
+    let plan = usual_plan();
     let line_plan = LinePlan {
         line: line.as_slice(),
         expected: &EXPECTED,
-        plan: &PLAN,
+        plan: &plan,
     };
     let writers = Writers {
         out: &mut out,

@@ -1,7 +1,7 @@
 //! What is logged of cycles that have no verdict.
 
 use super::line::{EXPECTED, work};
-use super::stage::{Count, Event, PLAN, ROOM, Stage, Told, ring_with, wanted_with, written};
+use super::stage::{Count, Event, ROOM, Stage, Told, ring_with, usual_plan, wanted_with, written};
 use crate::asserts::assert_found;
 use ecat_master::{LinePlan, NoTask, Plan, Writers, master};
 use std::io::{Cursor, Write};
@@ -58,7 +58,7 @@ fn assert_logs<L: Write>(
 
 /// A plan with a log, whose failure ends the run or not.
 fn logging(log_or_stop: bool) -> Plan<'static> {
-    let mut plan = PLAN;
+    let mut plan = usual_plan();
     plan.log = true;
     plan.log_or_stop = log_or_stop;
     plan

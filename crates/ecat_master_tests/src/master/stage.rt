@@ -39,6 +39,8 @@ pub enum Event {
     Stranger,
     /// A copy comes late, of the trip so many before this one.
     Late(u64),
+    /// So many frames of another master come.
+    Another(u64),
     /// Sends and receives at a port begin to fail with this error of the system, or they work again.
     Fails(Port, Option<i32>),
 }
@@ -131,7 +133,7 @@ impl<'a> Stage<'a> {
             Event::Forgets(place) => self.forgets(place),
             Event::Fault => fate.fails = true,
             Event::Stranger => fate.is_strange = true,
-            Event::Late(_) => {}
+            Event::Late(_) | Event::Another(_) => {}
             Event::Fails(port, error) => self.sets_health(port, error),
         }
     }
@@ -208,10 +210,13 @@ impl<'a> Stage<'a> {
         let last_trip = self.trips.saturating_sub(1);
         let mut late = LateCopies::none();
         for (cycle, event) in self.events {
-            if let Event::Late(ago) = event {
-                if cycle.saturating_add(1) == self.cycles {
-                    late = late.with(last_trip.saturating_sub(*ago));
-                }
+            if cycle.saturating_add(1) != self.cycles {
+                continue;
+            }
+            match event {
+                Event::Late(ago) => late = late.with(last_trip.saturating_sub(*ago)),
+                Event::Another(count) => late.strangers = late.strangers.saturating_add(*count),
+                _ => {}
             }
         }
         late
@@ -377,20 +382,23 @@ pub fn written(cursor: &Cursor<[u8; ROOM]>) -> &str {
 }
 
 /// How the runs of the tests go: the outputs are kept, slaves are recovered, nothing is logged.
-pub const PLAN: Plan<'static> = Plan {
-    outputs: Outputs::Kept,
-    stop: false,
-    recover: true,
-    tries: MOST_READS,
-    progress: false,
-    log: false,
-    log_images: false,
-    log_or_stop: false,
-    states: true,
-    identities: &[],
-    leave: Some(AlState::Init),
-    leave_by_task: false,
-};
+pub fn usual_plan<'a>() -> Plan<'a> {
+    Plan {
+        outputs: Outputs::Kept,
+        stop: false,
+        recover: true,
+        tries: MOST_READS,
+        progress: false,
+        log: false,
+        log_images: false,
+        log_or_stop: false,
+        states: true,
+        identities: &[],
+        names: &[],
+        leave: Some(AlState::Init),
+        leave_by_task: false,
+    }
+}
 
 /// A change of what the three slaves are to be told.
 #[derive(Clone, Copy)]
@@ -500,7 +508,7 @@ pub fn assert_runs<W: Write>(
 fn assert_row(rt: &(impl AllocGlobal + Abort), row: &Row) {
     let line = wanted_with(rt, row.told);
     let ports = Stage::new(ring_with(rt, row.slaves, row.down), row.events);
-    let mut plan = PLAN;
+    let mut plan = usual_plan();
     plan.stop = row.stop;
     let mut out = Cursor::new([0u8; ROOM]);
     assert_runs(

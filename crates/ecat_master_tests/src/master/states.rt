@@ -1,6 +1,8 @@
 //! Slaves that leave Op, and slaves that are others, told by a master that brings nobody up again.
 
-use super::stage::{Event, PLAN, ROOM, Stage, Told, assert_runs, ring_with, wanted_with, written};
+use super::stage::{
+    Event, ROOM, Stage, Told, assert_runs, ring_with, usual_plan, wanted_with, written,
+};
 use crate::asserts::assert_found;
 use ec_app::Value;
 use ec_regs::AlState;
@@ -20,7 +22,7 @@ struct Row {
 }
 
 /// What is told of slaves that leave Op or are not those that are wanted.
-static ROWS: [Row; 6] = [
+static ROWS: [Row; 7] = [
     Row {
         name: "slaves that leave Op are told, with their errors, and the status says it",
         events: &[
@@ -78,6 +80,27 @@ static ROWS: [Row; 6] = [
         ),
     },
     Row {
+        name: "a port that fails where a look at the cable was put off says nothing of the cable",
+        events: &[
+            (2, Event::Falls(1, AlState::SafeOp)),
+            (3, Event::LoseA),
+            (5, Event::Fault),
+        ],
+        stop: false,
+        identities: &[],
+        leave: Some(AlState::Init),
+        status: 1,
+        text: brought!(
+            "cycle 2: not all in Op\n\
+            cycle 3: item 0: came 0 of 9; ring whole, nothing came at port B\n\
+            cycle 4: slave 1 (0x1002) is in Safe-Op\ncycle 4: good again after 1 cycle\n\
+            cycle 5: a port failed\ncycle 6: good again after 1 cycle\n\
+            left in Init\ncycles 8 good 6 short 1 over 0 fault 1 not-in-op 4\n\
+            cycle time least 0 mean 0 greatest 0 microseconds, 50% within 0, 90% 0, 99% 0, 99.9% 0\n\
+            item 0 LRW data a0a1a2 wkc 9 of 9\n"
+        ),
+    },
+    Row {
         name: "a cycle with a slave that is not in Op may be the last",
         events: &[(3, Event::Falls(0, AlState::PreOp))],
         stop: true,
@@ -120,7 +143,7 @@ static ROWS: [Row; 6] = [
 fn assert_row(rt: &(impl AllocGlobal + Abort), row: &Row) {
     let line = wanted_with(rt, Told::Same);
     let ports = Stage::new(ring_with(rt, 3, &[]), row.events);
-    let mut plan = PLAN;
+    let mut plan = usual_plan();
     plan.recover = false;
     plan.stop = row.stop;
     plan.identities = row.identities;

@@ -1,8 +1,8 @@
 //! Ports whose cables are swapped.
 
 use super::stage::{
-    Event, PLAN, ROOM, Row, Stage, Swapped, Told, assert_rows, assert_runs, ring_with, wanted_with,
-    written,
+    Event, ROOM, Row, Stage, Swapped, Told, assert_rows, assert_runs, ring_with, usual_plan,
+    wanted_with, written,
 };
 use crate::asserts::assert_found;
 use ec_run::Watched;
@@ -42,7 +42,16 @@ fn assert_start(rt: &(impl AllocGlobal + Abort), row: &str, swapped: Swapped, te
     let line = wanted_with(rt, Told::Same);
     let ports = Stage::new(ring_with(rt, 3, &[]), &[]).with_swapped(swapped);
     let mut out = Cursor::new([0u8; ROOM]);
-    assert_runs(rt, row, ports, line.as_slice(), &PLAN, 2, &mut out, 1);
+    assert_runs(
+        rt,
+        row,
+        ports,
+        line.as_slice(),
+        &usual_plan(),
+        2,
+        &mut out,
+        1,
+    );
     assert_found(rt, row, written(&out), text);
 }
 

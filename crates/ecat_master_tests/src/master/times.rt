@@ -3,7 +3,7 @@
 ghost use Rattle.std.specs.Prelude.{⊤};
 
 use super::line::{EXPECTED, work};
-use super::stage::{PLAN, ROOM, Stage, Told, ring_with, wanted_with, written};
+use super::stage::{ROOM, Stage, Told, ring_with, usual_plan, wanted_with, written};
 use crate::asserts::assert_found;
 use ecat_master::{LinePlan, NoTask, Pace, Writers, master};
 use std::io::Cursor;
@@ -52,7 +52,7 @@ impl Pace for Timed {
 fn progress_has_the_times_since_the_last_line(rt: HostRuntime) {
     let ports = Stage::new(ring_with(&rt, 3, &[]), &[]);
     let line = wanted_with(&rt, Told::Same);
-    let mut plan = PLAN;
+    let mut plan = usual_plan();
     plan.progress = true;
     let mut pace = Timed {
         next: 0,

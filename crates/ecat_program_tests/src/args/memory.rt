@@ -20,7 +20,7 @@ fn a_line_gives_its_answer_or_memory_ran_out(rt: HostRuntime) {
         Ok(
             Args::Scene {
                 path,
-                command: SceneCommand::Check,
+                command: SceneCommand::Check { json: false },
             },
         ) => assert!(rt; path == "a.scene"),
         Err(Refusal::NoMemory) => {}

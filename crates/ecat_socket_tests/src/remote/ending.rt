@@ -199,6 +199,7 @@ fn a_copy_of_the_trip_before_the_last_is_late(rt: HostRuntime) {
     let late = LateCopies {
         count: 1,
         oldest: Some(0),
+        strangers: 0,
     };
     assert_same(&rt, ports.take_late(), late);
 }

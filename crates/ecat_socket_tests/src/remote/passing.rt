@@ -10,7 +10,11 @@ use ecat_remote::greet;
 
 /// What came late.
 fn late(count: u64, oldest: Option<u64>) -> LateCopies {
-    LateCopies { count, oldest }
+    LateCopies {
+        count,
+        oldest,
+        strangers: 0,
+    }
 }
 
 #[test]
@@ -84,13 +88,29 @@ fn copies_of_another_trip_are_passed_over_and_told(rt: HostRuntime) {
 }
 
 #[test]
-fn packets_of_other_runs_are_not_told_as_late(rt: HostRuntime) {
+fn packets_of_other_runs_are_strangers_and_not_late(rt: HostRuntime) {
     // numbers that are to come, and those of a run before
     let a = [under(9, 1), with(32, 0x7F), with(32, 0xFF), under(0, 2)];
     let script = Script::new(a, 4, [NUMBERED; 4], 0);
     let mut ports = ports_over(script, Wound::still());
     assert_same(&rt, trip(&rt, &mut ports), [Some((0x55, 2)), None]);
+    let strangers = LateCopies {
+        count: 0,
+        oldest: None,
+        strangers: 3,
+    };
+    assert_same(&rt, ports.take_late(), strangers);
     assert_same(&rt, ports.take_late(), late(0, None));
+}
+
+#[test]
+fn a_frame_without_a_number_is_a_stranger_and_what_is_no_frame_is_none(rt: HostRuntime) {
+    // the number in an APRD, a length that is none, and a copy of this trip that comes twice
+    let a = [with(15, 0x01), with(0, 0x20), under(0, 2), under(0, 2)];
+    let script = Script::new(a, 4, [NUMBERED; 4], 0);
+    let mut ports = ports_over(script, Wound::still());
+    assert_same(&rt, trip(&rt, &mut ports), [Some((0x55, 2)), None]);
+    assert_same(&rt, ports.take_late().strangers, 1);
 }
 
 #[test]

@@ -6,5 +6,5 @@ pub returns : goal.returns
 returns c =
     c.command.ensures judge_words (AreWords-items judge_words c.in_ok-words.ensures.items (
       c.needed.ensures,
-      (c.optional.ensures, (c.flag.ensures, (c.option.ensures, tt))),
+      (c.optional.ensures, (c.flag.ensures, (c.option.ensures, (c.clock.ensures, (c.json.ensures, tt))))),
     ))

@@ -1,10 +1,10 @@
-use Rattle.ecat_commands.specs.Commands.{scene_word}
+use Rattle.ecat_commands.specs.Commands.{told_words}
 use Rattle.ecat_commands.proofs.CommandLemmas.{AreWords-items}
 use Rattle.ecat_commands.proofs.commands.lint.Goals as goal
 
 pub returns : goal.returns
 returns c =
-    c.command.ensures scene_word (AreWords-items scene_word c.in_ok-words.ensures.items (
+    c.command.ensures told_words (AreWords-items told_words c.in_ok-words.ensures.items (
       c.scene.ensures,
-      tt,
+      (c.json.ensures, tt),
     ))

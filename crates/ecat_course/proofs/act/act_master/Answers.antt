@@ -6,10 +6,11 @@ returns-clause-good g c well = record {
   stands = c.args.course.stands;
   planned = _;
   is_planned = record {
-    line = c.as_slice-2.ensures.value;
+    line = c.as_slice-3.ensures.value;
     expected = c.counters.ensures;
     states = refl;
     identities = c.as_slice.ensures.value;
+    names = c.as_slice-2.ensures.value;
     rest = refl;
   };
   run = c.master.ensures.good well;
@@ -20,10 +21,11 @@ returns-clause-ended g c = record {
   stands = c.args.course.stands;
   planned = _;
   is_planned = record {
-    line = c.as_slice-2.ensures.value;
+    line = c.as_slice-3.ensures.value;
     expected = c.counters.ensures;
     states = refl;
     identities = c.as_slice.ensures.value;
+    names = c.as_slice-2.ensures.value;
     rest = refl;
   };
   run = c.master.ensures.ended;

@@ -13,3 +13,7 @@ returns-in_err-text-2-clause-failed g c fault told =
 pub returns-in_err-end-clause-failed : goal.returns-in_err-end-clause-failed
 returns-in_err-end-clause-failed g c fault told =
     unwritten_is_no_fault _ c.from_residual-in_err-end.result fault c.from_residual-in_err-end.ensures.1 told
+
+pub returns-in_err-put-clause-failed : goal.returns-in_err-put-clause-failed
+returns-in_err-put-clause-failed g c fault told =
+    unwritten_is_no_fault _ c.from_residual-in_err-put.result fault c.from_residual-in_err-put.ensures.1 told

@@ -5,6 +5,7 @@ use Rattle.std.specs.Slice.Iter.{split_callee, split_done, split_rest}
 use Rattle.ecat_scene.specs.Deeds.{is_line_end, lines_do, text_does}
 use Rattle.ecat_scene.specs.Scene.{scene_record}
 use Rattle.ecat_scene.proofs.DeedLemmas.{if-some, left, same-does, stopped, turn}
+use Rattle.ecat_scene.proofs.SignalLemmas.{judged-all, judged-stopped}
 use Rattle.ecat_scene.proofs.WordLemmas.{no_part_left, part_at}
 use Rattle.ecat_scene.proofs.reader.Reader.read.Goals as goal
 use Rattle.ecat_scene.proofs.reader.Reader.read.Goals.{In-Some}
@@ -46,8 +47,9 @@ returns-in-Err-clause-read c = λ none. if-some (text_does c.args.text.now (scen
     let here = this-line (goal.at.returns-in-Err-clause-read c).In-Some in
     let before = record c.loop-line.self { line = c.saturating_add.result } in
     let inv = c.loop-line.invariant does h in
-    rw c.fault_of.ensures.told (stopped _ before c.read_line.new.self c.in-Some.line.now (drop (n + 1) lines)
-    c.in-Err.stop does c.in-Err.ensures (ap (λ ls. lines_do ls now) (sym here) ∙ inv.0)))
+    rw c.fault_of.ensures.told (judged-stopped _ does
+    (stopped _ before c.read_line.new.self c.in-Some.line.now (drop (n + 1) lines)
+    c.in-Err.stop does c.in-Err.ensures (ap (λ ls. lines_do ls now) (sym here) ∙ inv.0))))
 
 pub returns-clause-read : goal.returns-clause-read
 returns-clause-read c = λ none. if-some (text_does c.args.text.now (scene_record c.args.self.scene)) _
@@ -64,4 +66,5 @@ returns-clause-read c = λ none. if-some (text_does c.args.text.now (scene_recor
     let last : length lines ≤ n = omega arith in
     let now = scene_record c.loop-line.self.scene in
     let done = ap (λ ls. lines_do ls now) (sym (drop_all n lines last)) ∙ (c.loop-line.invariant does h).0 in
-    same-does (Ok now) does done)
+    judged-all now does c.judged.result (same-does (Ok now) does done)
+    (c.judged.ensures.judged ((c.loop-line.invariant does h).1 ∙ none)))
