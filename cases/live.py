@@ -38,7 +38,7 @@ RUBBISH = [ASKED[:-1], ASKED + b"\0", b"", ASKED[:1] + b"\x40" + ASKED[2:], byte
 # What a word is answered by that is no command.
 REFUSED_WORD = (
     "refused: UnknownWord, "
-    "wanted link, mem, state, error, lose, late, double, damage, unplug, areas, line, counts or quit"
+    "wanted link, mem, state, error, power, lose, late, double, damage, unplug, areas, line, counts or quit"
 )
 
 # A capture's header, and the record of a packet of 14 bytes.
@@ -1935,20 +1935,20 @@ SCENES = os.path.join(os.path.dirname(os.path.abspath(__file__)), "..", "scenes"
 # before its works were lent from cycle to cycle, and of space what the program has grown by since. The system
 # moves the top of a stack by up to 8 KB by chance.
 ROOMS = [
-    ("check check/accepted.scene", 104, 5600),
-    ("cover cover/left_out.scene", 104, 5600),
-    ("lint check/accepted.scene", 104, 5600),
-    ("where where/one_link_down.scene", 104, 5600),
-    ("run first.scene", 192, 5600),
-    ("run first.scene --judge", 192, 5600),
-    ("sweep sweep/two_slaves.scene", 320, 5600),
-    ("sdo sdo/lost_answer.scene 0x1001 0x1018 1 --surely", 104, 5600),
-    ("show startup.pcap", 104, 5600),
-    ("list startup.pcap --stats", 104, 5600),
-    ("learn startup.pcap", 104, 5600),
-    ("judge startup.pcap", 104, 5600),
-    ("replay startup.pcap serve/line.scene", 104, 5600),
-    ("vectors", 512, 5600),
+    ("check check/accepted.scene", 104, 5680),
+    ("cover cover/left_out.scene", 104, 5680),
+    ("lint check/accepted.scene", 104, 5680),
+    ("where where/one_link_down.scene", 104, 5680),
+    ("run first.scene", 192, 5680),
+    ("run first.scene --judge", 192, 5680),
+    ("sweep sweep/two_slaves.scene", 320, 5680),
+    ("sdo sdo/lost_answer.scene 0x1001 0x1018 1 --surely", 104, 5680),
+    ("show startup.pcap", 104, 5680),
+    ("list startup.pcap --stats", 104, 5680),
+    ("learn startup.pcap", 104, 5680),
+    ("judge startup.pcap", 104, 5680),
+    ("replay startup.pcap serve/line.scene", 104, 5680),
+    ("vectors", 512, 5680),
 ]
 
 

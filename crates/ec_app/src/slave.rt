@@ -4,7 +4,7 @@ ghost use Rattle.std.specs.Prelude.{◌≡◌, true, false, IfOk, None};
 ghost use Rattle.std.specs.Borrow.{sem};
 ghost use Rattle.ec_app.specs.AlStep.{with_state};
 ghost use Rattle.ec_app.specs.Lending.{LendsController};
-ghost use Rattle.ec_app.specs.Slave.{step};
+ghost use Rattle.ec_app.specs.Slave.{restarted, step};
 ghost use Rattle.ec_esc.specs.Application.{al_status, al_status_code};
 ghost use Rattle.ec_esc.specs.State.{IsFresh};
 
@@ -139,6 +139,15 @@ impl Slave {
             error: false,
         };
         self.controller.set_al(status, 0);
+    }
+
+    /// Has the slave begin anew with this controller, as one whose power came back: it has taken no mail (IEC
+    /// 61158-6-12, AL management); its objects and lengths stay.
+    pub fn restart(&mut self, controller: Controller)
+        ensures { self.new ≡ restarted controller self.old }
+    {
+        self.controller = controller;
+        self.kept = None;
     }
 
     /// Answers at most one request for a state, then at most one mail; it never fails and takes no memory.

@@ -1,18 +1,19 @@
 -- What is left of a line once its applications have acted and its EEPROMs have answered.
-use Rattle.std.proofs.Common.{◌≡◌, ◌≢◌, ℕ, ◌<◌, length, Some, get_or, ◌∙◌}
+use Rattle.std.proofs.Common.{◌≡◌, ◌≢◌, ℕ, ◌<◌, length, Some, get_or, ◌∙◌, arith}
 use Rattle.std.proofs.lemmas.Option.{slice_get-get_or, slice_get_within}
 use Rattle.std.specs.List.{All}
 use Rattle.std.specs.Prelude.{slice_get}
 use Rattle.ec_app.specs.State.{SlaveState}
 use Rattle.ec_ring.specs.Ring.{RingState}
 use Rattle.ec_applications.specs.Behind.{line_acted, line_behind}
-use Rattle.ec_applications.specs.Left.{HasMemory, KeepsAllElse, KeepsAllButSii}
+use Rattle.ec_applications.specs.Left.{HasMemory, KeepsAllElse, KeepsAllButAnswers}
 use Rattle.ec_applications.specs.State.{ApplicationsState, once_more}
 use Rattle.ec_applications.specs.declared.application.Application.{Application}
 use Rattle.ec_applications.specs.declared.eeproms.PlacedEeprom.{PlacedEeprom}
 use Rattle.ec_applications.proofs.EepromLemmas.{LeavesAllElse, all_leave, process_beside, served_length}
 use Rattle.ec_applications.proofs.EepromLemmas.{served_links, served_others}
 use Rattle.ec_applications.proofs.LeftLemmas.{acted-size, acted-links, acted-beside, acted-stays}
+use Rattle.ec_applications.proofs.RepeatLemmas.{device_same, repeats_by, repeats_process}
 
 pub behind-links : (s : ApplicationsState) (r : RingState) → (line_behind s r).links ≡ r.links
 behind-links s r = served_links s.eeproms (line_acted s r) ∙ acted-links (once_more s).acted s.all r
@@ -29,7 +30,7 @@ behind-beside s r k idle none =
 
 pub behind-stays : (s : ApplicationsState) (r : RingState) (k : ℕ) (before after : SlaveState)
     → slice_get r.slaves k ≡ Some before → slice_get (line_behind s r).slaves k ≡ Some after
-    → HasMemory before → KeepsAllButSii before after
+    → HasMemory before → KeepsAllButAnswers before after
 behind-stays s r k before after there later size =
     let next : RingState = line_acted s r in
     let inside : k < length next.slaves =
@@ -45,7 +46,13 @@ behind-stays s r k before after there later size =
       shown = second.shown ∙ first.shown;
       written = second.written ∙ first.written;
       size = second.size ∙ first.size;
-      registers = λ address below beside. second.bytes address beside ∙ first.registers address below;
+      registers = λ address below beside other.
+          second.bytes address beside
+          (repeats_by before.controller.memory mid.controller.memory address
+          (device_same before.controller.memory mid.controller.memory (first.registers 0 (omega arith))) other)
+          ∙ first.registers address below;
       outputs = λ address process free.
-          second.bytes address (process_beside address process) ∙ first.outputs address process free;
+          second.bytes address (process_beside address process)
+          (repeats_process mid.controller.memory address process)
+          ∙ first.outputs address process free;
     }

@@ -10,7 +10,7 @@ use Rattle.std.specs.List.{All}
 use Rattle.std.specs.Prelude.{slice_get, slice_set, slice_index}
 use Rattle.ec_app.specs.State.{SlaveState}
 use Rattle.ec_areas.specs.Ranges.{is_in_sii}
-use Rattle.ec_esc.specs.State.{IsController}
+use Rattle.ec_esc.specs.State.{ControllerState, IsController}
 use Rattle.ec_line.specs.Moving.{HasMoved}
 use Rattle.ec_line.proofs.Laws.{moved-refl, moved-trans}
 use Rattle.ec_regs.specs.Bits.{AreBytes}
@@ -18,11 +18,15 @@ use Rattle.ec_regs.specs.declared.registers.TheConstants.{PROCESS_MEMORY}
 use Rattle.ec_ring.specs.Ring.{RingState}
 use Rattle.ec_sii.proofs.Laws.{served_moved, served_controller, served_shown, served_written, served_size}
 use Rattle.ec_sii.proofs.Laws.{served_beside}
+use Rattle.ec_sii.specs.Served.{served as answered}
 use Rattle.ec_applications.specs.Eeproms.{one_served, place_served, slave_served, all_served, all_kept}
 use Rattle.ec_applications.specs.Eeproms.{placed_after}
 use Rattle.ec_applications.specs.Left.{HasMemory}
+use Rattle.ec_applications.specs.Repeats.{is_of_repeats, repeated}
 use Rattle.ec_applications.specs.declared.eeproms.PlacedEeprom.{PlacedEeprom}
 use Rattle.ec_applications.proofs.LeftLemmas.{get-same, get-other}
+use Rattle.ec_applications.proofs.RepeatLemmas.{device_same, repeats_by, repeated_beside, repeated_controller}
+use Rattle.ec_applications.proofs.RepeatLemmas.{repeated_moved, repeated_shown, repeated_size, repeated_written}
 
 -- ---- one slave
 
@@ -71,14 +75,19 @@ pub one_moved : (place : ℕ) (contents : List ℕ) (r : RingState) (k : ℕ) (b
     → HasMoved before.controller after.controller
 one_moved place contents r k before after there later is are =
     by_one (λ (s t : SlaveState). HasMoved s.controller t.controller) place contents r k before after there
-    later (moved-refl before.controller) (served_moved contents before.controller is are)
+    later (moved-refl before.controller)
+    (moved-trans before.controller (answered contents before.controller)
+    (repeated (answered contents before.controller)) (served_moved contents before.controller is are)
+    (repeated_moved (answered contents before.controller)
+    (served_controller contents before.controller is are)))
 
 one_controller : (place : ℕ) (contents : List ℕ) (r : RingState) (k : ℕ) (before after : SlaveState)
     → slice_get r.slaves k ≡ Some before → slice_get (one_served place contents r).slaves k ≡ Some after
     → IsController before.controller → AreBytes contents → IsController after.controller
 one_controller place contents r k before after there later is are =
     by_one (λ (s t : SlaveState). IsController t.controller) place contents r k before after there later is
-    (served_controller contents before.controller is are)
+    (repeated_controller (answered contents before.controller)
+    (served_controller contents before.controller is are))
 
 -- what of a slave stays
 pub record LeavesAllElse (s t : SlaveState) : Type 0 where
@@ -86,7 +95,7 @@ pub record LeavesAllElse (s t : SlaveState) : Type 0 where
   pub shown : t.controller.shown ≡ s.controller.shown
   pub written : t.controller.written ≡ s.controller.written
   pub size : length t.controller.memory ≡ length s.controller.memory
-  pub bytes : (a : ℕ) → is_in_sii a ≡ false
+  pub bytes : (a : ℕ) → is_in_sii a ≡ false → is_of_repeats s.controller.memory a ≡ false
       → slice_index t.controller.memory a ≡ slice_index s.controller.memory a
 
 same : (s : SlaveState) → LeavesAllElse s s
@@ -95,7 +104,7 @@ same s = record {
   shown = refl;
   written = refl;
   size = refl;
-  bytes = λ a beside. refl;
+  bytes = λ a beside other. refl;
 }
 
 both : (s t u : SlaveState) → LeavesAllElse s t → LeavesAllElse t u → LeavesAllElse s u
@@ -104,17 +113,28 @@ both s t u first second = record {
   shown = second.shown ∙ first.shown;
   written = second.written ∙ first.written;
   size = second.size ∙ first.size;
-  bytes = λ a beside. second.bytes a beside ∙ first.bytes a beside;
+  bytes = λ a beside other.
+      second.bytes a beside
+      (repeats_by s.controller.memory t.controller.memory a
+      (device_same s.controller.memory t.controller.memory (first.bytes 0 refl refl)) other)
+      ∙ first.bytes a beside other;
 }
 
 served : (contents : List ℕ) (s : SlaveState) → HasMemory s → LeavesAllElse s (slave_served contents s)
-served contents s size = record {
-  application = refl;
-  shown = served_shown contents s.controller;
-  written = served_written contents s.controller;
-  size = served_size contents s.controller size ∙ sym size;
-  bytes = λ a beside. served_beside contents s.controller a size beside;
-}
+served contents s size =
+    let c : ControllerState = s.controller in
+    let d : ControllerState = answered contents c in
+    record {
+      application = refl;
+      shown = repeated_shown d ∙ served_shown contents c;
+      written = repeated_written d ∙ served_written contents c;
+      size = repeated_size d ∙ served_size contents c size ∙ sym size;
+      bytes = λ a beside other.
+          repeated_beside d a
+          (repeats_by c.memory d.memory a
+          (device_same c.memory d.memory (served_beside contents c 0 size refl)) other)
+          ∙ served_beside contents c a size beside;
+    }
 
 one_leaves : (place : ℕ) (contents : List ℕ) (r : RingState) (k : ℕ) (before after : SlaveState)
     → slice_get r.slaves k ≡ Some before → slice_get (one_served place contents r).slaves k ≡ Some after

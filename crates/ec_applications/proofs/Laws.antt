@@ -1,7 +1,8 @@
 -- The laws that crates above cite: on lines that are told of their links.
 use Rattle.std.proofs.Common.{◌≡◌, ℕ, Bool}
+use Rattle.ec_esc.specs.State.{ControllerState, IsController}
 use Rattle.ec_ring.specs.Ring.{RingState}
-use Rattle.ec_applications.specs.Links.{first_told}
+use Rattle.ec_applications.specs.Links.{controller_told, first_told}
 use Rattle.ec_applications.proofs.LinkLemmas as links
 
 -- the links stay
@@ -12,3 +13,8 @@ told_links = links.told_links
 pub told_same : (f g : ℕ → Bool) → ((k : ℕ) → f k ≡ g k) → (n : ℕ) (r : RingState)
     → first_told f n r ≡ first_told g n r
 told_same = links.told_same
+
+-- a controller that is told of its links stays one
+pub told_controller : (status : ℕ) (c : ControllerState) → IsController c
+    → IsController (controller_told status c)
+told_controller = links.told_controller

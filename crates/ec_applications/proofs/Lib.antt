@@ -2,6 +2,7 @@ pub mod ShownLemmas
 pub mod AreaLemmas
 pub mod LeftLemmas
 pub mod StepLemmas
+pub mod RepeatLemmas
 pub mod EepromLemmas
 pub mod BehindLemmas
 pub mod LinkLemmas

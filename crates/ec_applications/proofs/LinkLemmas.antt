@@ -1,22 +1,25 @@
 -- What a line keeps that is told of its links, and what each of its slaves is told.
 use Rattle.std.proofs.Common.{◌≡◌, ◌≢◌, ⊎_elim, refl, ℕ, zero, suc, ◌<◌, ◌≤◌, Bool, true, false, length, Option, Some}
-use Rattle.std.proofs.Common.{None, inl, inr, ◌∙◌, ap, subst, sym, arith, cond, get_or}
+use Rattle.std.proofs.Common.{None, inl, inr, ◌∙◌, ap, subst, sym, arith, cond, get_or, List, [], ◌∷◌}
 use Rattle.std.proofs.lemmas.Bool.{cases_Bool}
 use Rattle.std.proofs.lemmas.Bool.Decides.{eqb_tells}
 use Rattle.std.proofs.lemmas.List.{length-set}
 use Rattle.std.proofs.lemmas.Option.{slice_get_within}
 use Rattle.std.specs.Int.{w16, to_le_bytes}
-use Rattle.std.specs.Prelude.{slice_get}
+use Rattle.std.specs.Prelude.{slice_get, not, ◌&&◌}
 use Rattle.ec_app.specs.State.{SlaveState}
 use Rattle.ec_areas.specs.Ranges.{has_sii}
 use Rattle.ec_check.proofs.Laws.{moved_told}
-use Rattle.ec_esc.specs.Application.{with_registers}
-use Rattle.ec_esc.specs.State.{ControllerState, IsController}
+use Rattle.ec_esc.specs.Application.{lost_links, with_registers}
+use Rattle.ec_esc.specs.State.{ControllerState, IsController, word_at}
+use Rattle.ec_esc.proofs.Laws.{registers_controller}
 use Rattle.ec_line.specs.Moving.{HasMoved}
-use Rattle.ec_line.proofs.Laws.{moved-refl}
-use Rattle.ec_regs.specs.declared.registers.TheConstants.{DL_STATUS}
+use Rattle.ec_line.proofs.Laws.{moved-refl, moved-trans}
+use Rattle.ec_regs.specs.Bits.{AreBytes}
+use Rattle.ec_regs.specs.declared.registers.TheConstants.{DL_STATUS, LOST_LINK}
 use Rattle.ec_ring.specs.Ring.{RingState}
 use Rattle.ec_applications.specs.Links.{all_told, controller_told, dl_status, first_told, place_told, slave_told}
+use Rattle.ec_applications.specs.Links.{counted, has_link, is_lost, lost_after, with_links}
 use Rattle.ec_applications.proofs.LeftLemmas.{get-same, get-other}
 
 -- what the slave at a place is told
@@ -106,22 +109,89 @@ pub all_own : (is_up : ℕ → Bool) (r : RingState) (k : ℕ) (before : SlaveSt
 all_own is_up r k before there =
     told_own is_up (length r.slaves) r k before there (slice_get_within r.slaves k before there)
 
--- what is told is a move
+-- ---- lost links
+
+-- DL status tells of the links
+link_before : (before behind : Bool) → has_link (dl_status before behind) 0 ≡ before
+link_before true true = refl
+link_before true false = refl
+link_before false true = refl
+link_before false false = refl
+
+link_behind : (before behind : Bool) → has_link (dl_status before behind) 1 ≡ behind
+link_behind true true = refl
+link_behind true false = refl
+link_behind false true = refl
+link_behind false false = refl
+
+-- so a link is lost that was there and is there no more
+pub lost_before : (before behind later_before later_behind : Bool)
+    → is_lost (dl_status before behind) (dl_status later_before later_behind) 0 ≡ (before && not later_before)
+lost_before before behind later_before later_behind = λ i.
+    link_before before behind i && not (link_before later_before later_behind i)
+
+pub lost_behind : (before behind later_before later_behind : Bool)
+    → is_lost (dl_status before behind) (dl_status later_before later_behind) 1 ≡ (behind && not later_behind)
+lost_behind before behind later_before later_behind = λ i.
+    link_behind before behind i && not (link_behind later_before later_behind i)
+
+-- ---- what is told is a move
+
 two_small : (status k : ℕ) → get_or (to_le_bytes w16 status) k 0 < 256
 two_small status zero = omega arith
 two_small status (suc zero) = omega arith
 two_small status (suc (suc k)) = omega arith
 
+-- a counter is a byte
+counted_small : (lost : Bool) (count : ℕ) → count < 256 → counted lost count < 256
+counted_small true count small = omega arith
+counted_small false count small = small
+
+both_small : (a b k : ℕ) → a < 256 → b < 256 → get_or (a ∷ b ∷ []) k 0 < 256
+both_small a b zero first second = first
+both_small a b (suc zero) first second = second
+both_small a b (suc (suc k)) first second = omega arith
+
+lost_small : (c : ControllerState) (before now : ℕ) → IsController c
+    → AreBytes (lost_after before now (lost_links c))
+lost_small c before now is = λ k.
+    both_small (counted (is_lost before now 0) (get_or c.memory 784 0))
+    (counted (is_lost before now 1) (get_or c.memory 785 0)) k
+    (counted_small (is_lost before now 0) (get_or c.memory 784 0) (is.memory 784))
+    (counted_small (is_lost before now 1) (get_or c.memory 785 0) (is.memory 785))
+
+-- a controller with new links stays one, and has moved
+links_told : (status : ℕ) (c : ControllerState) → IsController c
+    → IsController (with_links c status) × HasMoved c (with_links c status)
+links_told status c is =
+    let bytes : List ℕ = to_le_bytes w16 status in
+    let lost : List ℕ = lost_after (word_at c.memory DL_STATUS) status (lost_links c) in
+    let small : AreBytes lost = lost_small c (word_at c.memory DL_STATUS) status is in
+    let mid : ControllerState = with_registers c DL_STATUS bytes in
+    let mid_is : IsController mid = registers_controller c DL_STATUS bytes is (two_small status) refl in (
+      registers_controller mid LOST_LINK lost mid_is small refl,
+      moved-trans c mid (with_registers mid LOST_LINK lost)
+          (moved_told c DL_STATUS bytes is (two_small status) refl)
+          (moved_told mid LOST_LINK lost mid_is small refl),
+    )
+
+-- and so does one that tells of itself or not
+by_told : (P : ControllerState → Type 0) (status : ℕ) (c : ControllerState) → P c → P (with_links c status)
+    → P (controller_told status c)
+by_told P status c same told =
+    let choice : Bool → ControllerState = λ b. cond b (with_links c status) c in
+    ⊎_elim
+    (λ (yes : has_sii c.memory ≡ true). subst (λ (b : Bool). P (choice b)) (sym yes) told)
+    (λ (no : has_sii c.memory ≡ false). subst (λ (b : Bool). P (choice b)) (sym no) same)
+    (cases_Bool (has_sii c.memory))
+
+pub told_controller : (status : ℕ) (c : ControllerState) → IsController c
+    → IsController (controller_told status c)
+told_controller status c is = by_told IsController status c is (links_told status c is).0
+
 controller_moved : (status : ℕ) (c : ControllerState) → IsController c → HasMoved c (controller_told status c)
 controller_moved status c is =
-    let tells : Bool = has_sii c.memory in
-    let told : ControllerState = with_registers c DL_STATUS (to_le_bytes w16 status) in
-    let choice : Bool → ControllerState = λ b. cond b told c in
-    ⊎_elim
-    (λ (yes : tells ≡ true). subst (λ (b : Bool). HasMoved c (choice b)) (sym yes)
-    (moved_told c DL_STATUS (to_le_bytes w16 status) is (two_small status) refl))
-    (λ (no : tells ≡ false). subst (λ (b : Bool). HasMoved c (choice b)) (sym no) (moved-refl c))
-    (cases_Bool tells)
+    by_told (λ (d : ControllerState). HasMoved c d) status c (moved-refl c) (links_told status c is).1
 
 pub told_moved : (is_up : ℕ → Bool) (r : RingState) (k : ℕ) (before after : SlaveState)
     → slice_get r.slaves k ≡ Some before → slice_get (all_told is_up r).slaves k ≡ Some after

@@ -1,6 +1,6 @@
 -- A step of a slave is a move that its application may make between two passages: it leaves the mapping, what
 -- the application is shown, and each byte of process memory that no area of inputs or mailbox guards.
-use Rattle.std.proofs.Common.{◌≡◌, ℕ, ◌≤◌, false, length, get_or, ◌∙◌, refl, arith}
+use Rattle.std.proofs.Common.{◌≡◌, ℕ, ◌≤◌, false, length, get_or, ◌∙◌, arith}
 use Rattle.ec_regs.specs.declared.registers.TheConstants.{MEMORY_SIZE, PROCESS_MEMORY}
 use Rattle.ec_areas.specs.Areas.{is_locked}
 use Rattle.ec_areas.specs.Records.{sync_managers_of}

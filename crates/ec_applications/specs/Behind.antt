@@ -1,5 +1,5 @@
 -- What is left behind a step of a line's slaves: each application has acted, and then each EEPROM has
--- answered.
+-- answered, behind which its slave gives the last mail once more, where it is asked to.
 use Rattle.ec_ring.specs.Ring.{RingState}
 use Rattle.ec_applications.specs.Acting.{acted}
 use Rattle.ec_applications.specs.Eeproms.{all_served, all_kept}

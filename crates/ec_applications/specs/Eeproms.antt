@@ -1,14 +1,16 @@
 -- What the EEPROM of a slave leaves of a line: the registers of the slave information interface of that slave
--- alone (ETG.1000.4, slave information interface).
+-- (ETG.1000.4, slave information interface); behind it the slave gives the last mail once more, where it is
+-- asked to.
 use Rattle.std.specs.Prelude.{ℕ, List, [], ◌∷◌, Option, None, Some, slice_get}
 use Rattle.ec_app.specs.Lending.{with_controller}
 use Rattle.ec_app.specs.State.{SlaveState}
 use Rattle.ec_ring.specs.Ring.{RingState, with_slave}
 use Rattle.ec_sii.specs.Served.{served, contents_served}
+use Rattle.ec_applications.specs.Repeats.{repeated}
 use Rattle.ec_applications.specs.declared.eeproms.PlacedEeprom.{PlacedEeprom}
 
 abbrev pub slave_served : List ℕ → SlaveState → SlaveState
-slave_served contents s = with_controller s (served contents s.controller)
+slave_served contents s = with_controller s (repeated (served contents s.controller))
 
 -- the line, if it has the slave at the place
 abbrev pub place_served : ℕ → List ℕ → RingState → Option SlaveState → RingState

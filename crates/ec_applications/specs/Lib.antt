@@ -1,5 +1,6 @@
 pub mod State
 pub mod Acting
+pub mod Repeats
 pub mod Eeproms
 pub mod Links
 pub mod Left

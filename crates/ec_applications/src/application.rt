@@ -106,9 +106,10 @@ impl Applications {
         self.eeproms = Some(eeproms);
     }
 
-    /// Lets each application act once on the slaves of a line, and then each EEPROM answer, as they do behind
-    /// each step of the slaves (`Ring::step_all`); all else of the line stays. What is refused, as inputs of
-    /// another length than their area, changes nothing. It takes no memory.
+    /// Lets each application act once on the slaves of a line, and then each EEPROM answer and its slave give
+    /// the last mail once more where the master asks for it, as they do behind each step of the slaves
+    /// (`Ring::step_all`); all else of the line stays. What is refused, as inputs of another length than
+    /// their area, changes nothing. It takes no memory.
     pub fn act(&mut self, ring: &mut Ring)
         ensures own { self.new ≡ applications_behind self.old ring.old }
         ensures ring { ring.new ≡ line_behind self.old ring.old }
@@ -128,7 +129,7 @@ impl Applications {
         }
     }
 
-    /// Lets each EEPROM answer.
+    /// Lets each EEPROM answer, and its slave give the last mail once more.
     fn serve(&mut self, ring: &mut Ring)
         ensures own { self.new ≡ record self.old { eeproms = all_kept self.old.eeproms ring.old } }
         ensures ring { ring.new ≡ all_served self.old.eeproms ring.old }

@@ -1,11 +1,13 @@
 //! The EEPROMs of a line's slaves, which answer behind each packet (ETG.1000.4, slave information
-//! interface).
+//! interface), each before its slave gives the last mail once more.
 
 ghost use Rattle.std.specs.Prelude.{◌≡◌, ◌<◌, length, slice_get};
 ghost use Rattle.ec_applications.specs.Eeproms.{one_served, contents_kept, slave_served, placed_after};
 ghost use Rattle.ec_applications.specs.Eeproms.{all_served, all_kept};
+ghost use Rattle.ec_applications.specs.Repeats.{repeated};
 ghost use Rattle.ec_sii.specs.Served.{served, contents_served};
 
+use crate::repeats::repeat_if_asked;
 use ec_app::Slave;
 use ec_esc::Controller;
 use ec_ring::Ring;
@@ -21,8 +23,9 @@ pub struct PlacedEeprom {
 }
 
 impl PlacedEeprom {
-    /// Answers what the master asked for through the slave's controller, if the line has the slave and its
-    /// controller the interface; all else of the line stays.
+    /// Answers what the master asked for through the slave's controller, and gives the last mail once more
+    /// where that is asked for (IEC 61158-4-12, sync manager, repeat request), if the line has the slave and
+    /// its controller the interface; all else of the line stays.
     pub fn serve(&mut self, ring: &mut Ring)
         ensures ring { ring.new ≡ one_served self.old.place self.old.eeprom ring.old }
         ensures own { self.new ≡ placed_after self.old ring.old }
@@ -32,7 +35,7 @@ impl PlacedEeprom {
     }
 }
 
-/// Lets each EEPROM answer, one after the other.
+/// Lets each EEPROM answer, and its slave give the last mail once more, one after the other.
 pub fn serve_each(all: &mut [PlacedEeprom], ring: &mut Ring)
     ensures ring { ring.new ≡ all_served all.old ring.old }
     ensures own { all.new ≡ all_kept all.old ring.old }
@@ -60,10 +63,12 @@ fn serve_slave(slave: &mut Slave, eeprom: &mut Eeprom)
     serve_controller(slave.controller_mut(), eeprom);
 }
 
-/// Serves its controller.
+/// Serves its controller: the EEPROM answers, and then the last mail is given once more where it is asked
+/// for.
 fn serve_controller(controller: &mut Controller, eeprom: &mut Eeprom)
-    ensures controller { controller.new ≡ served eeprom.old controller.old }
+    ensures controller { controller.new ≡ repeated (served eeprom.old controller.old) }
     ensures own { eeprom.new ≡ contents_served eeprom.old controller.old }
 {
     eeprom.serve(controller);
+    repeat_if_asked(controller);
 }

@@ -24,17 +24,22 @@
 //! - `Applications::act` leaves of a ring what `specs/Behind` says (`ring`), and has acted once more (`own`).
 //!   Inputs that are refused, since an area is not active, is of the other kind or has another length, change
 //!   nothing. Behind the applications the EEPROMs that were given to slaves (`set_eeproms`) answer what
-//!   masters asked of them. It takes no memory.
-//! - `tell_links` tells a slave, in DL status, at which of its two ports there is a link.
+//!   masters asked of them, and each such slave gives its master the last mail once more, where the master
+//!   asks for it (`specs/Repeats`). It takes no memory.
+//! - `tell_links` tells a slave, in DL status, at which of its two ports there is a link. Where there was one
+//!   and is none now, the counter of lost links of that port has one more, up to 255 (`specs/Links`).
 //! - [`promises`] says what stays: links, stations, states and mappings, what applications are shown, and
 //!   slaves without an application (`acting_leaves`, `behind_leaves`); that all of it moves as an application
-//!   may (`moves_between_passages`, `serving_moves_slaves`); and that nobody changes nothing (`idle_acts`).
+//!   may (`moves_between_passages`, `serving_moves_slaves`, `telling_moves_slaves`); that nobody changes
+//!   nothing (`idle_acts`); which links get lost (`links_get_lost`); and that a mail comes once more one time
+//!   for each time that it is asked for (`repeats_once`).
 
 pub mod act;
 pub mod application;
 pub mod eeproms;
 pub mod links;
 pub mod promises;
+pub mod repeats;
 
 pub use application::{Application, Applications, Behaviour};
 pub use eeproms::PlacedEeprom;

@@ -293,7 +293,7 @@ takes_sii memory a inside =
     rw (station, control, past_station, past_control, fmmus, process) refl in
     let field : is_in_sync_manager a ≡ false = rw managers refl in
     let one : is_of_device a ≡ true =
-    list_any_at (λ (r : AddressRange). within r.first r.count a) device_ranges 5
+    list_any_at (λ (r : AddressRange). within r.first r.count a) device_ranges 6
     (record { first = 0; count = 0 }) (omega arith) inside in
     ap (λ (b : Bool). b || (is_of_device a && has_sii memory)
     || (is_in_sync_manager a && is_writable_field memory a)) always

@@ -14,6 +14,7 @@ use Rattle.ec_regs.specs.declared.registers.TheConstants.{SYNC_MANAGER_COUNT, SY
 use Rattle.ec_regs.specs.declared.registers.TheConstants.{SYNC_MANAGER_ACTIVATE, PROCESS_MEMORY}
 use Rattle.ec_regs.specs.declared.registers.TheConstants.{PROCESS_MEMORY_SIZE, MEMORY_SIZE}
 use Rattle.ec_regs.specs.declared.registers.TheConstants.{CONTROLLER_TYPE, DL_CONTROL, EVENT_MASK}
+use Rattle.ec_regs.specs.declared.registers.TheConstants.{ERROR_COUNTERS, ERROR_COUNTERS_SIZE}
 use Rattle.ec_regs.specs.declared.registers.TheConstants.{WATCHDOG_DIVIDER, PDI_WATCHDOG}
 use Rattle.ec_regs.specs.declared.registers.TheConstants.{PROCESS_DATA_WATCHDOG, SII_BASE, SII_SIZE}
 use Rattle.ec_regs.specs.SyncMan.{is_active, is_mailbox, is_full, master_reads, master_writes, is_buffered}
@@ -113,11 +114,13 @@ abbrev pub is_in_sii : ℕ → Bool
 is_in_sii address = within SII_BASE SII_SIZE address
 
 -- what the master may write beside of a controller that has one: DL control, the mask of its events, the
--- divider and both times of its watchdogs, and the registers of that interface
+-- counters of errors at its ports, the divider and both times of its watchdogs, and the registers of that
+-- interface
 abbrev pub device_ranges : List AddressRange
 device_ranges =
     record { first = DL_CONTROL; count = 4 }
     ∷ record { first = EVENT_MASK; count = 2 }
+    ∷ record { first = ERROR_COUNTERS; count = ERROR_COUNTERS_SIZE }
     ∷ record { first = WATCHDOG_DIVIDER; count = 2 }
     ∷ record { first = PDI_WATCHDOG; count = 2 }
     ∷ record { first = PROCESS_DATA_WATCHDOG; count = 2 }

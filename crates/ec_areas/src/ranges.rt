@@ -18,10 +18,11 @@ ghost use Rattle.ec_areas.specs.Ranges.{is_writable_field, takes_writes, some_ad
 ghost use Rattle.ec_areas.specs.Ranges.{has_sii, is_of_device, IsOnArrival};
 
 use ec_regs::registers::{
-    AL_CONTROL, CONTROLLER_TYPE, DL_CONTROL, EVENT_MASK, FMMU_BASE, FMMU_COUNT, FMMU_SIZE,
-    MEMORY_SIZE, PDI_WATCHDOG, PROCESS_DATA_WATCHDOG, PROCESS_MEMORY, PROCESS_MEMORY_SIZE,
-    SII_BASE, SII_SIZE, STATION_ADDRESS, SYNC_MANAGER_ACTIVATE, SYNC_MANAGER_BASE,
-    SYNC_MANAGER_COUNT, SYNC_MANAGER_SIZE, SYNC_MANAGER_STATUS, WATCHDOG_DIVIDER,
+    AL_CONTROL, CONTROLLER_TYPE, DL_CONTROL, ERROR_COUNTERS, ERROR_COUNTERS_SIZE, EVENT_MASK,
+    FMMU_BASE, FMMU_COUNT, FMMU_SIZE, MEMORY_SIZE, PDI_WATCHDOG, PROCESS_DATA_WATCHDOG,
+    PROCESS_MEMORY, PROCESS_MEMORY_SIZE, SII_BASE, SII_SIZE, STATION_ADDRESS,
+    SYNC_MANAGER_ACTIVATE, SYNC_MANAGER_BASE, SYNC_MANAGER_COUNT, SYNC_MANAGER_SIZE,
+    SYNC_MANAGER_STATUS, WATCHDOG_DIVIDER,
 };
 use ec_regs::{AddressRange, PlannedSyncMan, SyncManagers};
 
@@ -55,8 +56,9 @@ const WRITABLE: [AddressRange; 4] = [
 ];
 
 /// What the master may write beside of a controller that has a slave information interface: DL control, the
-/// mask of its events, the divider and both times of its watchdogs, and the registers of that interface.
-const OF_DEVICE: [AddressRange; 6] = [
+/// mask of its events, the counters of errors at its ports, the divider and both times of its watchdogs, and
+/// the registers of that interface.
+const OF_DEVICE: [AddressRange; 7] = [
     AddressRange {
         first: DL_CONTROL,
         count: 2 * WORD,
@@ -64,6 +66,10 @@ const OF_DEVICE: [AddressRange; 6] = [
     AddressRange {
         first: EVENT_MASK,
         count: WORD,
+    },
+    AddressRange {
+        first: ERROR_COUNTERS,
+        count: ERROR_COUNTERS_SIZE,
     },
     AddressRange {
         first: WATCHDOG_DIVIDER,

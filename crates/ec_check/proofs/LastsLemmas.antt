@@ -1,16 +1,23 @@
 -- The mapping of a controller hangs on few registers, and none of them is one that its application writes.
-use Rattle.std.proofs.Common.{◌≡◌, ◌≢◌, ◌⊎◌, ⊎_elim, true, inl, inr, ℕ, ◌+◌, ◌*◌, ◌<◌, ◌≤◌, List, [], ◌∷◌}
-use Rattle.std.proofs.Common.{length, get_or, take, drop}
+use Rattle.std.proofs.Common.{◌≡◌, ◌≢◌, ◌⊎◌, ⊎_elim, true, false, inl, inr, ℕ, ◌+◌, ◌*◌, ◌<◌, ◌≤◌, List, [], ◌∷◌}
+use Rattle.std.proofs.Common.{length, get_or, take, drop, Some, Bool, cond}
 use Rattle.std.proofs.Common.{sym, ◌∙◌, ap, arith, None, refl}
 use Rattle.std.specs.Int.{w16, from_le_bytes}
-use Rattle.std.proofs.lemmas.List.{ext_get_or, length-take-le, length-drop}
+use Rattle.std.proofs.lemmas.List.{ext_get_or, length-take-le, length-drop, get_or-set_other}
 use Rattle.ec_regs.specs.Fmmu.{fmmu_of}
 use Rattle.ec_regs.specs.declared.al.AlStatus.{AlStatus}
 use Rattle.ec_regs.specs.declared.registers.TheConstants.{MEMORY_SIZE, PROCESS_MEMORY}
 use Rattle.ec_regs.proofs.Laws.{get_or-run}
 use Rattle.ec_areas.specs.Records.{fmmu_at, fmmus_of, sync_manager_at, sync_managers_of}
 use Rattle.ec_esc.specs.Application.{put_inputs_fault, with_al, with_inputs, are_told, with_registers}
-use Rattle.ec_esc.proofs.Laws.{told_place, registers_controller}
+use Rattle.ec_esc.specs.Application.{holds_mail, with_mail_again, with_mail_repeated, with_repeat_told}
+use Rattle.ec_esc.specs.Writing.{with_filled}
+use Rattle.ec_esc.proofs.Laws.{told_place, registers_controller, repeated_controller}
+use Rattle.ec_esc.proofs.Laws.{repeat_told_controller}
+use Rattle.ec_regs.specs.SyncMan.{repeat_asked}
+use Rattle.ec_regs.specs.declared.sync_man.SyncMan.{SyncMan}
+use Rattle.std.specs.Prelude.{slice_set, bit_or}
+use Rattle.std.proofs.lemmas.Bool.{cases_Bool}
 use Rattle.ec_line.specs.Moving.{HasMoved}
 use Rattle.ec_line.proofs.Laws.{moved_by_mapping}
 use Rattle.ec_regs.specs.Bits.{AreBytes}
@@ -28,13 +35,14 @@ use Rattle.ec_app.proofs.Laws.{step_leaves, al_left}
 abbrev Same : List ℕ → List ℕ → ℕ → Type 0
 Same before after a = get_or after a 0 ≡ get_or before a 0
 
--- both words of the station address, the records of FMMUs, and those of sync managers but for their statuses
+-- both words of the station address, the records of FMMUs, and those of sync managers but for their
+-- status bytes and their PDI bytes
 record SameMapped (before after : List ℕ) : Type 0 where
   size : length after ≡ length before
   room : PROCESS_MEMORY ≤ length before
   station : (k : ℕ) → k < 2 → Same before after (16 + k)
   fmmus : (a : ℕ) → 1536 ≤ a → a < 1664 → Same before after a
-  managers : (i k : ℕ) → i < 8 → k < 8 → k ≢ 5 → Same before after (2048 + 8 * i + k)
+  managers : (i k : ℕ) → i < 8 → k < 8 → k ≢ 5 → k ≢ 7 → Same before after (2048 + 8 * i + k)
 
 -- a run of bytes that are the same
 run_same : (before after : List ℕ) (at n : ℕ) → length after ≡ length before → at + n ≤ length before
@@ -71,15 +79,15 @@ field_same before after i j same below early =
     let inside : j + k < 8 = omega arith in
     let beside : j + k ≢ 5 = λ is. omega (arith, is) in
     get_or-run after at 8 (j + k) inside
-    ∙ same.managers i (j + k) below inside beside
+    ∙ same.managers i (j + k) below inside beside (λ is. omega (arith, is))
     ∙ sym (get_or-run before at 8 (j + k) inside))
 
 -- one of its other bytes
-byte_same : (before after : List ℕ) (i k : ℕ) → SameMapped before after → i < 8 → k < 8 → k ≢ 5
+byte_same : (before after : List ℕ) (i k : ℕ) → SameMapped before after → i < 8 → k < 8 → k ≢ 5 → k ≢ 7
     → get_or (take 8 (drop (2048 + 8 * i) after)) k 0 ≡ get_or (take 8 (drop (2048 + 8 * i) before)) k 0
-byte_same before after i k same below inside beside =
+byte_same before after i k same below inside beside other =
     get_or-run after (2048 + 8 * i) 8 k inside
-    ∙ same.managers i k below inside beside
+    ∙ same.managers i k below inside beside other
     ∙ sym (get_or-run before (2048 + 8 * i) 8 k inside)
 
 manager_same : (before after : List ℕ) (i : ℕ) → SameMapped before after → i < 8
@@ -88,11 +96,11 @@ unfolding sync_manager_at
 manager_same before after i same below =
     let start = field_same before after i 0 same below (omega arith) in
     let size = field_same before after i 2 same below (omega arith) in
-    let byte : (k : ℕ) → k < 8 → k ≢ 5 → get_or (take 8 (drop (2048 + 8 * i) after)) k 0
+    let byte : (k : ℕ) → k < 8 → k ≢ 5 → k ≢ 7 → get_or (take 8 (drop (2048 + 8 * i) after)) k 0
     ≡ get_or (take 8 (drop (2048 + 8 * i) before)) k 0 =
-    λ k inside beside. byte_same before after i k same below inside beside in
-    let control = byte 4 (omega arith) (λ is. omega (arith, is)) in
-    let activate = byte 6 (omega arith) (λ is. omega (arith, is)) in
+    λ k inside beside other. byte_same before after i k same below inside beside other in
+    let control = byte 4 (omega arith) (λ is. omega (arith, is)) (λ is. omega (arith, is)) in
+    let activate = byte 6 (omega arith) (λ is. omega (arith, is)) (λ is. omega (arith, is)) in
     (λ j. record {
       start = from_le_bytes w16 (start j);
       length = from_le_bytes w16 (size j);
@@ -157,7 +165,7 @@ mapped_left before after room left = record {
     answers = λ is. omega (arith, is);
     register = omega arith;
   });
-  managers = λ i k number inside beside. left.bytes (2048 + 8 * i + k) (record {
+  managers = λ i k number inside beside other. left.bytes (2048 + 8 * i + k) (record {
     al_status = inr (omega arith);
     al_status_code = inr (omega arith);
     requests = λ is. beside (omega (arith, is));
@@ -195,7 +203,7 @@ mapping_inputs c i bytes is none =
       room = omega (arith, is.memory_size);
       station = λ k below. same (16 + k) (omega arith);
       fmmus = λ a from to. same a (omega arith);
-      managers = λ j k number within beside. same (2048 + 8 * j + k) (omega arith);
+      managers = λ j k number within beside other. same (2048 + 8 * j + k) (omega arith);
     })
 
 -- ---- registers that are told
@@ -210,19 +218,11 @@ beside_told from n a told place =
     (λ (low : (10 ≤ a) × (a < 272)). inr (omega (arith, low.0)))
     (λ (high : 1296 ≤ a). inr (omega arith))
     place)
-    (λ (rest : ((272 ≤ from) × (from + n ≤ 274)) ⊎ ((1280 ≤ from) × (from + n ≤ 1296))).
+    (λ (rest : (272 ≤ from) × (from + n ≤ 1296)).
     ⊎_elim
-    (λ (status : (272 ≤ from) × (from + n ≤ 274)).
-    ⊎_elim
-    (λ (low : (10 ≤ a) × (a < 272)). inl (omega (arith, low.1, status.0)))
-    (λ (high : 1296 ≤ a). inr (omega (arith, status.1)))
+    (λ (low : (10 ≤ a) × (a < 272)). inl (omega (arith, low.1, rest.0)))
+    (λ (high : 1296 ≤ a). inr (omega (arith, rest.1)))
     place)
-    (λ (sii : (1280 ≤ from) × (from + n ≤ 1296)).
-    ⊎_elim
-    (λ (low : (10 ≤ a) × (a < 272)). inl (omega (arith, low.1, sii.0)))
-    (λ (high : 1296 ≤ a). inr (omega (arith, sii.1)))
-    place)
-    rest)
     (told_place from n told)
 
 told_same : (c : ControllerState) (from : ℕ) (bytes : List ℕ) → IsController c
@@ -234,11 +234,7 @@ told_same c from bytes is told a place =
     (λ (past : 1296 < from). absurd
     (⊎_elim
     (λ (first : from + length bytes ≤ 10). omega arith)
-    (λ (rest : ((272 ≤ from) × (from + length bytes ≤ 274)) ⊎ ((1280 ≤ from) × (from + length bytes ≤ 1296))).
-    ⊎_elim
-    (λ (status : (272 ≤ from) × (from + length bytes ≤ 274)). omega (arith, status.1))
-    (λ (sii : (1280 ≤ from) × (from + length bytes ≤ 1296)). omega (arith, sii.1))
-    rest)
+    (λ (rest : (272 ≤ from) × (from + length bytes ≤ 1296)). omega (arith, rest.1))
     (told_place from (length bytes) told)))
     (λ (reaches : from + length bytes ≤ 1296). omega (arith, is.memory_size))
     (beside_told from (length bytes) 1296 told (inr (omega arith))) in
@@ -256,7 +252,7 @@ mapping_told c from bytes is told are =
       room = omega (arith, is.memory_size);
       station = λ k below. same (16 + k) (inl (omega arith, omega arith));
       fmmus = λ a low high. same a (inr (omega arith));
-      managers = λ j k number within beside. same (2048 + 8 * j + k) (inr (omega arith));
+      managers = λ j k number within beside other. same (2048 + 8 * j + k) (inr (omega arith));
     })
 
 pub moved_told : (c : ControllerState) (from : ℕ) (bytes : List ℕ) → IsController c → AreBytes bytes
@@ -265,3 +261,75 @@ moved_told c from bytes is are told =
     moved_by_mapping c (with_registers c from bytes) (mapping_told c from bytes is told are)
     (registers_controller c from bytes is are told) refl
     (λ a low free. told_same c from bytes is told a (inr (omega arith)))
+
+-- ---- a mail once more
+
+-- the byte at an address that is not the status byte of a sync manager
+filled_beside : (s : SyncMan) (i a : ℕ) (stood m : List ℕ) → a ≢ 2048 + 8 * i + 5
+    → Same m (with_mail_again s i stood m) a
+filled_beside s i a stood m apart =
+    let choice : Bool → List ℕ = λ b. cond b (with_filled (Some i) m) m in
+    ⊎_elim
+    (λ (yes : holds_mail s stood ≡ true).
+    ap (λ (b : Bool). get_or (choice b) a 0) yes
+    ∙ get_or-set_other m (2048 + 8 * i + 5) a (bit_or (get_or m (2048 + 8 * i + 5) 0) 8) 0 apart)
+    (λ (no : holds_mail s stood ≡ false). ap (λ (b : Bool). get_or (choice b) a 0) no)
+    (cases_Bool (holds_mail s stood))
+
+told_beside : (c : ControllerState) (i a : ℕ) → a ≢ 2048 + 8 * i + 7
+    → Same c.memory (with_repeat_told c i).memory a
+told_beside c i a pdi =
+    get_or-set_other c.memory (2048 + 8 * i + 7) a (2 * repeat_asked (sync_manager_at c.memory i)) 0 pdi
+
+pub repeated_same : (c : ControllerState) (i a : ℕ) → a ≢ 2048 + 8 * i + 5 → a ≢ 2048 + 8 * i + 7
+    → Same c.memory (with_mail_repeated c i).memory a
+repeated_same c i a status pdi =
+    let s : SyncMan = sync_manager_at c.memory i in
+    filled_beside s i a c.memory (slice_set c.memory (2048 + 8 * i + 7) (2 * repeat_asked s)) status
+    ∙ told_beside c i a pdi
+
+pub mapping_repeated : (c : ControllerState) (i : ℕ) → IsController c → i < 8
+    → mapping_of (with_mail_repeated c i) ≡ mapping_of c
+mapping_repeated c i is below =
+    let same : (a : ℕ) → a ≢ 2048 + 8 * i + 5 → a ≢ 2048 + 8 * i + 7
+    → Same c.memory (with_mail_repeated c i).memory a = repeated_same c i in
+    let size = (repeated_controller c i is).memory_size in
+    mapping_same c (with_mail_repeated c i)
+    (record {
+      size = size ∙ sym is.memory_size;
+      room = omega (arith, is.memory_size);
+      station = λ k low. same (16 + k) (λ is. omega (arith, is)) (λ is. omega (arith, is));
+      fmmus = λ a from to. same a (λ is. omega (arith, is)) (λ is. omega (arith, is));
+      managers = λ j k number within beside other.
+          same (2048 + 8 * j + k)
+          (λ is. beside (omega (arith, is)))
+          (λ is. other (omega (arith, is)));
+    })
+
+pub moved_repeated : (c : ControllerState) (i : ℕ) → IsController c → i < 8
+    → HasMoved c (with_mail_repeated c i)
+moved_repeated c i is below =
+    moved_by_mapping c (with_mail_repeated c i) (mapping_repeated c i is below)
+    (repeated_controller c i is) refl
+    (λ a low free. repeated_same c i a (λ is. omega (arith, is)) (λ is. omega (arith, is)))
+
+-- where it is told alone
+pub mapping_repeat_told : (c : ControllerState) (i : ℕ) → IsController c → i < 8
+    → mapping_of (with_repeat_told c i) ≡ mapping_of c
+mapping_repeat_told c i is below =
+    let size = (repeat_told_controller c i is).memory_size in
+    mapping_same c (with_repeat_told c i)
+    (record {
+      size = size ∙ sym is.memory_size;
+      room = omega (arith, is.memory_size);
+      station = λ k low. told_beside c i (16 + k) (λ is. omega (arith, is));
+      fmmus = λ a from to. told_beside c i a (λ is. omega (arith, is));
+      managers = λ j k number within beside other.
+          told_beside c i (2048 + 8 * j + k) (λ is. other (omega (arith, is)));
+    })
+
+pub moved_repeat_told : (c : ControllerState) (i : ℕ) → IsController c → i < 8
+    → HasMoved c (with_repeat_told c i)
+moved_repeat_told c i is below =
+    moved_by_mapping c (with_repeat_told c i) (mapping_repeat_told c i is below)
+    (repeat_told_controller c i is) refl (λ a low free. told_beside c i a (λ is. omega (arith, is)))

@@ -1,6 +1,6 @@
 -- The laws that crates above cite: on the controllers of slaves, what a fit line gives a cycle, and what is
 -- the same of lines with one mapping.
-use Rattle.std.proofs.Common.{◌≡◌, true, ℕ, ◌<◌, ◌≤◌, ◌+◌, ◌*◌, ◌++◌, None, List, length, get_or, take, drop}
+use Rattle.std.proofs.Common.{◌≡◌, ◌≢◌, true, ℕ, ◌<◌, ◌≤◌, ◌+◌, ◌*◌, ◌++◌, None, List, length, get_or, take, drop}
 use Rattle.std.specs.List.{AllByRecursion}
 use Rattle.std.specs.List.Sorted.{IsPermutation}
 use Rattle.ec_regs.specs.Bits.{AreBytes}
@@ -11,6 +11,7 @@ use Rattle.ec_regs.specs.declared.registers.TheConstants.{FMMU_COUNT, FMMU_SIZE}
 use Rattle.ec_regs.specs.declared.registers.TheConstants.{SYNC_MANAGER_COUNT, SYNC_MANAGER_SIZE}
 use Rattle.ec_areas.specs.Records.{fmmu_at, sync_manager_at}
 use Rattle.ec_esc.specs.Application.{put_inputs_fault, with_inputs, are_told, with_registers}
+use Rattle.ec_esc.specs.Application.{with_mail_repeated, with_repeat_told}
 use Rattle.ec_line.specs.Moving.{HasMoved}
 use Rattle.ec_esc.specs.State.{ControllerState, IsController, word_at}
 use Rattle.ec_line.specs.Fit.{IsFitLine}
@@ -104,6 +105,25 @@ mapping_told = lasts.mapping_told
 pub moved_told : (c : ControllerState) (from : ℕ) (bytes : List ℕ) → IsController c → AreBytes bytes
     → are_told from (length bytes) ≡ true → HasMoved c (with_registers c from bytes)
 moved_told = lasts.moved_told
+
+-- and so does a mail that the master has once more
+pub mapping_repeated : (c : ControllerState) (i : ℕ) → IsController c → i < 8
+    → mapping_of (with_mail_repeated c i) ≡ mapping_of c
+mapping_repeated = lasts.mapping_repeated
+
+pub moved_repeated : (c : ControllerState) (i : ℕ) → IsController c → i < 8
+    → HasMoved c (with_mail_repeated c i)
+moved_repeated = lasts.moved_repeated
+
+-- and of each byte that is neither the status byte nor the PDI byte of the mailbox it has what there was
+pub repeated_same : (c : ControllerState) (i a : ℕ) → a ≢ 2048 + 8 * i + 5 → a ≢ 2048 + 8 * i + 7
+    → get_or (with_mail_repeated c i).memory a 0 ≡ get_or c.memory a 0
+repeated_same = lasts.repeated_same
+
+-- where that is told alone, it is a move too
+pub moved_repeat_told : (c : ControllerState) (i : ℕ) → IsController c → i < 8
+    → HasMoved c (with_repeat_told c i)
+moved_repeat_told = lasts.moved_repeat_told
 
 -- a fit line is fit in any order of its slaves
 pub fit_in_any_order : (line later : List ControllerState) → IsPermutation line later → IsFit line → IsFit later

@@ -1,6 +1,6 @@
 //! What a fit line gives a cycle, and what fitness hangs on, as laws.
 
-ghost use Rattle.std.specs.Prelude.{◌≡◌, ℕ, true, None, List, length};
+ghost use Rattle.std.specs.Prelude.{◌≡◌, ◌<◌, ℕ, true, None, List, length};
 ghost use Rattle.std.specs.List.{AllByRecursion};
 ghost use Rattle.std.specs.List.Sorted.{IsPermutation};
 ghost use Rattle.ec_regs.specs.Pairs.{is_switched_on};
@@ -8,6 +8,7 @@ ghost use Rattle.ec_regs.specs.declared.al.AlStatus.{AlStatus};
 ghost use Rattle.ec_areas.specs.Records.{sync_manager_at};
 ghost use Rattle.ec_regs.specs.Bits.{AreBytes};
 ghost use Rattle.ec_esc.specs.Application.{put_inputs_fault, with_al, with_inputs, are_told, with_registers};
+ghost use Rattle.ec_esc.specs.Application.{with_mail_repeated, with_repeat_told};
 ghost use Rattle.ec_line.specs.Moving.{HasMoved};
 ghost use Rattle.ec_esc.specs.State.{ControllerState, IsController};
 ghost use Rattle.ec_app.specs.Slave.{step};
@@ -41,10 +42,11 @@ pub fn fit_in_any_order()
 
 /// What an application does leaves the mapping of its controller: a step of its slave (`Slave::step`), AL
 /// status and AL status code that it sets (`Controller::set_al`), inputs that it puts
-/// (`Controller::put_inputs`), and registers that it tells: DL information, DL status, and the slave
-/// information interface (`Controller::set_information`, `set_dl_status`, `set_sii`; IEC 61158-4-12, sync
-/// manager, and IEC 61158-6-12, AL management and CoE). The last are a move, which leaves all that is shown
-/// and written, too.
+/// (`Controller::put_inputs`), registers that it tells: DL information, DL status, counters of lost links,
+/// and the slave information interface (`Controller::set_information`, `set_dl_status`, `set_lost_links`,
+/// `set_sii`; IEC 61158-4-12, sync manager, and IEC 61158-6-12, AL management and CoE), and a mail that the
+/// master has once more (`Controller::repeat_mail`, `tell_repeated`). The last two are moves, which leave all
+/// that is shown and written, too.
 pub fn mapping_lasts()
     ensures step { (s : SlaveState) → IsController s.controller
         → mapping_of (step s).controller ≡ mapping_of s.controller }
@@ -58,4 +60,10 @@ pub fn mapping_lasts()
         → mapping_of (with_registers c from bytes) ≡ mapping_of c }
     ensures moved { (c : ControllerState) (from : ℕ) (bytes : List ℕ) → IsController c → AreBytes bytes
         → are_told from (length bytes) ≡ true → HasMoved c (with_registers c from bytes) }
+    ensures repeated { (c : ControllerState) (sm : ℕ) → IsController c → sm < 8
+        → mapping_of (with_mail_repeated c sm) ≡ mapping_of c }
+    ensures moved_by_repeat { (c : ControllerState) (sm : ℕ) → IsController c → sm < 8
+        → HasMoved c (with_mail_repeated c sm) }
+    ensures moved_by_telling { (c : ControllerState) (sm : ℕ) → IsController c → sm < 8
+        → HasMoved c (with_repeat_told c sm) }
 {}

@@ -1,19 +1,20 @@
 -- Behind each datagram a controller is one: it has its size, and each of its bytes is one.
 use Rattle.std.specs.Prelude.{◌≡◌, ◌≤◌, ◌<◌, ℕ, ◌+◌, Bool, true, false}
 use Rattle.std.specs.Prelude.{List, [], ◌∷◌, length, Option, None, Some, refl}
-use Rattle.std.proofs.Common.{arith, ◌∙◌, cond, get_or, set, ⊎_elim, bit_or, bit_and}
+use Rattle.std.proofs.Common.{arith, ◌∙◌, ◌*◌, ap, subst, sym, cond, get_or, set, ⊎_elim, bit_or, bit_and}
 use Rattle.std.proofs.Common.{get_or-set_same, get_or-set_other}
-use Rattle.std.proofs.lemmas.Bool.{cases_lt, cases_eq}
+use Rattle.std.proofs.lemmas.Bool.{cases_lt, cases_eq, cases_Bool}
 use Rattle.std.proofs.lemmas.List.{length-set, get_or_past}
 use Rattle.std.proofs.lemmas.List.FromFn.{length-map-range_with_len, get_or-map-range_with_len}
 use Rattle.std.proofs.lemmas.Nat.{or_lt}
 use Rattle.std.specs.Int.Bits.{and_lt}
 use Rattle.ec_regs.specs.Bits.{AreBytes, with_bits}
-use Rattle.ec_regs.specs.SyncMan.{status_address}
+use Rattle.ec_regs.specs.SyncMan.{status_address, repeat_asked}
 use Rattle.ec_regs.specs.declared.sync_man.SyncMan.{SyncMan}
 use Rattle.ec_regs.proofs.Laws.{length-with_bits, AreBytes-with_bits}
-use Rattle.ec_areas.specs.Records.{sync_managers_of}
+use Rattle.ec_areas.specs.Records.{sync_manager_at, sync_managers_of}
 use Rattle.ec_wire.specs.Datagram.{DatagramRecord}
+use Rattle.ec_esc.specs.Application.{holds_mail, with_mail_again, with_mail_repeated, with_repeat_told}
 use Rattle.ec_esc.specs.Pass.{Effect, pass, frame_pass, effect, state_after, touches}
 use Rattle.ec_esc.specs.State.{ControllerState, IsController}
 use Rattle.ec_esc.specs.Writing.{settled, settled_byte, is_shown_anew, shown_byte, shown_after, with_filled}
@@ -89,6 +90,48 @@ filled_bytes (Some i) m all =
 filled_length : (o : Option ℕ) (m : List ℕ) → length (with_filled o m) ≡ length m
 filled_length None m = refl
 filled_length (Some i) m = length-set m (status_address i) (bit_or (get_or m (status_address i) 0) 8)
+
+-- a controller whose master has the last mail once more stays one
+again_bytes : (s : SyncMan) (i : ℕ) (stood m : List ℕ) → AreBytes m → AreBytes (with_mail_again s i stood m)
+again_bytes s i stood m all =
+    ⊎_elim
+    (λ (yes : holds_mail s stood ≡ true).
+    subst (λ (b : Bool). AreBytes (cond b (with_filled (Some i) m) m)) (sym yes) (filled_bytes (Some i) m all))
+    (λ (no : holds_mail s stood ≡ false).
+    subst (λ (b : Bool). AreBytes (cond b (with_filled (Some i) m) m)) (sym no) all)
+    (cases_Bool (holds_mail s stood))
+
+again_length : (s : SyncMan) (i : ℕ) (stood m : List ℕ) → length (with_mail_again s i stood m) ≡ length m
+again_length s i stood m =
+    ⊎_elim
+    (λ (yes : holds_mail s stood ≡ true).
+    ap (λ (b : Bool). length (cond b (with_filled (Some i) m) m)) yes ∙ filled_length (Some i) m)
+    (λ (no : holds_mail s stood ≡ false). ap (λ (b : Bool). length (cond b (with_filled (Some i) m) m)) no)
+    (cases_Bool (holds_mail s stood))
+
+pub repeat_told_controller : (c : ControllerState) (i : ℕ) → IsController c
+    → IsController (with_repeat_told c i)
+repeat_told_controller c i is =
+    let asked : ℕ = 2 * repeat_asked (sync_manager_at c.memory i) in
+    let small : asked < 256 = omega arith in
+    record {
+      memory_size = length-set c.memory (2048 + 8 * i + 7) asked ∙ is.memory_size;
+      memory = set_bytes c.memory (2048 + 8 * i + 7) asked small is.memory;
+      shown_size = is.shown_size;
+      shown = is.shown;
+    }
+
+pub repeated_controller : (c : ControllerState) (i : ℕ) → IsController c → IsController (with_mail_repeated c i)
+repeated_controller c i is =
+    let s : SyncMan = sync_manager_at c.memory i in
+    let told : ControllerState = with_repeat_told c i in
+    let still : IsController told = repeat_told_controller c i is in
+    record {
+      memory_size = again_length s i c.memory told.memory ∙ still.memory_size;
+      memory = again_bytes s i c.memory told.memory still.memory;
+      shown_size = is.shown_size;
+      shown = is.shown;
+    }
 
 emptied_bytes : (o : Option ℕ) (m : List ℕ) → AreBytes m → AreBytes (with_emptied o m)
 emptied_bytes None m all = all

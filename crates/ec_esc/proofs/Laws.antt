@@ -7,6 +7,7 @@ use Rattle.ec_regs.specs.declared.registers.TheConstants.{PROCESS_MEMORY, MEMORY
 use Rattle.ec_regs.specs.Bits.{AreBytes, with_bits}
 use Rattle.ec_areas.specs.Records.{sync_manager_at, sync_managers_of}
 use Rattle.ec_esc.specs.Application.{put_inputs_fault, with_inputs, are_told, with_registers}
+use Rattle.ec_esc.specs.Application.{with_mail_repeated, with_repeat_told}
 use Rattle.ec_esc.specs.Writing.{shown_byte, shown_after}
 use Rattle.ec_esc.specs.State.{ControllerState, IsController, with_run}
 use Rattle.ec_esc.specs.Pass.{Half, pass, frame_pass, nothing, touches, written_by, effect, gain_of}
@@ -106,12 +107,19 @@ pub inputs_controller : (c : ControllerState) (i : ℕ) (bytes : List ℕ) → I
     → put_inputs_fault (sync_manager_at c.memory i) bytes ≡ None → IsController (with_inputs c i bytes)
 inputs_controller = left.inputs_controller
 
--- registers that are told lie in one of three places: DL information, DL status, and the slave information
--- interface
+-- registers that are told lie in DL information, or between DL status and what is behind the slave
+-- information interface
 pub told_place : (from n : ℕ) → are_told from n ≡ true
-    → (from + n ≤ 10)
-    ⊎ (((272 ≤ from) × (from + n ≤ 274)) ⊎ ((1280 ≤ from) × (from + n ≤ 1296)))
+    → (from + n ≤ 10) ⊎ ((272 ≤ from) × (from + n ≤ 1296))
 told_place = left.told_place
+
+-- a controller whose master has the last mail once more stays one
+pub repeated_controller : (c : ControllerState) (i : ℕ) → IsController c → IsController (with_mail_repeated c i)
+repeated_controller = behind.repeated_controller
+
+pub repeat_told_controller : (c : ControllerState) (i : ℕ) → IsController c
+    → IsController (with_repeat_told c i)
+repeat_told_controller = behind.repeat_told_controller
 
 -- a controller that tells them stays one
 pub registers_controller : (c : ControllerState) (from : ℕ) (bytes : List ℕ) → IsController c → AreBytes bytes

@@ -96,25 +96,35 @@ lies_ends first count from n lies =
     let high : leb (from + n) (first + count) ≡ true = ends.1 in
     (grind (arith, nat_tests), grind (arith, nat_tests))
 
-one_of_three : (a b c : Bool) → (a || (b || (c || false))) ≡ true → (a ≡ true) ⊎ ((b ≡ true) ⊎ (c ≡ true))
-one_of_three true b c one = inl refl
-one_of_three false true c one = inr (inl refl)
-one_of_three false false true one = inr (inr refl)
-one_of_three false false false one = absurd (cc)
+one_of_four : (a b c d : Bool) → (a || (b || (c || (d || false)))) ≡ true
+    → (a ≡ true) ⊎ ((b ≡ true) ⊎ ((c ≡ true) ⊎ (d ≡ true)))
+one_of_four true b c d one = inl refl
+one_of_four false true c d one = inr (inl refl)
+one_of_four false false true d one = inr (inr (inl refl))
+one_of_four false false false true one = inr (inr (inr refl))
+one_of_four false false false false one = absurd (cc)
 
--- they lie in one of three places
+-- they lie before the station address, or between DL status and what is behind the slave information interface
 pub told_place : (from n : ℕ) → are_told from n ≡ true
-    → (from + n ≤ 10)
-    ⊎ (((272 ≤ from) × (from + n ≤ 274)) ⊎ ((1280 ≤ from) × (from + n ≤ 1296)))
+    → (from + n ≤ 10) ⊎ ((272 ≤ from) × (from + n ≤ 1296))
 told_place from n told =
     ⊎_elim
     (λ (a : lies_within 0 10 from n ≡ true). inl (lies_ends 0 10 from n a).1)
-    (λ (rest : (lies_within 272 2 from n ≡ true) ⊎ (lies_within 1280 16 from n ≡ true)).
+    (λ (rest : (lies_within 272 2 from n ≡ true)
+    ⊎ ((lies_within 768 20 from n ≡ true) ⊎ (lies_within 1280 16 from n ≡ true))).
     ⊎_elim
-    (λ (b : lies_within 272 2 from n ≡ true). inr (inl (lies_ends 272 2 from n b)))
-    (λ (d : lies_within 1280 16 from n ≡ true). inr (inr (lies_ends 1280 16 from n d)))
+    (λ (b : lies_within 272 2 from n ≡ true).
+    let ends = lies_ends 272 2 from n b in inr (ends.0, omega (arith, ends.1)))
+    (λ (more : (lies_within 768 20 from n ≡ true) ⊎ (lies_within 1280 16 from n ≡ true)).
+    ⊎_elim
+    (λ (d : lies_within 768 20 from n ≡ true).
+    let ends = lies_ends 768 20 from n d in inr (omega (arith, ends.0), omega (arith, ends.1)))
+    (λ (e : lies_within 1280 16 from n ≡ true).
+    let ends = lies_ends 1280 16 from n e in inr (omega (arith, ends.0), ends.1))
+    more)
     rest)
-    (one_of_three (lies_within 0 10 from n) (lies_within 272 2 from n) (lies_within 1280 16 from n) told)
+    (one_of_four (lies_within 0 10 from n) (lies_within 272 2 from n) (lies_within 768 20 from n)
+    (lies_within 1280 16 from n) told)
 
 -- a controller that tells them stays one
 pub registers_controller : (c : ControllerState) (from : ℕ) (bytes : List ℕ) → IsController c → AreBytes bytes
@@ -123,11 +133,7 @@ registers_controller c from bytes is are told =
     let inside : from + length bytes ≤ length c.memory =
     ⊎_elim
     (λ (a : from + length bytes ≤ 10). omega (arith, is.memory_size))
-    (λ (rest : ((272 ≤ from) × (from + length bytes ≤ 274)) ⊎ ((1280 ≤ from) × (from + length bytes ≤ 1296))).
-    ⊎_elim
-    (λ (b : (272 ≤ from) × (from + length bytes ≤ 274)). omega (arith, is.memory_size, b.1))
-    (λ (d : (1280 ≤ from) × (from + length bytes ≤ 1296)). omega (arith, is.memory_size, d.1))
-    rest)
+    (λ (b : (272 ≤ from) × (from + length bytes ≤ 1296)). omega (arith, is.memory_size, b.1))
     (told_place from (length bytes) told) in
     record {
       memory_size = length-with_run c.memory bytes from inside ∙ is.memory_size;

@@ -1,14 +1,15 @@
 -- The application's side of a controller: AL control and AL status, outputs and inputs, and mail (IEC
 -- 61158-4-12, sync manager, and IEC 61158-6-12, AL management). What it writes stands in the memory alone,
 -- where the wire reads it; what it is shown stays.
-use Rattle.std.specs.Prelude.{ℕ, ◌+◌, ◌-◌, false, ◌==◌, ◌&&◌, not, nat_le, if◌then◌else◌, Option, Bool}
+use Rattle.std.specs.Prelude.{ℕ, ◌+◌, ◌-◌, ◌*◌, false, ◌==◌, ◌&&◌, not, nat_le, if◌then◌else◌, Option, Bool}
 use Rattle.std.specs.List.{list_any}
 use Rattle.ec_regs.specs.AddressRange.{lies_within}
 use Rattle.ec_regs.specs.declared.address_range.AddressRange.{AddressRange}
 use Rattle.ec_regs.specs.declared.registers.TheConstants.{CONTROLLER_TYPE, INFORMATION_SIZE, DL_STATUS}
+use Rattle.ec_regs.specs.declared.registers.TheConstants.{ERROR_COUNTERS, ERROR_COUNTERS_SIZE, LOST_LINK}
 use Rattle.ec_regs.specs.declared.registers.TheConstants.{SII_BASE, SII_SIZE}
 use Rattle.std.specs.Prelude.{None, Some, List, [], ◌∷◌, ◌++◌, length, take, drop, slice_index, slice_range}
-use Rattle.std.specs.Prelude.{replicate}
+use Rattle.std.specs.Prelude.{replicate, slice_set}
 use Rattle.std.specs.Int.{w16, to_le_bytes}
 use Rattle.ec_regs.specs.Al.{status_byte, status_of}
 use Rattle.ec_regs.specs.declared.al.AlStatus.{AlStatus}
@@ -20,7 +21,7 @@ use Rattle.ec_esc.specs.declared.application.AreaFault.TheVariants.{NotActive, W
 use Rattle.ec_regs.specs.SyncMan.{guards_outputs, is_active, is_buffered, is_mailbox, master_reads}
 use Rattle.ec_regs.specs.SyncMan.{master_writes}
 use Rattle.ec_esc.specs.Writing.{with_emptied, with_filled}
-use Rattle.ec_regs.specs.SyncMan.{is_full}
+use Rattle.ec_regs.specs.SyncMan.{is_full, pdi_address, repeat_asked}
 use Rattle.ec_areas.specs.Records.{sync_manager_at}
 use Rattle.ec_esc.specs.State.{ControllerState, with_run, word_at}
 
@@ -50,11 +51,13 @@ al_status_code c = word_at c.memory AL_STATUS_CODE
 -- ---- registers that the master reads, and that no rule of this crate interprets but by whether there is a
 -- slave information interface
 
--- what the controller tells of itself, DL status, and the slave information interface
+-- what the controller tells of itself, DL status, the counters of errors at its ports, and the slave
+-- information interface
 abbrev pub told_ranges : List AddressRange
 told_ranges =
     record { first = CONTROLLER_TYPE; count = INFORMATION_SIZE }
     ∷ record { first = DL_STATUS; count = 2 }
+    ∷ record { first = ERROR_COUNTERS; count = ERROR_COUNTERS_SIZE }
     ∷ record { first = SII_BASE; count = SII_SIZE }
     ∷ []
 
@@ -69,6 +72,10 @@ with_registers c address bytes = record c { memory = with_run c.memory address b
 -- the registers of its slave information interface
 abbrev pub sii_registers : ControllerState → List ℕ
 sii_registers c = slice_range c.memory SII_BASE (SII_BASE + SII_SIZE)
+
+-- the counters of lost links at ports 0 and 1
+abbrev pub lost_links : ControllerState → List ℕ
+lost_links c = slice_index c.memory LOST_LINK ∷ slice_index c.memory (LOST_LINK + 1) ∷ []
 
 -- ---- process data
 
@@ -126,3 +133,33 @@ abbrev pub with_mail_put : ControllerState → ℕ → List ℕ → ControllerSt
 with_mail_put c i mail =
     let s = sync_manager_at c.memory i
     in record c { memory = with_filled (Some i) (with_run c.memory s.start (mail_area s mail)) }
+
+-- why there is no mail to be had once more of the sync manager
+abbrev pub repeat_mail_fault : SyncMan → Option AreaFault
+repeat_mail_fault s =
+    if not (is_active s) then Some NotActive else
+    (if not (is_mailbox s && master_reads s) then Some WrongKind else None)
+
+-- does a mail stand in its area: not all bytes are 0
+abbrev pub has_bytes : List ℕ → Bool
+has_bytes area = list_any (λ byte. not (byte == 0)) area
+
+abbrev pub holds_mail : SyncMan → List ℕ → Bool
+holds_mail s memory = has_bytes (mail_of s memory)
+
+-- the memory in which the mailbox is full where a mail stood in its area
+abbrev pub with_mail_again : SyncMan → ℕ → List ℕ → List ℕ → List ℕ
+with_mail_again s i stood memory = if holds_mail s stood then with_filled (Some i) memory else memory
+
+-- the controller once the PDI byte of the sync manager with a number tells that what its activate byte asks
+-- for was done
+abbrev pub with_repeat_told : ControllerState → ℕ → ControllerState
+with_repeat_told c i = record c {
+  memory = slice_set c.memory (pdi_address i) (2 * repeat_asked (sync_manager_at c.memory i));
+}
+
+-- and once its mailbox has its last mail again besides, if it had one
+abbrev pub with_mail_repeated : ControllerState → ℕ → ControllerState
+with_mail_repeated c i =
+    let s = sync_manager_at c.memory i in
+    record c { memory = with_mail_again s i c.memory (with_repeat_told c i).memory }

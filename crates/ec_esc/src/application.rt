@@ -21,13 +21,17 @@ ghost use Rattle.ec_esc.specs.Application.{new_control, with_control_taken, with
 ghost use Rattle.ec_esc.specs.Application.{al_status_code, outputs_of};
 ghost use Rattle.ec_esc.specs.Application.{put_inputs_fault, with_inputs, take_mail_fault, mail_of};
 ghost use Rattle.ec_esc.specs.Application.{with_mail_taken, put_mail_fault, with_mail_put};
+ghost use Rattle.ec_esc.specs.Application.{repeat_mail_fault, with_mail_repeated, with_repeat_told};
+ghost use Rattle.ec_esc.specs.Application.{has_bytes, lost_links};
+ghost use Rattle.ec_regs.specs.declared.registers.TheConstants.{LOST_LINK};
 
 use crate::controller::Controller;
 use arrayvec::ArrayVec;
 use ec_regs::registers::{
-    AL_CONTROL, AL_STATUS_CODE, CONTROLLER_TYPE, DL_STATUS, SII_BASE, SII_SIZE, STATION_ALIAS,
+    AL_CONTROL, AL_STATUS_CODE, CONTROLLER_TYPE, DL_STATUS, LOST_LINK, SII_BASE, SII_SIZE,
+    STATION_ALIAS,
 };
-use ec_regs::{AlStatus, Information, LONGEST_MAILBOX, SyncMan};
+use ec_regs::{AlStatus, Information, LONGEST_MAILBOX, SyncMan, pdi_address};
 
 /// The longest mail, in bytes: the whole of the longest mailbox.
 pub const LONGEST_MAIL: usize = LONGEST_MAILBOX as usize;
@@ -106,6 +110,27 @@ fn check_mail_fits(manager: &SyncMan, mail: &[u8]) -> Result<(), AreaFault>
     }
 }
 
+/// Does the sync manager guard a mailbox that the master reads?
+fn check_mail_is_read(manager: &SyncMan) -> Result<(), AreaFault>
+    ensures err { result_err result ≡ repeat_mail_fault manager.now }
+    ensures to { OnOk result (manager.now.start + manager.now.length ≤ MEMORY_SIZE) }
+{
+    if !manager.is_active() {
+        Err(AreaFault::NotActive)
+    } else if !(manager.is_mailbox() && manager.master_reads()) {
+        Err(AreaFault::WrongKind)
+    } else {
+        Ok(())
+    }
+}
+
+/// Is a byte of an area not 0? No mail is of zeros alone.
+fn has_bytes(area: &[u8]) -> bool
+    ensures { result ≡ has_bytes area.now }
+{
+    area.iter().any(|byte| *byte != 0)
+}
+
 /// A mail and zeros after it, as they fill the longest mailbox.
 fn padded(mail: &[u8]) -> [u8; LONGEST_MAIL]
     requires { length mail.now ≤ LONGEST_MAIL }
@@ -179,6 +204,29 @@ impl Controller {
         ensures { self.new ≡ with_registers self.old DL_STATUS (to_le_bytes w16 status) }
     {
         self.memory.load_before(DL_STATUS, &status.to_le_bytes());
+    }
+
+    /// The counters of lost links at ports 0 and 1, registers 0x0310 and 0x0311 (IEC 61158-4-12, lost link
+    /// counter).
+    pub fn lost_links(&self) -> [u8; 2]
+        ensures { result ≡ lost_links self.now }
+    {
+        [self.byte(LOST_LINK), self.byte(LOST_LINK + 1)]
+    }
+
+    /// Sets the counters of lost links at ports 0 and 1, registers 0x0310 and 0x0311 (IEC 61158-4-12, lost
+    /// link counter); all else stays.
+    pub fn set_lost_links(&mut self, counts: &[u8; 2])
+        ensures { self.new ≡ with_registers self.old LOST_LINK counts.now }
+    {
+        self.memory.load(LOST_LINK, counts);
+    }
+
+    /// DL status, register 0x0110 (IEC 61158-4-12, DL status).
+    pub fn dl_status(&self) -> u16
+        ensures { result ≡ word_at self.now.memory DL_STATUS }
+    {
+        self.word(DL_STATUS)
     }
 
     /// Has the controller a slave information interface: may the master write registers 0x0500 to 0x050F? It
@@ -270,5 +318,35 @@ impl Controller {
             .load(manager.start, &area[..manager.length as usize]);
         self.mark_full(sm);
         Ok(())
+    }
+
+    /// Gives the master the last mail of the mailbox of a sync manager, 0 to 7, once more, as one asks for
+    /// whose answer was lost (IEC 61158-4-12, sync manager, repeat request): marks the mailbox full, if a
+    /// mail stands in its area, and tells in the PDI byte that it was done; all else stays. On an error
+    /// nothing changes.
+    pub fn repeat_mail(&mut self, sm: usize) -> Result<(), AreaFault>
+        requires { sm < SYNC_MANAGER_COUNT }
+        ensures ok { OnOk result (self.new ≡ with_mail_repeated self.old sm) }
+        ensures err { result_err result ≡ repeat_mail_fault (sync_manager_at self.old.memory sm) }
+        ensures unchanged { OnErr result (self.new ≡ self.old) }
+    {
+        let manager = self.syncman(sm);
+        check_mail_is_read(&manager)?;
+        let holds_mail = has_bytes(self.bytes(manager.start, manager.length));
+        self.tell_repeated(sm);
+        if holds_mail {
+            self.mark_full(sm);
+        }
+        Ok(())
+    }
+
+    /// Tells in the PDI byte of a sync manager, 0 to 7, that what its activate byte asks for was done (IEC
+    /// 61158-4-12, sync manager, repeat request); all else stays, the mailbox too.
+    pub fn tell_repeated(&mut self, sm: usize)
+        requires { sm < SYNC_MANAGER_COUNT }
+        ensures { self.new ≡ with_repeat_told self.old sm }
+    {
+        let asked = self.syncman(sm).repeat_asked();
+        self.memory.set_byte(pdi_address(sm), 2 * asked);
     }
 }

@@ -1,12 +1,13 @@
 -- The sync manager record: eight bytes, field after field, the lowest byte of a number first; and what its
 -- fields say: an active sync manager guards an area, a run of process memory that is buffered or a mailbox,
 -- and that the master either reads or writes (IEC 61158-4-12, sync manager entity).
-use Rattle.std.specs.Prelude.{ℕ, ◌+◌, ◌*◌, ◌/◌, ◌%◌, Bool, ◌==◌, ◌&&◌, ◌||◌, nat_le, if◌then◌else◌}
+use Rattle.std.specs.Prelude.{ℕ, ◌+◌, ◌*◌, ◌/◌, ◌%◌, Bool, ◌==◌, ◌&&◌, ◌||◌, not, nat_le, if◌then◌else◌}
 use Rattle.std.specs.Prelude.{List, [], ◌∷◌, ◌++◌, take, drop, slice_index}
 use Rattle.std.specs.Int.{bit_at, w16, to_le_bytes, from_le_bytes}
 use Rattle.ec_regs.specs.declared.sync_man.SyncMan.{SyncMan}
 use Rattle.ec_regs.specs.declared.registers.TheConstants.{PROCESS_MEMORY, MEMORY_SIZE, SYNC_MANAGER_BASE}
 use Rattle.ec_regs.specs.declared.registers.TheConstants.{SYNC_MANAGER_SIZE, SYNC_MANAGER_STATUS}
+use Rattle.ec_regs.specs.declared.registers.TheConstants.{SYNC_MANAGER_PDI}
 use Rattle.ec_regs.specs.declared.sync_man.TheConstants.{START_AT, LENGTH_AT, CONTROL_AT, STATUS_AT}
 use Rattle.ec_regs.specs.declared.sync_man.TheConstants.{ACTIVATE_AT, PDI_AT}
 
@@ -52,6 +53,14 @@ master_writes s = s.control / 4 % 4 == 1
 abbrev pub is_full : SyncMan → Bool
 is_full s = bit_at s.status 3 == 1
 
+-- bit 1 of its activate byte, which the master changes to have the last mail of the mailbox once more
+abbrev pub repeat_asked : SyncMan → ℕ
+repeat_asked s = bit_at s.activate 1
+
+-- does it ask so, and bit 1 of its PDI byte does not tell yet that this was done
+abbrev pub asks_again : SyncMan → Bool
+asks_again s = not (repeat_asked s == bit_at s.pdi 1)
+
 -- ---- the area that it guards
 
 -- a mailbox has 16 to 1,486 bytes, as many as a datagram has at the most; a buffered area at least one
@@ -77,8 +86,12 @@ guards_outputs s = is_active s && is_buffered s && master_writes s
 abbrev pub guards_inputs : SyncMan → Bool
 guards_inputs s = is_active s && is_buffered s && master_reads s
 
--- ---- where its status byte stands
+-- ---- where its status byte and its PDI byte stand
 
 -- the address of the status byte of the sync manager with a number
 abbrev pub status_address : ℕ → ℕ
 status_address i = SYNC_MANAGER_BASE + SYNC_MANAGER_SIZE * i + SYNC_MANAGER_STATUS
+
+-- that of its PDI byte
+abbrev pub pdi_address : ℕ → ℕ
+pdi_address i = SYNC_MANAGER_BASE + SYNC_MANAGER_SIZE * i + SYNC_MANAGER_PDI

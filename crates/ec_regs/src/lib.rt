@@ -63,5 +63,6 @@ pub use information::{INFORMATION, Information};
 pub use memory::{Memory, NoMemory};
 pub use plan::{Fmmus, Plan, PlannedFmmu};
 pub use sync_man::{
-    LONGEST_MAILBOX, MAILBOX_FULL, SHORTEST_MAILBOX, SyncMan, SyncManControl, status_address,
+    LONGEST_MAILBOX, MAILBOX_FULL, SHORTEST_MAILBOX, SyncMan, SyncManControl, pdi_address,
+    status_address,
 };

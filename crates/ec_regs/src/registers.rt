@@ -32,6 +32,16 @@ pub const AL_STATUS_CODE: u16 = 0x0134;
 /// The mask of events of which a controller tells the master, 2 bytes. Nothing hangs on it here.
 pub const EVENT_MASK: u16 = 0x0200;
 
+/// The counters of errors at the ports, 20 bytes: of receive errors, of frames that came with an error
+/// already, and from `LOST_LINK` on of links that were lost.
+pub const ERROR_COUNTERS: u16 = 0x0300;
+
+/// How many bytes the counters of errors are.
+pub const ERROR_COUNTERS_SIZE: u16 = 20;
+
+/// The counters of lost links, one byte a port, from port 0 on.
+pub const LOST_LINK: u16 = 0x0310;
+
 /// The divider of both watchdogs, 2 bytes: how many 25ths of a microsecond, less 2, are one count of theirs.
 pub const WATCHDOG_DIVIDER: u16 = 0x0400;
 
@@ -71,6 +81,9 @@ pub const SYNC_MANAGER_STATUS: u16 = 5;
 
 /// Where the activate byte stands in a sync manager's record; the master may always write it.
 pub const SYNC_MANAGER_ACTIVATE: u16 = 6;
+
+/// Where the PDI byte stands in a sync manager's record; the slave's side alone writes it.
+pub const SYNC_MANAGER_PDI: u16 = 7;
 
 /// The status byte of sync manager 1, the mailbox that the master reads; its bit 3 tells that a message
 /// waits.

@@ -4,12 +4,12 @@
 ghost use Rattle.std.specs.Prelude.{⊤, ◌≡◌, ◌+◌, ◌≤◌, ◌<◌, [], ◌∷◌, codes, IsTrue};
 ghost use Rattle.ec_regs.specs.declared.registers.TheConstants.{PROCESS_MEMORY, MEMORY_SIZE};
 ghost use Rattle.ec_regs.specs.declared.registers.TheConstants.{SYNC_MANAGER_COUNT};
-ghost use Rattle.ec_regs.specs.SyncMan.{status_address};
+ghost use Rattle.ec_regs.specs.SyncMan.{pdi_address, status_address};
 
 use crate::address_range::AddressRange;
 use crate::registers::{
-    MEMORY_SIZE, PROCESS_MEMORY, SYNC_MANAGER_BASE, SYNC_MANAGER_COUNT, SYNC_MANAGER_SIZE,
-    SYNC_MANAGER_STATUS,
+    MEMORY_SIZE, PROCESS_MEMORY, SYNC_MANAGER_BASE, SYNC_MANAGER_COUNT, SYNC_MANAGER_PDI,
+    SYNC_MANAGER_SIZE, SYNC_MANAGER_STATUS,
 };
 use bitflags::{Flag, Flags, bitflag_items};
 use byteorder::{ByteOrder, LittleEndian};
@@ -87,6 +87,9 @@ const MASTER_WRITES: u8 = 0x01;
 /// Where bit 3 of the status byte stands: the mailbox is full.
 const FULL_AT: u8 = 3;
 
+/// Where the activate byte asks for the last mail once more, and the PDI byte tells that this was done.
+const REPEAT_AT: u8 = 1;
+
 /// The bit of the status byte that tells that the mailbox is full.
 pub const MAILBOX_FULL: u8 = 0x08;
 
@@ -149,7 +152,7 @@ impl SyncMan {
     }
 
     ghost use Rattle.ec_regs.specs.SyncMan.{is_enabled, is_buffered, is_mailbox, master_reads, master_writes};
-    ghost use Rattle.ec_regs.specs.SyncMan.{is_full};
+    ghost use Rattle.ec_regs.specs.SyncMan.{is_full, repeat_asked, asks_again};
     ghost use Rattle.ec_regs.specs.SyncMan.{has_area_length, is_in_process_memory, is_active, guards_outputs};
 
     /// Is the sync manager switched on (bit 0 of the activate byte)?
@@ -192,6 +195,21 @@ impl SyncMan {
         ensures { result ≡ is_full self.now }
     {
         self.status >> FULL_AT & 1 == 1
+    }
+
+    /// Bit 1 of the activate byte, 1 or 0, which the master changes to have the last mail once more.
+    pub fn repeat_asked(&self) -> u8
+        ensures { result ≡ repeat_asked self.now }
+    {
+        self.activate >> REPEAT_AT & 1
+    }
+
+    /// Does the master ask for the last mail once more, and is that not told as done: is bit 1 of the
+    /// activate byte not as bit 1 of the PDI byte?
+    pub fn asks_again(&self) -> bool
+        ensures { result ≡ asks_again self.now }
+    {
+        self.repeat_asked() != self.pdi >> REPEAT_AT & 1
     }
 
     /// May an area of the record's kind have the record's length?
@@ -266,6 +284,15 @@ pub fn status_address(number: usize) -> u16
     ensures inside { result < MEMORY_SIZE }
 {
     SYNC_MANAGER_BASE + SYNC_MANAGER_SIZE * number as u16 + SYNC_MANAGER_STATUS
+}
+
+/// The address of the PDI byte of the sync manager with a number.
+pub fn pdi_address(number: usize) -> u16
+    requires { number < SYNC_MANAGER_COUNT }
+    ensures value { result ≡ pdi_address number }
+    ensures inside { result < MEMORY_SIZE }
+{
+    SYNC_MANAGER_BASE + SYNC_MANAGER_SIZE * number as u16 + SYNC_MANAGER_PDI
 }
 
 /// The control byte of a buffered area that the master reads.

@@ -29,6 +29,7 @@ pub fn tell_of_controller(
             put_status(answer, status);
             answer.hex(u64::from(code));
         }
+        "lost_links" => answer.bytes(&controller.lost_links()),
         "outputs" => match controller.outputs(words.number(7) as usize) {
             Some(bytes) => answer.bytes(bytes),
             None => answer.put("none"),
@@ -120,6 +121,11 @@ pub fn act_on_controller(
             Ok(mail) => answer.bytes(mail.as_slice()),
             Err(fault) => answer.name(fault),
         },
+        "repeat_mail" => match controller.repeat_mail(words.number(7) as usize) {
+            Ok(()) => answer.put("ok"),
+            Err(fault) => answer.name(fault),
+        },
+        "set_lost_links" => controller.set_lost_links(&[u8_of(words), u8_of(words)]),
         _ => return false,
     }
     true

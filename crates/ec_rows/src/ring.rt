@@ -6,7 +6,7 @@ use crate::words::{Fault, Words};
 use ec_app::{Objects, Slave};
 use ec_applications::tell_links;
 use ec_merge::join_frames;
-use ec_regs::AlState;
+use ec_regs::{AlState, Information};
 use ec_ring::{Arrival, Came, HeardPorts, Links, MAX_LINKS, Port, Ring, Travel, Weather};
 use ec_wire::{Form, FrameBuf};
 use std::alloc::Global;
@@ -72,6 +72,13 @@ fn slave_in(alloc: Global, station: u16, state: AlState) -> Option<Slave> {
     let mut slave = Slave::new(alloc, station, Objects::new(), 0, 0).ok()?;
     slave.set_state(state);
     Some(slave)
+}
+
+/// Has a slave tell that it is an IP core.
+fn tell_what_it_is(slave: &mut Slave) {
+    slave
+        .controller_mut()
+        .set_information(&Information::ip_core());
 }
 
 /// All links up but those whose numbers follow.
@@ -196,12 +203,23 @@ impl Line {
                 let before = words.yes();
                 tell_links(&mut self.ring, k, before, words.yes());
             }
+            "tells" => self.tells(words),
             "step_all" => self.ring.step_all(),
             "copy_a" => self.a = Copy::came(frame_of(Form::Udp, words)),
             "copy_b" => self.b = Copy::came(frame_of(Form::Udp, words)),
             _ => return false,
         }
         true
+    }
+
+    /// `tells K`: the slave at K tells what it is, as a device does.
+    fn tells(&mut self, words: &mut Words<'_>) {
+        let k = words.number(255) as usize;
+        if k < self.ring.slaves().len() {
+            tell_what_it_is(self.ring.slave_mut(k));
+        } else {
+            words.refuse(Fault::OutOfRange);
+        }
     }
 
     /// `set_link K UP`: a link of the ring itself.

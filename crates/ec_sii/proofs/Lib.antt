@@ -1,4 +1,7 @@
 mod CrcLemmas
+mod PlaceLemmas
+mod ReadingLemmas
+mod PartLemmas
 pub mod AnswerLemmas
 pub mod ServedLemmas
 pub mod Laws

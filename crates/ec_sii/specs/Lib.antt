@@ -3,3 +3,5 @@ pub mod Eeprom
 pub mod Served
 pub mod Crc
 pub mod Image
+pub mod Reading
+pub mod Made

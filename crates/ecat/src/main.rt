@@ -16,7 +16,8 @@ use ecat_acts::listing::{Wanted, act_list, act_list_file};
 use ecat_acts::on_scene::on_scene;
 use ecat_acts::replaying::{ByScene, Twin};
 use ecat_acts::show::act_show;
-use ecat_args::{Args, ArgsFault, CaptureCommand, SceneCommand, bad_word};
+use ecat_acts::sii::sii_by;
+use ecat_args::{Args, ArgsFault, CaptureCommand, SceneCommand, SiiWords, bad_word};
 use ecat_frames::Frames;
 use ecat_judge::{Asked as AskedOfJudge, Judged};
 use ecat_scene::{Scene, SceneFault};
@@ -165,6 +166,10 @@ where
             Err(error) => report_file(&Failure::Open, path, &error, out, err),
         },
         Args::Scan(words) => scan_by(rt, words, out, err),
+        Args::Sii(words) => {
+            let file = path_of(words.file);
+            sii_by(rt, &SiiWords { file, ..*words }, out, err)
+        }
         Args::Vectors => act_vectors(rt.alloc(), out, err),
     }
 }

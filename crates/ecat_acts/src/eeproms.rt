@@ -1,4 +1,5 @@
-//! `serve --sii FOLDER`: what stands in the EEPROMs of slaves, in files as `ethercat sii_read` writes them.
+//! What stands in the EEPROMs of slaves, in files as `ethercat sii_read` writes them: one file, or those of a
+//! folder, as `serve --sii FOLDER` has them.
 
 use crate::failure::{Failure, refuse, report, report_file};
 use ec_applications::PlacedEeprom;
@@ -77,9 +78,25 @@ where
         Err(error) if error.kind() == ErrorKind::NotFound => return Ok(None),
         Err(error) => return Err(report_file(&Failure::Eeprom, path.as_str(), &error, out, err)),
     };
+    eeprom_in(rt, file, path.as_str(), out, err).map(Some)
+}
+
+/// The EEPROM that an open file has, whose path is told where it cannot be read.
+pub(crate) fn eeprom_in<R, W, V>(
+    rt: &R,
+    file: R::File,
+    path: &str,
+    out: &mut W,
+    err: &mut V,
+) -> Result<Eeprom, u8>
+where
+    R: Files + AllocGlobal,
+    W: Write,
+    V: Write,
+{
     match read_all(rt.alloc(), &mut Counted::new(file), MOST_BYTES) {
-        Ok(bytes) => Ok(Some(Eeprom::new(bytes))),
-        Err(fault) => Err(report_unread(fault, path.as_str(), out, err)),
+        Ok(bytes) => Ok(Eeprom::new(bytes)),
+        Err(fault) => Err(report_unread(fault, path, out, err)),
     }
 }
 

@@ -56,6 +56,10 @@ pub enum Failure {
     Outputs,
     /// The file of an EEPROM could not be opened.
     Eeprom,
+    /// The file of an EEPROM that is written is there, and was not to be overwritten.
+    EepromExists,
+    /// The file of an EEPROM could not be written.
+    EepromWrite,
     /// The file of a master's outputs has none.
     Images(ImagesFault),
     /// It is not said where a line lies that is somewhere else, or it is said twice.
@@ -162,6 +166,8 @@ pub fn report<W: Write, V: Write>(failure: &Failure, out: &mut W, err: &mut V) -
         Failure::Clock => failed(err, b"clock: Open\n"),
         Failure::Outputs => failed(err, b"outputs: Open\n"),
         Failure::Eeprom => failed(err, b"sii: Open\n"),
+        Failure::EepromExists => failed(err, b"sii: Exists\n"),
+        Failure::EepromWrite => failed(err, b"sii: Write\n"),
         Failure::Images(fault) => report_images(fault, out, err),
         Failure::Reach => bad_argument(err, b"argument: --at or --raw is wanted, one of them\n"),
         Failure::At => bad_argument(

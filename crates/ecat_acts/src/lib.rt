@@ -10,7 +10,7 @@
 //! - `through` asks the master that runs on a line by its door, where a second one would break its cycles;
 //! - [`act_list`](listing::act_list) and [`act_show`](show::act_show) go through a capture, `learning` tells
 //!   how `learn` ended, `judging` judges a capture by a scene or by the line that it shows, and `replaying`
-//!   sends what its master sent to the line of a scene;
+//!   sends what its master sent to the line of a scene; [`sii_by`](sii::sii_by) prints an EEPROM;
 //! - `piped` is an output that its reader may close, `patience` says when a master waits for who reads what
 //!   it writes, which is not while its cycles run, and `answering` tells answers to commands from the lines
 //!   that it writes of its own;
@@ -47,6 +47,7 @@ mod remote;
 pub mod replaying;
 mod serving;
 pub mod show;
+pub mod sii;
 mod tape;
 mod through;
 pub mod udp;

@@ -184,6 +184,28 @@ where
     }
 }
 
+/// Makes the file of an EEPROM, as `made` makes that of a capture.
+pub fn make_eeprom<R, W, V>(
+    rt: &R,
+    path: &str,
+    force: bool,
+    out: &mut W,
+    err: &mut V,
+) -> Result<R::File, u8>
+where
+    R: Files,
+    W: Write,
+    V: Write,
+{
+    match made_at(rt, path, force) {
+        Ok(file) => Ok(file),
+        Err(error) => {
+            let why = (Failure::Eeprom, Failure::EepromExists);
+            Err(report_unmade(path, &why, &error, out, err))
+        }
+    }
+}
+
 /// Makes a file, in the place of one that is there if that is forced.
 fn made_at<R: Files>(rt: &R, path: &str, force: bool) -> io::Result<R::File> {
     if force {

@@ -1,4 +1,4 @@
--- Where clap's definition of the line finds no fault, the words name one of the seventeen commands and
+-- Where clap's definition of the line finds no fault, the words name one of the eighteen commands and
 -- give it what it needs.
 use Rattle.std.proofs.Common.{◌≡◌, ◌∙◌, Bool, true, false, cond, List, [], ◌∷◌, Option, Some, None, refl, sym}
 use Rattle.std.proofs.Common.{ap, codes, is_some, IfSome, true≢false}
@@ -82,7 +82,7 @@ subs_complete p other = (
                           and_from _ _ (all.0 refl)
                               (and_from _ _ (all.1.0 refl) (and_from _ _ (all.1.1.0 refl) (and_from _ _ (all.1.1.1.0 refl) refl))),
                         ),
-                        (λ met e. let all = leaf_given _ p.1 refl refl e in (refl, and_from _ _ (all.0 refl) refl), (λ met e. let all = leaf_given _ p.1 refl refl e in (refl, and_from _ _ (all.0 refl) refl), (λ met e. let all = leaf_given _ p.1 refl refl e in (refl, and_from _ _ (all.0 refl) refl), (λ met e. (refl, refl), (λ met e. (refl, refl), (λ met e. absurd (no_help p.0 met other), tt)))))),
+                        (λ met e. let all = leaf_given _ p.1 refl refl e in (refl, and_from _ _ (all.0 refl) refl), (λ met e. let all = leaf_given _ p.1 refl refl e in (refl, and_from _ _ (all.0 refl) refl), (λ met e. let all = leaf_given _ p.1 refl refl e in (refl, and_from _ _ (all.0 refl) refl), (λ met e. (refl, refl), (λ met e. let all = leaf_given _ p.1 refl refl e in (refl, and_from _ _ (all.0 refl) refl), (λ met e. (refl, refl), (λ met e. absurd (no_help p.0 met other), tt))))))),
                       ),
                     ),
                   ),

@@ -6,13 +6,13 @@ use Rattle.clap.specs.declared.error.kind.ErrorKind.TheVariants.{OutOfMemory}
 use Rattle.ecat_args.specs.Given.{Given, IsComplete, IsNoAddress, LiesAt, control_in, force_in, forever_in}
 use Rattle.ecat_args.specs.Given.{by_index_in, index_in, io_open_in, io_stale_in, lines_in}
 use Rattle.ecat_args.specs.Given.{judge_in, log_in, many_in, plain_in, port_in, set_up_in, station_in, sub_in}
-use Rattle.ecat_args.specs.Given.{surely_in, tries_in}
+use Rattle.ecat_args.specs.Given.{place_in, surely_in, tries_in}
 use Rattle.ecat_args.specs.Given.{csv_in, every_in, faults_in, images_in, late_in, limit_in, once_in}
 use Rattle.ecat_args.specs.Given.{asked_in, data_in, packet_in, recover_in, stats_in, stop_in, value_in}
 use Rattle.ecat_args.specs.Given.{busy_in, json_in, or_stop_in, until_end_in, word_in}
 use Rattle.ecat_commands.specs.Commands.{line}
 use Rattle.ecat_args.specs.declared.args.Args.{Args}
-use Rattle.ecat_args.specs.declared.args.Args.TheVariants.{Capture, Scene, Scan, Vectors}
+use Rattle.ecat_args.specs.declared.args.Args.TheVariants.{Capture, Scene, Scan, Sii, Vectors}
 use Rattle.ecat_args.specs.declared.args.ArgsFault.{ArgsFault}
 use Rattle.ecat_args.specs.declared.args.ArgsFault.TheVariants.{Line, BadNumber, NoMemory}
 use Rattle.ecat_args.specs.declared.commands.CaptureCommand.{CaptureCommand}
@@ -113,6 +113,10 @@ Says (Scan words) given =
     × (limit_in given ≡ Some words.limit) × (late_in given ≡ Some words.late)
     × (word_in given (codes "SCENE") ≡ option_map (λ w. w.now) words.scene)
     × (force_in given ≡ words.force) × (json_in given ≡ words.json)
+Says (Sii words) given =
+    (given.0 ≡ codes "sii") × (word_in given (codes "FILE") ≡ Some words.file.now)
+    × (place_in given ≡ Some words.place)
+    × (word_in given (codes "WRITE") ≡ option_map (λ w. w.now) words.write) × (force_in given ≡ words.force)
 Says Vectors given = given.0 ≡ codes "vectors"
 
 -- a word of the command that has to be a number, a value or an address is none in its range
@@ -129,6 +133,7 @@ HasBadNumber given =
     ⊎ (limit_in given ≡ None) ⊎ (late_in given ≡ None) ⊎ (io_stale_in given ≡ None)
     ⊎ (tries_in given ≡ None)))
     ⊎ ((given.0 ≡ codes "scan") × ((limit_in given ≡ None) ⊎ (late_in given ≡ None)))
+    ⊎ ((given.0 ≡ codes "sii") × (place_in given ≡ None))
 
 -- clap's definition of the line takes the words, and what it gives of them is complete and
 -- satisfies P

@@ -64,6 +64,16 @@ packet_in given = count_by (word_in given (codes "PACKET"))
 abbrev pub lines_in : Given → Option (Option ℕ)
 lines_in given = count_by (word_in given (codes "LINES"))
 
+-- a place that may be left out, 0 for the first one: where no word was given there is none, and `None` says
+-- that the word is none
+abbrev pub place_by : Option Text → Option (Option ℕ)
+place_by None = Some None
+place_by (Some word) = option_map (λ n. Some n) (number_within 0 4294967295 word)
+
+-- the place of the slave in its scene whose EEPROM `sii` prints
+abbrev pub place_in : Given → Option (Option ℕ)
+place_in given = place_by (word_in given (codes "PLACE"))
+
 -- how many packets `serve` takes, and how many cycles `master` makes
 abbrev pub many_in : Given → Option (Option ℕ)
 many_in given = count_by (word_in given (codes "N"))
@@ -177,7 +187,7 @@ IsNoAddress (Some word) = (address : Ipv4Addr) → IsIpv4Text word address → �
 abbrev pub command_names : List Text
 command_names = codes "show" ∷ codes "list" ∷ codes "learn" ∷ codes "judge" ∷ codes "replay" ∷ codes "check"
     ∷ codes "cover" ∷ codes "lint" ∷ codes "where" ∷ codes "run" ∷ codes "sweep" ∷ codes "sdo" ∷ codes "udp"
-    ∷ codes "serve" ∷ codes "master" ∷ codes "scan" ∷ codes "vectors" ∷ []
+    ∷ codes "serve" ∷ codes "master" ∷ codes "scan" ∷ codes "sii" ∷ codes "vectors" ∷ []
 
 -- the names of the words that a command needs
 abbrev pub needed_words : Text → List Text
@@ -198,9 +208,10 @@ needed_words command =
     else if bytes_eq command (codes "udp") then codes "SCENE" ∷ []
     else if bytes_eq command (codes "serve") then codes "SCENE" ∷ []
     else if bytes_eq command (codes "master") then codes "SCENE" ∷ []
+    else if bytes_eq command (codes "sii") then codes "FILE" ∷ []
     else []
 
--- the command is one of the seventeen, and the words that it needs were given
+-- the command is one of the eighteen, and the words that it needs were given
 abbrev pub IsComplete : Given → Type 0
 IsComplete given = (list_any (bytes_eq given.0) command_names ≡ true)
     × (list_all (λ name. is_some (word_in given name)) (needed_words given.0) ≡ true)

@@ -5,10 +5,10 @@ ghost use Rattle.std.specs.Net.Grammar.{IsIpv4Text};
 ghost use Rattle.clap.specs.Words.{first_of, found_of, rows_of};
 ghost use Rattle.clap.specs.Walk.{texts};
 ghost use Rattle.ecat_args.specs.Answer.{Explains, HasBadNumber, Says, Takes};
-ghost use Rattle.ecat_args.specs.Given.{IsComplete, IsNoAddress, LiesAt, count_by, flag_by, port_by};
-ghost use Rattle.ecat_args.specs.Given.{value_by};
+ghost use Rattle.ecat_args.specs.Given.{IsComplete, IsNoAddress, LiesAt, count_by, flag_by};
+ghost use Rattle.ecat_args.specs.Given.{place_by, port_by, value_by};
 
-use crate::commands::{CaptureCommand, MasterWords, ScanWords, SceneCommand};
+use crate::commands::{CaptureCommand, MasterWords, ScanWords, SceneCommand, SiiWords};
 use crate::number::{Value, number, value_of};
 use clap::ArgMatches;
 use clap::error::ErrorKind;
@@ -43,6 +43,8 @@ pub enum Args<'a> {
     /// `scan [--at AT] [--raw RAW] [--through THROUGH] [--limit LIMIT] [--late LATE] [--scene SCENE]
     /// [--force] [--json]`: tells what slaves a line has that lies somewhere else.
     Scan(ScanWords<'a>),
+    /// `sii FILE [PLACE] [--write WRITE] [--force]`: prints what an EEPROM says.
+    Sii(SiiWords<'a>),
     /// `vectors`: runs the worked rows.
     Vectors,
 }
@@ -156,6 +158,7 @@ fn command<'a>(name: &str, given: &ArgMatches<'a>) -> Option<Args<'a>>
         "serve" => serve(given),
         "master" => master(given),
         "scan" => scan(given),
+        "sii" => sii(given),
         "vectors" => Some(Args::Vectors),
         _ => unreachable!(),
     }
@@ -426,6 +429,31 @@ fn scan<'a>(given: &ArgMatches<'a>) -> Option<Args<'a>>
         force: flag(given, "force"),
         json: flag(given, "json"),
     }))
+}
+
+// What `sii` says, unless the place is bad.
+fn sii<'a>(given: &ArgMatches<'a>) -> Option<Args<'a>>
+    requires { IsComplete (codes "sii", rows_of (found_of given.now)) }
+    ensures { MatchOption result (HasBadNumber (codes "sii", rows_of (found_of given.now)))
+        (λ args. Says args (codes "sii", rows_of (found_of given.now))) }
+{
+    let place = place_given(given)?;
+    Some(Args::Sii(SiiWords {
+        file: text(given, "FILE"),
+        place,
+        write: word(given, "WRITE"),
+        force: flag(given, "force"),
+    }))
+}
+
+// The place of a slave, if one was given, unless it is bad.
+fn place_given(given: &ArgMatches<'_>) -> Option<Option<u32>>
+    ensures { result ≡ place_by (first_of (codes "PLACE") (rows_of (found_of given.now))) }
+{
+    match word(given, "PLACE") {
+        Some(text) => Some(Some(number(text, 0, u32::MAX)?)),
+        None => Some(None),
+    }
 }
 
 // The port of the end A, or EtherCAT's own, unless it is bad.

@@ -257,3 +257,16 @@ pub struct ScanWords<'a> {
     /// Whether objects of JSON are printed.
     pub json: bool,
 }
+
+/// What the words of `sii` say.
+#[derive(Clone, Copy, Debug)]
+pub struct SiiWords<'a> {
+    /// The path of the bytes of an EEPROM, or of a scene.
+    pub file: &'a str,
+    /// The place of a slave, where the file is a scene; the first one's is 0.
+    pub place: Option<u32>,
+    /// The path of a file that gets the bytes.
+    pub write: Option<&'a str>,
+    /// Whether a file that is there is overwritten.
+    pub force: bool,
+}

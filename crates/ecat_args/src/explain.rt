@@ -90,6 +90,10 @@ pub fn bad_word<'a>(words: &'a [&'a str]) -> Option<BadWord<'a>> {
     if is_learn {
         return bad_value(words, "--at", Form::Number(LEAST_COUNT, u32::MAX));
     }
+    let is_sii = words.get(1).is_some_and(|word| *word == "sii");
+    if is_sii {
+        return bad_place(words);
+    }
     for (name, form) in OPTIONS {
         if let Some(bad) = bad_value(words, name, form) {
             return Some(bad);
@@ -120,14 +124,25 @@ fn bad_word_of_sdo<'a>(words: &'a [&'a str]) -> Option<BadWord<'a>> {
     None
 }
 
+/// The place of `sii`, behind its file, where it is bad.
+fn bad_place<'a>(words: &'a [&'a str]) -> Option<BadWord<'a>> {
+    let text = plain_word(words, 1)?;
+    let form = Form::Number(0, u32::MAX);
+    if form.has(text) {
+        return None;
+    }
+    let name = "PLACE";
+    Some(BadWord { name, text, form })
+}
+
 /// The plain word with this number, from 0, behind the command: none of those that begin with a hyphen, and
-/// not the value of `--at` or `--raw`.
+/// not the value of `--at`, `--raw` or `--write`.
 fn plain_word<'a>(words: &'a [&'a str], number: usize) -> Option<&'a str> {
     let mut seen = 0usize;
     let mut is_value = false;
     for word in words.iter().skip(2) {
         let is_plain = !is_value && !word.starts_with('-');
-        is_value = *word == "--at" || *word == "--raw";
+        is_value = *word == "--at" || *word == "--raw" || *word == "--write";
         if is_plain {
             if seen == number {
                 return Some(*word);

@@ -22,6 +22,7 @@
 //!     [--force]
 //! ecat scan [--at AT] [--raw RAW] [--through THROUGH] [--limit LIMIT] [--late LATE] [--scene SCENE]
 //!     [--force] [--json]
+//! ecat sii FILE [PLACE] [--write WRITE] [--force]
 //! ecat vectors
 //! ```
 //!
@@ -61,6 +62,6 @@ mod explain;
 mod number;
 
 pub use args::{Args, ArgsFault};
-pub use commands::{CaptureCommand, MasterWords, ScanWords, SceneCommand};
+pub use commands::{CaptureCommand, MasterWords, ScanWords, SceneCommand, SiiWords};
 pub use explain::{BadWord, bad_word};
 pub use number::Value;

@@ -1,4 +1,4 @@
--- The command line of `ecat`, in clap's own words: seventeen commands, of which one has to be given.
+-- The command line of `ecat`, in clap's own words: eighteen commands, of which one has to be given.
 use Rattle.std.specs.Prelude.{◌≡◌, ◌∷◌, List, [], Some, codes, false, fold, true}
 use Rattle.clap.specs.Words.{App, Rule, Text, app_of, new_app, new_rule, rule_of, with_rule, with_subcommand}
 use Rattle.clap.specs.declared.builder.action.ArgAction.TheVariants.{SetTrue}
@@ -244,6 +244,14 @@ scan_words = at_rule ∷ raw_rule ∷ through_rule ∷ limit_rule ∷ late_rule
 abbrev pub scan_line : App
 scan_line = with_rules (new_app (codes "scan")) scan_words
 
+-- `sii FILE [PLACE] [--write WRITE] [--force]`
+abbrev pub sii_words : List Rule
+sii_words = needed_rule (codes "FILE") ∷ new_rule (codes "PLACE")
+    ∷ option_rule (codes "WRITE") (codes "write") ∷ force_rule ∷ []
+
+abbrev pub sii_line : App
+sii_line = with_rules (new_app (codes "sii")) sii_words
+
 -- `vectors`
 abbrev pub vectors_line : App
 vectors_line = new_app (codes "vectors")
@@ -270,9 +278,9 @@ capture_lines = show_line ∷ list_line ∷ learn_line ∷ judge_line ∷ replay
 abbrev pub scene_lines : List App
 scene_lines = check_line ∷ cover_line ∷ lint_line ∷ where_line ∷ run_line ∷ sweep_line ∷ sdo_line ∷ []
 
--- the commands over sockets, and the worked rows
+-- the commands over sockets, what an EEPROM says, and the worked rows
 abbrev pub socket_lines : List App
-socket_lines = udp_line ∷ serve_line ∷ master_line ∷ scan_line ∷ vectors_line ∷ []
+socket_lines = udp_line ∷ serve_line ∷ master_line ∷ scan_line ∷ sii_line ∷ vectors_line ∷ []
 
 -- the whole line
 unfoldable pub line : App

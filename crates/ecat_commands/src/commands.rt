@@ -11,6 +11,7 @@ ghost use Rattle.ecat_commands.specs.Commands.{needed_rule, option_rule, at_rule
 ghost use Rattle.ecat_commands.specs.Commands.{judge_rule, late_rule, limit_rule, pcap_rule, port_rule};
 ghost use Rattle.ecat_commands.specs.Commands.{raw_rule, check_line, cover_line, learn_line, lint_line};
 ghost use Rattle.ecat_commands.specs.Commands.{list_line, master_line, run_line, scan_line, sdo_line};
+ghost use Rattle.ecat_commands.specs.Commands.{sii_line};
 ghost use Rattle.ecat_commands.specs.Commands.{device_words, serve_line, serve_words, show_line, sweep_line};
 ghost use Rattle.ecat_commands.specs.Commands.{through_rule, udp_line};
 ghost use Rattle.ecat_commands.specs.Commands.{ecat_setup, vectors_line, where_line, with_rules};
@@ -568,6 +569,23 @@ fn scan<'a>(alloc: Global) -> Result<Command<'a>, AllocError>
     command(alloc, "scan", about, help::SCAN, words)
 }
 
+// `sii FILE [PLACE] [--write WRITE] [--force]`
+fn sii<'a>(alloc: Global) -> Result<Command<'a>, AllocError>
+    ensures { IfOk result (Builds sii_line) }
+{
+    let about = "Prints what the EEPROM of a slave says";
+    let file = "The bytes of the EEPROM, or with PLACE a scene";
+    let place = "The place of the slave in the scene, 0 for the first one";
+    let write = "A file that gets the bytes; it must not be there yet";
+    let words = vec![in alloc;
+        needed(alloc, "FILE", file),
+        optional(alloc, "PLACE", place),
+        option(alloc, "WRITE", "write", write),
+        force(alloc),
+    ]?;
+    command(alloc, "sii", about, help::SII, words)
+}
+
 // The line with one command more, if memory lasts.
 fn add<'a>(
     line: Result<Command<'a>, AllocError>,
@@ -629,7 +647,7 @@ fn add_on_scenes<'a>(
     add(line, sdo(alloc))
 }
 
-// The line with the commands over sockets, and the worked rows.
+// The line with the commands over sockets, what an EEPROM says, and the worked rows.
 #[inline(never)]
 fn add_over_sockets<'a>(
     alloc: Global,
@@ -642,10 +660,11 @@ fn add_over_sockets<'a>(
     let line = add(line, serve(alloc));
     let line = add(line, master(alloc));
     let line = add(line, scan(alloc));
+    let line = add(line, sii(alloc));
     add(line, Ok(vectors(alloc)))
 }
 
-/// The definition of the whole command line: seventeen commands, of which one has to be given, each with its
+/// The definition of the whole command line: eighteen commands, of which one has to be given, each with its
 /// words, and the texts of their help.
 pub fn line<'a>(alloc: Global) -> Result<Command<'a>, AllocError>
     ensures { IfOk result (Builds line) }

@@ -31,6 +31,7 @@ Examples:
   ecat serve scenes/serve/line.scene --packets 100
   ecat master scenes/master/machine.scene --at 127.0.0.1:34980,127.0.0.1:34981
   ecat scan --at 127.0.0.1:34980
+  ecat sii scenes/serve/line.scene 0
   ecat vectors
   ecat help sdo";
 
@@ -250,6 +251,7 @@ two packets and answered by ok, what it asks for and ok, or refused and why:
   mem SLAVE ADDRESS BYTES   loads process memory, as inputs
   state SLAVE 1|2|4|8       puts a slave into a state
   error SLAVE CODE          has a slave show an error; in Op it goes to Safe-Op
+  power SLAVE on|off        switches its power; behind it it begins in Init
   lose A|B N                loses the next N copies that arrive at an end
   late A|B MILLISECONDS N   has the next N copies leave an end so much later
   double A|B N              has them leave twice
@@ -348,6 +350,19 @@ the cable, as far as it knows them; no frame goes out for it.
 
 Example:
   ecat scan --at 127.0.0.1:34980,127.0.0.1:34981";
+
+/// Of `sii`.
+pub(crate) const SII: &str = "\
+Prints what an EEPROM says, as slaves have one and masters read it at start: who
+made the slave, its name, mailboxes, FMMUs, sync managers and process data. FILE
+has its bytes, as `ethercat sii_read` writes them; with PLACE it is a scene, and
+the EEPROM is the one that `serve` makes for the slave at that place, 0 for the
+first one. With --write the bytes are written to a file besides, which
+`serve --sii` reads where it is called 0.bin, 1.bin, .. in its folder.
+
+Examples:
+  ecat sii scenes/serve/line.scene 0
+  ecat sii scenes/serve/line.scene 0 --write 0.bin";
 
 /// Of `vectors`.
 pub(crate) const VECTORS: &str = "\

@@ -241,6 +241,8 @@ fn outside_of(first: &[u8]) -> &'static str {
         "object" => "the value does not fit its size in bytes",
         "startup" => "an object is written with 1, 2 or 4 bytes",
         "name" => "a name has 64 characters at most, spaces included",
+        "pdo" => "what a PDO maps has an index up to 65535, and a subindex and bits up to 255",
+        "sii" => "the bytes go past the end of an EEPROM, which has 131072 at the most",
         "signal" => {
             "the item has all bits of a signal, and its kind takes so many: bool 1, u8 and i8 1 to 8, u16 \
              and i16 1 to 16, u32 and i32 1 to 32, f32 32, raw whole bytes"
@@ -273,6 +275,7 @@ fn most_of(first: &[u8]) -> &'static str {
         "frame" | "step" => "a scene has 32 actions at most",
         "weather" => "a scene has 32 weathers at most",
         "signal" => "a scene has 256 signals at most",
+        "pdo" => "a PDO maps 255 objects at most",
         _ => "a scene has 32 items at most",
     }
 }

@@ -107,6 +107,11 @@ pub(crate) fn forms_of(first: &[u8]) -> Option<(&'static str, &'static [Form])> 
             ],
         )),
         "alias" => Some(("alias NUMBER", &[Form::Number(WORD)])),
+        "pdo" => Some((
+            "pdo INDEX SM INDEX:SUB:BITS ..",
+            &[Form::Number(WORD), Form::Number(LAST_RECORD)],
+        )),
+        "sii" => Some(("sii ADDRESS BYTES", &[Form::Number(WORD), Form::Bytes])),
         "name" => Some(("name TEXT", &[])),
         "signal" => Some((
             "signal NAME ITEM BIT COUNT KIND",

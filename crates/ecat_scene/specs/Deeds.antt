@@ -26,12 +26,14 @@ use Rattle.ecat_scene.specs.declared.scene.StartupObject.{StartupObject}
 use Rattle.ecat_scene.specs.declared.scene.TheConstants.{MAX_ITEMS, MAX_SLAVES, MAX_STARTUP}
 use Rattle.ecat_scene.specs.Fields.{fitting}
 use Rattle.ecat_scene.specs.Numbers.{number_of}
-use Rattle.ecat_scene.specs.Scene.{SceneRecord, SettingRecord, SyncManAt, FmmuAt, LoadAt, SlaveRecord}
+use Rattle.ecat_scene.specs.Scene.{PdoRecord, SceneRecord, SettingRecord, SyncManAt, FmmuAt, LoadAt}
+use Rattle.ecat_scene.specs.Scene.{SlaveRecord}
 use Rattle.ecat_scene.specs.Scene.{new_slave}
 use Rattle.ecat_scene.specs.Signals.{signal_line}
 use Rattle.ecat_scene.specs.Text.{is_text, words_in}
 use Rattle.ecat_scene.specs.Words.{addressed_item_of, alias_of, fmmu_setting, identity_of, item_of, load_of}
-use Rattle.ecat_scene.specs.Words.{name_of, object_of, startup_of, state_of, Stops, sync_man_setting, ◌>>=◌}
+use Rattle.ecat_scene.specs.Words.{name_of, object_of, pdo_of, sii_of, startup_of, state_of, Stops}
+use Rattle.ecat_scene.specs.Words.{sync_man_setting, ◌>>=◌}
 
 -- what is read of a line makes this of a scene, or of its slaves, unless memory ran out
 abbrev pub Does : {A : Type 0} → Result (Unit {0}) Stop → A → Result A LineFault → Type 0
@@ -117,6 +119,14 @@ to_alias alias slave = Ok (record slave { alias = alias })
 abbrev pub to_name : List ℕ → SlaveRecord → Result SlaveRecord LineFault
 to_name name slave = Ok (record slave { name = name })
 
+-- a PDO more
+abbrev pub with_pdo : PdoRecord → SlaveRecord → Result SlaveRecord LineFault
+with_pdo pdo slave = Ok (record slave { pdos = slave.pdos ++ pdo ∷ [] })
+
+-- bytes of its EEPROM more
+abbrev pub with_sii : ℕ × List ℕ → SlaveRecord → Result SlaveRecord LineFault
+with_sii piece slave = Ok (record slave { sii = slave.sii ++ piece ∷ [] })
+
 -- the lengths of the areas that a slave's application takes and gives
 unfoldable pub areas_of : List ℕ → List ℕ → Result (ℕ × ℕ) LineFault
 areas_of outputs inputs = do
@@ -195,6 +205,15 @@ unfoldable pub name_line : List (List ℕ) → SceneRecord → Result SceneRecor
 name_line (first ∷ more) scene = in_scene scene (then_last (name_of first more) to_name scene.slaves)
 name_line words scene = Err WrongCount
 
+unfoldable pub pdo_line : List (List ℕ) → SceneRecord → Result SceneRecord LineFault
+pdo_line (index ∷ manager ∷ entries) scene =
+    in_scene scene (then_last (pdo_of index manager entries) with_pdo scene.slaves)
+pdo_line words scene = Err WrongCount
+
+unfoldable pub sii_line : List (List ℕ) → SceneRecord → Result SceneRecord LineFault
+sii_line (address ∷ row ∷ []) scene = in_scene scene (then_last (sii_of address row) with_sii scene.slaves)
+sii_line words scene = Err WrongCount
+
 abbrev pub with_item : ItemRecord → SceneRecord → Result SceneRecord LineFault
 with_item item scene = with_room MAX_ITEMS scene.items item >>= λ items. Ok (record scene { items = items })
 
@@ -228,6 +247,8 @@ told_does first rest scene =
     else if bytes_eq first (codes "identity") then Some (identity_line rest scene)
     else if bytes_eq first (codes "alias") then Some (alias_line rest scene)
     else if bytes_eq first (codes "name") then Some (name_line rest scene)
+    else if bytes_eq first (codes "pdo") then Some (pdo_line rest scene)
+    else if bytes_eq first (codes "sii") then Some (sii_line rest scene)
     else if bytes_eq first (codes "signal") then Some (signal_line rest scene)
     else other_does first
 

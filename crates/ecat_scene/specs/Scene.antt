@@ -14,6 +14,9 @@ use Rattle.ecat_scene.specs.declared.scene.Action.{Action}
 use Rattle.ecat_scene.specs.declared.scene.Scene.{Scene}
 use Rattle.ecat_scene.specs.declared.scene.SceneSlave.{SceneSlave}
 use Rattle.ecat_scene.specs.declared.scene.SceneWeather.{SceneWeather}
+use Rattle.ecat_scene.specs.declared.scene.ScenePdo.{ScenePdo}
+use Rattle.ecat_scene.specs.declared.scene.ScenePdoEntry.{ScenePdoEntry}
+use Rattle.ecat_scene.specs.declared.scene.SiiBytes.{SiiBytes}
 use Rattle.ecat_scene.specs.declared.scene.SlaveKind.{SlaveKind}
 use Rattle.ecat_scene.specs.declared.scene.SlaveKind.TheVariants.{Unsaid}
 use Rattle.ecat_scene.specs.declared.scene.Setting.{Setting}
@@ -32,6 +35,19 @@ setting_record (OfSyncMan s) = SyncManAt s.index s.record
 setting_record (OfFmmu s) = FmmuAt s.index s.record
 setting_record (OfLoad l) = LoadAt l.address l.bytes.items
 
+-- a PDO: its object, its sync manager, and what it maps
+pub record PdoRecord : Type 0 where
+  pub index : ℕ
+  pub manager : ℕ
+  pub entries : List ScenePdoEntry
+
+abbrev pub pdo_record : ScenePdo → PdoRecord
+pdo_record p = record { index = p.index; manager = p.manager; entries = p.entries.items }
+
+-- bytes of its EEPROM: the address of their first word, and them
+abbrev pub sii_record : SiiBytes → ℕ × List ℕ
+sii_record s = (s.word, s.bytes.items)
+
 -- one slave
 pub record SlaveRecord : Type 0 where
   pub station : ℕ
@@ -47,6 +63,8 @@ pub record SlaveRecord : Type 0 where
   pub identity : Option Identity
   pub alias : ℕ
   pub name : List ℕ
+  pub pdos : List PdoRecord
+  pub sii : List (ℕ × List ℕ)
 
 abbrev pub slave_record : SceneSlave → SlaveRecord
 slave_record s = record {
@@ -63,6 +81,8 @@ slave_record s = record {
   identity = s.identity;
   alias = s.alias;
   name = s.name.items;
+  pdos = map pdo_record s.pdos.items;
+  sii = map sii_record s.sii.items;
 }
 
 -- one that was only begun
@@ -81,6 +101,8 @@ new_slave station = record {
   identity = None;
   alias = 0;
   name = [];
+  pdos = [];
+  sii = [];
 }
 
 -- bits of an item, by their name

@@ -1,7 +1,8 @@
 -- What the words of a line say: each kind, direction, right, state, value and row of bytes is read as one
 -- thing, or at fault. The tests of one line run in the order of its words, those of the ranges behind them.
-use Rattle.std.specs.Prelude.{ℕ, ◌+◌, ◌^◌, ◌≡◌, ◌==◌, ◌||◌, Bool, nat_lt, if◌then◌else◌, List, [], ◌∷◌, ◌++◌}
-use Rattle.std.specs.Prelude.{Option, None, Some, is_some, Result, Ok, Err, codes, length}
+use Rattle.std.specs.Prelude.{ℕ, ◌+◌, ◌*◌, ◌^◌, ◌≡◌, ◌==◌, ◌||◌, Bool, nat_lt, if◌then◌else◌}
+use Rattle.std.specs.Prelude.{List, [], ◌∷◌, ◌++◌, Option, None, Some, is_some, Result, Ok, Err, codes}
+use Rattle.std.specs.Prelude.{length, take, drop, position}
 use Rattle.std.specs.List.{flat_map}
 use Rattle.std.specs.Str.{bytes_eq, is_utf8}
 use Rattle.hex.specs.Hex.{decode_of}
@@ -22,17 +23,19 @@ use Rattle.ec_sii.specs.declared.image.Identity.{Identity}
 use Rattle.ec_wire.specs.Datagram.{address_of}
 use Rattle.ec_wire.specs.declared.kind.Kind.{Kind}
 use Rattle.ecat_scene.specs.declared.fault.LineFault.{LineFault}
-use Rattle.ecat_scene.specs.declared.fault.LineFault.TheVariants.{BadNumber, OutOfRange}
+use Rattle.ecat_scene.specs.declared.fault.LineFault.TheVariants.{BadNumber, OutOfRange, TooMany}
 use Rattle.ecat_scene.specs.declared.fault.Stop.{Stop}
 use Rattle.ecat_scene.specs.declared.fault.Stop.TheVariants.{Fault, NoMemory}
+use Rattle.ecat_scene.specs.declared.scene.ScenePdoEntry.{ScenePdoEntry}
 use Rattle.ecat_scene.specs.declared.scene.StartupObject.{StartupObject}
-use Rattle.ecat_scene.specs.declared.scene.TheConstants.{MAX_NAME}
+use Rattle.ecat_scene.specs.declared.scene.TheConstants.{MAX_EEPROM, MAX_NAME, MAX_PDO_ENTRIES}
 use Rattle.ecat_scene.specs.declared.written.AreaKind.{AreaKind}
 use Rattle.ecat_scene.specs.declared.written.AreaKind.TheVariants.{MailboxWrite, MailboxRead, Write, Read}
 use Rattle.ecat_scene.specs.declared.written.Through.{Through}
 use Rattle.ecat_scene.specs.declared.written.Through.TheVariants.{Reads, Writes, ReadsAndWrites}
 use Rattle.ecat_scene.specs.Fields.{active_fmmu, enabled_sync_man, fitting, wire_value}
 use Rattle.ecat_scene.specs.Numbers.{digit_of, number_of}
+use Rattle.ecat_scene.specs.Scene.{PdoRecord}
 
 -- ---- steps that may be at fault
 
@@ -216,6 +219,77 @@ load_of address row = do
   bytes ← row_of row
   a ← fitting (2 ^ 16) a
   loaded a bytes
+
+-- ---- PDOs
+
+-- where the first colon of a word stands
+abbrev pub colon_in : List ℕ → Option ℕ
+colon_in word = position (λ byte. byte == 58) word
+
+-- what stands before it, and behind it
+abbrev pub halves_at : List ℕ → Option ℕ → Result (List ℕ × List ℕ) LineFault
+halves_at word None = Err BadNumber
+halves_at word (Some at) = Ok (take at word, drop (at + 1) word)
+
+abbrev pub halves : List ℕ → Result (List ℕ × List ℕ) LineFault
+halves word = halves_at word (colon_in word)
+
+-- the numbers of an object that a PDO maps: index, subindex and bits, with colons between them
+unfoldable pub mapped : List ℕ → Result (ℕ × ℕ × ℕ) LineFault
+mapped word = do
+  first ← halves word
+  second ← halves first.1
+  i ← number_of first.0
+  s ← number_of second.0
+  b ← number_of second.1
+  Ok (i, s, b)
+
+abbrev pub all_mapped : List (List ℕ) → Result (Unit {0}) LineFault
+all_mapped [] = Ok tt
+all_mapped (word ∷ more) = mapped word >>= λ _. all_mapped more
+
+-- the object of these numbers
+unfoldable pub entry_in : ℕ × ℕ × ℕ → Result ScenePdoEntry LineFault
+entry_in numbers = do
+  i ← fitting (2 ^ 16) numbers.0
+  s ← fitting (2 ^ 8) numbers.1
+  b ← fitting (2 ^ 8) numbers.2
+  Ok (record { index = i; sub = s; bits = b })
+
+-- the objects that words name, behind those that are there
+abbrev pub entries_from : List ScenePdoEntry → List (List ℕ) → Result (List ScenePdoEntry) LineFault
+entries_from done [] = Ok done
+entries_from done (word ∷ more) =
+    mapped word >>= λ numbers. entry_in numbers >>= λ entry. entries_from (done ++ entry ∷ []) more
+
+-- as many as a byte counts
+abbrev pub where_countable : List (List ℕ) → Result (Unit {0}) LineFault
+where_countable words = if nat_lt MAX_PDO_ENTRIES (length words) then Err TooMany else Ok tt
+
+-- a PDO: its object, its sync manager, and the words of what it maps
+unfoldable pub pdo_of : List ℕ → List ℕ → List (List ℕ) → Result PdoRecord LineFault
+pdo_of index manager words = do
+  i ← number_of index
+  m ← number_of manager
+  forms ← all_mapped words
+  i ← fitting (2 ^ 16) i
+  m ← fitting SYNC_MANAGER_COUNT m
+  countable ← where_countable words
+  entries ← entries_from [] words
+  Ok (record { index = i; manager = m; entries = entries })
+
+-- ---- EEPROMs
+
+-- the address of a word, and bytes as they are, which lie in an EEPROM whole
+abbrev pub burnt : ℕ → List ℕ → Result (ℕ × List ℕ) LineFault
+burnt word bytes = if nat_lt MAX_EEPROM (2 * word + length bytes) then Err OutOfRange else Ok (word, bytes)
+
+unfoldable pub sii_of : List ℕ → List ℕ → Result (ℕ × List ℕ) LineFault
+sii_of address row = do
+  a ← number_of address
+  bytes ← row_of row
+  a ← fitting (2 ^ 16) a
+  burnt a bytes
 
 -- ---- objects
 

@@ -57,6 +57,13 @@ pub enum BenchCommand {
         /// The AL status code that tells it.
         code: u16,
     },
+    /// `power SLAVE on` or `power SLAVE off`
+    Power {
+        /// Whose power is switched.
+        slave: SlaveName,
+        /// Is it to be on?
+        on: bool,
+    },
     /// `lose A N` or `lose B N`
     Lose {
         /// At which end copies are lost that arrive.
@@ -148,6 +155,7 @@ fn command_of(alloc: Global, words: &[&[u8]]) -> Result<BenchCommand, CommandFau
         "mem" => wanting("mem SLAVE ADDRESS BYTES", load(alloc, rest)),
         "state" => wanting("state SLAVE 1|2|4|8", state(rest)),
         "error" => wanting("error SLAVE CODE", error(rest)),
+        "power" => wanting("power SLAVE on|off", power(rest)),
         "lose" => wanting("lose A|B N", lose(rest)),
         "late" => wanting("late A|B MILLISECONDS N", late(rest)),
         "double" => wanting("double A|B N", double(rest)),
@@ -158,7 +166,7 @@ fn command_of(alloc: Global, words: &[&[u8]]) -> Result<BenchCommand, CommandFau
         "counts" => wanting("counts", alone(rest, BenchCommand::Counts)),
         "quit" => wanting("quit", alone(rest, BenchCommand::Quit)),
         _ => wanting(
-            "link, mem, state, error, lose, late, double, damage, unplug, areas, line, counts or quit",
+            "link, mem, state, error, power, lose, late, double, damage, unplug, areas, line, counts or quit",
             Err(Stop::Fault(LineFault::UnknownWord)),
         ),
     }
@@ -241,6 +249,19 @@ fn error(words: &[&[u8]]) -> Result<BenchCommand, Stop>
     Ok(BenchCommand::Error { slave, code })
 }
 
+/// `power SLAVE on` or `power SLAVE off`
+fn power(words: &[&[u8]]) -> Result<BenchCommand, Stop>
+    ensures { CountsWords 2 words.now result }
+{
+    let [slave, switch] = words else {
+        return Err(Stop::Fault(LineFault::WrongCount));
+    };
+    let slave_number = number(slave)?;
+    let on = is_on(switch)?;
+    let slave = slave_of(slave, slave_number)?;
+    Ok(BenchCommand::Power { slave, on })
+}
+
 /// `lose A N` or `lose B N`
 fn lose(words: &[&[u8]]) -> Result<BenchCommand, Stop>
     ensures { CountsWords 2 words.now result }
@@ -320,6 +341,15 @@ fn is_up(switch: &[u8]) -> Result<bool, LineFault> {
     match text_of(switch) {
         "up" => Ok(true),
         "down" => Ok(false),
+        _ => Err(LineFault::BadNumber),
+    }
+}
+
+/// Is the power to be on?
+fn is_on(switch: &[u8]) -> Result<bool, LineFault> {
+    match text_of(switch) {
+        "on" => Ok(true),
+        "off" => Ok(false),
         _ => Err(LineFault::BadNumber),
     }
 }

@@ -4,17 +4,17 @@ ghost use Rattle.std.specs.Prelude.{◌≡◌, ◌+◌, length, vec_len, map, Ok
 ghost use Rattle.ecat_scene.specs.Deeds.{areas_of, Does, set_up, then_last, to_areas, to_simple, to_state};
 ghost use Rattle.ecat_scene.specs.Deeds.{to_alias, to_identity, to_kind, to_name};
 ghost use Rattle.ecat_scene.specs.Deeds.{where_begun, with_fmmu, with_last, with_load, with_object};
-ghost use Rattle.ecat_scene.specs.Deeds.{with_startup, with_sync_man};
-ghost use Rattle.ecat_scene.specs.Scene.{setting_record, slave_record};
-ghost use Rattle.ecat_scene.specs.Words.{alias_of, identity_of, name_of};
+ghost use Rattle.ecat_scene.specs.Deeds.{with_pdo, with_sii, with_startup, with_sync_man};
+ghost use Rattle.ecat_scene.specs.Scene.{pdo_record, setting_record, sii_record, slave_record};
+ghost use Rattle.ecat_scene.specs.Words.{alias_of, identity_of, name_of, pdo_of, sii_of};
 ghost use Rattle.ecat_scene.specs.Words.{fmmu_setting, load_of, object_of, seen, startup_of, state_of};
 ghost use Rattle.ecat_scene.specs.Words.{sync_man_setting};
 ghost use Rattle.ecat_scene.specs.declared.fault.LineFault.TheVariants.{NoSlave};
 ghost use Rattle.ecat_scene.specs.declared.fault.Stop.TheVariants.{Fault};
 
-use crate::device_lines::{alias_of, identity_of, name_of};
+use crate::device_lines::{alias_of, identity_of, name_of, pdo_of, sii_of};
 use crate::fault::{LineFault, Stop};
-use crate::scene::{MAX_STARTUP, SceneSlave, Setting, SlaveKind};
+use crate::scene::{MAX_STARTUP, ScenePdo, SceneSlave, Setting, SiiBytes, SlaveKind};
 use crate::slave_lines::{
     areas_of, fmmu_setting, load_of, object_of, startup_of, state_of, sync_man_setting,
 };
@@ -253,5 +253,61 @@ pub(crate) fn set_name(
     let last = last_of(slaves.as_slice())?;
     let name = name_of(alloc, first, more)?;
     slaves[last].name = name;
+    Ok(())
+}
+
+/// Puts bytes into the EEPROM of the last slave.
+#[tactic(auto, using(crate::proofs::LastLemmas::lasts))]
+pub(crate) fn add_sii(
+    alloc: Global,
+    slaves: &mut Vec<SceneSlave>,
+    address: &[u8],
+    row: &[u8],
+) -> Result<(), Stop>
+    ensures misses { vec_len slaves.old ≡ 0 → result ≡ Err (Fault NoSlave) }
+    ensures done { Does result (map slave_record slaves.new.items)
+        (then_last (sii_of address.now row.now) with_sii (map slave_record slaves.old.items)) }
+{
+    let last = last_of(slaves.as_slice())?;
+    let piece = sii_of(alloc, address, row)?;
+    push_sii(slaves, last, piece)
+}
+
+/// Puts bytes into the EEPROM of the last slave, which stands at this place.
+fn push_sii(slaves: &mut Vec<SceneSlave>, last: usize, piece: SiiBytes) -> Result<(), Stop>
+    requires { last + 1 ≡ length slaves.old.items }
+    ensures { Does result (map slave_record slaves.new.items)
+        (with_last (with_sii (sii_record piece)) (map slave_record slaves.old.items)) }
+{
+    slaves[last].sii.push(piece)?;
+    Ok(())
+}
+
+/// Adds a PDO to the last slave.
+#[tactic(auto, using(crate::proofs::LastLemmas::lasts))]
+pub(crate) fn add_pdo(
+    alloc: Global,
+    slaves: &mut Vec<SceneSlave>,
+    index: &[u8],
+    manager: &[u8],
+    entries: &[&[u8]],
+) -> Result<(), Stop>
+    ensures misses { vec_len slaves.old ≡ 0 → result ≡ Err (Fault NoSlave) }
+    ensures done { Does result (map slave_record slaves.new.items)
+        (then_last (pdo_of index.now manager.now (map (λ word. word.now) entries.now)) with_pdo
+        (map slave_record slaves.old.items)) }
+{
+    let last = last_of(slaves.as_slice())?;
+    let pdo = pdo_of(alloc, index, manager, entries)?;
+    push_pdo(slaves, last, pdo)
+}
+
+/// Adds a PDO to the last slave, which stands at this place.
+fn push_pdo(slaves: &mut Vec<SceneSlave>, last: usize, pdo: ScenePdo) -> Result<(), Stop>
+    requires { last + 1 ≡ length slaves.old.items }
+    ensures { Does result (map slave_record slaves.new.items)
+        (with_last (with_pdo (pdo_record pdo)) (map slave_record slaves.old.items)) }
+{
+    slaves[last].pdos.push(pdo)?;
     Ok(())
 }

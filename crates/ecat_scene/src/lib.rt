@@ -56,9 +56,10 @@ pub use edition::to_first_edition;
 pub use fault::{LineFault, SceneFault, Stop};
 pub use numbers::{number, numbers_read_back, test_bytes};
 pub use scene::{
-    Action, FmmuSetting, Load, MAX_ACTIONS, MAX_ITEMS, MAX_NAME, MAX_SIGNAL_NAME, MAX_SIGNALS,
-    MAX_SLAVES, MAX_STARTUP, MAX_TEXT, MAX_WEATHERS, Scene, SceneSlave, SceneWeather, Setting,
-    SlaveKind, StartupObject, SyncManSetting,
+    Action, FmmuSetting, Load, MAX_ACTIONS, MAX_EEPROM, MAX_ITEMS, MAX_NAME, MAX_PDO_ENTRIES,
+    MAX_SIGNAL_NAME, MAX_SIGNALS, MAX_SLAVES, MAX_STARTUP, MAX_TEXT, MAX_WEATHERS, Scene, ScenePdo,
+    ScenePdoEntry, SceneSlave, SceneWeather, Setting, SiiBytes, SlaveKind, StartupObject,
+    SyncManSetting,
 };
 pub use signal_lines::test_signal_name;
 pub use slave_lines::{control_of, object_of, startup_of, sync_man_of};

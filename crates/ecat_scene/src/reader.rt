@@ -177,6 +177,8 @@ impl Reader {
             "identity" => self.identity(rest),
             "alias" => self.alias(rest),
             "name" => self.name(rest),
+            "pdo" => self.pdo(rest),
+            "sii" => self.sii(rest),
             "signal" => self.signal(rest),
             "link" => self.link(rest),
             "frame" => self.frame(rest),

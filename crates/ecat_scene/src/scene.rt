@@ -1,5 +1,5 @@
 //! A scene as plain data.
-ghost use Rattle.std.specs.Prelude.{◌+◌, ◌<◌, ◌≤◌, ◌↔◌, ◌≡◌, length, vec_len, Err};
+ghost use Rattle.std.specs.Prelude.{◌+◌, ◌*◌, ◌<◌, ◌≤◌, ◌↔◌, ◌≡◌, length, vec_len, Err};
 ghost use Rattle.ec_regs.specs.declared.registers.TheConstants.{FMMU_COUNT, SYNC_MANAGER_COUNT};
 
 use crate::fault::SceneFault;
@@ -94,6 +94,44 @@ pub struct StartupObject {
     pub value: Value,
 }
 
+/// How many objects a PDO maps at the most: a byte counts them.
+pub const MAX_PDO_ENTRIES: usize = 255;
+
+/// An object that a PDO maps, or a gap of bits.
+#[derive(Clone, Copy, PartialEq, Eq, Debug)]
+pub struct ScenePdoEntry {
+    /// The index of the object, 0 for a gap.
+    pub index: u16,
+    /// Its subindex.
+    pub sub: u8,
+    /// How many bits it takes.
+    pub bits: u8,
+}
+
+/// A PDO: the objects that process data is, one after the other (ETG.1000.6, PDO mapping).
+#[derive(Drop)]
+pub struct ScenePdo {
+    /// The index of the object that lists it, as 0x1600 of outputs or 0x1A00 of inputs.
+    pub index: u16,
+    /// The sync manager in whose area it stands.
+    pub manager: u8,
+    /// What it maps, at most `MAX_PDO_ENTRIES`.
+    pub entries: Vec<ScenePdoEntry>,
+}
+
+/// How many bytes an EEPROM has at the most: 16 bits count its words.
+pub const MAX_EEPROM: usize = 0x2_0000;
+
+/// Bytes of an EEPROM, as they are; the last of them is before `MAX_EEPROM`.
+#[derive(Drop)]
+pub struct SiiBytes {
+    /// The address of the word with which they begin.
+    pub word: u16,
+    /// The bytes.
+    pub bytes: Vec<u8>,
+    ghost to: { 2 * word + vec_len bytes ≤ 131072 },
+}
+
 /// What a slave tells of itself.
 #[derive(Clone, Copy, PartialEq, Eq, Debug)]
 pub enum SlaveKind {
@@ -138,6 +176,11 @@ pub struct SceneSlave {
     pub alias: u16,
     /// Its name, at most `MAX_NAME` bytes of ASCII text; empty where no line says one.
     pub name: Vec<u8>,
+    /// The PDOs that map its process data, in the order of the lines; where no line says one they are made.
+    pub pdos: Vec<ScenePdo>,
+    /// Bytes that stand in its EEPROM in place of those that are made of the scene, in the order of the
+    /// lines; a later one goes over an earlier.
+    pub sii: Vec<SiiBytes>,
 }
 
 /// What is done with the line before its cycle.

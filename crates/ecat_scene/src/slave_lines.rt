@@ -61,6 +61,8 @@ impl Reader {
             identity: None,
             alias: 0,
             name: Vec::new(self.alloc),
+            pdos: Vec::new(self.alloc),
+            sii: Vec::new(self.alloc),
         };
         self.scene.slaves.push(slave)?;
         Ok(())

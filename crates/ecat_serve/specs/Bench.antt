@@ -2,12 +2,15 @@
 -- 61158-4-12, a slave's ports), process memory and AL status of one of its slaves (IEC 61158-6-12, AL
 -- status).
 use Rattle.std.specs.Prelude.{◌≡◌, ℕ, ◌+◌, nat_lt, true, if◌then◌else◌, Option, None, Some, List, length}
-use Rattle.std.specs.Prelude.{slice_get}
+use Rattle.std.specs.Prelude.{[], ◌∷◌, slice_get}
 use Rattle.ec_app.specs.AlStep.{with_state}
 use Rattle.ec_app.specs.Lending.{with_controller}
 use Rattle.ec_app.specs.State.{SlaveState}
-use Rattle.ec_esc.specs.Application.{al_status, with_al}
-use Rattle.ec_esc.specs.State.{with_bytes}
+use Rattle.std.specs.Int.{w16, to_le_bytes}
+use Rattle.ec_areas.specs.Ranges.{has_sii}
+use Rattle.ec_esc.specs.Application.{al_status, with_al, with_registers}
+use Rattle.ec_esc.specs.State.{ControllerState, IsFresh, with_bytes, word_at}
+use Rattle.ec_regs.specs.declared.registers.TheConstants.{CONTROLLER_TYPE, STATION_ALIAS}
 use Rattle.ec_regs.specs.declared.al.AlState.{AlState}
 use Rattle.ec_regs.specs.declared.al.AlState.TheVariants.{Init, PreOp, SafeOp, Op}
 use Rattle.ec_regs.specs.declared.registers.TheConstants.{MEMORY_SIZE, PROCESS_MEMORY}
@@ -50,6 +53,22 @@ with_error code slave =
       state = fallen (al_status slave.controller).state;
       error = true;
     }) code)
+
+-- ---- power that comes back
+
+-- a device tells what it told, an IP core and its alias, and of a plain slave nothing is left
+abbrev pub telling_again : ControllerState → ControllerState → ControllerState
+telling_again before fresh =
+    if has_sii before.memory then
+    with_registers (with_registers fresh CONTROLLER_TYPE (4 ∷ 0 ∷ 0 ∷ 0 ∷ 8 ∷ 8 ∷ 8 ∷ 15 ∷ 0 ∷ 0 ∷ []))
+    STATION_ALIAS (to_le_bytes w16 (word_at before.memory STATION_ALIAS))
+    else fresh
+
+-- a controller begins anew: a fresh one without a station, which tells of itself as the one before did
+pub record IsBegun (before later : ControllerState) : Type 0 where
+  pub fresh : ControllerState
+  pub is_fresh : IsFresh 0 fresh
+  pub tells : later ≡ telling_again before fresh
 
 -- ---- what is refused
 

@@ -2,14 +2,16 @@
 -- changes the line. A command is what somebody does to a line who works on it: its cables and its lost
 -- copies, process memory and states of its slaves (IEC 61158-6-12, AL status).
 use Rattle.std.specs.Prelude.{◌≡◌, ◌≢◌, ◌⊎◌, ℕ, zero, suc, ◌+◌, ◌-◌, ◌^◌, ◌<◌, ◌≤◌, Bool, List, length, min}
-use Rattle.std.specs.Prelude.{Result, Ok, Err}
+use Rattle.std.specs.Prelude.{Result, Ok, Err, Some, true, false, slice_get}
+use Rattle.ec_app.specs.Slave.{restarted}
 use Rattle.ec_app.specs.State.{SlaveState}
+use Rattle.ec_esc.specs.State.{ControllerState}
 use Rattle.ec_regs.specs.declared.al.AlState.{AlState}
 use Rattle.ec_regs.specs.declared.registers.TheConstants.{MEMORY_SIZE, PROCESS_MEMORY}
 use Rattle.ec_ring.specs.Links.{is_up}
 use Rattle.ec_ring.specs.declared.port.Port.{Port}
 use Rattle.ec_ring.specs.declared.port.PortFault.{PortFault}
-use Rattle.ecat_serve.specs.Bench.{Changes, loaded, put_in, with_error, with_links}
+use Rattle.ecat_serve.specs.Bench.{Changes, loaded, put_in, with_error, with_links, IsBegun}
 use Rattle.ecat_serve.specs.Ends.{Calls}
 use Rattle.ecat_serve.specs.Rounds.{Serves, Serving}
 use Rattle.ecat_serve.specs.State.{ServedState, linked, losing, to_lose_at, unplugged}
@@ -35,6 +37,8 @@ pub data Command : Type 0 where
   Load : (place address : ℕ) (bytes : List ℕ) → Command
   -- its AL status is another one
   Status : (place : ℕ) (becomes : Becomes) → Command
+  -- the power of the slave at a place is switched off, or on
+  Power : (place : ℕ) (on : Bool) → Command
   -- so many more of the copies that arrive at an end are to be lost
   Lose : (at : Port) (count : ℕ) → Command
   -- nobody has spoken at an end, which at end B takes the last link away
@@ -46,6 +50,31 @@ pub record IsPut (before : ServedState) (number : ℕ) (up : Bool) (later : Serv
   pub at : is_up later.ring.links number ≡ up
   pub others : (k : ℕ) → k ≢ number → is_up later.ring.links k ≡ is_up before.ring.links k
   pub stays : later ≡ linked (with_links before later.ring.links)
+
+-- both links beside a slave are put, which slaves tell, and all else stays: no frame gets past a slave
+-- without power
+pub record ArePut (before : ServedState) (place : ℕ) (up : Bool) (later : ServedState) : Type 0 where
+  pub on_line : place < length before.ring.slaves
+  pub ahead : is_up later.ring.links place ≡ up
+  pub behind : is_up later.ring.links (place + 1) ≡ up
+  pub others : (k : ℕ) → k ≢ place → k ≢ place + 1
+      → is_up later.ring.links k ≡ is_up before.ring.links k
+  pub stays : later ≡ linked (with_links before later.ring.links)
+
+-- a slave whose power came back begins anew, and then both links beside it are up
+pub record IsBack (before : ServedState) (place : ℕ) (later : ServedState) : Type 0 where
+  pub slave : SlaveState
+  pub controller : ControllerState
+  pub begun : ServedState
+  pub there : slice_get before.ring.slaves place ≡ Some slave
+  pub begins : IsBegun slave.controller controller
+  pub changes : Changes before place (restarted controller) begun
+  pub links : ArePut begun place true later
+
+-- power that is switched on, or off
+abbrev pub IsPowered : Bool → ServedState → ℕ → ServedState → Type 0
+IsPowered true before place later = IsBack before place later
+IsPowered false before place later = ArePut before place false later
 
 -- bytes of process memory are loaded
 pub record IsLoaded (before : ServedState) (place address : ℕ) (bytes : List ℕ) (later : ServedState) : Type 0
@@ -60,6 +89,7 @@ Leaves Nothing before later = later ≡ before
 Leaves (Link number up) before later = IsPut before number up later
 Leaves (Load place address bytes) before later = IsLoaded before place address bytes later
 Leaves (Status place becomes) before later = Changes before place (with_status becomes) later
+Leaves (Power place on) before later = IsPowered on before place later
 Leaves (Lose at count) before later =
     later ≡ losing before at (min (to_lose_at before at + count) (2 ^ 64 - 1))
 Leaves (Unplug at) before later = later ≡ unplugged before at

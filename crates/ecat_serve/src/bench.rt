@@ -1,7 +1,8 @@
 //! What is done to a line between its rounds: cables, lost copies, inputs and states.
 
 ghost use Rattle.std.specs.Prelude.{◌≡◌, ◌≢◌, ℕ, ◌+◌, ◌-◌, ◌^◌, ◌==◌, ◌<◌, ◌≤◌};
-ghost use Rattle.std.specs.Prelude.{OnOk, OnErr, length, min, position};
+ghost use Rattle.std.specs.Prelude.{OnOk, OnErr, IfOk, IfErr, Some, None, [], ◌∷◌, ◌⊎◌, length, min};
+ghost use Rattle.std.specs.Prelude.{false, position};
 ghost use Rattle.std.specs.Result.{result_err};
 ghost use Rattle.ec_esc.specs.State.{word_at};
 ghost use Rattle.ec_regs.specs.declared.registers.TheConstants.{MEMORY_SIZE, PROCESS_MEMORY, STATION_ADDRESS};
@@ -9,14 +10,21 @@ ghost use Rattle.ec_ring.specs.Links.{is_up};
 ghost use Rattle.ec_ring.specs.declared.port.Port.TheVariants.{B};
 ghost use Rattle.ecat_serve.specs.Bench.{Changes, bytes_fault, link_fault, load_fault, loaded};
 ghost use Rattle.ecat_serve.specs.Bench.{fallen, put_in, slave_fault, with_error, with_links};
-ghost use Rattle.ecat_serve.specs.Commands.{IsCommanded};
+ghost use Rattle.ecat_serve.specs.Bench.{IsBegun};
+ghost use Rattle.ecat_serve.specs.Commands.{ArePut, IsBack, IsCommanded};
+ghost use Rattle.ec_app.specs.Slave.{restarted};
+ghost use Rattle.ec_esc.specs.Application.{with_registers};
+ghost use Rattle.ec_regs.specs.declared.registers.TheConstants.{CONTROLLER_TYPE, STATION_ALIAS};
+ghost use Rattle.std.specs.Int.{w16, to_le_bytes};
 ghost use Rattle.ecat_serve.specs.State.{linked, losing, to_lose_at, unplugged};
 
 use crate::served::Served;
 use ec_app::Slave;
-use ec_regs::registers::{MEMORY_SIZE, PROCESS_MEMORY};
-use ec_regs::{AlState, AlStatus};
+use ec_esc::Controller;
+use ec_regs::registers::{MEMORY_SIZE, PROCESS_MEMORY, STATION_ALIAS};
+use ec_regs::{AlState, AlStatus, Information, NoMemory};
 use ec_ring::Port;
+use std::alloc::Global;
 
 /// Why a line was not changed as asked. Where several hold, the first of them in this order is told.
 #[derive(Clone, Copy, PartialEq, Eq, Debug)]
@@ -27,6 +35,8 @@ pub enum BenchFault {
     NoSlave,
     /// The bytes do not lie in process memory, 0x1000 to 0x2FFF.
     OutsideMemory,
+    /// Memory ran out for the controller of a slave whose power comes back.
+    NoMemory,
 }
 
 impl Served {
@@ -56,6 +66,18 @@ impl Served {
         ensures stays { self.new ≡ linked (with_links self.old self.new.ring.links) }
     {
         self.ring.set_link(k, up);
+        self.tell_links();
+    }
+
+    /// Puts both links beside the slave at a place up or down, and has slaves tell them.
+    fn put_links(&mut self, place: usize, up: bool)
+        requires { place < length self.old.ring.slaves }
+        ensures { ArePut self.old place up self.new }
+    {
+        // For the prover: a line has so few slaves that the next place is a number.
+        let _slaves = self.ring.slaves();
+        self.ring.set_link(place, up);
+        self.ring.set_link(place + 1, up);
         self.tell_links();
     }
 
@@ -142,6 +164,48 @@ impl Served {
         Ok(())
     }
 
+    /// Switches the power of the slave at a place off: no frame gets past it, from either side, so that the
+    /// links before and behind it are down; all else stays. Without such a slave nothing changes.
+    pub fn power_off(&mut self, place: usize) -> Result<(), BenchFault>
+        ensures err { result_err result ≡ slave_fault self.old place }
+        ensures unchanged { OnErr result (self.new ≡ self.old) }
+        ensures ok { OnOk result (ArePut self.old place false self.new) }
+        ensures commanded { IsCommanded self.old self.new }
+    {
+        self.check_slave(place)?;
+        self.put_links(place, false);
+        Ok(())
+    }
+
+    /// Switches the power of the slave at a place on: it begins anew, in Init, without a station address,
+    /// with no sync manager and no FMMU, and with process memory of zeros; a device tells what it is and its
+    /// alias again, and its objects have the values that they had. The links before and behind it are up.
+    /// Without such a slave, and without memory for its controller, nothing changes.
+    pub fn power_on(&mut self, alloc: Global, place: usize) -> Result<(), BenchFault>
+        ensures slave { OnOk result (slave_fault self.old place ≡ None) }
+        ensures err { IfErr result (λ fault.
+            (slave_fault self.old place ≡ Some fault) ⊎ (fault ≡ BenchFault.NoMemory)) }
+        ensures unchanged { OnErr result (self.new ≡ self.old) }
+        ensures ok { OnOk result (IsBack self.old place self.new) }
+        ensures commanded { IsCommanded self.old self.new }
+    {
+        self.check_slave(place)?;
+        let Ok(controller) = begun(alloc, self.ring.slave(place)) else {
+            return Err(BenchFault::NoMemory);
+        };
+        self.begin_slave(place, controller);
+        self.put_links(place, true);
+        Ok(())
+    }
+
+    /// Has the slave at a place begin anew with a controller.
+    fn begin_slave(&mut self, place: usize, controller: Controller)
+        requires { place < length self.old.ring.slaves }
+        ensures { Changes self.old place (restarted controller) self.new }
+    {
+        self.ring.slave_mut(place).restart(controller);
+    }
+
     /// Tests that a slave has this place.
     fn check_slave(&self, place: usize) -> Result<(), BenchFault>
         ensures err { result_err result ≡ slave_fault self.now place }
@@ -176,6 +240,33 @@ fn load_slave(slave: &mut Slave, address: u16, bytes: &[u8])
     ensures { slave.new ≡ loaded address bytes.now slave.old }
 {
     slave.controller_mut().load(address, bytes);
+}
+
+/// The controller of a slave whose power comes back: a fresh one without a station address, which tells of
+/// itself as the one before did.
+fn begun(alloc: Global, slave: &Slave) -> Result<Controller, NoMemory>
+    ensures { IfOk result (IsBegun slave.now.controller) }
+{
+    let before = slave.controller();
+    let mut fresh = Controller::new(alloc, 0)?;
+    if before.has_sii() {
+        let alias = u16::from_le_bytes([
+            before.byte(STATION_ALIAS),
+            before.byte(STATION_ALIAS + 1),
+        ]);
+        tell_again(&mut fresh, alias);
+    }
+    Ok(fresh)
+}
+
+/// Has a controller tell what it is, and its alias.
+fn tell_again(controller: &mut Controller, alias: u16)
+    ensures { controller.new ≡ with_registers
+        (with_registers controller.old CONTROLLER_TYPE (4 ∷ 0 ∷ 0 ∷ 0 ∷ 8 ∷ 8 ∷ 8 ∷ 15 ∷ 0 ∷ 0 ∷ []))
+        STATION_ALIAS (to_le_bytes w16 alias) }
+{
+    controller.set_information(&Information::ip_core());
+    controller.set_alias(alias);
 }
 
 /// The state that an application leaves for where it finds an error: none stays in Op.

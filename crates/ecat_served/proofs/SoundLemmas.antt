@@ -2,18 +2,17 @@
 use Rattle.std.specs.Prelude.{◌≡◌, ℕ, zero, suc, Bool, true, false, if◌then◌else◌, is_none}
 use Rattle.std.specs.Prelude.{List, [], ◌∷◌, Option, None, Some, slice_get, slice_set, refl, ◌-◌, ◌+◌, ◌&&◌}
 use Rattle.ec_regs.specs.Bits.{AreBytes}
-use Rattle.ec_regs.specs.declared.registers.TheConstants.{DL_STATUS, PROCESS_MEMORY, PROCESS_MEMORY_SIZE}
+use Rattle.ec_regs.specs.declared.registers.TheConstants.{PROCESS_MEMORY, PROCESS_MEMORY_SIZE}
 use Rattle.ec_regs.specs.declared.sync_man.SyncMan.{SyncMan}
-use Rattle.ec_areas.specs.Ranges.{has_sii}
 use Rattle.ec_areas.specs.Records.{sync_manager_at}
 use Rattle.ec_app.specs.State.{SlaveState}
-use Rattle.ec_esc.specs.Application.{outputs_of, put_inputs_fault, shown_area, with_inputs, with_registers}
+use Rattle.ec_esc.specs.Application.{outputs_of, put_inputs_fault, shown_area, with_inputs}
 use Rattle.ec_esc.specs.State.{ControllerState, IsController}
 use Rattle.ec_esc.specs.declared.application.AreaFault.{AreaFault}
-use Rattle.ec_esc.proofs.Laws.{inputs_controller, registers_controller}
+use Rattle.ec_esc.proofs.Laws.{inputs_controller}
 use Rattle.ec_regs.specs.SyncMan.{guards_outputs}
-use Rattle.std.specs.Int.{w16, to_le_bytes}
 use Rattle.ec_ring.specs.Ring.{RingState, controllers, line_of}
+use Rattle.ec_applications.proofs.Laws.{told_controller}
 use Rattle.ec_applications.specs.Acting.{acted, behaved, is_manager, low_bytes, one_acted, placed, put}
 use Rattle.ec_applications.specs.Acting.{put_number, put_shown, slave_behaved}
 use Rattle.ec_applications.specs.Links.{controller_told, dl_status, first_told, place_told, slave_told}
@@ -21,7 +20,7 @@ use Rattle.ec_applications.specs.declared.application.Application.{Application}
 use Rattle.ec_applications.specs.declared.application.Behaviour.{Behaviour}
 use Rattle.ec_applications.specs.declared.application.Behaviour.TheVariants.{Mirror, Count}
 use Rattle.ecat_served.specs.History.{AreControllers}
-use Rattle.ecat_served.proofs.ByteLemmas.{counted, piece, two_bytes}
+use Rattle.ecat_served.proofs.ByteLemmas.{counted, piece}
 use Rattle.ecat_served.proofs.EachLemmas.{each_at}
 
 -- ---- one controller
@@ -61,9 +60,7 @@ behaved_is times (Count inputs) c is =
     (λ _. put_is c inputs (low_bytes n times) is (counted n times (PROCESS_MEMORY_SIZE - 8)))
 
 told_is : (status : ℕ) (c : ControllerState) → IsController c → IsController (controller_told status c)
-told_is status c is =
-    either (has_sii c.memory) c (with_registers c DL_STATUS (to_le_bytes w16 status)) is
-    (λ _. registers_controller c DL_STATUS (to_le_bytes w16 status) is (two_bytes status) refl)
+told_is status c is = told_controller status c is
 
 -- ---- a line
 

@@ -25,6 +25,8 @@ enum Refusal {
     TooLong,
     /// Memory ran out for its words.
     NoMemory,
+    /// Memory ran out for a slave's controller.
+    NoRoom,
     /// The line is at fault, or names what is not there.
     Line {
         fault: LineFault,
@@ -37,6 +39,7 @@ impl fmt::Display for Refusal {
         match self {
             Refusal::TooLong => write!(f, "refused: TooLong, wanted 1024 bytes at most"),
             Refusal::NoMemory => write!(f, "refused: NoMemory, wanted memory for the words"),
+            Refusal::NoRoom => write!(f, "refused: NoMemory, wanted memory for a controller"),
             Refusal::Line { fault, wanted } => write!(f, "refused: {fault}, wanted {wanted}"),
         }
     }
@@ -82,7 +85,7 @@ fn answer<W: Write>(
         Ok(command) => command,
         Err(fault) => return print_refusal(unread(fault), lines),
     };
-    match change(served, &command) {
+    match change(alloc, served, &command) {
         Ok(()) => print_done(served, came, &command, lines),
         Err(fault) => print_refusal(refusal_of(fault), lines),
     }
@@ -104,6 +107,7 @@ fn print_done<W: Write>(
         | BenchCommand::Load { .. }
         | BenchCommand::State { .. }
         | BenchCommand::Error { .. }
+        | BenchCommand::Power { .. }
         | BenchCommand::Lose { .. }
         | BenchCommand::Late { .. }
         | BenchCommand::Double { .. }
@@ -138,7 +142,7 @@ fn onward_of(command: &BenchCommand) -> Onward
 }
 
 /// Changes the line as a command asks. What is refused changes nothing.
-fn change(served: &mut Served, command: &BenchCommand) -> Result<(), BenchFault>
+fn change(alloc: Global, served: &mut Served, command: &BenchCommand) -> Result<(), BenchFault>
     ensures refused { OnErr result (served.new ≡ served.old) }
     ensures done { IsCommanded served.old served.new }
 {
@@ -155,6 +159,14 @@ fn change(served: &mut Served, command: &BenchCommand) -> Result<(), BenchFault>
         BenchCommand::Error { slave, code } => {
             let place = place_of(served, *slave)?;
             served.set_error(place, *code)
+        }
+        BenchCommand::Power { slave, on } => {
+            let place = place_of(served, *slave)?;
+            if *on {
+                served.power_on(alloc, place)
+            } else {
+                served.power_off(place)
+            }
         }
         BenchCommand::Lose { at, count } => {
             served.lose(*at, u64::from(*count));
@@ -209,6 +221,7 @@ fn refusal_of(fault: BenchFault) -> Refusal {
             fault: LineFault::OutOfRange,
             wanted: "bytes in 0x1000 to 0x2FFF",
         },
+        BenchFault::NoMemory => Refusal::NoRoom,
     }
 }
 
@@ -225,7 +238,7 @@ fn print_refusal<W: Write>(
 /// Serves a line that has these ends under the commands that they bring, and answers the exit status. It
 /// prints where the line is served, what each command is answered by, and at the end what `serve` prints;
 /// `err` is told of each packet where the service logs, and of each cable that is pulled. It takes memory for
-/// the words of a command alone.
+/// the words of a command, and for the controller of a slave whose power comes back.
 pub fn control<E, W, V>(
     alloc: Global,
     served: Served,

@@ -1,13 +1,12 @@
-//! The slaves of a scene, the ring of them and their applications.
+//! The slaves of a scene and the ring of them.
 
-use crate::devices::{add_objects, eeprom_of};
+use crate::devices::{add_objects, alias_in};
 use crate::failure::LineFailure;
 use ec_app::Slave;
-use ec_applications::{Application, Applications, PlacedEeprom, tell_each};
+use ec_applications::tell_each;
 use ec_esc::Controller;
 use ec_regs::Information;
 use ec_ring::{Ring, Travel};
-use ec_sii::Eeprom;
 use ecat_scene::{SceneSlave, Setting, SlaveKind};
 use std::alloc::Global;
 
@@ -43,6 +42,8 @@ fn slave_of(alloc: Global, place: usize, mut described: SceneSlave) -> Result<Sl
         identity: _,
         alias,
         name: _,
+        pdos: _,
+        sii,
     } = described;
     let made = if simple {
         Slave::simple(alloc, station, objects, output_length, input_length)
@@ -54,7 +55,7 @@ fn slave_of(alloc: Global, place: usize, mut described: SceneSlave) -> Result<Sl
     };
     set_up(slave.controller_mut(), settings.as_slice());
     if is_device {
-        tell_what_it_is(slave.controller_mut(), alias);
+        tell_what_it_is(slave.controller_mut(), alias_in(alias, sii.as_slice()));
     }
     slave.set_state(state);
     Ok(slave)
@@ -65,66 +66,6 @@ fn slave_of(alloc: Global, place: usize, mut described: SceneSlave) -> Result<Sl
 fn tell_what_it_is(controller: &mut Controller, alias: u16) {
     controller.set_information(&Information::ip_core());
     controller.set_alias(alias);
-}
-
-/// The applications of the slaves that a scene describes, in the order in which they act, slave by slave, and
-/// the EEPROMs of those that are devices.
-pub fn applications_of(
-    alloc: Global,
-    described: &[SceneSlave],
-) -> Result<Applications, LineFailure> {
-    applications_with(alloc, described, Vec::new(alloc))
-}
-
-/// The applications as by `applications_of`, where devices have these EEPROMs in place of those that are made
-/// of the scene.
-pub fn applications_with(
-    alloc: Global,
-    described: &[SceneSlave],
-    given: Vec<PlacedEeprom>,
-) -> Result<Applications, LineFailure> {
-    let mut all = Vec::new(alloc);
-    for (place, slave) in described.iter().enumerate() {
-        for behaviour in slave.behaviours.iter() {
-            let one = Application {
-                place,
-                behaviour: *behaviour,
-            };
-            if all.push(one).is_err() {
-                return Err(LineFailure::NoMemory);
-            }
-        }
-    }
-    let mut applications = Applications::new(all);
-    applications.set_eeproms(eeproms_of(alloc, described, given)?);
-    Ok(applications)
-}
-
-/// The EEPROM of those given that is of a place, if one is.
-fn taken(given: &mut Vec<PlacedEeprom>, place: usize) -> Option<Eeprom> {
-    let number = given.iter().position(|one| one.place == place)?;
-    Some(given.swap_remove(number).eeprom)
-}
-
-/// The EEPROMs of the devices that a scene describes: those given, or else made of the scene.
-fn eeproms_of(
-    alloc: Global,
-    described: &[SceneSlave],
-    mut given: Vec<PlacedEeprom>,
-) -> Result<Vec<PlacedEeprom>, LineFailure> {
-    let mut all = Vec::new(alloc);
-    for (place, slave) in described.iter().enumerate() {
-        if slave.kind == SlaveKind::Device {
-            let eeprom = match taken(&mut given, place) {
-                Some(eeprom) => eeprom,
-                None => eeprom_of(alloc, place, slave)?,
-            };
-            if all.push(PlacedEeprom { place, eeprom }).is_err() {
-                return Err(LineFailure::NoMemory);
-            }
-        }
-    }
-    Ok(all)
 }
 
 /// The slaves that a scene describes, from master port A to port B.

@@ -13,6 +13,8 @@ state 0 8 | state Place(0) Op
 state 0x1001 0x4 | state Station(4097) SafeOp
 error 2 0x001b | error Place(2) 27
 error 0x1001 65535 | error Station(4097) 65535
+power 1 off | power Place(1) false
+power 0x1001 on | power Station(4097) true
 mem 1 0x1100 00fF | mem Place(1) 4352 [0, 255]
 lose A 3 | lose A 3
 lose B 4294967295 | lose B 4294967295
@@ -39,6 +41,7 @@ link x | WrongCount
 mem 0 0x1000 | WrongCount
 state 0 | WrongCount
 error 0 | WrongCount
+power 0 | WrongCount
 lose A | WrongCount
 late A 20 | WrongCount
 double A | WrongCount
@@ -50,6 +53,7 @@ link -1 up | BadNumber
 mem 0x10000 0x1000 0 | BadNumber
 state 0x10000 y | BadNumber
 error 0x10000 y | BadNumber
+power 0x10000 up | BadNumber
 lose C 4294967296 | BadNumber
 late A x 4294967296 | BadNumber
 late C 20 1 | BadNumber
@@ -62,6 +66,7 @@ mem 0 0x2fff 0000 | OutOfRange
 state 0 3 | OutOfRange
 error 0 65536 | OutOfRange
 error 0x10000 1 | OutOfRange
+power 0x10000 on | OutOfRange
 lose B 4294967296 | OutOfRange
 late A 4294967296 1 | OutOfRange
 late A 20 4294967296 | OutOfRange
@@ -80,6 +85,7 @@ fn shown(alloc: Global, command: &BenchCommand) -> Result<String, AllocError> {
         }
         BenchCommand::State { slave, state } => format!(in alloc; "state {slave:?} {state:?}"),
         BenchCommand::Error { slave, code } => format!(in alloc; "error {slave:?} {code}"),
+        BenchCommand::Power { slave, on } => format!(in alloc; "power {slave:?} {on}"),
         BenchCommand::Lose { at, count } => format!(in alloc; "lose {at:?} {count}"),
         BenchCommand::Late {
             at,

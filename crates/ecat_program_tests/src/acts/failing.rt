@@ -76,6 +76,8 @@ fn what_fails_is_told_to_standard_error(rt: HostRuntime) {
     fails(&rt, Failure::Line(LineFailure::Output), b"output: Write\n");
     fails(&rt, Failure::Outputs, b"outputs: Open\n");
     fails(&rt, Failure::Eeprom, b"sii: Open\n");
+    fails(&rt, Failure::EepromExists, b"sii: Exists\n");
+    fails(&rt, Failure::EepromWrite, b"sii: Write\n");
     fails(&rt, Failure::Unanswered, b"through: NoAnswer\n");
     fails(
         &rt,

@@ -48,6 +48,12 @@ where a.scene --through a:1 | Ok(Scene { path: \"a.scene\", command: Where { at:
     through: Some(\"a:1\"), json: false } })
 scan --through a:1 | Ok(Scan(ScanWords { at: None, raw: None, through: Some(\"a:1\"), limit: None, \
     late: None, scene: None, force: false, json: false }))
+sii 0.bin | Ok(Sii(SiiWords { file: \"0.bin\", place: None, write: None, force: false }))
+sii --force a.scene --write 3.bin 0x3 | \
+    Ok(Sii(SiiWords { file: \"a.scene\", place: Some(3), write: Some(\"3.bin\"), force: true }))
+sii a.scene -1 | Err(Line(UnknownArgument))
+sii a.scene x | Err(BadNumber)
+sii | Err(Line(MissingRequiredArgument))
 where --raw=10 a.scene | Ok(Scene { path: \"a.scene\", command: Where { at: None, raw: Some(\"10\"), \
     through: None, json: false } })
 scan --at=a:1,b:2 --limit 50 | Ok(Scan(ScanWords { at: Some(\"a:1,b:2\"), raw: None, \

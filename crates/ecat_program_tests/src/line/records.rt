@@ -223,6 +223,8 @@ fn any_slave(alloc: Global, chance: &mut Chance) -> Result<SceneSlave, AllocErro
         kind: SlaveKind::Unsaid,
         identity: None,
         alias: 0,
+        pdos: Vec::new(alloc),
+        sii: Vec::new(alloc),
         name: Vec::new(alloc),
     })
 }

@@ -27,6 +27,8 @@ returns-in_default c =
       other word text (codes "identity") c.text_of.ensures refl c.in_default.not-identity,
       other word text (codes "alias") c.text_of.ensures refl c.in_default.not-alias,
       other word text (codes "name") c.text_of.ensures refl c.in_default.not-name,
+      other word text (codes "pdo") c.text_of.ensures refl c.in_default.not-pdo,
+      other word text (codes "sii") c.text_of.ensures refl c.in_default.not-sii,
       other word text (codes "signal") c.text_of.ensures refl c.in_default.not-signal,
       other word text (codes "mirror") c.text_of.ensures refl c.in_default.not-mirror,
       other word text (codes "count") c.text_of.ensures refl c.in_default.not-count,

@@ -1,6 +1,6 @@
 -- Bytes that are loaded are a command.
 use Rattle.std.proofs.Common.{rules}
-use Rattle.ecat_serve.specs.Commands.{Load}
+use Rattle.ecat_serve.specs.Commands.{Load, Nothing}
 use Rattle.ecat_serve.proofs.served.Served.load.Goals as goal
 
 pub returns-clause-commanded : goal.returns-clause-commanded
@@ -12,3 +12,9 @@ returns-clause-commanded c = (
     changes = search rules;
   },
 )
+
+pub returns-in_err-check_slave-clause-commanded : goal.returns-in_err-check_slave-clause-commanded
+returns-in_err-check_slave-clause-commanded c = (Nothing, search rules)
+
+pub returns-in_err-check_bytes-clause-commanded : goal.returns-in_err-check_bytes-clause-commanded
+returns-in_err-check_bytes-clause-commanded c = (Nothing, search rules)

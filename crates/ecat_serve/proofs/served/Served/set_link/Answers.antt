@@ -1,6 +1,6 @@
 -- A link that is put is a command.
 use Rattle.std.proofs.Common.{rules}
-use Rattle.ecat_serve.specs.Commands.{Link}
+use Rattle.ecat_serve.specs.Commands.{Link, Nothing}
 use Rattle.ecat_serve.proofs.served.Served.set_link.Goals as goal
 
 pub returns-clause-commanded : goal.returns-clause-commanded
@@ -13,3 +13,6 @@ returns-clause-commanded c = (
     stays = search rules;
   },
 )
+
+pub returns-then-slaves-k-clause-commanded : goal.returns-then-slaves-k-clause-commanded
+returns-then-slaves-k-clause-commanded c = (Nothing, search rules)

@@ -1,0 +1,2 @@
+pub mod ApplicationLemmas
+pub mod DeviceLemmas
