@@ -13,6 +13,11 @@ abbrev pub begun : Service → ℕ → Option Peer → ℕ → TalkState
 begun service station peer trips =
     record { station = station; next = first_of service peer; unanswered = 0; trips = trips }
 
+-- the same, of which this goes out next, and of which so many questions in a row no slave has answered
+abbrev pub resumed : ℕ → Next → ℕ → ℕ → TalkState
+resumed station next unanswered trips =
+    record { station = station; next = next; unanswered = unanswered; trips = trips }
+
 -- a slave without mailboxes is asked for no object, and nobody is asked where no trip is left
 abbrev pub given_up_by : ℕ → Next → Option MasterFault
 given_up_by trips NoMailboxes = Some NoSlave

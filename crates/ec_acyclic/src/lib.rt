@@ -40,6 +40,7 @@ mod service;
 mod talk;
 mod turn;
 
+pub use next::Next;
 pub use service::{Answer, Service};
 pub use talk::Talk;
 pub use turn::Turn;

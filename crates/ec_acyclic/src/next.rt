@@ -16,7 +16,7 @@ use ec_services::{
 
 /// What goes out next of a service that is under way.
 #[derive(Clone, Copy)]
-pub(crate) enum Next {
+pub enum Next {
     /// Nothing: the slave has no mailboxes, by which objects are read and written.
     NoMailboxes,
     /// One trip more by which an object is read.

@@ -1,8 +1,8 @@
 //! A service that is under way.
 
 ghost use Rattle.std.specs.Prelude.{◌≡◌, IfSome};
-ghost use Rattle.ec_acyclic.specs.Next.{IsPeerOf};
-ghost use Rattle.ec_acyclic.specs.Talk.{begun, given_up};
+ghost use Rattle.ec_acyclic.specs.Next.{HasPeer, IsPeerOf};
+ghost use Rattle.ec_acyclic.specs.Talk.{begun, given_up, resumed};
 
 use crate::next::Next;
 use crate::service::Service;
@@ -56,6 +56,43 @@ impl Talk {
             unanswered: 0,
             trips,
         }
+    }
+
+    /// A service of which this goes out next to the slave with a station address, which so many questions in
+    /// a row no slave has answered, and of which so many trips are left: for who keeps these himself between
+    /// turns.
+    pub fn resumed(station: u16, next: Next, unanswered: u32, trips: u32) -> Talk
+        requires { HasPeer station next }
+        ensures { result ≡ resumed station next unanswered trips }
+    {
+        Talk {
+            station,
+            next,
+            unanswered,
+            trips,
+        }
+    }
+
+    /// What goes out next.
+    pub fn next(&self) -> Next
+        ensures is { result ≡ self.now.next }
+        ensures peer { HasPeer self.now.station result }
+    {
+        self.next
+    }
+
+    /// How many questions in a row no slave has answered.
+    pub fn unanswered(&self) -> u32
+        ensures { result ≡ self.now.unanswered }
+    {
+        self.unanswered
+    }
+
+    /// How many trips are left.
+    pub fn trips(&self) -> u32
+        ensures { result ≡ self.now.trips }
+    {
+        self.trips
     }
 
     /// The station address of the slave.

@@ -1,6 +1,7 @@
 -- How far a slave is that is being brought to Op again (IEC 61158-6-12, AL management).
 use Rattle.std.specs.Prelude.{ℕ, List, Option}
 use Rattle.ec_services.specs.declared.surely.Progress.{Progress}
+use Rattle.ec_run.specs.declared.recovering.StepProgress.{StepProgress}
 use Rattle.ec_run.specs.declared.recovery.Seen.{Seen}
 use Rattle.ec_run.specs.declared.step.Step.{Step}
 
@@ -15,3 +16,18 @@ pub record RecoveryState : Type 0 where
   pub unanswered : ℕ
   pub written : Option Progress
   pub reads : ℕ
+
+-- the same, by the parts of which somebody else keeps how far the first step is
+abbrev pub resumed : ℕ → Seen → List Step → StepProgress → ℕ → RecoveryState
+resumed place seen steps first reads = record {
+  place = place;
+  seen = seen;
+  steps = steps;
+  asked = first.asked;
+  unanswered = first.unanswered;
+  written = first.written;
+  reads = reads;
+}
+
+abbrev pub progress_of : RecoveryState → StepProgress
+progress_of r = record { asked = r.asked; unanswered = r.unanswered; written = r.written }

@@ -85,8 +85,8 @@ pub use images::{Image, ImageFault, ImagesFault, MAX_IMAGES_TEXT, image_length, 
 pub use inputs::{Inputs, MOST_INPUTS, put_inputs};
 pub use objects::peer_between;
 pub use outputs::Outputs;
-pub use phase::{PHASES, Phase, StepFault, bring, bring_line};
-pub use recovering::Recovery;
+pub use phase::{ALL_STEPS, PHASES, Phase, StepFault, bring, bring_line};
+pub use recovering::{Recovery, StepProgress};
 pub use recovery::{Outcome, Remedy, Seen, look_at, look_for, recover, tells_places};
 pub use states::{LEAVE_ASKS, add_states, leave, states_item, tells_all_in_op};
 pub use step::{MOST_READS, Step, startup_number};

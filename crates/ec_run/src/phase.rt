@@ -36,7 +36,7 @@ pub const PHASES: [Phase; 5] = [
 
 /// All steps by which a slave is given its station address by its place and brought up from Init on: the
 /// station, and the steps of the phases in their order.
-pub(crate) const ALL_STEPS: [Step; 37] = [
+pub const ALL_STEPS: [Step; 37] = [
     Step::Station,
     Step::State(AlState::Init),
     Step::SyncManager(0),

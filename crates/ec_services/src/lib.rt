@@ -59,7 +59,7 @@ pub use asking::{Back, ask, request};
 pub use ec_diag::{CutOff, Located, locate};
 pub use fault::MasterFault;
 pub use mailbox::{Area, Peer};
-pub use settling::settle;
+pub use settling::{Mailboxes, settle};
 pub use states::{read_status, request_state, write_control};
 pub use stations::assign_stations;
 pub use surely::{Progress, download_on, download_surely, upload_on, upload_surely};

@@ -17,7 +17,7 @@ use ec_wire::{Command, Datagram, address_of};
 
 /// What is known of a peer's two mailboxes.
 #[derive(Clone, Copy, PartialEq, Eq, Debug)]
-pub(crate) enum Mailboxes {
+pub enum Mailboxes {
     /// Nothing, or that a request waits for the slave: they are looked at again.
     Unknown,
     /// A mail waits in the mailbox of answers.

@@ -20,11 +20,11 @@ use ec_master::Ports;
 #[derive(Clone, Copy)]
 pub struct Progress {
     /// What is known of the peer's mailboxes.
-    known: Mailboxes,
+    pub known: Mailboxes,
     /// The counter of the request that was posted last, where one was.
-    posted: Option<u8>,
+    pub posted: Option<u8>,
     /// The peer, with the counter of the next request.
-    peer: Peer,
+    pub peer: Peer,
 }
 
 /// The mail that answers the request with the counter that was posted last.

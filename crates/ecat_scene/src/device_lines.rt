@@ -1,13 +1,13 @@
 //! The lines that say what a slave tells of itself.
 
-ghost use Rattle.std.specs.Prelude.{◌≡◌, ◌<◌, ◌++◌, ◌∷◌, [], vec_len, length, map, Ok, Err, IfOk, IfSome, OnOk, List, ℕ};
+ghost use Rattle.std.specs.Prelude.{◌≡◌, ◌<◌, ◌++◌, ◌∷◌, [], length, map, IfOk, IfSome, OnOk, List, ℕ};
 ghost use Rattle.std.specs.List.{flat_map};
 ghost use Rattle.ecat_scene.specs.Deeds.{alias_line, Does, identity_line, kind_line, name_line};
 ghost use Rattle.ecat_scene.specs.Deeds.{pdo_line, sii_line};
 ghost use Rattle.ecat_scene.specs.Order.{MissesSlave};
 ghost use Rattle.ecat_scene.specs.Scene.{pdo_record, scene_record, sii_record};
-ghost use Rattle.ecat_scene.specs.Words.{alias_of, all_mapped, colon_in, entries_from, entry_in, Gives, halves};
-ghost use Rattle.ecat_scene.specs.Words.{identity_of, mapped, name_of, pdo_of, seen, sii_of, spaced};
+ghost use Rattle.ecat_scene.specs.Words.{alias_of, all_mapped, colon_in, entries_from, entry_in, Gives};
+ghost use Rattle.ecat_scene.specs.Words.{halves, identity_of, mapped, name_of, pdo_of, seen, sii_of, spaced};
 ghost use Rattle.ecat_scene.specs.Fields.{fitting};
 ghost use Rattle.ec_regs.specs.declared.registers.TheConstants.{SYNC_MANAGER_COUNT};
 
