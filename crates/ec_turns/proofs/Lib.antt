@@ -1,0 +1,5 @@
+mod GivenLemmas
+mod ServiceLemmas
+mod StartLemmas
+mod RunLemmas
+pub mod Laws
