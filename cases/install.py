@@ -28,7 +28,9 @@ share/rummymaple/examples/master.c
 share/rummymaple/examples/cycle.c
 share/rummymaple/examples/cycle.cpp
 share/rummymaple/examples/loop.c
+share/rummymaple/examples/start.c
 share/rummymaple/examples/bench.scene
+share/rummymaple/examples/line.scene
 """
 
 PROGRAM = """#include <rummymaple.h>

@@ -2,10 +2,12 @@
  * rummymaple.h: the proved core of an EtherCAT master, for masters in C (C11) and C++ (C++17).
  *
  * Four calls, in the order of a cycle, two that tell the copies of one trip from all others, a reader, a
- * call that says where the cable is broken, three that are a cycle by turns, one that makes the frames of a
- * start-up, and five that check the slaves' records and the items before the first cycle. Between the calls
- * of a cycle the master does what it likes: it sends each frame both ways round the ring, works, and
- * receives. With one array for the joined bytes of each frame k, and two numbers for each trip:
+ * call that says where the cable is broken, three that are a cycle by turns, three that are the start-up of
+ * a line and six that are a service with one slave, by turns too, two that are a look at the state of one
+ * slave, one that makes the frame of any datagram, and five that check the slaves' records and the items
+ * before the first cycle. Between the calls of a cycle the master does what it likes: it sends each frame
+ * both ways round the ring, works, and receives. With one array for the joined bytes of each frame k, and
+ * two numbers for each trip:
  *
  *     for (k = 0, first = 0; first < n; first += made.items, k++) {
  *         made = rmp_frame(items, n, image, sizeof image, first, sent, sizeof sent);
@@ -58,6 +60,12 @@ extern "C" {
 /* The most slaves of a line: what is promised of lines ends there. */
 #define RMP_MAX_SLAVES 256
 
+/* The most objects that are written to a slave at start-up. */
+#define RMP_MAX_STARTUP 16
+
+/* No link is down: `down` of rmp_start_begin. */
+#define RMP_NO_LINK 65535
+
 /* How a call ended: the member `code` of each answer. */
 enum rmp_code {
     RMP_GOOD = 0,       /* done; of rmp_judge: each counter moved by what is expected */
@@ -88,7 +96,7 @@ enum rmp_code {
     RMP_FAULT_MORE_AT_END = 23, /* the last datagram says that more follow */
     RMP_FAULT_LEFT_OVER = 24,   /* bytes are left behind the last datagram, or too few for one more */
     RMP_FAULT_TRAILING = 25,    /* bytes follow the frame in a UDP packet */
-    RMP_NOT_UNDER_WAY = 26,     /* the cycle is done or ended */
+    RMP_NOT_UNDER_WAY = 26,     /* the cycle, service or start-up is done or ended */
     /* of rmp_check_item, `at` being the first slave of the item's station: */
     RMP_OUTSIDE_READ = 27,  /* it reads neither registers nor one buffered area that the master reads */
     RMP_OUTSIDE_WRITE = 28, /* it does not write one buffered area that the master writes */
@@ -102,7 +110,20 @@ enum rmp_code {
     RMP_BAD_COMMAND = 34,   /* of rmp_single: there is no such command */
     /* of rmp_shown, `at` and `sync_manager` being those of an area of outputs that FMMUs map: */
     RMP_LEFT_BY = 35,         /* item `item` writes a byte of the area and not its last one */
-    RMP_NEVER_COMPLETED = 36  /* no item writes the last byte of the area */
+    RMP_NEVER_COMPLETED = 36, /* no item writes the last byte of the area */
+    /* of services, start-ups and looks: */
+    RMP_GOES_ON = 37,    /* another frame goes out */
+    RMP_NO_SLAVE = 38,   /* no slave answered, each of ten times in a row (of a step of a start-up: of twenty
+                            times; of a look: once), or the slave has no mailboxes */
+    RMP_NO_ANSWER = 39,  /* as many trips as were allowed brought no answer; of a look: no copy came */
+    RMP_BAD_ANSWER = 40, /* the answer is none to what was asked, or more than one slave answered */
+    RMP_REFUSED = 41,    /* the slave has an error behind a request for a state; `number` is its AL status
+                            code; of a look: it has an error, and `error` is that code */
+    RMP_ABORTED = 42,    /* the slave ended the transfer; `number` is the abort code */
+    RMP_STRANGER = 43,   /* packet a or b is a frame, but not of the sent one */
+    RMP_BAD_NUMBERS = 44, /* the numbers are those of no service or start-up, or of no object of the slave; or
+                             there are not records of each slave */
+    RMP_OTHER_COUNT = 45 /* another number of slaves was counted, each of ten times; `number` is the last */
 };
 
 /* What an item does: the codes of its commands on the wire (IEC 61158-4-12). */
@@ -288,11 +309,11 @@ struct rmp_not_shown {
                       RMP_BAD_RANGE */
 };
 
-/* How far a cycle is. */
+/* How far a cycle, a service or a start-up is. */
 enum rmp_state {
-    RMP_UNDER_WAY = 0, /* items are left */
-    RMP_DONE = 1,      /* each frame was good, and the image has their data */
-    RMP_ENDED = 2      /* a verdict ended it, and the image is as it was */
+    RMP_UNDER_WAY = 0, /* items are left, or another frame goes out */
+    RMP_DONE = 1,      /* each frame was good, and the image has their data; or what was asked is done */
+    RMP_ENDED = 2      /* a verdict ended it, and the image is as it was; or why it is not done was told */
 };
 
 /* A cycle, for masters that want no loop of their own: made by rmp_cycle_begin, only read by the master. */
@@ -305,6 +326,121 @@ struct rmp_cycle {
 /* What rmp_cycle_came answers. */
 struct rmp_turn {
     size_t at;       /* the item, the datagram or the byte that `code` is about */
+    uint32_t code;   /* of enum rmp_code */
+    uint32_t copy_a; /* of enum rmp_copy: what packet a is, at whichever port its copy went out */
+    uint32_t copy_b; /* and packet b */
+};
+
+/* States of a slave's application layer (IEC 61158-6-12, AL management). */
+enum rmp_al_state { RMP_INIT = 1, RMP_PRE_OP = 2, RMP_SAFE_OP = 4, RMP_OP = 8 };
+
+/* How far the mails of a transfer are: a part of the two structs behind it, and of the library's own use. */
+struct rmp_mail {
+    uint16_t station;        /* the station address of the slave */
+    uint16_t request_start;  /* its mailbox of requests */
+    uint16_t request_length;
+    uint16_t answer_start;   /* its mailbox of answers */
+    uint16_t answer_length;
+    uint8_t counter;         /* of the next request, 1 to 7 */
+    uint8_t posted;          /* the counter of the last request, */
+    uint8_t is_posted;       /* where there was one */
+    uint8_t known;           /* of both mailboxes: 0 nothing, 1 an answer waits, 2 they are empty */
+};
+
+/* A service with one slave: made by rmp_.._begin, only read by the master. Where its numbers were changed, it
+ * goes on with these, or is answered RMP_BAD_NUMBERS, or RMP_BAD_FORM. */
+struct rmp_service {
+    struct rmp_mail mail;
+    uint16_t index;      /* of the object, */
+    uint8_t sub;         /* its subindex, */
+    uint8_t size;        /* and how many bytes are written to it */
+    uint8_t al_state;    /* of enum rmp_al_state: what is asked for, or acknowledged */
+    uint8_t next;        /* which question goes out next */
+    uint32_t value;      /* what is written */
+    uint32_t unanswered; /* how often in a row no slave answered */
+    uint32_t trips;      /* how many trips are left */
+    uint32_t form;       /* of enum rmp_form */
+    uint32_t state;      /* of enum rmp_state */
+};
+
+/* What rmp_service_came answers. */
+struct rmp_served {
+    uint32_t number; /* the value that was read, the state that the slave is in (of enum rmp_al_state), the AL
+                        status code or the abort code; else 0 */
+    uint32_t size;   /* how many bytes a value that was read has, 1, 2 or 4; else 0 */
+    uint32_t code;   /* of enum rmp_code */
+    uint32_t copy_a; /* of enum rmp_copy: what packet a is, at whichever port its copy went out */
+    uint32_t copy_b; /* and packet b */
+};
+
+/* What rmp_look_came answers. */
+struct rmp_seen {
+    uint32_t state;  /* of enum rmp_al_state: that of RMP_GOOD and RMP_REFUSED; else 0 */
+    uint32_t error;  /* the AL status code of RMP_REFUSED; else 0 */
+    uint32_t code;   /* of enum rmp_code */
+    uint32_t copy_a; /* of enum rmp_copy: what packet a is, at whichever port its copy went out */
+    uint32_t copy_b; /* and packet b */
+};
+
+/* An object that is written to a slave at start-up. */
+struct rmp_object {
+    uint32_t value; /* what is written; it fits so many bytes */
+    uint16_t index;
+    uint8_t sub;    /* the subindex */
+    uint8_t size;   /* how many bytes are written, 1, 2 or 4; 0: no object stands here */
+};
+
+/* The objects that are written to a slave in Pre-Op, before its process data are set, in their order. */
+struct rmp_startup {
+    struct rmp_object objects[RMP_MAX_STARTUP];
+};
+
+/* The stages of a start-up: each is done with all slaves before the next one begins. */
+enum rmp_stage {
+    RMP_STAGE_COUNT = 0,    /* the slaves are counted */
+    RMP_STAGE_BEHIND = 1,   /* those behind the broken link are given their station addresses */
+    RMP_STAGE_STATIONS = 2, /* all others are */
+    RMP_STAGE_INIT = 3,     /* Init is asked for, and errors that stand are acknowledged */
+    RMP_STAGE_PRE_OP = 4,   /* sync managers 0 and 1 are set, and Pre-Op is asked for */
+    RMP_STAGE_SAFE_OP = 5,  /* objects are written, the other sync managers and the FMMUs are set, and Safe-Op
+                               is asked for */
+    RMP_STAGE_OP = 6        /* Op is asked for */
+};
+
+/* What a start-up does with one slave. */
+enum rmp_step {
+    RMP_STEP_NONE = 0,         /* nothing: the slaves are counted */
+    RMP_STEP_STATION = 1,      /* it is given its station address */
+    RMP_STEP_SYNC_MANAGER = 2, /* sync manager `part` is written and read back */
+    RMP_STEP_FMMU = 3,         /* FMMU `part` is written and read back */
+    RMP_STEP_OBJECT = 4,       /* object `part` of its struct rmp_startup is written */
+    RMP_STEP_STATE = 5         /* state `part` (of enum rmp_al_state) is asked for */
+};
+
+/* A start-up of a line: made by rmp_start_begin, only read by the master. Where its numbers were changed, it
+ * goes on with these, or is answered RMP_BAD_NUMBERS, or RMP_BAD_FORM. */
+struct rmp_start {
+    size_t left;         /* how many steps of the stage are left with the slave */
+    struct rmp_mail mail; /* of the object that is being written */
+    uint16_t slaves;     /* how many slaves the line has */
+    uint16_t down;       /* the link that is down, or RMP_NO_LINK */
+    uint16_t place;      /* the slave with which the stage is, from 0 */
+    uint8_t stage;       /* of enum rmp_stage: that which is under way, */
+    uint8_t last;        /* and the last one */
+    uint8_t is_writing;  /* 1 where an object is being written */
+    uint32_t asked;      /* how often the slave was asked for what it has not come to yet */
+    uint32_t unanswered; /* how often no slave answered */
+    uint32_t form;       /* of enum rmp_form */
+    uint32_t state;      /* of enum rmp_state */
+};
+
+/* What rmp_start_came answers. What a failure does not name is 0. */
+struct rmp_started {
+    size_t place;    /* of a step that failed: the slave, from 0, */
+    uint32_t stage;  /* of a failure: the stage, of enum rmp_stage, */
+    uint32_t step;   /* the step, of enum rmp_step, */
+    uint32_t part;   /* and the number of the sync manager, FMMU or object, or the state */
+    uint32_t number; /* the AL status code, the abort code, or how many slaves were counted */
     uint32_t code;   /* of enum rmp_code */
     uint32_t copy_a; /* of enum rmp_copy: what packet a is, at whichever port its copy went out */
     uint32_t copy_b; /* and packet b */
@@ -557,6 +693,161 @@ struct rmp_gap rmp_covered(const struct rmp_records *line, size_t slaves, const 
 struct rmp_not_shown rmp_shown(const struct rmp_records *line, size_t slaves, const struct rmp_item *items,
                                size_t n);
 
+/*
+ * The start-up of a line as a state machine, in place of frames of the master's own: slaves are counted,
+ * given their station addresses, mailboxes and process data, and brought to Op, a frame in each turn:
+ *
+ *     struct rmp_start start = rmp_start_begin(RMP_UDP, slaves, RMP_NO_LINK, RMP_STAGE_COUNT, RMP_STAGE_OP);
+ *     do {
+ *         made = rmp_start_next(&start, line, slaves, startup, n, sent, sizeof sent);
+ *         ... where made.code is not RMP_GOOD, give up; else send sent[0 .. made.bytes] with two numbers, and
+ *             open what comes back of it: a and b. Where made.bytes is 0, send nothing: both are lost ...
+ *         started = rmp_start_came(&start, line, slaves, startup, n, a, a_size, b, b_size);
+ *         ... of RMP_STRANGER receive another packet, and call rmp_start_came again: do not send again ...
+ *     } while (started.code == RMP_GOES_ON);
+ *
+ * `slaves` is how many slaves the line has, 1 to RMP_MAX_SLAVES: any other number gives the numbers of no
+ * start-up (RMP_BAD_NUMBERS), and so does a stage that is none. `down` is the link that rmp_where told down
+ * (RMP_ONE), so that slaves on both sides of it are reached, or RMP_NO_LINK. `first` and `last` are stages of
+ * enum rmp_stage. Begin with RMP_STAGE_COUNT, or where the slaves have their station addresses with one from
+ * RMP_STAGE_INIT on. A line may be brought to Pre-Op, its objects read by services, as what each slave is
+ * (0x1018), and the start-up begun anew with RMP_STAGE_SAFE_OP.
+ *
+ * Proved: the numbers are those of that start-up, which has made no trip, or of none.
+ */
+struct rmp_start rmp_start_begin(uint32_t form, uint16_t slaves, uint16_t down, uint8_t first, uint8_t last);
+
+/*
+ * Puts the next frame of a start-up at the front of `room`: again the last one, until rmp_start_came took
+ * what came of it. `line` has the records of all slaves by place, what each is to be told: `slaves` is their
+ * number, that of rmp_start_begin, else it is RMP_BAD_NUMBERS. `startup` has the objects of each slave by
+ * place; it may end sooner, or be NULL with 0. Give the same in each call. RMP_GOOD with `bytes` 0: nothing
+ * goes out in this turn.
+ *
+ * Proved: the frame is the one that goes out next, as the program's own start-up by turns sends it. Else
+ * RMP_BAD_NUMBERS, RMP_NO_ROOM or RMP_NOT_UNDER_WAY, and `room` is as it was, as it is with `bytes` 0.
+ */
+struct rmp_written rmp_start_next(const struct rmp_start *start, const struct rmp_records *line,
+                                  size_t slaves, const struct rmp_startup *startup, size_t startup_count,
+                                  uint8_t *room, size_t room_size);
+
+/*
+ * Takes the packets `a` and `b` that came back of the frame that rmp_start_next made last, each of length 0
+ * where nothing came. RMP_GOES_ON: another frame goes out. RMP_GOOD: the last stage is done with each slave.
+ * RMP_NO_SLAVE, RMP_NO_ANSWER, RMP_BAD_ANSWER, RMP_REFUSED, RMP_ABORTED and RMP_OTHER_COUNT have ended it,
+ * and name the stage and the step. Any other code leaves it as it is.
+ *
+ * A lost frame ends nothing: what no slave answered is asked again, twenty times in a step; slaves are
+ * counted ten times where they are not as many as they are to be; AL status is read a thousand times until a
+ * slave is in a state that it was asked for; and an object is written by 64 trips at the most.
+ *
+ * Proved: what the packets decide, and how far the start-up is behind them, is what the program's own turn
+ * decides over ports that give these packets; nothing else of the struct changes.
+ */
+struct rmp_started rmp_start_came(struct rmp_start *start, const struct rmp_records *line, size_t slaves,
+                                  const struct rmp_startup *startup, size_t startup_count, const uint8_t *a,
+                                  size_t a_size, const uint8_t *b, size_t b_size);
+
+/*
+ * A service with one slave beside the cycles, as a state machine: an object is read or written by SDO, a
+ * state is asked for, or an error is acknowledged. One frame goes out in each turn, so that a service goes on
+ * between two cycles:
+ *
+ *     struct rmp_service service = rmp_read_begin(RMP_UDP, &line[2], 0x1018, 1, number++, 64);
+ *     do {
+ *         made = rmp_service_next(&service, sent, sizeof sent);
+ *         ... as in a start-up ...
+ *         served = rmp_service_came(&service, a, a_size, b, b_size);
+ *     } while (served.code == RMP_GOES_ON);
+ *     ... where served.code is RMP_GOOD, served.number is the value, of served.size bytes ...
+ *
+ * Of the slave's records its station and sync managers 0 and 1 are looked at, its mailboxes of requests and
+ * of answers. Mailboxes of more than RMP_MAX_DATA - RMP_NUMBER_LENGTH bytes leave frames no place for a
+ * number. `trips` is how many trips it may take at the most: 64 are plenty, and 4 are enough for an object
+ * where nothing is lost. Each rmp_.._next and rmp_.._came of a service, a start-up or a look takes up to 64
+ * KB of stack, each other call of the library less than 8 KB.
+ *
+ * This one reads an object of the slave, of 1, 2 or 4 bytes (expedited). `number` is one more from one
+ * service with that slave to the next: the counters of their mails follow it (number % 7 + 1), by which the
+ * slave tells a mail from one that is sent again.
+ *
+ * Proved of this one and the three below: the numbers are those of that service, which has made no trip, or
+ * of none.
+ */
+struct rmp_service rmp_read_begin(uint32_t form, const struct rmp_records *records, uint16_t index,
+                                  uint8_t sub, uint32_t number, uint32_t trips);
+
+/* Begins the writing of `value` to an object, of `size` bytes: 1, 2 or 4. A value that does not fit them
+ * gives the numbers of no service (RMP_BAD_NUMBERS). Where packets are lost it may be written twice, and
+ * where the service ends without an answer it may be written yet. */
+struct rmp_service rmp_write_begin(uint32_t form, const struct rmp_records *records, uint16_t index,
+                                   uint8_t sub, uint8_t size, uint32_t value, uint32_t number,
+                                   uint32_t trips);
+
+/* Begins that the slave is asked for a state of enum rmp_al_state, by which an error that stands is
+ * acknowledged, and that AL status is read until it is there. Another number gives the numbers of no service.
+ * A slave in a state that is none of these, as Bootstrap, counts as in Init. */
+struct rmp_service rmp_state_begin(uint32_t form, const struct rmp_records *records, uint8_t state,
+                                   uint32_t trips);
+
+/* Begins that an error of the slave is acknowledged in the state that it is in. A state that is none of enum
+ * rmp_al_state counts as Init, and then Init is asked for. */
+struct rmp_service rmp_acknowledge_begin(uint32_t form, const struct rmp_records *records, uint32_t trips);
+
+/*
+ * Puts the next frame of a service at the front of `room`: again the last one, until rmp_service_came took
+ * what came of it. RMP_GOOD with `bytes` 0: nothing goes out, and rmp_service_came says why where it is
+ * handed nothing, both lengths 0: the slave has no mailboxes (RMP_NO_SLAVE), or no trip is left
+ * (RMP_NO_ANSWER).
+ *
+ * Proved: the frame is the one that goes out next, as the program's own service by turns sends it. Else
+ * RMP_BAD_NUMBERS, RMP_NO_ROOM or RMP_NOT_UNDER_WAY, and `room` is as it was, as it is with `bytes` 0.
+ */
+struct rmp_written rmp_service_next(const struct rmp_service *service, uint8_t *room, size_t room_size);
+
+/*
+ * Takes the packets `a` and `b` that came back of the frame that rmp_service_next made last, each of length 0
+ * where nothing came. RMP_GOES_ON: another frame goes out. RMP_GOOD: the service is done, and `number` is the
+ * value that was read, or the state that the slave is in. RMP_NO_SLAVE, RMP_NO_ANSWER, RMP_BAD_ANSWER,
+ * RMP_REFUSED and RMP_ABORTED have ended it. Any other code leaves it as it is: behind RMP_STRANGER call it
+ * again with other packets.
+ *
+ * A lost frame ends nothing: a question about a state that no slave answered is asked again, ten times in a
+ * row, and mails are sent again safely, whatever was lost.
+ *
+ * Proved: what the packets decide, and what goes out next, is what the program's own turn decides over ports
+ * that give these packets; nothing else of the struct changes.
+ */
+struct rmp_served rmp_service_came(struct rmp_service *service, const uint8_t *a, size_t a_size,
+                                   const uint8_t *b, size_t b_size);
+
+/*
+ * A look at one slave, by one frame and without a struct: of each slave it tells who is not in Op:
+ *
+ *     made = rmp_look_next(0x1001, sent, sizeof sent);
+ *     ... send sent[0 .. made.bytes] with two numbers, and open what comes back of it: a and b ...
+ *     seen = rmp_look_came(RMP_UDP, 0x1001, a, a_size, b, b_size);
+ *
+ * This call puts the frame at the front of `room` by which AL status is read of the slave with that station
+ * address: an FPRD of 6 bytes at 0x0130.
+ *
+ * Proved: the frame is that of the program's own look. Else RMP_NO_ROOM, and `room` is as it was.
+ */
+struct rmp_written rmp_look_next(uint16_t station, uint8_t *room, size_t room_size);
+
+/*
+ * Tells what the packets `a` and `b` show that came back of that frame, each of length 0 where nothing came.
+ * RMP_GOOD: one slave answered, in `state` and without an error. RMP_REFUSED: one answered, in `state` and
+ * with an error, whose AL status code is `error`. RMP_NO_SLAVE: copies came, and no slave had answered: it is
+ * cut off, has lost its station address, or the copy that passed it is lost. RMP_NO_ANSWER: no copy came.
+ * RMP_BAD_ANSWER: more than one slave answered. RMP_STRANGER: receive another packet, and call it again.
+ * RMP_BAD_FORM. A state that is none of enum rmp_al_state, as Bootstrap, counts as Init.
+ *
+ * Proved: what is told is what the program's own look sees over ports that give these packets.
+ */
+struct rmp_seen rmp_look_came(uint32_t form, uint16_t station, const uint8_t *a, size_t a_size,
+                              const uint8_t *b, size_t b_size);
+
 /* What a code says, in a few words, or "no such code". Written by hand, here alone. */
 static inline const char *rmp_code_text(uint32_t code) {
     static const char *const texts[] = {
@@ -586,7 +877,7 @@ static inline const char *rmp_code_text(uint32_t code) {
         "the last datagram says that more follow",
         "bytes are left behind the last datagram",
         "bytes follow the frame",
-        "the cycle is done or ended",
+        "the cycle, service or start-up is done or ended",
         "an item reads where a cycle may not",
         "an item writes where a cycle may not",
         "no item asks for a mapped bit",
@@ -597,6 +888,15 @@ static inline const char *rmp_code_text(uint32_t code) {
         "no such command",
         "an item writes an area of outputs without its last byte",
         "no item writes the last byte of an area of outputs",
+        "another frame goes out",
+        "no slave answered, or it has no mailboxes",
+        "as many trips as were allowed brought no answer",
+        "the answer is none to what was asked, or more than one slave answered",
+        "the slave refused the state",
+        "the slave ended the transfer",
+        "a packet is not of the sent frame",
+        "the numbers are those of no service or start-up",
+        "another number of slaves was counted",
     };
     return code < sizeof texts / sizeof texts[0] ? texts[code] : "no such code";
 }
@@ -679,6 +979,69 @@ RMP_ASSERT(offsetof(struct rmp_turn, at) == 0, "at");
 RMP_ASSERT(offsetof(struct rmp_turn, code) == 8, "code");
 RMP_ASSERT(offsetof(struct rmp_turn, copy_a) == 12, "copy_a");
 RMP_ASSERT(offsetof(struct rmp_turn, copy_b) == 16, "copy_b");
+RMP_ASSERT(sizeof(struct rmp_mail) == 14, "size of rmp_mail");
+RMP_ASSERT(offsetof(struct rmp_mail, station) == 0, "station");
+RMP_ASSERT(offsetof(struct rmp_mail, request_start) == 2, "request_start");
+RMP_ASSERT(offsetof(struct rmp_mail, request_length) == 4, "request_length");
+RMP_ASSERT(offsetof(struct rmp_mail, answer_start) == 6, "answer_start");
+RMP_ASSERT(offsetof(struct rmp_mail, answer_length) == 8, "answer_length");
+RMP_ASSERT(offsetof(struct rmp_mail, counter) == 10, "counter");
+RMP_ASSERT(offsetof(struct rmp_mail, posted) == 11, "posted");
+RMP_ASSERT(offsetof(struct rmp_mail, is_posted) == 12, "is_posted");
+RMP_ASSERT(offsetof(struct rmp_mail, known) == 13, "known");
+RMP_ASSERT(sizeof(struct rmp_service) == 40, "size of rmp_service");
+RMP_ASSERT(offsetof(struct rmp_service, mail) == 0, "mail");
+RMP_ASSERT(offsetof(struct rmp_service, index) == 14, "index");
+RMP_ASSERT(offsetof(struct rmp_service, sub) == 16, "sub");
+RMP_ASSERT(offsetof(struct rmp_service, size) == 17, "size");
+RMP_ASSERT(offsetof(struct rmp_service, al_state) == 18, "al_state");
+RMP_ASSERT(offsetof(struct rmp_service, next) == 19, "next");
+RMP_ASSERT(offsetof(struct rmp_service, value) == 20, "value");
+RMP_ASSERT(offsetof(struct rmp_service, unanswered) == 24, "unanswered");
+RMP_ASSERT(offsetof(struct rmp_service, trips) == 28, "trips");
+RMP_ASSERT(offsetof(struct rmp_service, form) == 32, "form");
+RMP_ASSERT(offsetof(struct rmp_service, state) == 36, "state");
+RMP_ASSERT(sizeof(struct rmp_served) == 20, "size of rmp_served");
+RMP_ASSERT(offsetof(struct rmp_served, number) == 0, "number");
+RMP_ASSERT(offsetof(struct rmp_served, size) == 4, "size");
+RMP_ASSERT(offsetof(struct rmp_served, code) == 8, "code");
+RMP_ASSERT(offsetof(struct rmp_served, copy_a) == 12, "copy_a");
+RMP_ASSERT(offsetof(struct rmp_served, copy_b) == 16, "copy_b");
+RMP_ASSERT(sizeof(struct rmp_seen) == 20, "size of rmp_seen");
+RMP_ASSERT(offsetof(struct rmp_seen, state) == 0, "state");
+RMP_ASSERT(offsetof(struct rmp_seen, error) == 4, "error");
+RMP_ASSERT(offsetof(struct rmp_seen, code) == 8, "code");
+RMP_ASSERT(offsetof(struct rmp_seen, copy_a) == 12, "copy_a");
+RMP_ASSERT(offsetof(struct rmp_seen, copy_b) == 16, "copy_b");
+RMP_ASSERT(sizeof(struct rmp_object) == 8, "size of rmp_object");
+RMP_ASSERT(offsetof(struct rmp_object, value) == 0, "value");
+RMP_ASSERT(offsetof(struct rmp_object, index) == 4, "index");
+RMP_ASSERT(offsetof(struct rmp_object, sub) == 6, "sub");
+RMP_ASSERT(offsetof(struct rmp_object, size) == 7, "size");
+RMP_ASSERT(sizeof(struct rmp_startup) == 128, "size of rmp_startup");
+RMP_ASSERT(offsetof(struct rmp_startup, objects) == 0, "objects");
+RMP_ASSERT(sizeof(struct rmp_start) == 48, "size of rmp_start");
+RMP_ASSERT(offsetof(struct rmp_start, left) == 0, "left");
+RMP_ASSERT(offsetof(struct rmp_start, mail) == 8, "mail");
+RMP_ASSERT(offsetof(struct rmp_start, slaves) == 22, "slaves");
+RMP_ASSERT(offsetof(struct rmp_start, down) == 24, "down");
+RMP_ASSERT(offsetof(struct rmp_start, place) == 26, "place");
+RMP_ASSERT(offsetof(struct rmp_start, stage) == 28, "stage");
+RMP_ASSERT(offsetof(struct rmp_start, last) == 29, "last");
+RMP_ASSERT(offsetof(struct rmp_start, is_writing) == 30, "is_writing");
+RMP_ASSERT(offsetof(struct rmp_start, asked) == 32, "asked");
+RMP_ASSERT(offsetof(struct rmp_start, unanswered) == 36, "unanswered");
+RMP_ASSERT(offsetof(struct rmp_start, form) == 40, "form");
+RMP_ASSERT(offsetof(struct rmp_start, state) == 44, "state");
+RMP_ASSERT(sizeof(struct rmp_started) == 40, "size of rmp_started");
+RMP_ASSERT(offsetof(struct rmp_started, place) == 0, "place");
+RMP_ASSERT(offsetof(struct rmp_started, stage) == 8, "stage");
+RMP_ASSERT(offsetof(struct rmp_started, step) == 12, "step");
+RMP_ASSERT(offsetof(struct rmp_started, part) == 16, "part");
+RMP_ASSERT(offsetof(struct rmp_started, number) == 20, "number");
+RMP_ASSERT(offsetof(struct rmp_started, code) == 24, "code");
+RMP_ASSERT(offsetof(struct rmp_started, copy_a) == 28, "copy_a");
+RMP_ASSERT(offsetof(struct rmp_started, copy_b) == 32, "copy_b");
 RMP_ASSERT(sizeof(struct rmp_datagram) == 32, "size of rmp_datagram");
 RMP_ASSERT(offsetof(struct rmp_datagram, data) == 0, "data");
 RMP_ASSERT(offsetof(struct rmp_datagram, length) == 8, "length");

@@ -206,6 +206,105 @@ static inline size_t rmp_answer_text(char *room, size_t room_size, uint32_t code
     return rmp_text_end(&text);
 }
 
+/* The name of a state of enum rmp_al_state, or "no such state". */
+static inline const char *rmp_al_state_text(uint32_t state) {
+    return state == RMP_INIT      ? "Init"
+           : state == RMP_PRE_OP  ? "Pre-Op"
+           : state == RMP_SAFE_OP ? "Safe-Op"
+           : state == RMP_OP      ? "Op"
+                                  : "no such state";
+}
+
+/* What a stage of enum rmp_stage does, or "no such stage". */
+static inline const char *rmp_stage_text(uint32_t stage) {
+    static const char *const texts[] = {
+        "slaves are counted",
+        "station addresses behind the broken link",
+        "station addresses",
+        "to Init",
+        "to Pre-Op",
+        "to Safe-Op",
+        "to Op",
+    };
+    return stage < sizeof texts / sizeof texts[0] ? texts[stage] : "no such stage";
+}
+
+/* What a step of enum rmp_step is about, or "no such step". */
+static inline const char *rmp_step_text(uint32_t step) {
+    static const char *const texts[] = {"none", "station address", "sync manager", "FMMU", "object", "state"};
+    return step < sizeof texts / sizeof texts[0] ? texts[step] : "no such step";
+}
+
+/* What a code says, and the number that it tells. */
+static inline void rmp_text_failure(struct rmp_text *text, uint32_t code, uint32_t number) {
+    rmp_text_words(text, rmp_code_text(code));
+    if (code == RMP_REFUSED) {
+        rmp_text_words(text, ": 0x");
+        rmp_text_hex(text, number, 4);
+    } else if (code == RMP_ABORTED) {
+        rmp_text_words(text, ": 0x");
+        rmp_text_hex(text, number, 8);
+    } else if (code == RMP_OTHER_COUNT) {
+        rmp_text_told(text, ": ", number);
+    }
+}
+
+/* What rmp_service_came answers: "good: 0x00000002" of a value of four bytes that was read, "good: Op" of a
+ * state, "good" of a value that was written, "the slave refused the state: 0x001d" with the AL status code,
+ * "the slave ended the transfer: 0x06020000" with the abort code; or what its code says. */
+static inline size_t rmp_served_text(char *room, size_t room_size, const struct rmp_served *served) {
+    struct rmp_text text = {room, room_size, 0};
+    rmp_text_failure(&text, served->code, served->number);
+    if (served->code == RMP_GOOD && served->size) {
+        rmp_text_words(&text, ": 0x");
+        rmp_text_hex(&text, served->number, served->size < 4 ? 2 * (int)served->size : 8);
+    } else if (served->code == RMP_GOOD && served->number) {
+        rmp_text_words(&text, ": ");
+        rmp_text_words(&text, rmp_al_state_text(served->number));
+    }
+    return rmp_text_end(&text);
+}
+
+/* What rmp_look_came answers: "Op", "Safe-Op, error 0x001d" with the AL status code, "no slave answered", "no
+ * copy came", "more than one slave answered"; or what its code says. */
+static inline size_t rmp_seen_text(char *room, size_t room_size, const struct rmp_seen *seen) {
+    struct rmp_text text = {room, room_size, 0};
+    if (seen->code == RMP_GOOD || seen->code == RMP_REFUSED)
+        rmp_text_words(&text, rmp_al_state_text(seen->state));
+    else
+        rmp_text_words(&text, seen->code == RMP_NO_SLAVE     ? "no slave answered"
+                              : seen->code == RMP_NO_ANSWER  ? "no copy came"
+                              : seen->code == RMP_BAD_ANSWER ? "more than one slave answered"
+                                                             : rmp_code_text(seen->code));
+    if (seen->code == RMP_REFUSED) {
+        rmp_text_words(&text, ", error 0x");
+        rmp_text_hex(&text, seen->error, 4);
+    }
+    return rmp_text_end(&text);
+}
+
+/* What rmp_start_came answers: "to Safe-Op, slave 1, FMMU 0: the answer is none to what was asked, or more
+ * than one slave answered", "to Op, slave 2, state Op: the slave refused the state: 0x001d", "another number
+ * of slaves was counted: 4"; or where no step failed what its code says. */
+static inline size_t rmp_started_text(char *room, size_t room_size, const struct rmp_started *started) {
+    struct rmp_text text = {room, room_size, 0};
+    if (started->step != RMP_STEP_NONE) {
+        rmp_text_words(&text, rmp_stage_text(started->stage));
+        rmp_text_told(&text, ", slave ", started->place);
+        rmp_text_words(&text, ", ");
+        rmp_text_words(&text, rmp_step_text(started->step));
+        if (started->step == RMP_STEP_STATE) {
+            rmp_text_put(&text, ' ');
+            rmp_text_words(&text, rmp_al_state_text(started->part));
+        } else if (started->step != RMP_STEP_STATION) {
+            rmp_text_told(&text, " ", started->part);
+        }
+        rmp_text_words(&text, ": ");
+    }
+    rmp_text_failure(&text, started->code, started->number);
+    return rmp_text_end(&text);
+}
+
 /* What rmp_where found: "whole", "link 2 down", "links 2 and 4 down", "link 2 is the first down, behind it
  * unknown", "link 2 is the last down, before it unknown", "changed", "unknown"; or what its code says. */
 static inline size_t rmp_where_text(char *room, size_t room_size, const struct rmp_located *where) {

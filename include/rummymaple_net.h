@@ -14,6 +14,10 @@
  *     }
  *     rmp_net_close(&net);
  *
+ * A start-up, and a service with one slave beside the cycles, take a turn in each call: rmp_net_start and
+ * rmp_net_serve. Where the cable is broken, and in which state a slave is, say rmp_net_where and
+ * rmp_net_al_state.
+ *
  * Written by hand and tried (tools/library/net.c); no prover has looked at it. What is proved of a good cycle
  * rests on the core's own calls, and on one thing that is done here: no number is used twice
  * (docs/LIBRARY.md).
@@ -135,7 +139,7 @@ struct rmp_net {
     uint64_t begun, until;   /* when it went out, and up to when copies are awaited */
     uint32_t ended;          /* of enum rmp_net_end */
     uint8_t is_enough;       /* what came is enough, so that `until` is sooner than it was */
-    uint8_t frame[RMP_FRAME_SIZE]; /* the frame of a cycle */
+    uint8_t frame[RMP_FRAME_SIZE]; /* the frame of a cycle, a service or a start-up */
     uint8_t packet[RMP_NET_HEADER + RMP_FRAME_SIZE + 1]; /* what goes out, or came */
 };
 
@@ -791,6 +795,74 @@ static inline struct rmp_located rmp_net_where(struct rmp_net *net, size_t slave
     a = rmp_net_at(net, RMP_NET_A);
     b = rmp_net_at(net, RMP_NET_B);
     return rmp_where(net->form, net->frame, size, a->bytes, a->size, b->bytes, b->size, slaves);
+}
+
+/*
+ * Says in which state the slave with a station address is: the frame of rmp_look_next travels, and
+ * rmp_look_came tells of its copies. `limit` is for how many microseconds they are awaited: a copy that is
+ * lost costs all of them. It counts as no cycle. RMP_STRANGER is never answered. rmp_seen_text has it in
+ * words.
+ */
+static inline struct rmp_seen rmp_net_al_state(struct rmp_net *net, uint16_t station, uint32_t limit) {
+    const struct rmp_net_copy *a = &net->copies[RMP_NET_A], *b = &net->copies[RMP_NET_B];
+    size_t size = rmp_look_next(station, net->frame, sizeof net->frame).bytes;
+    rmp_net_await(net, rmp_net_begin(net, net->frame, size, NULL, 0, rmp_net_now() + (uint64_t)limit * 1000));
+    return rmp_look_came(net->form, station, a->bytes, a->size, b->bytes, b->size);
+}
+
+/* ---- services and start-ups */
+
+/* The frame of a turn lies in net->frame, and travels; where it has no bytes, nothing does. The code is that
+ * of the frame, or else that of its trip. */
+static inline uint32_t rmp_net_turn(struct rmp_net *net, const struct rmp_written *made, uint32_t limit) {
+    if (made->code != RMP_GOOD || made->bytes == 0)
+        return made->code;
+    return rmp_net_trip(net, net->frame, made->bytes, NULL, 0, limit).code;
+}
+
+/*
+ * Takes one turn of a service that was begun with the form of `net` (rmp_read_begin and the like): a frame
+ * goes out, and rmp_service_came tells of its copies. Between two cycles call it once, or without cycles
+ * until it does not answer RMP_GOES_ON. `limit` is for how many microseconds copies are awaited, as those of
+ * an rmp_net_trip of which no counters are expected: a copy that is lost costs all of them.
+ *
+ * What is answered is told at rmp_service_came; besides it is what rmp_service_next answers but RMP_GOOD, or
+ * RMP_FULL where the frame has no place for a number: then the service is as it was. RMP_STRANGER is never
+ * answered. rmp_served_text has it in words.
+ */
+static inline struct rmp_served rmp_net_serve(struct rmp_net *net, struct rmp_service *service,
+                                              uint32_t limit) {
+    const struct rmp_net_copy *a = &net->copies[RMP_NET_A], *b = &net->copies[RMP_NET_B];
+    struct rmp_written made = rmp_service_next(service, net->frame, sizeof net->frame);
+    struct rmp_served none = {0, 0, RMP_GOOD, RMP_LOST, RMP_LOST};
+    none.code = rmp_net_turn(net, &made, limit);
+    if (none.code != RMP_GOOD)
+        return none;
+    if (made.bytes == 0)
+        return rmp_service_came(service, NULL, 0, NULL, 0);
+    return rmp_service_came(service, a->bytes, a->size, b->bytes, b->size);
+}
+
+/*
+ * Takes one turn of a start-up that was begun with the form of `net` (rmp_start_begin), by the records and
+ * the objects of its slaves, as rmp_start_next and rmp_start_came take them: a frame goes out, and what its
+ * copies tell is answered. Call it until it does not answer RMP_GOES_ON. `limit` and what is answered besides
+ * are those of rmp_net_serve. rmp_started_text has it in words.
+ */
+static inline struct rmp_started rmp_net_start(struct rmp_net *net, struct rmp_start *start,
+                                               const struct rmp_records *line, size_t slaves,
+                                               const struct rmp_startup *startup, size_t startup_count,
+                                               uint32_t limit) {
+    const struct rmp_net_copy *a = &net->copies[RMP_NET_A], *b = &net->copies[RMP_NET_B];
+    struct rmp_written made =
+        rmp_start_next(start, line, slaves, startup, startup_count, net->frame, sizeof net->frame);
+    struct rmp_started none = {0, 0, 0, 0, 0, RMP_GOOD, RMP_LOST, RMP_LOST};
+    none.code = rmp_net_turn(net, &made, limit);
+    if (none.code != RMP_GOOD)
+        return none;
+    if (made.bytes == 0)
+        return rmp_start_came(start, line, slaves, startup, startup_count, NULL, 0, NULL, 0);
+    return rmp_start_came(start, line, slaves, startup, startup_count, a->bytes, a->size, b->bytes, b->size);
 }
 
 /* How a trip ended, in words, or "no such end". */

@@ -8,7 +8,9 @@
 #include <time.h>
 #include <ucontext.h>
 
+/* Of all calls but those of talks by turns and of looks; and of these. */
 #define STACK_LIMIT 8192
+#define TALK_STACK_LIMIT 65536
 
 static int failed;
 
@@ -407,19 +409,23 @@ static void singles(void) {
 
 /* Each code has a text of its own. */
 static void texts(void) {
-    for (uint32_t code = 0; code <= RMP_NEVER_COMPLETED; code++)
+    for (uint32_t code = 0; code <= RMP_OTHER_COUNT; code++)
         for (uint32_t other = 0; other < code; other++)
             CHECK(strcmp(rmp_code_text(code), rmp_code_text(other)) != 0);
     CHECK(strcmp(rmp_code_text(RMP_GOOD), "good") == 0);
     CHECK(strcmp(rmp_code_text(RMP_BAD_PLACE), "the data of an item do not lie in the image") == 0);
     CHECK(strcmp(rmp_code_text(RMP_FAULT_SHORT), "the bytes end before the frame does") == 0);
-    CHECK(strcmp(rmp_code_text(RMP_NOT_UNDER_WAY), "the cycle is done or ended") == 0);
+    CHECK(strcmp(rmp_code_text(RMP_NOT_UNDER_WAY),
+                 "the cycle, service or start-up is done or ended") == 0);
     CHECK(strcmp(rmp_code_text(RMP_FULL), "the frame has no place for a number") == 0);
     CHECK(strcmp(rmp_code_text(RMP_OTHER_NUMBER), "the packet has another number, or none") == 0);
     CHECK(strcmp(rmp_code_text(RMP_BAD_COMMAND), "no such command") == 0);
     CHECK(strcmp(rmp_code_text(RMP_NEVER_COMPLETED),
                  "no item writes the last byte of an area of outputs") == 0);
-    CHECK(strcmp(rmp_code_text(RMP_NEVER_COMPLETED + 1), "no such code") == 0);
+    CHECK(strcmp(rmp_code_text(RMP_GOES_ON), "another frame goes out") == 0);
+    CHECK(strcmp(rmp_code_text(RMP_ABORTED), "the slave ended the transfer") == 0);
+    CHECK(strcmp(rmp_code_text(RMP_OTHER_COUNT), "another number of slaves was counted") == 0);
+    CHECK(strcmp(rmp_code_text(RMP_OTHER_COUNT + 1), "no such code") == 0);
 }
 
 /* A byte more than a frame holds goes onto the next one. */
@@ -644,7 +650,7 @@ static void full_line(void) {
 
 /* ---- the stack: each call runs on one that was painted */
 
-static uint8_t stack[65536];
+static uint8_t stack[2 * TALK_STACK_LIMIT];
 static ucontext_t here, there;
 static struct rmp_framed made;
 static struct rmp_joined came;
@@ -660,6 +666,12 @@ static struct rmp_cycle begun;
 static struct rmp_turn turned;
 static uint8_t waiting[6];
 static struct rmp_datagram places[2];
+static struct rmp_service asked;
+static struct rmp_served served;
+static struct rmp_start start;
+static struct rmp_started started;
+static struct rmp_seen looked;
+static struct rmp_startup written;
 
 static void call_nothing(void) {}
 static void call_frame(void) { made = rmp_frame(items, 2, image, sizeof image, 0, sent, sizeof sent); }
@@ -701,6 +713,72 @@ static void call_came(void) {
                             sizeof FROM_B, waiting, sizeof waiting, image, sizeof image);
 }
 
+/* A service that reads an object, up to its answer; and one that asks for a state. */
+static void call_service_next(void) {
+    asked = rmp_read_begin(RMP_UDP, line, 0x1018, 1, 0, 64);
+    marked = rmp_service_next(&asked, sent, sizeof sent);
+    asked.mail.known = 2;
+    marked = rmp_service_next(&asked, sent, sizeof sent);
+    asked = rmp_write_begin(RMP_UDP, line, 0x1018, 1, 4, 1, 0, 64);
+    asked = rmp_acknowledge_begin(RMP_UDP, line, 64);
+    asked = rmp_state_begin(RMP_UDP, line, RMP_OP, 64);
+    marked = rmp_service_next(&asked, sent, sizeof sent);
+}
+
+static void call_service_came(void) {
+    served = rmp_service_came(&asked, sent, marked.bytes, sent, marked.bytes);
+    asked = rmp_read_begin(RMP_UDP, line, 0x1018, 1, 0, 64);
+    asked.mail.known = 2;
+    marked = rmp_service_next(&asked, sent, sizeof sent);
+    served = rmp_service_came(&asked, sent, marked.bytes, sent, marked.bytes);
+    asked.mail.known = 1;
+    asked.mail.is_posted = 1;
+    marked = rmp_service_next(&asked, sent, sizeof sent);
+    sent[marked.bytes - 2] = 1; /* it counts, and is no mail */
+    served = rmp_service_came(&asked, sent, marked.bytes, sent, marked.bytes);
+}
+
+/* Of the stages the one that has the most to say: an object is written. */
+static void call_start_next(void) {
+    start = rmp_start_begin(RMP_UDP, 2, RMP_NO_LINK, RMP_STAGE_COUNT, RMP_STAGE_OP);
+    marked = rmp_start_next(&start, line, 2, &written, 1, sent, sizeof sent);
+    start = rmp_start_begin(RMP_UDP, 2, RMP_NO_LINK, RMP_STAGE_SAFE_OP, RMP_STAGE_OP);
+    marked = rmp_start_next(&start, line, 2, &written, 1, sent, sizeof sent);
+}
+
+static void call_start_came(void) {
+    started = rmp_start_came(&start, line, 2, &written, 1, sent, marked.bytes, sent, marked.bytes);
+    start.mail.known = 2;
+    marked = rmp_start_next(&start, line, 2, &written, 1, sent, sizeof sent);
+    started = rmp_start_came(&start, line, 2, &written, 1, sent, marked.bytes, sent, marked.bytes);
+    start = rmp_start_begin(RMP_UDP, 2, RMP_NO_LINK, RMP_STAGE_COUNT, RMP_STAGE_OP);
+    marked = rmp_start_next(&start, line, 2, &written, 1, sent, sizeof sent);
+    started = rmp_start_came(&start, line, 2, &written, 1, sent, marked.bytes, sent, marked.bytes);
+}
+
+static void call_look_next(void) { marked = rmp_look_next(0x1001, sent, sizeof sent); }
+
+static void call_look_came(void) {
+    sent[marked.bytes - 2] = 1;
+    looked = rmp_look_came(RMP_UDP, 0x1001, sent, marked.bytes, sent, 0);
+    CHECK(looked.code == RMP_GOOD);
+    looked = rmp_look_came(RMP_UDP, 0x1001, sent, marked.bytes, sent, marked.bytes);
+}
+
+/* Mailboxes of the most bytes, and an object for the first slave. */
+static void mailed(void) {
+    const struct rmp_object object = {1, 0x8000, 1, 4};
+    map();
+    memset(line[0].fmmus, 0, sizeof line[0].fmmus);
+    area(0, 0, 0x1000, 0, 0x26);
+    area(0, 1, 0x1800, 0, 0x22);
+    for (int k = 0; k < 2; k++) {
+        line[0].sync_managers[k][2] = RMP_MAX_DATA & 0xFF;
+        line[0].sync_managers[k][3] = RMP_MAX_DATA >> 8;
+    }
+    written.objects[0] = object;
+}
+
 static size_t used_by(void (*call)(void)) {
     size_t clean = 0;
     memset(stack, 0xA5, sizeof stack);
@@ -715,13 +793,19 @@ static size_t used_by(void (*call)(void)) {
     return sizeof stack - clean;
 }
 
-static void measure(const char *name, void (*call)(void)) {
+static void measure_below(size_t limit, const char *name, void (*call)(void)) {
     size_t used = used_by(call) - used_by(call_nothing);
     printf("stack of %s: %zu bytes\n", name, used);
-    if (used >= STACK_LIMIT) {
-        printf("FAILED: %s needs %d bytes of stack or more\n", name, STACK_LIMIT);
+    if (used >= limit) {
+        printf("FAILED: %s needs %zu bytes of stack or more\n", name, limit);
         failed = 1;
     }
+}
+
+static void measure(const char *name, void (*call)(void)) { measure_below(STACK_LIMIT, name, call); }
+
+static void measure_talk(const char *name, void (*call)(void)) {
+    measure_below(TALK_STACK_LIMIT, name, call);
 }
 
 int main(void) {
@@ -760,6 +844,16 @@ int main(void) {
     measure("rmp_shown", call_shown);
     measure("rmp_cycle_next", call_next);
     measure("rmp_cycle_came", call_came);
+    mailed();
+    measure_talk("rmp_service_next", call_service_next);
+    measure_talk("rmp_service_came", call_service_came);
+    CHECK(served.code == RMP_GOES_ON && asked.mail.known == 0);
+    measure_talk("rmp_start_next", call_start_next);
+    measure_talk("rmp_start_came", call_start_came);
+    CHECK(started.code == RMP_GOES_ON);
+    measure_talk("rmp_look_next", call_look_next);
+    measure_talk("rmp_look_came", call_look_came);
+    CHECK(looked.code == RMP_BAD_ANSWER);
     puts(failed ? "calls: not as they should be" : "calls: as they should be");
     return failed;
 }

@@ -167,6 +167,52 @@ static size_t of_whole(char *room, size_t size) { return of_place(room, size, RM
 static size_t of_changed(char *room, size_t size) { return of_place(room, size, RMP_CHANGED); }
 static size_t of_nothing(char *room, size_t size) { return of_place(room, size, 99); }
 
+static size_t of_served(char *room, size_t size, uint32_t number, uint32_t bytes, uint32_t code) {
+    const struct rmp_served served = {number, bytes, code, RMP_CAME, RMP_LOST};
+    return rmp_served_text(room, size, &served);
+}
+
+static size_t of_value(char *room, size_t size) { return of_served(room, size, 2, 4, RMP_GOOD); }
+static size_t of_byte(char *room, size_t size) { return of_served(room, size, 0, 1, RMP_GOOD); }
+static size_t of_state(char *room, size_t size) { return of_served(room, size, RMP_OP, 0, RMP_GOOD); }
+static size_t of_written(char *room, size_t size) { return of_served(room, size, 0, 0, RMP_GOOD); }
+static size_t of_refused(char *room, size_t size) { return of_served(room, size, 0x1D, 0, RMP_REFUSED); }
+static size_t of_abort(char *room, size_t size) { return of_served(room, size, 0x6020000, 0, RMP_ABORTED); }
+static size_t of_stranger(char *room, size_t size) { return of_served(room, size, 0, 0, RMP_STRANGER); }
+
+static size_t of_seen(char *room, size_t size, uint32_t state, uint32_t error, uint32_t code) {
+    const struct rmp_seen seen = {state, error, code, RMP_CAME, RMP_LOST};
+    return rmp_seen_text(room, size, &seen);
+}
+
+static size_t of_op(char *room, size_t size) { return of_seen(room, size, RMP_OP, 0, RMP_GOOD); }
+static size_t of_error(char *room, size_t size) { return of_seen(room, size, 4, 0x1D, RMP_REFUSED); }
+static size_t of_nobody(char *room, size_t size) { return of_seen(room, size, 0, 0, RMP_NO_SLAVE); }
+static size_t of_no_copy(char *room, size_t size) { return of_seen(room, size, 0, 0, RMP_NO_ANSWER); }
+static size_t of_several(char *room, size_t size) { return of_seen(room, size, 0, 0, RMP_BAD_ANSWER); }
+static size_t of_other(char *room, size_t size) { return of_seen(room, size, 0, 0, RMP_BAD_FORM); }
+
+static size_t of_started(char *room, size_t size, uint32_t step, uint32_t part, uint32_t code) {
+    const struct rmp_started started = {2, RMP_STAGE_SAFE_OP, step, part, 29, code, RMP_CAME, RMP_LOST};
+    return rmp_started_text(room, size, &started);
+}
+
+static size_t of_step(char *room, size_t size) {
+    return of_started(room, size, RMP_STEP_FMMU, 7, RMP_BAD_ANSWER);
+}
+
+static size_t of_station_step(char *room, size_t size) {
+    return of_started(room, size, RMP_STEP_STATION, 0, RMP_NO_SLAVE);
+}
+
+static size_t of_state_step(char *room, size_t size) {
+    return of_started(room, size, RMP_STEP_STATE, RMP_SAFE_OP, RMP_REFUSED);
+}
+
+static size_t of_count(char *room, size_t size) {
+    return of_started(room, size, RMP_STEP_NONE, 0, RMP_OTHER_COUNT);
+}
+
 static size_t of_numbers(char *room, size_t size) {
     struct rmp_text text = {room, size, 0};
     rmp_text_told(&text, "", 0);
@@ -191,7 +237,33 @@ static void texts(void) {
     says(of_whole, "whole");
     says(of_changed, "changed");
     says(of_nothing, "unknown");
+    says(of_value, "good: 0x00000002");
+    says(of_byte, "good: 0x00");
+    says(of_state, "good: Op");
+    says(of_written, "good");
+    says(of_refused, "the slave refused the state: 0x001d");
+    says(of_abort, "the slave ended the transfer: 0x06020000");
+    says(of_stranger, "a packet is not of the sent frame");
+    says(of_op, "Op");
+    says(of_error, "Safe-Op, error 0x001d");
+    says(of_nobody, "no slave answered");
+    says(of_no_copy, "no copy came");
+    says(of_several, "more than one slave answered");
+    says(of_other, "no such form");
+    says(of_step, "to Safe-Op, slave 2, FMMU 7: the answer is none to what was asked, or more than one slave "
+                  "answered");
+    says(of_station_step, "to Safe-Op, slave 2, station address: no slave answered, or it has no mailboxes");
+    says(of_state_step, "to Safe-Op, slave 2, state Safe-Op: the slave refused the state: 0x001d");
+    says(of_count, "another number of slaves was counted: 29");
     says(of_numbers, "0 18446744073709551615 deadbeef");
+    CHECK(strcmp(rmp_stage_text(RMP_STAGE_COUNT), "slaves are counted") == 0);
+    CHECK(strcmp(rmp_stage_text(RMP_STAGE_OP), "to Op") == 0);
+    CHECK(strcmp(rmp_stage_text(7), "no such stage") == 0);
+    CHECK(strcmp(rmp_step_text(RMP_STEP_NONE), "none") == 0);
+    CHECK(strcmp(rmp_step_text(RMP_STEP_STATE), "state") == 0);
+    CHECK(strcmp(rmp_step_text(6), "no such step") == 0);
+    CHECK(strcmp(rmp_al_state_text(RMP_PRE_OP), "Pre-Op") == 0);
+    CHECK(strcmp(rmp_al_state_text(3), "no such state") == 0);
     CHECK(strcmp(rmp_command_text(14), "FRMW") == 0 && strcmp(rmp_command_text(15), "no such command") == 0);
     CHECK(strcmp(rmp_rule_text(RMP_LONG_LINE), "the line has too many slaves") == 0);
     CHECK(strcmp(rmp_rule_text(9), "no such rule") == 0);

@@ -663,6 +663,53 @@ static void losses(const char *program, unsigned cycles) {
     CHECK(end_serving(&served) == 0, "how the line ended");
 }
 
+/* Takes turns of a service until it ends: how many frames went out for it. */
+static uint64_t turns_of(struct rmp_net *net, struct rmp_service service, struct rmp_served *served) {
+    uint64_t first = net->trip;
+    do
+        *served = rmp_net_serve(net, &service, 300000);
+    while (served->code == RMP_GOES_ON);
+    return net->trip - first;
+}
+
+/* A look, services and a start-up by turns: each slave of this line counts on each frame. */
+static void talks(void) {
+    static struct rmp_records line_of[SLAVES];
+    struct line *line = start_line();
+    struct master master;
+    struct rmp_served served;
+    struct rmp_start start = rmp_start_begin(RMP_UDP, SLAVES, RMP_NO_LINK, RMP_STAGE_COUNT, RMP_STAGE_OP);
+    struct rmp_service longest;
+    struct rmp_started started;
+    struct rmp_seen seen;
+    uint64_t frames;
+    open_at(&master, line->ports[0], line->ports[1]);
+    cycle_on(&master, 0, 5, 200000);
+    seen = rmp_net_al_state(&master.net, 0x1001, 300000);
+    TIMED(seen.code == RMP_BAD_ANSWER && seen.state == 0, "%s", rmp_code_text(seen.code));
+    TIMED(seen.copy_a == RMP_CAME && seen.copy_b == RMP_CAME, "%u %u", seen.copy_a, seen.copy_b);
+    frames = turns_of(&master.net, rmp_state_begin(RMP_UDP, line_of, RMP_OP, 64), &served);
+    TIMED(served.code == RMP_BAD_ANSWER && frames == 1, "%s", rmp_code_text(served.code));
+    TIMED(served.copy_a == RMP_CAME && served.copy_b == RMP_CAME, "%u %u", served.copy_a, served.copy_b);
+    frames = turns_of(&master.net, rmp_read_begin(RMP_UDP, line_of, 0x1018, 1, 0, 64), &served);
+    CHECK(served.code == RMP_NO_SLAVE && frames == 0, "%s", rmp_code_text(served.code));
+    frames = turns_of(&master.net, rmp_state_begin(RMP_UDP, line_of, 3, 64), &served);
+    CHECK(served.code == RMP_BAD_NUMBERS && frames == 0, "%s", rmp_code_text(served.code));
+    longest = rmp_read_begin(RMP_UDP, line_of, 0x1018, 1, 0, 64);
+    longest.next = 1; /* an object is read, by mailboxes that leave no place for a number */
+    longest.mail.request_length = longest.mail.answer_length = RMP_MAX_DATA;
+    longest.mail.counter = longest.mail.known = 1;
+    frames = turns_of(&master.net, longest, &served);
+    CHECK(served.code == RMP_FULL && served.copy_a == RMP_LOST, "%s", rmp_code_text(served.code));
+    started = rmp_net_start(&master.net, &start, line_of, SLAVES, NULL, 0, 300000);
+    TIMED(started.code == RMP_GOES_ON, "%s", rmp_code_text(started.code));
+    started = rmp_net_start(&master.net, &start, line_of, SLAVES, NULL, 0, 300000);
+    TIMED(started.code == RMP_BAD_ANSWER && started.step == RMP_STEP_STATION, "%u", started.step);
+    started = rmp_net_start(&master.net, &start, line_of, SLAVES, NULL, 0, 300000);
+    TIMED(started.code == RMP_NOT_UNDER_WAY, "%s", rmp_code_text(started.code));
+    end_with(&master, line);
+}
+
 /* ---- */
 
 static int count_of_tests;
@@ -703,6 +750,8 @@ static void on_its_own_line(unsigned cycles) {
         ATTEMPT(silence());
     if (is_asked("limit"))
         ATTEMPT(limit());
+    if (is_asked("talks"))
+        ATTEMPT(talks());
 }
 
 int main(int count, char **words) {

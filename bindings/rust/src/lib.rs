@@ -49,11 +49,14 @@ mod mapping;
 pub mod net;
 mod numbers;
 mod records;
+mod talks;
 
 pub use mapping::{check, check_item, covered, expected, shown};
 pub use mapping::{Gap, NotShown, Outside, Party, Records, Unfit, WhyNotShown};
 pub use numbers::{open, seal, single, NUMBER_LENGTH};
 pub use records::{at, nth, FmmuRecord, NoRecord, SyncManagerRecord, Way};
+pub use talks::{frame_of_look, look, NotStarted, Seen, Stage, Start, Started, Step};
+pub use talks::{AlState, Object, Served, Service, Startup, Told, Value, MAX_STARTUP};
 
 /// What an item does, by the standard's codes (IEC 61158-4-12).
 #[derive(Clone, Copy, PartialEq, Eq, Debug)]
@@ -220,14 +223,14 @@ pub struct Datagram {
     pub circulating: u8,
 }
 
-/// How far a cycle is.
+/// How far a cycle, a service or a start-up is.
 #[derive(Clone, Copy, PartialEq, Eq, Debug)]
 pub enum State {
-    /// Items are left.
+    /// Items are left, or another frame goes out.
     UnderWay,
-    /// Each frame was good, and the image has their data.
+    /// Each frame was good, and the image has their data; or what was asked is done.
     Done,
-    /// A verdict ended it, and the image is as it was.
+    /// A verdict ended it, and the image is as it was; or why it is not done was told.
     Ended,
 }
 
@@ -393,7 +396,7 @@ pub enum Fault {
     BadRange(usize),
     /// The data of this item do not lie in the image.
     BadPlace(usize),
-    /// The cycle is done or ended.
+    /// The cycle, service or start-up is done or ended.
     NotUnderWay,
     /// The frame has no place for a number: fewer than 20 free bytes.
     Full,
@@ -406,6 +409,23 @@ pub enum Fault {
     NotBroadcast,
     /// There is no such command: its code is above 14.
     BadCommand,
+    /// No slave answered, each of ten times in a row (of a step of a start-up: of twenty times; of a look:
+    /// once), or the slave has no mailboxes.
+    NoSlave,
+    /// As many trips as were allowed brought no answer; of a look: no copy came.
+    NoAnswer,
+    /// The answer is none to what was asked, or more than one slave answered.
+    BadAnswer,
+    /// The slave has an error behind a request for a state, with this AL status code.
+    Refused(u16),
+    /// The slave ended the transfer, with this abort code.
+    Aborted(u32),
+    /// A packet is a frame, but not of the one that was made.
+    Stranger,
+    /// The numbers are those of no service or start-up, or there are not records of each slave.
+    BadNumbers,
+    /// Another number of slaves was counted, each of ten times; the last was this.
+    OtherCount(u16),
     /// A number that the library of this crate does not have: another library was linked.
     Unknown(u32),
 }
@@ -535,7 +555,7 @@ extern "C" {
     ) -> Answer;
 }
 
-/// What a code of a fault means.
+/// What a code of a fault means, with its place, or the number that it tells.
 fn fault(code: u32, at: usize) -> Fault {
     match code {
         3 => Fault::StrangerA(at),
@@ -565,6 +585,14 @@ fn fault(code: u32, at: usize) -> Fault {
         32 => Fault::OtherNumber,
         33 => Fault::NotBroadcast,
         34 => Fault::BadCommand,
+        38 => Fault::NoSlave,
+        39 => Fault::NoAnswer,
+        40 => Fault::BadAnswer,
+        41 => Fault::Refused(at as u16),
+        42 => Fault::Aborted(at as u32),
+        43 => Fault::Stranger,
+        44 => Fault::BadNumbers,
+        45 => Fault::OtherCount(at as u16),
         _ => Fault::Unknown(code),
     }
 }

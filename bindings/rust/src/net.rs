@@ -21,7 +21,9 @@
 
 mod sockets;
 
-use crate::{frame, locate, open, seal, Cycle, Fault, Form, Item, Kind, Located, State, Verdict};
+use crate::{frame, frame_of_look, locate, look, open, seal};
+use crate::{Cycle, Fault, Form, Item, Kind, Located, State, Verdict};
+use crate::{NotStarted, Records, Seen, Served, Service, Start, Started, Startup};
 use std::fs::File;
 use std::io::{Error, Read, Result as IoResult};
 use std::os::fd::{AsRawFd, OwnedFd, RawFd};
@@ -227,6 +229,11 @@ impl Net {
             is_enough: false,
             packet: [0; HEADER + FRAME_SIZE + 1],
         }
+    }
+
+    /// How its packets are framed.
+    pub fn form(&self) -> Form {
+        self.form
     }
 
     /// How it went at a port.
@@ -552,6 +559,54 @@ impl Net {
         let came = self.begin(size, 0, after(Instant::now(), limit))?;
         self.wait_for(came);
         locate(self.form, &self.sent[..size], self.at(Side::A), self.at(Side::B), slaves)
+    }
+
+    /// Says in which state the slave with a station address is, and with which error: a frame goes out, and
+    /// [`look`] tells of its copies. A copy that is lost costs all of the limit. It counts as no cycle.
+    pub fn al_state(&mut self, station: u16, limit: Duration) -> Result<Seen, Fault> {
+        let size = frame_of_look(station, &mut self.sent)?;
+        let came = self.begin(size, 0, after(Instant::now(), limit))?;
+        self.wait_for(came);
+        look(self.form, station, self.opened(Side::A), self.opened(Side::B))
+    }
+}
+
+impl Net {
+    /// The frame of a turn lies in `sent`, and travels; where it has no bytes, nothing does.
+    fn turn(&mut self, size: usize, limit: Duration) -> Result<[&[u8]; 2], Fault> {
+        if size == 0 {
+            return Ok([&[]; 2]);
+        }
+        self.count();
+        let came = self.begin(size, 0, after(Instant::now(), limit))?;
+        self.wait_for(came);
+        Ok(SIDES.map(|from| self.opened(from)))
+    }
+
+    /// Takes one turn of a service that was begun with this line's form: a frame goes out, and
+    /// [`Service::came`] tells of its copies. Between two cycles call it once, or without cycles until it has
+    /// told what the slave answered. A copy that is lost costs all of the limit. A frame that has no place
+    /// for a number is `Full`, and the service is as it was.
+    pub fn serve(&mut self, service: &mut Service, limit: Duration) -> Result<Served, Fault> {
+        let size = service.next_frame(&mut self.sent)?;
+        let [a, b] = self.turn(size, limit)?;
+        service.came(a, b)
+    }
+
+    /// Takes one turn of a start-up that was begun with this line's form, by the records and the objects of
+    /// its slaves: a frame goes out, and [`Start::came`] tells of its copies. Call it until it is done.
+    pub fn start(
+        &mut self,
+        start: &mut Start,
+        line: &[Records],
+        startup: &[Startup],
+        limit: Duration,
+    ) -> Result<Started, NotStarted> {
+        let stage = start.stage().0;
+        let failed = |why| NotStarted { stage, step: None, why };
+        let size = start.next_frame(line, startup, &mut self.sent).map_err(failed)?;
+        let [a, b] = self.turn(size, limit).map_err(failed)?;
+        start.came(line, startup, a, b)
     }
 }
 

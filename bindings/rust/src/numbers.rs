@@ -7,7 +7,7 @@ use crate::{fault, Fault, Form};
 pub const NUMBER_LENGTH: usize = 20;
 
 #[repr(C)]
-struct Written {
+pub(crate) struct Written {
     bytes: usize,
     at: usize,
     code: u32,
@@ -117,7 +117,7 @@ pub fn single(command: u8, address: u32, payload: &[u8], room: &mut [u8]) -> Res
 }
 
 /// How many bytes were written, or why none were.
-fn answer(told: Written) -> Result<usize, Fault> {
+pub(crate) fn answer(told: Written) -> Result<usize, Fault> {
     match told.code {
         0 => Ok(told.bytes),
         code => Err(fault(code, told.at)),

@@ -2,7 +2,8 @@
 //! frame, inverted in part, so that no answer of another frame looks right.
 
 use rummymaple::net::{End, Net, Side, FLOOR};
-use rummymaple::{Cable, Item, Kind, Verdict};
+use rummymaple::{AlState, Cable, Fault, Item, Kind, NotStarted, Records, Service};
+use rummymaple::{Stage, Start, Step, Verdict};
 use std::mem::ManuallyDrop;
 use std::net::{Shutdown, SocketAddr, TcpStream, UdpSocket};
 use std::os::fd::FromRawFd;
@@ -125,6 +126,7 @@ fn pass(bytes: &mut [u8]) {
             0 => return, // the number
             11 => outputs = bytes[data..end].to_vec(),
             10 => (data..end).for_each(|k| bytes[k] = outputs[k - data] ^ 0xA5),
+            4 | 5 => {}
             _ => bytes[at + 2] += SLAVES as u8,
         }
         bytes[end] += SLAVES as u8;
@@ -299,4 +301,27 @@ fn a_cycle_by_turns_ends_by_its_limit_where_nothing_comes() {
     assert!(verdict != Verdict::Good && missing == 1 && turns > 1, "{verdict:?} {missing} {turns}");
     assert!(begun.elapsed() >= Duration::from_millis(30) && image == [7; 2 * SLAVES]);
     assert_eq!(net.left(), Duration::ZERO);
+}
+
+#[test]
+fn talks_travel_a_turn_at_a_time() {
+    let line = serve();
+    let mut net = open(&line);
+    let slaves = [Records::default(); SLAVES];
+    cycles(&mut net, 5, LIMIT);
+    assert_eq!(net.al_state(0x1001, LIMIT), Err(Fault::BadAnswer)); // each slave counts
+    let mut asked = Service::begin_state(net.form(), &slaves[0], AlState::Op, 64);
+    assert_eq!(net.serve(&mut asked, LIMIT), Err(Fault::BadAnswer)); // each slave counts
+    assert_eq!(net.serve(&mut asked, LIMIT), Err(Fault::NotUnderWay));
+    let sent = net.counts(Side::A).sent;
+    let mut nobody = Service::begin_read(net.form(), &slaves[0], 0x1018, 1, 0, 64);
+    assert_eq!(net.serve(&mut nobody, LIMIT), Err(Fault::NoSlave)); // no mailboxes: nothing goes out
+    assert_eq!(net.counts(Side::A).sent, sent);
+    let mut start = Start::begin(net.form(), SLAVES as u16, None, Stage::Count, Stage::Op);
+    assert!(!net.start(&mut start, &slaves, &[], LIMIT).expect("five slaves").is_done);
+    assert_eq!((start.stage(), net.counts(Side::A).sent), ((Stage::Stations, 0), sent + 1));
+    let wanted = NotStarted { stage: Stage::Stations, step: Some((0, Step::Station)), why: Fault::BadAnswer };
+    assert_eq!(net.start(&mut start, &slaves, &[], LIMIT), Err(wanted));
+    let wanted = NotStarted { step: None, why: Fault::NotUnderWay, ..wanted };
+    assert_eq!(net.start(&mut start, &slaves, &[], LIMIT), Err(wanted));
 }

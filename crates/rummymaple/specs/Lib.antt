@@ -20,3 +20,12 @@ pub mod Mapping
 pub mod Asked
 pub mod Shown
 pub mod ReadBack
+pub mod Values
+pub mod Failure
+pub mod Heard
+pub mod Mail
+pub mod Sent
+pub mod Service
+pub mod Wanted
+pub mod Starting
+pub mod Look

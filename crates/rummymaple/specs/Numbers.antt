@@ -15,7 +15,9 @@ use Rattle.rummymaple.specs.declared.numbers.Code.TheVariants.{FaultMoreAtEnd, F
 use Rattle.rummymaple.specs.declared.numbers.Code.TheVariants.{NotUnderWay, OutsideRead, OutsideWrite}
 use Rattle.rummymaple.specs.declared.numbers.Code.TheVariants.{NotAsked, Full, OtherFrame, OtherNumber}
 use Rattle.rummymaple.specs.declared.numbers.Code.TheVariants.{NotBroadcast, BadCommand, LeftBy}
-use Rattle.rummymaple.specs.declared.numbers.Code.TheVariants.{NeverCompleted}
+use Rattle.rummymaple.specs.declared.numbers.Code.TheVariants.{NeverCompleted, GoesOn, NoSlave, NoAnswer}
+use Rattle.rummymaple.specs.declared.numbers.Code.TheVariants.{BadAnswer, Refused, Aborted, Stranger}
+use Rattle.rummymaple.specs.declared.numbers.Code.TheVariants.{BadNumbers, OtherCount}
 use Rattle.rummymaple.specs.declared.numbers.Copy.{Copy}
 use Rattle.rummymaple.specs.declared.numbers.Copy.TheVariants.{Lost, Came, NoFrame}
 
@@ -58,6 +60,15 @@ number_of NotBroadcast = 33
 number_of BadCommand = 34
 number_of LeftBy = 35
 number_of NeverCompleted = 36
+number_of GoesOn = 37
+number_of NoSlave = 38
+number_of NoAnswer = 39
+number_of BadAnswer = 40
+number_of Refused = 41
+number_of Aborted = 42
+number_of Stranger = 43
+number_of BadNumbers = 44
+number_of OtherCount = 45
 
 -- the code of a fault of bytes that are no frame
 abbrev pub fault_code : FaultKind → Code

@@ -40,16 +40,20 @@
 //!   were read back it is so of the line itself ([`records_are_the_line`]);
 //! - [`rmp_cycle_next`] and [`rmp_cycle_came`]: the cycle as a state machine over a struct of the caller's;
 //!   its image stays as it is until the last frame is good, and its turns are calls ([`turns_are_a_cycle`]);
+//! - [`rmp_service_next`] and [`rmp_service_came`]: a service with one slave as a state machine, and
+//!   [`rmp_start_next`] and [`rmp_start_came`]: so a start-up; each turn is that of `ec_acyclic` or
+//!   `ec_turns` over ports that give what the packets spell. [`rmp_look_next`] and [`rmp_look_came`]: so a
+//!   look at the state of a slave (`ec_run`);
 //! - [`calls_are_a_cycle`]: where every verdict is good, the calls in their order are a good cycle of
 //!   `ec_master::run_cycle` over ports that give what came, with all that this certifies.
 //!
 //! Each export answers by a struct of numbers, and its contract says of which end they are the numbers
-//! (`Join`, `Numbered`, `Single`, `Frame`, `Judge`, `Read`, `Cable`, `Turn`, `Mapping`, `Asked` and `Shown`
-//! of specs/). What an item is stands in `Items`, the controller of a slave's records in `ec_check`
-//! (`Records`), what a joined frame gives an item in `Answers`, the calls in their order in `Cycle`, and
-//! turns in `Turns`.
-//! A call needs less than 8 KB of stack: nothing that has the size of a frame is moved or made twice where it
-//! can stay in its place.
+//! (`Join`, `Numbered`, `Single`, `Frame`, `Judge`, `Read`, `Cable`, `Turn`, `Mapping`, `Asked`, `Shown`,
+//! `Service`, `Starting` and `Look` of specs/). What an item is stands in `Items`, the controller of a
+//! slave's records in `ec_check` (`Records`), what a joined frame gives an item in `Answers`, the calls in
+//! their order in `Cycle`, and turns in `Turns`.
+//! A call of a cycle needs less than 8 KB of stack: nothing that has the size of a frame is moved or made
+//! twice where it can stay in its place.
 
 mod answered;
 mod asked;
@@ -57,11 +61,15 @@ mod cable;
 mod covered;
 mod cut;
 mod cycle;
+mod failure;
 mod frame;
+mod heard;
 mod item;
 mod join;
 mod judge;
 mod layout;
+mod look;
+mod mail;
 mod mapping;
 mod numbers;
 mod open;
@@ -70,10 +78,15 @@ mod promises;
 mod read;
 mod room;
 mod seal;
+mod sent;
+mod service;
 mod shown;
 mod single;
 mod spell;
+mod starting;
 mod store;
+mod values;
+mod wanted;
 
 pub use asked::{Expectation, PlaceEnd, rmp_check_item, rmp_expected};
 pub use cable::{Cable, CableAnswer, CableEnd, CablePlace, rmp_where};
@@ -87,6 +100,8 @@ pub use frame::{FrameAnswer, FrameEnd, rmp_frame};
 pub use item::{Item, MAX_ITEMS};
 pub use join::{Join, JoinAnswer, JoinEnd, rmp_join};
 pub use judge::{ItemAnswer, JudgeEnd, rmp_judge};
+pub use look::{Look, LookAnswer, LookEnd, rmp_look_came, rmp_look_next};
+pub use mail::Mail;
 pub use mapping::{MapAnswer, rmp_check};
 pub use numbers::{Code, Copy};
 pub use open::{OpenEnd, rmp_open};
@@ -97,9 +112,18 @@ pub use promises::{
 };
 pub use read::{DatagramPlace, ReadAnswer, ReadEnd, rmp_read};
 pub use seal::{SealEnd, rmp_seal};
+pub use sent::SentEnd;
+pub use service::{
+    Service, ServiceAnswer, ServiceEnd, ServiceTurn, rmp_acknowledge_begin, rmp_read_begin,
+    rmp_service_came, rmp_service_next, rmp_state_begin, rmp_write_begin,
+};
 pub use shown::{ShownAnswer, ShownEnd, rmp_shown};
 pub use single::{SingleEnd, rmp_single};
+pub use starting::{
+    Start, StartAnswer, StartEnd, StartTurn, rmp_start_begin, rmp_start_came, rmp_start_next,
+};
 pub use store::{StoreEnd, rmp_store};
+pub use wanted::{Object, Startup};
 
 #[cfg(test)]
 mod tests;

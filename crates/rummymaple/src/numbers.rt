@@ -82,6 +82,24 @@ pub enum Code {
     LeftBy,
     /// No item writes the last byte of a mapped area of outputs.
     NeverCompleted,
+    /// Another frame of what is under way goes out.
+    GoesOn,
+    /// No slave answered, each of ten times, or there is none of the kind.
+    NoSlave,
+    /// As many trips as were allowed brought no answer.
+    NoAnswer,
+    /// The answer is none to what was asked, or more than one slave answered.
+    BadAnswer,
+    /// The slave refused the state, with an AL status code.
+    Refused,
+    /// The slave ended the transfer, with a code.
+    Aborted,
+    /// A copy is a stranger: it cannot have come of the frame that was sent.
+    Stranger,
+    /// The numbers of a struct are none that the call gave that begins it.
+    BadNumbers,
+    /// Another number of slaves was counted, each of ten times.
+    OtherCount,
 }
 
 impl Code {
