@@ -7,8 +7,8 @@
  * Ends without a colon are network interfaces. It prints each change: the verdict, and where the cable is
  * broken; `link 2 down` and `link 2 up`, told to `ecat serve`, break it and mend it. At the end it counts.
  *
- * What is not here: a start-up. The slaves are in Op and mapped already (`--set-up`); else each would be
- * given its station, its records and its states first, by frames of rmp_single that travel by rmp_net_trip.
+ * What is not here: a start-up. The slaves are in Op and mapped already (`--set-up`); start.c brings its
+ * line up itself.
  */
 #include "rummymaple_net.h"
 #include <signal.h>

@@ -2,11 +2,11 @@
  * object is read, a frame each time, and behind the last one the slaves go to Init (C11):
  *
  *     ./ecat serve scenes/serve/line.scene --control
- *     ./start 127.0.0.1:34980 127.0.0.1:34981        (an end without a colon is a network interface) */
+ *     ./start 127.0.0.1:34980 127.0.0.1:34981
+ */
 #include "rummymaple_net.h"
 #include <signal.h>
 #include <stdio.h>
-
 enum { SLAVES = 2, PERIOD = 1000000, LIMIT = 20000, OUT = RMP_WRITES, IN = RMP_READS, BWR = 8 };
 static volatile sig_atomic_t ended;
 static void end(int signal_number) { ended = signal_number; }
